@@ -1,0 +1,5 @@
+pub mod Calls
+pub mod Log
+pub mod Pieces
+pub mod Reading
+pub mod Writing

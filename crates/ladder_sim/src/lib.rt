@@ -1,0 +1,16 @@
+//! Readers and writers that count their calls, and the texts that go through them.
+#![tactic(auto)]
+
+mod fault;
+mod pieces;
+mod sink;
+mod source;
+mod tally;
+mod text;
+
+pub use fault::{TextFault, WriteFault};
+pub use pieces::{Piece, put_pieces};
+pub use sink::{Sink, WriteFailed, Writing, put};
+pub use source::{ReadFailed, Reading, Source};
+pub use tally::Tally;
+pub use text::read_text;
