@@ -39,3 +39,10 @@ pub struct VarFault {
     pub rule: VarRule,
     pub line: usize,
 }
+
+/// A rule that a text breaks, and how many of its bytes are left where reading stops.
+#[derive(Clone, Copy, Debug, PartialEq, Eq)]
+pub(crate) struct Fault {
+    pub rule: VarRule,
+    pub left: usize,
+}

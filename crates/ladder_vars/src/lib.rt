@@ -7,6 +7,7 @@
 mod decls;
 mod fault;
 mod name;
+mod text;
 
 pub use decls::{Address, BlockKind, Decls, Instance, Symbol, Var, VarKind};
 pub use fault::{VarFault, VarRule};
