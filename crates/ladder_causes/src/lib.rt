@@ -1,0 +1,6 @@
+//! Lists of causes: so far, why one is refused.
+#![tactic(auto)]
+
+mod fault;
+
+pub use fault::CauseFault;

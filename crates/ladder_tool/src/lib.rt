@@ -1,0 +1,16 @@
+//! The command line of the program `ladder`, and what it performs.
+#![tactic(auto)]
+
+mod command;
+mod fault;
+mod perform;
+mod program;
+mod request;
+mod variables;
+mod words;
+
+pub use fault::{TextKind, ToolFault, write_fault};
+pub use perform::perform;
+pub use program::run;
+pub use request::{Request, Texts, WordFault};
+pub use words::read_words;

@@ -1,0 +1,38 @@
+//! What the words of a command line ask for.
+use thiserror::Error;
+
+/// What the words ask for.
+#[derive(Drop)]
+pub enum Request {
+    /// The causes of a coil: which assignments of the listed inputs switch it on.
+    Causes {
+        /// The file of the program text.
+        file: String,
+        /// The name of the coil's variable.
+        coil: String,
+        /// The names of the listed inputs, the first one most significant.
+        inputs: Vec<String>,
+    },
+}
+
+/// The texts that a request is about.
+#[derive(Drop)]
+pub struct Texts {
+    pub program: Vec<u8>,
+    /// Where the request names a state.
+    pub state: Option<Vec<u8>>,
+    /// Where the request names a stimulus.
+    pub stimulus: Option<Vec<u8>>,
+}
+
+/// Why the words ask for nothing.
+#[derive(Debug, Drop, Error)]
+pub enum WordFault {
+    #[error("the words are not those of a request")]
+    Usage,
+    /// They ask for help, and this is its text.
+    #[error("{0}")]
+    Help(String),
+    #[error("out of memory")]
+    Memory,
+}

@@ -1,0 +1,109 @@
+//! From the words of a command line to a request.
+ghost use Rattle.std.specs.Prelude.{◌≡◌, [], codes, IfSome, IsSome, OnOk, IfOk, IfErr, map, string_bytes, unwrap_or, Some};
+ghost use Rattle.clap.specs.Words.{all_of, first_of, found_of, rows_of, subcommand_rows_of};
+ghost use Rattle.clap.specs.Words.{fault_of as clap_fault};
+ghost use Rattle.ladder_tool.specs.CommandLine.{ladder_app};
+ghost use Rattle.ladder_tool.specs.Asking.{Asks, AsksBy};
+
+use super::command::ladder;
+use super::request::{Request, WordFault};
+use clap::ArgMatches;
+use clap::error::ErrorKind;
+use std::alloc::Global;
+
+/// What the words ask for, the first being the program's name.
+pub fn read_words(alloc: Global, words: Vec<String>) -> Result<Request, WordFault>
+    ensures asks { IfOk result (AsksBy ladder_app (map string_bytes words.items)) }
+
+    // Only words that `clap` finds no fault with are a request.
+    ensures accepted { OnOk result (clap_fault ladder_app (map string_bytes words.items) ≡ []) }
+{
+    let Ok(command) = ladder(alloc) else {
+        return Err(WordFault::Memory);
+    };
+    match command.try_get_matches_from(words.as_slice()) {
+        Ok(matches) => request_in(alloc, &matches),
+        Err(error) => Err(fault_of(alloc, &error)),
+    }
+}
+
+fn fault_of(alloc: Global, error: &clap::Error) -> WordFault {
+    match error.kind() {
+        ErrorKind::OutOfMemory => WordFault::Memory,
+        ErrorKind::DisplayHelp => match error.to_string(alloc) {
+            Ok(text) => WordFault::Help(text),
+            Err(_) => WordFault::Memory,
+        },
+        _ => WordFault::Usage,
+    }
+}
+
+fn request_in(alloc: Global, matches: &ArgMatches<'_>) -> Result<Request, WordFault>
+    ensures { IfOk result (λ r. IfSome (subcommand_rows_of matches.now) (λ p. Asks p.0 p.1 r) × IsSome (subcommand_rows_of matches.now)) }
+{
+    match matches.subcommand() {
+        Some((name, found)) => request_of(alloc, name, found),
+        None => Err(WordFault::Usage),
+    }
+}
+
+fn request_of(alloc: Global, name: &str, found: &ArgMatches<'_>) -> Result<Request, WordFault>
+    ensures { IfOk result (Asks name.now (rows_of (found_of found.now))) }
+{
+    match name {
+        "causes" => causes_request(alloc, found),
+        _ => Err(WordFault::Usage),
+    }
+}
+
+fn causes_request(alloc: Global, found: &ArgMatches<'_>) -> Result<Request, WordFault>
+    ensures { IfOk result (Asks (codes "causes") (rows_of (found_of found.now))) }
+{
+    let file = text(alloc, found, "file")?;
+    let coil = text(alloc, found, "coil")?;
+    let inputs = texts(alloc, found, "inputs")?;
+    Ok(Request::Causes { file, coil, inputs })
+}
+
+fn text(alloc: Global, found: &ArgMatches<'_>, id: &str) -> Result<String, WordFault>
+    ensures { IfOk result (λ s. first_of id.now (rows_of (found_of found.now)) ≡ Some (string_bytes s)) }
+{
+    match found.get_str(id) {
+        Some(text) => copied(alloc, text),
+        None => Err(WordFault::Usage),
+    }
+}
+
+fn texts(alloc: Global, found: &ArgMatches<'_>, id: &str) -> Result<Vec<String>, WordFault>
+    ensures ok { IfOk result (λ v. unwrap_or (all_of id.now (rows_of (found_of found.now))) [] ≡ map string_bytes v.items) }
+    ensures err { IfErr result (λ e. e ≡ WordFault.Memory) }
+{
+    match found.get_strs(id) {
+        Some(all) => copies_of(alloc, all),
+        None => Ok(Vec::new(alloc)),
+    }
+}
+
+fn copies_of(alloc: Global, all: &[&str]) -> Result<Vec<String>, WordFault>
+    ensures ok { IfOk result (λ v. map string_bytes v.items ≡ map (λ s. s.now) all.now) }
+    ensures err { IfErr result (λ e. e ≡ WordFault.Memory) }
+{
+    let mut copies = Vec::new(alloc);
+    for text in all {
+        let copy = copied(alloc, text)?;
+        if copies.push(copy).is_err() {
+            return Err(WordFault::Memory);
+        }
+    }
+    Ok(copies)
+}
+
+fn copied(alloc: Global, text: &str) -> Result<String, WordFault>
+    ensures ok { IfOk result (λ s. string_bytes s ≡ text.now) }
+    ensures err { IfErr result (λ e. e ≡ WordFault.Memory) }
+{
+    match String::from_str(alloc, text) {
+        Ok(copy) => Ok(copy),
+        Err(_) => Err(WordFault::Memory),
+    }
+}

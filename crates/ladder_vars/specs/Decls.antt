@@ -1,0 +1,67 @@
+-- The declarations of a text as a value: its variables and its function block instances, each in order of declaration.
+use Rattle.std.specs.Prelude.{ℕ, ◌≤◌, Bool, true, false, ◌&&◌, ◌==◌, List, ◌++◌, length, map, position, Option, Some, None}
+use Rattle.std.specs.List.{All, IsDistinct, filter_map}
+use Rattle.ladder_vars.specs.declared.decls.VarKind.TheVariants as kind
+use Rattle.ladder_vars.specs.declared.decls.BlockKind.{BlockKind}
+use Rattle.ladder_vars.specs.declared.decls.BlockKind.TheVariants as block
+use Rattle.ladder_vars.specs.declared.decls.Address.{Address}
+use Rattle.ladder_vars.specs.declared.decls.Var.{Var}
+use Rattle.ladder_vars.specs.declared.decls.Instance.{Instance}
+use Rattle.ladder_vars.specs.declared.decls.Symbol.{Symbol}
+use Rattle.ladder_vars.specs.declared.decls.Symbol.TheVariants as symbol
+use Rattle.ladder_vars.specs.Name.{same_letters}
+
+pub record Declared : Type 0 where
+  pub vars : List Var
+  pub instances : List Instance
+
+abbrev pub is_input_kind : kind.the_data → Bool
+is_input_kind kind.Input = true
+is_input_kind kind.Output = false
+is_input_kind kind.Memory = false
+
+abbrev pub is_input : Var → Bool
+is_input v = is_input_kind v.kind
+
+-- What a name stands for: the variable or the instance that is declared with it, in any letter case.
+abbrev pub either_symbol : Option ℕ → Option ℕ → Option Symbol
+either_symbol (Some number) other = Some (symbol.Var number)
+either_symbol None (Some number) = Some (symbol.Instance number)
+either_symbol None None = None
+
+abbrev pub find : Declared → List ℕ → Option Symbol
+find declared name =
+    either_symbol (position (λ v. same_letters name v.name) declared.vars) (position (λ i. same_letters name i.name) declared.instances)
+
+-- Two addresses are the same where the letter and the numbers are.
+abbrev pub same_number : Option ℕ → Option ℕ → Bool
+same_number (Some m) (Some n) = m == n
+same_number None None = true
+same_number (Some m) None = false
+same_number None (Some n) = false
+
+abbrev pub same_address : Address → Address → Bool
+same_address a b = (a.letter == b.letter) && ((a.first == b.first) && same_number a.second b.second)
+
+abbrev pub names_of : Declared → List (List ℕ)
+names_of declared = map (λ v. v.name) declared.vars ++ map (λ i. i.name) declared.instances
+
+abbrev pub addresses_of : List Var → List Address
+addresses_of vars = filter_map (λ v. v.address) vars
+
+-- The largest preset of a block (the profile): a duration in milliseconds is below 2 ^ 32, a counter's PV at most 32767.
+abbrev pub largest_preset : BlockKind → ℕ
+largest_preset block.Ton = 4294967295
+largest_preset block.Tof = 4294967295
+largest_preset block.Tp = 4294967295
+largest_preset block.Ctu = 32767
+largest_preset block.Ctd = 32767
+
+-- What holds of all declarations: each name and each address is declared once (IEC 61131-3), and the limits are kept (the profile).
+pub record AreKept (declared : Declared) : Type 0 where
+  pub names : IsDistinct same_letters (names_of declared)
+  pub addresses : IsDistinct same_address (addresses_of declared.vars)
+  pub few_vars : length declared.vars ≤ 256
+  pub few_instances : length declared.instances ≤ 64
+  pub short_names : All (λ i. length i.name ≤ 9) declared.instances
+  pub presets : All (λ i. i.preset ≤ largest_preset i.kind) declared.instances

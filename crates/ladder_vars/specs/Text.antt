@@ -1,0 +1,85 @@
+-- What a block of declarations is made of (IEC 61131-3, printed characters and comments): spaces, comments and tokens.
+use Rattle.std.specs.Prelude.{◌≡◌, ℕ, ◌+◌, ◌<◌, Bool, true, false, not, ◌&&◌, ◌||◌, ◌==◌, nat_le, ◌⊎◌, List, [], ◌∷◌, ◌++◌, length, codes, if◌then◌else◌}
+use Rattle.std.specs.List.{prefix_len, list_all}
+use Rattle.std.specs.Char.{is_ascii_alphanumeric}
+
+abbrev pub begins : (ℕ → Bool) → List ℕ → Bool
+begins test [] = false
+begins test (b ∷ bs) = test b
+
+abbrev pub begins_with : ℕ → List ℕ → Bool
+begins_with byte = begins (λ b. b == byte)
+
+-- A space (32), a tab (9) or a line end, which is LF (10) or CR LF (13, 10).
+abbrev pub is_blank : ℕ → List ℕ → Bool
+is_blank b after = b == 32 || (b == 9 || (b == 10 || (b == 13 && begins_with 10 after)))
+
+-- A letter, a digit, `_`, `#` or `.`: durations such as T#1m_5.. are words too.
+abbrev pub is_word_byte : ℕ → Bool
+is_word_byte b = is_ascii_alphanumeric b || (b == 95 || (b == 35 || b == 46))
+
+abbrev pub is_address_byte : ℕ → Bool
+is_address_byte b = is_ascii_alphanumeric b || b == 46
+
+-- How long the token at the front is: a word with its longest run, `%` with the longest run of an address behind it,
+-- `:=`, or one of `:` `;` `(` `)`, but `(*` begins a comment. It is 0 where no token stands there.
+abbrev pub token_len : List ℕ → ℕ
+token_len [] = 0
+token_len (b ∷ bs) =
+    if is_word_byte b then 1 + prefix_len is_word_byte bs
+    else (if b == 37 then 1 + prefix_len is_address_byte bs
+    else (if b == 58 then (if begins_with 61 bs then 2 else 1)
+    else (if b == 40 then (if begins_with 42 bs then 0 else 1)
+    else (if b == 59 || b == 41 then 1 else 0))))
+
+-- whether `*)` stands in it
+abbrev pub closes : List ℕ → Bool
+closes [] = false
+closes (b ∷ bs) = (b == 42 && begins_with 41 bs) || closes bs
+
+-- What stands between tokens: a comment is `(*` to the first `*)`, or `//` to the end of its line.
+pub data Piece : Type 0 where
+  Blank : (byte : ℕ) → Piece
+  Comment : (inside : List ℕ) → Piece
+  LineComment : (inside : List ℕ) → Piece
+
+abbrev pub spelling : Piece → List ℕ
+spelling (Blank byte) = byte ∷ []
+spelling (Comment inside) = codes "(*" ++ (inside ++ codes "*)")
+spelling (LineComment inside) = codes "//" ++ inside
+
+-- The piece ends where this follows it.
+abbrev pub EndsBefore : Piece → List ℕ → Type 0
+EndsBefore (Blank byte) after = is_blank byte after ≡ true
+EndsBefore (Comment inside) after = closes inside ≡ false
+EndsBefore (LineComment inside) after = (list_all (λ b. not (b == 10)) inside ≡ true) × ((after ≡ []) ⊎ (begins_with 10 after ≡ true))
+
+-- The text is these pieces, and then the rest.
+abbrev pub ArePieces : List Piece → List ℕ → List ℕ → Type 0
+ArePieces [] text rest = text ≡ rest
+ArePieces (p ∷ ps) text rest = (after : List ℕ) × (text ≡ spelling p ++ after) × EndsBefore p after × ArePieces ps after rest
+
+abbrev pub Gap : List ℕ → List ℕ → Type 0
+Gap text rest = (pieces : List Piece) × ArePieces pieces text rest
+
+-- The token stands at the front of the text, and this follows it.
+pub record IsTokenBefore (text token after : List ℕ) : Type 0 where
+  pub parts : text ≡ token ++ after
+  pub some : 0 < length token
+  pub longest : token_len text ≡ length token
+
+-- The text is these tokens, each behind a gap, and then the rest, right behind the last token.
+abbrev pub AreTokens : List (List ℕ) → List ℕ → List ℕ → Type 0
+AreTokens [] text rest = text ≡ rest
+AreTokens (t ∷ ts) text rest = (start after : List ℕ) × Gap text start × IsTokenBefore start t after × AreTokens ts after rest
+
+-- The text ends where a token is due, or inside a comment (40, 42 open it).
+abbrev pub IsUnfinished : List ℕ → Type 0
+IsUnfinished [] = Unit {0}
+IsUnfinished (a ∷ []) = ⊥
+IsUnfinished (a ∷ b ∷ inside) = (a ≡ 40) × (b ≡ 42) × (closes inside ≡ false)
+
+-- Neither a blank nor a byte from 0x21 to 0x7E stands at the front.
+abbrev pub IsBadByte : List ℕ → Type 0
+IsBadByte [] = ⊥
+IsBadByte (b ∷ after) = (is_blank b after ≡ false) × ((nat_le 33 b && nat_le b 126) ≡ false)

@@ -1,0 +1,48 @@
+use thiserror::Error;
+
+/// The rules of a block of declarations.
+#[derive(Clone, Copy, Debug, PartialEq, Eq, Error)]
+pub enum VarRule {
+    /// V1: outside comments a byte is a space, a tab, a line end or from 0x21 to 0x7E.
+    #[error("V1: this byte may stand in comments only")]
+    BadByte,
+    /// V2: the tokens are those of the grammar.
+    #[error("V2: this token may not stand here")]
+    BadToken,
+    /// V3: a name is no keyword and has at most 11 characters, that of an instance at most 9.
+    #[error("V3: this is no name")]
+    BadName,
+    /// V4: each name is declared once, whatever the case of its letters.
+    #[error("V4: this name was declared before")]
+    Duplicate,
+    /// V5: each address is declared once.
+    #[error("V5: this address was declared before")]
+    DuplicateAddress,
+    /// V6: a preset is a duration or a number within its limits.
+    #[error("V6: this is no preset for the block")]
+    BadPreset,
+    /// V7: there are at most 256 variables and 64 instances.
+    #[error("V7: there are too many variables or instances")]
+    TooMany,
+    /// V8: the block and its comments end.
+    #[error("V8: the text ends too early")]
+    Unfinished,
+    /// V9: memory was refused; no rule of the text.
+    #[error("V9: out of memory")]
+    Memory,
+}
+
+/// A rule that a text breaks, and the line where it shows, counted from 1; line 0 with `Memory`.
+#[derive(Clone, Copy, Debug, PartialEq, Eq, Error)]
+#[error("line {line}: {rule}")]
+pub struct VarFault {
+    pub rule: VarRule,
+    pub line: usize,
+}
+
+/// A rule that a text breaks, and how many of its bytes are left where reading stops.
+#[derive(Clone, Copy, Debug, PartialEq, Eq)]
+pub(crate) struct Fault {
+    pub rule: VarRule,
+    pub left: usize,
+}

@@ -1,0 +1,14 @@
+//! The declarations at the head of a ladder diagram: names, variables, timers and counters.
+//!
+//! A program text begins with one block `VAR .. END_VAR` of IEC 61131-3. This crate says what the
+//! block declares, and refuses a text whose block breaks one of the rules V1 to V8.
+#![tactic(auto)]
+
+mod decls;
+mod fault;
+mod name;
+mod text;
+
+pub use decls::{Address, BlockKind, Decls, Instance, Symbol, Var, VarKind};
+pub use fault::{VarFault, VarRule};
+pub use name::Name;

@@ -1,0 +1,182 @@
+ghost use Rattle.std.specs.Prelude.{◌≡◌, ◌≤◌, ◌<◌, length, IfOk};
+ghost use Rattle.std.specs.List.{prefix_len};
+ghost use Rattle.ladder_vars.specs.Text.{begins_with, is_blank, is_word_byte, is_address_byte, token_len};
+ghost use Rattle.ladder_vars.specs.ReadText.{skip_from, no_token, token_at, Gives};
+
+use crate::fault::{Fault, VarRule};
+
+/// Where in a gap between two tokens a byte stands.
+#[derive(Clone, Copy)]
+enum Within {
+    Blanks,
+    /// On the star of `(*`.
+    Opening,
+    Comment,
+    /// On the parenthesis of `*)`.
+    Closing,
+    LineComment,
+}
+
+fn begins_with(byte: u8, text: &[u8]) -> bool
+    ensures { result ≡ begins_with byte text.now }
+{
+    match text {
+        [] => false,
+        [b, ..] => *b == byte,
+    }
+}
+
+fn is_blank(b: u8, after: &[u8]) -> bool
+    ensures { result ≡ is_blank b after.now }
+{
+    b == b' ' || b == b'\t' || b == b'\n' || (b == b'\r' && begins_with(b'\n', after))
+}
+
+fn is_word_byte(b: u8) -> bool
+    ensures { result ≡ is_word_byte b }
+{
+    b.is_ascii_alphanumeric() || b == b'_' || b == b'#' || b == b'.'
+}
+
+fn is_address_byte(b: u8) -> bool
+    ensures { result ≡ is_address_byte b }
+{
+    b.is_ascii_alphanumeric() || b == b'.'
+}
+
+/// The text behind the blanks and comments at its front.
+fn skip(text: &[u8]) -> Result<&[u8], Fault>
+    ensures shorter { IfOk result (λ rest. length rest.now ≤ length text.now) }
+    ensures value { Gives (λ rest. rest.now) result (skip_from Within.Blanks text.now) }
+{
+    let mut rest = text;
+    let mut within = Within::Blanks;
+    while let [b, after @ ..] = rest {
+        let next = match within {
+            Within::Blanks => {
+                if is_blank(*b, after) {
+                    Within::Blanks
+                } else if *b == b'(' && begins_with(b'*', after) {
+                    Within::Opening
+                } else if *b == b'/' && begins_with(b'/', after) {
+                    Within::LineComment
+                } else {
+                    return Ok(rest);
+                }
+            }
+            Within::LineComment => {
+                if *b == b'\n' {
+                    Within::Blanks
+                } else {
+                    Within::LineComment
+                }
+            }
+            // The star of `(*` closes nothing.
+            Within::Opening => Within::Comment,
+            Within::Comment => {
+                if *b == b'*' && begins_with(b')', after) {
+                    Within::Closing
+                } else {
+                    Within::Comment
+                }
+            }
+            Within::Closing => Within::Blanks,
+        };
+        within = next;
+        rest = after;
+    }
+    match within {
+        Within::Blanks | Within::LineComment => Ok(rest),
+        Within::Opening | Within::Comment | Within::Closing => Err(Fault {
+            rule: VarRule::Unfinished,
+            left: 0,
+        }),
+    }
+}
+
+fn word_len(mut text: &[u8]) -> usize
+    ensures value { result ≡ prefix_len is_word_byte text.entry.now }
+    ensures within { result ≤ length text.entry.now }
+{
+    let whole = text.len();
+    while let [b, rest @ ..] = text {
+        if !is_word_byte(*b) {
+            break;
+        }
+        text = rest;
+    }
+    whole - text.len()
+}
+
+fn address_len(mut text: &[u8]) -> usize
+    ensures value { result ≡ prefix_len is_address_byte text.entry.now }
+    ensures within { result ≤ length text.entry.now }
+{
+    let whole = text.len();
+    while let [b, rest @ ..] = text {
+        if !is_address_byte(*b) {
+            break;
+        }
+        text = rest;
+    }
+    whole - text.len()
+}
+
+/// How long the token at the front of a text is: 0 where none stands there.
+fn token_len(text: &[u8]) -> usize
+    ensures value { result ≡ token_len text.now }
+    ensures within { result ≤ length text.now }
+{
+    match text {
+        [] => 0,
+        [b, rest @ ..] => {
+            if is_word_byte(*b) {
+                1 + word_len(rest)
+            } else if *b == b'%' {
+                1 + address_len(rest)
+            } else if *b == b':' {
+                if begins_with(b'=', rest) { 2 } else { 1 }
+            } else if *b == b'(' {
+                if begins_with(b'*', rest) { 0 } else { 1 }
+            } else if *b == b';' || *b == b')' {
+                1
+            } else {
+                0
+            }
+        }
+    }
+}
+
+/// The fault of a text that begins with neither a gap nor a token.
+fn no_token(text: &[u8]) -> Fault
+    ensures { result ≡ no_token text.now }
+{
+    match text {
+        [] => Fault {
+            rule: VarRule::Unfinished,
+            left: 0,
+        },
+        [b, ..] => Fault {
+            rule: if b'!' <= *b && *b <= b'~' {
+                VarRule::BadToken
+            } else {
+                VarRule::BadByte
+            },
+            left: text.len(),
+        },
+    }
+}
+
+/// The first token of a text, and what stands behind it.
+#[tactic(auto, unfolding(crate::specs::ReadText::token_at))]
+pub(crate) fn token(text: &[u8]) -> Result<(&[u8], &[u8]), Fault>
+    ensures value { Gives (λ x. (x.0.now, x.1.now)) result (token_at text.now) }
+    ensures shorter { IfOk result (λ x. length x.1.now < length text.now) }
+{
+    let rest = skip(text)?;
+    let len = token_len(rest);
+    if len == 0 {
+        return Err(no_token(rest));
+    }
+    Ok(rest.split_at(len))
+}
