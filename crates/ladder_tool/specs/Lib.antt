@@ -1,5 +1,3 @@
 pub mod CommandLine
 pub mod Asking
 pub mod FaultLine
-pub mod Variables
-pub mod Performs

@@ -3,14 +3,9 @@
 
 mod command;
 mod fault;
-mod perform;
-mod program;
 mod request;
-mod variables;
 mod words;
 
 pub use fault::{TextKind, ToolFault, write_fault};
-pub use perform::perform;
-pub use program::run;
 pub use request::{Request, Texts, WordFault};
 pub use words::read_words;

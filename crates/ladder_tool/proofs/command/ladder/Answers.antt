@@ -1,0 +1,10 @@
+use Rattle.std.proofs.Common.{◌∙◌, ap₂}
+use Rattle.std.proofs.lemmas.Result.{IfOk-weaker}
+use Rattle.clap.specs.Words.{App, with_subcommand}
+use Rattle.ladder_tool.proofs.command.ladder.Goals as goal
+
+abbrev joined : App → App → App
+joined a b = with_subcommand a b.top
+
+pub returns : goal.returns
+returns c = IfOk-weaker c.join.result _ _ (λ r h. h ∙ ap₂ joined c.top.ensures c.in_ok-causes.ensures.0) c.join.ensures

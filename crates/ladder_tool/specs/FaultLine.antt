@@ -1,0 +1,72 @@
+-- The line of a fault: the code of the rule, and where it shows.
+use Rattle.std.specs.Prelude.{◌++◌, ℕ, List, codes, decimal}
+use Rattle.ladder_vars.specs.declared.fault.VarFault.{VarFault}
+use Rattle.ladder_vars.specs.declared.fault.VarRule.{VarRule}
+use Rattle.ladder_vars.specs.declared.fault.VarRule.TheVariants as var
+use Rattle.ladder_grid.specs.declared.fault.GridFault.{GridFault}
+use Rattle.ladder_grid.specs.declared.fault.GridFault.TheVariants as grid
+use Rattle.ladder_grid.specs.declared.fault.GridRule.{GridRule}
+use Rattle.ladder_grid.specs.declared.fault.GridRule.TheVariants as rule
+use Rattle.ladder_causes.specs.declared.fault.CauseFault.{CauseFault}
+use Rattle.ladder_causes.specs.declared.fault.CauseFault.TheVariants as cause
+use Rattle.ladder_sim.specs.declared.fault.TextFault.{TextFault}
+use Rattle.ladder_sim.specs.declared.fault.TextFault.TheVariants as text
+use Rattle.ladder_tool.specs.declared.fault.TextKind.{TextKind}
+use Rattle.ladder_tool.specs.declared.fault.TextKind.TheVariants as kind
+use Rattle.ladder_tool.specs.declared.fault.ToolFault.{ToolFault}
+use Rattle.ladder_tool.specs.declared.fault.ToolFault.TheVariants as fault
+
+-- the rules of the declarations, V1 to V9
+abbrev pub var_number : VarRule → ℕ
+var_number var.BadByte = 1
+var_number var.BadToken = 2
+var_number var.BadName = 3
+var_number var.Duplicate = 4
+var_number var.DuplicateAddress = 5
+var_number var.BadPreset = 6
+var_number var.TooMany = 7
+var_number var.Unfinished = 8
+var_number var.Memory = 9
+
+abbrev pub rule_line : ℕ → ℕ → List ℕ
+rule_line number line = codes "fault V" ++ (decimal number ++ (codes " line " ++ (decimal line ++ codes "\n")))
+
+-- want of memory has no line of the text
+abbrev pub line_of_rule : VarRule → ℕ → List ℕ
+line_of_rule var.Memory line = codes "fault V9\n"
+line_of_rule rule line = rule_line (var_number rule) line
+
+abbrev pub var_line : VarFault → List ℕ
+var_line f = line_of_rule f.rule f.line
+
+-- the rules of the drawing, of G1 to G15 those that a text can break so far
+abbrev pub grid_number : GridRule → ℕ
+grid_number rule.LabelFault = 13
+
+abbrev pub grid_line : GridFault → List ℕ
+grid_line (grid.Vars f) = var_line f
+grid_line (grid.Grid r rung line) =
+    codes "fault G" ++ (decimal (grid_number r) ++ (codes " rung " ++ (decimal rung ++ (codes " line " ++ (decimal line ++ codes "\n")))))
+
+-- the reasons why there is no list of causes, of C1 to C7 those that can come so far
+abbrev pub cause_number : CauseFault → ℕ
+cause_number cause.NotACoil = 2
+
+abbrev pub kind_word : TextKind → List ℕ
+kind_word kind.Program = codes "program"
+kind_word kind.State = codes "state"
+kind_word kind.Stimulus = codes "stimulus"
+
+abbrev pub text_line : TextKind → TextFault → List ℕ
+text_line k text.Read = codes "fault X1 " ++ (kind_word k ++ codes "\n")
+text_line k text.TooLong = codes "fault X5 " ++ (kind_word k ++ codes "\n")
+text_line k text.Memory = codes "fault X7\n"
+
+abbrev pub fault_line : ToolFault → List ℕ
+fault_line (fault.Grid f) = grid_line f
+fault_line (fault.Cause f) = codes "fault C" ++ (decimal (cause_number f) ++ codes "\n")
+fault_line (fault.Text k f) = text_line k f
+fault_line (fault.Word number) = codes "fault X3 word " ++ (decimal number ++ codes "\n")
+fault_line fault.Write = codes "fault X6\n"
+fault_line fault.Memory = codes "fault X7\n"
+fault_line fault.Usage = codes "fault usage\n"

@@ -1,0 +1,156 @@
+//! What stops a request, and the line that says so.
+ghost use Rattle.std.specs.Prelude.{◌≡◌};
+ghost use Rattle.ladder_sim.specs.Log.{Puts};
+ghost use Rattle.ladder_tool.specs.FaultLine.{cause_number, fault_line, grid_number, kind_word, text_line, var_line, var_number};
+
+use ladder_causes::CauseFault;
+use ladder_grid::{GridFault, GridRule};
+use ladder_sim::{Piece, Sink, TextFault, WriteFault, put, put_pieces};
+use ladder_vars::{VarFault, VarRule};
+use thiserror::Error;
+
+/// Which of the files a text is from.
+#[derive(Clone, Copy, Debug, PartialEq, Eq)]
+pub enum TextKind {
+    Program,
+    State,
+    Stimulus,
+}
+
+/// What stops a request.
+#[derive(Clone, Copy, Debug, PartialEq, Eq, Error)]
+pub enum ToolFault {
+    /// The program text breaks a rule.
+    #[error("{0}")]
+    Grid(GridFault),
+    /// There is no list of causes.
+    #[error("{0}")]
+    Cause(CauseFault),
+    /// A text can't be read.
+    #[error("{1}")]
+    Text(TextKind, TextFault),
+    /// A word names no variable; COIL is word 1, the first INPUT word 2.
+    #[error("word {number} names no variable")]
+    Word { number: usize },
+    #[error("the writer failed")]
+    Write,
+    #[error("out of memory")]
+    Memory,
+    #[error("the words are not those of a request")]
+    Usage,
+}
+
+/// Writes the line of a fault. It takes no memory.
+pub fn write_fault<W: Sink>(fault: &ToolFault, writer: &mut W) -> Result<(), WriteFault>
+    ensures { Puts (W.log writer.old) (W.log writer.new) result (fault_line fault.now) }
+{
+    match *fault {
+        ToolFault::Grid(GridFault::Vars(fault)) => write_var_fault(fault, writer),
+        ToolFault::Grid(GridFault::Grid { rule, rung, line }) => {
+            let pieces = [
+                Piece::Text(b"fault G"),
+                Piece::Number(grid_number(rule)),
+                Piece::Text(b" rung "),
+                Piece::Number(rung as u64),
+                Piece::Text(b" line "),
+                Piece::Number(line as u64),
+                Piece::Text(b"\n"),
+            ];
+            put_pieces(writer, pieces.as_slice())
+        }
+        ToolFault::Cause(fault) => {
+            let pieces = [
+                Piece::Text(b"fault C"),
+                Piece::Number(cause_number(fault)),
+                Piece::Text(b"\n"),
+            ];
+            put_pieces(writer, pieces.as_slice())
+        }
+        ToolFault::Text(kind, fault) => write_text_fault(kind, fault, writer),
+        ToolFault::Word { number } => {
+            let pieces = [
+                Piece::Text(b"fault X3 word "),
+                Piece::Number(number as u64),
+                Piece::Text(b"\n"),
+            ];
+            put_pieces(writer, pieces.as_slice())
+        }
+        ToolFault::Write => put(writer, b"fault X6\n"),
+        ToolFault::Memory => put(writer, b"fault X7\n"),
+        ToolFault::Usage => put(writer, b"fault usage\n"),
+    }
+}
+
+fn write_var_fault<W: Sink>(fault: VarFault, writer: &mut W) -> Result<(), WriteFault>
+    ensures { Puts (W.log writer.old) (W.log writer.new) result (var_line fault) }
+{
+    if fault.rule == VarRule::Memory {
+        return put(writer, b"fault V9\n");
+    }
+    let pieces = [
+        Piece::Text(b"fault V"),
+        Piece::Number(var_number(fault.rule)),
+        Piece::Text(b" line "),
+        Piece::Number(fault.line as u64),
+        Piece::Text(b"\n"),
+    ];
+    put_pieces(writer, pieces.as_slice())
+}
+
+fn write_text_fault<W: Sink>(kind: TextKind, fault: TextFault, writer: &mut W) -> Result<(), WriteFault>
+    ensures { Puts (W.log writer.old) (W.log writer.new) result (text_line kind fault) }
+{
+    let rule: &[u8] = match fault {
+        TextFault::Read => b"fault X1 ",
+        TextFault::TooLong => b"fault X5 ",
+        TextFault::Memory => return put(writer, b"fault X7\n"),
+    };
+    let pieces = [
+        Piece::Text(rule),
+        Piece::Text(kind_word(kind)),
+        Piece::Text(b"\n"),
+    ];
+    put_pieces(writer, pieces.as_slice())
+}
+
+fn kind_word(kind: TextKind) -> &'static [u8]
+    ensures { result.now ≡ kind_word kind }
+{
+    match kind {
+        TextKind::Program => b"program",
+        TextKind::State => b"state",
+        TextKind::Stimulus => b"stimulus",
+    }
+}
+
+fn var_number(rule: VarRule) -> u64
+    ensures { result ≡ var_number rule }
+{
+    match rule {
+        VarRule::BadByte => 1,
+        VarRule::BadToken => 2,
+        VarRule::BadName => 3,
+        VarRule::Duplicate => 4,
+        VarRule::DuplicateAddress => 5,
+        VarRule::BadPreset => 6,
+        VarRule::TooMany => 7,
+        VarRule::Unfinished => 8,
+        VarRule::Memory => 9,
+    }
+}
+
+fn grid_number(rule: GridRule) -> u64
+    ensures { result ≡ grid_number rule }
+{
+    match rule {
+        GridRule::LabelFault => 13,
+    }
+}
+
+fn cause_number(fault: CauseFault) -> u64
+    ensures { result ≡ cause_number fault }
+{
+    match fault {
+        CauseFault::NotACoil => 2,
+    }
+}
