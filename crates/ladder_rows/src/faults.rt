@@ -1,0 +1,59 @@
+//! The lines of faults, over writers that fail.
+use crate::memory::{ENDS, Narrow};
+use ladder_causes::CauseFault;
+use ladder_grid::{GridFault, GridRule};
+use ladder_sim::{TextFault, WriteFault, Writing};
+use ladder_tool::{TextKind, ToolFault, write_fault};
+use ladder_vars::{VarFault, VarRule};
+
+fn lines() -> [(ToolFault, &'static [u8]); 12] {
+    let duplicate = VarFault {
+        rule: VarRule::Duplicate,
+        line: 7,
+    };
+    let memory = VarFault {
+        rule: VarRule::Memory,
+        line: 0,
+    };
+    let label = GridFault::Grid {
+        rule: GridRule::LabelFault,
+        rung: 2,
+        line: 14,
+    };
+    [
+        (ToolFault::Grid(GridFault::Vars(duplicate)), b"fault V4 line 7\n"),
+        (ToolFault::Grid(GridFault::Vars(memory)), b"fault V9\n"),
+        (ToolFault::Grid(label), b"fault G13 rung 2 line 14\n"),
+        (ToolFault::Cause(CauseFault::NotACoil), b"fault C2\n"),
+        (ToolFault::Text(TextKind::Program, TextFault::Read), b"fault X1 program\n"),
+        (ToolFault::Text(TextKind::State, TextFault::TooLong), b"fault X5 state\n"),
+        (ToolFault::Text(TextKind::Stimulus, TextFault::Read), b"fault X1 stimulus\n"),
+        (ToolFault::Text(TextKind::State, TextFault::Memory), b"fault X7\n"),
+        (ToolFault::Word { number: 10 }, b"fault X3 word 10\n"),
+        (ToolFault::Write, b"fault X6\n"),
+        (ToolFault::Memory, b"fault X7\n"),
+        (ToolFault::Usage, b"fault usage\n"),
+    ]
+}
+
+#[test]
+fn leaves_a_front_where_the_writer_fails(rt: HostRuntime) {
+    for (fault, line) in lines() {
+        for end in ENDS {
+            for room in 0..=line.len() {
+                for step in [1, 1000] {
+                    let mut writer = Writing::new(Narrow {
+                        bytes: Vec::new(rt.alloc()),
+                        room,
+                        step,
+                        end,
+                    });
+                    let wrote = write_fault(&fault, &mut writer);
+                    assert_eq!(rt; wrote == Err(WriteFault), room < line.len(), "{fault:?} at {room}");
+                    let narrow = writer.into_inner();
+                    assert!(rt; narrow.bytes.as_slice() == &line[..room], "{fault:?} at {room}");
+                }
+            }
+        }
+    }
+}

@@ -1,0 +1,77 @@
+//! Readers and writers over memory, with a chosen failure.
+ghost use Rattle.std.specs.Prelude.{Some};
+
+use std::io::{self, ErrorKind, Read, Write};
+
+/// What a writer does once it has no room.
+#[derive(Clone, Copy, Debug, PartialEq, Eq)]
+pub(crate) enum End {
+    /// It fails.
+    Fails,
+    /// It fails by an interruption.
+    Interrupts,
+    /// It takes no byte.
+    TakesNone,
+    /// It fails once, and would take all that comes after.
+    FailsOnce,
+}
+
+/// All that a writer can do at its end.
+pub(crate) const ENDS: [End; 4] = [End::Fails, End::Interrupts, End::TakesNone, End::FailsOnce];
+
+/// A writer that has room for so many bytes, takes at most `step` a call, and then comes to its end.
+#[derive(Drop)]
+pub(crate) struct Narrow {
+    pub bytes: Vec<u8>,
+    pub room: usize,
+    pub step: usize,
+    pub end: End,
+}
+
+impl Write for Narrow {
+    ghost contents = { λ w. Some w.bytes.items };
+
+    fn write(&mut self, buf: &[u8]) -> io::Result<usize> {
+        let count = buf.len().min(self.room).min(self.step);
+        if count == 0 && !buf.is_empty() {
+            match self.end {
+                End::Fails => return Err(io::Error::from(ErrorKind::Other)),
+                End::Interrupts => return Err(io::Error::from(ErrorKind::Interrupted)),
+                End::TakesNone => return Ok(0),
+                End::FailsOnce => {
+                    self.room = usize::MAX;
+                    return Err(io::Error::from(ErrorKind::Other));
+                }
+            }
+        }
+        self.bytes.extend_from_slice(&buf[..count])?;
+        self.room -= count;
+        Ok(count)
+    }
+
+    fn flush(&mut self) -> io::Result<()> {
+        Ok(())
+    }
+}
+
+/// A reader that gives `left` times the byte `#`, at most `step` a call, and fails at the call number `failing`.
+#[derive(Drop)]
+pub(crate) struct Hashes {
+    pub left: usize,
+    pub step: usize,
+    pub calls: usize,
+    pub failing: usize,
+}
+
+impl Read for Hashes {
+    fn read(&mut self, buf: &mut [u8]) -> io::Result<usize> {
+        self.calls = self.calls.wrapping_add(1);
+        if self.calls == self.failing {
+            return Err(io::Error::from(ErrorKind::Interrupted));
+        }
+        let count = self.left.min(buf.len()).min(self.step);
+        buf[..count].fill(b'#');
+        self.left -= count;
+        Ok(count)
+    }
+}
