@@ -1,3 +1,5 @@
 pub mod CommandLine
 pub mod Asking
 pub mod FaultLine
+pub mod Variables
+pub mod Performs

@@ -4,6 +4,7 @@
 mod command;
 mod fault;
 mod request;
+mod variables;
 mod words;
 
 pub use fault::{TextKind, ToolFault, write_fault};

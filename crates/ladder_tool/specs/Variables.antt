@@ -1,0 +1,32 @@
+-- The variables that the words COIL and INPUT.. name. A word names a variable whatever its letter case.
+use Rattle.std.specs.Prelude.{◌≡◌, ℕ, ◌+◌, ◌<◌, List, Option, Some, None, length, map, take, slice_index_or, [], if◌then◌else◌}
+use Rattle.clap.specs.Words.{Text}
+use Rattle.ladder_vars.specs.declared.decls.Symbol.{Symbol}
+use Rattle.ladder_vars.specs.declared.decls.Symbol.TheVariants as symbol
+use Rattle.ladder_vars.specs.Decls.{Declared, find}
+use Rattle.ladder_vars.specs.Name.{is_name}
+
+abbrev pub var_in : Option Symbol → Option ℕ
+var_in None = None
+var_in (Some (symbol.Var number)) = Some number
+var_in (Some (symbol.Instance number)) = None
+
+-- the variable with this name, by its number in order of declaration
+abbrev pub variable_of : Declared → List ℕ → Option ℕ
+variable_of decls word = if is_name word then var_in (find decls word) else None
+
+abbrev pub AreVariables : Declared → List Text → List ℕ → Type 0
+AreVariables decls words vars = map (variable_of decls) words ≡ map Some vars
+
+-- the word at i, counted from 0, names no variable, and all before it do
+pub record IsUnknownAt (decls : Declared) (words : List Text) (i : ℕ) : Type 0 where
+  pub there : i < length words
+  pub unknown : variable_of decls (slice_index_or words i []) ≡ None
+  pub before : List ℕ
+  pub known : AreVariables decls (take i words) before
+
+-- the word of this number, counted from 1, is the first that names no variable
+pub record IsUnknownWord (decls : Declared) (words : List Text) (number : ℕ) : Type 0 where
+  pub at : ℕ
+  pub counted : number ≡ at + 1
+  pub first : IsUnknownAt decls words at

@@ -1,0 +1,62 @@
+//! The variables that words name.
+ghost use Rattle.std.specs.Prelude.{◌≡◌, ◌∷◌, IfOk, IfErr, List, Some, ℕ, map, string_bytes};
+ghost use Rattle.ladder_tool.specs.Variables.{AreVariables, variable_of};
+ghost use Rattle.ladder_tool.specs.Performs.{HasWordFault};
+
+use super::fault::ToolFault;
+use ladder_vars::{Decls, Name, Symbol};
+use std::alloc::Global;
+
+/// The variables that a request for causes is about, by their numbers in order of declaration.
+#[derive(Drop)]
+pub(crate) struct Asked {
+    pub coil: usize,
+    pub inputs: Vec<usize>,
+}
+
+/// The variable that a word names. Letter case makes no difference.
+fn variable(decls: &Decls, word: &str) -> Option<usize>
+    ensures { result ≡ variable_of decls.now word.now }
+{
+    match Name::new(word.as_bytes()) {
+        Some(name) => match decls.find(&name) {
+            Some(Symbol::Var(number)) => Some(number),
+            _ => None,
+        },
+        None => None,
+    }
+}
+
+/// The variables of all words: COIL is word 1, the first INPUT word 2.
+pub(crate) fn asked_variables(alloc: Global, decls: &Decls, coil: &str, inputs: &[String]) -> Result<Asked, ToolFault>
+    ensures coil { IfOk result (λ a. variable_of decls.now coil.now ≡ Some a.coil) }
+    ensures inputs { IfOk result (λ a. AreVariables decls.now (map string_bytes inputs.now) a.inputs.items) }
+    ensures fault { IfErr result (HasWordFault decls.now (coil.now ∷ map string_bytes inputs.now)) }
+{
+    let Some(coil) = variable(decls, coil) else {
+        return Err(ToolFault::Word { number: 1 });
+    };
+    match input_variables(alloc, decls, inputs) {
+        Ok(inputs) => Ok(Asked { coil, inputs }),
+        Err(fault) => Err(fault),
+    }
+}
+
+// The words stand behind a first one that names a variable.
+fn input_variables(alloc: Global, decls: &Decls, words: &[String]) -> Result<Vec<usize>, ToolFault>
+    ensures ok { IfOk result (λ v. AreVariables decls.now (map string_bytes words.now) v.items) }
+    ensures fault { (first : List ℕ) (v : ℕ) → variable_of decls.now first ≡ Some v → IfErr result (HasWordFault decls.now (first ∷ map string_bytes words.now)) }
+{
+    let mut variables = Vec::new(alloc);
+    for word in words {
+        let Some(number) = variable(decls, word.as_str()) else {
+            return Err(ToolFault::Word {
+                number: variables.len() + 2,
+            });
+        };
+        if variables.push(number).is_err() {
+            return Err(ToolFault::Memory);
+        }
+    }
+    Ok(variables)
+}
