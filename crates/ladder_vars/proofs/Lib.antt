@@ -1,0 +1,24 @@
+mod Steps
+mod TextReads
+mod TextTakes
+mod TextFaults
+pub mod Numbers
+mod Durations
+mod Keeping
+mod Lists
+mod DeclLoop
+mod WordLaws
+mod GrammarReads
+mod GrammarTakes
+mod GrammarFaults
+mod PresetFaults
+mod Accepting
+mod DeclReads
+mod DeclTakes
+mod BodyEnds
+mod DeclFaults
+mod LoopFaults
+mod Runs
+mod PartLaws
+mod DurationLaws
+mod TimeLaws

@@ -2,4 +2,9 @@ pub mod Name
 pub mod NameView
 pub mod Decls
 pub mod Text
+pub mod Duration
+pub mod Grammar
+pub mod Rules
 pub mod ReadText
+pub mod ReadWords
+pub mod ReadDecls

@@ -1,9 +1,19 @@
-ghost use Rattle.std.specs.Prelude.{◌≡◌, position, count_by};
+ghost use Rattle.std.specs.Prelude.{◌≡◌, OnOk, IsNone, position, count_by};
+ghost use Rattle.std.specs.List.{list_any};
 ghost use Rattle.ladder_vars.specs.Name.{same_letters};
-ghost use Rattle.ladder_vars.specs.Decls.{is_input, find};
+ghost use Rattle.ladder_vars.specs.Decls.{is_input, find, AreKept};
+ghost use Rattle.ladder_vars.specs.ReadDecls.{is_there, is_declared, is_taken, refusal, nothing, added, with_var, with_instance, with_decl, GivesInMemory, PresetFits};
 
+use crate::fault::{Fault, ReadFault, VarRule};
 use crate::name::Name;
+use std::alloc::{AllocError, Global};
 use std::marker::Model;
+
+const MOST_VARS: usize = 256;
+
+const MOST_INSTANCES: usize = 64;
+
+const LONGEST_INSTANCE: usize = 9;
 
 /// What a variable is for.
 #[derive(Clone, Copy, Debug, PartialEq, Eq)]
@@ -58,6 +68,20 @@ pub struct Instance {
     pub preset: u32,
 }
 
+/// What stands behind a name in its declaration.
+#[derive(Clone, Copy)]
+pub(crate) enum Body {
+    Var {
+        kind: VarKind,
+        address: Option<Address>,
+        initial: bool,
+    },
+    Instance {
+        kind: BlockKind,
+        preset: u32,
+    },
+}
+
 /// What a name stands for, by its number in order of declaration, counted from 0.
 #[derive(Clone, Copy, Debug, PartialEq, Eq)]
 pub enum Symbol {
@@ -98,17 +122,152 @@ fn instance_at(instances: &[Instance], name: &Name) -> Option<usize>
     instances.iter().position(|i| name.same(&i.name))
 }
 
+/// Whether a variable stands at the address.
+fn is_there(place: Option<Address>, address: Address) -> bool
+    ensures { result ≡ is_there place address }
+{
+    match place {
+        Some(other) => address == other,
+        None => false,
+    }
+}
+
+fn is_var(vars: &[Var], name: &Name) -> bool
+    ensures { result ≡ list_any (λ v. same_letters name.now v.name) vars.now }
+{
+    vars.iter().any(|v| name.same(&v.name))
+}
+
+fn is_instance(instances: &[Instance], name: &Name) -> bool
+    ensures { result ≡ list_any (λ i. same_letters name.now i.name) instances.now }
+{
+    instances.iter().any(|i| name.same(&i.name))
+}
+
+fn is_used(vars: &[Var], address: Address) -> bool
+    ensures { result ≡ list_any (λ v. is_there v.address address) vars.now }
+{
+    vars.iter().any(|v| is_there(v.address, address))
+}
+
 impl Decls {
-    pub fn vars(&self) -> &[Var]
-        ensures { result.now ≡ self.now.vars }
+    pub(crate) fn new(alloc: Global) -> Decls
+        ensures { result ≡ nothing }
     {
-        &self.vars
+        Decls {
+            vars: Vec::new(alloc),
+            instances: Vec::new(alloc),
+        }
     }
 
-    pub fn instances(&self) -> &[Instance]
-        ensures { result.now ≡ self.now.instances }
+    fn is_declared(&self, name: &Name) -> bool
+        ensures value { result ≡ is_declared self.now name.now }
+        ensures kept { AreKept self.now }
     {
-        &self.instances
+        is_var(&self.vars, name) || is_instance(&self.instances, name)
+    }
+
+    fn is_taken(&self, address: Option<Address>) -> bool
+        ensures { result ≡ is_taken self.now address }
+    {
+        match address {
+            Some(address) => is_used(&self.vars, address),
+            None => false,
+        }
+    }
+
+    /// The rule that one more declaration would break.
+    fn refusal(&self, name: &Name, body: Body) -> Option<VarRule>
+        ensures value { result ≡ refusal self.now name.now body }
+        ensures kept { IsNone result → AreKept self.now }
+    {
+        match body {
+            Body::Var { address, .. } => {
+                if self.is_declared(name) {
+                    Some(VarRule::Duplicate)
+                } else if self.is_taken(address) {
+                    Some(VarRule::DuplicateAddress)
+                } else if self.vars.len() >= MOST_VARS {
+                    Some(VarRule::TooMany)
+                } else {
+                    None
+                }
+            }
+            Body::Instance { .. } => {
+                if name.bytes().len() > LONGEST_INSTANCE {
+                    Some(VarRule::BadName)
+                } else if self.is_declared(name) {
+                    Some(VarRule::Duplicate)
+                } else if self.instances.len() >= MOST_INSTANCES {
+                    Some(VarRule::TooMany)
+                } else {
+                    None
+                }
+            }
+        }
+    }
+
+    fn push_var(&mut self, var: Var) -> Result<(), AllocError>
+        requires { AreKept (with_var self.old var) }
+        ensures { OnOk result (self.new ≡ with_var self.old var) }
+    {
+        self.vars.push(var)?;
+        Ok(())
+    }
+
+    fn push_instance(&mut self, instance: Instance) -> Result<(), AllocError>
+        requires { AreKept (with_instance self.old instance) }
+        ensures { OnOk result (self.new ≡ with_instance self.old instance) }
+    {
+        self.instances.push(instance)?;
+        Ok(())
+    }
+
+    fn push(&mut self, name: Name, body: Body) -> Result<(), AllocError>
+        requires { AreKept (with_decl self.old name body) }
+        ensures { OnOk result (self.new ≡ with_decl self.old name body) }
+    {
+        match body {
+            Body::Var {
+                kind,
+                address,
+                initial,
+            } => self.push_var(Var {
+                name,
+                kind,
+                address,
+                initial,
+            }),
+            Body::Instance { kind, preset } => self.push_instance(Instance { name, kind, preset }),
+        }
+    }
+
+    /// Takes one more declaration, where so many bytes are left behind its name.
+    #[tactic(auto, unfolding(crate::specs::ReadDecls::added))]
+    pub(crate) fn add(&mut self, name: Name, body: Body, left: usize) -> Result<(), ReadFault>
+        requires { PresetFits body }
+        ensures { GivesInMemory (λ _. self.new) result (added self.old name body left) }
+    {
+        match self.refusal(&name, body) {
+            Some(rule) => Err(ReadFault::Broken(Fault { rule, left })),
+            None => Ok(self.push(name, body)?),
+        }
+    }
+
+    /// The variables, in order of declaration.
+    pub fn vars(&self) -> &[Var]
+        ensures value { result.now ≡ self.now.vars }
+        ensures kept { AreKept self.now }
+    {
+        self.vars.as_slice()
+    }
+
+    /// The instances, in order of declaration.
+    pub fn instances(&self) -> &[Instance]
+        ensures value { result.now ≡ self.now.instances }
+        ensures kept { AreKept self.now }
+    {
+        self.instances.as_slice()
     }
 
     /// How many variables are inputs.

@@ -1,3 +1,7 @@
+ghost use Rattle.std.specs.Prelude.{◌≡◌};
+ghost use Rattle.ladder_vars.specs.declared.fault.ReadFault.TheVariants.{NoMemory, Broken};
+
+use std::alloc::{AllocError, AllocFailed};
 use thiserror::Error;
 
 /// The rules of a block of declarations.
@@ -45,4 +49,35 @@ pub struct VarFault {
 pub(crate) struct Fault {
     pub rule: VarRule,
     pub left: usize,
+}
+
+/// Why a text was not read.
+#[derive(Debug, Drop)]
+pub(crate) enum ReadFault {
+    NoMemory,
+    Broken(Fault),
+}
+
+impl From<AllocError> for ReadFault {
+    ghost from_gives = { λ _ e. e ≡ NoMemory };
+
+    fn from(_error: AllocError) -> ReadFault {
+        ReadFault::NoMemory
+    }
+}
+
+impl<T: Drop> From<AllocFailed<T>> for ReadFault {
+    ghost from_gives = { λ _ e. e ≡ NoMemory };
+
+    fn from(_error: AllocFailed<T>) -> ReadFault {
+        ReadFault::NoMemory
+    }
+}
+
+impl From<Fault> for ReadFault {
+    ghost from_gives = { λ f e. e ≡ Broken f };
+
+    fn from(fault: Fault) -> ReadFault {
+        ReadFault::Broken(fault)
+    }
 }

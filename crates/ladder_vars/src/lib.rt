@@ -4,11 +4,18 @@
 //! block declares, and refuses a text whose block breaks one of the rules V1 to V8.
 #![tactic(auto)]
 
+mod declaration;
 mod decls;
+mod digits;
 mod fault;
 mod name;
+mod read;
 mod text;
+mod time;
+mod words;
 
 pub use decls::{Address, BlockKind, Decls, Instance, Symbol, Var, VarKind};
 pub use fault::{VarFault, VarRule};
 pub use name::Name;
+pub use read::read_decls;
+pub use time::read_time;

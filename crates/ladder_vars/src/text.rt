@@ -32,7 +32,7 @@ fn is_blank(b: u8, after: &[u8]) -> bool
     b == b' ' || b == b'\t' || b == b'\n' || (b == b'\r' && begins_with(b'\n', after))
 }
 
-fn is_word_byte(b: u8) -> bool
+pub(crate) fn is_word_byte(b: u8) -> bool
     ensures { result ≡ is_word_byte b }
 {
     b.is_ascii_alphanumeric() || b == b'_' || b == b'#' || b == b'.'

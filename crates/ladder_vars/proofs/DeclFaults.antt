@@ -1,0 +1,149 @@
+-- Where declarations are not read, the rule of the fault is broken at its place.
+use Rattle.std.proofs.Common.{◌≡◌, ℕ, inl, inr, Bool, true, nat_le, List, [], ◌∷◌, length, map, Option, Some, None, Err, refl, sym, ap, subst, ◌∙◌}
+use Rattle.std.specs.List.{list_any}
+use Rattle.std.proofs.lemmas.Bool.{leb-true}
+use Rattle.std.proofs.lemmas.List.Folds.{list_any-append}
+use Rattle.ladder_vars.specs.declared.fault.Fault.{Fault}
+use Rattle.ladder_vars.specs.declared.fault.VarRule.{VarRule}
+use Rattle.ladder_vars.specs.declared.fault.VarRule.TheVariants as rule
+use Rattle.ladder_vars.specs.declared.decls.VarKind.{VarKind}
+use Rattle.ladder_vars.specs.declared.decls.BlockKind.{BlockKind}
+use Rattle.ladder_vars.specs.declared.decls.Address.{Address}
+use Rattle.ladder_vars.specs.declared.decls.Body.{Body}
+use Rattle.ladder_vars.specs.declared.decls.Body.TheVariants as body
+use Rattle.ladder_vars.specs.Name.{same_letters, is_name, has_name_form}
+use Rattle.ladder_vars.specs.Decls.{Declared, names_of}
+use Rattle.ladder_vars.specs.Text.{AreTokens}
+use Rattle.ladder_vars.specs.Grammar.{Decl, declared_by}
+use Rattle.ladder_vars.specs.ReadDecls.{name_of, is_declared, is_taken, refusal, with_decl, refused, added}
+use Rattle.ladder_vars.specs.Rules.{WordDue, DeclDue, Breaks}
+use Rattle.ladder_vars.proofs.Steps.{chosen}
+use Rattle.ladder_vars.proofs.Lists.{list_any-map}
+use Rattle.ladder_vars.proofs.Keeping.{used-addresses}
+use Rattle.ladder_vars.proofs.TextTakes.{AreTokens-append}
+use Rattle.ladder_vars.proofs.TextFaults.{Meets}
+use Rattle.ladder_vars.proofs.PresetFaults.{NoPresetBody}
+
+pub meets_breaks : (text : List ℕ) (f : Fault) → Meets f text → Breaks f.rule text f.left
+meets_breaks text f (inl bad) = subst (λ r. Breaks r text f.left) (sym bad) tt
+meets_breaks text f (inr (at, r, inl (is, bad, left))) = subst (λ x. Breaks x text f.left) (sym is) (at, r, bad, left)
+meets_breaks text f (inr (at, r, inr (is, unended, left))) = subst (λ x. Breaks x text f.left) (sym is) (at, r, unended, left)
+
+-- ---- a whole declaration that is refused
+
+names-any : (d : Declared) (name : List ℕ) → list_any (same_letters name) (names_of d) ≡ is_declared d name
+names-any d name =
+    list_any-append (same_letters name) (map (λ v. v.name) d.vars) (map (λ i. i.name) d.instances)
+    ∙ rw (list_any-map (same_letters name) (λ v. v.name) d.vars, list_any-map (same_letters name) (λ i. i.name) d.instances) refl
+
+taken_breaks : (text : List ℕ) (ds : List Decl) (name : List ℕ) (kind : VarKind) (address : Option Address) (initial : Bool) (after : List ℕ)
+    → DeclDue text ds name (body.Var kind address initial) after → is_taken (declared_by ds) address ≡ true → Breaks rule.DuplicateAddress text (length after)
+taken_breaks text ds name kind None initial after due taken = absurd cc
+taken_breaks text ds name kind (Some a) initial after due taken =
+    (ds, name, after, kind, a, initial, due, sym (used-addresses (declared_by ds).vars a) ∙ taken, refl)
+
+refusal_breaks : (text : List ℕ) (ds : List Decl) (name : List ℕ) (b : Body) (after : List ℕ) (r : VarRule) → DeclDue text ds name b after
+    → refusal (declared_by ds) name b ≡ Some r → Breaks r text (length after)
+refusal_breaks text ds name (body.Var kind address initial) after r due h =
+    let d : Declared = declared_by ds in
+    elim (chosen (is_declared d name) _ _ _ h) [
+      | inl twice ↦
+          let e : rule.Duplicate ≡ r = cc in
+          subst (λ x. Breaks x text (length after)) e (ds, name, after, body.Var kind address initial, due, names-any d name ∙ twice.0, refl)
+      | inr new ↦ elim (chosen (is_taken d address) _ _ _ new.1) [
+        | inl taken ↦
+            let e : rule.DuplicateAddress ≡ r = cc in
+            subst (λ x. Breaks x text (length after)) e (taken_breaks text ds name kind address initial after due taken.0)
+        | inr unused ↦ elim (chosen (nat_le 256 (length d.vars)) _ _ _ unused.1) [
+          | inl full ↦
+              let e : rule.TooMany ≡ r = cc in
+              subst (λ x. Breaks x text (length after)) e
+              (ds, name, after, body.Var kind address initial, due, leb-true 256 (length d.vars) full.0, refl)
+          | inr room ↦ absurd cc
+        ]
+      ]
+    ]
+refusal_breaks text ds name (body.Instance kind preset) after r due h =
+    let d : Declared = declared_by ds in
+    elim (chosen (nat_le 10 (length name)) _ _ _ h) [
+      | inl long ↦
+          let e : rule.BadName ≡ r = cc in
+          subst (λ x. Breaks x text (length after)) e (inr (ds, name, after, kind, preset, due, leb-true 10 (length name) long.0, refl))
+      | inr short ↦ elim (chosen (is_declared d name) _ _ _ short.1) [
+        | inl twice ↦
+            let e : rule.Duplicate ≡ r = cc in
+            subst (λ x. Breaks x text (length after)) e (ds, name, after, body.Instance kind preset, due, names-any d name ∙ twice.0, refl)
+        | inr new ↦ elim (chosen (nat_le 64 (length d.instances)) _ _ _ new.1) [
+          | inl full ↦
+              let e : rule.TooMany ≡ r = cc in
+              subst (λ x. Breaks x text (length after)) e
+              (ds, name, after, body.Instance kind preset, due, leb-true 64 (length d.instances) full.0, refl)
+          | inr room ↦ absurd cc
+        ]
+      ]
+    ]
+
+refused-err : (o : Option VarRule) (left : ℕ) (x : Declared) (f : Fault) → refused o left x ≡ Err f → (o ≡ Some f.rule) × (left ≡ f.left)
+refused-err (Some r) left x f h =
+    let e : record { rule = r; left = left } ≡ f = cc in
+    (ap (λ g. Some (g.rule)) e, ap (λ g. g.left) e)
+refused-err None left x f h = absurd cc
+
+pub added_breaks : (text : List ℕ) (ds : List Decl) (a : Declared) (name : List ℕ) (b : Body) (after : List ℕ) (f : Fault) → a ≡ declared_by ds
+    → DeclDue text ds name b after → added a name b (length after) ≡ Err f → Breaks f.rule text f.left
+unfolding added
+added_breaks text ds a name b after f same due h =
+    let e = refused-err (refusal a name b) (length after) (with_decl a name b) f h in
+    let broken : refusal (declared_by ds) name b ≡ Some f.rule = ap (λ d. refusal d name b) (sym same) ∙ e.0 in
+    subst (λ n. Breaks f.rule text n) e.1 (refusal_breaks text ds name b after f.rule due broken)
+
+-- ---- a word that is no name, and a body that is not read
+
+pub name_breaks : (text : List ℕ) (ds : List Decl) (w after : List ℕ) (f : Fault) → WordDue text ds w after → name_of w (length after) ≡ Err f → Breaks f.rule text f.left
+unfolding name_of
+name_breaks text ds w after f due h =
+    elim (chosen (is_name w) _ _ _ h) [
+      | inl named ↦ absurd cc
+      | inr other ↦ elim (chosen (has_name_form w) _ _ _ other.1) [
+        | inl form ↦
+            let e : record { rule = rule.BadName; left = length after } ≡ f = cc in
+            subst (λ g. Breaks g.rule text g.left) e (inl (ds, w, after, due, form.0, other.0, refl))
+        | inr wrong ↦
+            let e : record { rule = rule.BadToken; left = length after } ≡ f = cc in
+            subst (λ g. Breaks g.rule text g.left) e tt
+      ]
+    ]
+
+pub preset_breaks : (text : List ℕ) (ds : List Decl) (name after : List ℕ) (kind : BlockKind) (f : Fault) → WordDue text ds name after → is_name name ≡ true
+    → NoPresetBody kind f after → Breaks f.rule text f.left
+preset_breaks text ds name after kind f due named p =
+    let read : AreTokens (p.colon ∷ p.block ∷ p.assign ∷ p.opening ∷ p.parameter ∷ p.given ∷ p.bad.word ∷ []) after p.bad.after
+    = AreTokens-append (p.colon ∷ p.block ∷ p.assign ∷ p.opening ∷ p.parameter ∷ p.given ∷ []) (p.bad.word ∷ []) after p.before p.bad.after p.read p.bad.read in
+    subst (λ r. Breaks r text f.left) (sym p.bad.rule_is) (
+      kind,
+      p.bad.word,
+      p.bad.after,
+      record {
+        ds = ds;
+        name = name;
+        behind = after;
+        word_due = due;
+        named = named;
+        colon = p.colon;
+        block = p.block;
+        assign = p.assign;
+        opening = p.opening;
+        parameter = p.parameter;
+        given = p.given;
+        is_colon = p.is_colon;
+        is_block = p.is_block;
+        is_assign = p.is_assign;
+        is_opening = p.is_opening;
+        is_parameter = p.is_parameter;
+        is_given = p.is_given;
+        read = read;
+      },
+      p.bad.is_word,
+      p.bad.none,
+      p.bad.left_is,
+    )

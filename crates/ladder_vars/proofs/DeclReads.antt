@@ -1,0 +1,124 @@
+-- What a text declares is read, and where a reading ends.
+use Rattle.std.proofs.Common.{◌≡◌, ℕ, zero, suc, ◌+◌, ◌-◌, ◌<◌, ◌≤◌, true, false, not, nat_le, List, [], ◌∷◌, ◌++◌, length, drop, codes, Ok, refl, sym, ap, subst, ◌∙◌, arith, append_assoc}
+use Rattle.std.proofs.lemmas.List.{append-nil, length-append}
+use Rattle.std.proofs.Math.Seq.{drop-append_seam}
+use Rattle.std.proofs.lemmas.Bool.{and_parts, not-true}
+use Rattle.ladder_vars.specs.declared.decls.Var.{Var}
+use Rattle.ladder_vars.specs.declared.decls.Instance.{Instance}
+use Rattle.ladder_vars.specs.declared.decls.Body.TheVariants as body
+use Rattle.ladder_vars.specs.Name.{same_letters, is_name, is_keyword, has_name_form}
+use Rattle.ladder_vars.specs.Decls.{Declared, AreKept}
+use Rattle.ladder_vars.specs.Text.{Piece, ArePieces, AreTokens, spelling}
+use Rattle.ladder_vars.specs.Grammar.{Is, Decl, IsDecl, AreDecls, declared_by, HasDecls}
+use Rattle.ladder_vars.specs.ReadDecls.{name_of, with_decl, added, nothing, decls_from, all_of}
+use Rattle.ladder_vars.proofs.Steps.{or_false}
+use Rattle.ladder_vars.proofs.TextReads.{first_token}
+use Rattle.ladder_vars.proofs.GrammarReads.{expect_reads, body_reads}
+use Rattle.ladder_vars.proofs.GrammarTakes.{TakesBody, body_takes}
+use Rattle.ladder_vars.proofs.Accepting.{joined, accepts}
+
+-- ---- where a reading ends
+
+pieces-end : (ps : List Piece) (text rest : List ℕ) → ArePieces ps text rest → (front : List ℕ) × (text ≡ front ++ rest)
+pieces-end [] text rest h = ([], h)
+pieces-end (p ∷ ps) text rest h =
+    let more = pieces-end ps h.0 rest h.3 in
+    (spelling p ++ more.0, h.1 ∙ ap (λ z. spelling p ++ z) more.1 ∙ sym (append_assoc (spelling p) more.0 rest))
+
+tokens-end : (ts : List (List ℕ)) (text rest : List ℕ) → AreTokens ts text rest → (front : List ℕ) × (text ≡ front ++ rest)
+tokens-end [] text rest h = ([], h)
+tokens-end (t ∷ ts) text rest h =
+    let gap = pieces-end h.2.0 text h.0 h.2.1 in
+    let more = tokens-end ts h.1 rest h.4 in
+    let after : h.0 ≡ (t ++ more.0) ++ rest = h.3.parts ∙ ap (λ z. t ++ z) more.1 ∙ sym (append_assoc t more.0 rest) in
+    (gap.0 ++ (t ++ more.0), gap.1 ∙ ap (λ z. gap.0 ++ z) after ∙ sym (append_assoc gap.0 (t ++ more.0) rest))
+
+drop_end : (front rest : List ℕ) → drop (length (front ++ rest) - length rest) (front ++ rest) ≡ rest
+drop_end front rest =
+    let n : length (front ++ rest) - length rest ≡ length front = omega (arith, length-append {A = ℕ} front rest) in
+    rw n (drop-append_seam front rest)
+
+pub tokens-shorter : (ts : List (List ℕ)) (text rest : List ℕ) → AreTokens ts text rest → length rest ≤ length text
+tokens-shorter ts text rest h =
+    let end = tokens-end ts text rest h in
+    omega (arith, ap length end.1, length-append {A = ℕ} end.0 rest)
+
+pub place_after : (text : List ℕ) (declared : Declared) (rest : List ℕ) → HasDecls text declared rest → rest ≡ drop (length text - length rest) text
+place_after text declared rest h =
+    let end = tokens-end (h.opening ∷ (h.tokens ++ h.closing ∷ [])) text rest h.read in
+    rw end.1 (sym (drop_end end.0 rest))
+
+pub rest-le : (text : List ℕ) (declared : Declared) (rest : List ℕ) → HasDecls text declared rest → length rest ≤ length text
+rest-le text declared rest h = tokens-shorter (h.opening ∷ (h.tokens ++ h.closing ∷ [])) text rest h.read
+
+-- ---- what the text declares is read
+
+names_itself : (name : List ℕ) (left : ℕ) → is_name name ≡ true → name_of name left ≡ Ok name
+unfolding name_of
+names_itself name left h = rw h refl
+
+-- a name is no keyword
+pub no_keyword : (name : List ℕ) → is_name name ≡ true → same_letters name (codes "END_VAR") ≡ false
+no_keyword name h =
+    let parts = and_parts (nat_le (length name) 11) (not (is_keyword name)) (and_parts (has_name_form name) _ h).1 in
+    (or_false _ _ (or_false _ _ (not-true (is_keyword name) parts.1)).1).0
+
+joined-nil : (a : Declared) → joined a [] ≡ a
+joined-nil a =
+    let make : (List Var × List Instance) → Declared = λ p. record { vars = p.0; instances = p.1 } in
+    let pair : (a.vars ++ [], a.instances ++ []) ≡ (a.vars, a.instances) = rw (append-nil a.vars, append-nil a.instances) refl in
+    ap make pair
+
+joined-more : (a : Declared) (d : Decl) (ds : List Decl) → joined (with_decl a d.name d.body) ds ≡ joined a (d ∷ ds)
+joined-more a d ds =
+    elim d.body as (λ b. d.body ≡ b → joined (with_decl a d.name d.body) ds ≡ joined a (d ∷ ds)) [
+      | body.Var kind address initial ↦ λ e.
+          let v : Var = record { name = d.name; kind = kind; address = address; initial = initial } in
+          rw e (ap (λ vs. record { vars = vs; instances = a.instances ++ (declared_by ds).instances }) (append_assoc a.vars (v ∷ []) (declared_by ds).vars))
+      | body.Instance kind preset ↦ λ e.
+          let i : Instance = record { name = d.name; kind = kind; preset = preset } in
+          rw e (ap (λ is. record { vars = a.vars ++ (declared_by ds).vars; instances = is }) (append_assoc a.instances (i ∷ []) (declared_by ds).instances))
+    ] refl
+
+adds : (a : Declared) (d : Decl) (ds : List Decl) (left : ℕ) → AreKept (joined a (d ∷ ds)) → added a d.name d.body left ≡ Ok (with_decl a d.name d.body)
+unfolding added
+adds a d ds left kept = rw (accepts a d ds kept) refl
+
+decls_read : (ds : List Decl) (a : Declared) (ts : List (List ℕ)) (closing text rest : List ℕ) (n : ℕ) → length text < n → Is (codes "END_VAR") closing
+    → AreDecls ts ds → AreKept (joined a ds) → AreTokens (ts ++ closing ∷ []) text rest → decls_from n a text ≡ Ok (joined a ds, rest)
+unfolding decls_from
+decls_read ds a ts closing text rest zero enough is_end derived kept h = absurd (omega arith)
+decls_read [] a ts closing text rest (suc n) enough is_end derived kept h =
+    let only : AreTokens (closing ∷ []) text rest = subst (λ z. AreTokens (z ++ closing ∷ []) text rest) derived h in
+    let first = first_token closing [] text rest only in
+    rw (first.1, is_end, first.2) (ap (λ d. Ok (d, rest)) (sym (joined-nil a)))
+decls_read (d ∷ ds) a ts closing text rest (suc n) enough is_end derived kept h =
+    let front = derived.0 in
+    let back = derived.1 in
+    let decl : IsDecl front d = derived.3 in
+    let later : List (List ℕ) = decl.behind ++ (back ++ closing ∷ []) in
+    let whole : ts ++ closing ∷ [] ≡ d.name ∷ later
+    = ap (λ z. z ++ closing ∷ []) (derived.2 ∙ ap (λ z. z ++ back) decl.tokens) ∙ ap (λ z. d.name ∷ z) (append_assoc decl.behind back (closing ∷ [])) in
+    let tokens : AreTokens (d.name ∷ later) text rest = subst (λ z. AreTokens z text rest) whole h in
+    let first = first_token d.name later text rest tokens in
+    let b = body_reads decl.behind (back ++ closing ∷ []) d.body first.0 rest decl.is_body first.2 in
+    let named : name_of d.name (length first.0) ≡ Ok d.name = names_itself d.name (length first.0) decl.named in
+    let not_end : same_letters d.name (codes "END_VAR") ≡ false = no_keyword d.name decl.named in
+    let more : added a d.name d.body (length first.0) ≡ Ok (with_decl a d.name d.body) = adds a d ds (length first.0) kept in
+    let taken : TakesBody d.body first.0 b.0 = body_takes d.body first.0 b.0 b.1 in
+    let shorter : length b.0 < n = omega (arith, first.3, tokens-shorter taken.behind first.0 b.0 taken.tokens) in
+    let kept_later : AreKept (joined (with_decl a d.name d.body) ds) = subst AreKept (sym (joined-more a d ds)) kept in
+    let all = decls_read ds (with_decl a d.name d.body) back closing b.0 rest n shorter is_end derived.4 kept_later b.2 in
+    let same : decls_from n (with_decl a d.name d.body) b.0 ≡ Ok (joined a (d ∷ ds), rest)
+    = subst (λ z. decls_from n (with_decl a d.name d.body) b.0 ≡ Ok (z, rest)) (joined-more a d ds) all in
+    rw (first.1, not_end, named, b.1, more) same
+
+pub all_reads : (text : List ℕ) (declared : Declared) (rest : List ℕ) → HasDecls text declared rest → all_of text ≡ Ok (declared, rest)
+unfolding all_of
+all_reads text declared rest h =
+    let first = expect_reads (codes "VAR") h.opening (h.tokens ++ h.closing ∷ []) text rest h.is_var h.read in
+    let enough : length first.0 < length first.0 + 1 = omega arith in
+    let kept : AreKept (joined nothing h.decls) = subst AreKept h.declared_is h.kept in
+    let read : decls_from (length first.0 + 1) nothing first.0 ≡ Ok (joined nothing h.decls, rest)
+    = decls_read h.decls nothing h.tokens h.closing first.0 rest (length first.0 + 1) enough h.is_end h.derived kept first.2 in
+    rw first.1 (subst (λ d. decls_from (length first.0 + 1) nothing first.0 ≡ Ok (d, rest)) (sym h.declared_is) read)

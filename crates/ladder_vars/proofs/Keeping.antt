@@ -1,0 +1,151 @@
+-- Names, addresses and limits are kept by one more declaration exactly where no rule refuses it.
+use Rattle.std.proofs.Common.{◌≡◌, ℕ, ◌≤◌, ◌<◌, false, ◌||◌, ◌==◌, nat_le, List, [], ◌∷◌, ◌++◌, length, map, Option, Some, None, refl, sym, ap, ◌∙◌, arith, append_assoc, inl, inr}
+use Rattle.std.specs.List.{IsDistinct, list_any}
+use Rattle.std.specs.Str.{str_to_ascii_lowercase}
+use Rattle.std.proofs.lemmas.Cmp.{nat_eq_equiv, nat_list_eq_equiv}
+use Rattle.std.proofs.lemmas.List.{append-nil, length-append, map-append}
+use Rattle.std.proofs.lemmas.List.Elements.{All-nil, All-push, filter_map-append}
+use Rattle.std.proofs.lemmas.List.Folds.{list_any-append}
+use Rattle.std.proofs.lemmas.Bool.{leb-false}
+use Rattle.ladder_vars.specs.declared.decls.Address.{Address}
+use Rattle.ladder_vars.specs.declared.decls.Var.{Var}
+use Rattle.ladder_vars.specs.declared.decls.Instance.{Instance}
+use Rattle.ladder_vars.specs.declared.decls.Body.{Body}
+use Rattle.ladder_vars.specs.declared.decls.Body.TheVariants as body
+use Rattle.ladder_vars.specs.Name.{same_letters}
+use Rattle.ladder_vars.specs.Decls.{Declared, AreKept, names_of, addresses_of, same_number, same_address, largest_preset}
+use Rattle.ladder_vars.specs.ReadDecls.{nothing, is_there, is_declared, is_taken, refusal, with_var, with_instance, with_decl, PresetFits}
+use Rattle.ladder_vars.proofs.Steps.{chosen, or_false}
+use Rattle.ladder_vars.proofs.Lists.{list_any-map, IsDistinct-put_between}
+
+pub AreKept-nothing : AreKept nothing
+unfolding IsDistinct
+AreKept-nothing = record {
+  names = tt;
+  addresses = tt;
+  few_vars = omega arith;
+  few_instances = omega arith;
+  short_names = All-nil (λ i. length i.name ≤ 9);
+  presets = All-nil (λ i. i.preset ≤ largest_preset i.kind);
+}
+
+-- ---- equalities that do not mind the order of their sides
+
+nat_eq-flips : (m n : ℕ) → (m == n) ≡ (n == m)
+nat_eq-flips m n = nat_eq_equiv.symm m n
+
+pub same_letters-flips : (a b : List ℕ) → same_letters a b ≡ same_letters b a
+same_letters-flips a b = nat_list_eq_equiv.symm (str_to_ascii_lowercase a) (str_to_ascii_lowercase b)
+
+same_number-flips : (a b : Option ℕ) → same_number a b ≡ same_number b a
+same_number-flips (Some m) (Some n) = nat_eq-flips m n
+same_number-flips None None = refl
+same_number-flips (Some m) None = refl
+same_number-flips None (Some n) = refl
+
+pub same_address-flips : (a b : Address) → same_address a b ≡ same_address b a
+same_address-flips a b = rw (nat_eq-flips a.letter b.letter, nat_eq-flips a.first b.first, same_number-flips a.second b.second) refl
+
+-- ---- what a declaration is compared with
+
+pub names_none : (d : Declared) (name : List ℕ) → is_declared d name ≡ false → list_any (same_letters name) (names_of d) ≡ false
+names_none d name h =
+    let both = or_false (list_any (λ v. same_letters name v.name) d.vars) (list_any (λ i. same_letters name i.name) d.instances) h in
+    list_any-append (same_letters name) (map (λ v. v.name) d.vars) (map (λ i. i.name) d.instances)
+    ∙ rw (list_any-map (same_letters name) (λ v. v.name) d.vars, list_any-map (same_letters name) (λ i. i.name) d.instances, both.0, both.1) refl
+
+pub used-addresses : (vars : List Var) (a : Address) → list_any (λ v. is_there v.address a) vars ≡ list_any (same_address a) (addresses_of vars)
+used-addresses [] a = refl
+used-addresses (v ∷ vs) a =
+    elim v.address as (λ place. v.address ≡ place → list_any (λ x. is_there x.address a) (v ∷ vs) ≡ list_any (same_address a) (addresses_of (v ∷ vs))) [
+      | None ↦ λ e. rw e (used-addresses vs a)
+      | Some other ↦ λ e. rw e (ap (λ b. same_address a other || b) (used-addresses vs a))
+    ] refl
+
+-- ---- one more declaration
+
+-- a variable, which stands behind the other variables and before the instances
+names-var : (d : Declared) (v : Var) → names_of (with_var d v)
+    ≡ map (λ x. x.name) d.vars ++ (v.name ∷ map (λ i. i.name) d.instances)
+names-var d v =
+    ap (λ ns. ns ++ map (λ i. i.name) d.instances) (map-append (λ x. x.name) d.vars (v ∷ []))
+    ∙ append_assoc (map (λ x. x.name) d.vars) (v.name ∷ []) (map (λ i. i.name) d.instances)
+
+names-instance : (d : Declared) (i : Instance) → names_of (with_instance d i)
+    ≡ names_of d ++ (i.name ∷ [])
+names-instance d i =
+    ap (λ ns. map (λ x. x.name) d.vars ++ ns) (map-append (λ x. x.name) d.instances (i ∷ []))
+    ∙ sym (append_assoc (map (λ x. x.name) d.vars) (map (λ x. x.name) d.instances) (i.name ∷ []))
+
+addresses_kept : (vars : List Var) (v : Var) (d : Declared) → d.vars ≡ vars → IsDistinct same_address (addresses_of vars) → is_taken d v.address ≡ false
+    → IsDistinct same_address (addresses_of (vars ++ v ∷ []))
+addresses_kept vars v d same h new =
+    let whole : addresses_of (vars ++ v ∷ []) ≡ addresses_of vars ++ addresses_of (v ∷ []) = filter_map-append (λ x. x.address) vars (v ∷ []) in
+    elim v.address as (λ place. v.address ≡ place → IsDistinct same_address (addresses_of (vars ++ v ∷ []))) [
+      | None ↦ λ none.
+          let nothing_new : addresses_of (v ∷ []) ≡ [] = rw none refl in
+          rw (whole, nothing_new, append-nil (addresses_of vars)) h
+      | Some a ↦ λ some.
+          let one : addresses_of (v ∷ []) ≡ a ∷ [] = rw some refl in
+          let unused : list_any (λ x. is_there x.address a) vars ≡ false = ap (λ xs. list_any (λ x. is_there x.address a) xs) (sym same) ∙ (rw some at new) in
+          let apart : list_any (same_address a) (addresses_of vars) ≡ false = sym (used-addresses vars a) ∙ unused in
+          let distinct : IsDistinct same_address (addresses_of vars ++ []) = rw (append-nil (addresses_of vars)) h in
+          let unlike : list_any (same_address a) (addresses_of vars ++ []) ≡ false = rw (append-nil (addresses_of vars)) apart in
+          rw (whole, one) (IsDistinct-put_between same_address same_address-flips (addresses_of vars) a [] distinct unlike)
+    ] refl
+
+pub AreKept-var : (d : Declared) (v : Var) → AreKept d → refusal d v.name (body.Var v.kind v.address v.initial) ≡ None
+    → AreKept (with_var d v)
+AreKept-var d v kept accepted =
+    elim (chosen (is_declared d v.name) _ _ _ accepted) [
+      | inl twice ↦ absurd cc
+      | inr new ↦ elim (chosen (is_taken d v.address) _ _ _ new.1) [
+        | inl taken ↦ absurd cc
+        | inr unused ↦ elim (chosen (nat_le 256 (length d.vars)) _ _ _ unused.1) [
+          | inl full ↦ absurd cc
+          | inr room ↦
+              let apart : list_any (same_letters v.name) (names_of d) ≡ false = names_none d v.name new.0 in
+              let few : length d.vars < 256 = leb-false 256 (length d.vars) room.0 in
+              record {
+                names = rw (names-var d v) (IsDistinct-put_between same_letters same_letters-flips (map (λ x. x.name) d.vars) v.name (map (λ i. i.name) d.instances) kept.names apart);
+                addresses = addresses_kept d.vars v d refl kept.addresses unused.0;
+                few_vars = omega (arith, length-append {A = Var} d.vars (v ∷ []));
+                few_instances = kept.few_instances;
+                short_names = kept.short_names;
+                presets = kept.presets;
+              }
+        ]
+      ]
+    ]
+
+pub AreKept-instance : (d : Declared) (i : Instance) → AreKept d → refusal d i.name (body.Instance i.kind i.preset) ≡ None → i.preset ≤ largest_preset i.kind
+    → AreKept (with_instance d i)
+AreKept-instance d i kept accepted fits =
+    elim (chosen (nat_le 10 (length i.name)) _ _ _ accepted) [
+      | inl long ↦ absurd cc
+      | inr short ↦ elim (chosen (is_declared d i.name) _ _ _ short.1) [
+        | inl twice ↦ absurd cc
+        | inr new ↦ elim (chosen (nat_le 64 (length d.instances)) _ _ _ new.1) [
+          | inl full ↦ absurd cc
+          | inr room ↦
+              let apart : list_any (same_letters i.name) (names_of d ++ []) ≡ false = rw (append-nil (names_of d)) (names_none d i.name new.0) in
+              let distinct : IsDistinct same_letters (names_of d ++ []) = rw (append-nil (names_of d)) kept.names in
+              let few : length d.instances < 64 = leb-false 64 (length d.instances) room.0 in
+              let short_name : length i.name ≤ 9 = omega (arith, leb-false 10 (length i.name) short.0) in
+              record {
+                names = rw (names-instance d i) (IsDistinct-put_between same_letters same_letters-flips (names_of d) i.name [] distinct apart);
+                addresses = kept.addresses;
+                few_vars = kept.few_vars;
+                few_instances = omega (arith, length-append {A = Instance} d.instances (i ∷ []));
+                short_names = All-push (λ x. length x.name ≤ 9) d.instances i kept.short_names short_name;
+                presets = All-push (λ x. x.preset ≤ largest_preset x.kind) d.instances i kept.presets fits;
+              }
+        ]
+      ]
+    ]
+
+pub AreKept-decl : (d : Declared) (name : List ℕ) (b : Body) → AreKept d → refusal d name b ≡ None → PresetFits b → AreKept (with_decl d name b)
+AreKept-decl d name (body.Var kind address initial) kept accepted fits =
+    AreKept-var d (record { name = name; kind = kind; address = address; initial = initial }) kept accepted
+AreKept-decl d name (body.Instance kind preset) kept accepted fits =
+    AreKept-instance d (record { name = name; kind = kind; preset = preset }) kept accepted fits

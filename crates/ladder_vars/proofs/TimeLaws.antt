@@ -1,0 +1,112 @@
+-- Durations: a word is read as so many milliseconds exactly where it is a literal of them.
+use Rattle.std.proofs.Common.{◌≡◌, ℕ, ◌≤◌, ◌⊎◌, inl, inr, ◌||◌, min, Bool, true, false, nat_le, List, [], ◌∷◌, ◌++◌, length, take, drop, codes, Option, Some, None, refl, sym, ap, subst, ◌∙◌, arith}
+use Rattle.std.specs.Str.{str_to_ascii_lowercase}
+use Rattle.std.specs.Char.{to_ascii_lowercase}
+use Rattle.std.proofs.lemmas.Bool.{leb-true, le-leb, or_cases}
+use Rattle.std.proofs.lemmas.List.{take-append-drop, length-map}
+use Rattle.std.proofs.Math.Seq.{take-append_seam, drop-append_seam}
+use Rattle.ladder_vars.specs.Name.{same_letters, is_one_of}
+use Rattle.ladder_vars.specs.Duration.{AreParts}
+use Rattle.ladder_vars.specs.Grammar.{IsTime}
+use Rattle.ladder_vars.specs.ReadWords.{or_else, after_word, after_prefix, total_of, time_of}
+use Rattle.ladder_vars.proofs.Steps.{chosen}
+use Rattle.ladder_vars.proofs.Runs.{bind_some}
+use Rattle.ladder_vars.proofs.PartLaws.{cap, same_bytes}
+use Rattle.ladder_vars.proofs.DurationLaws.{sum_of, all_reads, TakesAll, all_takes}
+
+-- ---- the prefix
+
+pub same_length : (a b : List ℕ) → same_letters a b ≡ true → length a ≡ length b
+same_length a b h =
+    let same : str_to_ascii_lowercase a ≡ str_to_ascii_lowercase b = same_bytes (str_to_ascii_lowercase a) (str_to_ascii_lowercase b) h in
+    omega (arith, ap length same, length-map {A = ℕ} {B = ℕ})
+
+after_word-found : (word prefix after : List ℕ) → same_letters prefix word ≡ true → after_word word (prefix ++ after) ≡ Some after
+after_word-found word prefix after h =
+    let len : length word ≡ length prefix = sym (same_length prefix word h) in
+    rw (len, take-append_seam prefix after, drop-append_seam prefix after, h) refl
+
+-- TIME# does not begin with T#
+time_first : (prefix after : List ℕ) → same_letters prefix (codes "TIME#") ≡ true → after_word (codes "T#") (prefix ++ after) ≡ None
+time_first [] after h = absurd cc
+time_first (a ∷ []) after h = absurd (let e = same_bytes (str_to_ascii_lowercase (a ∷ [])) (codes "time#") h in cc)
+time_first (a ∷ b ∷ more) after h =
+    let e : str_to_ascii_lowercase (a ∷ b ∷ more) ≡ codes "time#" = same_bytes (str_to_ascii_lowercase (a ∷ b ∷ more)) (codes "time#") h in
+    let first : to_ascii_lowercase a ≡ 116 = cc in
+    let second : to_ascii_lowercase b ≡ 105 = cc in
+    rw (first, second) refl
+
+prefix_reads : (prefix after : List ℕ) → is_one_of (codes "T#" ∷ codes "TIME#" ∷ []) prefix ≡ true → after_prefix (prefix ++ after) ≡ Some after
+prefix_reads prefix after h =
+    elim (or_cases (same_letters prefix (codes "T#")) _ h) [
+      | inl t ↦ rw (after_word-found (codes "T#") prefix after t) refl
+      | inr other ↦ elim (or_cases (same_letters prefix (codes "TIME#")) false other) [
+        | inl time ↦ rw (time_first prefix after time) (after_word-found (codes "TIME#") prefix after time)
+        | inr none ↦ absurd cc
+      ]
+    ]
+
+after_word-is : (word text after : List ℕ) → after_word word text ≡ Some after → (prefix : List ℕ) × (text ≡ prefix ++ after) × (same_letters prefix word ≡ true)
+after_word-is word text after h =
+    elim (chosen (same_letters (take (length word) text) word) _ _ _ h) [
+      | inl same ↦
+          let left : drop (length word) text ≡ after = cc in
+          (take (length word) text, sym (take-append-drop (length word) text) ∙ ap (λ z. take (length word) text ++ z) left, same.0)
+      | inr other ↦ absurd cc
+    ]
+
+or_true : (b : Bool) → (b || (true || false)) ≡ true
+or_true true = refl
+or_true false = refl
+
+or_else-cases : (a b : Option (List ℕ)) (x : List ℕ) → or_else a b ≡ Some x → (a ≡ Some x) ⊎ (b ≡ Some x)
+or_else-cases (Some y) b x h = inl h
+or_else-cases None b x h = inr h
+
+prefix_takes : (text after : List ℕ) → after_prefix text ≡ Some after
+    → (prefix : List ℕ) × (text ≡ prefix ++ after) × (is_one_of (codes "T#" ∷ codes "TIME#" ∷ []) prefix ≡ true)
+prefix_takes text after h =
+    elim (or_else-cases (after_word (codes "T#") text) (after_word (codes "TIME#") text) after h) [
+      | inl t ↦ let p = after_word-is (codes "T#") text after t in (p.0, p.1, rw p.2 refl)
+      | inr time ↦ let p = after_word-is (codes "TIME#") text after time in (p.0, p.1, rw p.2 (or_true (same_letters p.0 (codes "T#"))))
+    ]
+
+-- ---- whole literals
+
+uncut : (s : ℕ) → s ≤ 4294967295 → min s cap ≡ s
+uncut s h = omega arith
+
+below_cap : (m s : ℕ) → m ≡ min s cap → m ≤ 4294967295 → m ≡ s
+below_cap m s e h = omega arith
+
+pub time_reads : (word : List ℕ) (n : ℕ) → IsTime word n → time_of word ≡ Some n
+unfolding time_of
+time_reads word n (h, small) =
+    elim h.parts as (λ ps. h.parts ≡ ps → time_of word ≡ Some n) [
+      | [] ↦ λ e. absurd (subst (λ ps. AreParts ps h.after) e h.are_parts)
+      | p ∷ ps ↦ λ e.
+          let parts : AreParts (p ∷ ps) h.after = subst (λ z. AreParts z h.after) e h.are_parts in
+          let sum : n ≡ sum_of (p ∷ ps) = h.sum ∙ ap sum_of e in
+          let total : total_of h.after ≡ Some n
+          = all_reads p ps h.after parts ∙ ap (λ k. Some (min k cap)) (sym sum) ∙ ap Some (uncut n small) in
+          let after : after_prefix word ≡ Some h.after = ap after_prefix h.spelled ∙ prefix_reads h.prefix h.after h.is_prefix in
+          rw (after, total, le-leb n 4294967295 small) refl
+    ] refl
+
+pub time_takes : (word : List ℕ) (n : ℕ) → time_of word ≡ Some n → IsTime word n
+unfolding time_of
+time_takes word n h =
+    let a = bind_some (after_prefix word) _ n h in
+    let t = bind_some (total_of a.0) _ n a.2 in
+    elim (chosen (nat_le t.0 4294967295) _ _ _ t.2) [
+      | inr large ↦ absurd cc
+      | inl fits ↦
+          let same : t.0 ≡ n = cc in
+          let all : TakesAll a.0 t.0 = all_takes a.0 t.0 t.1 in
+          let p = prefix_takes word a.0 a.1 in
+          let small : t.0 ≤ 4294967295 = leb-true t.0 4294967295 fits.0 in
+          let sum : n ≡ sum_of all.parts = sym same ∙ below_cap t.0 (sum_of all.parts) all.sum small in (
+            record { prefix = p.0; after = a.0; parts = all.parts; spelled = p.1; is_prefix = p.2; are_parts = all.are_parts; sum = sum },
+            subst (λ k. k ≤ 4294967295) same small,
+          )
+    ]

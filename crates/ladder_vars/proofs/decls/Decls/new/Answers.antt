@@ -1,0 +1,5 @@
+use Rattle.ladder_vars.proofs.Keeping.{AreKept-nothing}
+use Rattle.ladder_vars.proofs.decls.Decls.new.Goals as goal
+
+pub invariant_of-result : goal.invariant_of-result
+invariant_of-result c = rw (c.new.ensures.items, c.new-2.ensures.items) AreKept-nothing

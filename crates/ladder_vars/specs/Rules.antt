@@ -1,0 +1,119 @@
+-- Where a rule V1 to V8 of a block of declarations is broken: the rule, and how many bytes of the text are left where it shows.
+-- V2 says no more than that no other token fits, so it is not stated here; V9 is want of memory and no rule of the text.
+use Rattle.std.specs.Prelude.{◌≡◌, ℕ, ◌+◌, ◌-◌, ◌≤◌, ◌⊎◌, ◌||◌, ◌==◌, Bool, true, false, List, [], ◌∷◌, length, take, count_by, codes, Some}
+use Rattle.std.specs.List.{list_any, AllByRecursion}
+use Rattle.ladder_vars.specs.declared.fault.VarRule.{VarRule}
+use Rattle.ladder_vars.specs.declared.fault.VarRule.TheVariants as rule
+use Rattle.ladder_vars.specs.declared.decls.VarKind.{VarKind}
+use Rattle.ladder_vars.specs.declared.decls.BlockKind.{BlockKind}
+use Rattle.ladder_vars.specs.declared.decls.Address.{Address}
+use Rattle.ladder_vars.specs.declared.decls.Body.{Body}
+use Rattle.ladder_vars.specs.declared.decls.Body.TheVariants as body
+use Rattle.ladder_vars.specs.Name.{same_letters, has_name_form, is_name}
+use Rattle.ladder_vars.specs.Decls.{names_of, addresses_of, same_address}
+use Rattle.ladder_vars.specs.Text.{begins, is_word_byte, Gap, AreTokens, IsUnfinished, IsBadByte}
+use Rattle.ladder_vars.specs.Grammar.{Is, Decl, AreDecls, IsBody, declared_by, block_of, parameter_of, IsPresetWord}
+
+-- The line, counted from 1, of what stands so many bytes before the end; 10 is LF.
+abbrev pub line_of : List ℕ → ℕ → ℕ
+line_of text left = 1 + count_by (λ b. b == 10) (take (length text - left) text)
+
+-- None of the tokens ends the block.
+abbrev pub NoEnd : List (List ℕ) → Type 0
+NoEnd ts = AllByRecursion (λ t. same_letters t (codes "END_VAR") ≡ false) ts
+
+-- Tokens of the block lead from the start of the text to here, and then a gap.
+pub record Reaches (text at : List ℕ) : Type 0 where
+  pub tokens : List (List ℕ)
+  pub before : List ℕ
+  pub no_end : NoEnd tokens
+  pub read : AreTokens tokens text before
+  pub gap : Gap before at
+
+-- VAR and whole declarations lead from the start of the text to where a name is due.
+pub record NameDue (text : List ℕ) (ds : List Decl) (due : List ℕ) : Type 0 where
+  pub opening : List ℕ
+  pub tokens : List (List ℕ)
+  pub is_var : Is (codes "VAR") opening
+  pub derived : AreDecls tokens ds
+  pub no_end : NoEnd (opening ∷ tokens)
+  pub read : AreTokens (opening ∷ tokens) text due
+
+-- This word, which does not end the block, stands where a name is due.
+pub record WordDue (text : List ℕ) (ds : List Decl) (word after : List ℕ) : Type 0 where
+  pub due : List ℕ
+  pub name_due : NameDue text ds due
+  pub read : AreTokens (word ∷ []) due after
+  pub no_end : same_letters word (codes "END_VAR") ≡ false
+
+-- One more whole declaration stands there.
+pub record DeclDue (text : List ℕ) (ds : List Decl) (name : List ℕ) (b : Body) (after : List ℕ) : Type 0 where
+  pub word_due : WordDue text ds name after
+  pub behind : List (List ℕ)
+  pub rest : List ℕ
+  pub named : is_name name ≡ true
+  pub is_body : IsBody behind b
+  pub read : AreTokens behind after rest
+
+-- A block's preset is due, and this token stands there.
+pub record PresetDue (text : List ℕ) (kind : BlockKind) (word after : List ℕ) : Type 0 where
+  pub ds : List Decl
+  pub name : List ℕ
+  pub behind : List ℕ
+  pub word_due : WordDue text ds name behind
+  pub named : is_name name ≡ true
+  pub colon : List ℕ
+  pub block : List ℕ
+  pub assign : List ℕ
+  pub opening : List ℕ
+  pub parameter : List ℕ
+  pub given : List ℕ
+  pub is_colon : Is (codes ":") colon
+  pub is_block : block_of block ≡ Some kind
+  pub is_assign : Is (codes ":=") assign
+  pub is_opening : Is (codes "(") opening
+  pub is_parameter : Is (parameter_of kind) parameter
+  pub is_given : Is (codes ":=") given
+  pub read : AreTokens (colon ∷ block ∷ assign ∷ opening ∷ parameter ∷ given ∷ word ∷ []) behind after
+
+-- A word of a name's form is none, where a name is due.
+abbrev pub HasBadName : List ℕ → ℕ → Type 0
+HasBadName text left =
+    (ds : List Decl) × (word after : List ℕ) × WordDue text ds word after
+    × (has_name_form word ≡ true) × (is_name word ≡ false) × (left ≡ length after)
+
+-- An instance has a name of more than 9 characters.
+abbrev pub HasLongInstance : List ℕ → ℕ → Type 0
+HasLongInstance text left =
+    (ds : List Decl) × (name after : List ℕ) × (kind : BlockKind) × (preset : ℕ)
+    × DeclDue text ds name (body.Instance kind preset) after × (10 ≤ length name) × (left ≡ length after)
+
+-- There are 256 variables before this one, or 64 instances.
+abbrev pub IsFull : List Decl → Body → Type 0
+IsFull ds (body.Var kind address initial) = 256 ≤ length (declared_by ds).vars
+IsFull ds (body.Instance kind preset) = 64 ≤ length (declared_by ds).instances
+
+-- The rule is broken, and so many bytes are left where it shows.
+abbrev pub Breaks : VarRule → List ℕ → ℕ → Type 0
+Breaks rule.BadByte text left = (at : List ℕ) × Reaches text at × IsBadByte at × (left ≡ length at)
+Breaks rule.BadToken text left = Unit {0}
+Breaks rule.BadName text left = HasBadName text left ⊎ HasLongInstance text left
+Breaks rule.Duplicate text left =
+    (ds : List Decl) × (name after : List ℕ) × (b : Body) × DeclDue text ds name b after
+    × (list_any (same_letters name) (names_of (declared_by ds)) ≡ true) × (left ≡ length after)
+Breaks rule.DuplicateAddress text left =
+    (ds : List Decl) × (name after : List ℕ) × (kind : VarKind) × (a : Address) × (initial : Bool)
+    × DeclDue text ds name (body.Var kind (Some a) initial) after
+    × (list_any (same_address a) (addresses_of (declared_by ds).vars) ≡ true) × (left ≡ length after)
+Breaks rule.BadPreset text left =
+    (kind : BlockKind) × (word after : List ℕ) × PresetDue text kind word after × (begins (λ b. is_word_byte b || b == 37) word ≡ true)
+    × ((n : ℕ) → IsPresetWord kind word n → ⊥) × (left ≡ length after)
+Breaks rule.TooMany text left =
+    (ds : List Decl) × (name after : List ℕ) × (b : Body) × DeclDue text ds name b after × IsFull ds b × (left ≡ length after)
+Breaks rule.Unfinished text left = (at : List ℕ) × Reaches text at × IsUnfinished at × (left ≡ 0)
+Breaks rule.Memory text left = ⊥
+
+-- The rule is broken on the line; want of memory is on no line, which is line 0.
+abbrev pub BreaksOn : VarRule → List ℕ → ℕ → Type 0
+BreaksOn rule.Memory text line = line ≡ 0
+BreaksOn r text line = (left : ℕ) × Breaks r text left × (line ≡ line_of text left)

@@ -1,0 +1,224 @@
+ghost use Rattle.std.specs.Prelude.{◌≡◌, ◌≤◌, ◌<◌, ◌||◌, ◌==◌, length, codes, Option, Some, None, IfOk, IfSome};
+ghost use Rattle.ladder_vars.specs.Text.{begins, is_word_byte};
+ghost use Rattle.ladder_vars.specs.Decls.{largest_preset};
+ghost use Rattle.ladder_vars.specs.Grammar.{parameter_of};
+ghost use Rattle.ladder_vars.specs.ReadText.{Gives};
+ghost use Rattle.ladder_vars.specs.ReadWords.{preset_of};
+ghost use Rattle.ladder_vars.specs.ReadDecls.{expect, given_bit, initial_at, preset_fault, preset_word, given_preset, preset_at, bool_at, placed, block_at, typed, body_at, PresetFits};
+
+use crate::decls::{Address, BlockKind, Body, VarKind};
+use crate::fault::{Fault, VarRule};
+use crate::name::same_letters;
+use crate::text::{is_word_byte, token};
+use crate::time::time_of;
+use crate::words::{address_of, bit_of, block_of, count_of};
+
+/// The fault of a token that has no place where it stands, with what follows it.
+fn bad_token(rest: &[u8]) -> Fault
+    ensures { result ≡ record { rule = VarRule.BadToken; left = length rest.now } }
+{
+    Fault {
+        rule: VarRule::BadToken,
+        left: rest.len(),
+    }
+}
+
+/// What stands behind a keyword or a mark that is due.
+#[tactic(auto, unfolding(crate::specs::ReadDecls::expect))]
+pub(crate) fn expect<'a>(word: &[u8], text: &'a [u8]) -> Result<&'a [u8], Fault>
+    ensures value { Gives (λ rest. rest.now) result (expect word.now text.now) }
+    ensures shorter { IfOk result (λ rest. length rest.now < length text.now) }
+{
+    let (found, rest) = token(text)?;
+    if same_letters(found, word) {
+        Ok(rest)
+    } else {
+        Err(bad_token(rest))
+    }
+}
+
+/// A truth value and `;`.
+#[tactic(auto, unfolding(crate::specs::ReadDecls::given_bit))]
+fn given_bit(text: &[u8]) -> Result<(bool, &[u8]), Fault>
+    ensures value { Gives (λ x. (x.0, x.1.now)) result (given_bit text.now) }
+    ensures shorter { IfOk result (λ x. length x.1.now < length text.now) }
+{
+    let (word, rest) = token(text)?;
+    let value = bit_of(word).ok_or(bad_token(rest))?;
+    let rest = expect(b";", rest)?;
+    Ok((value, rest))
+}
+
+/// `;`, or `:=` with an initial value and `;`.
+#[tactic(auto, unfolding(crate::specs::ReadDecls::initial_at))]
+fn initial_at(text: &[u8]) -> Result<(bool, &[u8]), Fault>
+    ensures value { Gives (λ x. (x.0, x.1.now)) result (initial_at text.now) }
+    ensures shorter { IfOk result (λ x. length x.1.now < length text.now) }
+{
+    let (mark, rest) = token(text)?;
+    if same_letters(mark, b";") {
+        Ok((false, rest))
+    } else if same_letters(mark, b":=") {
+        given_bit(rest)
+    } else {
+        Err(bad_token(rest))
+    }
+}
+
+/// The parameter that is the preset of a block.
+fn parameter_of(kind: BlockKind) -> &'static [u8]
+    ensures { result.now ≡ parameter_of kind }
+{
+    match kind {
+        BlockKind::Ton | BlockKind::Tof | BlockKind::Tp => b"PT",
+        BlockKind::Ctu | BlockKind::Ctd => b"PV",
+    }
+}
+
+fn preset_of(kind: BlockKind, word: &[u8]) -> Option<u32>
+    ensures value { result ≡ preset_of kind word.now }
+    ensures fits { IfSome result (λ n. n ≤ largest_preset kind) }
+{
+    match kind {
+        BlockKind::Ton | BlockKind::Tof | BlockKind::Tp => time_of(word),
+        BlockKind::Ctu | BlockKind::Ctd => count_of(word),
+    }
+}
+
+/// The rule that a token breaks where a preset is due: a word is no preset, a mark is no word.
+fn preset_fault(token: &[u8]) -> VarRule
+    ensures { result ≡ preset_fault token.now }
+{
+    match token {
+        [] => VarRule::BadToken,
+        [b, ..] => {
+            if is_word_byte(*b) || *b == b'%' {
+                VarRule::BadPreset
+            } else {
+                VarRule::BadToken
+            }
+        }
+    }
+}
+
+#[tactic(auto, unfolding(crate::specs::ReadDecls::preset_word))]
+fn preset_word(kind: BlockKind, text: &[u8]) -> Result<(u32, &[u8]), Fault>
+    ensures value { Gives (λ x. (x.0, x.1.now)) result (preset_word kind text.now) }
+    ensures fits { IfOk result (λ x. x.0 ≤ largest_preset kind) }
+    ensures shorter { IfOk result (λ x. length x.1.now < length text.now) }
+{
+    let (word, rest) = token(text)?;
+    let fault = Fault {
+        rule: preset_fault(word),
+        left: rest.len(),
+    };
+    let preset = preset_of(kind, word).ok_or(fault)?;
+    Ok((preset, rest))
+}
+
+/// `( PT := duration ) ;` or `( PV := number ) ;`.
+#[tactic(auto, unfolding(crate::specs::ReadDecls::given_preset))]
+fn given_preset(kind: BlockKind, text: &[u8]) -> Result<(u32, &[u8]), Fault>
+    ensures value { Gives (λ x. (x.0, x.1.now)) result (given_preset kind text.now) }
+    ensures fits { IfOk result (λ x. x.0 ≤ largest_preset kind) }
+    ensures shorter { IfOk result (λ x. length x.1.now < length text.now) }
+{
+    let rest = expect(b"(", text)?;
+    let rest = expect(parameter_of(kind), rest)?;
+    let rest = expect(b":=", rest)?;
+    let (preset, rest) = preset_word(kind, rest)?;
+    let rest = expect(b")", rest)?;
+    let rest = expect(b";", rest)?;
+    Ok((preset, rest))
+}
+
+/// `;`, or `:=` with a preset and `;`.
+#[tactic(auto, unfolding(crate::specs::ReadDecls::preset_at))]
+fn preset_at(kind: BlockKind, text: &[u8]) -> Result<(u32, &[u8]), Fault>
+    ensures value { Gives (λ x. (x.0, x.1.now)) result (preset_at kind text.now) }
+    ensures fits { IfOk result (λ x. x.0 ≤ largest_preset kind) }
+    ensures shorter { IfOk result (λ x. length x.1.now < length text.now) }
+{
+    let (mark, rest) = token(text)?;
+    if same_letters(mark, b";") {
+        Ok((0, rest))
+    } else if same_letters(mark, b":=") {
+        given_preset(kind, rest)
+    } else {
+        Err(bad_token(rest))
+    }
+}
+
+/// What stands behind the type BOOL.
+#[tactic(auto, unfolding(crate::specs::ReadDecls::bool_at))]
+fn bool_at(kind: VarKind, address: Option<Address>, text: &[u8]) -> Result<(Body, &[u8]), Fault>
+    ensures value { Gives (λ x. (x.0, x.1.now)) result (bool_at kind address text.now) }
+    ensures fits { IfOk result (λ x. PresetFits x.0) }
+    ensures shorter { IfOk result (λ x. length x.1.now < length text.now) }
+{
+    let (initial, rest) = initial_at(text)?;
+    let body = Body::Var {
+        kind,
+        address,
+        initial,
+    };
+    Ok((body, rest))
+}
+
+/// What stands behind `AT`.
+#[tactic(auto, unfolding(crate::specs::ReadDecls::placed))]
+fn placed(text: &[u8]) -> Result<(Body, &[u8]), Fault>
+    ensures value { Gives (λ x. (x.0, x.1.now)) result (placed text.now) }
+    ensures fits { IfOk result (λ x. PresetFits x.0) }
+    ensures shorter { IfOk result (λ x. length x.1.now < length text.now) }
+{
+    let (word, rest) = token(text)?;
+    let (kind, address) = address_of(word).ok_or(bad_token(rest))?;
+    let rest = expect(b":", rest)?;
+    let rest = expect(b"BOOL", rest)?;
+    bool_at(kind, Some(address), rest)
+}
+
+/// What stands behind the type of an instance.
+#[tactic(auto, unfolding(crate::specs::ReadDecls::block_at))]
+fn block_at(kind: BlockKind, text: &[u8]) -> Result<(Body, &[u8]), Fault>
+    ensures value { Gives (λ x. (x.0, x.1.now)) result (block_at kind text.now) }
+    ensures fits { IfOk result (λ x. PresetFits x.0) }
+    ensures shorter { IfOk result (λ x. length x.1.now < length text.now) }
+{
+    let (preset, rest) = preset_at(kind, text)?;
+    Ok((Body::Instance { kind, preset }, rest))
+}
+
+/// What stands behind the colon of a declaration without `AT`.
+#[tactic(auto, unfolding(crate::specs::ReadDecls::typed))]
+fn typed(text: &[u8]) -> Result<(Body, &[u8]), Fault>
+    ensures value { Gives (λ x. (x.0, x.1.now)) result (typed text.now) }
+    ensures fits { IfOk result (λ x. PresetFits x.0) }
+    ensures shorter { IfOk result (λ x. length x.1.now < length text.now) }
+{
+    let (word, rest) = token(text)?;
+    if same_letters(word, b"BOOL") {
+        bool_at(VarKind::Memory, None, rest)
+    } else {
+        let kind = block_of(word).ok_or(bad_token(rest))?;
+        block_at(kind, rest)
+    }
+}
+
+/// What stands behind the name of a declaration, up to its `;`.
+#[tactic(auto, unfolding(crate::specs::ReadDecls::body_at))]
+pub(crate) fn body_at(text: &[u8]) -> Result<(Body, &[u8]), Fault>
+    ensures value { Gives (λ x. (x.0, x.1.now)) result (body_at text.now) }
+    ensures fits { IfOk result (λ x. PresetFits x.0) }
+    ensures shorter { IfOk result (λ x. length x.1.now < length text.now) }
+{
+    let (word, rest) = token(text)?;
+    if same_letters(word, b"AT") {
+        placed(rest)
+    } else if same_letters(word, b":") {
+        typed(rest)
+    } else {
+        Err(bad_token(rest))
+    }
+}

@@ -1,0 +1,100 @@
+ghost use Rattle.std.specs.Prelude.{◌≡◌, ◌≤◌, ◌+◌, ◌≢◌, ℕ, List, length, drop, IfOk, IfErr};
+ghost use Rattle.ladder_vars.specs.Decls.{Declared, AreKept};
+ghost use Rattle.ladder_vars.specs.Grammar.{HasDecls, HasNoDecls};
+ghost use Rattle.ladder_vars.specs.Rules.{BreaksOn, line_of};
+ghost use Rattle.ladder_vars.specs.ReadText.{Gives};
+ghost use Rattle.ladder_vars.specs.ReadDecls.{GivesInMemory, name_of, decls_from, all_of, nothing};
+
+use crate::declaration::{body_at, expect};
+use crate::decls::Decls;
+use crate::fault::{Fault, ReadFault, VarFault, VarRule};
+use crate::name::{Name, has_name_form, same_letters};
+use crate::text::token;
+use std::alloc::Global;
+
+/// The name that a word is, where a name is due and so many bytes are left behind it.
+#[tactic(auto, unfolding(crate::specs::ReadDecls::name_of))]
+fn name_of(word: &[u8], left: usize) -> Result<Name, Fault>
+    ensures { Gives (λ name. name) result (name_of word.now left) }
+{
+    match Name::new(word) {
+        Some(name) => Ok(name),
+        None => {
+            let rule = if has_name_form(word) {
+                VarRule::BadName
+            } else {
+                VarRule::BadToken
+            };
+            Err(Fault { rule, left })
+        }
+    }
+}
+
+/// The declarations up to END_VAR, and what stands behind it.
+fn decls_from(alloc: Global, text: &[u8]) -> Result<(Decls, &[u8]), ReadFault>
+    ensures value { GivesInMemory (λ x. (x.0, x.1.now)) result (decls_from (length text.now + 1) nothing text.now) }
+    ensures kept { IfOk result (λ x. AreKept x.0) }
+{
+    let mut decls = Decls::new(alloc);
+    let mut rest = text;
+    loop {
+        let (word, after) = token(rest)?;
+        if same_letters(word, b"END_VAR") {
+            return Ok((decls, after));
+        }
+        let name = name_of(word, after.len())?;
+        let (body, next) = body_at(after)?;
+        decls.add(name, body, after.len())?;
+        rest = next;
+    }
+}
+
+#[tactic(auto, unfolding(crate::specs::ReadDecls::all_of))]
+fn all_of(alloc: Global, text: &[u8]) -> Result<(Decls, &[u8]), ReadFault>
+    ensures value { GivesInMemory (λ x. (x.0, x.1.now)) result (all_of text.now) }
+    ensures kept { IfOk result (λ x. AreKept x.0) }
+{
+    let rest = expect(b"VAR", text)?;
+    decls_from(alloc, rest)
+}
+
+/// The line where so many bytes of a text are left, counted from 1.
+fn line_of(text: &[u8], left: usize) -> usize
+    ensures { result ≡ line_of text.now left }
+{
+    let mut line: usize = 1;
+    for b in &text[..text.len().saturating_sub(left)] {
+        if *b == b'\n' {
+            line += 1;
+        }
+    }
+    line
+}
+
+/// The declarations of a program text, and the place right behind END_VAR.
+///
+/// A refusal names a rule and the line where it is broken. V1, V2, V3 and V6 come at the token where
+/// the reading stops, V8 at the line behind the last line end. Once a declaration has ended, V3 of
+/// an instance's length, V4, V5 and V7 follow in this order, at the line of its name. `Memory` comes
+/// where a growth was refused.
+pub fn read_decls(alloc: Global, text: &[u8]) -> Result<(Decls, usize), VarFault>
+    ensures found { IfOk result (λ x. (x.1 ≤ length text.now) × HasDecls text.now x.0 (drop x.1 text.now)) }
+    // A text is refused for another cause than memory only where it has no declarations.
+    ensures none { IfErr result (λ e. e.rule ≢ VarRule.Memory → HasNoDecls text.now) }
+    // The rule of a refusal is broken on its line.
+    ensures broken { IfErr result (λ e. BreaksOn e.rule text.now e.line) }
+    // No text has two readings.
+    ensures only { IfOk result (λ x. (declared : Declared) (rest : List ℕ) → HasDecls text.now declared rest → (declared ≡ x.0) × (rest ≡ drop x.1 text.now)) }
+{
+    match all_of(alloc, text) {
+        Ok((decls, rest)) => Ok((decls, text.len() - rest.len())),
+        Err(ReadFault::NoMemory) => Err(VarFault {
+            rule: VarRule::Memory,
+            line: 0,
+        }),
+        Err(ReadFault::Broken(fault)) => Err(VarFault {
+            rule: fault.rule,
+            line: line_of(text, fault.left),
+        }),
+    }
+}
