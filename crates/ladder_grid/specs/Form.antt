@@ -1,0 +1,51 @@
+-- The forms of a cell: what its eleven characters are, before the name over it is looked up.
+-- The symbols are those of IEC 61131-3:2013, 8.2 (contacts, coils) and 6.6.3 (blocks); their places in the cell are the profile's.
+use Rattle.std.specs.Prelude.{◌≡◌, ℕ, ◌≤◌, ◌⊎◌, List, [], ◌∷◌, ◌++◌, replicate, codes, true, false}
+use Rattle.ladder_vars.specs.declared.decls.BlockKind.TheVariants as kind
+use Rattle.ladder_grid.specs.Bytes.{dash, space}
+use Rattle.ladder_grid.specs.declared.cell.Mode.TheVariants as mode
+use Rattle.ladder_grid.specs.declared.cell.CoilMode.TheVariants as coil
+use Rattle.ladder_grid.specs.declared.form.Form.{Form}
+use Rattle.ladder_grid.specs.declared.form.Form.TheVariants.{Empty, Wire, Contact, Coil, Block, Lower}
+
+-- spellings, each with the form that it has
+abbrev pub Table : Type 0
+Table = List (List ℕ × Form)
+
+-- the table has the spelling with this form
+abbrev pub Lists : Table → List ℕ → Form → Type 0
+Lists [] chars form = ⊥
+Lists (e ∷ es) chars form = ((chars ≡ e.0) × (form ≡ e.1)) ⊎ Lists es chars form
+
+-- The cells that are spelled in one way: empty, a wire, the upper cells of the blocks, and the lower cells of
+-- the counters, each first with its left link and then without.
+abbrev pub whole_cells : Table
+whole_cells =
+    (codes "           ", Empty) ∷ (codes "-----------", Wire)
+    ∷ (codes "-|IN TON Q|", Block kind.Ton) ∷ (codes "-|IN TOF Q|", Block kind.Tof) ∷ (codes "-|IN TP  Q|", Block kind.Tp)
+    ∷ (codes "-|CU CTU Q|", Block kind.Ctu) ∷ (codes "-|CD CTD Q|", Block kind.Ctd)
+    ∷ (codes "-|R       |", Lower kind.Ctu true) ∷ (codes " |R       |", Lower kind.Ctu false)
+    ∷ (codes "-|LD      |", Lower kind.Ctd true) ∷ (codes " |LD      |", Lower kind.Ctd false) ∷ []
+
+-- The symbols of contacts and coils.
+abbrev pub symbols : Table
+symbols =
+    (codes "| |", Contact mode.Plain) ∷ (codes "|/|", Contact mode.Negated)
+    ∷ (codes "|P|", Contact mode.Rising) ∷ (codes "|N|", Contact mode.Falling)
+    ∷ (codes "( )", Coil coil.Store) ∷ (codes "(/)", Coil coil.Inverse) ∷ (codes "(S)", Coil coil.Set) ∷ (codes "(R)", Coil coil.Reset)
+    ∷ (codes "(P)", Coil coil.Rising) ∷ (codes "(N)", Coil coil.Falling) ∷ []
+
+-- One or more dashes, a symbol, then only dashes or only spaces, or nothing.
+pub record HasSymbol (chars : List ℕ) (form : Form) : Type 0 where
+  pub before : ℕ
+  pub after : ℕ
+  pub filler : ℕ
+  pub symbol : List ℕ
+  pub some_dashes : 1 ≤ before
+  pub dashes_or_spaces : (filler ≡ dash) ⊎ (filler ≡ space)
+  pub listed : Lists symbols symbol form
+  pub spelled : chars ≡ replicate before dash ++ (symbol ++ replicate after filler)
+
+-- The characters of a cell have this form.
+abbrev pub HasForm : List ℕ → Form → Type 0
+HasForm chars form = Lists whole_cells chars form ⊎ HasSymbol chars form

@@ -1,0 +1,16 @@
+pub mod Bytes
+pub mod Form
+pub mod ReadForm
+pub mod Picture
+pub mod Lines
+pub mod Gap
+pub mod Operand
+pub mod StandIns
+pub mod Rules
+pub mod Rung
+pub mod Drawing
+pub mod Program
+pub mod Reading
+pub mod Stops
+pub mod Places
+pub mod Sheet

@@ -1,0 +1,173 @@
+-- A program as its drawing has it, and the list of steps that a scan goes through.
+-- Rungs, rows and columns are counted from 0. The place of a cell in its rung is 6 * column + row.
+use Rattle.std.specs.Prelude.{◌≡◌, ℕ, zero, suc, ◌+◌, ◌-◌, ◌*◌, ◌/◌, ◌%◌, ◌^◌, ◌<◌, ◌≤◌, min, max, nat_le, Bool, true, false, ◌&&◌, ◌==◌, List, [], ◌∷◌, ◌++◌, length, count_by, slice_index_or, Option, Some, None, if◌then◌else◌}
+use Rattle.std.specs.List.{list_any}
+use Rattle.ladder_vars.specs.Decls.{Declared}
+use Rattle.ladder_grid.specs.declared.cell.Cell.{Cell}
+use Rattle.ladder_grid.specs.declared.cell.Cell.TheVariants as cell
+use Rattle.ladder_grid.specs.declared.cell.Joint.{Joint}
+use Rattle.ladder_grid.specs.declared.cell.Joint.TheVariants as joint
+use Rattle.ladder_grid.specs.declared.program.Step.{Step}
+
+-- The declarations, the cells and whether each has a right link, and on the left of each cell its joint and the vertical
+-- link from there to the row below. All four lists go by rung, column and row.
+pub record Drawing : Type 0 where
+  pub decls : Declared
+  pub rungs : ℕ
+  pub cells : List Cell
+  pub links : List Bool
+  pub joints : List Joint
+  pub verticals : List Bool
+
+abbrev pub drawing : Declared → ℕ → List Cell → List Bool → List Joint → List Bool → Drawing
+drawing decls rungs cells links joints verticals = record {
+  decls = decls;
+  rungs = rungs;
+  cells = cells;
+  links = links;
+  joints = joints;
+  verticals = verticals;
+}
+
+-- where the lists have what belongs to a cell
+abbrev pub place : ℕ → ℕ → ℕ → ℕ
+place rung row column = 60 * rung + (6 * column + row)
+
+-- the cell at a place of a rung
+abbrev pub cell_of : Drawing → ℕ → ℕ → Cell
+cell_of d rung at = slice_index_or d.cells (60 * rung + at) cell.Empty
+
+-- Power goes from a right link into the group of a joint where the joint is `-` or `+` (IEC 61131-3, power flow).
+abbrev pub takes_power : Joint → Bool
+takes_power joint.Blank = false
+takes_power joint.Dash = true
+takes_power joint.Plus = true
+takes_power joint.Bar = false
+
+-- vertical links on the left of the column join the n + 1 rows from this one on
+unfoldable pub joined : Drawing → ℕ → ℕ → ℕ → ℕ → Bool
+joined d rung column row zero = true
+joined d rung column row (suc n) = joined d rung column row n && slice_index_or d.verticals (place rung (row + n) column) false
+
+-- The right link of the row `from` in the column before enters the group of the row's joint.
+abbrev pub feeds : Drawing → ℕ → ℕ → ℕ → ℕ → Bool
+feeds d rung row column from =
+    nat_le 1 column
+    && (slice_index_or d.links (place rung from (column - 1)) false
+    && (takes_power (slice_index_or d.joints (place rung from column) joint.Blank)
+    && joined d rung column (min row from) (max row from - min row from)))
+
+-- the number whose bit of weight 2 ^ i is whether f i holds, for i below n
+unfoldable pub mask : (ℕ → Bool) → ℕ → ℕ
+mask f zero = 0
+mask f (suc n) = mask f n + (if f n then 2 ^ n else 0)
+
+abbrev pub is_empty : Cell → Bool
+is_empty cell.Empty = true
+is_empty cell.Wire = false
+is_empty (cell.Contact mode operand memory) = false
+is_empty (cell.Coil mode var memory) = false
+is_empty (cell.Block inst) = false
+is_empty (cell.Lower inst linked) = false
+is_empty (cell.Jump target) = false
+
+-- A cell with the rows of the column before that feed it; none in the first column, where the left rail does.
+abbrev pub step_at : Drawing → ℕ → ℕ → Step
+step_at d rung at = record { row = at % 6; column = at / 6; cell = cell_of d rung at; feeds = mask (feeds d rung (at % 6) (at / 6)) 6 }
+
+-- those of the cells before the place `at` that aren't empty
+unfoldable pub steps_before : Drawing → ℕ → ℕ → List Step
+steps_before d rung zero = []
+steps_before d rung (suc at) =
+    if is_empty (cell_of d rung at) then steps_before d rung at
+    else steps_before d rung at ++ step_at d rung at ∷ []
+
+-- One step for each cell of the rung that isn't empty, by column and row.
+unfoldable pub steps_of : Drawing → ℕ → List Step
+steps_of d rung = steps_before d rung 60
+
+abbrev pub jump_in : Cell → ℕ → Option (ℕ × ℕ × ℕ) → Option (ℕ × ℕ × ℕ)
+jump_in cell.Empty at other = other
+jump_in cell.Wire at other = other
+jump_in (cell.Contact mode operand memory) at other = other
+jump_in (cell.Coil mode var memory) at other = other
+jump_in (cell.Block inst) at other = other
+jump_in (cell.Lower inst linked) at other = other
+jump_in (cell.Jump target) at other = Some (at % 6, at / 6, target)
+
+unfoldable pub jump_before : Drawing → ℕ → ℕ → Option (ℕ × ℕ × ℕ)
+jump_before d rung zero = None
+jump_before d rung (suc at) = jump_in (cell_of d rung at) at (jump_before d rung at)
+
+-- The row and the column of the rung's jump, and its target. A rung has at most one.
+unfoldable pub jump_of : Drawing → ℕ → Option (ℕ × ℕ × ℕ)
+jump_of d rung = jump_before d rung 60
+
+abbrev pub memory_in : Cell → Option ℕ
+memory_in cell.Empty = None
+memory_in cell.Wire = None
+memory_in (cell.Contact mode operand memory) = memory
+memory_in (cell.Coil mode var memory) = memory
+memory_in (cell.Block inst) = None
+memory_in (cell.Lower inst linked) = None
+memory_in (cell.Jump target) = None
+
+abbrev pub is_there : Option ℕ → Bool
+is_there None = false
+is_there (Some number) = true
+
+abbrev pub has_memory : Cell → Bool
+has_memory c = is_there (memory_in c)
+
+-- how many edge contacts and edge coils there are
+abbrev pub memories_of : Drawing → ℕ
+memories_of d = count_by has_memory d.cells
+
+abbrev pub is_coil_of : ℕ → Cell → Bool
+is_coil_of var cell.Empty = false
+is_coil_of var cell.Wire = false
+is_coil_of var (cell.Contact mode operand memory) = false
+is_coil_of var (cell.Coil mode v memory) = v == var
+is_coil_of var (cell.Block inst) = false
+is_coil_of var (cell.Lower inst linked) = false
+is_coil_of var (cell.Jump target) = false
+
+-- whether a coil stands on the variable
+abbrev pub has_coil : ℕ → Drawing → Bool
+has_coil var d = list_any (is_coil_of var) d.cells
+
+-- Each list has sixty entries a rung.
+pub record IsWhole (d : Drawing) : Type 0 where
+  pub few : d.rungs ≤ 100
+  pub cells : length d.cells ≡ 60 * d.rungs
+  pub links : length d.links ≡ 60 * d.rungs
+  pub joints : length d.joints ≡ 60 * d.rungs
+  pub verticals : length d.verticals ≡ 60 * d.rungs
+
+-- What a program keeps beside its drawing is the drawing's.
+pub record IsCompiled (d : Drawing) (compiled : List (List Step)) (jumps : List (Option (ℕ × ℕ × ℕ))) (memories : ℕ)
+    : Type 0 where
+  pub whole : IsWhole d
+  pub step_count : length compiled ≡ d.rungs
+  pub each_steps : (k : ℕ) → k < d.rungs → slice_index_or compiled k [] ≡ steps_of d k
+  pub jump_count : length jumps ≡ d.rungs
+  pub each_jump : (k : ℕ) → k < d.rungs → slice_index_or jumps k None ≡ jump_of d k
+  pub memory_count : memories ≡ memories_of d
+
+abbrev pub block_in : Cell → Option ℕ
+block_in cell.Empty = None
+block_in cell.Wire = None
+block_in (cell.Contact mode operand memory) = None
+block_in (cell.Coil mode var memory) = None
+block_in (cell.Block inst) = Some inst
+block_in (cell.Lower inst linked) = None
+block_in (cell.Jump target) = None
+
+-- What the rules of a drawing make sure of, and a scan rests on: each memory and each instance belongs to one cell, and a jump goes to
+-- a later rung.
+pub record IsWellFormed (d : Drawing) : Type 0 where
+  pub one_memory : (number i j : ℕ) → memory_in (slice_index_or d.cells i cell.Empty) ≡ Some number
+      → memory_in (slice_index_or d.cells j cell.Empty) ≡ Some number → i ≡ j
+  pub one_block : (number i j : ℕ) → block_in (slice_index_or d.cells i cell.Empty) ≡ Some number
+      → block_in (slice_index_or d.cells j cell.Empty) ≡ Some number → i ≡ j
+  pub jumps_down : (i target : ℕ) → slice_index_or d.cells i cell.Empty ≡ cell.Jump target → i / 60 < target

@@ -1,0 +1,133 @@
+ghost use Rattle.std.specs.Prelude.{◌≡◌, ◌==◌, map};
+ghost use Rattle.std.specs.List.{list_all};
+ghost use Rattle.std.specs.Str.{bytes_eq};
+ghost use Rattle.ladder_grid.specs.ReadForm.{lookup, after_dashes, is_filler, symbol_at, marked_at, form_at};
+
+use crate::cell::{CoilMode, Mode};
+use ladder_vars::BlockKind;
+
+/// What the eleven characters of a cell are, before the name over it is looked up.
+#[derive(Clone, Copy, Debug, PartialEq, Eq)]
+pub(crate) enum Form {
+    Empty,
+    Wire,
+    Contact(Mode),
+    Coil(CoilMode),
+    /// The upper cell of a block of this kind.
+    Block(BlockKind),
+    /// The cell under a block of this kind, with or without a left link.
+    Lower(BlockKind, bool),
+}
+
+/// The cells that are spelled in one way.
+const WHOLE_CELLS: [(&[u8], Form); 11] = [
+    (b"           ", Form::Empty),
+    (b"-----------", Form::Wire),
+    (b"-|IN TON Q|", Form::Block(BlockKind::Ton)),
+    (b"-|IN TOF Q|", Form::Block(BlockKind::Tof)),
+    (b"-|IN TP  Q|", Form::Block(BlockKind::Tp)),
+    (b"-|CU CTU Q|", Form::Block(BlockKind::Ctu)),
+    (b"-|CD CTD Q|", Form::Block(BlockKind::Ctd)),
+    (b"-|R       |", Form::Lower(BlockKind::Ctu, true)),
+    (b" |R       |", Form::Lower(BlockKind::Ctu, false)),
+    (b"-|LD      |", Form::Lower(BlockKind::Ctd, true)),
+    (b" |LD      |", Form::Lower(BlockKind::Ctd, false)),
+];
+
+/// The symbols that stand on a wire.
+const SYMBOLS: [(&[u8], Form); 10] = [
+    (b"| |", Form::Contact(Mode::Plain)),
+    (b"|/|", Form::Contact(Mode::Negated)),
+    (b"|P|", Form::Contact(Mode::Rising)),
+    (b"|N|", Form::Contact(Mode::Falling)),
+    (b"( )", Form::Coil(CoilMode::Store)),
+    (b"(/)", Form::Coil(CoilMode::Inverse)),
+    (b"(S)", Form::Coil(CoilMode::Set)),
+    (b"(R)", Form::Coil(CoilMode::Reset)),
+    (b"(P)", Form::Coil(CoilMode::Rising)),
+    (b"(N)", Form::Coil(CoilMode::Falling)),
+];
+
+fn same_bytes(a: &[u8], b: &[u8]) -> bool
+    ensures { result ≡ bytes_eq a.now b.now }
+{
+    a == b
+}
+
+fn lookup(mut table: &[(&[u8], Form)], chars: &[u8]) -> Option<Form>
+    ensures { result ≡ lookup (map (λ e. (e.0.now, e.1)) table.entry.now) chars.now }
+{
+    while let [entry, rest @ ..] = table {
+        if same_bytes(entry.0, chars) {
+            return Some(entry.1);
+        }
+        table = rest;
+    }
+    None
+}
+
+fn after_dashes(mut chars: &[u8]) -> &[u8]
+    ensures { result.now ≡ after_dashes chars.entry.now }
+{
+    while let [b'-', rest @ ..] = chars {
+        chars = rest;
+    }
+    chars
+}
+
+fn all_are(byte: u8, mut chars: &[u8]) -> bool
+    ensures { result ≡ list_all (λ b. b == byte) chars.entry.now }
+{
+    while let [b, rest @ ..] = chars {
+        if *b != byte {
+            return false;
+        }
+        chars = rest;
+    }
+    true
+}
+
+fn is_filler(tail: &[u8]) -> bool
+    ensures { result ≡ is_filler tail.now }
+{
+    all_are(b'-', tail) || all_are(b' ', tail)
+}
+
+/// The symbol at the front, where nothing but its filler stands behind it.
+fn symbol_at(chars: &[u8]) -> Option<Form>
+    ensures { result ≡ symbol_at chars.now }
+{
+    match chars {
+        [] | [_] | [_, _] => None,
+        [a, b, c, tail @ ..] => {
+            if is_filler(tail) {
+                lookup(&SYMBOLS, &[*a, *b, *c])
+            } else {
+                None
+            }
+        }
+    }
+}
+
+#[tactic(auto, unfolding(crate::specs::ReadForm::marked_at))]
+fn marked_at(chars: &[u8]) -> Option<Form>
+    ensures { result ≡ marked_at chars.now }
+{
+    let rest = after_dashes(chars);
+    if rest.len() == chars.len() {
+        None
+    } else {
+        symbol_at(rest)
+    }
+}
+
+/// The form that a cell's characters have.
+#[tactic(auto, unfolding(crate::specs::ReadForm::form_at))]
+pub(crate) fn form_at(chars: &[u8]) -> Option<Form>
+    ensures { result ≡ form_at chars.now }
+{
+    match lookup(&WHOLE_CELLS, chars) {
+        Some(form) => Some(form),
+        None => marked_at(chars),
+    }
+}
