@@ -1,0 +1,99 @@
+-- The left links of a column by those of the column before: the OR over routes, one column at a time.
+use Rattle.std.proofs.Common.{◌≡◌, ℕ, ◌+◌, ◌<◌, Bool, true, false, cond, List, [], ◌∷◌, ◌++◌, map, zero, suc, nat_eq, refl, sym, ap, ◌∙◌, arith}
+use Rattle.std.proofs.lemmas.List.{map-append}
+use Rattle.std.proofs.lemmas.Bool.Decides.{nat_tests}
+use Rattle.ladder_scan.specs.Algebra.{Algebra, LatticeLaws}
+use Rattle.ladder_scan.specs.Sweeping.{join_where}
+use Rattle.ladder_scan.specs.Routes.{gather, join_all, Route, rail, block_end, through, Circuit, onto, routes, route_value, link_with, ends_below, left_link}
+use Rattle.ladder_scan.proofs.Joins.{join_all-value, join_all-append, join_all-meet}
+
+module _ {S : Type 0} (o : Algebra S) (V : S → Type 0) (l : LatticeLaws S V o) where
+  off_right : (x : S) → V x → o.join x (o.known false) ≡ x
+  off_right x vx = l.join_comm x (o.known false) vx (l.known_value false) ∙ l.join_off x vx
+
+  one_more : {A : Type 0} (v : A → S) (b : Bool) (sum : S) → V sum → (ps : List A) (y : S) → join_all o (map v ps) ≡ y → o.join sum (join_all o (map v (cond b ps []))) ≡ cond b (o.join sum y) sum
+  unfolding join_all
+  one_more v true sum vs ps y h = ap (o.join sum) h
+  one_more v false sum vs ps y h = off_right sum vs
+
+  -- the or over what the rows give is the or, row by row
+  pub gathered : {A : Type 0} (v : A → S) → ((a : A) → V (v a)) → (p : ℕ → Bool) (f : ℕ → List A) (y : ℕ → S) → ((q : ℕ) → join_all o (map v (f q)) ≡ y q) → (n : ℕ) →
+      join_all o (map v (gather (λ q. cond (p q) (f q) []) n)) ≡ join_where o p y n
+  unfolding join_all gather join_where
+  gathered v all p f y h zero = refl
+  gathered v all p f y h (suc n) =
+      join_all-append o V l v all (gather (λ q. cond (p q) (f q) []) n) (cond (p n) (f n) [])
+      ∙ one_more v (p n) (join_all o (map v (gather (λ q. cond (p q) (f q) []) n))) (join_all-value o V l v all (gather (λ q. cond (p q) (f q) []) n)) (f n) (y n) (h n)
+      ∙ ap (λ s. cond (p n) (o.join s (y n)) s) (gathered v all p f y h n)
+
+  -- ---- routes into a column read blocks of earlier columns alone
+  module _ (g : Circuit S) (closed_value : (row column : ℕ) → V (g.closed row column)) (q_value : (row column : ℕ) (x y : S) → V x → V y → V (g.q row column x y)) where
+    route-value : (e : ℕ → ℕ → S) → ((row column : ℕ) → V (e row column)) → (w : Route) → V (route_value o g e w)
+    unfolding route_value
+    route-value e ve rail = l.known_value true
+    route-value e ve (block_end row column) = ve row column
+    route-value e ve (through w row column) = l.meet_value _ _ (route-value e ve w) (closed_value row column)
+
+    either : (b : Bool) (x y : S) → V x → V y → V (cond b x y)
+    either true x y vx vy = vx
+    either false x y vx vy = vy
+
+    ends-value : (n row column : ℕ) → V (ends_below o g n row column)
+    unfolding ends_below
+    ends-value zero row column = l.known_value false
+    ends-value (suc n) row column = either (nat_eq column n) _ _ (q_value row column _ _ (join_all-value o V l _ (route-value _ (ends-value n)) (routes g.feeds g.is_block n row)) (join_all-value o V l _ (route-value _ (ends-value n)) (routes g.feeds g.is_block n (row + 1)))) (ends-value n row column)
+
+    map_gather : (v : Route → S) (f : ℕ → List Route) (n : ℕ) → map v (gather f n) ≡ gather (λ q. map v (f q)) n
+    unfolding gather
+    map_gather v f zero = refl
+    map_gather v f (suc n) = map-append v (gather f n) (f n) ∙ ap (λ x. x ++ map v (f n)) (map_gather v f n)
+
+    gather_same : (f h : ℕ → List S) → ((q : ℕ) → f q ≡ h q) → (n : ℕ) → gather f n ≡ gather h n
+    unfolding gather
+    gather_same f h e zero = refl
+    gather_same f h e (suc n) = ap (λ x. x ++ f n) (gather_same f h e n) ∙ ap (λ x. gather h n ++ x) (e n)
+
+    map_through : (e : ℕ → ℕ → S) (row column : ℕ) (ws : List Route) → map (route_value o g e) (map (λ w. through w row column) ws) ≡ map (λ x. o.meet x (g.closed row column)) (map (route_value o g e) ws)
+    unfolding route_value
+    map_through e row column [] = refl
+    map_through e row column (w ∷ ws) = ap (λ x. o.meet (route_value o g e w) (g.closed row column) ∷ x) (map_through e row column ws)
+
+    onto_same : (b c : Bool) (e d : ℕ → ℕ → S) (row column : ℕ) (ws : List Route) → e row column ≡ d row column → map (route_value o g e) ws ≡ map (route_value o g d) ws →
+        map (route_value o g e) (cond b (cond c (block_end row column ∷ []) (map (λ w. through w row column) ws)) []) ≡ map (route_value o g d) (cond b (cond c (block_end row column ∷ []) (map (λ w. through w row column) ws)) [])
+    unfolding route_value
+    onto_same true true e d row column ws h k = ap (λ x. x ∷ []) h
+    onto_same true false e d row column ws h k = map_through e row column ws ∙ ap (map (λ x. o.meet x (g.closed row column))) k ∙ sym (map_through d row column ws)
+    onto_same false c e d row column ws h k = refl
+
+    routes_same : (e d : ℕ → ℕ → S) (n : ℕ) → ((row column : ℕ) → column < n → e row column ≡ d row column) → (row : ℕ) → map (route_value o g e) (routes g.feeds g.is_block n row) ≡ map (route_value o g d) (routes g.feeds g.is_block n row)
+    unfolding routes route_value
+    routes_same e d zero h row = refl
+    routes_same e d (suc n) h row =
+        map_gather (route_value o g e) _ 6
+        ∙ gather_same _ _ (λ q. onto_same (g.feeds n row q) (g.is_block q n) e d q n (routes g.feeds g.is_block n q) (h q n (omega arith)) (routes_same e d n (λ r c k. h r c (omega arith)) q)) 6
+        ∙ sym (map_gather (route_value o g d) _ 6)
+
+    ends_kept : (n row column : ℕ) → column < n → ends_below o g (suc n) row column ≡ ends_below o g n row column
+    unfolding ends_below
+    ends_kept n row column h =
+        let apart : nat_eq column n ≡ false = grind (arith, nat_tests) in
+        ap (λ b. cond b (g.q row column (link_with o g (ends_below o g n) n row) (link_with o g (ends_below o g n) n (row + 1))) (ends_below o g n row column)) apart
+
+    ends_here : (n row : ℕ) → ends_below o g (suc n) row n ≡ g.q row n (left_link o g n row) (left_link o g n (row + 1))
+    unfolding ends_below
+    ends_here n row =
+        let same : nat_eq n n ≡ true = grind (arith, nat_tests) in
+        ap (λ b. cond b (g.q row n (link_with o g (ends_below o g n) n row) (link_with o g (ends_below o g n) n (row + 1))) (ends_below o g n row n)) same
+
+    given : (b : Bool) (n row : ℕ) → join_all o (map (route_value o g (ends_below o g (suc n))) (cond b (block_end row n ∷ []) (map (λ w. through w row n) (routes g.feeds g.is_block n row)))) ≡
+        cond b (g.q row n (left_link o g n row) (left_link o g n (row + 1))) (o.meet (left_link o g n row) (g.closed row n))
+    unfolding join_all route_value
+    given true n row = off_right _ (ends-value (suc n) row n) ∙ ends_here n row
+    given false n row =
+        join_all-meet o V l (route_value o g (ends_below o g (suc n))) (route-value _ (ends-value (suc n))) (λ w. through w row n) (g.closed row n) (closed_value row n) (λ w. refl) (routes g.feeds g.is_block n row)
+        ∙ ap (λ xs. o.meet (join_all o xs) (g.closed row n)) (routes_same (ends_below o g (suc n)) (ends_below o g n) n (λ r c h. ends_kept n r c h) row)
+
+    -- what the code computes, one column after the other
+    pub left_link-next : (n row : ℕ) → left_link o g (suc n) row ≡ join_where o (g.feeds n row) (λ q. cond (g.is_block q n) (g.q q n (left_link o g n q) (left_link o g n (q + 1))) (o.meet (left_link o g n q) (g.closed q n))) 6
+    unfolding routes
+    left_link-next n row = gathered (route_value o g (ends_below o g (suc n))) (route-value _ (ends-value (suc n))) (g.feeds n row) (λ q. onto g.is_block q n (routes g.feeds g.is_block n q)) _ (λ q. given (g.is_block q n) n q) 6

@@ -1,0 +1,220 @@
+-- The relational law, definition by definition; memories and blocks may differ where no cell of the rung reads them.
+use Rattle.std.proofs.Common.{◌≡◌, ℕ, ◌+◌, ◌*◌, ◌/◌, ◌%◌, ◌<◌, Bool, true, false, cond, List, [], ◌∷◌, ◌++◌, map, get_or, set, zero, suc, nat_eq, nat_lt, Option, Some, None, refl, subst, arith}
+use Rattle.ladder_scan.specs.Algebra.{Algebra}
+use Rattle.ladder_scan.specs.Relations.{IsKept, Both, BothFrames}
+use Rattle.ladder_scan.specs.Routes.{join_all, Route, rail, block_end, through, routes, route_value, ends_below, left_link}
+use Rattle.ladder_vars.specs.declared.decls.BlockKind.{BlockKind}
+use Rattle.ladder_scan.specs.declared.block.Stored.{Stored}
+use Rattle.ladder_grid.specs.declared.cell.Mode.{Mode}
+use Rattle.ladder_grid.specs.declared.cell.Mode.TheVariants.{Plain, Negated, Rising, Falling}
+use Rattle.ladder_grid.specs.declared.cell.CoilMode.{CoilMode}
+use Rattle.ladder_grid.specs.declared.cell.CoilMode.TheVariants as coil
+use Rattle.ladder_grid.specs.declared.cell.Operand.{Operand}
+use Rattle.ladder_grid.specs.declared.cell.Operand.TheVariants.{Var, Output}
+use Rattle.ladder_grid.specs.declared.cell.Cell.{Cell}
+use Rattle.ladder_grid.specs.declared.cell.Cell.TheVariants.{Empty, Wire, Contact, Coil, Block, Lower, Jump}
+use Rattle.ladder_scan.specs.Cells.{Diagram, Frame, Kept, at, put_in, var_in, block_in, is_block, memory_of, stored_of, operand_value, closed, contact, q_here, q_from, coil_value, stored_by}
+use Rattle.ladder_scan.specs.Rung.{link, second, written, effects, after_rung}
+use Rattle.ladder_scan.specs.Blocks.{has_second, q_of}
+use Rattle.ladder_scan.specs.Scan.{given}
+use Rattle.ladder_scan.specs.SignalScan.{meet_where, guard_of, looked, look_frame}
+use Rattle.ladder_scan.specs.Laws.{LookKeeps}
+
+-- a cell finds the same memory and the same stored block in both
+abbrev pub AlikeCell : Kept → Kept → Cell → Type 0
+AlikeCell k h c = (memory_of k c ≡ memory_of h c) × (stored_of k c ≡ stored_of h c)
+
+abbrev pub Alike : Diagram → ℕ → Kept → Kept → Type 0
+Alike d j k h = (e : ℕ) → AlikeCell k h (d.cell j e)
+
+module _ {A B : Type 0} (a : Algebra A) (b : Algebra B) (R : A → B → Type 0) (k : IsKept a b R) where
+  -- ---- lists
+  get_kept : (xs : List A) (vs : List B) → Both R xs vs → (d : A) (e : B) → R d e → (i : ℕ) → R (get_or xs i d) (get_or vs i e)
+  get_kept [] [] h d e r i = r
+  get_kept [] (v ∷ vs) h d e r i = absurd h
+  get_kept (x ∷ xs) [] h d e r i = absurd h
+  get_kept (x ∷ xs) (v ∷ vs) h d e r zero = h.0
+  get_kept (x ∷ xs) (v ∷ vs) h d e r (suc i) = get_kept xs vs h.1 d e r i
+
+  set_kept : (xs : List A) (vs : List B) → Both R xs vs → (i : ℕ) (x : A) (v : B) → R x v → Both R (set xs i x) (set vs i v)
+  set_kept [] [] h i x v r = tt
+  set_kept [] (w ∷ vs) h i x v r = absurd h
+  set_kept (y ∷ xs) [] h i x v r = absurd h
+  set_kept (y ∷ xs) (w ∷ vs) h zero x v r = (r, h.1)
+  set_kept (y ∷ xs) (w ∷ vs) h (suc i) x v r = (h.0, set_kept xs vs h.1 i x v r)
+
+  push_kept : (xs : List A) (vs : List B) → Both R xs vs → (x : A) (v : B) → R x v → Both R (xs ++ (x ∷ [])) (vs ++ (v ∷ []))
+  push_kept [] [] h x v r = (r, tt)
+  push_kept [] (w ∷ vs) h x v r = absurd h
+  push_kept (y ∷ xs) [] h x v r = absurd h
+  push_kept (y ∷ xs) (w ∷ vs) h x v r = (h.0, push_kept xs vs h.1 x v r)
+
+  at_kept : (xs : List A) (vs : List B) → Both R xs vs → (m : Option ℕ) → R (at xs m (a.known false)) (at vs m (b.known false))
+  at_kept xs vs h None = k.known false
+  at_kept xs vs h (Some i) = get_kept xs vs h (a.known false) (b.known false) (k.known false) i
+
+  put_kept : (xs : List A) (vs : List B) → Both R xs vs → (m : Option ℕ) (x : A) (v : B) → R x v → Both R (put_in xs m x) (put_in vs m v)
+  put_kept xs vs h None x v r = h
+  put_kept xs vs h (Some i) x v r = set_kept xs vs h i x v r
+
+  either : (c : Bool) (x y : A) (u v : B) → R x u → R y v → R (cond c x y) (cond c u v)
+  either true x y u v r s = r
+  either false x y u v r s = s
+
+  -- ---- flow
+  joins_kept : {W : Type 0} (v : W → A) (u : W → B) → ((w : W) → R (v w) (u w)) → (ws : List W) → R (join_all a (map v ws)) (join_all b (map u ws))
+  unfolding join_all
+  joins_kept v u h [] = k.known false
+  joins_kept v u h (w ∷ ws) = k.join _ _ _ _ (h w) (joins_kept v u h ws)
+
+  module _ (fe : ℕ → ℕ → ℕ → Bool) (bl : ℕ → ℕ → Bool) (ca : ℕ → ℕ → A) (cb : ℕ → ℕ → B) (qa : ℕ → ℕ → A → A → A) (qb : ℕ → ℕ → B → B → B)
+      (closed_kept : (row column : ℕ) → R (ca row column) (cb row column)) (q_kept : (row column : ℕ) (x y : A) (u v : B) → R x u → R y v → R (qa row column x y) (qb row column u v)) where
+    route_kept : (e : ℕ → ℕ → A) (f : ℕ → ℕ → B) → ((row column : ℕ) → R (e row column) (f row column)) → (w : Route) → R (route_value a (record { feeds = fe; is_block = bl; closed = ca; q = qa }) e w) (route_value b (record { feeds = fe; is_block = bl; closed = cb; q = qb }) f w)
+    unfolding route_value
+    route_kept e f h rail = k.known true
+    route_kept e f h (block_end row column) = h row column
+    route_kept e f h (through w row column) = k.meet _ _ _ _ (route_kept e f h w) (closed_kept row column)
+
+    ends_kept : (n row column : ℕ) → R (ends_below a (record { feeds = fe; is_block = bl; closed = ca; q = qa }) n row column) (ends_below b (record { feeds = fe; is_block = bl; closed = cb; q = qb }) n row column)
+    unfolding ends_below
+    ends_kept zero row column = k.known false
+    ends_kept (suc n) row column =
+        either (nat_eq column n) _ _ _ _
+        (q_kept row column _ _ _ _ (joins_kept _ _ (route_kept _ _ (ends_kept n)) (routes fe bl n row)) (joins_kept _ _ (route_kept _ _ (ends_kept n)) (routes fe bl n (row + 1))))
+        (ends_kept n row column)
+
+    pub left_link_kept : (column row : ℕ) → R (left_link a (record { feeds = fe; is_block = bl; closed = ca; q = qa }) column row) (left_link b (record { feeds = fe; is_block = bl; closed = cb; q = qb }) column row)
+    left_link_kept column row = joins_kept _ _ (route_kept _ _ (ends_kept column)) (routes fe bl column row)
+
+  -- ---- cells
+  operand_kept : (f : Frame A) (g : Frame B) → BothFrames R f g → (x : Operand) → R (operand_value a f x) (operand_value b g x)
+  operand_kept f g h (Var var) = get_kept f.values g.values h.0 (a.known false) (b.known false) (k.known false) var
+  operand_kept f g h (Output inst) = get_kept f.ends g.ends h.1 (a.known false) (b.known false) (k.known false) inst
+
+  contact_kept : (mode : Mode) (x m : A) (u n : B) → R x u → R m n → R (contact a mode x m) (contact b mode u n)
+  contact_kept Plain x m u n r s = r
+  contact_kept Negated x m u n r s = k.inverse _ _ r
+  contact_kept Rising x m u n r s = k.meet _ _ _ _ r (k.inverse _ _ s)
+  contact_kept Falling x m u n r s = k.meet _ _ _ _ (k.inverse _ _ r) s
+
+  cell_kept : (f : Frame A) (g : Frame B) → BothFrames R f g → (m : A) (n : B) → R m n → (c : Cell) → R (closed a f m c) (closed b g n c)
+  cell_kept f g h m n r Empty = k.known false
+  cell_kept f g h m n r Wire = k.known true
+  cell_kept f g h m n r (Contact mode operand memory) = contact_kept mode _ _ _ _ (operand_kept f g h operand) r
+  cell_kept f g h m n r (Coil mode var memory) = k.known true
+  cell_kept f g h m n r (Block inst) = k.known false
+  cell_kept f g h m n r (Lower inst linked) = k.known false
+  cell_kept f g h m n r (Jump target) = k.known false
+
+  known_same : (x y : Bool) → x ≡ y → R (a.known x) (b.known y)
+  known_same x y e = subst (λ (z : Bool). R (a.known x) (b.known z)) e (k.known x)
+
+  from_kept : (kind : BlockKind) (preset : ℕ) (s t : Stored) (now : ℕ) → s ≡ t → (x y : A) (u v : B) → R x u → R y v → R (q_from a kind preset s now x y) (q_from b kind preset t now u v)
+  from_kept kind preset s t now e x y u v r w =
+      subst (λ (z : Stored). R (q_from a kind preset s now x y) (q_from b kind preset z now u v)) e
+      (either (has_second kind) _ _ _ _
+      (k.choice _ _ _ _ _ _ r (k.choice _ _ _ _ _ _ w (k.known _) (k.known _)) (k.choice _ _ _ _ _ _ w (k.known _) (k.known _)))
+      (k.choice _ _ _ _ _ _ r (k.known _) (k.known _)))
+
+  q_kept : (d : Diagram) (p h : Kept) (now : ℕ) (c : Cell) → AlikeCell p h c → (x y : A) (u v : B) → R x u → R y v → R (q_here a d p now c x y) (q_here b d h now c u v)
+  q_kept d p h now Empty e x y u v r s = k.known false
+  q_kept d p h now Wire e x y u v r s = k.known false
+  q_kept d p h now (Contact mode operand memory) e x y u v r s = k.known false
+  q_kept d p h now (Coil mode var memory) e x y u v r s = k.known false
+  q_kept d p h now (Block inst) e x y u v r s = from_kept (d.kind inst) (d.preset inst) _ _ now e.1 x y u v r s
+  q_kept d p h now (Lower inst linked) e x y u v r s = k.known false
+  q_kept d p h now (Jump target) e x y u v r s = k.known false
+
+  stored_kept : (mode : CoilMode) (l m x : A) (u n v : B) → R l u → R m n → R x v → R (stored_by a mode l m x) (stored_by b mode u n v)
+  stored_kept coil.Store l m x u n v r s t = r
+  stored_kept coil.Inverse l m x u n v r s t = k.inverse _ _ r
+  stored_kept coil.Set l m x u n v r s t = k.choice _ _ _ _ _ _ r (k.known true) t
+  stored_kept coil.Reset l m x u n v r s t = k.choice _ _ _ _ _ _ r (k.known false) t
+  stored_kept coil.Rising l m x u n v r s t = k.meet _ _ _ _ r (k.inverse _ _ s)
+  stored_kept coil.Falling l m x u n v r s t = k.meet _ _ _ _ (k.inverse _ _ r) s
+
+  coil_kept : (c : Cell) (l m x : A) (u n v : B) → R l u → R m n → R x v → R (coil_value a c l m x) (coil_value b c u n v)
+  coil_kept Empty l m x u n v r s t = t
+  coil_kept Wire l m x u n v r s t = t
+  coil_kept (Contact mode operand memory) l m x u n v r s t = t
+  coil_kept (Coil mode var memory) l m x u n v r s t = stored_kept mode l m x u n v r s t
+  coil_kept (Block inst) l m x u n v r s t = t
+  coil_kept (Lower inst linked) l m x u n v r s t = t
+  coil_kept (Jump target) l m x u n v r s t = t
+
+  -- ---- one rung
+  pub link_kept : (d : Diagram) (p h : Kept) (now j : ℕ) → Alike d j p h → (f : Frame A) (g : Frame B) → BothFrames R f g → (e : ℕ) → R (link a d p now j f e) (link b d h now j g e)
+  link_kept d p h now j al f g r e =
+      left_link_kept (d.feeds j) (λ row column. is_block (d.cell j (6 * column + row))) _ _ _ _
+      (λ row column. cell_kept f g r _ _ (known_same _ _ (al (6 * column + row)).0) (d.cell j (6 * column + row)))
+      (λ row column x y u v s t. q_kept d p h now (d.cell j (6 * column + row)) (al (6 * column + row)) x _ u _ s (either (d.linked j (6 * column + row)) _ _ _ _ t (k.known false)))
+      (e / 6) (e % 6)
+
+  written_kept : (d : Diagram) (p h : Kept) (now : ℕ) (c : Cell) → AlikeCell p h c → (m : A) (n : B) → R m n → (x y : A) (u v : B) → R x u → R y v →
+      (f : Frame A) (g : Frame B) → BothFrames R f g → BothFrames R (written a d p now m c x y f) (written b d h now n c u v g)
+  written_kept d p h now c al m n r x y u v s t f g w = (
+    put_kept f.values g.values w.0 (var_in c) _ _
+        (k.choice _ _ _ _ _ _ r (coil_kept c _ _ _ _ _ _ s (known_same _ _ al.0) (at_kept f.values g.values w.0 (var_in c))) (at_kept f.values g.values w.0 (var_in c))),
+    put_kept f.ends g.ends w.1 (block_in c) _ _
+        (k.choice _ _ _ _ _ _ r (q_kept d p h now c al _ _ _ _ s t) (at_kept f.ends g.ends w.1 (block_in c))),
+  )
+
+  pub effects_kept : (d : Diagram) (p h : Kept) (now j : ℕ) → Alike d j p h → (m : A) (n : B) → R m n → (l : ℕ → A) (u : ℕ → B) (top : ℕ) →
+      ((e : ℕ) → e < top → R (l e) (u e) × R (second a d j l e) (second b d j u e)) →
+      (f : Frame A) (g : Frame B) → BothFrames R f g → BothFrames R (effects a d p now j m l top f) (effects b d h now j n u top g)
+  unfolding effects
+  effects_kept d p h now j al m n r l u zero s f g w = w
+  effects_kept d p h now j al m n r l u (suc e) s f g w =
+      written_kept d p h now (d.cell j e) (al e) m n r _ _ _ _ (s e (omega arith)).0 (s e (omega arith)).1 _ _ (effects_kept d p h now j al m n r l u e (λ i i_lt. s i (omega arith)) f g w)
+
+  pub rung_kept : (d : Diagram) (p h : Kept) (now j : ℕ) → Alike d j p h → (m : A) (n : B) → R m n → (f : Frame A) (g : Frame B) → BothFrames R f g →
+      BothFrames R (after_rung a d p now j m f) (after_rung b d h now j n g)
+  rung_kept d p h now j al m n r f g w =
+      let links = link_kept d p h now j al f g w in
+      effects_kept d p h now j al m n r _ _ 60 (λ e e_lt. (links e, either (d.linked j e) _ _ _ _ (links (e + 1)) (k.known false))) f g w
+
+  -- ---- the scan
+  meet_kept : (p : ℕ → Bool) (f : ℕ → A) (g : ℕ → B) → ((i : ℕ) → R (f i) (g i)) → (n : ℕ) → R (meet_where a p f n) (meet_where b p g n)
+  unfolding meet_where
+  meet_kept p f g h zero = k.known true
+  meet_kept p f g h (suc n) = either (p n) _ _ _ _ (k.meet _ _ _ _ (meet_kept p f g h n) (h n)) (meet_kept p f g h n)
+
+  guard_kept : (d : Diagram) (xs : List A) (vs : List B) → Both R xs vs → (j : ℕ) → R (guard_of a d xs j) (guard_of b d vs j)
+  guard_kept d xs vs h j = meet_kept (λ i. nat_lt j (d.target i)) _ _ (λ i. k.inverse _ _ (get_kept xs vs h (a.known false) (b.known false) (k.known false) i)) j
+
+  looked_kept : (d : Diagram) (p : Kept) (now : ℕ) (f : Frame A) (g : Frame B) → BothFrames R f g → (n : ℕ) →
+      BothFrames R (looked a d p now f n).frame (looked b d p now g n).frame × Both R (looked a d p now f n).taken (looked b d p now g n).taken
+  unfolding looked
+  looked_kept d p now f g h zero = (h, tt)
+  looked_kept d p now f g h (suc n) =
+      let e = looked_kept d p now f g h n in
+      let r : R (guard_of a d (looked a d p now f n).taken n) (guard_of b d (looked b d p now g n).taken n) = guard_kept d _ _ e.1 n in
+      let al : Alike d n p p = λ i. (refl, refl) in
+      (rung_kept d p p now n al _ _ r _ _ e.0, push_kept _ _ e.1 _ _ (either (nat_lt 0 (d.target n)) _ _ _ _ (k.meet _ _ _ _ r (link_kept d p p now n al _ _ e.0 (d.leap n))) (k.known false)))
+
+  pub frames_kept : (d : Diagram) (p : Kept) (now : ℕ) (f : Frame A) (g : Frame B) → BothFrames R f g → (n : ℕ) → BothFrames R (looked a d p now f n).frame (looked b d p now g n).frame
+  frames_kept d p now f g h n = (looked_kept d p now f g h n).0
+
+  -- ---- what the rungs begin with
+  given_kept : (flags : List Bool) (xs : List A) (vs : List B) → Both R xs vs → (ys : List A) (ws : List B) → Both R ys ws → Both R (given flags xs ys) (given flags vs ws)
+  given_kept [] xs vs h ys ws r = r
+  given_kept (true ∷ flags) xs vs h [] [] r = tt
+  given_kept (true ∷ flags) xs vs h [] (w ∷ ws) r = absurd r
+  given_kept (true ∷ flags) xs vs h (y ∷ ys) [] r = absurd r
+  given_kept (true ∷ flags) [] [] h (y ∷ ys) (w ∷ ws) r = (r.0, given_kept flags [] [] h ys ws r.1)
+  given_kept (true ∷ flags) [] (v ∷ vs) h (y ∷ ys) (w ∷ ws) r = absurd h
+  given_kept (true ∷ flags) (x ∷ xs) [] h (y ∷ ys) (w ∷ ws) r = absurd h
+  given_kept (true ∷ flags) (x ∷ xs) (v ∷ vs) h (y ∷ ys) (w ∷ ws) r = (h.0, given_kept flags xs vs h.1 ys ws r.1)
+  given_kept (false ∷ flags) xs vs h [] [] r = tt
+  given_kept (false ∷ flags) xs vs h [] (w ∷ ws) r = absurd r
+  given_kept (false ∷ flags) xs vs h (y ∷ ys) [] r = absurd r
+  given_kept (false ∷ flags) xs vs h (y ∷ ys) (w ∷ ws) r = (r.0, given_kept flags xs vs h ys ws r.1)
+
+  all_known : {C : Type 0} (f : C → Bool) (cs : List C) → Both R (map (λ c. a.known (f c)) cs) (map (λ c. b.known (f c)) cs)
+  all_known f [] = tt
+  all_known f (c ∷ cs) = (k.known (f c), all_known f cs)
+
+  pub look_kept : LookKeeps a b R
+  look_kept d h now xs vs r =
+      (frames_kept d h.kept now (look_frame a d xs h) (look_frame b d vs h)
+      (given_kept d.inputs xs vs r _ _ (all_known (λ v. v) h.values), all_known q_of h.kept.blocks) d.rungs).0

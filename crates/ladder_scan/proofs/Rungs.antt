@@ -1,0 +1,38 @@
+-- One rung more of a scan.
+use Rattle.std.proofs.Common.{◌≡◌, ℕ, ◌+◌, ◌<◌, ◌≤◌, Bool, true, false, cond, List, add-one, nat_lt, refl, ap, ◌∙◌, arith}
+use Rattle.std.proofs.lemmas.Bool.Decides.{nat_tests}
+use Rattle.ladder_scan.specs.declared.block.Stored.{Stored}
+use Rattle.ladder_scan.specs.Cells.{Diagram}
+use Rattle.ladder_scan.specs.Rung.{Held, evaluated}
+use Rattle.ladder_scan.specs.Scan.{next_rung}
+use Rattle.ladder_scan.specs.RungByRung.{scanned}
+use Rattle.ladder_scan.specs.Sweeping.{held}
+
+is_less : (a b : ℕ) → a < b → nat_lt a b ≡ true
+is_less a b h = grind (arith, nat_tests)
+
+is_not_less : (a b : ℕ) → b ≤ a → nat_lt a b ≡ false
+is_not_less a b h = grind (arith, nat_tests)
+
+pub passed_over : (d : Diagram) (now : ℕ) (h : Held) (j : ℕ) → j < (scanned d now h j).resume → scanned d now h (j + 1) ≡ scanned d now h j
+unfolding scanned
+passed_over d now h j lt =
+    ap (scanned d now h) (add-one j)
+    ∙ ap (λ b. cond b (scanned d now h j) (record { held = evaluated d now j (scanned d now h j).held; resume = next_rung d now j (scanned d now h j).held })) (is_less j _ lt)
+
+pub gone_through : (d : Diagram) (now : ℕ) (h : Held) (j : ℕ) → (scanned d now h j).resume ≤ j → scanned d now h (j + 1) ≡ record { held = evaluated d now j (scanned d now h j).held; resume = next_rung d now j (scanned d now h j).held }
+unfolding scanned
+gone_through d now h j le =
+    ap (scanned d now h) (add-one j)
+    ∙ ap (λ b. cond b (scanned d now h j) (record { held = evaluated d now j (scanned d now h j).held; resume = next_rung d now j (scanned d now h j).held })) (is_not_less j _ le)
+
+pub at_first : (d : Diagram) (now : ℕ) (h : Held) → (scanned d now h 0).held ≡ h
+unfolding scanned
+at_first d now h = refl
+
+pub resume_first : (d : Diagram) (now : ℕ) (h : Held) → (scanned d now h 0).resume ≡ 0
+unfolding scanned
+resume_first d now h = refl
+
+pub held_same : {v w m n : List Bool} {a b : List Stored} → v ≡ w → m ≡ n → a ≡ b → held v m a ≡ held w n b
+held_same e f g = cc

@@ -1,0 +1,53 @@
+-- Every step leaves values of the signal: the relational law at the relation that the first is a value.
+use Rattle.std.proofs.Common.{ℕ, Bool, true, false, List, [], ◌∷◌, map, get_or, zero, suc, refl}
+use Rattle.ladder_scan.specs.Algebra.{Algebra, LatticeLaws}
+use Rattle.ladder_scan.specs.Truth.{plain}
+use Rattle.ladder_scan.specs.Relations.{IsKept, Both, BothFrames}
+use Rattle.ladder_scan.specs.Cells.{Diagram, Frame, Kept}
+use Rattle.ladder_scan.specs.Rung.{link, after_rung}
+use Rattle.ladder_scan.specs.SignalScan.{looked}
+use Rattle.ladder_scan.specs.Sweeping.{AreValues}
+use Rattle.ladder_scan.proofs.Kept.{link_kept, rung_kept, frames_kept}
+
+module _ {S : Type 0} (o : Algebra S) (V : S → Type 0) (l : LatticeLaws S V o) where
+  abbrev Valued : S → Bool → Type 0
+  Valued x u = V x
+
+  values_kept : IsKept o plain (λ x u. V x)
+  values_kept = record {
+    known = λ c. l.known_value c;
+    join = λ x y u v r s. l.join_value x y r s;
+    meet = λ x y u v r s. l.meet_value x y r s;
+    inverse = λ x u r. l.inverse_value x r;
+    choice = λ c x y d u v q r s. l.choice_value c x y q r s;
+  }
+
+  both_of : (d : S) (xs : List S) → ((i : ℕ) → V (get_or xs i d)) → Both (λ (x : S) (u : Bool). V x) xs (map (λ x. false) xs)
+  both_of d [] h = tt
+  both_of d (x ∷ xs) h = (h 0, both_of d xs (λ i. h (suc i)))
+
+  of_both : (d : S) → V d → (xs : List S) (vs : List Bool) → Both (λ (x : S) (u : Bool). V x) xs vs → (i : ℕ) → V (get_or xs i d)
+  of_both d vd [] vs h i = vd
+  of_both d vd (x ∷ xs) [] h i = absurd h
+  of_both d vd (x ∷ xs) (v ∷ vs) h zero = h.0
+  of_both d vd (x ∷ xs) (v ∷ vs) h (suc i) = of_both d vd xs vs h.1 i
+
+  abbrev shadow : Frame S → Frame Bool
+  shadow f = record { values = map (λ x. false) f.values; ends = map (λ x. false) f.ends }
+
+  shadowed : (f : Frame S) → AreValues o V f → BothFrames (λ (x : S) (u : Bool). V x) f (shadow f)
+  shadowed f h = (both_of (o.known false) f.values h.values, both_of (o.known false) f.ends h.ends)
+
+  pub link_value : (d : Diagram) (k : Kept) (now j : ℕ) (f : Frame S) → AreValues o V f → (e : ℕ) → V (link o d k now j f e)
+  link_value d k now j f h e = link_kept o plain (λ x u. V x) values_kept d k k now j (λ i. (refl, refl)) f (shadow f) (shadowed f h) e
+
+  pub rung_values : (d : Diagram) (k : Kept) (now j : ℕ) (guard : S) → V guard → (f : Frame S) → AreValues o V f → AreValues o V (after_rung o d k now j guard f)
+  rung_values d k now j guard vg f h =
+      let w : BothFrames (λ (x : S) (u : Bool). V x) (after_rung o d k now j guard f) (after_rung plain d k now j true (shadow f)) =
+      rung_kept o plain (λ x u. V x) values_kept d k k now j (λ i. (refl, refl)) guard true vg f (shadow f) (shadowed f h) in
+      record { values = of_both (o.known false) (l.known_value false) _ _ w.0; ends = of_both (o.known false) (l.known_value false) _ _ w.1 }
+
+  pub looked_values : (d : Diagram) (k : Kept) (now : ℕ) (f : Frame S) → AreValues o V f → (n : ℕ) → AreValues o V (looked o d k now f n).frame
+  looked_values d k now f h n =
+      let w : BothFrames (λ (x : S) (u : Bool). V x) (looked o d k now f n).frame (looked plain d k now (shadow f) n).frame = frames_kept o plain (λ x u. V x) values_kept d k now f (shadow f) (shadowed f h) n in
+      record { values = of_both (o.known false) (l.known_value false) _ _ w.0; ends = of_both (o.known false) (l.known_value false) _ _ w.1 }

@@ -1,0 +1,7 @@
+use Rattle.ladder_scan.proofs.Timers.{ton_history, tof_history}
+use Rattle.ladder_scan.proofs.Pulses.{tp_history}
+use Rattle.ladder_scan.proofs.Counters.{ctu_history, ctd_history}
+use Rattle.ladder_scan.proofs.laws.histories.Goals as goal
+
+pub returns : goal.returns
+returns c = record { ton = ton_history; tof = tof_history; tp = tp_history; ctu = ctu_history; ctd = ctd_history }

@@ -1,0 +1,20 @@
+use Rattle.std.proofs.Common.{◌∙◌, ap, sym, subst, map}
+use Rattle.ladder_vars.specs.Decls.{is_input}
+use Rattle.ladder_scan.specs.Scan.{given}
+use Rattle.ladder_scan.specs.Rung.{Held}
+use Rattle.ladder_scan.specs.Standing.{AreTimed}
+use Rattle.ladder_scan.specs.Programs.{diagram_of}
+use Rattle.ladder_scan.specs.Sweeping.{held}
+use Rattle.ladder_scan.proofs.Timed.{scanned_timed}
+use Rattle.ladder_scan.proofs.Scanned.{by_rungs}
+use Rattle.ladder_scan.proofs.scanning.scan_fields.Goals as goal
+
+pub returns-clause-held : goal.returns-clause-held
+returns-clause-held c =
+    by_rungs c.args.program.now c.requires.program c.args.now c.args.inputs.now c.args.values.now c.args.memories.now c.args.blocks.now _ _ _ _
+    (c.give.ensures ∙ ap (λ vs. given (map is_input vs) c.args.inputs.now c.args.values.now) (c.vars.ensures.value ∙ ap (λ x. x.vars) c.decls.ensures)) c.scan_rungs.ensures
+
+pub returns-clause-timed : goal.returns-clause-timed
+returns-clause-timed c = λ t.
+    subst (λ (x : Held). AreTimed c.args.now x.kept.blocks) (sym c.scan_rungs.ensures)
+    (scanned_timed (diagram_of c.args.program.now) c.args.now (held c.give.new.values c.args.memories.now c.args.blocks.now) t c.args.program.now.rungs)

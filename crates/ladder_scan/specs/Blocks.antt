@@ -1,0 +1,89 @@
+-- One step of a timer or counter (IEC 61131-3 standard function blocks). PT and PV are the preset; moments are whole milliseconds.
+-- What the standard's timing diagrams leave open is the profile's choice: at equal moments a timer with PT 0 is through at once, a rise
+-- during a pulse does nothing, a TP with PT 0 never begins, a reset or load goes before a rise, and CV stops at the ends of its range.
+use Rattle.std.specs.Prelude.{ℕ, ◌-◌, Bool, true, false, not, if◌then◌else◌, ◌&&◌, ◌||◌, nat_lt, nat_le, ℤ, pos, negsuc, ◌+ℤ◌, ◌-ℤ◌, int_lt, int_le}
+use Rattle.ladder_vars.specs.declared.decls.BlockKind.{BlockKind}
+use Rattle.ladder_vars.specs.declared.decls.BlockKind.TheVariants.{Ton, Tof, Tp, Ctu, Ctd}
+use Rattle.ladder_scan.specs.declared.block.Stored.{Stored}
+use Rattle.ladder_scan.specs.declared.block.Stored.TheVariants.{Timer, Counter}
+
+-- A timer stores the last IN, whether it runs, the moment at which it began to (0 where it doesn't run) and Q;
+-- a counter the last count input, CV and Q.
+abbrev pub q_of : Stored → Bool
+q_of (Timer last running start q) = q
+q_of (Counter last cv q) = q
+
+-- What an instance stores before its first step.
+abbrev pub new_block : BlockKind → Stored
+new_block Ton = Timer false false 0 false
+new_block Tof = Timer false false 0 false
+new_block Tp = Timer false false 0 false
+new_block Ctu = Counter false (pos 0) false
+new_block Ctd = Counter false (pos 0) false
+
+-- TON, the on-delay. IN OFF: it doesn't run, and Q is OFF. IN ON: it runs, from now on where it didn't, and Q is ON once PT has passed.
+abbrev pub ton_step : ℕ → Bool → ℕ → Bool → ℕ → Stored
+ton_step preset running start true now =
+    let since = if running then start else now in
+    Timer true true since (nat_le preset (now - since))
+ton_step preset running start false now = Timer false false 0 false
+
+-- TOF, the off-delay. IN ON: it doesn't run, and Q is ON. IN OFF: it runs from the fall of IN until PT has passed,
+-- and Q is whether it runs.
+abbrev pub tof_runs : ℕ → Bool → Bool → ℕ → ℕ → Bool
+tof_runs preset last running start now = (last || running) && nat_lt (now - (if last then now else start)) preset
+
+abbrev pub tof_step : ℕ → Bool → Bool → ℕ → Bool → ℕ → Stored
+tof_step preset last running start true now = Timer true false 0 true
+tof_step preset last running start false now =
+    let runs = tof_runs preset last running start now in
+    Timer false runs (if runs then (if last then now else start) else 0) runs
+
+-- TP, the pulse. A pulse stays until PT has passed, whatever IN does; where none stays, a rise of IN begins one. Q is whether one runs.
+abbrev pub tp_stays : ℕ → Bool → ℕ → ℕ → Bool
+tp_stays preset running start now = running && nat_lt (now - start) preset
+
+abbrev pub tp_begins : ℕ → Bool → Bool → ℕ → Bool → ℕ → Bool
+tp_begins preset last running start on now = not (tp_stays preset running start now) && (on && (not last && nat_lt 0 preset))
+
+abbrev pub tp_step : ℕ → Bool → Bool → ℕ → Bool → ℕ → Stored
+tp_step preset last running start on now =
+    let stays = tp_stays preset running start now in
+    let begins = tp_begins preset last running start on now in
+    Timer on (stays || begins) (if stays then start else (if begins then now else 0)) (stays || begins)
+
+-- CTU. R ON: CV is 0; otherwise a rise of the count input adds 1 below 32767. Q is CV >= PV.
+abbrev pub counted_up : Bool → ℤ → Bool → Bool → ℤ
+counted_up last cv on reset =
+    if reset then pos 0 else (if on && (not last && int_lt cv (pos 32767)) then cv +ℤ pos 1 else cv)
+
+-- CTD. LD ON: CV is PV; otherwise a rise of the count input takes 1 away above -32768. Q is CV <= 0.
+abbrev pub counted_down : ℕ → Bool → ℤ → Bool → Bool → ℤ
+counted_down preset last cv on load =
+    if load then pos preset else (if on && (not last && int_lt (negsuc 32767) cv) then cv -ℤ pos 1 else cv)
+
+-- The step of a block: its kind and preset, what it stored, IN or the count input, R or LD, and the moment.
+-- A timer has no second input. What isn't of the kind stays as it was; a state of a program holds no such block.
+unfoldable pub step : BlockKind → ℕ → Stored → Bool → Bool → ℕ → Stored
+step Ton preset (Timer last running start q) on second now = ton_step preset running start on now
+step Tof preset (Timer last running start q) on second now = tof_step preset last running start on now
+step Tp preset (Timer last running start q) on second now = tp_step preset last running start on now
+step Ctu preset (Timer last running start q) on second now = Timer last running start q
+step Ctd preset (Timer last running start q) on second now = Timer last running start q
+step Ctu preset (Counter last cv q) on second now =
+    let value = counted_up last cv on second in
+    Counter on value (int_le (pos preset) value)
+step Ctd preset (Counter last cv q) on second now =
+    let value = counted_down preset last cv on second in
+    Counter on value (int_le value (pos 0))
+step Ton preset (Counter last cv q) on second now = Counter last cv q
+step Tof preset (Counter last cv q) on second now = Counter last cv q
+step Tp preset (Counter last cv q) on second now = Counter last cv q
+
+-- A counter has a second input, R or LD.
+abbrev pub has_second : BlockKind → Bool
+has_second Ton = false
+has_second Tof = false
+has_second Tp = false
+has_second Ctu = true
+has_second Ctd = true

@@ -1,0 +1,161 @@
+-- What each cell of a rung reads and writes, over any signal.
+use Rattle.std.specs.Prelude.{ℕ, Bool, true, false, if◌then◌else◌, List, Option, Some, None}
+use Rattle.std.proofs.Common.{get_or, set}
+use Rattle.ladder_vars.specs.declared.decls.BlockKind.{BlockKind}
+use Rattle.ladder_grid.specs.declared.cell.Mode.{Mode}
+use Rattle.ladder_grid.specs.declared.cell.Mode.TheVariants.{Plain, Negated, Rising, Falling}
+use Rattle.ladder_grid.specs.declared.cell.CoilMode.{CoilMode}
+use Rattle.ladder_grid.specs.declared.cell.CoilMode.TheVariants as coil
+use Rattle.ladder_grid.specs.declared.cell.Operand.{Operand}
+use Rattle.ladder_grid.specs.declared.cell.Operand.TheVariants.{Var, Output}
+use Rattle.ladder_grid.specs.declared.cell.Cell.{Cell}
+use Rattle.ladder_grid.specs.declared.cell.Cell.TheVariants.{Empty, Wire, Contact, Coil, Block, Lower, Jump}
+use Rattle.ladder_scan.specs.declared.block.Stored.{Stored}
+use Rattle.ladder_scan.specs.declared.block.Stored.TheVariants.{Timer}
+use Rattle.ladder_scan.specs.Algebra.{Algebra}
+use Rattle.ladder_scan.specs.Blocks.{step, q_of, has_second}
+
+-- A program as the scan sees it. A cell goes by its rung and its place in it, 6 * column + row; past the last place it is Empty.
+pub record Diagram : Type 0 where
+  pub rungs : ℕ
+  pub cell : ℕ → ℕ → Cell
+  -- rung, column, row, from: the right link of the cell at (from, column) meets the joint group on the left of (row, column + 1)
+  pub feeds : ℕ → ℕ → ℕ → ℕ → Bool
+  -- rung, place: the cell below is the lower cell of a block and has a left link
+  pub linked : ℕ → ℕ → Bool
+  -- of an instance
+  pub kind : ℕ → BlockKind
+  pub preset : ℕ → ℕ
+  -- the place of a rung's jump and the rung that it goes to; `target` is 0 where a rung has no jump
+  pub leap : ℕ → ℕ
+  pub target : ℕ → ℕ
+  -- for each variable, whether it is an input
+  pub inputs : List Bool
+
+-- What contacts and coils see: the values of the variables, and the Q of each instance.
+pub record Frame (S : Type 0) : Type 0 where
+  pub values : List S
+  pub ends : List S
+
+-- What is kept beside the values: the memories of edge contacts and edge coils, and what each instance stores.
+pub record Kept : Type 0 where
+  pub memories : List Bool
+  pub blocks : List Stored
+
+-- What stands in a list at a number that may be missing, and the list with that entry replaced.
+abbrev pub at : {A : Type 0} → List A → Option ℕ → A → A
+at xs None otherwise = otherwise
+at xs (Some i) otherwise = get_or xs i otherwise
+
+abbrev pub put_in : {A : Type 0} → List A → Option ℕ → A → List A
+put_in xs None x = xs
+put_in xs (Some i) x = set xs i x
+
+-- A cell has at most one memory, writes at most one variable and steps at most one instance.
+abbrev pub memory_in : Cell → Option ℕ
+memory_in Empty = None
+memory_in Wire = None
+memory_in (Contact mode operand memory) = memory
+memory_in (Coil mode var memory) = memory
+memory_in (Block inst) = None
+memory_in (Lower inst linked) = None
+memory_in (Jump target) = None
+
+abbrev pub var_in : Cell → Option ℕ
+var_in Empty = None
+var_in Wire = None
+var_in (Contact mode operand memory) = None
+var_in (Coil mode var memory) = Some var
+var_in (Block inst) = None
+var_in (Lower inst linked) = None
+var_in (Jump target) = None
+
+abbrev pub block_in : Cell → Option ℕ
+block_in Empty = None
+block_in Wire = None
+block_in (Contact mode operand memory) = None
+block_in (Coil mode var memory) = None
+block_in (Block inst) = Some inst
+block_in (Lower inst linked) = None
+block_in (Jump target) = None
+
+abbrev pub is_block : Cell → Bool
+is_block Empty = false
+is_block Wire = false
+is_block (Contact mode operand memory) = false
+is_block (Coil mode var memory) = false
+is_block (Block inst) = true
+is_block (Lower inst linked) = false
+is_block (Jump target) = false
+
+-- What is read where there is no such instance.
+abbrev pub no_block : Stored
+no_block = Timer false false 0 false
+
+abbrev pub memory_of : Kept → Cell → Bool
+memory_of k c = at k.memories (memory_in c) false
+
+abbrev pub stored_of : Kept → Cell → Stored
+stored_of k c = at k.blocks (block_in c) no_block
+
+abbrev pub operand_value : {S : Type 0} → Algebra S → Frame S → Operand → S
+operand_value o f (Var var) = get_or f.values var (o.known false)
+operand_value o f (Output inst) = get_or f.ends inst (o.known false)
+
+-- How far a contact is closed, by its operand's value x and its memory m, which is the value that the operand had:
+-- `| |` where x is ON, `|/|` where it is OFF, `|P|` where it has become ON, `|N|` where it has become OFF.
+abbrev pub contact : {S : Type 0} → Algebra S → Mode → S → S → S
+contact o Plain x m = x
+contact o Negated x m = o.inverse x
+contact o Rising x m = o.meet x (o.inverse m)
+contact o Falling x m = o.meet (o.inverse x) m
+
+-- How far a cell is closed, m being its memory. Wires and coils pass their left link on. No route goes through the others.
+abbrev pub closed : {S : Type 0} → Algebra S → Frame S → S → Cell → S
+closed o f m Empty = o.known false
+closed o f m Wire = o.known true
+closed o f m (Contact mode operand memory) = contact o mode (operand_value o f operand) m
+closed o f m (Coil mode var memory) = o.known true
+closed o f m (Block inst) = o.known false
+closed o f m (Lower inst linked) = o.known false
+closed o f m (Jump target) = o.known false
+
+abbrev pub q_after : BlockKind → ℕ → Stored → ℕ → Bool → Bool → Bool
+q_after kind preset stored now first second = q_of (step kind preset stored first second now)
+
+-- The Q of a block's step over any signal: by its inputs x and y, the choice among the Qs for known inputs. A timer has no second input.
+abbrev pub q_from : {S : Type 0} → Algebra S → BlockKind → ℕ → Stored → ℕ → S → S → S
+q_from o kind preset stored now x y =
+    let q = λ (first second : Bool). o.known (q_after kind preset stored now first second) in
+    if has_second kind
+    then o.choice x (o.choice y (q true true) (q true false)) (o.choice y (q false true) (q false false))
+    else o.choice x (q true false) (q false false)
+
+-- The Q of the block in a cell, in this evaluation; other cells have none.
+abbrev pub q_here : {S : Type 0} → Algebra S → Diagram → Kept → ℕ → Cell → S → S → S
+q_here o d k now Empty x y = o.known false
+q_here o d k now Wire x y = o.known false
+q_here o d k now (Contact mode operand memory) x y = o.known false
+q_here o d k now (Coil mode var memory) x y = o.known false
+q_here o d k now (Block inst) x y = q_from o (d.kind inst) (d.preset inst) (get_or k.blocks inst no_block) now x y
+q_here o d k now (Lower inst linked) x y = o.known false
+q_here o d k now (Jump target) x y = o.known false
+
+-- What a coil writes, by its left link, its memory m, which is the link that it had, and what stands in its variable:
+-- `( )` the link, `(/)` its inverse, `(S)` ON and `(R)` OFF where the link is ON, `(P)` whether the link has become ON, `(N)` whether OFF.
+abbrev pub stored_by : {S : Type 0} → Algebra S → CoilMode → S → S → S → S
+stored_by o coil.Store link m old = link
+stored_by o coil.Inverse link m old = o.inverse link
+stored_by o coil.Set link m old = o.choice link (o.known true) old
+stored_by o coil.Reset link m old = o.choice link (o.known false) old
+stored_by o coil.Rising link m old = o.meet link (o.inverse m)
+stored_by o coil.Falling link m old = o.meet (o.inverse link) m
+
+abbrev pub coil_value : {S : Type 0} → Algebra S → Cell → S → S → S → S
+coil_value o Empty link m old = old
+coil_value o Wire link m old = old
+coil_value o (Contact mode operand memory) link m old = old
+coil_value o (Coil mode var memory) link m old = stored_by o mode link m old
+coil_value o (Block inst) link m old = old
+coil_value o (Lower inst linked) link m old = old
+coil_value o (Jump target) link m old = old

@@ -1,0 +1,16 @@
+pub mod Algebra
+pub mod Truth
+pub mod Routes
+pub mod Blocks
+pub mod Histories
+pub mod Cells
+pub mod Rung
+pub mod Scan
+pub mod SignalScan
+pub mod Relations
+pub mod Laws
+pub mod Programs
+pub mod Standing
+pub mod Sheets
+pub mod RungByRung
+pub mod Sweeping

@@ -1,0 +1,72 @@
+-- A program as the scan sees it, and what reading it has made sure of.
+use Rattle.std.specs.Prelude.{◌≡◌, ℕ, ◌+◌, ◌*◌, ◌%◌, ◌<◌, ◌≤◌, Bool, true, false, if◌then◌else◌, ◌&&◌, map, nat_lt, Option, Some, None, slice_get, slice_index_or}
+use Rattle.ladder_vars.specs.declared.decls.BlockKind.{BlockKind}
+use Rattle.ladder_vars.specs.declared.decls.BlockKind.TheVariants.{Ton}
+use Rattle.ladder_vars.specs.declared.decls.Instance.{Instance}
+use Rattle.ladder_vars.specs.Decls.{is_input, largest_preset}
+use Rattle.ladder_grid.specs.declared.cell.Cell.{Cell}
+use Rattle.ladder_grid.specs.declared.cell.Cell.TheVariants.{Empty, Wire, Contact, Coil, Block, Lower, Jump}
+use Rattle.ladder_grid.specs.Program.{Drawing, feeds, jump_of}
+use Rattle.ladder_scan.specs.Cells.{Diagram}
+use Rattle.ladder_scan.specs.Laws.{Once, Forward}
+
+abbrev pub cell_at : Drawing → ℕ → ℕ → Cell
+cell_at p rung place = if nat_lt place 60 then slice_index_or p.cells (60 * rung + place) Empty else Empty
+
+abbrev pub is_linked : Cell → Bool
+is_linked Empty = false
+is_linked Wire = false
+is_linked (Contact mode operand memory) = false
+is_linked (Coil mode var memory) = false
+is_linked (Block inst) = false
+is_linked (Lower inst linked) = linked
+is_linked (Jump target) = false
+
+-- Of an instance that isn't there, which no cell names.
+abbrev pub kind_in : Option Instance → BlockKind
+kind_in None = Ton
+kind_in (Some i) = i.kind
+
+abbrev pub preset_in : Option Instance → ℕ
+preset_in None = 0
+preset_in (Some i) = i.preset
+
+-- The place of a rung's jump, and the rung that it goes to; 0 where there is none.
+abbrev pub leap_in : Option (ℕ × ℕ × ℕ) → ℕ
+leap_in None = 0
+leap_in (Some jump) = 6 * jump.1 + jump.0
+
+abbrev pub target_in : Option (ℕ × ℕ × ℕ) → ℕ
+target_in None = 0
+target_in (Some jump) = jump.2
+
+unfoldable pub diagram_of : Drawing → Diagram
+diagram_of p = record {
+  rungs = p.rungs;
+  cell = cell_at p;
+  feeds = λ rung column row from. feeds p rung row (column + 1) from;
+  linked = λ rung place. nat_lt (place % 6) 5 && is_linked (cell_at p rung (place + 1));
+  kind = λ i. kind_in (slice_get p.decls.instances i);
+  preset = λ i. preset_in (slice_get p.decls.instances i);
+  leap = λ rung. leap_in (jump_of p rung);
+  target = λ rung. target_in (jump_of p rung);
+  inputs = map is_input p.decls.vars;
+}
+
+abbrev pub is_filled : Cell → Bool
+is_filled Empty = false
+is_filled Wire = true
+is_filled (Contact mode operand memory) = true
+is_filled (Coil mode var memory) = true
+is_filled (Block inst) = true
+is_filled (Lower inst linked) = true
+is_filled (Jump target) = true
+
+-- Presets are in range, and each memory and instance belongs to one cell; a linked lower cell stands in the column of its block; a jump
+-- stands in its rung and goes to a later one.
+pub record IsSound (d : Diagram) : Type 0 where
+  pub presets : (i : ℕ) → d.preset i ≤ largest_preset (d.kind i)
+  pub once : Once d
+  pub linked : (j place : ℕ) → d.linked j place ≡ true → (place % 6 < 5) × (is_filled (d.cell j (place + 1)) ≡ true)
+  pub forward : Forward d
+  pub leaps : (j : ℕ) → 0 < d.target j → (d.leap j < 60) × (is_filled (d.cell j (d.leap j)) ≡ true)

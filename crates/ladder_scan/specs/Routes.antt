@@ -1,0 +1,63 @@
+-- Power flow through one rung (IEC 61131-3): power flows from the left rail to the right, along routes. Rows and columns count from 0.
+use Rattle.std.specs.Prelude.{ℕ, ◌+◌, Bool, true, false, List, [], ◌∷◌, ◌++◌, map, if◌then◌else◌, ◌==◌}
+use Rattle.std.proofs.Common.{zero, suc}
+use Rattle.ladder_scan.specs.Algebra.{Algebra}
+
+-- A route: it starts at the left rail, or at the right end of the block at a row and column, and goes on through one cell a column.
+pub data Route : Type 0 where
+  rail : Route
+  block_end : ℕ → ℕ → Route
+  through : Route → ℕ → ℕ → Route
+
+-- What a rung is to the power. `feeds column row from`: the right link of the cell at (from, column) meets the joint group on the left
+-- of the cell at (row, column + 1). `is_block row column`: a block stands there. `closed row column`: how far that cell lets power
+-- through. `q row column left lower`: the Q of the block there, from its left link and that of the cell below it.
+pub record Circuit (S : Type 0) : Type 0 where
+  pub feeds : ℕ → ℕ → ℕ → Bool
+  pub is_block : ℕ → ℕ → Bool
+  pub closed : ℕ → ℕ → S
+  pub q : ℕ → ℕ → S → S → S
+
+-- The lists f 0, f 1, .. and f (n - 1), joined end to end.
+unfoldable pub gather : {A : Type 0} → (ℕ → List A) → ℕ → List A
+gather f zero = []
+gather f (suc n) = gather f n ++ f n
+
+-- The routes up to the right link of a cell: the end of the block, where one stands there, and otherwise each route to its left link
+-- with the cell added.
+abbrev pub onto : (ℕ → ℕ → Bool) → ℕ → ℕ → List Route → List Route
+onto is_block row column before =
+    if is_block row column then block_end row column ∷ [] else map (λ r. through r row column) before
+
+-- All routes to the left link of the cell at a column and row: the rail in the first column, and otherwise those up to each right link
+-- of the column before that feeds it.
+unfoldable pub routes : (ℕ → ℕ → ℕ → Bool) → (ℕ → ℕ → Bool) → ℕ → ℕ → List Route
+routes feeds is_block zero row = rail ∷ []
+routes feeds is_block (suc column) row =
+    gather (λ from. if feeds column row from then onto is_block from column (routes feeds is_block column from) else []) 6
+
+-- The OR of a list.
+unfoldable pub join_all : {S : Type 0} → Algebra S → List S → S
+join_all o [] = o.known false
+join_all o (x ∷ xs) = o.join x (join_all o xs)
+
+-- What a route carries: the AND of its start and its cells. `ends row column` is the Q of the block there.
+unfoldable pub route_value : {S : Type 0} → Algebra S → Circuit S → (ℕ → ℕ → S) → Route → S
+route_value o g ends rail = o.known true
+route_value o g ends (block_end row column) = ends row column
+route_value o g ends (through r row column) = o.meet (route_value o g ends r) (g.closed row column)
+
+-- The left link of a cell is the OR, over all routes to it, of what they carry.
+abbrev pub link_with : {S : Type 0} → Algebra S → Circuit S → (ℕ → ℕ → S) → ℕ → ℕ → S
+link_with o g ends column row = join_all o (map (route_value o g ends) (routes g.feeds g.is_block column row))
+
+-- The Qs of the blocks in the columns below n: each by its own two left links, and these by blocks of earlier columns.
+unfoldable pub ends_below : {S : Type 0} → Algebra S → Circuit S → ℕ → ℕ → ℕ → S
+ends_below o g zero row column = o.known false
+ends_below o g (suc n) row column =
+    if column == n
+    then g.q row column (link_with o g (ends_below o g n) n row) (link_with o g (ends_below o g n) n (row + 1))
+    else ends_below o g n row column
+
+abbrev pub left_link : {S : Type 0} → Algebra S → Circuit S → ℕ → ℕ → S
+left_link o g column row = link_with o g (ends_below o g column) column row

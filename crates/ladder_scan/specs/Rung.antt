@@ -1,0 +1,111 @@
+-- The evaluation of one rung: its power flow, from the values at its start, and then its effects by column, then row, each seeing what
+-- the ones before it left. First over any signal, under a guard, and then over truth values, where memories and blocks change too.
+use Rattle.std.specs.Prelude.{ℕ, ◌+◌, ◌*◌, ◌/◌, ◌%◌, Bool, false, if◌then◌else◌, List, map}
+use Rattle.std.proofs.Common.{zero, suc}
+use Rattle.ladder_grid.specs.declared.cell.Cell.{Cell}
+use Rattle.ladder_grid.specs.declared.cell.Cell.TheVariants.{Empty, Wire, Contact, Coil, Block, Lower, Jump}
+use Rattle.ladder_scan.specs.declared.block.Stored.{Stored}
+use Rattle.ladder_scan.specs.Algebra.{Algebra}
+use Rattle.ladder_scan.specs.Truth.{plain}
+use Rattle.ladder_scan.specs.Routes.{Circuit, left_link}
+use Rattle.ladder_scan.specs.Blocks.{step, q_of}
+use Rattle.ladder_scan.specs.Cells.{Diagram, Frame, Kept, at, put_in, memory_in, var_in, block_in, is_block, memory_of, stored_of, operand_value, closed, q_here, coil_value}
+
+-- A lower cell without a link has OFF.
+abbrev pub lower : {S : Type 0} → Algebra S → Bool → S → S
+lower o linked link = if linked then link else o.known false
+
+-- A rung as the power sees it, from the values, memories and blocks at its start.
+abbrev pub circuit : {S : Type 0} → Algebra S → Diagram → Kept → ℕ → ℕ → Frame S → Circuit S
+circuit o d k now j f =
+    let cell = λ (row column : ℕ). d.cell j (6 * column + row) in
+    record {
+      feeds = d.feeds j;
+      is_block = λ row column. is_block (cell row column);
+      closed = λ row column. closed o f (o.known (memory_of k (cell row column))) (cell row column);
+      q = λ row column x y. q_here o d k now (cell row column) x (lower o (d.linked j (6 * column + row)) y);
+    }
+
+-- The left link of the cell at a place of rung j.
+abbrev pub link : {S : Type 0} → Algebra S → Diagram → Kept → ℕ → ℕ → Frame S → ℕ → S
+link o d k now j f place = left_link o (circuit o d k now j f) (place / 6) (place % 6)
+
+-- The second input of the block at a place, where these are the left links of the rung.
+abbrev pub second : {S : Type 0} → Algebra S → Diagram → ℕ → (ℕ → S) → ℕ → S
+second o d j links place = lower o (d.linked j place) (links (place + 1))
+
+-- ---- over any signal
+
+-- What a cell with left link x and second input y leaves: each single write is the choice, by the rung's guard, between the new value
+-- and what stands there. Memories and blocks are those of the stored state, since no element is evaluated twice in a scan.
+abbrev pub written : {S : Type 0} → Algebra S → Diagram → Kept → ℕ → S → Cell → S → S → Frame S → Frame S
+written o d k now guard c x y f =
+    let value = at f.values (var_in c) (o.known false) in
+    let end = at f.ends (block_in c) (o.known false) in
+    record {
+      values = put_in f.values (var_in c) (o.choice guard (coil_value o c x (o.known (memory_of k c)) value) value);
+      ends = put_in f.ends (block_in c) (o.choice guard (q_here o d k now c x y) end);
+    }
+
+-- After the cells at the places below n.
+unfoldable pub effects : {S : Type 0} → Algebra S → Diagram → Kept → ℕ → ℕ → S → (ℕ → S) → ℕ → Frame S → Frame S
+effects o d k now j guard links zero f = f
+effects o d k now j guard links (suc n) f =
+    written o d k now guard (d.cell j n) (links n) (second o d j links n) (effects o d k now j guard links n f)
+
+abbrev pub after_rung : {S : Type 0} → Algebra S → Diagram → Kept → ℕ → ℕ → S → Frame S → Frame S
+after_rung o d k now j guard f = effects o d k now j guard (link o d k now j f) 60 f
+
+-- ---- over truth values
+
+-- What a scan changes.
+pub record Held : Type 0 where
+  pub values : List Bool
+  pub kept : Kept
+
+abbrev pub frame_of : Held → Frame Bool
+frame_of h = record { values = h.values; ends = map q_of h.kept.blocks }
+
+-- What the memory of a cell becomes: of a contact, its operand's value at the rung's start, whatever its left link; of a coil, its link.
+abbrev pub remembered : Frame Bool → Bool → Cell → Bool
+remembered start x Empty = x
+remembered start x Wire = x
+remembered start x (Contact mode operand memory) = operand_value plain start operand
+remembered start x (Coil mode var memory) = x
+remembered start x (Block inst) = x
+remembered start x (Lower inst linked) = x
+remembered start x (Jump target) = x
+
+-- What the instance of a cell stores then: of a block, that of its step.
+abbrev pub stepped : Diagram → ℕ → Cell → Stored → Bool → Bool → Stored
+stepped d now Empty s x y = s
+stepped d now Wire s x y = s
+stepped d now (Contact mode operand memory) s x y = s
+stepped d now (Coil mode var memory) s x y = s
+stepped d now (Block inst) s x y = step (d.kind inst) (d.preset inst) s x y now
+stepped d now (Lower inst linked) s x y = s
+stepped d now (Jump target) s x y = s
+
+-- What a cell with left link x and second input y leaves, in a rung that began with the frame `start`.
+abbrev pub changed : Diagram → ℕ → Frame Bool → Cell → Bool → Bool → Held → Held
+changed d now start c x y h =
+    record {
+      values = put_in h.values (var_in c) (coil_value plain c x (memory_of h.kept c) (at h.values (var_in c) false));
+      kept = record {
+        memories = put_in h.kept.memories (memory_in c) (remembered start x c);
+        blocks = put_in h.kept.blocks (block_in c) (stepped d now c (stored_of h.kept c) x y);
+      };
+    }
+
+-- After the cells at the places below n.
+unfoldable pub changes : Diagram → ℕ → ℕ → Frame Bool → (ℕ → Bool) → ℕ → Held → Held
+changes d now j start links zero h = h
+changes d now j start links (suc n) h =
+    changed d now start (d.cell j n) (links n) (second plain d j links n) (changes d now j start links n h)
+
+abbrev pub link_at : Diagram → ℕ → ℕ → Held → ℕ → Bool
+link_at d now j h = link plain d h.kept now j (frame_of h)
+
+-- Rung j evaluated.
+abbrev pub evaluated : Diagram → ℕ → ℕ → Held → Held
+evaluated d now j h = changes d now j (frame_of h) (link_at d now j h) 60 h

@@ -1,0 +1,46 @@
+-- The scan over any signal. A jump may be taken at one place of a signal and not at another, so every rung is evaluated, each under a
+-- guard: where the guard allows ON, the rung may be evaluated, and where it allows OFF, passed over.
+use Rattle.std.specs.Prelude.{ℕ, Bool, true, false, if◌then◌else◌, List, [], ◌∷◌, ◌++◌, map, nat_lt}
+use Rattle.std.proofs.Common.{get_or, zero, suc}
+use Rattle.ladder_scan.specs.Algebra.{Algebra}
+use Rattle.ladder_scan.specs.Blocks.{q_of}
+use Rattle.ladder_scan.specs.Cells.{Diagram, Frame, Kept}
+use Rattle.ladder_scan.specs.Rung.{link, after_rung, Held}
+use Rattle.ladder_scan.specs.Scan.{given}
+
+-- The AND of f i over the numbers i below n that pass the test; ON where none does.
+unfoldable pub meet_where : {S : Type 0} → Algebra S → (ℕ → Bool) → (ℕ → S) → ℕ → S
+meet_where o passes f zero = o.known true
+meet_where o passes f (suc n) = if passes n then o.meet (meet_where o passes f n) (f n) else meet_where o passes f n
+
+-- After some rungs: the values and Qs, and for each of these rungs whether its jump is taken (OFF where it has none).
+pub record Looked (S : Type 0) : Type 0 where
+  pub frame : Frame S
+  pub taken : List S
+
+-- The guard of rung j: the AND, over the earlier rungs with a jump that passes over j, of NOT that this jump is taken.
+abbrev pub guard_of : {S : Type 0} → Algebra S → Diagram → List S → ℕ → S
+guard_of o d taken j = meet_where o (λ i. nat_lt j (d.target i)) (λ i. o.inverse (get_or taken i (o.known false))) j
+
+-- A jump is taken where its rung is evaluated and its left link is ON.
+abbrev pub taken_at : {S : Type 0} → Algebra S → Diagram → Kept → ℕ → S → ℕ → Frame S → S
+taken_at o d k now guard j f = if nat_lt 0 (d.target j) then o.meet guard (link o d k now j f (d.leap j)) else o.known false
+
+abbrev pub looked_more : {S : Type 0} → Algebra S → Diagram → Kept → ℕ → ℕ → Looked S → Looked S
+looked_more o d k now j s =
+    let guard = guard_of o d s.taken j in
+    record { frame = after_rung o d k now j guard s.frame; taken = s.taken ++ (taken_at o d k now guard j s.frame ∷ []) }
+
+-- After the first n rungs.
+unfoldable pub looked : {S : Type 0} → Algebra S → Diagram → Kept → ℕ → Frame S → ℕ → Looked S
+looked o d k now f zero = record { frame = f; taken = [] }
+looked o d k now f (suc j) = looked_more o d k now j (looked o d k now f j)
+
+-- What the rungs begin with: the given inputs, and all that is stored, which is known.
+abbrev pub look_frame : {S : Type 0} → Algebra S → Diagram → List S → Held → Frame S
+look_frame o d inputs h =
+    record { values = given d.inputs inputs (map o.known h.values); ends = map (λ b. o.known (q_of b)) h.kept.blocks }
+
+-- The values of the variables after one scan over the signal.
+abbrev pub after_look : {S : Type 0} → Algebra S → Diagram → ℕ → List S → Held → List S
+after_look o d now inputs h = (looked o d h.kept now (look_frame o d inputs h) d.rungs).frame.values

@@ -1,0 +1,204 @@
+ghost use Rattle.std.specs.Prelude.{◌≡◌, ◌≤◌};
+ghost use Rattle.ladder_vars.specs.Decls.{largest_preset};
+ghost use Rattle.ladder_scan.specs.Blocks.{step, q_of, new_block, ton_step, tof_step, tp_step, counted_up, counted_down, has_second};
+
+use ladder_vars::BlockKind;
+
+/// What an instance keeps from step to step.
+#[derive(Clone, Copy, Debug, PartialEq, Eq)]
+pub enum Stored {
+    /// The last IN, whether it runs, the moment at which it began to (0 where it does not run), and Q.
+    Timer {
+        last: bool,
+        running: bool,
+        start: u64,
+        q: bool,
+    },
+    /// The last count input, the counted value, and Q.
+    Counter {
+        last: bool,
+        cv: i16,
+        q: bool,
+    },
+}
+
+impl Stored {
+    pub(crate) fn new(kind: BlockKind) -> Stored
+        ensures { result ≡ new_block kind }
+    {
+        match kind {
+            BlockKind::Ton | BlockKind::Tof | BlockKind::Tp => Stored::Timer {
+                last: false,
+                running: false,
+                start: 0,
+                q: false,
+            },
+            BlockKind::Ctu | BlockKind::Ctd => Stored::Counter {
+                last: false,
+                cv: 0,
+                q: false,
+            },
+        }
+    }
+
+    pub(crate) fn q(self) -> bool
+        ensures { result ≡ q_of self }
+    {
+        match self {
+            Stored::Timer { q, .. } | Stored::Counter { q, .. } => q,
+        }
+    }
+}
+
+fn ton(preset: u64, running: bool, start: u64, on: bool, now: u64) -> Stored
+    ensures { result ≡ ton_step preset running start on now }
+{
+    if on {
+        let start = if running { start } else { now };
+        Stored::Timer {
+            last: true,
+            running: true,
+            start,
+            q: preset <= now.saturating_sub(start),
+        }
+    } else {
+        Stored::Timer {
+            last: false,
+            running: false,
+            start: 0,
+            q: false,
+        }
+    }
+}
+
+fn tof(preset: u64, last: bool, running: bool, start: u64, on: bool, now: u64) -> Stored
+    ensures { result ≡ tof_step preset last running start on now }
+{
+    if on {
+        return Stored::Timer {
+            last: true,
+            running: false,
+            start: 0,
+            q: true,
+        };
+    }
+    let start = if last { now } else { start };
+    let runs = (last | running) & (now.saturating_sub(start) < preset);
+    Stored::Timer {
+        last: false,
+        running: runs,
+        start: if runs { start } else { 0 },
+        q: runs,
+    }
+}
+
+fn tp(preset: u64, last: bool, running: bool, start: u64, on: bool, now: u64) -> Stored
+    ensures { result ≡ tp_step preset last running start on now }
+{
+    let stays = running & (now.saturating_sub(start) < preset);
+    let begins = !stays & on & !last & (0 < preset);
+    let start = if stays {
+        start
+    } else if begins {
+        now
+    } else {
+        0
+    };
+    let runs = stays | begins;
+    Stored::Timer {
+        last: on,
+        running: runs,
+        start,
+        q: runs,
+    }
+}
+
+fn counted_up(last: bool, cv: i16, on: bool, reset: bool) -> i16
+    ensures { result ≡ counted_up last cv on reset }
+{
+    if reset {
+        0
+    } else if on && !last && cv < i16::MAX {
+        cv + 1
+    } else {
+        cv
+    }
+}
+
+fn counted_down(preset: u16, last: bool, cv: i16, on: bool, load: bool) -> i16
+    requires { preset ≤ 32767 }
+    ensures { result ≡ counted_down preset last cv on load }
+{
+    if load {
+        preset as i16
+    } else if on && !last && cv > i16::MIN {
+        cv - 1
+    } else {
+        cv
+    }
+}
+
+pub(crate) fn has_second(kind: BlockKind) -> bool
+    ensures { result ≡ has_second kind }
+{
+    matches!(kind, BlockKind::Ctu | BlockKind::Ctd)
+}
+
+/// The step of a block: `first` is IN or the count input, `second` a counter's R or LD.
+#[tactic(auto, unfolding(crate::specs::Blocks::step))]
+pub(crate) fn step(
+    kind: BlockKind,
+    preset: u32,
+    stored: Stored,
+    first: bool,
+    second: bool,
+    now: u64,
+) -> Stored
+    requires { preset ≤ largest_preset kind }
+    ensures { result ≡ step kind preset stored first second now }
+{
+    match (kind, stored) {
+        (BlockKind::Ton, Stored::Timer { running, start, .. }) => ton(
+            u64::from(preset),
+            running,
+            start,
+            first,
+            now,
+        ),
+        (
+            BlockKind::Tof,
+            Stored::Timer {
+                last,
+                running,
+                start,
+                ..
+            },
+        ) => tof(u64::from(preset), last, running, start, first, now),
+        (
+            BlockKind::Tp,
+            Stored::Timer {
+                last,
+                running,
+                start,
+                ..
+            },
+        ) => tp(u64::from(preset), last, running, start, first, now),
+        (BlockKind::Ctu, Stored::Counter { last, cv, .. }) => {
+            let cv = counted_up(last, cv, first, second);
+            Stored::Counter {
+                last: first,
+                cv,
+                q: i64::from(preset) <= i64::from(cv),
+            }
+        }
+        (BlockKind::Ctd, Stored::Counter { last, cv, .. }) => {
+            let cv = counted_down(preset as u16, last, cv, first, second);
+            Stored::Counter {
+                last: first,
+                cv,
+                q: cv <= 0,
+            }
+        }
+        _ => stored,
+    }
+}

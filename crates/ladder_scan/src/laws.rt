@@ -1,0 +1,48 @@
+//! Laws over the definitions: each function does nothing, and its contract is the law.
+ghost use Rattle.ladder_scan.specs.Relations.{IsKept};
+ghost use Rattle.ladder_scan.specs.Laws.{LookKeeps, LookIsScan, FollowsJumps};
+ghost use Rattle.ladder_scan.specs.Programs.{diagram_of};
+ghost use Rattle.ladder_scan.specs.Histories.{TonHistory, TofHistory, TpHistory, CtuHistory, CtdHistory};
+
+use crate::signal::Signal;
+use crate::sweep::checked;
+use ladder_grid::Program;
+
+/// A relation between the values of two signals, one for each value of `Self`, that `known` and every operation keep.
+pub trait Relation {
+    type Left: Signal;
+
+    type Right: Signal;
+
+    ghost related: { Self → Self.Left → Self.Right → Type 0 };
+
+    ghost kept: { (at : Self) → IsKept Self.Left.algebra Self.Right.algebra (related at) };
+}
+
+/// The whole scan keeps each relation: from related inputs come related values.
+pub fn related<R: Relation>()
+    ensures { (at : R) → LookKeeps R.Left.algebra R.Right.algebra (R.related at) }
+{}
+
+/// What timers and counters answer after any list of steps.
+pub fn histories()
+    ensures ton { TonHistory }
+    ensures tof { TofHistory }
+    ensures tp { TpHistory }
+    ensures ctu { CtuHistory }
+    ensures ctd { CtdHistory }
+{}
+
+/// Over truth values a look leaves the values that a scan leaves.
+pub fn look_is_scan(program: &Program)
+    ensures { LookIsScan (diagram_of program.now) }
+{
+    checked(program);
+}
+
+/// What a scan leaves is what the evaluation of its rungs leaves, one after the other along the jumps that are taken.
+pub fn scan_follows_jumps(program: &Program)
+    ensures { FollowsJumps (diagram_of program.now) }
+{
+    checked(program);
+}
