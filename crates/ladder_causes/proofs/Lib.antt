@@ -1,0 +1,4 @@
+pub mod SourceLaws
+pub mod Asking
+pub mod Numbers
+pub mod Refusals
