@@ -1,4 +1,7 @@
+pub mod Block
 pub mod Calls
+pub mod CauseText
+pub mod Limit
 pub mod Log
 pub mod Pieces
 pub mod Reading

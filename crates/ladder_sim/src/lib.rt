@@ -1,6 +1,8 @@
 //! Readers and writers that count their calls, and the texts that go through them.
 #![tactic(auto)]
 
+mod block;
+mod cause_text;
 mod fault;
 mod pieces;
 mod sink;
@@ -8,6 +10,7 @@ mod source;
 mod tally;
 mod text;
 
+pub use cause_text::{Summary, write_causes};
 pub use fault::{TextFault, WriteFault};
 pub use pieces::{Piece, put_pieces};
 pub use sink::{Sink, WriteFailed, Writing, put};

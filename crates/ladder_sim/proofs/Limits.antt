@@ -1,0 +1,54 @@
+-- One cause more of a limited list.
+use Rattle.std.proofs.Common.{◌≡◌, ◌≢◌, ◌∙◌, ◌+◌, ◌-◌, ◌≤◌, ℕ, suc, List, [], ◌∷◌, ◌++◌, Option, Some, None, take, sym, refl, ap, append_assoc, arith, length}
+use Rattle.std.specs.Prelude.{IfSome}
+use Rattle.ladder_sim.specs.CauseText.{limited, row, rows}
+use Rattle.ladder_sim.specs.Block.{SendsAll}
+use Rattle.ladder_sim.specs.Limit.{limit_left}
+use Rattle.ladder_sim.specs.Log.{PutsFront, WriteLog}
+use Rattle.ladder_sim.proofs.Sending.{sends_front, sends_more}
+
+pub limited_next : (limit : Option ℕ) (count : ℕ) (xs : List ℕ) (n : ℕ) (rest : List ℕ) → xs ≡ n ∷ rest → limit ≢ Some count → IfSome limit (λ m. count ≤ m)
+    → limited (limit_left limit count) xs ≡ n ∷ limited (limit_left limit (count + 1)) rest
+limited_next None count xs n rest e d h = e
+limited_next (Some m) count xs n rest e d h =
+    let other : m ≢ count = λ q. d (ap (λ (x : ℕ). Some x) q) in
+    let k : m - count ≡ suc (m - (count + 1)) = omega (arith, other) in
+    rw (e, k) refl
+
+pub below : (limit : Option ℕ) (count : ℕ) → limit ≢ Some count → IfSome limit (λ m. count ≤ m) → IfSome limit (λ m. count + 1 ≤ m)
+below None count d h = tt
+below (Some m) count d h = let other : m ≢ count = λ q. d (ap (λ (x : ℕ). Some x) q) in omega (arith, other)
+
+-- So many rows of the whole list were added, and this is left of it.
+pub record Added (a b : WriteLog) (waited waits : List ℕ) (k count : ℕ) (limit : Option ℕ) (whole left : List ℕ) : Type 0 where
+  pub done : List ℕ
+  pub split : rows k whole ≡ done ++ rows k left
+  pub sent : SendsAll a b waited waits done
+  pub counted : count + length left ≡ length whole
+  pub within : IfSome limit (λ m. count ≤ m)
+
+-- one row more
+pub added_more : (a b c : WriteLog) (w0 w1 w2 : List ℕ) (k count : ℕ) (limit : Option ℕ) (whole xs : List ℕ) (n : ℕ) (rest : List ℕ)
+    → Added a b w0 w1 k count limit whole (limited (limit_left limit count) xs) → xs ≡ n ∷ rest → limit ≢ Some count → SendsAll b c w1 w2 (row k n)
+    → Added a c w0 w2 k (count + 1) limit whole (limited (limit_left limit (count + 1)) rest)
+added_more a b c w0 w1 w2 k count limit whole xs n rest so_far first short sent =
+    let next = limited_next limit count xs n rest first short so_far.within in
+    let left = limited (limit_left limit (count + 1)) rest in
+    let counts : count + suc (length left) ≡ length whole = ap (λ ys. count + length ys) (sym next) ∙ so_far.counted in
+    record {
+      done = so_far.done ++ row k n;
+      split = so_far.split ∙ ap (λ ys. so_far.done ++ rows k ys) next ∙ sym (append_assoc so_far.done (row k n) (rows k left));
+      sent = sends_more a b c w0 w1 w2 so_far.done (row k n) so_far.sent sent;
+      counted = omega (arith, counts);
+      within = below limit count short so_far.within;
+    }
+
+-- a row that is cut off
+pub added_front : (a b c : WriteLog) (w0 w1 : List ℕ) (k count : ℕ) (limit : Option ℕ) (whole xs : List ℕ) (n : ℕ) (rest : List ℕ)
+    → Added a b w0 w1 k count limit whole (limited (limit_left limit count) xs) → xs ≡ n ∷ rest → limit ≢ Some count → PutsFront b c (w1 ++ row k n)
+    → PutsFront a c (w0 ++ rows k whole)
+added_front a b c w0 w1 k count limit whole xs n rest so_far first short failed =
+    let next = limited_next limit count xs n rest first short so_far.within in
+    let left = limited (limit_left limit (count + 1)) rest in
+    sends_front a b c w0 w1 (rows k whole) so_far.done (row k n) (rows k left)
+    (so_far.split ∙ ap (λ ys. so_far.done ++ rows k ys) next) so_far.sent failed

@@ -1,0 +1,58 @@
+-- Texts that are written through a buffer, one after the other.
+use Rattle.std.proofs.Common.{◌≡◌, ◌∙◌, ℕ, List, [], ◌∷◌, ◌++◌, sym, ap, append_assoc, append-nil, length, take, drop, get_or, ◌+◌, ◌<◌, add-one, take-suc, Result, Ok, Err}
+use Rattle.std.proofs.lemmas.List.{take-append-drop}
+use Rattle.ladder_sim.specs.Block.{Sends, SendsAll}
+use Rattle.ladder_sim.specs.Log.{PutsFront, WriteLog}
+use Rattle.ladder_sim.proofs.Puts.{front_after, puts_more, puts_none}
+
+pub sends_none : (a : WriteLog) (waited : List ℕ) → SendsAll a a waited waited []
+sends_none a waited = record { sent = []; cut = append-nil waited; wrote = puts_none a }
+
+pub sends_more : (a b c : WriteLog) (w0 w1 w2 text more : List ℕ) → SendsAll a b w0 w1 text → SendsAll b c w1 w2 more → SendsAll a c w0 w2 (text ++ more)
+sends_more a b c w0 w1 w2 text more p q = record {
+  sent = p.sent ++ q.sent;
+  cut =
+      sym (append_assoc w0 text more)
+      ∙ ap (λ x. x ++ more) p.cut
+      ∙ append_assoc p.sent w1 more
+      ∙ ap (λ x. p.sent ++ x) q.cut
+      ∙ sym (append_assoc p.sent q.sent w2);
+  wrote = puts_more a b c p.sent q.sent p.wrote q.wrote;
+}
+
+pub sends_same : (a b : WriteLog) (w0 w1 text other : List ℕ) → text ≡ other → SendsAll a b w0 w1 text → SendsAll a b w0 w1 other
+sends_same a b w0 w1 text other e p = record { sent = p.sent; cut = rw (← e) p.cut; wrote = p.wrote }
+
+-- a write that fails in the next part leaves a front of the whole
+pub sends_front : (a b c : WriteLog) (w0 w1 whole text more after : List ℕ) → whole ≡ text ++ (more ++ after) → SendsAll a b w0 w1 text → PutsFront b c (w1 ++ more)
+    → PutsFront a c (w0 ++ whole)
+sends_front a b c w0 w1 whole text more after e p q =
+    let cut : w0 ++ whole ≡ (p.sent ++ (w1 ++ more)) ++ after =
+    ap (λ x. w0 ++ x) e
+    ∙ sym (append_assoc w0 text (more ++ after))
+    ∙ ap (λ x. x ++ (more ++ after)) p.cut
+    ∙ append_assoc p.sent w1 (more ++ after)
+    ∙ ap (λ x. p.sent ++ x) (sym (append_assoc w1 more after))
+    ∙ sym (append_assoc p.sent (w1 ++ more) after) in
+    front_after a b c (w0 ++ whole) p.sent (w1 ++ more) after cut p.wrote q
+
+pub take_more : (p : List ℕ) (i : ℕ) → i < length p → take (i + 1) p ≡ take i p ++ (get_or p i 0 ∷ [])
+take_more p i h = rw (add-one i) (take-suc p i 0 h)
+
+pub cut_at : (p : List ℕ) (i : ℕ) → i < length p → p ≡ take i p ++ ((get_or p i 0 ∷ []) ++ drop (i + 1) p)
+cut_at p i h =
+    sym (take-append-drop (i + 1) p)
+    ∙ ap (λ x. x ++ drop (i + 1) p) (take_more p i h)
+    ∙ append_assoc (take i p) (get_or p i 0 ∷ []) (drop (i + 1) p)
+
+-- the last part of a text
+pub sends_last : {T E : Type 0} (a b c : WriteLog) (w0 w1 w2 whole text more : List ℕ) (r : Result T E) → whole ≡ text ++ more → SendsAll a b w0 w1 text
+    → Sends b c w1 w2 r more → Sends a c w0 w2 r whole
+sends_last a b c w0 w1 w2 whole text more (Ok x) e p q = sends_same a c w0 w2 (text ++ more) whole (sym e) (sends_more a b c w0 w1 w2 text more p q)
+sends_last a b c w0 w1 w2 whole text more (Err x) e p q =
+    sends_front a b c w0 w1 whole text more [] (e ∙ ap (λ t. text ++ t) (sym (append-nil more))) p q
+
+-- what waits is not written to its end
+pub flush_front : (a b c : WriteLog) (w1 whole : List ℕ) → SendsAll a b [] w1 whole → PutsFront b c w1 → PutsFront a c whole
+flush_front a b c w1 whole p q =
+    front_after a b c whole p.sent w1 [] (p.cut ∙ sym (append-nil (p.sent ++ w1))) p.wrote q

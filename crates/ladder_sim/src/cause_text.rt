@@ -1,0 +1,195 @@
+//! The text of a list of causes.
+ghost use Rattle.std.specs.Prelude.{◌≡◌, ◌≢◌, ◌<◌, ◌≤◌, ◌++◌, ◌^◌, IfOk, Some, codes, false, length, map, slice_get, true};
+ghost use Rattle.ladder_causes.specs.Assignment.{bit_of};
+ghost use Rattle.ladder_sim.specs.Block.{Sends};
+ghost use Rattle.ladder_sim.specs.CauseText.{behind_commas, bit_text, bits, cause_text, header, limited, name_in, row, rows};
+ghost use Rattle.ladder_sim.specs.Log.{Puts};
+
+use super::block::Block;
+use super::fault::WriteFault;
+use super::sink::Sink;
+use ladder_causes::Causes;
+use ladder_grid::Program;
+use ladder_vars::Decls;
+
+/// How a variable is spelled where it is declared.
+fn name_bytes(decls: &Decls, var: usize) -> &[u8]
+    ensures { result.now ≡ name_in (slice_get decls.now.vars var) }
+{
+    match decls.vars().get(var) {
+        Some(var) => var.name.bytes(),
+        None => b"",
+    }
+}
+
+fn add_name<W: Sink>(
+    block: &mut Block,
+    decls: &Decls,
+    var: usize,
+    writer: &mut W,
+) -> Result<(), WriteFault>
+    ensures { Sends (W.log writer.old) (W.log writer.new) block.old block.new result (codes "," ++ name_in (slice_get decls.now.vars var)) }
+{
+    let Ok(()) = block.add(b",", writer) else {
+        return Err(WriteFault);
+    };
+    block.add(name_bytes(decls, var), writer)
+}
+
+fn add_names<W: Sink>(
+    block: &mut Block,
+    decls: &Decls,
+    listed: &[usize],
+    writer: &mut W,
+) -> Result<(), WriteFault>
+    ensures { Sends (W.log writer.old) (W.log writer.new) block.old block.new result (behind_commas (map (λ v. name_in (slice_get decls.now.vars v)) listed.now)) }
+{
+    for var in listed {
+        let Ok(()) = add_name(block, decls, *var, writer) else {
+            return Err(WriteFault);
+        };
+    }
+    Ok(())
+}
+
+fn add_header<W: Sink>(
+    block: &mut Block,
+    program: &Program,
+    listed: &[usize],
+    writer: &mut W,
+) -> Result<(), WriteFault>
+    ensures { Sends (W.log writer.old) (W.log writer.new) block.old block.new result (header program.now listed.now) }
+{
+    let Ok(()) = block.add(b"number", writer) else {
+        return Err(WriteFault);
+    };
+    let Ok(()) = add_names(block, program.decls(), listed, writer) else {
+        return Err(WriteFault);
+    };
+    block.add(b"\n", writer)
+}
+
+fn add_bit<W: Sink>(block: &mut Block, bit: bool, writer: &mut W) -> Result<(), WriteFault>
+    ensures { Sends (W.log writer.old) (W.log writer.new) block.old block.new result (codes "," ++ bit_text bit) }
+{
+    if bit {
+        block.add(b",1", writer)
+    } else {
+        block.add(b",0", writer)
+    }
+}
+
+/// The bit of the i-th of `listed` inputs.
+fn bit_of(listed: usize, place: usize, number: u64) -> bool
+    requires { (place < listed) × (listed ≤ 64) }
+    ensures { result ≡ bit_of listed place number }
+{
+    (number >> (listed - (place + 1))) & 1 == 1
+}
+
+fn add_bits<W: Sink>(
+    block: &mut Block,
+    listed: usize,
+    number: u64,
+    writer: &mut W,
+) -> Result<(), WriteFault>
+    requires { listed ≤ 64 }
+    ensures { Sends (W.log writer.old) (W.log writer.new) block.old block.new result (behind_commas (bits listed number listed)) }
+{
+    for place in 0..listed {
+        let Ok(()) = add_bit(block, bit_of(listed, place, number), writer) else {
+            return Err(WriteFault);
+        };
+    }
+    Ok(())
+}
+
+/// Adds the row of a number.
+fn add_row<W: Sink>(
+    block: &mut Block,
+    listed: usize,
+    number: u64,
+    writer: &mut W,
+) -> Result<(), WriteFault>
+    requires { listed ≤ 64 }
+    ensures { Sends (W.log writer.old) (W.log writer.new) block.old block.new result (row listed number) }
+{
+    let Ok(()) = block.add_number(number, writer) else {
+        return Err(WriteFault);
+    };
+    let Ok(()) = add_bits(block, listed, number, writer) else {
+        return Err(WriteFault);
+    };
+    block.add(b"\n", writer)
+}
+
+/// How much of a list was written.
+#[derive(Clone, Copy, Debug, PartialEq, Eq)]
+pub struct Summary {
+    /// The rows behind the header.
+    pub rows: u64,
+}
+
+fn is_reached(limit: Option<u64>, rows: u64) -> bool
+    ensures yes { result ≡ true → limit ≡ Some rows }
+    ensures no { result ≡ false → limit ≢ Some rows }
+{
+    match limit {
+        Some(most) => most == rows,
+        None => false,
+    }
+}
+
+/// Adds the rows that are left, or the first of them, and answers how many.
+fn add_rows<W: Sink>(
+    block: &mut Block,
+    causes: &mut Causes<'_>,
+    listed: usize,
+    limit: Option<u64>,
+    writer: &mut W,
+) -> Result<u64, WriteFault>
+    requires listed { listed ≤ 64 }
+    requires finite { length causes.old.rest < 2 ^ 64 }
+    ensures sends { Sends (W.log writer.old) (W.log writer.new) block.old block.new result (rows listed (limited limit causes.old.rest)) }
+    ensures count { IfOk result (λ n. n ≡ length (limited limit causes.old.rest)) }
+{
+    let mut count = 0u64;
+    loop {
+        if is_reached(limit, count) {
+            return Ok(count);
+        }
+        let Some(number) = causes.next() else {
+            return Ok(count);
+        };
+        let Ok(()) = add_row(block, listed, number, writer) else {
+            return Err(WriteFault);
+        };
+        count += 1;
+    }
+}
+
+/// Writes the text of the causes that are left, or of the first ones where there is a limit. It takes no memory.
+///
+/// After a fault, what was written is a front of that text, and the cursor may have given causes that were not written
+/// in full; one goes on after the last whole row.
+pub fn write_causes<W: Sink>(
+    causes: &mut Causes<'_>,
+    limit: Option<u64>,
+    writer: &mut W,
+) -> Result<Summary, WriteFault>
+    ensures bytes { Puts (W.log writer.old) (W.log writer.new) result (cause_text causes.old.program causes.old.listed (limited limit causes.old.rest)) }
+    ensures rows { IfOk result (λ s. s.rows ≡ length (limited limit causes.old.rest)) }
+{
+    let mut block = Block::new();
+    let listed = causes.free().len();
+    let Ok(()) = add_header(&mut block, causes.program(), causes.free(), writer) else {
+        return Err(WriteFault);
+    };
+    let Ok(rows) = add_rows(&mut block, causes, listed, limit, writer) else {
+        return Err(WriteFault);
+    };
+    let Ok(()) = block.flush(writer) else {
+        return Err(WriteFault);
+    };
+    Ok(Summary { rows })
+}
