@@ -1,16 +1,34 @@
-# The toolchain's command is `rt`; nothing else is needed, and nothing is fetched.
+# The toolchain's command `rt` proves, builds and tests; nothing else is needed, and nothing is fetched.
 PREFIX ?= /usr/local
 PROGRAM := crates/ladder/out/ladder
+SOURCES := crates.txt $(shell find crates -path '*/out' -prune -o -type f -print)
 
 .PHONY: all run test bench install clean
 
 all: bin/ladder
 
-# Proves what changed, and leaves the program at bin/ladder.
-bin/ladder: $(shell find crates -path '*/out' -prune -o -type f -print) crates.txt
-	cd crates/ladder && rt run >/dev/null
+# Proves what changed, and builds.
+bin/ladder: $(SOURCES)
+	cd crates/ladder && rt run -- causes data/motor.ld Motor Start Stop
 	mkdir -p bin
 	cp $(PROGRAM) bin/ladder
+
+# The stored example: which inputs switch the motor on.
+run: bin/ladder
+	cd crates/ladder/data && ../../../bin/ladder causes motor.ld Motor Start Stop
+
+# The gate, from nothing, and then the built program as a user runs it.
+test:
+	rt ci
+	$(MAKE) bin/ladder
+	python3 tests/end_to_end.py bin/ladder
+
+# Timings; they prove nothing and fail nothing.
+bench: bin/ladder
+	python3 bench/bench.py bin/ladder
+
+install: bin/ladder
+	install -D -m 755 bin/ladder $(DESTDIR)$(PREFIX)/bin/ladder
 
 clean:
 	rm -rf bin crates/*/out

@@ -21,14 +21,29 @@ fn lines() -> [(ToolFault, &'static [u8]); 12] {
         line: 14,
     };
     [
-        (ToolFault::Grid(GridFault::Vars(duplicate)), b"fault V4 line 7\n"),
+        (
+            ToolFault::Grid(GridFault::Vars(duplicate)),
+            b"fault V4 line 7\n",
+        ),
         (ToolFault::Grid(GridFault::Vars(memory)), b"fault V9\n"),
         (ToolFault::Grid(label), b"fault G13 rung 2 line 14\n"),
         (ToolFault::Cause(CauseFault::NotACoil), b"fault C2\n"),
-        (ToolFault::Text(TextKind::Program, TextFault::Read), b"fault X1 program\n"),
-        (ToolFault::Text(TextKind::State, TextFault::TooLong), b"fault X5 state\n"),
-        (ToolFault::Text(TextKind::Stimulus, TextFault::Read), b"fault X1 stimulus\n"),
-        (ToolFault::Text(TextKind::State, TextFault::Memory), b"fault X7\n"),
+        (
+            ToolFault::Text(TextKind::Program, TextFault::Read),
+            b"fault X1 program\n",
+        ),
+        (
+            ToolFault::Text(TextKind::State, TextFault::TooLong),
+            b"fault X5 state\n",
+        ),
+        (
+            ToolFault::Text(TextKind::Stimulus, TextFault::Read),
+            b"fault X1 stimulus\n",
+        ),
+        (
+            ToolFault::Text(TextKind::State, TextFault::Memory),
+            b"fault X7\n",
+        ),
         (ToolFault::Word { number: 10 }, b"fault X3 word 10\n"),
         (ToolFault::Write, b"fault X6\n"),
         (ToolFault::Memory, b"fault X7\n"),
@@ -49,9 +64,16 @@ fn leaves_a_front_where_the_writer_fails(rt: HostRuntime) {
                         end,
                     });
                     let wrote = write_fault(&fault, &mut writer);
-                    assert_eq!(rt; wrote == Err(WriteFault), room < line.len(), "{fault:?} at {room}");
+                    assert_eq!(rt;
+                        wrote == Err(WriteFault),
+                        room < line.len(),
+                        "{fault:?} at {room}"
+                    );
                     let narrow = writer.into_inner();
-                    assert!(rt; narrow.bytes.as_slice() == &line[..room], "{fault:?} at {room}");
+                    assert!(rt;
+                        narrow.bytes.as_slice() == &line[..room],
+                        "{fault:?} at {room}"
+                    );
                 }
             }
         }

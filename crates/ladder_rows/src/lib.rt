@@ -2,8 +2,16 @@
 #![tactic(auto)]
 
 #[cfg(test)]
+mod declarations;
+#[cfg(test)]
+mod drawings;
+#[cfg(test)]
 mod faults;
 #[cfg(test)]
 mod memory;
 #[cfg(test)]
+mod requests;
+#[cfg(test)]
 mod texts;
+#[cfg(test)]
+mod words;

@@ -13,7 +13,11 @@ fn fails_at_each_read(rt: HostRuntime) {
             failing,
         });
         let read = read_text(rt.alloc(), &mut reader, 8);
-        assert_eq!(rt; matches!(read, Err(TextFault::Read)), failing <= 4, "at {failing}");
+        assert_eq!(rt;
+            matches!(read, Err(TextFault::Read)),
+            failing <= 4,
+            "at {failing}"
+        );
         assert_eq!(rt; read.is_ok(), failing > 4, "at {failing}");
         assert_eq!(rt; reader.into_inner().calls, failing.min(4), "at {failing}");
     }
@@ -29,7 +33,10 @@ fn reads_an_endless_reader_no_further_than_the_limit(rt: HostRuntime) {
             failing: 0,
         });
         let read = read_text(rt.alloc(), &mut reader, limit);
-        assert!(rt; matches!(read, Err(TextFault::TooLong)), "in steps of {step}");
+        assert!(rt;
+            matches!(read, Err(TextFault::TooLong)),
+            "in steps of {step}"
+        );
         assert_eq!(rt; reader.into_inner().calls, calls, "in steps of {step}");
     }
 }
@@ -42,7 +49,10 @@ fn reads_a_text_up_to_the_limit(rt: HostRuntime) {
         match read_text(rt.alloc(), &mut reader, limit) {
             Ok(read) => {
                 assert!(rt; fits, "with limit {limit}");
-                assert!(rt; read.as_slice() == b"ABCDE".as_slice(), "with limit {limit}");
+                assert!(rt;
+                    read.as_slice() == b"ABCDE".as_slice(),
+                    "with limit {limit}"
+                );
             }
             Err(fault) => {
                 assert!(rt; !fits, "with limit {limit}");

@@ -1,1 +1,2 @@
 pub mod UnknownWords
+pub mod Endings

@@ -39,18 +39,38 @@ line_of_rule rule line = rule_line (var_number rule) line
 abbrev pub var_line : VarFault → List ℕ
 var_line f = line_of_rule f.rule f.line
 
--- the rules of the drawing, of G1 to G15 those that a text can break so far
+-- the rules of the drawing, G1 to G15
 abbrev pub grid_number : GridRule → ℕ
+grid_number rule.TooWide = 1
+grid_number rule.TooTall = 2
+grid_number rule.BadCell = 3
+grid_number rule.BadJoint = 4
+grid_number rule.BrokenVertical = 5
+grid_number rule.Unfed = 6
+grid_number rule.NameMissing = 7
+grid_number rule.NameWithoutSymbol = 8
+grid_number rule.Undeclared = 9
+grid_number rule.WrongKind = 10
+grid_number rule.BlockShape = 11
+grid_number rule.DrawnTwice = 12
 grid_number rule.LabelFault = 13
+grid_number rule.TwoJumps = 14
+grid_number rule.TooManyRungs = 15
 
 abbrev pub grid_line : GridFault → List ℕ
 grid_line (grid.Vars f) = var_line f
 grid_line (grid.Grid r rung line) =
     codes "fault G" ++ (decimal (grid_number r) ++ (codes " rung " ++ (decimal rung ++ (codes " line " ++ (decimal line ++ codes "\n")))))
 
--- the reasons why there is no list of causes, of C1 to C7 those that can come so far
+-- the reasons why there is no list of causes, C1 to C7
 abbrev pub cause_number : CauseFault → ℕ
+cause_number cause.MomentBack = 1
 cause_number cause.NotACoil = 2
+cause_number cause.TooManyFree = 3
+cause_number cause.NotAnInput = 4
+cause_number cause.RepeatedInput = 5
+cause_number cause.AfterOutOfRange = 6
+cause_number cause.Memory = 7
 
 abbrev pub kind_word : TextKind → List ℕ
 kind_word kind.Program = codes "program"

@@ -97,7 +97,11 @@ fn write_var_fault<W: Sink>(fault: VarFault, writer: &mut W) -> Result<(), Write
     put_pieces(writer, pieces.as_slice())
 }
 
-fn write_text_fault<W: Sink>(kind: TextKind, fault: TextFault, writer: &mut W) -> Result<(), WriteFault>
+fn write_text_fault<W: Sink>(
+    kind: TextKind,
+    fault: TextFault,
+    writer: &mut W,
+) -> Result<(), WriteFault>
     ensures { Puts (W.log writer.old) (W.log writer.new) result (text_line kind fault) }
 {
     let rule: &[u8] = match fault {
@@ -143,7 +147,21 @@ fn grid_number(rule: GridRule) -> u64
     ensures { result ≡ grid_number rule }
 {
     match rule {
+        GridRule::TooWide => 1,
+        GridRule::TooTall => 2,
+        GridRule::BadCell => 3,
+        GridRule::BadJoint => 4,
+        GridRule::BrokenVertical => 5,
+        GridRule::Unfed => 6,
+        GridRule::NameMissing => 7,
+        GridRule::NameWithoutSymbol => 8,
+        GridRule::Undeclared => 9,
+        GridRule::WrongKind => 10,
+        GridRule::BlockShape => 11,
+        GridRule::DrawnTwice => 12,
         GridRule::LabelFault => 13,
+        GridRule::TwoJumps => 14,
+        GridRule::TooManyRungs => 15,
     }
 }
 
@@ -151,6 +169,12 @@ fn cause_number(fault: CauseFault) -> u64
     ensures { result ≡ cause_number fault }
 {
     match fault {
+        CauseFault::MomentBack => 1,
         CauseFault::NotACoil => 2,
+        CauseFault::TooManyFree => 3,
+        CauseFault::NotAnInput => 4,
+        CauseFault::RepeatedInput => 5,
+        CauseFault::AfterOutOfRange => 6,
+        CauseFault::Memory => 7,
     }
 }

@@ -3,10 +3,14 @@
 
 mod command;
 mod fault;
+mod performing;
+mod program;
 mod request;
 mod variables;
 mod words;
 
 pub use fault::{TextKind, ToolFault, write_fault};
+pub use performing::perform;
+pub use program::run;
 pub use request::{Request, Texts, WordFault};
 pub use words::read_words;

@@ -28,7 +28,12 @@ fn variable(decls: &Decls, word: &str) -> Option<usize>
 }
 
 /// The variables of all words: COIL is word 1, the first INPUT word 2.
-pub(crate) fn asked_variables(alloc: Global, decls: &Decls, coil: &str, inputs: &[String]) -> Result<Asked, ToolFault>
+pub(crate) fn asked_variables(
+    alloc: Global,
+    decls: &Decls,
+    coil: &str,
+    inputs: &[String],
+) -> Result<Asked, ToolFault>
     ensures coil { IfOk result (λ a. variable_of decls.now coil.now ≡ Some a.coil) }
     ensures inputs { IfOk result (λ a. AreVariables decls.now (map string_bytes inputs.now) a.inputs.items) }
     ensures fault { IfErr result (HasWordFault decls.now (coil.now ∷ map string_bytes inputs.now)) }

@@ -1,0 +1,34 @@
+//! The program `ladder`.
+#![tactic(auto)]
+
+use ladder_sim::Writing;
+use ladder_tool::{ToolFault, run, write_fault};
+use std::env;
+use std::io::ErrorKind;
+use std::process::ExitCode;
+
+/// Words that are no text are wrong words; else memory was refused.
+fn fault_of(kind: ErrorKind) -> (ToolFault, u8) {
+    match kind {
+        ErrorKind::InvalidData => (ToolFault::Usage, 2),
+        _ => (ToolFault::Memory, 1),
+    }
+}
+
+fn report(rt: &HostRuntime, kind: ErrorKind) -> u8 {
+    let (fault, status) = fault_of(kind);
+    let _ = write_fault(&fault, &mut Writing::new(rt.stderr()));
+    status
+}
+
+fn main(rt: HostRuntime) -> ExitCode {
+    let args = match env::args(&rt) {
+        Ok(args) => args,
+        Err(error) => return ExitCode::from(report(&rt, error.kind())),
+    };
+    let status = match args.collect(rt.alloc()) {
+        Ok(words) => run(&rt, rt.alloc(), words),
+        Err(_) => report(&rt, ErrorKind::OutOfMemory),
+    };
+    ExitCode::from(status)
+}
