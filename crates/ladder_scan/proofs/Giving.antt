@@ -68,3 +68,20 @@ module _ {S : Type 0} where
       ∙ ap (λ vs. take n values ++ vs) (given_end (drop n flags) xs)
       ∙ append-nil (take n values)
       ∙ take_all n values le
+
+  -- with no value left, nothing changes
+  given_none : (flags : List Bool) (values : List S) → given flags [] values ≡ values
+  given_none [] values = refl
+  given_none (true ∷ flags) [] = refl
+  given_none (false ∷ flags) [] = refl
+  given_none (true ∷ flags) (v ∷ values) = ap (λ vs. v ∷ vs) (given_none flags values)
+  given_none (false ∷ flags) (v ∷ values) = ap (λ vs. v ∷ vs) (given_none flags values)
+
+  -- where the first variables are the inputs that are given, they take the values as they stand
+  pub given_leading : (flags : List Bool) (xs values : List S) → length xs ≤ length values → ((i : ℕ) → i < length xs → get_or flags i false ≡ true)
+      → given flags xs values ≡ xs ++ drop (length xs) values
+  given_leading flags [] values le on = given_none flags values
+  given_leading [] (x ∷ xs) values le on = let bad : false ≡ true = on 0 (omega arith) in cc
+  given_leading (f ∷ flags) (x ∷ xs) [] le on = absurd (omega arith)
+  given_leading (true ∷ flags) (x ∷ xs) (v ∷ values) le on = ap (λ vs. x ∷ vs) (given_leading flags xs values (omega arith) (λ i h. on (suc i) (omega arith)))
+  given_leading (false ∷ flags) (x ∷ xs) (v ∷ values) le on = let bad : false ≡ true = on 0 (omega arith) in cc

@@ -1,4 +1,4 @@
-ghost use Rattle.std.specs.Prelude.{◌≡◌, ◌<◌, ◌↔◌, length, map, slice_index_or, false, IfOk, OnErr, IsErr};
+ghost use Rattle.std.specs.Prelude.{◌≡◌, ◌<◌, ◌≤◌, ◌↔◌, ◌++◌, ℕ, drop, length, map, slice_index_or, false, true, IfOk, OnErr, IsErr};
 ghost use Rattle.ladder_vars.specs.Decls.{is_input};
 ghost use Rattle.ladder_scan.specs.Blocks.{q_of};
 ghost use Rattle.ladder_scan.specs.Rung.{evaluated};
@@ -29,8 +29,39 @@ fn is_input_at(vars: &[Var], number: usize) -> bool
     }
 }
 
-/// Gives the input variables their values, in order of declaration.
+/// Whether the first `count` variables are inputs.
+fn are_leading(vars: &[Var], count: usize) -> bool
+    ensures { result ≡ true → (i : ℕ) → i < count → slice_index_or (map is_input vars.now) i false ≡ true }
+{
+    for number in 0..count {
+        if !is_input_at(vars, number) {
+            return false;
+        }
+    }
+    true
+}
+
+fn give_leading<S: Signal>(inputs: &[S], values: &mut [S])
+    requires { length inputs.now ≤ length values.old }
+    ensures { values.new ≡ inputs.now ++ drop (length inputs.now) values.old }
+{
+    values[..inputs.len()].copy_from_slice(inputs);
+}
+
+/// Gives the input variables their values, in order of declaration. Where the inputs are declared first, as they mostly
+/// are, this is one copy.
 pub(crate) fn give<S: Signal>(vars: &[Var], inputs: &[S], values: &mut [S])
+    ensures { values.new ≡ given (map is_input vars.now) inputs.now values.old }
+{
+    if inputs.len() <= values.len() && are_leading(vars, inputs.len()) {
+        give_leading(inputs, values);
+        return;
+    }
+    give_each(vars, inputs, values);
+}
+
+/// Goes over all variables, inputs or not.
+fn give_each<S: Signal>(vars: &[Var], inputs: &[S], values: &mut [S])
     ensures { values.new ≡ given (map is_input vars.now) inputs.now values.old }
 {
     let mut next = 0;
