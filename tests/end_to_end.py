@@ -17,11 +17,26 @@ END_VAR
 |----| |----+
 """
 
+# It runs when it is begun with, and an instance is declared that isn't drawn.
+RUNNING = MOTOR.replace("Motor AT %QX0 : BOOL;", "Motor AT %QX0 : BOOL := TRUE;\n  Delay : TON := (PT := T#5s);")
+
+# The coil's variable has no address, and both contacts read what stood when the rung began.
+MEMORY = """VAR
+  A AT %IX0 : BOOL;
+  M : BOOL := 1;
+END_VAR
+|     A           M           M
+|----| |---------|/|---------( )----
+"""
+
 # name, program text (None: no file), words, standard output, standard error, status
 CASES = [
     ("motor", MOTOR, ["causes", "text.ld", "Motor", "Start", "Stop"], "number,Start,Stop\n2,1,0\n", "rows 1\n", 0),
     ("listed in another order", MOTOR, ["causes", "text.ld", "Motor", "Stop", "Start"], "number,Stop,Start\n1,0,1\n", "rows 1\n", 0),
     ("no inputs listed", MOTOR, ["causes", "text.ld", "Motor"], "number\n", "rows 0\n", 0),
+    ("initial values", RUNNING, ["causes", "text.ld", "Motor", "Start", "Stop"], "number,Start,Stop\n0,0,0\n2,1,0\n", "rows 2\n", 0),
+    ("a coil on a memory variable", MEMORY, ["causes", "text.ld", "m", "A"], "number,A\n", "rows 0\n", 0),
+    ("a loose vertical link", MOTOR.replace("|/|", "| |").replace("+----| |-", "-----| |-"), ["causes", "text.ld", "Motor"], "", "fault G5 rung 1 line 9\n", 1),
     ("no words", MOTOR, [], "", "fault usage\n", 2),
     ("no file named", MOTOR, ["causes"], "", "fault usage\n", 2),
     ("no coil named", MOTOR, ["causes", "text.ld"], "", "fault usage\n", 2),
