@@ -55,7 +55,8 @@ fn lines() -> [(ToolFault, &'static [u8]); 12] {
 fn leaves_a_front_where_the_writer_fails(rt: HostRuntime) {
     for (fault, line) in lines() {
         for end in ENDS {
-            for room in 0..=line.len() {
+            // No line is longer.
+            for room in 0..27 {
                 for step in [1, 1000] {
                     let mut writer = Writing::new(Narrow {
                         bytes: Vec::new(rt.alloc()),
@@ -71,7 +72,7 @@ fn leaves_a_front_where_the_writer_fails(rt: HostRuntime) {
                     );
                     let narrow = writer.into_inner();
                     assert!(rt;
-                        narrow.bytes.as_slice() == &line[..room],
+                        narrow.bytes.as_slice() == &line[..room.min(line.len())],
                         "{fault:?} at {room}"
                     );
                 }
