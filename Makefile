@@ -17,11 +17,10 @@ bin/ladder: $(SOURCES)
 run: bin/ladder
 	cd crates/ladder/data && ../../../bin/ladder causes motor.ld Motor Start Stop
 
-# The gate, from nothing, and then the built program as a user runs it.
+# The gate, from nothing, and then the program that it built as a user runs it.
 test:
 	rt ci
-	$(MAKE) bin/ladder
-	python3 tests/end_to_end.py bin/ladder
+	python3 tests/end_to_end.py $(PROGRAM)
 
 # Timings; they prove nothing and fail nothing.
 bench: bin/ladder
