@@ -6,7 +6,6 @@ use Rattle.ladder_grid.specs.declared.fault.Rule.{Rule}
 use Rattle.ladder_grid.specs.declared.fault.Rule.TheVariants.{Grid}
 use Rattle.ladder_grid.specs.declared.fault.GridRule.TheVariants as rule
 use Rattle.ladder_grid.specs.Gap.{Labels}
-use Rattle.ladder_grid.specs.Lines.{parts_of}
 use Rattle.ladder_grid.specs.Drawing.{Page, most_rungs, label_of, PartBreaks, IsSoundPart, AreSound, PartsBreak, PageBreaks, IsSoundPage}
 
 parts_apart : (r : Rule) (page : Page) (labels : Labels) (k : ℕ) (ps : List Part) (rung line : ℕ) → AreSound page labels k ps
@@ -16,9 +15,9 @@ parts_apart r page labels k (p ∷ ps) rung line sound (inl h) = sound.0 r line 
 parts_apart r page labels k (p ∷ ps) rung line sound (inr h) =
     parts_apart r page (labels ++ label_of page.lines p ∷ []) (k + 1) ps rung line sound.1 h
 
-pub sound_apart : (r : Rule) (page : Page) (rung line : ℕ) → IsSoundPage page → PageBreaks r page rung line → ⊥
-sound_apart r page rung line sound (inl h) = parts_apart r page [] 0 (parts_of page.lines) rung line sound.0 h
-sound_apart r page rung line sound (inr h) = sound.1 r line h.1
+pub sound_apart : (r : Rule) (page : Page) (parts : List Part) (rung line : ℕ) → IsSoundPage page parts → PageBreaks r page parts rung line → ⊥
+sound_apart r page parts rung line sound (inl h) = parts_apart r page [] 0 parts rung line sound.0 h
+sound_apart r page parts rung line sound (inr h) = sound.1 r line h.1
 
 one_too_many : (page : Page) (labels : Labels) (p : Part) (k : ℕ) → IsSoundPart page labels p k → most_rungs ≤ k → ⊥
 unfolding PartBreaks

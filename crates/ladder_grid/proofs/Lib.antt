@@ -3,6 +3,11 @@ pub mod PlaceLaws
 pub mod NumberLaws
 pub mod DrawingLaws
 pub mod ReadingLaws
+pub mod CutLaws
+pub mod UnclosedLaws
+pub mod CutText
+pub mod PartLaws
+pub mod PageLaws
 pub mod FaultLaws
 pub mod Examples
 pub mod WellFormed

@@ -1,10 +1,10 @@
 -- Memories are numbered in the order of the places.
 use Rattle.std.proofs.Common.{◌≡◌, ℕ, zero, suc, ◌+◌, ◌*◌, ◌/◌, ◌%◌, ◌<◌, ◌≤◌, true, false, cond, List, [], ◌∷◌, length, get_or, take, count_by, Some, None, add-one, refl, sym, ap, ◌∙◌, arith}
 use Rattle.std.proofs.lemmas.List.Sums.{sum_by-cons, count_by_more_no, count_by_more_yes}
-use Rattle.ladder_vars.specs.Decls.{Declared}
 use Rattle.ladder_grid.specs.declared.cell.Cell.{Cell}
 use Rattle.ladder_grid.specs.declared.cell.Cell.TheVariants as cell
-use Rattle.ladder_grid.specs.Lines.{lines_of, parts_of}
+use Rattle.ladder_grid.specs.declared.lines.Part.{Part}
+use Rattle.ladder_grid.specs.Drawing.{Page}
 use Rattle.ladder_grid.specs.Program.{has_memory, place}
 use Rattle.ladder_grid.specs.Places.{all_places, numbered_from}
 use Rattle.ladder_grid.specs.Reading.{cell_drawn, rung_at, cell_at_place, memories_before, numbered}
@@ -52,42 +52,42 @@ numbered_from-at next (c ∷ cs) (suc i) d within =
       | false ↦ numbered_from-at next cs i d rest ∙ ap (λ n. numbered n (get_or cs i d)) none
     ])
 
-module _ (decls : Declared) (text : List ℕ) where
+module _ (page : Page) (parts : List Part) where
   drawn : List Cell
-  drawn = all_places (cell_drawn decls) (lines_of text) (parts_of (lines_of text))
+  drawn = all_places (cell_drawn page.decls) page.lines parts
 
-  drawn-at : (n : ℕ) → n < length drawn → get_or drawn n cell.Empty ≡ cell_at_place decls text n
+  drawn-at : (n : ℕ) → n < length drawn → get_or drawn n cell.Empty ≡ cell_at_place page parts n
   unfolding drawn
   drawn-at n within =
-      let size : length drawn ≡ 60 * length (parts_of (lines_of text)) = length-all_places (cell_drawn decls) (lines_of text) (parts_of (lines_of text)) in
+      let size : length drawn ≡ 60 * length parts = length-all_places (cell_drawn page.decls) page.lines parts in
       let split : 60 * (n / 60) + n % 60 ≡ n = omega arith in
-      let rung : n / 60 < length (parts_of (lines_of text)) = omega (arith, size, within) in
+      let rung : n / 60 < length parts = omega (arith, size, within) in
       let small : n % 60 < 60 = omega arith in
       ap (λ m. get_or drawn m cell.Empty) (sym split)
-      ∙ all_places-at (cell_drawn decls) (lines_of text) (parts_of (lines_of text)) (n / 60) (n % 60) cell.Empty (record { from = 0; start = 0; end = 0 }) rung small
+      ∙ all_places-at (cell_drawn page.decls) page.lines parts (n / 60) (n % 60) cell.Empty (record { from = 0; start = 0; end = 0 }) rung small
 
-  counted : (n : ℕ) → n ≤ length drawn → count_by has_memory (take n drawn) ≡ memories_before decls text n
+  counted : (n : ℕ) → n ≤ length drawn → count_by has_memory (take n drawn) ≡ memories_before page parts n
   unfolding memories_before
   counted zero below = refl
   counted (suc n) below =
       let here : n < length drawn = omega (arith, below) in
-      let before : count_by has_memory (take n drawn) ≡ memories_before decls text n = counted n (omega (arith, below)) in
-      let same : get_or drawn n cell.Empty ≡ cell_at_place decls text n = drawn-at n here in
-      elim (has_memory (cell_at_place decls text n)) as (λ t. has_memory (cell_at_place decls text n) ≡ t
-      → count_by has_memory (take (suc n) drawn) ≡ cond t (memories_before decls text n + 1) (memories_before decls text n)) [
+      let before : count_by has_memory (take n drawn) ≡ memories_before page parts n = counted n (omega (arith, below)) in
+      let same : get_or drawn n cell.Empty ≡ cell_at_place page parts n = drawn-at n here in
+      elim (has_memory (cell_at_place page parts n)) as (λ t. has_memory (cell_at_place page parts n) ≡ t
+      → count_by has_memory (take (suc n) drawn) ≡ cond t (memories_before page parts n + 1) (memories_before page parts n)) [
         | true ↦ λ h. ap (λ m. count_by has_memory (take m drawn)) (sym (add-one n)) ∙ count_by_more_yes has_memory drawn n cell.Empty here (ap has_memory same ∙ h) ∙ ap (λ m. m + 1) before
         | false ↦ λ h. ap (λ m. count_by has_memory (take m drawn)) (sym (add-one n)) ∙ count_by_more_no has_memory drawn n cell.Empty here (ap has_memory same ∙ h) ∙ before
       ] refl
 
   -- each cell has the number of memories before it
-  pub numbered-drawn : (k r c : ℕ) → k < length (parts_of (lines_of text)) → r < 6 → c < 10
-      → get_or (numbered_from 0 (all_places (cell_drawn decls) (lines_of text) (parts_of (lines_of text)))) (place k r c) cell.Empty
-      ≡ numbered (memories_before decls text (place k r c)) (cell_drawn decls (rung_at text k) r c)
+  pub numbered-drawn : (k r c : ℕ) → k < length parts → r < 6 → c < 10
+      → get_or (numbered_from 0 (all_places (cell_drawn page.decls) page.lines parts)) (place k r c) cell.Empty
+      ≡ numbered (memories_before page parts (place k r c)) (cell_drawn page.decls (rung_at page.lines parts k) r c)
   unfolding drawn
   numbered-drawn k r c below rows columns =
-      let size : length drawn ≡ 60 * length (parts_of (lines_of text)) = length-all_places (cell_drawn decls) (lines_of text) (parts_of (lines_of text)) in
+      let size : length drawn ≡ 60 * length parts = length-all_places (cell_drawn page.decls) page.lines parts in
       let within : place k r c < length drawn = omega (arith, size, below, rows, columns) in
       numbered_from-at 0 drawn (place k r c) cell.Empty within
       ∙ ap (λ n. numbered n (get_or drawn (place k r c) cell.Empty)) (omega (arith, counted (place k r c) (omega (arith, within))))
-      ∙ ap (numbered (memories_before decls text (place k r c)))
-      (all_places-drawn (cell_drawn decls) (lines_of text) (parts_of (lines_of text)) cell.Empty (record { from = 0; start = 0; end = 0 }) k r c below rows columns)
+      ∙ ap (numbered (memories_before page parts (place k r c)))
+      (all_places-drawn (cell_drawn page.decls) page.lines parts cell.Empty (record { from = 0; start = 0; end = 0 }) k r c below rows columns)

@@ -1,8 +1,8 @@
 -- The rules of a whole drawing, and when a text after END_VAR is a drawing: no rule is broken.
-use Rattle.std.specs.Prelude.{◌≡◌, ℕ, ◌+◌, ◌-◌, ◌<◌, ◌≤◌, List, [], ◌∷◌, ◌++◌, length, true, Option, ◌⊎◌}
+use Rattle.std.specs.Prelude.{◌≡◌, ℕ, ◌+◌, ◌-◌, ◌<◌, ◌≤◌, List, [], ◌∷◌, ◌++◌, length, true, false, Option, ◌⊎◌}
 use Rattle.ladder_vars.specs.Decls.{Declared}
 use Rattle.ladder_grid.specs.Picture.{Lines}
-use Rattle.ladder_grid.specs.Lines.{lines_of, parts_of, rung_of, last_gap, unclosed_line}
+use Rattle.ladder_grid.specs.Lines.{Piece, ArePieces, lines_in, unclosed_in, AreParts, rung_of, last_gap}
 use Rattle.ladder_grid.specs.Gap.{Labels, label_before, is_label_line, GapBreaks}
 use Rattle.ladder_grid.specs.Rung.{RungBreaks}
 use Rattle.ladder_grid.specs.declared.lines.Part.{Part}
@@ -19,8 +19,13 @@ pub record Page : Type 0 where
 abbrev pub page : Declared → Lines → Option ℕ → Page
 page decls lines unclosed = record { decls = decls; lines = lines; unclosed = unclosed }
 
-abbrev pub page_of : Declared → List ℕ → Page
-page_of decls text = page decls (lines_of text) (unclosed_line text)
+-- The text behind END_VAR reads as this page, with these rungs and their gaps.
+pub record ReadsAs (text : List ℕ) (page : Page) (parts : List Part) : Type 0 where
+  pub pieces : List Piece
+  pub cut : ArePieces false pieces text
+  pub lines : page.lines ≡ lines_in pieces
+  pub unclosed : page.unclosed ≡ unclosed_in 0 pieces
+  pub rungs : AreParts page.lines 0 parts
 
 -- the label of a part
 abbrev pub label_of : Lines → Part → Option (List ℕ)
@@ -68,14 +73,11 @@ PartsBreak r page labels k (p ∷ ps) rung line =
     ((rung ≡ k) × PartBreaks r page labels p k line) ⊎ PartsBreak r page (labels ++ label_of page.lines p ∷ []) (k + 1) ps rung line
 
 -- The rule is broken on this line of the page. A fault of a gap line goes with the rung that would follow.
-abbrev pub PageBreaks : Rule → Page → ℕ → ℕ → Type 0
-PageBreaks r page rung line =
-    PartsBreak r page [] 0 (parts_of page.lines) rung line
-    ⊎ ((rung ≡ length (parts_of page.lines))
-    × EndBreaks r page (labels_of page.lines (parts_of page.lines)) (last_gap (parts_of page.lines)) line)
+abbrev pub PageBreaks : Rule → Page → List Part → ℕ → ℕ → Type 0
+PageBreaks r page parts rung line =
+    PartsBreak r page [] 0 parts rung line
+    ⊎ ((rung ≡ length parts) × EndBreaks r page (labels_of page.lines parts) (last_gap parts) line)
 
 -- No rule is broken on the page.
-abbrev pub IsSoundPage : Page → Type 0
-IsSoundPage page =
-    AreSound page [] 0 (parts_of page.lines)
-    × IsSoundEnd page (labels_of page.lines (parts_of page.lines)) (last_gap (parts_of page.lines))
+abbrev pub IsSoundPage : Page → List Part → Type 0
+IsSoundPage page parts = AreSound page [] 0 parts × IsSoundEnd page (labels_of page.lines parts) (last_gap parts)

@@ -11,6 +11,7 @@ pub mod Rung
 pub mod Drawing
 pub mod Program
 pub mod Reading
+pub mod ReadLines
 pub mod Stops
 pub mod Places
 pub mod Sheet

@@ -3,10 +3,10 @@ use Rattle.std.specs.Prelude.{ℕ, zero, suc, ◌+◌, ◌/◌, ◌%◌, List, [
 use Rattle.ladder_grid.specs.declared.cell.Cell.{Cell}
 use Rattle.ladder_grid.specs.Program.{has_memory}
 use Rattle.ladder_grid.specs.Reading.{cell_drawn, numbered}
-use Rattle.ladder_vars.specs.Decls.{Declared}
 use Rattle.ladder_grid.specs.declared.lines.Part.{Part}
 use Rattle.ladder_grid.specs.Picture.{Lines}
-use Rattle.ladder_grid.specs.Lines.{lines_of, parts_of, rung_of}
+use Rattle.ladder_grid.specs.Lines.{rung_of}
+use Rattle.ladder_grid.specs.Drawing.{Page}
 
 -- those of the first n places of a rung
 unfoldable pub first_places : {A : Type 0} → (ℕ → A) → ℕ → List A
@@ -29,9 +29,6 @@ abbrev pub numbered_from : ℕ → List Cell → List Cell
 numbered_from next [] = []
 numbered_from next (c ∷ cs) = if has_memory c then numbered next c ∷ numbered_from (next + 1) cs else c ∷ numbered_from next cs
 
--- the lists of a text
-abbrev pub places_of : {A : Type 0} → (Lines → ℕ → ℕ → A) → List ℕ → List A
-places_of f text = all_places f (lines_of text) (parts_of (lines_of text))
-
-abbrev pub cells_of : Declared → List ℕ → List Cell
-cells_of decls text = numbered_from 0 (places_of (cell_drawn decls) text)
+-- the lists of a page
+abbrev pub cells_of : Page → List Part → List Cell
+cells_of page parts = numbered_from 0 (all_places (cell_drawn page.decls) page.lines parts)

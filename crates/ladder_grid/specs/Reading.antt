@@ -26,9 +26,10 @@ use Rattle.ladder_grid.specs.declared.form.Form.TheVariants.{Wire, Contact, Coil
 use Rattle.ladder_grid.specs.declared.operand.Reference.{Reference}
 use Rattle.ladder_grid.specs.Picture.{Lines, form_of, vertical, right_link}
 use Rattle.ladder_grid.specs.Picture as picture
-use Rattle.ladder_grid.specs.Lines.{lines_of, parts_of, rung_of}
+use Rattle.ladder_grid.specs.declared.lines.Part.{Part}
+use Rattle.ladder_grid.specs.Lines.{line_feeds, rung_of}
 use Rattle.ladder_grid.specs.Rules.{reference_over}
-use Rattle.ladder_grid.specs.Drawing.{page_of, PageBreaks, IsSoundPage}
+use Rattle.ladder_grid.specs.Drawing.{Page, ReadsAs, PageBreaks, IsSoundPage}
 use Rattle.ladder_grid.specs.Program.{Drawing, IsWhole, place, has_memory}
 
 -- An edge has a memory; its number comes later.
@@ -71,18 +72,18 @@ abbrev pub joint_drawn : Lines → ℕ → ℕ → Joint
 joint_drawn rung r c = joint_of (picture.joint rung r c)
 
 -- The lines of the rung k.
-abbrev pub rung_at : List ℕ → ℕ → Lines
-rung_at text k = rung_of (lines_of text) (slice_index_or (parts_of (lines_of text)) k (record { from = 0; start = 0; end = 0 }))
+abbrev pub rung_at : Lines → List Part → ℕ → Lines
+rung_at lines parts k = rung_of lines (slice_index_or parts k (record { from = 0; start = 0; end = 0 }))
 
 -- the cell at the n-th place of all, by rung, column and row
-abbrev pub cell_at_place : Declared → List ℕ → ℕ → Cell
-cell_at_place decls text n = cell_drawn decls (rung_at text (n / 60)) (n % 60 % 6) (n % 60 / 6)
+abbrev pub cell_at_place : Page → List Part → ℕ → Cell
+cell_at_place page parts n = cell_drawn page.decls (rung_at page.lines parts (n / 60)) (n % 60 % 6) (n % 60 / 6)
 
 -- Memories are numbered by rung, column and row: so many stand at the first n places.
-unfoldable pub memories_before : Declared → List ℕ → ℕ → ℕ
-memories_before decls text zero = 0
-memories_before decls text (suc n) =
-    if has_memory (cell_at_place decls text n) then memories_before decls text n + 1 else memories_before decls text n
+unfoldable pub memories_before : Page → List Part → ℕ → ℕ
+memories_before page parts zero = 0
+memories_before page parts (suc n) =
+    if has_memory (cell_at_place page parts n) then memories_before page parts n + 1 else memories_before page parts n
 
 abbrev pub numbered : ℕ → Cell → Cell
 numbered n (cell.Contact m operand (Some other)) = cell.Contact m operand (Some n)
@@ -93,24 +94,21 @@ numbered n other = other
 abbrev pub AtEach : ℕ → (ℕ → ℕ → ℕ → Type 0) → Type 0
 AtEach rungs P = (k r c : ℕ) → k < rungs → r < 6 → c < 10 → P k r c
 
--- The drawing of these declarations and the text behind them: no rule is broken, and each place has what the picture has.
-pub record IsDrawn (decls : Declared) (text : List ℕ) (d : Drawing) : Type 0 where
-  pub sound : IsSoundPage (page_of decls text)
+-- The drawing of a page with these rungs: no rule is broken, and each place has what the picture has.
+pub record IsDrawn (page : Page) (parts : List Part) (d : Drawing) : Type 0 where
+  pub sound : IsSoundPage page parts
   pub whole : IsWhole d
-  pub declared : d.decls ≡ decls
-  pub rungs : d.rungs ≡ length (parts_of (lines_of text))
+  pub declared : d.decls ≡ page.decls
+  pub rungs : d.rungs ≡ length parts
   pub cells : AtEach d.rungs (λ k r c. slice_index_or d.cells (place k r c) cell.Empty
-      ≡ numbered (memories_before decls text (place k r c)) (cell_drawn decls (rung_at text k) r c))
-  pub links : AtEach d.rungs (λ k r c. slice_index_or d.links (place k r c) false ≡ right_link (rung_at text k) r c)
-  pub joints : AtEach d.rungs (λ k r c. slice_index_or d.joints (place k r c) joint.Blank ≡ joint_drawn (rung_at text k) r c)
-  pub verticals : AtEach d.rungs (λ k r c. slice_index_or d.verticals (place k r c) false ≡ vertical (rung_at text k) r c)
+      ≡ numbered (memories_before page parts (place k r c)) (cell_drawn page.decls (rung_at page.lines parts k) r c))
+  pub links : AtEach d.rungs (λ k r c. slice_index_or d.links (place k r c) false ≡ right_link (rung_at page.lines parts k) r c)
+  pub joints : AtEach d.rungs (λ k r c. slice_index_or d.joints (place k r c) joint.Blank ≡ joint_drawn (rung_at page.lines parts k) r c)
+  pub verticals : AtEach d.rungs (λ k r c. slice_index_or d.verticals (place k r c) false ≡ vertical (rung_at page.lines parts k) r c)
 
 -- ---- faults
 
 -- Lines are counted from 1: that of line n of what stands behind `place`, and the last one.
-abbrev pub line_feeds : List ℕ → ℕ
-line_feeds text = count_by (λ b. b == line_feed) text
-
 abbrev pub line_number : List ℕ → ℕ → ℕ → ℕ
 line_number text place n = line_feeds (take place text) + n + 1
 
@@ -125,22 +123,27 @@ fault_with text place (rule.Grid r) rung line = Grid r (rung + 1) (line_number t
 
 -- ---- texts
 
--- A text is a program where VAR .. END_VAR declares and the rest of the text draws, and no rule is broken.
+-- A text is a program where VAR .. END_VAR declares, the rest of the text draws, and no rule is broken.
 pub record IsProgram (text : List ℕ) (d : Drawing) : Type 0 where
   pub rest : List ℕ
-  pub read : HasDecls text d.decls rest
-  pub drawn : IsDrawn d.decls rest d
+  pub page : Page
+  pub parts : List Part
+  pub read : HasDecls text page.decls rest
+  pub reads : ReadsAs rest page parts
+  pub drawn : IsDrawn page parts d
 
 -- The text declares, and its drawing breaks a rule that the fault reports.
 pub record IsFaultOfDrawing (text : List ℕ) (fault : GridFault) : Type 0 where
-  pub declared : Declared
+  pub page : Page
+  pub parts : List Part
   pub place : ℕ
   pub broken : Rule
   pub rung : ℕ
   pub line : ℕ
   pub within : place ≤ length text
-  pub read : HasDecls text declared (drop place text)
-  pub breaks : PageBreaks broken (page_of declared (drop place text)) rung line
+  pub read : HasDecls text page.decls (drop place text)
+  pub reads : ReadsAs (drop place text) page parts
+  pub breaks : PageBreaks broken page parts rung line
   pub reported : fault ≡ fault_with text place broken rung line
 
 abbrev pub IsMemory : GridFault → Type 0

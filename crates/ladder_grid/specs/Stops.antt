@@ -15,9 +15,9 @@ ArePartsBroken page parts NoMemory = Unit {0}
 ArePartsBroken page parts (Broken r rung line) = PartsBreak r page [] 0 parts rung line
 
 -- the rule that is named is broken on the page
-abbrev pub IsBrokenIn : Page → Stop → Type 0
-IsBrokenIn page NoMemory = Unit {0}
-IsBrokenIn page (Broken r rung line) = PageBreaks r page rung line
+abbrev pub IsBrokenIn : Page → List Part → Stop → Type 0
+IsBrokenIn page parts NoMemory = Unit {0}
+IsBrokenIn page parts (Broken r rung line) = PageBreaks r page parts rung line
 
 -- the fault lies near the drawing: at most one rung and twelve lines past its end
 abbrev pub IsNear : ℕ → ℕ → Stop → Type 0

@@ -1,5 +1,6 @@
 ghost use Rattle.std.specs.Prelude.{◌≡◌, ◌≤◌, ◌<◌, ◌+◌, ◌-◌, [], ℕ, length, map, IfSome, IfNone, IfOk, IfErr, All};
-ghost use Rattle.ladder_grid.specs.Lines.{parts_of, last_gap, IsWithin};
+ghost use Rattle.ladder_grid.specs.Lines.{last_gap};
+ghost use Rattle.ladder_grid.specs.ReadLines.{IsWithin};
 ghost use Rattle.ladder_grid.specs.Drawing.{page, label_of, PartBreaks, IsSoundPart, labels_of, EndBreaks, IsSoundEnd, AreSound, IsSoundPage};
 ghost use Rattle.ladder_grid.specs.Stops.{ArePartsBroken, IsBrokenIn, IsNear};
 ghost use Rattle.ladder_grid.specs.declared.fault.Stop.TheVariants.{NoMemory, Broken};
@@ -104,10 +105,9 @@ pub(crate) fn check(
     unclosed: Option<usize>,
     parts: &[Part],
 ) -> Result<(), Stop>
-    requires parts { parts.now ≡ parts_of (map (λ l. l.now) lines.now) }
     requires within { All (IsWithin (length lines.now)) parts.now }
-    ensures sound { IfOk result (λ _. IsSoundPage (page decls.now (map (λ l. l.now) lines.now) unclosed)) }
-    ensures broken { IfErr result (IsBrokenIn (page decls.now (map (λ l. l.now) lines.now) unclosed)) }
+    ensures sound { IfOk result (λ _. IsSoundPage (page decls.now (map (λ l. l.now) lines.now) unclosed) parts.now) }
+    ensures broken { IfErr result (IsBrokenIn (page decls.now (map (λ l. l.now) lines.now) unclosed) parts.now) }
     ensures near { IfErr result (IsNear (length parts.now) (length lines.now)) }
 {
     let labels = read_parts(alloc, decls, lines, unclosed, parts)?;

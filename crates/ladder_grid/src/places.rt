@@ -1,5 +1,5 @@
 ghost use Rattle.std.specs.Prelude.{◌≡◌, ◌<◌, ◌++◌, length, map, IfOk, All};
-ghost use Rattle.ladder_grid.specs.Lines.{IsWithin};
+ghost use Rattle.ladder_grid.specs.ReadLines.{IsWithin};
 ghost use Rattle.ladder_grid.specs.Picture.{right_link, vertical};
 ghost use Rattle.ladder_grid.specs.Places.{rung_places, all_places, numbered_from};
 ghost use Rattle.ladder_grid.specs.Reading.{contact_memory, coil_memory, numbered, contact_on, coil_on, cell_with, cell_drawn, joint_of, joint_drawn};

@@ -1,8 +1,8 @@
 ghost use Rattle.std.specs.Prelude.{◌≡◌, length, IfOk, IfErr};
-ghost use Rattle.ladder_grid.specs.Lines.{lines_of, parts_of};
+ghost use Rattle.ladder_grid.specs.ReadLines.{lines_of, page_of, rungs_of};
 ghost use Rattle.ladder_grid.specs.Picture.{right_link, vertical};
-ghost use Rattle.ladder_grid.specs.Places.{places_of, cells_of};
-ghost use Rattle.ladder_grid.specs.Drawing.{page_of, IsSoundPage};
+ghost use Rattle.ladder_grid.specs.Places.{all_places, cells_of};
+ghost use Rattle.ladder_grid.specs.Drawing.{IsSoundPage};
 ghost use Rattle.ladder_grid.specs.Stops.{IsBrokenIn, IsSmall};
 ghost use Rattle.ladder_grid.specs.Reading.{joint_drawn, IsDrawn};
 
@@ -26,13 +26,13 @@ struct Lists {
 }
 
 fn read_lists(alloc: Global, decls: &Decls, text: &[u8]) -> Result<Lists, Stop>
-    ensures sound { IfOk result (λ _. IsSoundPage (page_of decls.now text.now)) }
-    ensures rungs { IfOk result (λ x. x.rungs ≡ length (parts_of (lines_of text.now))) }
-    ensures cells { IfOk result (λ x. x.cells.items ≡ cells_of decls.now text.now) }
-    ensures links { IfOk result (λ x. x.links.items ≡ places_of right_link text.now) }
-    ensures joints { IfOk result (λ x. x.joints.items ≡ places_of joint_drawn text.now) }
-    ensures verticals { IfOk result (λ x. x.verticals.items ≡ places_of vertical text.now) }
-    ensures broken { IfErr result (IsBrokenIn (page_of decls.now text.now)) }
+    ensures sound { IfOk result (λ _. IsSoundPage (page_of decls.now text.now) (rungs_of text.now)) }
+    ensures rungs { IfOk result (λ x. x.rungs ≡ length (rungs_of text.now)) }
+    ensures cells { IfOk result (λ x. x.cells.items ≡ cells_of (page_of decls.now text.now) (rungs_of text.now)) }
+    ensures links { IfOk result (λ x. x.links.items ≡ all_places right_link (lines_of text.now) (rungs_of text.now)) }
+    ensures joints { IfOk result (λ x. x.joints.items ≡ all_places joint_drawn (lines_of text.now) (rungs_of text.now)) }
+    ensures verticals { IfOk result (λ x. x.verticals.items ≡ all_places vertical (lines_of text.now) (rungs_of text.now)) }
+    ensures broken { IfErr result (IsBrokenIn (page_of decls.now text.now) (rungs_of text.now)) }
     ensures small { IfErr result IsSmall }
 {
     let unclosed = unclosed_line(text);
@@ -56,8 +56,8 @@ fn read_lists(alloc: Global, decls: &Decls, text: &[u8]) -> Result<Lists, Stop>
 
 /// The program that these declarations and the text behind them make.
 pub(crate) fn read_drawing(alloc: Global, decls: Decls, text: &[u8]) -> Result<Program, Stop>
-    ensures found { IfOk result (λ p. IsDrawn decls text.now p) }
-    ensures broken { IfErr result (IsBrokenIn (page_of decls text.now)) }
+    ensures found { IfOk result (λ p. IsDrawn (page_of decls text.now) (rungs_of text.now) p) }
+    ensures broken { IfErr result (IsBrokenIn (page_of decls text.now) (rungs_of text.now)) }
     ensures small { IfErr result IsSmall }
 {
     let lists = read_lists(alloc, &decls, text)?;
