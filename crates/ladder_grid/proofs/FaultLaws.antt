@@ -11,8 +11,7 @@ use Rattle.ladder_grid.specs.declared.fault.Stop.{Stop}
 use Rattle.ladder_grid.specs.declared.fault.Stop.TheVariants.{NoMemory, Broken}
 use Rattle.ladder_grid.specs.declared.fault.GridFault.{GridFault}
 use Rattle.ladder_grid.specs.Program.{Drawing}
-use Rattle.ladder_grid.specs.declared.lines.Part.{Part}
-use Rattle.ladder_grid.specs.Drawing.{Page, ReadsAs, IsSoundPage}
+use Rattle.ladder_grid.specs.Drawing.{ReadsAs, IsSoundPage}
 use Rattle.ladder_grid.specs.ReadLines.{page_of, rungs_of}
 use Rattle.ladder_grid.specs.Stops.{IsBrokenIn, fault_of}
 use Rattle.ladder_grid.specs.Reading.{IsProgram, IsMemory, IsRight}

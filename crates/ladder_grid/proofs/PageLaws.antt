@@ -1,9 +1,8 @@
 -- The page that is read is the page of the text, and the text reads as no other.
-use Rattle.std.proofs.Common.{◌≡◌, ℕ, List, [], ◌∷◌, Option, refl, sym, ap, subst, ◌∙◌}
+use Rattle.std.proofs.Common.{◌≡◌, ℕ, List, sym, ap, subst, ◌∙◌}
 use Rattle.ladder_vars.specs.Decls.{Declared}
 use Rattle.ladder_vars.specs.Grammar.{HasDecls}
 use Rattle.ladder_grid.specs.declared.lines.Part.{Part}
-use Rattle.ladder_grid.specs.Picture.{Lines}
 use Rattle.ladder_grid.specs.Lines.{AreParts}
 use Rattle.ladder_grid.specs.Drawing.{Page, page, ReadsAs}
 use Rattle.ladder_grid.specs.Program.{Drawing}

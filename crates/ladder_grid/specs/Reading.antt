@@ -1,11 +1,11 @@
 -- The program of a text: its declarations, and for each place of the picture what stands there.
-use Rattle.std.specs.Prelude.{◌≡◌, ℕ, zero, suc, ◌+◌, ◌/◌, ◌%◌, ◌<◌, ◌≤◌, ◌⊎◌, ◌==◌, false, List, length, take, drop, count_by, slice_index_or, Option, Some, None, if◌then◌else◌}
+use Rattle.std.specs.Prelude.{◌≡◌, ℕ, zero, suc, ◌+◌, ◌/◌, ◌%◌, ◌<◌, ◌≤◌, ◌⊎◌, ◌==◌, false, List, length, take, drop, slice_index_or, Option, Some, None, if◌then◌else◌}
 use Rattle.ladder_vars.specs.Decls.{Declared}
 use Rattle.ladder_vars.specs.Grammar.{HasDecls, HasNoDecls}
 use Rattle.ladder_vars.specs.Rules.{BreaksOn}
 use Rattle.ladder_vars.specs.declared.decls.Symbol.{Symbol}
 use Rattle.ladder_vars.specs.declared.decls.Symbol.TheVariants as symbol
-use Rattle.ladder_grid.specs.Bytes.{line_feed, dash, plus, bar}
+use Rattle.ladder_grid.specs.Bytes.{dash, plus, bar}
 use Rattle.ladder_grid.specs.declared.cell.Mode.{Mode}
 use Rattle.ladder_grid.specs.declared.cell.Mode.TheVariants as mode
 use Rattle.ladder_grid.specs.declared.cell.CoilMode.{CoilMode}
