@@ -1,5 +1,5 @@
 -- One cause more of a limited list.
-use Rattle.std.proofs.Common.{◌≡◌, ◌≢◌, ◌∙◌, ◌+◌, ◌-◌, ◌≤◌, ℕ, suc, List, [], ◌∷◌, ◌++◌, Option, Some, None, take, sym, refl, ap, append_assoc, arith, length}
+use Rattle.std.proofs.Common.{◌≡◌, ◌≢◌, ◌∙◌, ◌+◌, ◌-◌, ◌≤◌, ℕ, suc, List, ◌∷◌, ◌++◌, Option, Some, None, sym, refl, ap, append_assoc, arith, length}
 use Rattle.std.specs.Prelude.{IfSome}
 use Rattle.ladder_sim.specs.CauseText.{limited, row, rows}
 use Rattle.ladder_sim.specs.Block.{SendsAll}

@@ -1,10 +1,9 @@
 -- Laws of texts that are written one after the other.
-use Rattle.std.proofs.Common.{◌≡◌, ◌∙◌, ◌+◌, ◌^◌, ap, sym, refl, true, ℕ, List, [], ◌++◌, append_assoc, subst, inl, inr, arith}
-use Rattle.std.specs.Prelude.{◌⊎◌}
+use Rattle.std.proofs.Common.{◌≡◌, ◌∙◌, ap, sym, refl, ℕ, List, [], ◌++◌, append_assoc, inl, inr, arith}
 use Rattle.std.specs.Io.KnownBytes.{Appends}
 use Rattle.ladder_sim.specs.declared.tally.Tally.{Tally}
 use Rattle.ladder_sim.specs.Calls.{AllPass, LastFails, Passes}
-use Rattle.ladder_sim.specs.Log.{AppendsFront, PutsAll, PutsFront, WriteLog}
+use Rattle.ladder_sim.specs.Log.{PutsAll, PutsFront, WriteLog}
 use Rattle.ladder_sim.proofs.Bytes.{appends_more, appends_none}
 
 -- before the first call nothing is written

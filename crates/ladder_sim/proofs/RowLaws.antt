@@ -1,7 +1,9 @@
 -- The bits of a row, one after the other.
-use Rattle.std.proofs.Common.{◌≡◌, ◌∙◌, ℕ, ◌+◌, ◌-◌, ◌<◌, ◌≤◌, List, [], ◌∷◌, ◌++◌, sym, refl, ap, append_assoc, append-nil, map, codes, arith, length, take, drop, get_or}
-use Rattle.std.specs.List.{range_with_len}
-use Rattle.std.proofs.lemmas.List.{map-append, map_more, take-append-drop}
+use Rattle.std.proofs.Common.{◌≡◌, ◌∙◌, ℕ, ◌+◌, ◌-◌, ◌*◌, ◌<◌, ◌≤◌, List, [], ◌∷◌, ◌++◌, sym, refl, ap, append_assoc, append-nil, map, codes, arith, length, take, drop, get_or, set, length-append, length-set}
+use Rattle.std.proofs.lemmas.Grind.{take-set_at}
+use Rattle.std.specs.List.{range_with_len, slice_range}
+use borrow.Rule.Slice.PartMut.{put_mid, post_of}
+use Rattle.std.proofs.lemmas.List.{drop_at, length-take-le, map-append, map_more, take-append-drop, take_at}
 use Rattle.ladder_causes.specs.Assignment.{bit_of}
 use Rattle.ladder_causes.proofs.SourceLaws.{range_with_len-add}
 use Rattle.ladder_sim.specs.CauseText.{behind_commas, bit_text, bits}
@@ -24,19 +26,38 @@ bits_more k n i =
     ∙ ap (λ j. behind_commas (bits k n i) ++ (codes "," ++ (f j ++ []))) here
     ∙ ap (λ t. behind_commas (bits k n i) ++ (codes "," ++ t)) (append-nil (f i))
 
--- all bits, cut behind one of them
-pub bits_cut : (k n i : ℕ) → i < k
-    → (after : List ℕ) × (behind_commas (bits k n k) ≡ behind_commas (bits k n i) ++ ((codes "," ++ bit_text (bit_of k i n)) ++ after))
-bits_cut k n i h =
-    let f = λ (place : ℕ). bit_text (bit_of k place n) in
-    let after = behind_commas (map f (range_with_len (0 + (i + 1)) (k - (i + 1)))) in
-    let split : k ≡ (i + 1) + (k - (i + 1)) = omega arith in
-    let whole : behind_commas (bits k n k) ≡ behind_commas (bits k n (i + 1)) ++ after =
-    ap (λ m. behind_commas (bits k n m)) split
-    ∙ ap (λ xs. behind_commas (map f xs)) (range_with_len-add 0 (i + 1) (k - (i + 1)))
-    ∙ ap behind_commas (map-append f (range_with_len 0 (i + 1)) (range_with_len (0 + (i + 1)) (k - (i + 1))))
-    ∙ behind_commas-append (bits k n (i + 1)) (map f (range_with_len (0 + (i + 1)) (k - (i + 1)))) in
-    (after, whole ∙ ap (λ t. t ++ after) (bits_more k n i) ∙ append_assoc (behind_commas (bits k n i)) (codes "," ++ f i) after)
+-- one bit more that is written on a text
+pub bit_more : (text : List ℕ) (k n i digit : ℕ) → 2 * i + 1 < length text → take (2 * i) text ≡ behind_commas (bits k n i)
+    → digit ∷ [] ≡ bit_text (bit_of k i n)
+    → take (2 * (i + 1)) (set (set text (2 * i) 44) (2 * i + 1) digit) ≡ behind_commas (bits k n (i + 1))
+bit_more text k n i digit room so_far is =
+    let first : take (2 * i + 1) (set text (2 * i) 44) ≡ take (2 * i) text ++ 44 ∷ [] = take-set_at text (2 * i) (2 * i + 1) 44 (omega arith) (omega arith) in
+    let long : 2 * i + 1 < length (set text (2 * i) 44) = rw (length-set text (2 * i) 44) room in
+    take-set_at (set text (2 * i) 44) (2 * i + 1) (2 * (i + 1)) digit (omega arith) long
+    ∙ ap (λ t. t ++ digit ∷ []) (first ∙ ap (λ t. t ++ 44 ∷ []) so_far)
+    ∙ append_assoc (behind_commas (bits k n i)) (44 ∷ []) (digit ∷ [])
+    ∙ ap (λ t. behind_commas (bits k n i) ++ 44 ∷ t) is
+    ∙ sym (bits_more k n i)
+
+-- digits that end where the end of a row begins, which was written on the part of a text behind a place
+pub row_is : (text part whole digits ends : List ℕ) (at k m n start : ℕ) → at ≤ length text → m ≤ length part → take m part ≡ ends
+    → start + length digits ≡ at → drop start whole ≡ digits ++ drop at (put_mid at k text part) → n ≡ at + m
+    → slice_range whole start n ≡ digits ++ ends
+row_is text part whole digits ends at k m n start room more is begins written stops =
+    let after = drop m part ++ post_of at k text in
+    let behind : drop at (put_mid at k text part) ≡ part ++ post_of at k text = drop_at (take at text) (part ++ post_of at k text) at (length-take-le at text room) in
+    let parts : part ++ post_of at k text ≡ ends ++ after =
+    ap (λ xs. xs ++ post_of at k text) (sym (take-append-drop m part) ∙ ap (λ xs. xs ++ drop m part) is) ∙ append_assoc ends (drop m part) (post_of at k text) in
+    let cut : drop start whole ≡ (digits ++ ends) ++ after =
+    written ∙ ap (λ xs. digits ++ xs) (behind ∙ parts) ∙ sym (append_assoc digits ends after) in
+    let many : length ends ≡ m = ap length (sym is) ∙ length-take-le m part more in
+    let long : length (digits ++ ends) ≡ n - start = omega (arith, length-append digits ends, many) in
+    ap (take (n - start)) cut ∙ take_at (digits ++ ends) after (n - start) long
+
+-- there is room for digits in front of that part
+pub digits_fit : (text part : List ℕ) (at k : ℕ) → at ≤ length text → at ≤ length (put_mid at k text part)
+digits_fit text part at k room =
+    omega (arith, length-append (take at text) (part ++ post_of at k text), length-take-le at text room)
 
 -- one item more, each behind a comma
 pub behind_more : {A : Type 0} (f : A → List ℕ) (items : List A) (i : ℕ) (d : A) → i < length items

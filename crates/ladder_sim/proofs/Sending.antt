@@ -1,8 +1,7 @@
 -- Texts that are written through a buffer, one after the other.
-use Rattle.std.proofs.Common.{◌≡◌, ◌∙◌, ℕ, List, [], ◌∷◌, ◌++◌, sym, ap, append_assoc, append-nil, length, take, drop, get_or, ◌+◌, ◌<◌, add-one, take-suc, Result, Ok, Err}
-use Rattle.std.proofs.lemmas.List.{take-append-drop}
+use Rattle.std.proofs.Common.{◌≡◌, ◌∙◌, ℕ, List, [], ◌++◌, sym, ap, append_assoc, append-nil, Result, Ok, Err}
 use Rattle.ladder_sim.specs.Block.{Sends, SendsAll}
-use Rattle.ladder_sim.specs.Log.{PutsFront, WriteLog}
+use Rattle.ladder_sim.specs.Log.{Puts, PutsAll, PutsFront, WriteLog}
 use Rattle.ladder_sim.proofs.Puts.{front_after, puts_more, puts_none}
 
 pub sends_none : (a : WriteLog) (waited : List ℕ) → SendsAll a a waited waited []
@@ -36,15 +35,6 @@ sends_front a b c w0 w1 whole text more after e p q =
     ∙ sym (append_assoc p.sent (w1 ++ more) after) in
     front_after a b c (w0 ++ whole) p.sent (w1 ++ more) after cut p.wrote q
 
-pub take_more : (p : List ℕ) (i : ℕ) → i < length p → take (i + 1) p ≡ take i p ++ (get_or p i 0 ∷ [])
-take_more p i h = rw (add-one i) (take-suc p i 0 h)
-
-pub cut_at : (p : List ℕ) (i : ℕ) → i < length p → p ≡ take i p ++ ((get_or p i 0 ∷ []) ++ drop (i + 1) p)
-cut_at p i h =
-    sym (take-append-drop (i + 1) p)
-    ∙ ap (λ x. x ++ drop (i + 1) p) (take_more p i h)
-    ∙ append_assoc (take i p) (get_or p i 0 ∷ []) (drop (i + 1) p)
-
 -- the last part of a text
 pub sends_last : {T E : Type 0} (a b c : WriteLog) (w0 w1 w2 whole text more : List ℕ) (r : Result T E) → whole ≡ text ++ more → SendsAll a b w0 w1 text
     → Sends b c w1 w2 r more → Sends a c w0 w2 r whole
@@ -56,3 +46,8 @@ sends_last a b c w0 w1 w2 whole text more (Err x) e p q =
 pub flush_front : (a b c : WriteLog) (w1 whole : List ℕ) → SendsAll a b [] w1 whole → PutsFront b c w1 → PutsFront a c whole
 flush_front a b c w1 whole p q =
     front_after a b c whole p.sent w1 [] (p.cut ∙ sym (append-nil (p.sent ++ w1))) p.wrote q
+
+-- a text that is written behind all that waited
+pub sends_through : {T E : Type 0} (a b c : WriteLog) (w0 text : List ℕ) (r : Result T E) → PutsAll a b w0 → Puts b c r text → Sends a c w0 [] r text
+sends_through a b c w0 text (Ok x) p q = record { sent = w0 ++ text; cut = sym (append-nil (w0 ++ text)); wrote = puts_more a b c w0 text p q }
+sends_through a b c w0 text (Err x) p q = front_after a b c (w0 ++ text) w0 text [] (sym (append-nil (w0 ++ text))) p q

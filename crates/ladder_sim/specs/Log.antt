@@ -1,5 +1,5 @@
 -- What a reader has left and a writer has taken, with the count of their calls.
-use Rattle.std.specs.Prelude.{◌≡◌, ◌≤◌, ◌++◌, ℕ, List, Option, Result, MatchResult}
+use Rattle.std.specs.Prelude.{◌≡◌, ◌++◌, ℕ, List, Option, Result, MatchResult}
 use Rattle.std.specs.Io.KnownBytes.{Appends}
 use Rattle.ladder_sim.specs.declared.tally.Tally.{Tally}
 use Rattle.ladder_sim.specs.Calls.{AllPass, LastFails}

@@ -1,11 +1,10 @@
 //! Bytes that wait to be written, many at a call.
-ghost use Rattle.std.specs.Prelude.{◌≡◌, ◌<◌, ◌++◌, ◌∷◌, [], decimal, length, OnOk, take};
+ghost use Rattle.std.specs.Prelude.{◌≡◌, ◌+◌, ◌≤◌, ◌++◌, [], length, take};
 ghost use Rattle.ladder_sim.specs.Block.{Sends};
 ghost use Rattle.ladder_sim.specs.Log.{Puts};
 
 use super::fault::WriteFault;
 use super::sink::{Sink, put};
-use itoa::Buffer;
 use std::marker::Model;
 
 /// How many bytes wait at most.
@@ -51,35 +50,27 @@ impl Block {
         put(writer, &self.bytes[..used])
     }
 
-    fn push(&mut self, byte: u8)
-        requires { length self.old < BLOCK }
-        ensures { self.new ≡ self.old ++ byte ∷ [] }
+    /// Takes a piece that there is room for.
+    fn take(&mut self, piece: &[u8])
+        requires { length self.old + length piece.now ≤ BLOCK }
+        ensures { self.new ≡ self.old ++ piece.now }
     {
-        self.bytes[self.used] = byte;
-        self.used += 1;
+        let end = self.used + piece.len();
+        self.bytes[self.used..end].copy_from_slice(piece);
+        self.used = end;
     }
 
-    /// Makes room for a byte.
-    fn make_room<W: Sink>(&mut self, writer: &mut W) -> Result<(), WriteFault>
-        ensures sends { Sends (W.log writer.old) (W.log writer.new) self.old self.new result [] }
-        ensures room { OnOk result (length self.new < BLOCK) }
+    /// Writes what waits and then the piece, for which there is no room.
+    fn write_through<W: Sink>(&mut self, piece: &[u8], writer: &mut W) -> Result<(), WriteFault>
+        ensures { Sends (W.log writer.old) (W.log writer.new) self.old self.new result piece.now }
     {
-        if self.used < BLOCK {
-            return Ok(());
-        }
         let Ok(()) = self.flush(writer) else {
             return Err(WriteFault);
         };
-        Ok(())
-    }
-
-    fn add_byte<W: Sink>(&mut self, byte: u8, writer: &mut W) -> Result<(), WriteFault>
-        ensures { Sends (W.log writer.old) (W.log writer.new) self.old self.new result (byte ∷ []) }
-    {
-        let Ok(()) = self.make_room(writer) else {
-            return Err(WriteFault);
-        };
-        self.push(byte);
+        if BLOCK < piece.len() {
+            return put(writer, piece);
+        }
+        self.take(piece);
         Ok(())
     }
 
@@ -87,23 +78,10 @@ impl Block {
     pub(crate) fn add<W: Sink>(&mut self, piece: &[u8], writer: &mut W) -> Result<(), WriteFault>
         ensures { Sends (W.log writer.old) (W.log writer.new) self.old self.new result piece.now }
     {
-        for byte in piece {
-            let Ok(()) = self.add_byte(*byte, writer) else {
-                return Err(WriteFault);
-            };
+        if BLOCK - self.used < piece.len() {
+            return self.write_through(piece, writer);
         }
+        self.take(piece);
         Ok(())
-    }
-
-    /// Takes a number in decimal.
-    pub(crate) fn add_number<W: Sink>(
-        &mut self,
-        number: u64,
-        writer: &mut W,
-    ) -> Result<(), WriteFault>
-        ensures { Sends (W.log writer.old) (W.log writer.new) self.old self.new result (decimal number) }
-    {
-        let mut buffer = Buffer::new();
-        self.add(buffer.format(number).as_bytes(), writer)
     }
 }

@@ -1,16 +1,25 @@
 //! The text of a list of causes.
-ghost use Rattle.std.specs.Prelude.{◌≡◌, ◌≢◌, ◌<◌, ◌≤◌, ◌++◌, ◌^◌, IfOk, Some, codes, false, length, map, slice_get, true};
+ghost use Rattle.std.specs.Prelude.{◌≡◌, ◌≢◌, ◌+◌, ◌*◌, ◌<◌, ◌≤◌, ◌++◌, ◌∷◌, ◌^◌, [], IfOk, Some, codes, false, length, map, slice_get, take, true};
 ghost use Rattle.ladder_causes.specs.Assignment.{bit_of};
+ghost use Rattle.std.specs.List.{slice_range};
 ghost use Rattle.ladder_sim.specs.Block.{Sends};
 ghost use Rattle.ladder_sim.specs.CauseText.{behind_commas, bit_text, bits, cause_text, header, limited, name_in, row, rows};
 ghost use Rattle.ladder_sim.specs.Log.{Puts};
+ghost use Rattle.ladder_sim.specs.declared.cause_text.TheConstants.{DIGITS, ROW};
 
 use super::block::Block;
 use super::fault::WriteFault;
 use super::sink::Sink;
+use itoa::write_digits;
 use ladder_causes::Causes;
 use ladder_grid::Program;
 use ladder_vars::Decls;
+
+/// How many digits a number has at most.
+const DIGITS: usize = 20;
+
+/// How many bytes a row has at most: a number, 64 bits, each behind a comma, and a line feed.
+const ROW: usize = 149;
 
 /// How a variable is spelled where it is declared.
 fn name_bytes(decls: &Decls, var: usize) -> &[u8]
@@ -69,14 +78,11 @@ fn add_header<W: Sink>(
     block.add(b"\n", writer)
 }
 
-fn add_bit<W: Sink>(block: &mut Block, bit: bool, writer: &mut W) -> Result<(), WriteFault>
-    ensures { Sends (W.log writer.old) (W.log writer.new) block.old block.new result (codes "," ++ bit_text bit) }
+/// The digit of a bit.
+fn digit(bit: bool) -> u8
+    ensures { result ∷ [] ≡ bit_text bit }
 {
-    if bit {
-        block.add(b",1", writer)
-    } else {
-        block.add(b",0", writer)
-    }
+    if bit { b'1' } else { b'0' }
 }
 
 /// The bit of the i-th of `listed` inputs.
@@ -87,24 +93,31 @@ fn bit_of(listed: usize, place: usize, number: u64) -> bool
     (number >> (listed - (place + 1))) & 1 == 1
 }
 
-fn add_bits<W: Sink>(
-    block: &mut Block,
-    listed: usize,
-    number: u64,
-    writer: &mut W,
-) -> Result<(), WriteFault>
-    requires { listed ≤ 64 }
-    ensures { Sends (W.log writer.old) (W.log writer.new) block.old block.new result (behind_commas (bits listed number listed)) }
+/// Writes the end of a number's row on the front of a text: its bits, each behind a comma, and a line feed.
+fn fill_end(text: &mut [u8], listed: usize, number: u64)
+    requires few { listed ≤ 64 }
+    requires room { 2 * listed < length text.old }
+    ensures { take (2 * listed + 1) text.new ≡ behind_commas (bits listed number listed) ++ codes "\n" }
 {
     for place in 0..listed {
-        let Ok(()) = add_bit(block, bit_of(listed, place, number), writer) else {
-            return Err(WriteFault);
-        };
+        text[2 * place] = b',';
+        text[2 * place + 1] = digit(bit_of(listed, place, number));
     }
-    Ok(())
+    text[2 * listed] = b'\n';
 }
 
-/// Adds the row of a number.
+/// Writes the row of a number into a text, and answers where it begins: its digits end at `DIGITS`, and the rest follows.
+fn write_row(text: &mut [u8], listed: usize, number: u64) -> usize
+    requires few { listed ≤ 64 }
+    requires room { length text.old ≡ ROW }
+    ensures start { result ≤ DIGITS }
+    ensures row { slice_range text.new result (DIGITS + 2 * listed + 1) ≡ row listed number }
+{
+    fill_end(&mut text[DIGITS..], listed, number);
+    write_digits(number, text, DIGITS)
+}
+
+/// Adds the row of a number, as one piece.
 fn add_row<W: Sink>(
     block: &mut Block,
     listed: usize,
@@ -114,13 +127,9 @@ fn add_row<W: Sink>(
     requires { listed ≤ 64 }
     ensures { Sends (W.log writer.old) (W.log writer.new) block.old block.new result (row listed number) }
 {
-    let Ok(()) = block.add_number(number, writer) else {
-        return Err(WriteFault);
-    };
-    let Ok(()) = add_bits(block, listed, number, writer) else {
-        return Err(WriteFault);
-    };
-    block.add(b"\n", writer)
+    let mut text = [0; ROW];
+    let start = write_row(&mut text, listed, number);
+    block.add(&text[start..DIGITS + 2 * listed + 1], writer)
 }
 
 /// How much of a list was written.

@@ -1,5 +1,5 @@
 //! Writers that count their calls, and the writing of a whole text.
-ghost use Rattle.std.specs.Prelude.{◌≡◌, ◌<◌, ◌≤◌, length, IfOk, OnOk, OnErr};
+ghost use Rattle.std.specs.Prelude.{◌≡◌, ◌<◌, ◌≤◌, length, IfOk, OnOk, OnErr, false};
 ghost use Rattle.std.specs.Io.KnownBytes.{WriteAppends};
 ghost use Rattle.ladder_sim.specs.Calls.{Fails, Passes};
 ghost use Rattle.ladder_sim.specs.Log.{Puts, WriteLog};
@@ -41,6 +41,7 @@ impl<W: Write> Writing<W> {
         ensures contents { (writing_log W.contents result).contents ≡ W.contents inner }
         ensures calls { (writing_log W.contents result).tally.calls ≡ 0 }
         ensures failures { (writing_log W.contents result).tally.failures ≡ 0 }
+        ensures failed { (writing_log W.contents result).tally.failed ≡ false }
     {
         Writing {
             inner,

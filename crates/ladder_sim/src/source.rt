@@ -1,5 +1,5 @@
 //! Readers that count their calls.
-ghost use Rattle.std.specs.Prelude.{◌≡◌, ◌≤◌, length, IfOk, OnOk, OnErr};
+ghost use Rattle.std.specs.Prelude.{◌≡◌, ◌≤◌, length, IfOk, OnOk, OnErr, false};
 ghost use Rattle.std.specs.Io.KnownBytes.{ReadConsumes};
 ghost use Rattle.ladder_sim.specs.Calls.{Fails, Passes};
 ghost use Rattle.ladder_sim.specs.Log.{ReadLog};
@@ -39,6 +39,7 @@ impl<R: Read> Reading<R> {
         ensures remaining { (reading_log R.remaining result).remaining ≡ R.remaining inner }
         ensures calls { (reading_log R.remaining result).tally.calls ≡ 0 }
         ensures failures { (reading_log R.remaining result).tally.failures ≡ 0 }
+        ensures failed { (reading_log R.remaining result).tally.failed ≡ false }
     {
         Reading {
             inner,

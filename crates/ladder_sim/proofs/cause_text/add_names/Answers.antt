@@ -1,4 +1,4 @@
-use Rattle.std.proofs.Common.{◌++◌, ◌+◌, codes, drop, get_or, map, slice_get, sym, take}
+use Rattle.std.proofs.Common.{◌+◌, drop, map, slice_get, sym, take}
 use Rattle.ladder_sim.specs.CauseText.{behind_commas, name_in}
 use Rattle.ladder_sim.proofs.RowLaws.{behind_cut, behind_more}
 use Rattle.ladder_sim.proofs.Sending.{sends_front, sends_more, sends_same}

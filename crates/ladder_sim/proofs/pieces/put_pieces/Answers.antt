@@ -1,4 +1,4 @@
-use Rattle.std.proofs.Common.{◌+◌, ◌++◌, take, drop, sym}
+use Rattle.std.proofs.Common.{take, sym}
 use Rattle.ladder_sim.specs.Pieces.{pieces_text}
 use Rattle.ladder_sim.proofs.Puts.{front_after, puts_more, puts_same}
 use Rattle.ladder_sim.proofs.PieceLaws.{pieces_text-cut, pieces_text-take}
