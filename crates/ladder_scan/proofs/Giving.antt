@@ -1,5 +1,6 @@
 -- One turn of giving inputs: an input variable takes the next value, and any other variable keeps its own.
-use Rattle.std.proofs.Common.{◌≡◌, ℕ, ◌+◌, ◌<◌, ◌≤◌, Bool, true, false, List, [], ◌∷◌, ◌++◌, take, drop, length, get_or, set, zero, suc, add-one, refl, sym, ap, ap₂, ◌∙◌, arith, append_assoc}
+use Rattle.std.proofs.Common.{◌≡◌, ℕ, ◌+◌, ◌<◌, ◌≤◌, Bool, true, false, List, [], ◌∷◌, ◌++◌, map, cond, take, drop, length, get_or, set, zero, suc, add-one, refl, sym, ap, ap₂, ◌∙◌, arith, append_assoc}
+use Rattle.std.specs.List.{prefix_len}
 use Rattle.std.proofs.lemmas.List.{drop_more, drop_all, take_more, take_more_set, take_all, append-nil, drop-set-lt}
 use Rattle.ladder_scan.specs.Scan.{given}
 
@@ -7,6 +8,17 @@ short : (flags : List Bool) (n : ℕ) → get_or flags n false ≡ true → n < 
 short [] n h = cc
 short (b ∷ flags) zero h = omega arith
 short (b ∷ flags) (suc n) h = let k = short flags n h in omega (arith, k)
+
+-- the flags of the first elements that pass are ON
+pub leading_on : {X : Type 0} (p : X → Bool) (xs : List X) (i : ℕ) → i < prefix_len p xs → get_or (map p xs) i false ≡ true
+leading_on p [] i h = absurd (omega arith)
+leading_on p (x ∷ xs) i h = by (p x) refl (leading_on p xs) i h
+  where
+    by : (b : Bool) → p x ≡ b → ((j : ℕ) → j < prefix_len p xs → get_or (map p xs) j false ≡ true)
+        → (j : ℕ) → j < cond b (1 + prefix_len p xs) 0 → get_or (map p (x ∷ xs)) j false ≡ true
+    by true e rest zero l = e
+    by true e rest (suc j) l = rest j (omega arith)
+    by false e rest j l = absurd (omega arith)
 
 module _ {S : Type 0} where
   no_input : (flags : List Bool) (n : ℕ) → get_or flags n false ≡ false → (xs : List S) (v : S) (vs : List S) → given (drop n flags) xs (v ∷ vs) ≡ v ∷ given (drop (suc n) flags) xs vs

@@ -200,7 +200,7 @@ fn look_fields<S: Signal>(
     ensures { values.new ≡ after_look S.algebra (diagram_of program.now) now inputs.now (held stored.now memories.now blocks.now) }
 {
     know(stored, values);
-    give(program.decls().vars(), inputs, values);
+    give(program.decls(), inputs, values);
     know_ends(blocks, ends);
     look_rungs(program, memories, blocks, now, values, ends, taken, links);
 }

@@ -14,7 +14,7 @@ use crate::signal::Signal;
 use crate::state::State;
 use crate::sweep::{Scene, checked, find_links, value};
 use ladder_grid::Program;
-use ladder_vars::{Var, VarKind};
+use ladder_vars::{Decls, Var, VarKind};
 
 /// The moment of a scan is before that of the state.
 #[derive(Clone, Copy, Debug, PartialEq, Eq)]
@@ -29,18 +29,6 @@ fn is_input_at(vars: &[Var], number: usize) -> bool
     }
 }
 
-/// Whether the first `count` variables are inputs.
-fn are_leading(vars: &[Var], count: usize) -> bool
-    ensures { result ≡ true → (i : ℕ) → i < count → slice_index_or (map is_input vars.now) i false ≡ true }
-{
-    for number in 0..count {
-        if !is_input_at(vars, number) {
-            return false;
-        }
-    }
-    true
-}
-
 fn give_leading<S: Signal>(inputs: &[S], values: &mut [S])
     requires { length inputs.now ≤ length values.old }
     ensures { values.new ≡ inputs.now ++ drop (length inputs.now) values.old }
@@ -50,14 +38,14 @@ fn give_leading<S: Signal>(inputs: &[S], values: &mut [S])
 
 /// Gives the input variables their values, in order of declaration. Where the inputs are declared first, as they mostly
 /// are, this is one copy.
-pub(crate) fn give<S: Signal>(vars: &[Var], inputs: &[S], values: &mut [S])
-    ensures { values.new ≡ given (map is_input vars.now) inputs.now values.old }
+pub(crate) fn give<S: Signal>(decls: &Decls, inputs: &[S], values: &mut [S])
+    ensures { values.new ≡ given (map is_input decls.now.vars) inputs.now values.old }
 {
-    if inputs.len() <= values.len() && are_leading(vars, inputs.len()) {
+    if inputs.len() <= values.len() && inputs.len() <= decls.leading_inputs() {
         give_leading(inputs, values);
         return;
     }
-    give_each(vars, inputs, values);
+    give_each(decls.vars(), inputs, values);
 }
 
 /// Goes over all variables, inputs or not.
@@ -189,7 +177,7 @@ fn scan_fields(
         ≡ after_scan (diagram_of program.now) now inputs.now (held values.old memories.old blocks.old) }
     ensures timed { AreTimed now blocks.old → AreTimed now blocks.new }
 {
-    give(program.decls().vars(), inputs, values);
+    give(program.decls(), inputs, values);
     scan_rungs(program, now, values, memories, blocks, start, ends);
 }
 

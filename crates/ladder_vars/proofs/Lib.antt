@@ -5,6 +5,7 @@ mod TextFaults
 pub mod Numbers
 mod Durations
 mod Keeping
+mod Leading
 mod Lists
 mod DeclLoop
 mod WordLaws

@@ -1,5 +1,5 @@
 -- Private to the proofs: declarations read from left to right, as the code reads them, with the first fault that is met.
-use Rattle.std.specs.Prelude.{◌≡◌, ℕ, zero, suc, ◌+◌, Bool, false, ◌||◌, ◌==◌, ◌≤◌, nat_le, List, [], ◌∷◌, ◌++◌, length, codes, Option, Some, None, if◌then◌else◌, Result, Ok, Err}
+use Rattle.std.specs.Prelude.{◌≡◌, ℕ, zero, suc, ◌+◌, Bool, false, ◌||◌, ◌&&◌, ◌==◌, ◌≤◌, nat_le, List, [], ◌∷◌, ◌++◌, length, codes, Option, Some, None, if◌then◌else◌, Result, Ok, Err}
 use Rattle.std.specs.List.{list_any}
 use Rattle.ladder_vars.specs.declared.fault.VarRule.{VarRule}
 use Rattle.ladder_vars.specs.declared.fault.VarRule.TheVariants as rule
@@ -14,7 +14,7 @@ use Rattle.ladder_vars.specs.declared.decls.Instance.{Instance}
 use Rattle.ladder_vars.specs.declared.decls.Body.{Body}
 use Rattle.ladder_vars.specs.declared.decls.Body.TheVariants as body
 use Rattle.ladder_vars.specs.Name.{same_letters, is_name, has_name_form}
-use Rattle.ladder_vars.specs.Decls.{Declared, same_address, largest_preset}
+use Rattle.ladder_vars.specs.Decls.{Declared, is_input_kind, same_address, largest_preset}
 use Rattle.ladder_vars.specs.Text.{begins, is_word_byte}
 use Rattle.ladder_vars.specs.Grammar.{bit_of, block_of, parameter_of}
 use Rattle.ladder_vars.specs.ReadText.{◌>>=◌, token_at, unfinished}
@@ -151,6 +151,10 @@ refusal declared name (body.Instance kind preset) =
     if nat_le 10 (length name) then Some rule.BadName
     else (if is_declared declared name then Some rule.Duplicate
     else (if nat_le 64 (length declared.instances) then Some rule.TooMany else None))
+
+-- how many inputs lead, with one more variable behind so many others
+abbrev pub leading_with : ℕ → ℕ → var_kind.the_data → ℕ
+leading_with leading count kind = if leading == count && is_input_kind kind then leading + 1 else leading
 
 abbrev pub with_var : Declared → Var → Declared
 with_var declared v = record { vars = declared.vars ++ v ∷ []; instances = declared.instances }

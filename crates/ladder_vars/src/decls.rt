@@ -1,8 +1,8 @@
-ghost use Rattle.std.specs.Prelude.{◌≡◌, OnOk, IsNone, position, count_by};
-ghost use Rattle.std.specs.List.{list_any};
+ghost use Rattle.std.specs.Prelude.{◌≡◌, ◌≤◌, OnOk, IsNone, position, count_by};
+ghost use Rattle.std.specs.List.{list_any, prefix_len};
 ghost use Rattle.ladder_vars.specs.Name.{same_letters};
 ghost use Rattle.ladder_vars.specs.Decls.{is_input, find, AreKept};
-ghost use Rattle.ladder_vars.specs.ReadDecls.{is_there, is_declared, is_taken, refusal, nothing, added, with_var, with_instance, with_decl, GivesInMemory, PresetFits};
+ghost use Rattle.ladder_vars.specs.ReadDecls.{is_there, is_declared, is_taken, refusal, nothing, added, leading_with, with_var, with_instance, with_decl, GivesInMemory, PresetFits};
 
 use crate::fault::{Fault, ReadFault, VarRule};
 use crate::name::Name;
@@ -98,16 +98,21 @@ pub enum Symbol {
 pub struct Decls {
     vars: Vec<Var>,
     instances: Vec<Instance>,
+    /// How many inputs stand before the first variable that is none.
+    leading: usize,
 }
 
 impl Model for Decls {
-    ghost use Rattle.ladder_vars.specs.Decls.{Declared, AreKept};
+    ghost use Rattle.std.specs.Prelude.{◌≡◌};
+    ghost use Rattle.std.specs.List.{prefix_len};
+    ghost use Rattle.ladder_vars.specs.Decls.{Declared, AreKept, is_input};
 
     ghost Value = { Declared };
 
     ghost view = { λ d. record { vars = d.vars.items; instances = d.instances.items } };
 
-    ghost invariant = { λ d. AreKept (record { vars = d.vars.items; instances = d.instances.items }) };
+    ghost invariant = { λ d. AreKept (record { vars = d.vars.items; instances = d.instances.items })
+        × (d.leading ≡ prefix_len is_input d.vars.items) };
 }
 
 fn var_at(vars: &[Var], name: &Name) -> Option<usize>
@@ -129,6 +134,18 @@ fn is_there(place: Option<Address>, address: Address) -> bool
     match place {
         Some(other) => address == other,
         None => false,
+    }
+}
+
+/// How many inputs lead, with one more variable behind `count` others.
+fn leading_with(leading: usize, count: usize, kind: VarKind) -> usize
+    requires { leading ≤ 256 }
+    ensures { result ≡ leading_with leading count kind }
+{
+    if leading == count && kind == VarKind::Input {
+        leading + 1
+    } else {
+        leading
     }
 }
 
@@ -157,6 +174,7 @@ impl Decls {
         Decls {
             vars: Vec::new(alloc),
             instances: Vec::new(alloc),
+            leading: 0,
         }
     }
 
@@ -211,7 +229,9 @@ impl Decls {
         requires { AreKept (with_var self.old var) }
         ensures { OnOk result (self.new ≡ with_var self.old var) }
     {
+        let leading = leading_with(self.leading, self.vars.len(), var.kind);
         self.vars.push(var)?;
+        self.leading = leading;
         Ok(())
     }
 
@@ -278,6 +298,13 @@ impl Decls {
             .iter()
             .filter(|v| v.kind == VarKind::Input)
             .count()
+    }
+
+    /// How many inputs are declared before the first variable that is none.
+    pub fn leading_inputs(&self) -> usize
+        ensures { result ≡ prefix_len is_input self.now.vars }
+    {
+        self.leading
     }
 
     /// What the name stands for, where it is declared: letter case makes no difference.

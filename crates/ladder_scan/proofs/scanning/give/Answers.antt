@@ -1,9 +1,10 @@
 use Rattle.std.proofs.Common.{◌∙◌, sym, map, arith}
 use Rattle.ladder_vars.specs.Decls.{is_input}
-use Rattle.ladder_scan.proofs.Giving.{given_leading}
+use Rattle.ladder_scan.proofs.Giving.{given_leading, leading_on}
 use Rattle.ladder_scan.proofs.scanning.give.Goals as goal
 
-pub returns-then-are_leading : goal.returns-then-are_leading
-returns-then-are_leading g c =
+pub returns-then-inputs-leading_inputs : goal.returns-then-inputs-leading_inputs
+returns-then-inputs-leading_inputs g c =
     c.give_leading.ensures
-    ∙ sym (given_leading (map is_input c.args.vars.now) c.args.inputs.now c.args.values.now (omega arith) (c.are_leading.ensures c.if-are_leading.true))
+    ∙ sym (given_leading (map is_input c.args.decls.now.vars) c.args.inputs.now c.args.values.now c.if-inputs-values.true
+    (λ i below. leading_on is_input c.args.decls.now.vars i (omega (arith, below, c.if-inputs-leading_inputs.true, c.leading_inputs.ensures))))

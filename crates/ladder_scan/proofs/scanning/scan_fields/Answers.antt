@@ -12,7 +12,7 @@ use Rattle.ladder_scan.proofs.scanning.scan_fields.Goals as goal
 pub returns-clause-held : goal.returns-clause-held
 returns-clause-held c =
     by_rungs c.args.program.now c.requires.program c.args.now c.args.inputs.now c.args.values.now c.args.memories.now c.args.blocks.now _ _ _ _
-    (c.give.ensures ∙ ap (λ vs. given (map is_input vs) c.args.inputs.now c.args.values.now) (c.vars.ensures.value ∙ ap (λ x. x.vars) c.decls.ensures)) c.scan_rungs.ensures
+    (c.give.ensures ∙ ap (λ vs. given (map is_input vs) c.args.inputs.now c.args.values.now) (ap (λ x. x.vars) c.decls.ensures)) c.scan_rungs.ensures
 
 pub returns-clause-timed : goal.returns-clause-timed
 returns-clause-timed c = λ t.

@@ -14,7 +14,7 @@ returns-then-same_letters-clause-value c =
     ends _ _ _ _ _ c.loop-decls.invariant c.in_ok-word.ensures.value (sym c.same_letters.ensures ∙ c.if-same_letters.true)
 
 pub returns-then-same_letters-clause-kept : goal.returns-then-same_letters-clause-kept
-returns-then-same_letters-clause-kept c = subst AreKept c.decls.view_is c.decls.invariant
+returns-then-same_letters-clause-kept c = subst AreKept c.decls.view_is c.decls.invariant.0
 
 pub returns-in_err-name-clause-value : goal.returns-in_err-name-clause-value
 returns-in_err-name-clause-value c =
