@@ -39,9 +39,10 @@ pub record LatticeLaws (S : Type 0) (V : S → Type 0) (o : Algebra S) : Type 0 
   pub choice_off : (x y : S) → V x → V y → o.choice (o.known false) x y ≡ y
   pub choice_equal : (c x : S) → V c → V x → o.choice c x x ≡ x
 
--- What a signal allows: `P p` says that p is one of its places, and `A x p b` that x allows the truth value b there. Something is
--- allowed at each place, `known b` allows just b, and each operation allows what the plain operation gives on allowed values.
+-- What a signal allows: `P p` says that p is one of its places, and `A x p b` that x allows the truth value b there. There is a place;
+-- something is allowed at each, `known b` allows just b, and each operation allows what the plain operation gives on allowed values.
 pub record AllowsLaws (S : Type 0) (V : S → Type 0) (o : Algebra S) (P : ℕ → Type 0) (A : S → ℕ → Bool → Type 0) : Type 0 where
+  pub some_place : (p : ℕ) × P p
   pub some_allowed : (x : S) (p : ℕ) → V x → P p → (b : Bool) × A x p b
   pub known_allows : (b : Bool) (p : ℕ) → P p → A (o.known b) p b
   pub known_only : (b c : Bool) (p : ℕ) → P p → A (o.known b) p c → c ≡ b

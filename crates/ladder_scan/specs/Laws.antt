@@ -2,7 +2,7 @@
 use Rattle.std.specs.Prelude.{◌≡◌, ℕ, ◌<◌, List, Bool, Some}
 use Rattle.ladder_scan.specs.Algebra.{Algebra}
 use Rattle.ladder_scan.specs.Truth.{plain}
-use Rattle.ladder_scan.specs.Relations.{Both}
+use Rattle.ladder_scan.specs.Relations.{AllowsAt, Both}
 use Rattle.ladder_scan.specs.Cells.{Diagram, memory_in, block_in}
 use Rattle.ladder_scan.specs.Rung.{Held}
 use Rattle.ladder_scan.specs.Scan.{Evaluates, after_scan, given}
@@ -12,6 +12,12 @@ use Rattle.ladder_scan.specs.SignalScan.{after_look}
 abbrev pub LookKeeps : {A B : Type 0} → Algebra A → Algebra B → (A → B → Type 0) → Type 0
 LookKeeps {A} {B} a b R = (d : Diagram) (h : Held) (now : ℕ) (xs : List A) (vs : List B) → Both R xs vs
     → Both R (after_look a d now xs h) (after_look b d now vs h)
+
+-- Soundness of looks: where each input allows, at a place, the truth value that a scan is given, each value that the look leaves allows,
+-- at that place, the value that the scan leaves.
+abbrev pub LookAllows : {S : Type 0} → (S → Type 0) → Algebra S → (ℕ → Type 0) → (S → ℕ → Bool → Type 0) → Diagram → Type 0
+LookAllows {S} V o P A d = (p : ℕ) (h : Held) (now : ℕ) (xs : List S) (vs : List Bool) → Both (AllowsAt V P A p) xs vs
+    → Both (AllowsAt V P A p) (after_look o d now xs h) (after_scan d now vs h).values
 
 -- Each memory, and each instance, belongs to one cell.
 pub record Once (d : Diagram) : Type 0 where

@@ -50,6 +50,7 @@ plain_lattice = record {
 
 pub plain_allowed : AllowsLaws Bool AnyBool plain OnePlace plain_allows
 plain_allowed = record {
+  some_place = (0, refl);
   some_allowed = λ x p v h. (x, refl);
   known_allows = λ b p h. refl;
   known_only = λ b c p h a. sym a;

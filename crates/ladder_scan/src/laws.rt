@@ -1,12 +1,13 @@
 //! Laws over the definitions: each function does nothing, and its contract is the law.
-ghost use Rattle.ladder_scan.specs.Relations.{IsKept};
-ghost use Rattle.ladder_scan.specs.Laws.{LookKeeps, LookIsScan, FollowsJumps};
+ghost use Rattle.ladder_scan.specs.Relations.{AllowsAt, IsKept, allows_kept};
+ghost use Rattle.ladder_scan.specs.Laws.{FollowsJumps, LookAllows, LookIsScan, LookKeeps};
 ghost use Rattle.ladder_scan.specs.Programs.{diagram_of};
 ghost use Rattle.ladder_scan.specs.Histories.{TonHistory, TofHistory, TpHistory, CtuHistory, CtdHistory};
 
 use crate::signal::Signal;
 use crate::sweep::checked;
 use ladder_grid::Program;
+use std::marker::PhantomData;
 
 /// A relation between the values of two signals, one for each value of `Self`, that `known` and every operation keep.
 pub trait Relation {
@@ -23,6 +24,32 @@ pub trait Relation {
 pub fn related<R: Relation>()
     ensures { (at : R) → LookKeeps R.Left.algebra R.Right.algebra (R.related at) }
 {}
+
+/// What a signal allows at a place: the relation that makes looks sound.
+#[derive(Clone, Copy)]
+pub struct Allowed<S> {
+    pub place: u8,
+    pub of: PhantomData<S>,
+}
+
+impl<S: Signal> Relation for Allowed<S> {
+    type Left = S;
+
+    type Right = bool;
+
+    ghost related = { λ a. AllowsAt S.value S.place S.allows a.place };
+
+    ghost kept = { λ a. allows_kept S.value S.algebra S.place S.allows S.lattice S.allowed a.place };
+}
+
+/// A look is sound: from inputs that allow truth values at a place it leaves values that allow there what a scan leaves from
+/// those truth values.
+pub fn sound<S: Signal>(program: &Program)
+    ensures { LookAllows S.value S.algebra S.place S.allows (diagram_of program.now) }
+{
+    related::<Allowed<S>>();
+    look_is_scan(program);
+}
 
 /// What timers and counters answer after any list of steps.
 pub fn histories()
