@@ -1,6 +1,9 @@
 pub mod SourceLaws
 pub mod Asking
-pub mod Counting
 pub mod ListedPlaces
 pub mod Numbers
 pub mod Refusals
+pub mod Going
+pub mod Pruning
+pub mod Telling
+pub mod Knowledge

@@ -1,14 +1,21 @@
-//! Lists of causes: which assignments of the listed inputs switch a coil on.
+//! Lists of causes: which assignments of the listed inputs switch a coil on, found by a pruned search.
 #![tactic(auto)]
 
+mod asked;
 mod causes;
-mod cursor;
 mod fault;
-mod image;
+pub mod laws;
+mod probe;
 mod refusal;
+mod source;
+mod tree;
+mod tri;
+mod word;
 
-pub use cursor::Causes;
+pub use causes::Causes;
 pub use fault::CauseFault;
+pub use tri::Tri;
+pub use word::Word64;
 
 /// How many inputs a list of causes has at most.
-pub const LISTED_LIMIT: usize = 24;
+pub const LISTED_LIMIT: usize = 32;
