@@ -4,3 +4,4 @@ pub mod Limits
 pub mod PieceLaws
 pub mod RowLaws
 pub mod Sending
+pub mod Taking

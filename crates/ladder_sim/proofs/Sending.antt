@@ -1,5 +1,5 @@
 -- Texts that are written through a buffer, one after the other.
-use Rattle.std.proofs.Common.{◌≡◌, ◌∙◌, ℕ, List, [], ◌++◌, sym, ap, append_assoc, append-nil, Result, Ok, Err}
+use Rattle.std.proofs.Common.{◌≡◌, ◌∙◌, ℕ, List, [], ◌++◌, sym, subst, ap, append_assoc, append-nil, Result, Ok, Err}
 use Rattle.ladder_sim.specs.Block.{Sends, SendsAll}
 use Rattle.ladder_sim.specs.Log.{Puts, PutsAll, PutsFront, WriteLog}
 use Rattle.ladder_sim.proofs.Puts.{front_after, puts_more, puts_none}
@@ -51,3 +51,7 @@ flush_front a b c w1 whole p q =
 pub sends_through : {T E : Type 0} (a b c : WriteLog) (w0 text : List ℕ) (r : Result T E) → PutsAll a b w0 → Puts b c r text → Sends a c w0 [] r text
 sends_through a b c w0 text (Ok x) p q = record { sent = w0 ++ text; cut = sym (append-nil (w0 ++ text)); wrote = puts_more a b c w0 text p q }
 sends_through a b c w0 text (Err x) p q = front_after a b c (w0 ++ text) w0 text [] (sym (append-nil (w0 ++ text))) p q
+
+-- what waits is written to its end
+pub flush_all : (a b c : WriteLog) (w1 whole : List ℕ) → SendsAll a b [] w1 whole → PutsAll b c w1 → PutsAll a c whole
+flush_all a b c w1 whole p q = subst (λ text. PutsAll a c text) (sym p.cut) (puts_more a b c p.sent w1 p.wrote q)

@@ -5,16 +5,18 @@ use Rattle.ladder_vars.specs.Decls.{Declared}
 use Rattle.ladder_grid.specs.Program.{Drawing}
 use Rattle.ladder_grid.specs.Reading.{IsProgram}
 use Rattle.ladder_scan.specs.Standing.{Standing, fresh}
+use Rattle.ladder_search.specs.Looks.{Search, looks_in_all}
 use Rattle.ladder_causes.specs.declared.fault.CauseFault.{CauseFault}
 use Rattle.ladder_causes.specs.declared.fault.CauseFault.TheVariants as cause
-use Rattle.ladder_causes.specs.Causes.{causes_after}
-use Rattle.ladder_causes.specs.Cursor.{Cursor, cursor, question, reason}
-use Rattle.ladder_causes.specs.Refusal.{refusal}
+use Rattle.ladder_causes.specs.Causes.{causes_after, question}
+use Rattle.ladder_causes.specs.Cursor.{Cursor, searched}
+use Rattle.ladder_causes.specs.Prefixes.{search_of}
+use Rattle.ladder_causes.specs.Refusal.{reason, refusal}
 use Rattle.ladder_sim.specs.CauseText.{cause_text, limited}
 use Rattle.ladder_sim.specs.Log.{PutsAll, PutsFront, WriteLog}
 use Rattle.ladder_tool.specs.declared.fault.ToolFault.{ToolFault}
 use Rattle.ladder_tool.specs.declared.fault.ToolFault.TheVariants as fault
-use Rattle.ladder_tool.specs.Performs.{HasCauseFault, HasFault, HasWordFault, IsAsked, fresh_causes}
+use Rattle.ladder_tool.specs.Performs.{HasCauseFault, HasFault, HasWordFault, IsAsked, fresh_causes, fresh_looks, rows_line, rows_text}
 use Rattle.ladder_tool.specs.Variables.{AreVariables, variable_of}
 
 pub asked_by : (text : List ℕ) (coil : Text) (inputs : List Text) (p : Drawing) (decls : Declared) (var : ℕ) (listed : List ℕ)
@@ -51,20 +53,33 @@ none_refuses p s var listed given is same h =
     ap (λ g. refusal p 0 0 var g None) (sym same) ∙ ap (λ (t : Standing). refusal p t.moment 0 var given None) (sym is) ∙ h
 
 -- what the cursor of a request has to give
-given_causes : (p : Drawing) (s : Standing) (var : ℕ) (listed given : List ℕ) (c : Cursor) → s ≡ fresh p → given ≡ listed
-    → c ≡ cursor p given (causes_after None (question p s 0 var given)) → c ≡ cursor p listed (fresh_causes p var listed)
-given_causes p s var listed given c is same made =
-    made ∙ ap (λ (t : Standing). cursor p given (causes_after None (question p t 0 var given))) is
-    ∙ ap (λ g. cursor p g (causes_after None (question p (fresh p) 0 var g))) same
+given_causes : (p : Drawing) (s : Standing) (var : ℕ) (listed given xs : List ℕ) → s ≡ fresh p → given ≡ listed
+    → xs ≡ causes_after None (question p s 0 var given) → xs ≡ fresh_causes p var listed
+given_causes p s var listed given xs is same made =
+    made ∙ ap (λ (t : Standing). causes_after None (question p t 0 var given)) is ∙ ap (λ g. causes_after None (question p (fresh p) 0 var g)) same
 
 pub text_is : (p : Drawing) (s : Standing) (var : ℕ) (listed given : List ℕ) (c : Cursor) → s ≡ fresh p → given ≡ listed
-    → c ≡ cursor p given (causes_after None (question p s 0 var given))
+    → c.program ≡ p → c.listed ≡ given → c.rest ≡ causes_after None (question p s 0 var given)
     → cause_text c.program c.listed (limited None c.rest) ≡ cause_text p listed (fresh_causes p var listed)
-text_is p s var listed given c is same made = ap (λ (k : Cursor). cause_text k.program k.listed k.rest) (given_causes p s var listed given c is same made)
+text_is p s var listed given c is same of_program of_listed made =
+    ap (λ (d : Drawing). cause_text d c.listed (limited None c.rest)) of_program
+    ∙ ap (λ g. cause_text p g (limited None c.rest)) (of_listed ∙ same)
+    ∙ ap (λ xs. cause_text p listed (limited None xs)) (given_causes p s var listed given c.rest is same made)
 
-pub count_is : (p : Drawing) (s : Standing) (var : ℕ) (listed given : List ℕ) (c : Cursor) (rows : ℕ) → s ≡ fresh p → given ≡ listed
-    → c ≡ cursor p given (causes_after None (question p s 0 var given)) → rows ≡ length (limited None c.rest) → rows ≡ length (fresh_causes p var listed)
-count_is p s var listed given c rows is same made h = h ∙ ap (λ (k : Cursor). length k.rest) (given_causes p s var listed given c is same made)
+-- the looks of the whole search
+looks_are : (p : Drawing) (s : Standing) (var : ℕ) (listed given : List ℕ) (search : Search) → s ≡ fresh p → given ≡ listed
+    → search ≡ search_of (question p s 0 var given) 0 → looks_in_all search ≡ fresh_looks p var listed
+looks_are p s var listed given search is same made =
+    ap (λ (t : Search). looks_in_all t) made ∙ ap (λ (t : Standing). looks_in_all (search_of (question p t 0 var given) 0)) is
+    ∙ ap (λ g. looks_in_all (search_of (question p (fresh p) 0 var g) 0)) same
+
+-- the line of rows and looks
+pub line_is : (p : Drawing) (s : Standing) (var : ℕ) (listed given : List ℕ) (c : Cursor) (rows looks : ℕ) → s ≡ fresh p → given ≡ listed
+    → c.rest ≡ causes_after None (question p s 0 var given) → searched c ≡ search_of (question p s 0 var given) 0
+    → rows ≡ length (limited None c.rest) → looks ≡ looks_in_all (searched c) → rows_line rows looks ≡ rows_text p var listed
+line_is p s var listed given c rows looks is same made search h l =
+    ap (λ n. rows_line n looks) (h ∙ ap (λ xs. length (limited None xs)) (given_causes p s var listed given c.rest is same made))
+    ∙ ap (rows_line (length (fresh_causes p var listed))) (l ∙ looks_are p s var listed given (searched c) is same search)
 
 pub all_same : (a b : WriteLog) (xs ys : List ℕ) → xs ≡ ys → PutsAll a b xs → PutsAll a b ys
 all_same a b xs ys e h = rw e at h

@@ -9,11 +9,11 @@ use super::variables::asked_variables;
 use ladder_causes::Causes;
 use ladder_grid::read_program;
 use ladder_scan::State;
-use ladder_sim::{Piece, Sink, WriteFault, put_pieces, write_causes};
+use ladder_sim::{Piece, Sink, Summary, WriteFault, put_pieces, write_causes};
 use std::alloc::Global;
 
-/// Performs a request on its texts: rows on `out`, their number on `err`, and a state that is asked for on `save`.
-/// It answers the status: 0 where all was written, 1 where a fault stopped it, whose line is on `err`.
+/// Performs a request on its texts: rows on `out`, their number and that of the looks on `err`, and a state that is asked for on
+/// `save`. Returns the status: 0 where all was written, 1 where a fault stopped it, whose line is on `err`.
 ///
 /// The texts `state` and `stimulus` are there where the request names them.
 pub fn perform<O: Sink, S: Sink, E: Sink>(
@@ -54,12 +54,14 @@ fn report<E: Sink>(fault: &ToolFault, err: &mut E) -> u8
     }
 }
 
-fn put_rows<E: Sink>(rows: u64, err: &mut E) -> Result<(), WriteFault>
-    ensures { Puts (E.log err.old) (E.log err.new) result (rows_line rows) }
+fn put_rows<E: Sink>(summary: Summary, err: &mut E) -> Result<(), WriteFault>
+    ensures { Puts (E.log err.old) (E.log err.new) result (rows_line summary.rows summary.looks) }
 {
     let pieces = [
         Piece::Text(b"rows "),
-        Piece::Number(rows),
+        Piece::Number(summary.rows),
+        Piece::Text(b" looks "),
+        Piece::Number(summary.looks),
         Piece::Text(b"\n"),
     ];
     put_pieces(err, pieces.as_slice())
@@ -106,7 +108,7 @@ fn causes<O: Sink, E: Sink>(
     let Ok(summary) = write_causes(&mut cursor, None, out) else {
         return report(&ToolFault::Write, err);
     };
-    let Ok(()) = put_rows(summary.rows, err) else {
+    let Ok(()) = put_rows(summary, err) else {
         return 1;
     };
     0
