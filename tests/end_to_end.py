@@ -29,7 +29,18 @@ def spaces(length):
     return " " * length
 
 
-GENERATORS = {"spaces": spaces}
+def filled_motor(length):
+    """The motor, and line ends up to a length."""
+    return (HERE / "programs" / "motor.ld").read_text("ascii").ljust(length, "\n")
+
+
+def inputs(count):
+    """So many inputs, of which the first one alone feeds the coil."""
+    declared = "".join(f"  I{number} AT %IX{number - 1} : BOOL;\n" for number in range(1, count + 1))
+    return f"VAR\n{declared}  Y AT %QX0 : BOOL;\nEND_VAR\n\n|     I1          Y\n|----| |---------( )----\n"
+
+
+GENERATORS = {"spaces": spaces, "filled_motor": filled_motor, "inputs": inputs}
 
 
 def lines(path):
