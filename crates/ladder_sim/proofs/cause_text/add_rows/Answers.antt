@@ -19,6 +19,7 @@ returns-in_default-add_row-clause-sends g c =
 
 pub returns-in_default-add_row-clause-taken : goal.returns-in_default-add_row-clause-taken
 returns-in_default-add_row-clause-taken g c =
-    let steps = c.in-Some.ensures.steps in
-    (c.loop-limit.count + 1,
-    (going_on c.args.causes.now c.loop-limit.causes _ c.loop-limit.count c.in-Some.number c.loop-limit.invariant.going steps.0 steps.1 steps.2 steps.3 steps.4).takes)
+    let steps = c.in-Some.ensures.steps in (
+      c.loop-limit.count + 1,
+      (going_on c.args.causes.now c.loop-limit.causes _ c.loop-limit.count c.in-Some.number c.loop-limit.invariant.going steps.0 steps.1 steps.2 steps.3 steps.4).takes,
+    )
