@@ -91,8 +91,8 @@ def run_case(program, case, folder):
     return differences(run(program, words, folder), want)
 
 
-def help_is_printed(program, folder):
-    return differences(run(program, ["--help"], folder), (..., b"", 0))
+def help_is_printed(*words):
+    return lambda program, folder: differences(run(program, words, folder), (..., b"", 0))
 
 
 def full_device():
@@ -125,7 +125,10 @@ def rows_on_a_closed_output(program, folder):
 
 CAUSES = ["causes", "motor.ld", "Motor", "Start", "Stop"]
 SPECIAL = {
-    "words-help": help_is_printed,
+    "words-help": help_is_printed("--help"),
+    "words-help-as-a-subcommand": help_is_printed("help"),
+    "words-help-of-causes": help_is_printed("causes", "--help"),
+    "words-short-help-of-causes": help_is_printed("causes", "-h"),
     "streams-help-on-a-full-device": on_a_stream(["--help"], "stdout", full_device, (None, b"fault X6\n", 1)),
     "streams-rows-on-a-full-device": on_a_stream(CAUSES, "stdout", full_device, (None, b"fault X6\n", 1)),
     "streams-rows-on-an-unread-pipe": on_a_stream(CAUSES, "stdout", unread_pipe, (None, b"fault X6\n", 1)),
