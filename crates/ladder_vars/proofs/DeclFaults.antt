@@ -1,19 +1,20 @@
 -- Where declarations are not read, the rule of the fault is broken at its place.
-use Rattle.std.proofs.Common.{◌≡◌, ℕ, inl, inr, Bool, true, nat_le, List, [], ◌∷◌, length, map, Option, Some, None, Err, refl, sym, ap, subst, ◌∙◌}
+use Rattle.std.proofs.Common.{◌≡◌, ℕ, inl, inr, Bool, true, nat_le, nat_lt, List, [], ◌∷◌, length, map, Option, Some, None, Err, refl, sym, ap, subst, ◌∙◌}
 use Rattle.std.specs.List.{list_any}
-use Rattle.std.proofs.lemmas.Bool.{leb-true}
+use Rattle.std.proofs.lemmas.Bool.{leb-true, ltb-true}
 use Rattle.std.proofs.lemmas.List.Folds.{list_any-append}
 use Rattle.ladder_vars.specs.declared.fault.Fault.{Fault}
 use Rattle.ladder_vars.specs.declared.fault.VarRule.{VarRule}
 use Rattle.ladder_vars.specs.declared.fault.VarRule.TheVariants as rule
 use Rattle.ladder_vars.specs.declared.decls.VarKind.{VarKind}
-use Rattle.ladder_vars.specs.declared.decls.BlockKind.{BlockKind}
+use Rattle.ladder_vars.specs.declared.kind.BlockKind.{BlockKind}
 use Rattle.ladder_vars.specs.declared.decls.Address.{Address}
 use Rattle.ladder_vars.specs.declared.decls.Body.{Body}
 use Rattle.ladder_vars.specs.declared.decls.Body.TheVariants as body
 use Rattle.ladder_vars.specs.Name.{same_letters, is_name, has_name_form}
 use Rattle.ladder_vars.specs.Decls.{Declared, names_of}
 use Rattle.ladder_vars.specs.Text.{AreTokens}
+use Rattle.ladder_vars.specs.Kind.{traits_of}
 use Rattle.ladder_vars.specs.Grammar.{Decl, declared_by}
 use Rattle.ladder_vars.specs.ReadDecls.{name_of, is_declared, is_taken, refusal, with_decl, refused, added}
 use Rattle.ladder_vars.specs.Rules.{WordDue, DeclDue, Breaks}
@@ -65,10 +66,10 @@ refusal_breaks text ds name (body.Var kind address initial) after r due h =
     ]
 refusal_breaks text ds name (body.Instance kind preset) after r due h =
     let d : Declared = declared_by ds in
-    elim (chosen (nat_le 10 (length name)) _ _ _ h) [
+    elim (chosen (nat_lt (traits_of kind).longest_name (length name)) _ _ _ h) [
       | inl long ↦
           let e : rule.BadName ≡ r = cc in
-          subst (λ x. Breaks x text (length after)) e (inr (ds, name, after, kind, preset, due, leb-true 10 (length name) long.0, refl))
+          subst (λ x. Breaks x text (length after)) e (inr (ds, name, after, kind, preset, due, ltb-true (traits_of kind).longest_name (length name) long.0, refl))
       | inr short ↦ elim (chosen (is_declared d name) _ _ _ short.1) [
         | inl twice ↦
             let e : rule.Duplicate ≡ r = cc in
@@ -120,10 +121,12 @@ preset_breaks text ds name after kind f due named p =
     let read : AreTokens (p.colon ∷ p.block ∷ p.assign ∷ p.opening ∷ p.parameter ∷ p.given ∷ p.bad.word ∷ []) after p.bad.after
     = AreTokens-append (p.colon ∷ p.block ∷ p.assign ∷ p.opening ∷ p.parameter ∷ p.given ∷ []) (p.bad.word ∷ []) after p.before p.bad.after p.read p.bad.read in
     subst (λ r. Breaks r text f.left) (sym p.bad.rule_is) (
-      kind,
+      p.form,
       p.bad.word,
       p.bad.after,
       record {
+        kind = kind;
+        takes = p.takes;
         ds = ds;
         name = name;
         behind = after;
