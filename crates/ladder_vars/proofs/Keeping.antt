@@ -145,6 +145,41 @@ AreKept-instance d i kept accepted fits =
       ]
     ]
 
+-- So many declarations there may be while the text is read.
+pub record AreFew (d : Declared) : Type 0 where
+  pub vars : length d.vars ≤ 256
+  pub instances : length d.instances ≤ 64
+
+pub AreFew-decl : (d : Declared) (name : List ℕ) (b : Body) → AreFew d → refusal d name b ≡ None → AreFew (with_decl d name b)
+AreFew-decl d name (body.Var kind address initial) few accepted =
+    elim (chosen (is_declared d name) _ _ _ accepted) [
+      | inl twice ↦ absurd cc
+      | inr new ↦ elim (chosen (is_taken d address) _ _ _ new.1) [
+        | inl taken ↦ absurd cc
+        | inr unused ↦ elim (chosen (nat_le 256 (length d.vars)) _ _ _ unused.1) [
+          | inl full ↦ absurd cc
+          | inr room ↦
+              let below : length d.vars < 256 = leb-false 256 (length d.vars) room.0 in
+              let v : Var = record { name = name; kind = kind; address = address; initial = initial } in
+              record { vars = omega (arith, length-append {A = Var} d.vars (v ∷ [])); instances = few.instances }
+        ]
+      ]
+    ]
+AreFew-decl d name (body.Instance kind preset) few accepted =
+    elim (chosen (nat_lt (traits_of kind).longest_name (length name)) _ _ _ accepted) [
+      | inl long ↦ absurd cc
+      | inr short ↦ elim (chosen (is_declared d name) _ _ _ short.1) [
+        | inl twice ↦ absurd cc
+        | inr new ↦ elim (chosen (nat_le 64 (length d.instances)) _ _ _ new.1) [
+          | inl full ↦ absurd cc
+          | inr room ↦
+              let below : length d.instances < 64 = leb-false 64 (length d.instances) room.0 in
+              let i : Instance = record { name = name; kind = kind; preset = preset } in
+              record { vars = few.vars; instances = omega (arith, length-append {A = Instance} d.instances (i ∷ [])) }
+        ]
+      ]
+    ]
+
 pub AreKept-decl : (d : Declared) (name : List ℕ) (b : Body) → AreKept d → refusal d name b ≡ None → PresetFits b → AreKept (with_decl d name b)
 AreKept-decl d name (body.Var kind address initial) kept accepted fits =
     AreKept-var d (record { name = name; kind = kind; address = address; initial = initial }) kept accepted

@@ -1,6 +1,6 @@
 -- Where a rule V1 to V8 of a block of declarations is broken: the rule, and how many bytes of the text are left where it shows.
 -- V2 says no more than that no other token fits, so it is not stated here; V9 is want of memory and no rule of the text.
-use Rattle.std.specs.Prelude.{◌≡◌, ℕ, ◌+◌, ◌-◌, ◌<◌, ◌≤◌, ◌⊎◌, ◌||◌, ◌==◌, Bool, true, false, List, [], ◌∷◌, length, take, count_by, codes, Some}
+use Rattle.std.specs.Prelude.{◌≡◌, ℕ, ◌+◌, ◌-◌, ◌<◌, ◌⊎◌, ◌||◌, ◌==◌, Bool, true, false, List, [], ◌∷◌, length, take, count_by, codes, Some}
 use Rattle.std.specs.List.{list_any, AllByRecursion}
 use Rattle.ladder_vars.specs.declared.fault.VarRule.{VarRule}
 use Rattle.ladder_vars.specs.declared.fault.VarRule.TheVariants as rule
@@ -92,10 +92,10 @@ HasLongInstance text left =
     (ds : List Decl) × (name after : List ℕ) × (kind : BlockKind) × (preset : ℕ)
     × DeclDue text ds name (body.Instance kind preset) after × ((traits_of kind).longest_name < length name) × (left ≡ length after)
 
--- There are 256 variables before this one, or 64 instances.
+-- It is the 257th variable, or the 65th instance.
 abbrev pub IsFull : List Decl → Body → Type 0
-IsFull ds (body.Var kind address initial) = 256 ≤ length (declared_by ds).vars
-IsFull ds (body.Instance kind preset) = 64 ≤ length (declared_by ds).instances
+IsFull ds (body.Var kind address initial) = length (declared_by ds).vars ≡ 256
+IsFull ds (body.Instance kind preset) = length (declared_by ds).instances ≡ 64
 
 -- The rule is broken, and so many bytes are left where it shows.
 abbrev pub Breaks : VarRule → List ℕ → ℕ → Type 0
