@@ -1,8 +1,14 @@
 -- A program as its drawing has it, and the list of steps that a scan goes through.
 -- Rungs, rows and columns are counted from 0. The place of a cell in its rung is 6 * column + row.
-use Rattle.std.specs.Prelude.{◌≡◌, ℕ, zero, suc, ◌+◌, ◌-◌, ◌*◌, ◌/◌, ◌%◌, ◌^◌, ◌<◌, ◌≤◌, min, max, nat_le, Bool, true, false, ◌&&◌, ◌==◌, List, [], ◌∷◌, ◌++◌, length, count_by, slice_index_or, Option, Some, None, if◌then◌else◌}
+use Rattle.std.specs.Prelude.{◌≡◌, ℕ, zero, suc, ◌+◌, ◌-◌, ◌*◌, ◌/◌, ◌%◌, ◌^◌, ◌<◌, ◌≤◌, min, max, nat_le, Bool, true, false, ◌&&◌, ◌==◌, List, [], ◌∷◌, ◌++◌, length, count_by, slice_get, slice_index_or, Option, Some, None, if◌then◌else◌}
 use Rattle.std.specs.List.{list_any}
 use Rattle.ladder_vars.specs.Decls.{Declared}
+use Rattle.ladder_vars.specs.declared.decls.Instance.{Instance}
+use Rattle.ladder_vars.specs.declared.kind.Pin.{Pin}
+use Rattle.ladder_grid.specs.Operand.{is_input_at}
+use Rattle.ladder_vars.specs.Kind.{traits_of}
+use Rattle.ladder_grid.specs.declared.cell.Operand.{Operand}
+use Rattle.ladder_grid.specs.declared.cell.Operand.TheVariants as operand
 use Rattle.ladder_grid.specs.declared.cell.Cell.{Cell}
 use Rattle.ladder_grid.specs.declared.cell.Cell.TheVariants as cell
 use Rattle.ladder_grid.specs.declared.cell.Joint.{Joint}
@@ -70,6 +76,7 @@ is_empty (cell.Coil mode var memory) = false
 is_empty (cell.Block inst) = false
 is_empty (cell.Lower inst linked) = false
 is_empty (cell.Jump target) = false
+is_empty cell.Return = false
 
 -- A cell with the rows of the column before that feed it; none in the first column, where the left rail does.
 abbrev pub step_at : Drawing → ℕ → ℕ → Step
@@ -86,20 +93,26 @@ steps_before d rung (suc at) =
 unfoldable pub steps_of : Drawing → ℕ → List Step
 steps_of d rung = steps_before d rung 60
 
-abbrev pub jump_in : Cell → ℕ → Option (ℕ × ℕ × ℕ) → Option (ℕ × ℕ × ℕ)
-jump_in cell.Empty at other = other
-jump_in cell.Wire at other = other
-jump_in (cell.Contact mode operand memory) at other = other
-jump_in (cell.Coil mode var memory) at other = other
-jump_in (cell.Block inst) at other = other
-jump_in (cell.Lower inst linked) at other = other
-jump_in (cell.Jump target) at other = Some (at % 6, at / 6, target)
+-- where a cell leads out of its rung: past the last one by a return
+abbrev pub goes_to : ℕ → Cell → Option ℕ
+goes_to rungs cell.Empty = None
+goes_to rungs cell.Wire = None
+goes_to rungs (cell.Contact mode operand memory) = None
+goes_to rungs (cell.Coil mode var memory) = None
+goes_to rungs (cell.Block inst) = None
+goes_to rungs (cell.Lower inst linked) = None
+goes_to rungs (cell.Jump target) = Some target
+goes_to rungs cell.Return = Some rungs
+
+abbrev pub jump_in : Option ℕ → ℕ → Option (ℕ × ℕ × ℕ) → Option (ℕ × ℕ × ℕ)
+jump_in None at other = other
+jump_in (Some target) at other = Some (at % 6, at / 6, target)
 
 unfoldable pub jump_before : Drawing → ℕ → ℕ → Option (ℕ × ℕ × ℕ)
 jump_before d rung zero = None
-jump_before d rung (suc at) = jump_in (cell_of d rung at) at (jump_before d rung at)
+jump_before d rung (suc at) = jump_in (goes_to d.rungs (cell_of d rung at)) at (jump_before d rung at)
 
--- The row and the column of the rung's jump, and its target. A rung has at most one.
+-- The row and the column of the rung's jump or return, and its target. A rung has at most one.
 unfoldable pub jump_of : Drawing → ℕ → Option (ℕ × ℕ × ℕ)
 jump_of d rung = jump_before d rung 60
 
@@ -111,6 +124,7 @@ memory_in (cell.Coil mode var memory) = memory
 memory_in (cell.Block inst) = None
 memory_in (cell.Lower inst linked) = None
 memory_in (cell.Jump target) = None
+memory_in cell.Return = None
 
 abbrev pub is_there : Option ℕ → Bool
 is_there None = false
@@ -131,6 +145,7 @@ is_coil_of var (cell.Coil mode v memory) = v == var
 is_coil_of var (cell.Block inst) = false
 is_coil_of var (cell.Lower inst linked) = false
 is_coil_of var (cell.Jump target) = false
+is_coil_of var cell.Return = false
 
 -- whether a coil stands on the variable
 abbrev pub has_coil : ℕ → Drawing → Bool
@@ -162,12 +177,45 @@ block_in (cell.Coil mode var memory) = None
 block_in (cell.Block inst) = Some inst
 block_in (cell.Lower inst linked) = None
 block_in (cell.Jump target) = None
+block_in cell.Return = None
 
--- What the rules of a drawing make sure of, and a scan rests on: each memory and each instance belongs to one cell, and a jump goes to
--- a later rung.
+abbrev pub OperandFits : Declared → Operand → Type 0
+OperandFits decls (operand.Var number) = number < length decls.vars
+OperandFits decls (operand.Output number) = number < length decls.instances
+
+-- The numbers that a cell has are those of declarations, and no coil writes an input.
+abbrev pub Fits : Declared → Cell → Type 0
+Fits decls cell.Empty = Unit {0}
+Fits decls cell.Wire = Unit {0}
+Fits decls (cell.Contact mode operand memory) = OperandFits decls operand
+Fits decls (cell.Coil mode var memory) = (var < length decls.vars) × (is_input_at (slice_get decls.vars var) ≡ false)
+Fits decls (cell.Block inst) = inst < length decls.instances
+Fits decls (cell.Lower inst linked) = inst < length decls.instances
+Fits decls (cell.Jump target) = Unit {0}
+Fits decls cell.Return = Unit {0}
+
+abbrev pub is_pin : Option Pin → Bool
+is_pin None = false
+is_pin (Some p) = true
+
+-- an instance with a second input
+abbrev pub has_second : Option Instance → Bool
+has_second None = false
+has_second (Some i) = is_pin (traits_of i.kind).second_input
+
+-- What the rules of a drawing make sure of, and a scan rests on: each memory and each instance belongs to one cell; a rung has
+-- one jump, to a later rung or past the last one; a lower cell stands under its block.
 pub record IsWellFormed (d : Drawing) : Type 0 where
   pub one_memory : (number i j : ℕ) → memory_in (slice_index_or d.cells i cell.Empty) ≡ Some number
       → memory_in (slice_index_or d.cells j cell.Empty) ≡ Some number → i ≡ j
+  pub memories_below : (number i : ℕ) → memory_in (slice_index_or d.cells i cell.Empty) ≡ Some number → number < memories_of d
   pub one_block : (number i j : ℕ) → block_in (slice_index_or d.cells i cell.Empty) ≡ Some number
       → block_in (slice_index_or d.cells j cell.Empty) ≡ Some number → i ≡ j
-  pub jumps_down : (i target : ℕ) → slice_index_or d.cells i cell.Empty ≡ cell.Jump target → i / 60 < target
+  pub one_jump : (rung i j s t : ℕ) → i < 60 → j < 60 → goes_to d.rungs (cell_of d rung i) ≡ Some s
+      → goes_to d.rungs (cell_of d rung j) ≡ Some t → i ≡ j
+  pub jumps_down : (rung i target : ℕ) → i < 60 → goes_to d.rungs (cell_of d rung i) ≡ Some target → (rung < target) × (target ≤ d.rungs)
+  pub under_block : (i inst : ℕ) (linked : Bool) → slice_index_or d.cells i cell.Empty ≡ cell.Lower inst linked
+      → (1 ≤ i % 6) × (slice_index_or d.cells (i - 1) cell.Empty ≡ cell.Block inst)
+  pub fits : (i : ℕ) → Fits d.decls (slice_index_or d.cells i cell.Empty)
+  pub has_lower : (i inst : ℕ) → slice_index_or d.cells i cell.Empty ≡ cell.Block inst → has_second (slice_get d.decls.instances inst) ≡ true
+      → (linked : Bool) × (i % 6 < 5) × (slice_index_or d.cells (i + 1) cell.Empty ≡ cell.Lower inst linked)
