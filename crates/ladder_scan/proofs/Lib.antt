@@ -1,6 +1,7 @@
 pub mod Timers
 pub mod Counters
 pub mod Pulses
+pub mod Bistables
 pub mod Joins
 pub mod Flow
 pub mod Kept

@@ -1,16 +1,17 @@
 -- No timer began after the moment.
 use Rattle.std.proofs.Common.{length, ◌≡◌, ℕ, ◌≤◌, Bool, true, false, cond, List, [], ◌∷◌, map, get_or, set, zero, suc, nat_lt, sym, subst, ap, ◌∙◌, arith}
 use Rattle.std.proofs.lemmas.List.{length-map}
-use Rattle.ladder_vars.specs.declared.decls.BlockKind.{BlockKind}
-use Rattle.ladder_vars.specs.declared.decls.BlockKind.TheVariants.{Ton, Tof, Tp, Ctu, Ctd}
+use Rattle.ladder_vars.specs.declared.kind.BlockKind.{BlockKind}
+use Rattle.ladder_vars.specs.declared.kind.BlockKind.TheVariants.{Ton, Tof, Tp, Ctu, Ctd, Sr, Rs}
 use Rattle.ladder_vars.specs.declared.decls.Instance.{Instance}
 use Rattle.ladder_grid.specs.declared.cell.Cell.{Cell}
-use Rattle.ladder_grid.specs.declared.cell.Cell.TheVariants.{Empty, Wire, Contact, Coil, Block, Lower, Jump}
+use Rattle.ladder_grid.specs.declared.cell.Cell.TheVariants.{Empty, Wire, Contact, Coil, Block, Lower, Jump, Return}
 use Rattle.ladder_scan.specs.declared.block.Stored.{Stored}
-use Rattle.ladder_scan.specs.declared.block.Stored.TheVariants.{Timer, Counter}
+use Rattle.ladder_scan.specs.declared.block.Stored.TheVariants.{Timer, Counter, Bistable}
 use Rattle.ladder_scan.specs.Truth.{plain}
 use Rattle.ladder_scan.specs.Blocks.{step, new_block}
-use Rattle.ladder_scan.specs.Cells.{Diagram, Frame, Kept, put_in, block_in, no_block, stored_of}
+use Rattle.ladder_grid.specs.Program.{block_in}
+use Rattle.ladder_scan.specs.Cells.{Diagram, Frame, Kept, put_in, no_block, stored_of}
 use Rattle.ladder_scan.specs.Rung.{Held, second, stepped, changes, frame_of, link_at, evaluated}
 use Rattle.ladder_scan.specs.Scan.{next_rung}
 use Rattle.ladder_scan.specs.RungByRung.{Scanned, scanned}
@@ -22,6 +23,8 @@ new_one Tof = omega arith
 new_one Tp = omega arith
 new_one Ctu = tt
 new_one Ctd = tt
+new_one Sr = tt
+new_one Rs = tt
 
 new_timed : (instances : List Instance) → AreTimed 0 (map (λ i. new_block i.kind) instances)
 new_timed [] i = omega arith
@@ -44,11 +47,22 @@ step_timed Tof preset (Timer last running start q) false second now h = below _ 
 step_timed Tp preset (Timer last running start q) on second now h = below _ start _ now h (below _ now 0 now (omega arith) (omega arith))
 step_timed Ctu preset (Timer last running start q) on second now h = h
 step_timed Ctd preset (Timer last running start q) on second now h = h
+step_timed Sr preset (Timer last running start q) on second now h = h
+step_timed Rs preset (Timer last running start q) on second now h = h
 step_timed Ton preset (Counter last cv q) on second now h = tt
 step_timed Tof preset (Counter last cv q) on second now h = tt
 step_timed Tp preset (Counter last cv q) on second now h = tt
 step_timed Ctu preset (Counter last cv q) on second now h = tt
 step_timed Ctd preset (Counter last cv q) on second now h = tt
+step_timed Sr preset (Counter last cv q) on second now h = tt
+step_timed Rs preset (Counter last cv q) on second now h = tt
+step_timed Ton preset (Bistable q) on second now h = tt
+step_timed Tof preset (Bistable q) on second now h = tt
+step_timed Tp preset (Bistable q) on second now h = tt
+step_timed Ctu preset (Bistable q) on second now h = tt
+step_timed Ctd preset (Bistable q) on second now h = tt
+step_timed Sr preset (Bistable q) on second now h = tt
+step_timed Rs preset (Bistable q) on second now h = tt
 
 set_timed : (now : ℕ) (bs : List Stored) (n : ℕ) (s : Stored) → AreTimed now bs → IsTimed now s → AreTimed now (set bs n s)
 set_timed now [] n s h t i = h i
@@ -65,6 +79,7 @@ cell_timed d now k (Coil mode var memory) x y h = h
 cell_timed d now k (Block inst) x y h = set_timed now k.blocks inst _ h (step_timed (d.kind inst) (d.preset inst) _ x y now (h inst))
 cell_timed d now k (Lower inst linked) x y h = h
 cell_timed d now k (Jump target) x y h = h
+cell_timed d now k Return x y h = h
 
 changes_timed : (d : Diagram) (now j : ℕ) (start : Frame Bool) (links : ℕ → Bool) (n : ℕ) (h : Held) → AreTimed now h.kept.blocks → AreTimed now (changes d now j start links n h).kept.blocks
 unfolding changes
@@ -84,6 +99,7 @@ scanned_timed d now h t (suc n) = either_timed d now n (scanned d now h n) (nat_
 later_one : (m now : ℕ) (s : Stored) → m ≤ now → IsTimed m s → IsTimed now s
 later_one m now (Timer last running start q) h t = omega arith
 later_one m now (Counter last cv q) h t = tt
+later_one m now (Bistable q) h t = tt
 
 pub later_timed : (m now : ℕ) (bs : List Stored) → m ≤ now → AreTimed m bs → AreTimed now bs
 later_timed m now bs h t i = later_one m now (get_or bs i no_block) h (t i)

@@ -1,10 +1,10 @@
 -- What stands between two scans.
 use Rattle.std.specs.Prelude.{◌≡◌, ℕ, ◌≤◌, false, List, length, map, replicate}
 use Rattle.std.proofs.Common.{get_or}
-use Rattle.ladder_vars.specs.declared.decls.BlockKind.{BlockKind}
+use Rattle.ladder_vars.specs.declared.kind.BlockKind.{BlockKind}
 use Rattle.ladder_grid.specs.Program.{Drawing, memories_of}
 use Rattle.ladder_scan.specs.declared.block.Stored.{Stored}
-use Rattle.ladder_scan.specs.declared.block.Stored.TheVariants.{Timer, Counter}
+use Rattle.ladder_scan.specs.declared.block.Stored.TheVariants.{Timer, Counter, Bistable}
 use Rattle.ladder_scan.specs.Blocks.{new_block}
 use Rattle.ladder_scan.specs.Cells.{no_block}
 use Rattle.ladder_scan.specs.Rung.{Held}
@@ -42,6 +42,7 @@ pub record Fits (p : Drawing) (s : Standing) : Type 0 where
 abbrev pub IsTimed : ℕ → Stored → Type 0
 IsTimed moment (Timer last running start q) = start ≤ moment
 IsTimed moment (Counter last cv q) = Unit {0}
+IsTimed moment (Bistable q) = Unit {0}
 
 abbrev pub AreTimed : ℕ → List Stored → Type 0
 AreTimed moment blocks = (i : ℕ) → IsTimed moment (get_or blocks i no_block)

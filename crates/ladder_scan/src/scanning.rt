@@ -24,7 +24,12 @@ fn is_input_at(vars: &[Var], number: usize) -> bool
     ensures { result ≡ slice_index_or (map is_input vars.now) number false }
 {
     match vars.get(number) {
-        Some(var) => matches!(var.kind, VarKind::Input),
+        Some(var) => {
+            match var.kind {
+                VarKind::Input => true,
+                VarKind::Output | VarKind::Memory => false,
+            }
+        }
         None => false,
     }
 }
@@ -75,7 +80,7 @@ fn copy_ends(blocks: &[Stored], ends: &mut [bool])
     }
 }
 
-/// Where the jump of a rung stands, and the rung that it goes to; 0 where there is no jump.
+/// Where the jump or return of a rung stands, and the rung that it goes to; 0 where there is none.
 #[tactic(auto, unfolding(crate::specs::Programs::diagram_of))]
 pub(crate) fn jump(program: &Program, rung: usize) -> (usize, usize)
     requires { rung < program.now.rungs }
