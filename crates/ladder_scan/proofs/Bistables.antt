@@ -1,5 +1,5 @@
 -- What bistables answer after a list of steps.
-use Rattle.std.proofs.Common.{◌≡◌, ℕ, ◌<◌, length, Bool, true, false, not, ◌&&◌, ◌||◌, List, [], ◌∷◌, ◌++◌, refl, sym, ap, ◌∙◌, subst, zero, suc, arith, All}
+use Rattle.std.proofs.Common.{◌≡◌, ℕ, Bool, true, false, List, [], ◌∷◌, ◌++◌, refl, sym, ap, ◌∙◌, zero, suc, arith, All}
 use Rattle.ladder_vars.specs.declared.kind.BlockKind.TheVariants.{Sr, Rs}
 use Rattle.ladder_scan.specs.declared.block.Stored.TheVariants.{Bistable}
 use Rattle.ladder_scan.specs.Blocks.{step, q_of, sr_q, rs_q}

@@ -3,7 +3,7 @@ use Rattle.std.proofs.Common.{◌≡◌, ℕ, ◌+◌, ◌*◌, ◌/◌, ◌%◌
 use Rattle.std.proofs.lemmas.Bool.Decides.{nat_tests}
 use Rattle.std.proofs.lemmas.Grind.{common_steps}
 use Rattle.ladder_grid.specs.declared.cell.Cell.{Cell}
-use Rattle.ladder_grid.specs.declared.cell.Cell.TheVariants.{Empty, Wire, Contact, Coil, Block, Lower, Jump, Return}
+use Rattle.ladder_grid.specs.declared.cell.Cell.TheVariants.{Empty}
 use Rattle.ladder_grid.specs.declared.program.Step.{Step}
 use Rattle.ladder_grid.specs.Program.{Drawing, feeds, mask, is_empty, cell_of, step_at, steps_before, steps_of}
 use Rattle.ladder_scan.specs.Routes.{gather}

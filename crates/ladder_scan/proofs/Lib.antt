@@ -13,7 +13,7 @@ pub mod Links
 pub mod Compiled
 pub mod Sound
 pub mod Along
-pub mod Timed
+pub mod Possible
 pub mod Giving
 pub mod Rungs
 pub mod Scanned
