@@ -1,24 +1,14 @@
 -- A page has one drawing, and a text is one program.
-use Rattle.std.proofs.Common.{◌≡◌, ℕ, ◌*◌, ◌/◌, ◌%◌, ◌<◌, List, length, drop, slice_index_or, get_or, sym, ap, subst, ◌∙◌, arith}
-use Rattle.std.proofs.lemmas.List.{ext_get_or}
+use Rattle.std.proofs.Common.{◌≡◌, ℕ, ◌*◌, ◌<◌, List, drop, sym, ap, subst, ◌∙◌}
 use Rattle.ladder_vars.specs.Decls.{Declared}
 use Rattle.ladder_vars.specs.Grammar.{HasDecls}
 use Rattle.ladder_grid.specs.Page.{Page}
 use Rattle.ladder_grid.specs.PageRules.{ReadsAs}
-use Rattle.ladder_grid.specs.Program.{Drawing, drawing, blank_site, place}
+use Rattle.ladder_grid.specs.Program.{Drawing, drawing, blank_site}
 use Rattle.ladder_grid.specs.Reading.{IsDrawn, IsProgram}
 use Rattle.ladder_grid.specs.ReadLines.{page_of}
 use Rattle.ladder_grid.proofs.PageLaws.{one_page}
-
-same_list : {A : Type 0} (z : A) (rungs : ℕ) (xs ys : List A) → length xs ≡ 60 * rungs → length ys ≡ 60 * rungs
-    → ((k r c : ℕ) → k < rungs → r < 6 → c < 10 → slice_index_or xs (place k r c) z ≡ slice_index_or ys (place k r c) z) → xs ≡ ys
-same_list z rungs xs ys sx sy same =
-    ext_get_or z xs ys (sx ∙ sym sy) (λ i below.
-    let k : i / 60 < rungs = omega (arith, sx, below) in
-    let r : i % 60 % 6 < 6 = omega arith in
-    let c : i % 60 / 6 < 10 = omega arith in
-    let here : place (i / 60) (i % 60 % 6) (i % 60 / 6) ≡ i = omega arith in
-    subst (λ n. get_or xs n z ≡ get_or ys n z) here (same (i / 60) (i % 60 % 6) (i % 60 / 6) k r c))
+use Rattle.ladder_grid.proofs.PlaceLaws.{same_list}
 
 pub one_drawing : (page : Page) (d e : Drawing) → IsDrawn page d → IsDrawn page e → d ≡ e
 one_drawing page d e h g =

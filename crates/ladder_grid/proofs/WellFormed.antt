@@ -18,12 +18,15 @@ use Rattle.ladder_grid.specs.declared.fault.GridRule.TheVariants as rule
 use Rattle.ladder_grid.specs.declared.operand.Reference.{Reference}
 use Rattle.ladder_grid.specs.Gap.{Labels, is_named}
 use Rattle.ladder_grid.specs.Operand.{instance_of, instance_on, is_odd}
-use Rattle.ladder_grid.specs.Page.{Page, part_at, label_of, labels_of, form_at, name_over, instance_at, instance_above, reading_place}
+use Rattle.ladder_grid.specs.Page.{Page, part_at, label_of, labels_of, form_at, name_over, instance_at, instance_above}
+use Rattle.ladder_grid.specs.Geometry.{reading_place}
 use Rattle.ladder_vars.specs.Kind.{traits_of}
 use Rattle.ladder_grid.specs.Rules.{leaps, wrong_kind, lacks_lower, is_apart, form_above, form_below, bad_block}
 use Rattle.ladder_grid.specs.PageRules.{later, target_to, jump_label, PartBreaks, IsSoundPage, target_of}
-use Rattle.ladder_grid.specs.Program.{drawing, blank_site, place, memory_in, block_in, goes_to, has_memory, Fits, has_second, IsWellFormed}
-use Rattle.ladder_grid.specs.Reading.{numbered, contact_on, coil_on, block_on, lower_of, jump_on, cell_with, cell_drawn, site_drawn, at_place, memories_before}
+use Rattle.ladder_grid.specs.Program.{drawing, blank_site, memory_in, block_in, goes_to, has_memory, Fits, has_second, IsWellFormed}
+use Rattle.ladder_grid.specs.Geometry.{place}
+use Rattle.ladder_grid.specs.Reading.{numbered, contact_on, coil_on, block_on, lower_of, jump_on, cell_with, cell_drawn, site_drawn, memories_before}
+use Rattle.ladder_grid.specs.Geometry.{at_place}
 use Rattle.ladder_grid.specs.Build.{sites_of}
 use Rattle.ladder_grid.proofs.FitLaws.{SymbolFits, refer_fits, instance_fits, cell_fits, fits_numbered}
 use Rattle.ladder_grid.proofs.LowerLaws.{kind_second, lower_found, block_even}
@@ -240,7 +243,8 @@ target_within labels k t (Some word) h =
 module _ (page : Page) (rungs : ℕ) (sites : List Site)
     (sound : IsSoundPage page)
     (same : sites ≡ sites_of page)
-    (count : rungs ≡ length page.parts) where
+    (count : rungs ≡ length page.parts)
+    (few : rungs ≤ 100) where
   cell_i : ℕ → Cell
   cell_i i = (get_or sites i blank_site).cell
 
@@ -334,9 +338,11 @@ module _ (page : Page) (rungs : ℕ) (sites : List Site)
       let high : c < 11 = omega arith in
       let name_line : 0 < 2 = omega arith in
       let inside : k < length page.parts = omega (arith, below, count) in
+      let judged : k < 100 = omega (arith, below, few) in
       sound (Grid rule.DrawnTwice) k ((part_at page k).start + (2 * r + 0)) (inl (
         inside,
         inr (inr (
+          judged,
           2 * r + 0,
           refl,
           record {
@@ -376,9 +382,11 @@ module _ (page : Page) (rungs : ℕ) (sites : List Site)
       let high : c < 11 = omega arith in
       let wire_line : 1 < 2 = omega arith in
       let inside : k < length page.parts = omega (arith, below, count) in
+      let judged : k < 100 = omega (arith, below, few) in
       sound (Grid rule.TwoJumps) k ((part_at page k).start + (2 * r + 1)) (inl (
         inside,
         inr (inr (
+          judged,
           2 * r + 1,
           refl,
           record {
@@ -550,11 +558,14 @@ module _ (page : Page) (rungs : ℕ) (sites : List Site)
             let high : c < 11 = omega arith in
             let name_line : 0 < 2 = omega arith in
             let inside : k < length page.parts = omega (arith, below, count) in
+            let judged : k < 100 = omega (arith, below, few) in
+            let judged : k < 100 = omega (arith, below, few) in
             let in_columns : nat_lt c 10 ≡ true = lt-ltb c 10 columns in
             let broken : wrong_kind page k r 0 c ≡ true = rw (in_columns, odd) refl in
             absurd (sound (Grid rule.WrongKind) k ((part_at page k).start + (2 * r + 0)) (inl (
               inside,
               inr (inr (
+                judged,
                 2 * r + 0,
                 refl,
                 record {
@@ -604,11 +615,14 @@ module _ (page : Page) (rungs : ℕ) (sites : List Site)
             let high : c < 11 = omega arith in
             let wire_line : 1 < 2 = omega arith in
             let inside : k < length page.parts = omega (arith, below, count) in
+            let judged : k < 100 = omega (arith, below, few) in
+            let judged : k < 100 = omega (arith, below, few) in
             let in_columns : nat_lt c 10 ≡ true = lt-ltb c 10 columns in
             let broken : bad_block page k r 1 c ≡ true = rw (in_columns, apart_here) refl in
             absurd (sound (Grid rule.BlockShape) k ((part_at page k).start + (2 * r + 1)) (inl (
               inside,
               inr (inr (
+                judged,
                 2 * r + 1,
                 refl,
                 record {

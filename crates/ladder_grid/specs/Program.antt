@@ -5,6 +5,7 @@ use Rattle.std.specs.List.{list_any}
 use Rattle.ladder_vars.specs.Decls.{Declared}
 use Rattle.ladder_vars.specs.declared.decls.Instance.{Instance}
 use Rattle.ladder_vars.specs.declared.kind.Pin.{Pin}
+use Rattle.ladder_grid.specs.Geometry.{place}
 use Rattle.ladder_grid.specs.Operand.{is_input_at}
 use Rattle.ladder_vars.specs.Kind.{traits_of}
 use Rattle.ladder_grid.specs.declared.cell.Operand.{Operand}
@@ -27,10 +28,6 @@ drawing decls rungs sites = record { decls = decls; rungs = rungs; sites = sites
 
 abbrev pub blank_site : Site
 blank_site = record { cell = cell.Empty; right_link = false; joint = joint.Blank; vertical = false }
-
--- the number of a place among all
-abbrev pub place : ℕ → ℕ → ℕ → ℕ
-place rung row column = 60 * rung + (6 * column + row)
 
 -- what stands at a place
 abbrev pub site_in : Drawing → ℕ → Site

@@ -12,16 +12,18 @@ use Rattle.ladder_grid.specs.declared.fault.GridRule.{GridRule}
 use Rattle.ladder_grid.specs.declared.fault.GridRule.TheVariants as rule
 use Rattle.ladder_grid.specs.declared.operand.Reference.{Reference}
 use Rattle.ladder_grid.specs.Operand.{is_odd}
-use Rattle.ladder_grid.specs.Picture.{Lines, ch, text_over, form_of, joint, right_link, IsUnfed}
-use Rattle.ladder_grid.specs.Page.{Page, rung_at, form_at, name_over, instance_at, reading_place}
+use Rattle.ladder_grid.specs.Picture.{Lines, ch, text_over, joint}
+use Rattle.ladder_grid.specs.Feeding.{right_link, IsUnfed}
+use Rattle.ladder_grid.specs.Page.{Page, rung_at, form_at, name_over, instance_at}
+use Rattle.ladder_grid.specs.Geometry.{reading_place}
 
 abbrev pub is_form : Option Form → Bool
 is_form None = false
 is_form (Some form) = true
 
 -- G3: the cell has none of the forms.
-abbrev pub bad_cell : Lines → ℕ → ℕ → ℕ → Bool
-bad_cell rung r h c = h == 1 && (nat_lt c 10 && not (is_form (form_of rung r c)))
+abbrev pub bad_cell : Page → ℕ → ℕ → ℕ → ℕ → Bool
+bad_cell page k r h c = h == 1 && (nat_lt c 10 && not (is_form (form_at page k r c)))
 
 -- on a name line a joint's place has a space or a bar
 abbrev pub bad_name_joint : ℕ → Bool
@@ -36,12 +38,13 @@ abbrev pub bad_rail : ℕ → Bool
 bad_rail b = not (b == space || (b == plus || b == bar))
 
 -- G4: the character at a joint's place or at the right rail isn't allowed there, or doesn't fit the cells beside it.
-abbrev pub bad_joint : Lines → ℕ → ℕ → ℕ → Bool
-bad_joint rung r h c =
-    (c == 10 && bad_rail (ch rung (2 * r + h) 120))
+abbrev pub bad_joint : Page → ℕ → ℕ → ℕ → ℕ → Bool
+bad_joint page k r h c =
+    (c == 10 && bad_rail (ch (rung_at page k) (2 * r + h) 120))
     || ((nat_le 1 c && nat_lt c 10)
-    && ((h == 0 && bad_name_joint (ch rung (2 * r) (12 * c)))
-    || (h == 1 && bad_wire_joint (joint rung r c) (right_link rung r (c - 1)) (ch rung (2 * r + 1) (12 * c + 1)))))
+    && ((h == 0 && bad_name_joint (ch (rung_at page k) (2 * r) (12 * c)))
+    || (h == 1
+    && bad_wire_joint (joint (rung_at page k) r c) (right_link page k r (c - 1)) (ch (rung_at page k) (2 * r + 1) (12 * c + 1)))))
 
 abbrev pub is_branch : ℕ → Bool
 is_branch b = b == plus || b == bar
@@ -64,12 +67,12 @@ abbrev pub has_text : List ℕ → Bool
 has_text chars = list_any (λ b. not (b == space)) chars
 
 -- G7: no name over a contact, a coil or a block.
-abbrev pub name_missing : Lines → ℕ → ℕ → ℕ → Bool
-name_missing rung r h c = h == 0 && (nat_lt c 10 && (wants_name (form_of rung r c) && not (has_text (text_over rung r c))))
+abbrev pub name_missing : Page → ℕ → ℕ → ℕ → ℕ → Bool
+name_missing page k r h c = h == 0 && (nat_lt c 10 && (wants_name (form_at page k r c) && not (has_text (text_over (rung_at page k) r c))))
 
 -- G8: a text over another cell.
-abbrev pub name_without : Lines → ℕ → ℕ → ℕ → Bool
-name_without rung r h c = h == 0 && (nat_lt c 10 && (not (wants_name (form_of rung r c)) && has_text (text_over rung r c)))
+abbrev pub name_without : Page → ℕ → ℕ → ℕ → ℕ → Bool
+name_without page k r h c = h == 0 && (nat_lt c 10 && (not (wants_name (form_at page k r c)) && has_text (text_over (rung_at page k) r c)))
 
 abbrev pub is_known : Option Reference → Bool
 is_known None = false
@@ -152,12 +155,12 @@ pub record IsSecondJump (page : Page) (k r c : ℕ) : Type 0 where
 
 -- The rule is broken at the place. Only these rules speak of places.
 abbrev pub BreaksAt : GridRule → Page → ℕ → ℕ → ℕ → ℕ → Type 0
-BreaksAt rule.BadCell page k r h c = bad_cell (rung_at page k) r h c ≡ true
-BreaksAt rule.BadJoint page k r h c = bad_joint (rung_at page k) r h c ≡ true
+BreaksAt rule.BadCell page k r h c = bad_cell page k r h c ≡ true
+BreaksAt rule.BadJoint page k r h c = bad_joint page k r h c ≡ true
 BreaksAt rule.BrokenVertical page k r h c = bad_vertical (rung_at page k) r h c ≡ true
-BreaksAt rule.Unfed page k r h c = (h ≡ 1) × (c < 10) × IsUnfed (rung_at page k) r c
-BreaksAt rule.NameMissing page k r h c = name_missing (rung_at page k) r h c ≡ true
-BreaksAt rule.NameWithoutSymbol page k r h c = name_without (rung_at page k) r h c ≡ true
+BreaksAt rule.Unfed page k r h c = (h ≡ 1) × (c < 10) × IsUnfed page k r c
+BreaksAt rule.NameMissing page k r h c = name_missing page k r h c ≡ true
+BreaksAt rule.NameWithoutSymbol page k r h c = name_without page k r h c ≡ true
 BreaksAt rule.Undeclared page k r h c = undeclared page k r h c ≡ true
 BreaksAt rule.WrongKind page k r h c = wrong_kind page k r h c ≡ true
 BreaksAt rule.BlockShape page k r h c = bad_block page k r h c ≡ true

@@ -12,7 +12,7 @@ ghost use Rattle.ladder_grid.specs.Reading.{IsDrawn};
 use crate::cell::Cell;
 use crate::fault::Stop;
 use crate::lines::{blanked, lines, parts, unclosed_line};
-use crate::page::PageView;
+use crate::page::{PageView, forms};
 use crate::page_check::check;
 use crate::program::Program;
 use crate::site::{Site, cell_drawn, site_with};
@@ -71,6 +71,7 @@ fn read_sites(alloc: Global, decls: &Decls, text: &[u8]) -> Result<(usize, Vec<S
     let shown = blanked(alloc, text)?;
     let lines = lines(alloc, &shown)?;
     let parts = parts(alloc, &lines)?;
+    let forms = forms(alloc, &lines, &parts)?;
     checked_sites(
         alloc,
         PageView {
@@ -78,6 +79,7 @@ fn read_sites(alloc: Global, decls: &Decls, text: &[u8]) -> Result<(usize, Vec<S
             lines: &lines,
             unclosed,
             parts: &parts,
+            forms: &forms,
         },
     )
 }

@@ -2,15 +2,16 @@ ghost use Rattle.std.specs.Prelude.{◌≡◌, ◌≤◌, ◌<◌, ◌↔◌, le
 ghost use Rattle.std.specs.List.{AllByRecursion};
 ghost use Rattle.ladder_grid.specs.ReadLines.{IsWithin};
 ghost use Rattle.ladder_grid.specs.Seen.{seen};
-ghost use Rattle.ladder_grid.specs.Page.{reading_place};
+ghost use Rattle.ladder_grid.specs.Geometry.{reading_place};
 ghost use Rattle.ladder_grid.specs.Rules.{is_form, bad_cell, bad_name_joint, bad_wire_joint, bad_rail, bad_joint, is_branch, bad_vertical, wants_name, has_text, name_missing, name_without, is_known, undeclared, wrong_kind, same_pin, is_lower_for, takes_second, is_block_for, lacks_lower, is_apart, form_above, form_below, bad_block, IsDrawnBefore, IsDrawnTwice, leaps, IsSecondJump, BreaksAt, IsBrokenOn, IsKept};
 ghost use Rattle.ladder_grid.specs.declared.fault.GridRule.{GridRule};
 
 use crate::fault::GridRule;
+use crate::feeding::{is_unfed, right_link};
 use crate::form::Form;
 use crate::operand::{Reference, is_odd};
 use crate::page::{PageView, form_at, instance_at, name_over, rung_at};
-use crate::picture::{ch, form_of, is_unfed, joint, right_link, text_over};
+use crate::picture::{ch, joint, text_over};
 use ladder_vars::Pin;
 
 fn is_form(form: Option<Form>) -> bool
@@ -19,11 +20,13 @@ fn is_form(form: Option<Form>) -> bool
     form.is_some()
 }
 
-fn bad_cell(rung: &[&[u8]], r: usize, h: usize, c: usize) -> bool
+fn bad_cell(page: PageView<'_, '_>, k: usize, r: usize, h: usize, c: usize) -> bool
+    requires rungs { k < length page.parts.now }
+    requires within { All (IsWithin (length page.lines.now)) page.parts.now }
     requires rows { r < 6 }
-    ensures { result ≡ bad_cell (map (λ l. l.now) rung.now) r h c }
+    ensures { result ≡ bad_cell (seen page.entry) k r h c }
 {
-    h == 1 && c < 10 && !is_form(form_of(rung, r, c))
+    h == 1 && c < 10 && !is_form(form_at(page, k, r, c))
 }
 
 fn bad_name_joint(b: u8) -> bool
@@ -46,12 +49,15 @@ fn bad_rail(b: u8) -> bool
     !(b == b' ' || b == b'+' || b == b'|')
 }
 
-fn bad_joint(rung: &[&[u8]], r: usize, h: usize, c: usize) -> bool
+fn bad_joint(page: PageView<'_, '_>, k: usize, r: usize, h: usize, c: usize) -> bool
+    requires rungs { k < length page.parts.now }
+    requires within { All (IsWithin (length page.lines.now)) page.parts.now }
     requires rows { r < 6 }
     requires halves { h < 2 }
     requires columns { c < 11 }
-    ensures { result ≡ bad_joint (map (λ l. l.now) rung.now) r h c }
+    ensures { result ≡ bad_joint (seen page.entry) k r h c }
 {
+    let rung = rung_at(page, k);
     if c == 10 {
         bad_rail(ch(rung, 2 * r + h, 120))
     } else if c == 0 {
@@ -61,7 +67,7 @@ fn bad_joint(rung: &[&[u8]], r: usize, h: usize, c: usize) -> bool
     } else {
         bad_wire_joint(
             joint(rung, r, c),
-            right_link(rung, r, c - 1),
+            right_link(page, k, r, c - 1),
             ch(rung, 2 * r + 1, 12 * c + 1),
         )
     }
@@ -106,18 +112,28 @@ pub(crate) fn has_text(mut chars: &[u8]) -> bool
     false
 }
 
-fn name_missing(rung: &[&[u8]], r: usize, h: usize, c: usize) -> bool
+fn name_missing(page: PageView<'_, '_>, k: usize, r: usize, h: usize, c: usize) -> bool
+    requires rungs { k < length page.parts.now }
+    requires within { All (IsWithin (length page.lines.now)) page.parts.now }
     requires rows { r < 6 }
-    ensures { result ≡ name_missing (map (λ l. l.now) rung.now) r h c }
+    ensures { result ≡ name_missing (seen page.entry) k r h c }
 {
-    h == 0 && c < 10 && wants_name(form_of(rung, r, c)) && !has_text(&text_over(rung, r, c))
+    h == 0
+        && c < 10
+        && wants_name(form_at(page, k, r, c))
+        && !has_text(&text_over(rung_at(page, k), r, c))
 }
 
-fn name_without(rung: &[&[u8]], r: usize, h: usize, c: usize) -> bool
+fn name_without(page: PageView<'_, '_>, k: usize, r: usize, h: usize, c: usize) -> bool
+    requires rungs { k < length page.parts.now }
+    requires within { All (IsWithin (length page.lines.now)) page.parts.now }
     requires rows { r < 6 }
-    ensures { result ≡ name_without (map (λ l. l.now) rung.now) r h c }
+    ensures { result ≡ name_without (seen page.entry) k r h c }
 {
-    h == 0 && c < 10 && !wants_name(form_of(rung, r, c)) && has_text(&text_over(rung, r, c))
+    h == 0
+        && c < 10
+        && !wants_name(form_at(page, k, r, c))
+        && has_text(&text_over(rung_at(page, k), r, c))
 }
 
 fn is_known(name: Option<Reference>) -> bool
@@ -319,12 +335,12 @@ fn breaks(rule: GridRule, page: PageView<'_, '_>, k: usize, r: usize, h: usize, 
     ensures { IsTrue result ↔ BreaksAt rule (seen page.entry) k r h c }
 {
     match rule {
-        GridRule::BadCell => bad_cell(rung_at(page, k), r, h, c),
-        GridRule::BadJoint => bad_joint(rung_at(page, k), r, h, c),
+        GridRule::BadCell => bad_cell(page, k, r, h, c),
+        GridRule::BadJoint => bad_joint(page, k, r, h, c),
         GridRule::BrokenVertical => bad_vertical(rung_at(page, k), r, h, c),
-        GridRule::Unfed => h == 1 && c < 10 && is_unfed(rung_at(page, k), r, c),
-        GridRule::NameMissing => name_missing(rung_at(page, k), r, h, c),
-        GridRule::NameWithoutSymbol => name_without(rung_at(page, k), r, h, c),
+        GridRule::Unfed => h == 1 && c < 10 && is_unfed(page, k, r, c),
+        GridRule::NameMissing => name_missing(page, k, r, h, c),
+        GridRule::NameWithoutSymbol => name_without(page, k, r, h, c),
         GridRule::Undeclared => undeclared(page, k, r, h, c),
         GridRule::WrongKind => wrong_kind(page, k, r, h, c),
         GridRule::BlockShape => bad_block(page, k, r, h, c),

@@ -7,11 +7,12 @@ ghost use Rattle.ladder_grid.specs.Page.{labels_of};
 ghost use Rattle.ladder_grid.specs.Reading.{contact_memory, coil_memory, numbered, contact_on, coil_on, block_on, lower_of, jump_on, cell_with, cell_drawn, joint_of, site_with};
 
 use crate::cell::{Cell, CoilMode, Joint, Mode, Operand};
+use crate::feeding::right_link;
 use crate::form::Form;
 use crate::operand::{Reference, instance_of};
 use crate::page::{PageView, form_at, instance_above, name_over, rung_at};
 use crate::page_check::target_of;
-use crate::picture::{joint, right_link, vertical};
+use crate::picture::{joint, vertical};
 use ladder_vars::{Name, Symbol};
 
 /// What stands at a place of a rung: a cell, whether power can leave it on its right, the joint on its left, and whether a
@@ -196,11 +197,10 @@ pub(crate) fn site_with(
     requires columns { c < 10 }
     ensures { result ≡ site_with (seen page.entry) number cell k r c }
 {
-    let rung = rung_at(page, k);
     Site {
         cell: numbered(number, cell),
-        right_link: right_link(rung, r, c),
-        joint: joint_of(joint(rung, r, c)),
-        vertical: vertical(rung, r, c),
+        right_link: right_link(page, k, r, c),
+        joint: joint_of(joint(rung_at(page, k), r, c)),
+        vertical: vertical(rung_at(page, k), r, c),
     }
 }

@@ -8,7 +8,7 @@ new-requires-clause-whole c = sites_whole (page_of c.args.decls c.args.text.now)
 
 pub new-requires-clause-well_formed : goal.new-requires-clause-well_formed
 new-requires-clause-well_formed c = let read = c.in_ok-rungs.ensures.found in
-    read_well_formed (page_of c.args.decls c.args.text.now) _ _ read.sound read.same read.count
+    read_well_formed (page_of c.args.decls c.args.text.now) _ _ read.sound read.same read.count read.few
 
 pub returns-clause-found : goal.returns-clause-found
 returns-clause-found c = rw c.in_ok-program.ensures (sites_drawn (page_of c.args.decls c.args.text.now) _ _ c.in_ok-rungs.ensures.found)

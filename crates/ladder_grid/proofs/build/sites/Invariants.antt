@@ -1,6 +1,7 @@
 use Rattle.std.proofs.Common.{◌≡◌, ◌≤◌}
-use Rattle.ladder_grid.specs.Reading.{at_place, site_drawn, memories_before}
-use Rattle.ladder_grid.specs.Build.{first_places}
+use Rattle.ladder_grid.specs.Reading.{site_drawn, memories_before}
+use Rattle.ladder_grid.specs.Geometry.{at_place}
+use Rattle.ladder_grid.specs.AllPlaces.{first_places}
 use Rattle.ladder_grid.specs.Seen.{seen}
 use Rattle.ladder_grid.proofs.build.sites.Given as goal
 
