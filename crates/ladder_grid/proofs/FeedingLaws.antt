@@ -155,7 +155,7 @@ module _ (page : Page) (d : Drawing) (drawn : IsDrawn page d) where
         | true ↦ λ e.
             let inside : k < length page.parts = omega (arith, below, drawn.rungs) in
             let judged : k < 100 = omega (arith, below, drawn.whole.few) in
-            let high : c < 11 = omega (arith, columns) in
+            let high : c ≤ 10 = omega (arith, columns) in
             let wire_line : 1 < 2 = omega arith in
             let past : nat_le 1 c ≡ true = le-leb 1 c some in
             let in_columns : nat_lt c 10 ≡ true = lt-ltb c 10 columns in
@@ -188,7 +188,7 @@ module _ (page : Page) (d : Drawing) (drawn : IsDrawn page d) where
   never_unfed k r c below rows some columns dashed unfed =
       let inside : k < length page.parts = omega (arith, below, drawn.rungs) in
       let judged : k < 100 = omega (arith, below, drawn.whole.few) in
-      let high : c < 11 = omega (arith, columns) in
+      let high : c ≤ 10 = omega (arith, columns) in
       let wire_line : 1 < 2 = omega arith in
       drawn.sound (Grid rule.Unfed) k ((part_at page k).start + (2 * r + 1)) (inl (
         inside,

@@ -335,7 +335,7 @@ module _ (page : Page) (rungs : ℕ) (sites : List Site)
       → instance_at page k r c ≡ Some number → instance_at page j q b ≡ Some number → reading_place j q b < reading_place k r c → ⊥
   unfolding PartBreaks
   never_twice number k r c j q b below rows columns other_rows other_columns here there earlier =
-      let high : c < 11 = omega arith in
+      let high : c ≤ 10 = omega arith in
       let name_line : 0 < 2 = omega arith in
       let inside : k < length page.parts = omega (arith, below, count) in
       let judged : k < 100 = omega (arith, below, few) in
@@ -379,7 +379,7 @@ module _ (page : Page) (rungs : ℕ) (sites : List Site)
       → leaps (form_at page k r c) ≡ true → leaps (form_at page k q b) ≡ true → 10 * q + b < 10 * r + c → ⊥
   unfolding PartBreaks
   never_two k r c q b below rows columns other_rows other_columns here there earlier =
-      let high : c < 11 = omega arith in
+      let high : c ≤ 10 = omega arith in
       let wire_line : 1 < 2 = omega arith in
       let inside : k < length page.parts = omega (arith, below, count) in
       let judged : k < 100 = omega (arith, below, few) in
@@ -555,7 +555,7 @@ module _ (page : Page) (rungs : ℕ) (sites : List Site)
       elim (is_odd page.decls (form_at page k r c) (name_over page k r c)) as (λ b. is_odd page.decls (form_at page k r c) (name_over page k r c) ≡ b → b ≡ false) [
         | false ↦ λ _. refl
         | true ↦ λ odd.
-            let high : c < 11 = omega arith in
+            let high : c ≤ 10 = omega arith in
             let name_line : 0 < 2 = omega arith in
             let inside : k < length page.parts = omega (arith, below, count) in
             let judged : k < 100 = omega (arith, below, few) in
@@ -612,7 +612,7 @@ module _ (page : Page) (rungs : ℕ) (sites : List Site)
       (λ b. is_apart (form_above page k r c) (form_at page k r c) (form_below page k r c) ≡ b → b ≡ false) [
         | false ↦ λ _. refl
         | true ↦ λ apart_here.
-            let high : c < 11 = omega arith in
+            let high : c ≤ 10 = omega arith in
             let wire_line : 1 < 2 = omega arith in
             let inside : k < length page.parts = omega (arith, below, count) in
             let judged : k < 100 = omega (arith, below, few) in
@@ -641,12 +641,12 @@ module _ (page : Page) (rungs : ℕ) (sites : List Site)
 
   below_is : (k r c : ℕ) (form : Form) → r < 6 → form_below page k r c ≡ Some form → (r < 5) × (form_at page k (r + 1) c ≡ Some form)
   below_is k r c form rows h =
-      elim (r == 5) as (λ b. (r == 5) ≡ b → cond b None (form_at page k (r + 1) c) ≡ Some form → (r < 5) × (form_at page k (r + 1) c ≡ Some form)) [
+      elim (r + 1 == 6) as (λ b. (r + 1 == 6) ≡ b → cond b None (form_at page k (r + 1) c) ≡ Some form → (r < 5) × (form_at page k (r + 1) c ≡ Some form)) [
         | true ↦ λ test same. absurd (none_some same)
         | false ↦ λ test same.
             let less : r < 5 = elim (cases_lt r 5) [
               | inl below ↦ below
-              | inr last ↦ absurd (eqb-false r 5 test (omega (arith, last, rows)))
+              | inr last ↦ absurd (eqb-false (r + 1) 6 test (omega (arith, last, rows)))
             ] in
             (less, same)
       ] refl h
@@ -668,7 +668,7 @@ module _ (page : Page) (rungs : ℕ) (sites : List Site)
       cell_is (place k (r + 1) c) within ∙ ap (numbered (memories_before page (place k (r + 1) c))) read
 
   has_lower : (i inst : ℕ) → cell_i i ≡ cell.Block inst → has_second (slice_get page.decls.instances inst) ≡ true
-      → (linked : Bool) × (i % 6 < 5) × (cell_i (i + 1) ≡ cell.Lower inst linked)
+      → (linked : Bool) × (i % 6 + 1 < 6) × (cell_i (i + 1) ≡ cell.Lower inst linked)
   unfolding instance_at
   has_lower i inst h second =
       let s = block_place i inst (ap block_in h) in

@@ -1,7 +1,7 @@
 -- What a program says of power flow is what its picture says, and G6 leaves no cell unfed.
 use Rattle.std.specs.Prelude.{◌≡◌, ℕ, ◌+◌, ◌-◌, ◌*◌, ◌<◌, ◌≤◌, ◌↔◌, min, max, Bool, true, false}
-use Rattle.ladder_grid.specs.Bytes.{dash}
 use Rattle.ladder_grid.specs.declared.geometry.TheConstants.{ROWS, COLUMNS, PITCH}
+use Rattle.ladder_grid.specs.Bytes.{dash}
 use Rattle.ladder_grid.specs.declared.cell.Cell.{Cell}
 use Rattle.ladder_grid.specs.declared.cell.Cell.TheVariants as cell
 use Rattle.ladder_grid.specs.Picture.{ch, SameGroup}

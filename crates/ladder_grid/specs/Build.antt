@@ -1,5 +1,6 @@
 -- Private: the list of all sites, as the code makes it.
 use Rattle.std.specs.Prelude.{◌≡◌, ◌≤◌, ℕ, List, length}
+use Rattle.ladder_grid.specs.declared.geometry.TheConstants.{RUNGS}
 use Rattle.ladder_grid.specs.declared.site.Site.{Site}
 use Rattle.ladder_grid.specs.PageRules.{IsSoundPage}
 use Rattle.ladder_grid.specs.AllPlaces.{all_places}
@@ -13,5 +14,5 @@ sites_of page = all_places (site_drawn page) (length page.parts)
 pub record AreSitesOf (page : Page) (rungs : ℕ) (sites : List Site) : Type 0 where
   pub sound : IsSoundPage page
   pub count : rungs ≡ length page.parts
-  pub few : rungs ≤ 100
+  pub few : rungs ≤ RUNGS
   pub same : sites ≡ sites_of page

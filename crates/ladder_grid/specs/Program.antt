@@ -5,6 +5,7 @@ use Rattle.std.specs.List.{list_any}
 use Rattle.ladder_vars.specs.Decls.{Declared}
 use Rattle.ladder_vars.specs.declared.decls.Instance.{Instance}
 use Rattle.ladder_vars.specs.declared.kind.Pin.{Pin}
+use Rattle.ladder_grid.specs.declared.geometry.TheConstants.{RUNGS, ROWS, PLACES}
 use Rattle.ladder_grid.specs.Geometry.{place}
 use Rattle.ladder_grid.specs.Operand.{is_input_at}
 use Rattle.ladder_vars.specs.Kind.{traits_of}
@@ -41,7 +42,7 @@ cell_in d i = (site_in d i).cell
 
 -- the cell at a place of a rung
 abbrev pub cell_of : Drawing → ℕ → ℕ → Cell
-cell_of d rung at = cell_in d (60 * rung + at)
+cell_of d rung at = cell_in d (PLACES * rung + at)
 
 -- Power goes from a right link into the group of a joint where the joint is `-` or `+` (IEC 61131-3, power flow).
 abbrev pub takes_power : Joint → Bool
@@ -80,7 +81,7 @@ is_empty cell.Return = false
 
 -- A cell with the rows of the column before that feed it; none in the first column, where the left rail does.
 abbrev pub step_at : Drawing → ℕ → ℕ → Step
-step_at d rung at = record { row = at % 6; column = at / 6; cell = cell_of d rung at; feeds = mask (feeds d rung (at % 6) (at / 6)) 6 }
+step_at d rung at = record { row = at % ROWS; column = at / ROWS; cell = cell_of d rung at; feeds = mask (feeds d rung (at % ROWS) (at / ROWS)) ROWS }
 
 -- those of the cells before the place `at` that aren't empty
 unfoldable pub steps_before : Drawing → ℕ → ℕ → List Step
@@ -91,7 +92,7 @@ steps_before d rung (suc at) =
 
 -- One step for each cell of the rung that isn't empty, by column and row.
 unfoldable pub steps_of : Drawing → ℕ → List Step
-steps_of d rung = steps_before d rung 60
+steps_of d rung = steps_before d rung PLACES
 
 -- where a cell leads out of its rung: past the last one by a return
 abbrev pub goes_to : ℕ → Cell → Option ℕ
@@ -106,7 +107,7 @@ goes_to rungs cell.Return = Some rungs
 
 abbrev pub jump_in : Option ℕ → ℕ → Option (ℕ × ℕ × ℕ) → Option (ℕ × ℕ × ℕ)
 jump_in None at other = other
-jump_in (Some target) at other = Some (at % 6, at / 6, target)
+jump_in (Some target) at other = Some (at % ROWS, at / ROWS, target)
 
 unfoldable pub jump_before : Drawing → ℕ → ℕ → Option (ℕ × ℕ × ℕ)
 jump_before d rung zero = None
@@ -114,7 +115,7 @@ jump_before d rung (suc at) = jump_in (goes_to d.rungs (cell_of d rung at)) at (
 
 -- The row and the column of the rung's jump or return, and its target. A rung has at most one.
 unfoldable pub jump_of : Drawing → ℕ → Option (ℕ × ℕ × ℕ)
-jump_of d rung = jump_before d rung 60
+jump_of d rung = jump_before d rung PLACES
 
 abbrev pub memory_in : Cell → Option ℕ
 memory_in cell.Empty = None
@@ -153,8 +154,8 @@ has_coil var d = list_any (λ s. is_coil_of var s.cell) d.sites
 
 -- There are at most a hundred rungs, of sixty places each.
 pub record IsWhole (d : Drawing) : Type 0 where
-  pub few : d.rungs ≤ 100
-  pub size : length d.sites ≡ 60 * d.rungs
+  pub few : d.rungs ≤ RUNGS
+  pub size : length d.sites ≡ PLACES * d.rungs
 
 -- What a program keeps beside its drawing is the drawing's.
 pub record IsCompiled (d : Drawing) (compiled : List (List Step)) (jumps : List (Option (ℕ × ℕ × ℕ))) (memories : ℕ)
@@ -208,11 +209,11 @@ pub record IsWellFormed (d : Drawing) : Type 0 where
   pub memories_below : (number i : ℕ) → memory_in (cell_in d i) ≡ Some number → number < memories_of d
   pub one_block : (number i j : ℕ) → block_in (cell_in d i) ≡ Some number
       → block_in (cell_in d j) ≡ Some number → i ≡ j
-  pub one_jump : (rung i j s t : ℕ) → i < 60 → j < 60 → goes_to d.rungs (cell_of d rung i) ≡ Some s
+  pub one_jump : (rung i j s t : ℕ) → i < PLACES → j < PLACES → goes_to d.rungs (cell_of d rung i) ≡ Some s
       → goes_to d.rungs (cell_of d rung j) ≡ Some t → i ≡ j
-  pub jumps_down : (rung i target : ℕ) → i < 60 → goes_to d.rungs (cell_of d rung i) ≡ Some target → (rung < target) × (target ≤ d.rungs)
+  pub jumps_down : (rung i target : ℕ) → i < PLACES → goes_to d.rungs (cell_of d rung i) ≡ Some target → (rung < target) × (target ≤ d.rungs)
   pub under_block : (i inst : ℕ) (linked : Bool) → cell_in d i ≡ cell.Lower inst linked
-      → (1 ≤ i % 6) × (cell_in d (i - 1) ≡ cell.Block inst)
+      → (1 ≤ i % ROWS) × (cell_in d (i - 1) ≡ cell.Block inst)
   pub fits : (i : ℕ) → Fits d.decls (cell_in d i)
   pub has_lower : (i inst : ℕ) → cell_in d i ≡ cell.Block inst → has_second (slice_get d.decls.instances inst) ≡ true
-      → (linked : Bool) × (i % 6 < 5) × (cell_in d (i + 1) ≡ cell.Lower inst linked)
+      → (linked : Bool) × (i % ROWS + 1 < ROWS) × (cell_in d (i + 1) ≡ cell.Lower inst linked)

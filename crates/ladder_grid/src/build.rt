@@ -1,6 +1,7 @@
 //! Builds the program of a page on which no rule is broken.
 
 ghost use Rattle.std.specs.Prelude.{◌≡◌, ◌≤◌, ◌<◌, ◌+◌, ◌^◌, if◌then◌else◌, map, length, All, IfOk, IfErr};
+ghost use Rattle.ladder_grid.specs.declared.geometry.TheConstants.{RUNGS};
 ghost use Rattle.ladder_grid.specs.ReadLines.{IsWithin, page_of};
 ghost use Rattle.ladder_grid.specs.Seen.{seen};
 ghost use Rattle.ladder_grid.specs.Page.{labels_of};
@@ -11,6 +12,7 @@ ghost use Rattle.ladder_grid.specs.Reading.{IsDrawn};
 
 use crate::cell::Cell;
 use crate::fault::Stop;
+use crate::geometry::{PLACES, ROWS};
 use crate::lines::{blanked, lines, parts, unclosed_line};
 use crate::page::{PageView, forms};
 use crate::page_check::check;
@@ -36,15 +38,28 @@ fn sites(
     labels: &[Option<Name>],
 ) -> Result<Vec<Site>, AllocError>
     requires within { All (IsWithin (length page.lines.now)) page.parts.now }
-    requires few { length page.parts.now ≤ 100 }
+    requires few { length page.parts.now ≤ RUNGS }
     requires known { labels.now ≡ labels_of (map (λ l. l.now) page.lines.now) page.parts.now }
     ensures { IfOk result (λ v. v.items ≡ sites_of (seen page.entry)) }
 {
     let mut sites = Vec::new(alloc);
     let mut next = 0;
-    for n in 0..60 * page.parts.len() {
-        let cell = cell_drawn(page, labels, n / 60, n % 60 % 6, n % 60 / 6);
-        sites.push(site_with(page, next, cell, n / 60, n % 60 % 6, n % 60 / 6))?;
+    for n in 0..PLACES * page.parts.len() {
+        let cell = cell_drawn(
+            page,
+            labels,
+            n / PLACES,
+            n % PLACES % ROWS,
+            n % PLACES / ROWS,
+        );
+        sites.push(site_with(
+            page,
+            next,
+            cell,
+            n / PLACES,
+            n % PLACES % ROWS,
+            n % PLACES / ROWS,
+        ))?;
         next = after_memory(next, &cell);
     }
     Ok(sites)

@@ -1,11 +1,13 @@
 //! Right links, and which cells they feed on a page.
 
 ghost use Rattle.std.specs.Prelude.{◌≡◌, ◌<◌, ◌↔◌, length, All, IsTrue};
+ghost use Rattle.ladder_grid.specs.declared.geometry.TheConstants.{ROWS, COLUMNS};
 ghost use Rattle.ladder_grid.specs.ReadLines.{IsWithin};
 ghost use Rattle.ladder_grid.specs.Seen.{seen};
 ghost use Rattle.ladder_grid.specs.Feeding.{passes_on, right_link, enters, IsFed, IsUnfed};
 
 use crate::form::Form;
+use crate::geometry::{CELL, PITCH, ROWS};
 use crate::page::{PageView, form_at, rung_at};
 use crate::picture::{ch, joint, same_group};
 
@@ -23,18 +25,18 @@ fn passes_on(form: &Option<Form>) -> bool
 pub(crate) fn right_link(page: PageView<'_, '_>, k: usize, r: usize, c: usize) -> bool
     requires rungs { k < length page.parts.now }
     requires within { All (IsWithin (length page.lines.now)) page.parts.now }
-    requires rows { r < 6 }
-    requires columns { c < 10 }
+    requires rows { r < ROWS }
+    requires columns { c < COLUMNS }
     ensures { result ≡ right_link (seen page.entry) k r c }
 {
-    passes_on(&form_at(page, k, r, c)) && ch(rung_at(page, k), 2 * r + 1, 12 * c + 11) != b' '
+    passes_on(&form_at(page, k, r, c)) && ch(rung_at(page, k), 2 * r + 1, PITCH * c + CELL) != b' '
 }
 
 fn enters(page: PageView<'_, '_>, k: usize, r: usize, c: usize) -> bool
     requires rungs { k < length page.parts.now }
     requires within { All (IsWithin (length page.lines.now)) page.parts.now }
-    requires rows { r < 6 }
-    requires columns { c < 10 }
+    requires rows { r < ROWS }
+    requires columns { c < COLUMNS }
     ensures { result ≡ enters (seen page.entry) k r c }
 {
     let joint = joint(rung_at(page, k), r, c);
@@ -44,11 +46,11 @@ fn enters(page: PageView<'_, '_>, k: usize, r: usize, c: usize) -> bool
 fn is_fed(page: PageView<'_, '_>, k: usize, r: usize, c: usize) -> bool
     requires rungs { k < length page.parts.now }
     requires within { All (IsWithin (length page.lines.now)) page.parts.now }
-    requires rows { r < 6 }
-    requires columns { c < 10 }
+    requires rows { r < ROWS }
+    requires columns { c < COLUMNS }
     ensures { IsTrue result ↔ IsFed (seen page.entry) k r c }
 {
-    for q in 0..6 {
+    for q in 0..ROWS {
         if enters(page, k, q, c) && same_group(rung_at(page, k), c, r, q) {
             return true;
         }
@@ -60,12 +62,12 @@ fn is_fed(page: PageView<'_, '_>, k: usize, r: usize, c: usize) -> bool
 pub(crate) fn is_unfed(page: PageView<'_, '_>, k: usize, r: usize, c: usize) -> bool
     requires rungs { k < length page.parts.now }
     requires within { All (IsWithin (length page.lines.now)) page.parts.now }
-    requires rows { r < 6 }
-    requires columns { c < 10 }
+    requires rows { r < ROWS }
+    requires columns { c < COLUMNS }
     ensures { IsTrue result ↔ IsUnfed (seen page.entry) k r c }
 {
     let rung = rung_at(page, k);
-    if c == 0 || ch(rung, 2 * r + 1, 12 * c + 1) != b'-' {
+    if c == 0 || ch(rung, 2 * r + 1, PITCH * c + 1) != b'-' {
         return false;
     }
     let joint = joint(rung, r, c);

@@ -1,6 +1,7 @@
 //! What a page has at a place of a rung.
 
 ghost use Rattle.std.specs.Prelude.{◌≡◌, ◌<◌, map, length, All};
+ghost use Rattle.ladder_grid.specs.declared.geometry.TheConstants.{ROWS, COLUMNS};
 ghost use Rattle.ladder_grid.specs.ReadLines.{IsWithin};
 ghost use Rattle.ladder_grid.specs.Seen.{seen};
 ghost use Rattle.ladder_grid.specs.Page.{labels_of};
@@ -132,8 +133,8 @@ pub(crate) fn cell_drawn(
     requires rungs { k < length page.parts.now }
     requires within { All (IsWithin (length page.lines.now)) page.parts.now }
     requires known { labels.now ≡ labels_of (map (λ l. l.now) page.lines.now) page.parts.now }
-    requires rows { r < 6 }
-    requires columns { c < 10 }
+    requires rows { r < ROWS }
+    requires columns { c < COLUMNS }
     ensures { result ≡ cell_drawn (seen page.entry) k r c }
 {
     let form = form_at(page, k, r, c);
@@ -193,8 +194,8 @@ pub(crate) fn site_with(
 ) -> Site
     requires rungs { k < length page.parts.now }
     requires within { All (IsWithin (length page.lines.now)) page.parts.now }
-    requires rows { r < 6 }
-    requires columns { c < 10 }
+    requires rows { r < ROWS }
+    requires columns { c < COLUMNS }
     ensures { result ≡ site_with (seen page.entry) number cell k r c }
 {
     Site {
