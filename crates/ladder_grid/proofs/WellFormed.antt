@@ -1,8 +1,7 @@
 -- The cells that a sound page is read as are well formed.
-use Rattle.std.proofs.Common.{◌≡◌, ℕ, ◌+◌, ◌-◌, ◌*◌, ◌/◌, ◌%◌, ◌<◌, ◌≤◌, ◌⊎◌, inl, inr, Bool, true, false, ◌==◌, cond, List, [], ◌∷◌, length, get_or, count_by, nat_lt, position, zero, suc, Option, Some, None, refl, sym, ap, subst, ◌∙◌, arith, slice_get}
+use Rattle.std.proofs.Common.{◌≡◌, ℕ, ◌+◌, ◌-◌, ◌*◌, ◌/◌, ◌%◌, ◌<◌, ◌≤◌, ◌⊎◌, inl, inr, Bool, true, false, ◌==◌, cond, List, length, get_or, count_by, nat_lt, position, suc, Option, Some, None, refl, sym, ap, subst, ◌∙◌, arith, slice_get}
 use Rattle.std.proofs.lemmas.Bool.{cases_lt, ltb-true, lt-ltb, eqb-false, ne_eqb}
 use Rattle.std.proofs.lemmas.List.Quantifiers.{position-Some}
-use Rattle.std.proofs.lemmas.List.Sums.{sum_by-cons}
 use Rattle.std.proofs.lemmas.List.{get_or_past, length-map}
 use Rattle.ladder_vars.specs.declared.decls.Symbol.{Symbol}
 use Rattle.ladder_vars.specs.declared.decls.Symbol.TheVariants.{Var, Instance}
@@ -10,7 +9,7 @@ use Rattle.ladder_grid.specs.declared.cell.Mode.{Mode}
 use Rattle.ladder_grid.specs.declared.cell.CoilMode.{CoilMode}
 use Rattle.ladder_grid.specs.declared.cell.Cell.{Cell}
 use Rattle.ladder_grid.specs.declared.cell.Cell.TheVariants as cell
-use Rattle.ladder_grid.specs.declared.cell.Joint.{Joint}
+use Rattle.ladder_grid.specs.declared.site.Site.{Site}
 use Rattle.ladder_vars.specs.declared.kind.Pin.{Pin}
 use Rattle.ladder_grid.specs.declared.form.Form.{Form}
 use Rattle.ladder_grid.specs.declared.form.Form.TheVariants.{Empty, Wire, Contact, Coil, Block, Lower, Jump, Return}
@@ -19,18 +18,21 @@ use Rattle.ladder_grid.specs.declared.fault.GridRule.TheVariants as rule
 use Rattle.ladder_grid.specs.declared.operand.Reference.{Reference}
 use Rattle.ladder_grid.specs.Gap.{Labels, is_named}
 use Rattle.ladder_grid.specs.Operand.{instance_of, instance_on, is_odd}
-use Rattle.ladder_grid.specs.Page.{Page, part_at, label_of, labels_of, form_at, name_over, instance_at, instance_above, reading_place}
+use Rattle.ladder_grid.specs.Page.{Page, part_at, label_of, labels_of, form_at, name_over, instance_at, instance_above}
+use Rattle.ladder_grid.specs.Geometry.{reading_place}
 use Rattle.ladder_vars.specs.Kind.{traits_of}
 use Rattle.ladder_grid.specs.Rules.{leaps, wrong_kind, lacks_lower, is_apart, form_above, form_below, bad_block}
-use Rattle.ladder_grid.specs.Drawing.{later, target_to, jump_label, PartBreaks, IsSoundPage, target_of}
-use Rattle.ladder_grid.specs.Program.{drawing, place, memory_in, block_in, goes_to, has_memory, is_there, Fits, has_second, IsWellFormed}
-use Rattle.ladder_grid.specs.Reading.{numbered, contact_on, coil_on, block_on, lower_of, jump_on, cell_with, cell_drawn, at_place, memories_before}
-use Rattle.ladder_grid.specs.Places.{all_places, numbered_from, cells_of}
+use Rattle.ladder_grid.specs.PageRules.{later, target_to, jump_label, PartBreaks, IsSoundPage, target_of}
+use Rattle.ladder_grid.specs.Program.{drawing, blank_site, memory_in, block_in, goes_to, has_memory, Fits, has_second, IsWellFormed}
+use Rattle.ladder_grid.specs.Geometry.{place}
+use Rattle.ladder_grid.specs.Reading.{numbered, contact_on, coil_on, block_on, lower_of, jump_on, cell_with, cell_drawn, site_drawn, memories_before}
+use Rattle.ladder_grid.specs.Geometry.{at_place}
+use Rattle.ladder_grid.specs.Build.{sites_of}
 use Rattle.ladder_grid.proofs.FitLaws.{SymbolFits, refer_fits, instance_fits, cell_fits, fits_numbered}
 use Rattle.ladder_grid.proofs.LowerLaws.{kind_second, lower_found, block_even}
 use Rattle.ladder_grid.proofs.ReadingOrder.{rung_of_place, row_of_place, column_of_place}
-use Rattle.ladder_grid.proofs.PlaceLaws.{length-all_places}
-use Rattle.ladder_grid.proofs.NumberLaws.{length-numbered_from, numbered-at}
+use Rattle.ladder_grid.proofs.PlaceLaws.{length-all_places, first_places-at}
+use Rattle.ladder_grid.proofs.NumberLaws.{number_is, before_yes, before_more, count-sites}
 
 none_some : {A : Type 0} {x : A} → None ≡ Some x → ⊥
 none_some h = cc
@@ -40,90 +42,6 @@ some_same a b h = cc
 
 off_on : false ≡ true → ⊥
 off_on h = cc
-
--- ---- memories
-has_number : (n : ℕ) (c : Cell) → has_memory c ≡ true → memory_in (numbered n c) ≡ Some n
-has_number n cell.Empty h = absurd (off_on h)
-has_number n cell.Wire h = absurd (off_on h)
-has_number n (cell.Contact mode operand None) h = absurd (off_on h)
-has_number n (cell.Contact mode operand (Some m)) h = refl
-has_number n (cell.Coil mode var None) h = absurd (off_on h)
-has_number n (cell.Coil mode var (Some m)) h = refl
-has_number n (cell.Block inst) h = absurd (off_on h)
-has_number n (cell.Lower inst linked) h = absurd (off_on h)
-has_number n (cell.Jump target) h = absurd (off_on h)
-has_number n cell.Return h = absurd (off_on h)
-
-missing : (m : Option ℕ) → is_there m ≡ false → m ≡ None
-missing None h = refl
-missing (Some n) h = cc
-
-abbrev numbers : Bool → ℕ → Cell → List Cell → List Cell
-numbers b next c cs = cond b (numbered next c ∷ numbered_from (next + 1) cs) (c ∷ numbered_from next cs)
-
-abbrev HasNumber : List Cell → ℕ → ℕ → Type 0
-HasNumber cs i number = memory_in (get_or cs i cell.Empty) ≡ Some number
-
-abbrev AtLeast : ℕ → List Cell → Type 0
-AtLeast next cs = (i number : ℕ) → HasNumber cs i number → next ≤ number
-
-at_least_by : (b : Bool) (c : Cell) (cs : List Cell) (next : ℕ) → has_memory c ≡ b → AtLeast (next + 1) (numbered_from (next + 1) cs) → AtLeast next (numbered_from next cs)
-    → AtLeast next (numbers b next c cs)
-at_least_by true c cs next e more same zero number h = let n : next ≡ number = some_same next number (sym (has_number next c e) ∙ h) in omega arith
-at_least_by true c cs next e more same (suc i) number h = let n : next + 1 ≤ number = more i number h in omega arith
-at_least_by false c cs next e more same zero number h = absurd (none_some (sym (missing (memory_in c) e) ∙ h))
-at_least_by false c cs next e more same (suc i) number h = same i number h
-
-at_least : (cs : List Cell) (next : ℕ) → AtLeast next (numbered_from next cs)
-at_least [] next i number h = absurd (none_some h)
-at_least (c ∷ cs) next i number h = at_least_by (has_memory c) c cs next refl (at_least cs (next + 1)) (at_least cs next) i number h
-
-abbrev AreApart : List Cell → Type 0
-AreApart cs = (i j number : ℕ) → HasNumber cs i number → HasNumber cs j number → i ≡ j
-
-apart_by : (b : Bool) (c : Cell) (cs : List Cell) (next : ℕ) → has_memory c ≡ b → AreApart (numbered_from (next + 1) cs) → AreApart (numbered_from next cs)
-    → AreApart (numbers b next c cs)
-apart_by true c cs next e more same zero zero number h k = refl
-apart_by true c cs next e more same zero (suc j) number h k =
-    let n : next ≡ number = some_same next number (sym (has_number next c e) ∙ h) in
-    let m : next + 1 ≤ number = at_least cs (next + 1) j number k in
-    absurd (omega arith)
-apart_by true c cs next e more same (suc i) zero number h k =
-    let n : next ≡ number = some_same next number (sym (has_number next c e) ∙ k) in
-    let m : next + 1 ≤ number = at_least cs (next + 1) i number h in
-    absurd (omega arith)
-apart_by true c cs next e more same (suc i) (suc j) number h k = ap suc (more i j number h k)
-apart_by false c cs next e more same zero j number h k = absurd (none_some (sym (missing (memory_in c) e) ∙ h))
-apart_by false c cs next e more same (suc i) zero number h k = absurd (none_some (sym (missing (memory_in c) e) ∙ k))
-apart_by false c cs next e more same (suc i) (suc j) number h k = ap suc (same i j number h k)
-
-apart : (cs : List Cell) (next : ℕ) → AreApart (numbered_from next cs)
-apart [] next i j number h k = absurd (none_some h)
-apart (c ∷ cs) next i j number h k = apart_by (has_memory c) c cs next refl (apart cs (next + 1)) (apart cs next) i j number h k
-
--- each number is below how many there are
-counted : (c : Cell) (cs : List Cell) (b : Bool) → has_memory c ≡ b → count_by has_memory (c ∷ cs) ≡ cond b 1 0 + count_by has_memory cs
-counted c cs b h = sum_by-cons (λ x. cond (has_memory x) 1 0) c cs ∙ ap (λ t. cond t 1 0 + count_by has_memory cs) h
-
-still_there : (n : ℕ) (c : Cell) → has_memory c ≡ true → has_memory (numbered n c) ≡ true
-still_there n c h = ap is_there (has_number n c h)
-
-abbrev AreBelow : ℕ → List Cell → Type 0
-AreBelow next cs = (i number : ℕ) → HasNumber cs i number → number < next + count_by has_memory cs
-
-below_by : (b : Bool) (c : Cell) (cs : List Cell) (next : ℕ) → has_memory c ≡ b → AreBelow (next + 1) (numbered_from (next + 1) cs)
-    → AreBelow next (numbered_from next cs) → AreBelow next (numbers b next c cs)
-below_by true c cs next e more same zero number h =
-    let n : next ≡ number = some_same next number (sym (has_number next c e) ∙ h) in
-    omega (arith, n, counted (numbered next c) (numbered_from (next + 1) cs) true (still_there next c e))
-below_by true c cs next e more same (suc i) number h =
-    omega (arith, more i number h, counted (numbered next c) (numbered_from (next + 1) cs) true (still_there next c e))
-below_by false c cs next e more same zero number h = absurd (none_some (sym (missing (memory_in c) e) ∙ h))
-below_by false c cs next e more same (suc i) number h = omega (arith, same i number h, counted c (numbered_from next cs) false e)
-
-below_count : (cs : List Cell) (next : ℕ) → AreBelow next (numbered_from next cs)
-below_count [] next i number h = absurd (none_some h)
-below_count (c ∷ cs) next i number h = below_by (has_memory c) c cs next refl (below_count cs (next + 1)) (below_count cs next) i number h
 
 -- ---- numbering changes memories alone
 same_block : (n : ℕ) (c : Cell) → block_in (numbered n c) ≡ block_in c
@@ -322,16 +240,16 @@ target_within labels k t (Some word) h =
     (l.0, (position-Some (is_named word) labels t None l.1).0)
 
 -- ---- cells of a sound page
-module _ (page : Page) (rungs : ℕ) (cells : List Cell) (links : List Bool) (joints : List Joint) (verticals : List Bool)
+module _ (page : Page) (rungs : ℕ) (sites : List Site)
     (sound : IsSoundPage page)
-    (same : cells ≡ cells_of page)
-    (count : rungs ≡ length page.parts) where
-  whole : length cells ≡ 60 * rungs
-  whole =
-      ap length same
-      ∙ length-numbered_from 0 (all_places (cell_drawn page) (length page.parts))
-      ∙ length-all_places (cell_drawn page) (length page.parts)
-      ∙ ap (λ n. 60 * n) (sym count)
+    (same : sites ≡ sites_of page)
+    (count : rungs ≡ length page.parts)
+    (few : rungs ≤ 100) where
+  cell_i : ℕ → Cell
+  cell_i i = (get_or sites i blank_site).cell
+
+  whole : length sites ≡ 60 * rungs
+  whole = ap length same ∙ length-all_places (site_drawn page) (length page.parts) ∙ ap (λ n. 60 * n) (sym count)
 
   -- what is a cell's at the place i
   record Stands (i : ℕ) (P : ℕ → ℕ → ℕ → Type 0) : Type 0 where
@@ -344,12 +262,52 @@ module _ (page : Page) (rungs : ℕ) (cells : List Cell) (links : List Bool) (jo
     at : i ≡ place rung row column
     holds : P rung row column
 
-  cell_is : (i : ℕ) → i < 60 * rungs → get_or cells i cell.Empty ≡ numbered (memories_before page i) (at_place (cell_drawn page) i)
-  cell_is i below = ap (λ cs. get_or cs i cell.Empty) same ∙ numbered-at page i (omega (arith, below, count))
+  cell_is : (i : ℕ) → i < 60 * rungs → cell_i i ≡ numbered (memories_before page i) (at_place (cell_drawn page) i)
+  unfolding cell_i
+  cell_is i below =
+      let within : i < 60 * length page.parts = omega (arith, below, count) in
+      let here : place (i / 60) (i % 60 % 6) (i % 60 / 6) ≡ i = omega arith in
+      ap (λ ss. (get_or ss i blank_site).cell) same
+      ∙ ap (λ x. x.cell) (first_places-at (at_place (site_drawn page)) (60 * length page.parts) i blank_site within)
+      ∙ ap (λ n. numbered (memories_before page n) (at_place (cell_drawn page) i)) here
+
+  past_end : (i : ℕ) → 60 * rungs ≤ i → cell_i i ≡ cell.Empty
+  unfolding cell_i
+  past_end i past = ap (λ x. x.cell) (get_or_past sites i blank_site (omega (arith, past, whole)))
+
+  -- a memory has the number of those before it
+  memory_is : (i number : ℕ) → memory_in (cell_i i) ≡ Some number → (i < 60 * rungs) × (memories_before page i ≡ number)
+      × (memories_before page (suc i) ≡ number + 1)
+  memory_is i number h =
+      elim (cases_lt i (60 * rungs)) [
+        | inl below ↦
+            let n = number_is (memories_before page i) number (at_place (cell_drawn page) i) (ap memory_in (sym (cell_is i below)) ∙ h) in
+            (below, n.0, before_yes page i n.1 ∙ ap (λ m. m + 1) n.0)
+        | inr past ↦ absurd (none_some (ap memory_in (sym (past_end i past)) ∙ h))
+      ]
+
+  one_memory : (number i j : ℕ) → memory_in (cell_i i) ≡ Some number → memory_in (cell_i j) ≡ Some number → i ≡ j
+  one_memory number i j h k =
+      let a = memory_is i number h in
+      let b = memory_is j number k in
+      elim (cases_lt i j) [
+        | inl first ↦ absurd (omega (arith, a.2, b.1, before_more page j (suc i) (omega (arith, first))))
+        | inr more ↦ elim (cases_lt j i) [
+          | inl second ↦ absurd (omega (arith, b.2, a.1, before_more page i (suc j) (omega (arith, second))))
+          | inr less ↦ omega (arith, more, less)
+        ]
+      ]
+
+  memories_below : (number i : ℕ) → memory_in (cell_i i) ≡ Some number → number < count_by (λ (s : Site). has_memory s.cell) sites
+  memories_below number i h =
+      let a = memory_is i number h in
+      let all : count_by (λ (s : Site). has_memory s.cell) sites ≡ memories_before page (60 * length page.parts)
+      = ap (count_by (λ (s : Site). has_memory s.cell)) same ∙ count-sites page (60 * length page.parts) in
+      omega (arith, all, a.2, before_more page (60 * length page.parts) (suc i) (omega (arith, a.0, count)))
 
   -- what a part of the cells says, that numbering doesn't change and that nothing has past the end
   stands : (f : Cell → Option ℕ) → ((n : ℕ) (c : Cell) → f (numbered n c) ≡ f c) → f cell.Empty ≡ None
-      → (i number : ℕ) → f (get_or cells i cell.Empty) ≡ Some number → Stands i (λ k r c. f (cell_drawn page k r c) ≡ Some number)
+      → (i number : ℕ) → f (cell_i i) ≡ Some number → Stands i (λ k r c. f (cell_drawn page k r c) ≡ Some number)
   stands f kept empty i number h =
       elim (cases_lt i (60 * rungs)) [
         | inl below ↦
@@ -368,7 +326,7 @@ module _ (page : Page) (rungs : ℕ) (cells : List Cell) (links : List Bool) (jo
               holds = sym (kept (memories_before page i) (at_place (cell_drawn page) i)) ∙ ap f (sym (cell_is i below)) ∙ h;
             }
         | inr past ↦
-            let none : get_or cells i cell.Empty ≡ cell.Empty = get_or_past cells i cell.Empty (omega (arith, past, whole)) in
+            let none : cell_i i ≡ cell.Empty = past_end i past in
             absurd (none_some (sym (ap f none ∙ empty) ∙ h))
       ]
 
@@ -377,12 +335,14 @@ module _ (page : Page) (rungs : ℕ) (cells : List Cell) (links : List Bool) (jo
       → instance_at page k r c ≡ Some number → instance_at page j q b ≡ Some number → reading_place j q b < reading_place k r c → ⊥
   unfolding PartBreaks
   never_twice number k r c j q b below rows columns other_rows other_columns here there earlier =
-      let high : c < 11 = omega arith in
+      let high : c ≤ 10 = omega arith in
       let name_line : 0 < 2 = omega arith in
       let inside : k < length page.parts = omega (arith, below, count) in
+      let judged : k < 100 = omega (arith, below, few) in
       sound (Grid rule.DrawnTwice) k ((part_at page k).start + (2 * r + 0)) (inl (
         inside,
         inr (inr (
+          judged,
           2 * r + 0,
           refl,
           record {
@@ -419,12 +379,14 @@ module _ (page : Page) (rungs : ℕ) (cells : List Cell) (links : List Bool) (jo
       → leaps (form_at page k r c) ≡ true → leaps (form_at page k q b) ≡ true → 10 * q + b < 10 * r + c → ⊥
   unfolding PartBreaks
   never_two k r c q b below rows columns other_rows other_columns here there earlier =
-      let high : c < 11 = omega arith in
+      let high : c ≤ 10 = omega arith in
       let wire_line : 1 < 2 = omega arith in
       let inside : k < length page.parts = omega (arith, below, count) in
+      let judged : k < 100 = omega (arith, below, few) in
       sound (Grid rule.TwoJumps) k ((part_at page k).start + (2 * r + 1)) (inl (
         inside,
         inr (inr (
+          judged,
           2 * r + 1,
           refl,
           record {
@@ -452,7 +414,7 @@ module _ (page : Page) (rungs : ℕ) (cells : List Cell) (links : List Bool) (jo
         )),
       ))
 
-  block_place : (i number : ℕ) → block_in (get_or cells i cell.Empty) ≡ Some number → Stands i (λ k r c. instance_at page k r c ≡ Some number)
+  block_place : (i number : ℕ) → block_in (cell_i i) ≡ Some number → Stands i (λ k r c. instance_at page k r c ≡ Some number)
   unfolding instance_at
   block_place i number h =
       let s = stands block_in same_block refl i number h in
@@ -467,7 +429,7 @@ module _ (page : Page) (rungs : ℕ) (cells : List Cell) (links : List Bool) (jo
         holds = sym (drawn_block (form_at page s.rung s.row s.column) (name_over page s.rung s.row s.column) _ _) ∙ s.holds;
       }
 
-  one_block : (number i j : ℕ) → block_in (get_or cells i cell.Empty) ≡ Some number → block_in (get_or cells j cell.Empty) ≡ Some number → i ≡ j
+  one_block : (number i j : ℕ) → block_in (cell_i i) ≡ Some number → block_in (cell_i j) ≡ Some number → i ≡ j
   one_block number i j h k =
       let a = block_place i number h in
       let b = block_place j number k in
@@ -487,7 +449,7 @@ module _ (page : Page) (rungs : ℕ) (cells : List Cell) (links : List Bool) (jo
         ]
       ]
 
-  jump_place : (i t : ℕ) → goes_to rungs (get_or cells i cell.Empty) ≡ Some t
+  jump_place : (i t : ℕ) → goes_to rungs (cell_i i) ≡ Some t
       → Stands i (λ k r c. (leaps (form_at page k r c) ≡ true) × (k < t) × (t ≤ rungs))
   unfolding Goal
   jump_place i t h =
@@ -510,14 +472,14 @@ module _ (page : Page) (rungs : ℕ) (cells : List Cell) (links : List Bool) (jo
         holds = (g.0, bounds.0, bounds.1);
       }
 
-  jumps_down : (rung i target : ℕ) → i < 60 → goes_to rungs (get_or cells (60 * rung + i) cell.Empty) ≡ Some target → (rung < target) × (target ≤ rungs)
+  jumps_down : (rung i target : ℕ) → i < 60 → goes_to rungs (cell_i (60 * rung + i)) ≡ Some target → (rung < target) × (target ≤ rungs)
   jumps_down rung i target within h =
       let s = jump_place (60 * rung + i) target h in
       let here : s.rung ≡ rung = omega (arith, s.at, s.in_rung, s.in_row, within) in
       (omega (arith, here, s.holds.1), s.holds.2)
 
-  one_jump : (rung i j s t : ℕ) → i < 60 → j < 60 → goes_to rungs (get_or cells (60 * rung + i) cell.Empty) ≡ Some s
-      → goes_to rungs (get_or cells (60 * rung + j) cell.Empty) ≡ Some t → i ≡ j
+  one_jump : (rung i j s t : ℕ) → i < 60 → j < 60 → goes_to rungs (cell_i (60 * rung + i)) ≡ Some s
+      → goes_to rungs (cell_i (60 * rung + j)) ≡ Some t → i ≡ j
   one_jump rung i j s t i_within j_within h k =
       let a = jump_place (60 * rung + i) s h in
       let b = jump_place (60 * rung + j) t k in
@@ -537,7 +499,7 @@ module _ (page : Page) (rungs : ℕ) (cells : List Cell) (links : List Bool) (jo
         ]
       ]
 
-  lower_place : (i inst : ℕ) → lower_in (get_or cells i cell.Empty) ≡ Some inst → Stands i (λ k r c. instance_above page k r c ≡ Some inst)
+  lower_place : (i inst : ℕ) → lower_in (cell_i i) ≡ Some inst → Stands i (λ k r c. instance_above page k r c ≡ Some inst)
   unfolding lower_in
   lower_place i inst h =
       let s = stands lower_in same_lower refl i inst h in
@@ -564,7 +526,7 @@ module _ (page : Page) (rungs : ℕ) (cells : List Cell) (links : List Bool) (jo
             (some, same)
       ] refl h
 
-  block_cell : (k r c inst : ℕ) → k < rungs → r < 6 → c < 10 → instance_at page k r c ≡ Some inst → get_or cells (place k r c) cell.Empty ≡ cell.Block inst
+  block_cell : (k r c inst : ℕ) → k < rungs → r < 6 → c < 10 → instance_at page k r c ≡ Some inst → cell_i (place k r c) ≡ cell.Block inst
   unfolding instance_at
   block_cell k r c inst below rows columns h =
       let within : place k r c < 60 * rungs = omega arith in
@@ -576,15 +538,15 @@ module _ (page : Page) (rungs : ℕ) (cells : List Cell) (links : List Bool) (jo
       cell_is (place k r c) within
       ∙ ap (numbered (memories_before page (place k r c))) (is_block (at_place (cell_drawn page) (place k r c)) inst read)
 
-  under_block : (i inst : ℕ) (linked : Bool) → get_or cells i cell.Empty ≡ cell.Lower inst linked
-      → (1 ≤ i % 6) × (get_or cells (i - 1) cell.Empty ≡ cell.Block inst)
+  under_block : (i inst : ℕ) (linked : Bool) → cell_i i ≡ cell.Lower inst linked
+      → (1 ≤ i % 6) × (cell_i (i - 1) ≡ cell.Block inst)
   unfolding lower_in
   under_block i inst linked h =
       let s = lower_place i inst (ap lower_in h) in
       let up = above_is s.rung s.row s.column inst s.holds in
       let row : s.row - 1 < 6 = omega (arith, s.in_rung) in
       let before : i - 1 ≡ place s.rung (s.row - 1) s.column = omega (arith, s.at, up.0) in
-      (omega (arith, s.at, up.0, s.in_rung), ap (λ n. get_or cells n cell.Empty) before ∙ block_cell s.rung (s.row - 1) s.column inst s.below row s.in_row up.1)
+      (omega (arith, s.at, up.0, s.in_rung), ap cell_i before ∙ block_cell s.rung (s.row - 1) s.column inst s.below row s.in_row up.1)
 
   -- G10: no name is one that its symbol can't have
   never_odd : (k r c : ℕ) → k < rungs → r < 6 → c < 10 → is_odd page.decls (form_at page k r c) (name_over page k r c) ≡ false
@@ -593,14 +555,17 @@ module _ (page : Page) (rungs : ℕ) (cells : List Cell) (links : List Bool) (jo
       elim (is_odd page.decls (form_at page k r c) (name_over page k r c)) as (λ b. is_odd page.decls (form_at page k r c) (name_over page k r c) ≡ b → b ≡ false) [
         | false ↦ λ _. refl
         | true ↦ λ odd.
-            let high : c < 11 = omega arith in
+            let high : c ≤ 10 = omega arith in
             let name_line : 0 < 2 = omega arith in
             let inside : k < length page.parts = omega (arith, below, count) in
+            let judged : k < 100 = omega (arith, below, few) in
+            let judged : k < 100 = omega (arith, below, few) in
             let in_columns : nat_lt c 10 ≡ true = lt-ltb c 10 columns in
             let broken : wrong_kind page k r 0 c ≡ true = rw (in_columns, odd) refl in
             absurd (sound (Grid rule.WrongKind) k ((part_at page k).start + (2 * r + 0)) (inl (
               inside,
               inr (inr (
+                judged,
                 2 * r + 0,
                 refl,
                 record {
@@ -626,7 +591,7 @@ module _ (page : Page) (rungs : ℕ) (cells : List Cell) (links : List Bool) (jo
       let up = above_is k r c n h in
       instance_fits page.decls (form_at page k (r - 1) c) (name_over page k (r - 1) c) n (name_fits k (r - 1) c) up.1
 
-  fits : (i : ℕ) → Fits page.decls (get_or cells i cell.Empty)
+  fits : (i : ℕ) → Fits page.decls (cell_i i)
   fits i =
       elim (cases_lt i (60 * rungs)) [
         | inl below ↦
@@ -636,7 +601,7 @@ module _ (page : Page) (rungs : ℕ) (cells : List Cell) (links : List Bool) (jo
             subst (Fits page.decls) (sym (cell_is i below)) (fits_numbered page.decls (memories_before page i) (at_place (cell_drawn page) i)
             (cell_fits page.decls _ _ _ _ (name_fits (i / 60) (i % 60 % 6) (i % 60 / 6)) (over_fits (i / 60) (i % 60 % 6) (i % 60 / 6))
             (never_odd (i / 60) (i % 60 % 6) (i % 60 / 6) rung row column)))
-        | inr past ↦ subst (Fits page.decls) (sym (get_or_past cells i cell.Empty (omega (arith, past, whole)))) tt
+        | inr past ↦ subst (Fits page.decls) (sym (past_end i past)) tt
       ]
 
   -- G11: a block has its lower cell
@@ -647,14 +612,17 @@ module _ (page : Page) (rungs : ℕ) (cells : List Cell) (links : List Bool) (jo
       (λ b. is_apart (form_above page k r c) (form_at page k r c) (form_below page k r c) ≡ b → b ≡ false) [
         | false ↦ λ _. refl
         | true ↦ λ apart_here.
-            let high : c < 11 = omega arith in
+            let high : c ≤ 10 = omega arith in
             let wire_line : 1 < 2 = omega arith in
             let inside : k < length page.parts = omega (arith, below, count) in
+            let judged : k < 100 = omega (arith, below, few) in
+            let judged : k < 100 = omega (arith, below, few) in
             let in_columns : nat_lt c 10 ≡ true = lt-ltb c 10 columns in
             let broken : bad_block page k r 1 c ≡ true = rw (in_columns, apart_here) refl in
             absurd (sound (Grid rule.BlockShape) k ((part_at page k).start + (2 * r + 1)) (inl (
               inside,
               inr (inr (
+                judged,
                 2 * r + 1,
                 refl,
                 record {
@@ -673,18 +641,18 @@ module _ (page : Page) (rungs : ℕ) (cells : List Cell) (links : List Bool) (jo
 
   below_is : (k r c : ℕ) (form : Form) → r < 6 → form_below page k r c ≡ Some form → (r < 5) × (form_at page k (r + 1) c ≡ Some form)
   below_is k r c form rows h =
-      elim (r == 5) as (λ b. (r == 5) ≡ b → cond b None (form_at page k (r + 1) c) ≡ Some form → (r < 5) × (form_at page k (r + 1) c ≡ Some form)) [
+      elim (r + 1 == 6) as (λ b. (r + 1 == 6) ≡ b → cond b None (form_at page k (r + 1) c) ≡ Some form → (r < 5) × (form_at page k (r + 1) c ≡ Some form)) [
         | true ↦ λ test same. absurd (none_some same)
         | false ↦ λ test same.
             let less : r < 5 = elim (cases_lt r 5) [
               | inl below ↦ below
-              | inr last ↦ absurd (eqb-false r 5 test (omega (arith, last, rows)))
+              | inr last ↦ absurd (eqb-false (r + 1) 6 test (omega (arith, last, rows)))
             ] in
             (less, same)
       ] refl h
 
   lower_cell : (k r c inst : ℕ) (q : Pin) (linked : Bool) → k < rungs → r < 5 → c < 10 → instance_at page k r c ≡ Some inst
-      → form_at page k (r + 1) c ≡ Some (Lower q linked) → get_or cells (place k (r + 1) c) cell.Empty ≡ cell.Lower inst linked
+      → form_at page k (r + 1) c ≡ Some (Lower q linked) → cell_i (place k (r + 1) c) ≡ cell.Lower inst linked
   lower_cell k r c inst q linked below rows columns here form =
       let within : place k (r + 1) c < 60 * rungs = omega arith in
       let rung : place k (r + 1) c / 60 ≡ k = omega arith in
@@ -699,8 +667,8 @@ module _ (page : Page) (rungs : ℕ) (cells : List Cell) (links : List Bool) (jo
       let read : at_place (cell_drawn page) (place k (r + 1) c) ≡ cell.Lower inst linked = rw (rung, row, column) drawn in
       cell_is (place k (r + 1) c) within ∙ ap (numbered (memories_before page (place k (r + 1) c))) read
 
-  has_lower : (i inst : ℕ) → get_or cells i cell.Empty ≡ cell.Block inst → has_second (slice_get page.decls.instances inst) ≡ true
-      → (linked : Bool) × (i % 6 < 5) × (get_or cells (i + 1) cell.Empty ≡ cell.Lower inst linked)
+  has_lower : (i inst : ℕ) → cell_i i ≡ cell.Block inst → has_second (slice_get page.decls.instances inst) ≡ true
+      → (linked : Bool) × (i % 6 + 1 < 6) × (cell_i (i + 1) ≡ cell.Lower inst linked)
   unfolding instance_at
   has_lower i inst h second =
       let s = block_place i inst (ap block_in h) in
@@ -714,20 +682,15 @@ module _ (page : Page) (rungs : ℕ) (cells : List Cell) (links : List Bool) (jo
       let next : i + 1 ≡ place s.rung (s.row + 1) s.column = omega (arith, s.at) in (
         low.1,
         omega (arith, s.at, down.0),
-        ap (λ n. get_or cells n cell.Empty) next
+        ap cell_i next
             ∙ lower_cell s.rung s.row s.column inst low.0 low.1 s.below down.0 s.in_row s.holds down.1,
       )
 
-  pub read_well_formed : IsWellFormed (drawing page.decls rungs cells links joints verticals)
+  pub read_well_formed : IsWellFormed (drawing page.decls rungs sites)
+  unfolding cell_i
   read_well_formed = record {
-    one_memory = λ number i j h k.
-        apart (all_places (cell_drawn page) (length page.parts)) 0 i j number
-        (ap (λ cs. memory_in (get_or cs i cell.Empty)) (sym same) ∙ h)
-        (ap (λ cs. memory_in (get_or cs j cell.Empty)) (sym same) ∙ k);
-    memories_below = λ number i h.
-        let found : HasNumber (cells_of page) i number = ap (λ cs. memory_in (get_or cs i cell.Empty)) (sym same) ∙ h in
-        let few : number < 0 + count_by has_memory (cells_of page) = below_count (all_places (cell_drawn page) (length page.parts)) 0 i number found in
-        omega (arith, few, ap (count_by has_memory) same);
+    one_memory = one_memory;
+    memories_below = memories_below;
     one_block = one_block;
     one_jump = one_jump;
     jumps_down = jumps_down;

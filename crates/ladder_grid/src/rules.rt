@@ -1,16 +1,19 @@
 ghost use Rattle.std.specs.Prelude.{◌≡◌, ◌≤◌, ◌<◌, ◌↔◌, length, map, All, Some, IsTrue, IfSome, IfNone};
+ghost use Rattle.ladder_grid.specs.declared.geometry.TheConstants.{RUNGS, ROWS, COLUMNS, LINES};
 ghost use Rattle.std.specs.List.{AllByRecursion};
 ghost use Rattle.ladder_grid.specs.ReadLines.{IsWithin};
 ghost use Rattle.ladder_grid.specs.Seen.{seen};
-ghost use Rattle.ladder_grid.specs.Page.{reading_place};
+ghost use Rattle.ladder_grid.specs.Geometry.{reading_place};
 ghost use Rattle.ladder_grid.specs.Rules.{is_form, bad_cell, bad_name_joint, bad_wire_joint, bad_rail, bad_joint, is_branch, bad_vertical, wants_name, has_text, name_missing, name_without, is_known, undeclared, wrong_kind, same_pin, is_lower_for, takes_second, is_block_for, lacks_lower, is_apart, form_above, form_below, bad_block, IsDrawnBefore, IsDrawnTwice, leaps, IsSecondJump, BreaksAt, IsBrokenOn, IsKept};
 ghost use Rattle.ladder_grid.specs.declared.fault.GridRule.{GridRule};
 
 use crate::fault::GridRule;
+use crate::feeding::{is_unfed, right_link};
 use crate::form::Form;
+use crate::geometry::{COLUMNS, PITCH, PLACES, RAIL, ROWS};
 use crate::operand::{Reference, is_odd};
 use crate::page::{PageView, form_at, instance_at, name_over, rung_at};
-use crate::picture::{ch, form_of, is_unfed, joint, right_link, text_over};
+use crate::picture::{ch, joint, text_over};
 use ladder_vars::Pin;
 
 fn is_form(form: Option<Form>) -> bool
@@ -19,11 +22,13 @@ fn is_form(form: Option<Form>) -> bool
     form.is_some()
 }
 
-fn bad_cell(rung: &[&[u8]], r: usize, h: usize, c: usize) -> bool
-    requires rows { r < 6 }
-    ensures { result ≡ bad_cell (map (λ l. l.now) rung.now) r h c }
+fn bad_cell(page: PageView<'_, '_>, k: usize, r: usize, h: usize, c: usize) -> bool
+    requires rungs { k < length page.parts.now }
+    requires within { All (IsWithin (length page.lines.now)) page.parts.now }
+    requires rows { r < ROWS }
+    ensures { result ≡ bad_cell (seen page.entry) k r h c }
 {
-    h == 1 && c < 10 && !is_form(form_of(rung, r, c))
+    h == 1 && c < COLUMNS && !is_form(form_at(page, k, r, c))
 }
 
 fn bad_name_joint(b: u8) -> bool
@@ -46,23 +51,26 @@ fn bad_rail(b: u8) -> bool
     !(b == b' ' || b == b'+' || b == b'|')
 }
 
-fn bad_joint(rung: &[&[u8]], r: usize, h: usize, c: usize) -> bool
-    requires rows { r < 6 }
+fn bad_joint(page: PageView<'_, '_>, k: usize, r: usize, h: usize, c: usize) -> bool
+    requires rungs { k < length page.parts.now }
+    requires within { All (IsWithin (length page.lines.now)) page.parts.now }
+    requires rows { r < ROWS }
     requires halves { h < 2 }
-    requires columns { c < 11 }
-    ensures { result ≡ bad_joint (map (λ l. l.now) rung.now) r h c }
+    requires columns { c ≤ COLUMNS }
+    ensures { result ≡ bad_joint (seen page.entry) k r h c }
 {
-    if c == 10 {
-        bad_rail(ch(rung, 2 * r + h, 120))
+    let rung = rung_at(page, k);
+    if c == COLUMNS {
+        bad_rail(ch(rung, 2 * r + h, RAIL))
     } else if c == 0 {
         false
     } else if h == 0 {
-        bad_name_joint(ch(rung, 2 * r, 12 * c))
+        bad_name_joint(ch(rung, 2 * r, PITCH * c))
     } else {
         bad_wire_joint(
             joint(rung, r, c),
-            right_link(rung, r, c - 1),
-            ch(rung, 2 * r + 1, 12 * c + 1),
+            right_link(page, k, r, c - 1),
+            ch(rung, 2 * r + 1, PITCH * c + 1),
         )
     }
 }
@@ -74,11 +82,11 @@ fn is_branch(b: u8) -> bool
 }
 
 fn bad_vertical(rung: &[&[u8]], r: usize, h: usize, c: usize) -> bool
-    requires rows { r < 6 }
-    requires columns { c < 11 }
+    requires rows { r < ROWS }
+    requires columns { c ≤ COLUMNS }
     ensures { result ≡ bad_vertical (map (λ l. l.now) rung.now) r h c }
 {
-    if h != 0 || c == 0 || c == 10 || ch(rung, 2 * r, 12 * c) != b'|' {
+    if h != 0 || c == 0 || c == COLUMNS || ch(rung, 2 * r, PITCH * c) != b'|' {
         return false;
     }
     r == 0 || !is_branch(joint(rung, r - 1, c)) || !is_branch(joint(rung, r, c))
@@ -106,18 +114,28 @@ pub(crate) fn has_text(mut chars: &[u8]) -> bool
     false
 }
 
-fn name_missing(rung: &[&[u8]], r: usize, h: usize, c: usize) -> bool
-    requires rows { r < 6 }
-    ensures { result ≡ name_missing (map (λ l. l.now) rung.now) r h c }
+fn name_missing(page: PageView<'_, '_>, k: usize, r: usize, h: usize, c: usize) -> bool
+    requires rungs { k < length page.parts.now }
+    requires within { All (IsWithin (length page.lines.now)) page.parts.now }
+    requires rows { r < ROWS }
+    ensures { result ≡ name_missing (seen page.entry) k r h c }
 {
-    h == 0 && c < 10 && wants_name(form_of(rung, r, c)) && !has_text(&text_over(rung, r, c))
+    h == 0
+        && c < COLUMNS
+        && wants_name(form_at(page, k, r, c))
+        && !has_text(&text_over(rung_at(page, k), r, c))
 }
 
-fn name_without(rung: &[&[u8]], r: usize, h: usize, c: usize) -> bool
-    requires rows { r < 6 }
-    ensures { result ≡ name_without (map (λ l. l.now) rung.now) r h c }
+fn name_without(page: PageView<'_, '_>, k: usize, r: usize, h: usize, c: usize) -> bool
+    requires rungs { k < length page.parts.now }
+    requires within { All (IsWithin (length page.lines.now)) page.parts.now }
+    requires rows { r < ROWS }
+    ensures { result ≡ name_without (seen page.entry) k r h c }
 {
-    h == 0 && c < 10 && !wants_name(form_of(rung, r, c)) && has_text(&text_over(rung, r, c))
+    h == 0
+        && c < COLUMNS
+        && !wants_name(form_at(page, k, r, c))
+        && has_text(&text_over(rung_at(page, k), r, c))
 }
 
 fn is_known(name: Option<Reference>) -> bool
@@ -129,19 +147,22 @@ fn is_known(name: Option<Reference>) -> bool
 fn undeclared(page: PageView<'_, '_>, k: usize, r: usize, h: usize, c: usize) -> bool
     requires rungs { k < length page.parts.now }
     requires within { All (IsWithin (length page.lines.now)) page.parts.now }
-    requires rows { r < 6 }
+    requires rows { r < ROWS }
     ensures { result ≡ undeclared (seen page.entry) k r h c }
 {
-    h == 0 && c < 10 && wants_name(form_at(page, k, r, c)) && !is_known(name_over(page, k, r, c))
+    h == 0
+        && c < COLUMNS
+        && wants_name(form_at(page, k, r, c))
+        && !is_known(name_over(page, k, r, c))
 }
 
 fn wrong_kind(page: PageView<'_, '_>, k: usize, r: usize, h: usize, c: usize) -> bool
     requires rungs { k < length page.parts.now }
     requires within { All (IsWithin (length page.lines.now)) page.parts.now }
-    requires rows { r < 6 }
+    requires rows { r < ROWS }
     ensures { result ≡ wrong_kind (seen page.entry) k r h c }
 {
-    h == 0 && c < 10 && is_odd(page.decls, form_at(page, k, r, c), name_over(page, k, r, c))
+    h == 0 && c < COLUMNS && is_odd(page.decls, form_at(page, k, r, c), name_over(page, k, r, c))
 }
 
 fn same_pin(a: Pin, b: Pin) -> bool
@@ -204,8 +225,8 @@ fn is_apart(above: Option<Form>, form: Option<Form>, below: Option<Form>) -> boo
 fn form_above(page: PageView<'_, '_>, k: usize, r: usize, c: usize) -> Option<Form>
     requires rungs { k < length page.parts.now }
     requires within { All (IsWithin (length page.lines.now)) page.parts.now }
-    requires rows { r < 6 }
-    requires columns { c < 10 }
+    requires rows { r < ROWS }
+    requires columns { c < COLUMNS }
     ensures { result ≡ form_above (seen page.entry) k r c }
 {
     if r == 0 {
@@ -218,11 +239,11 @@ fn form_above(page: PageView<'_, '_>, k: usize, r: usize, c: usize) -> Option<Fo
 fn form_below(page: PageView<'_, '_>, k: usize, r: usize, c: usize) -> Option<Form>
     requires rungs { k < length page.parts.now }
     requires within { All (IsWithin (length page.lines.now)) page.parts.now }
-    requires rows { r < 6 }
-    requires columns { c < 10 }
+    requires rows { r < ROWS }
+    requires columns { c < COLUMNS }
     ensures { result ≡ form_below (seen page.entry) k r c }
 {
-    if r == 5 {
+    if r + 1 == ROWS {
         None
     } else {
         form_at(page, k, r + 1, c)
@@ -232,11 +253,11 @@ fn form_below(page: PageView<'_, '_>, k: usize, r: usize, c: usize) -> Option<Fo
 fn bad_block(page: PageView<'_, '_>, k: usize, r: usize, h: usize, c: usize) -> bool
     requires rungs { k < length page.parts.now }
     requires within { All (IsWithin (length page.lines.now)) page.parts.now }
-    requires rows { r < 6 }
+    requires rows { r < ROWS }
     ensures { result ≡ bad_block (seen page.entry) k r h c }
 {
     h == 1
-        && c < 10
+        && c < COLUMNS
         && is_apart(
             form_above(page, k, r, c),
             form_at(page, k, r, c),
@@ -257,13 +278,16 @@ fn same_number(a: Option<usize>, b: usize) -> bool
 fn is_drawn_before(page: PageView<'_, '_>, inst: usize, k: usize, r: usize, c: usize) -> bool
     requires rungs { k < length page.parts.now }
     requires within { All (IsWithin (length page.lines.now)) page.parts.now }
-    requires rows { r < 6 }
-    requires columns { c < 10 }
-    requires few { k ≤ 100 }
+    requires rows { r < ROWS }
+    requires columns { c < COLUMNS }
+    requires few { k ≤ RUNGS }
     ensures { IsTrue result ↔ IsDrawnBefore (seen page.entry) inst k r c }
 {
-    for n in 0..60 * k + (10 * r + c) {
-        if same_number(instance_at(page, n / 60, n % 60 / 10, n % 60 % 10), inst) {
+    for n in 0..PLACES * k + (COLUMNS * r + c) {
+        if same_number(
+            instance_at(page, n / PLACES, n % PLACES / COLUMNS, n % PLACES % COLUMNS),
+            inst,
+        ) {
             return true;
         }
     }
@@ -273,9 +297,9 @@ fn is_drawn_before(page: PageView<'_, '_>, inst: usize, k: usize, r: usize, c: u
 fn is_drawn_twice(page: PageView<'_, '_>, k: usize, r: usize, c: usize) -> bool
     requires rungs { k < length page.parts.now }
     requires within { All (IsWithin (length page.lines.now)) page.parts.now }
-    requires rows { r < 6 }
-    requires columns { c < 10 }
-    requires few { k ≤ 100 }
+    requires rows { r < ROWS }
+    requires columns { c < COLUMNS }
+    requires few { k ≤ RUNGS }
     ensures { IsTrue result ↔ IsDrawnTwice (seen page.entry) k r c }
 {
     match instance_at(page, k, r, c) {
@@ -293,15 +317,15 @@ fn leaps(form: Option<Form>) -> bool
 fn is_second_jump(page: PageView<'_, '_>, k: usize, r: usize, c: usize) -> bool
     requires rungs { k < length page.parts.now }
     requires within { All (IsWithin (length page.lines.now)) page.parts.now }
-    requires rows { r < 6 }
-    requires columns { c < 10 }
+    requires rows { r < ROWS }
+    requires columns { c < COLUMNS }
     ensures { IsTrue result ↔ IsSecondJump (seen page.entry) k r c }
 {
     if !leaps(form_at(page, k, r, c)) {
         return false;
     }
-    for n in 0..10 * r + c {
-        if leaps(form_at(page, k, n / 10, n % 10)) {
+    for n in 0..COLUMNS * r + c {
+        if leaps(form_at(page, k, n / COLUMNS, n % COLUMNS)) {
             return true;
         }
     }
@@ -312,24 +336,24 @@ fn is_second_jump(page: PageView<'_, '_>, k: usize, r: usize, c: usize) -> bool
 fn breaks(rule: GridRule, page: PageView<'_, '_>, k: usize, r: usize, h: usize, c: usize) -> bool
     requires rungs { k < length page.parts.now }
     requires within { All (IsWithin (length page.lines.now)) page.parts.now }
-    requires rows { r < 6 }
+    requires rows { r < ROWS }
     requires halves { h < 2 }
-    requires columns { c < 11 }
-    requires few { k ≤ 100 }
+    requires columns { c ≤ COLUMNS }
+    requires few { k ≤ RUNGS }
     ensures { IsTrue result ↔ BreaksAt rule (seen page.entry) k r h c }
 {
     match rule {
-        GridRule::BadCell => bad_cell(rung_at(page, k), r, h, c),
-        GridRule::BadJoint => bad_joint(rung_at(page, k), r, h, c),
+        GridRule::BadCell => bad_cell(page, k, r, h, c),
+        GridRule::BadJoint => bad_joint(page, k, r, h, c),
         GridRule::BrokenVertical => bad_vertical(rung_at(page, k), r, h, c),
-        GridRule::Unfed => h == 1 && c < 10 && is_unfed(rung_at(page, k), r, c),
-        GridRule::NameMissing => name_missing(rung_at(page, k), r, h, c),
-        GridRule::NameWithoutSymbol => name_without(rung_at(page, k), r, h, c),
+        GridRule::Unfed => h == 1 && c < COLUMNS && is_unfed(page, k, r, c),
+        GridRule::NameMissing => name_missing(page, k, r, h, c),
+        GridRule::NameWithoutSymbol => name_without(page, k, r, h, c),
         GridRule::Undeclared => undeclared(page, k, r, h, c),
         GridRule::WrongKind => wrong_kind(page, k, r, h, c),
         GridRule::BlockShape => bad_block(page, k, r, h, c),
-        GridRule::DrawnTwice => h == 0 && c < 10 && is_drawn_twice(page, k, r, c),
-        GridRule::TwoJumps => h == 1 && c < 10 && is_second_jump(page, k, r, c),
+        GridRule::DrawnTwice => h == 0 && c < COLUMNS && is_drawn_twice(page, k, r, c),
+        GridRule::TwoJumps => h == 1 && c < COLUMNS && is_second_jump(page, k, r, c),
         _ => false,
     }
 }
@@ -338,14 +362,14 @@ fn breaks(rule: GridRule, page: PageView<'_, '_>, k: usize, r: usize, h: usize, 
 fn broken_line(rule: GridRule, page: PageView<'_, '_>, k: usize) -> Option<usize>
     requires rungs { k < length page.parts.now }
     requires within { All (IsWithin (length page.lines.now)) page.parts.now }
-    requires few { k ≤ 100 }
+    requires few { k ≤ RUNGS }
     ensures some { IfSome result (λ line. IsBrokenOn rule (seen page.entry) k line) }
-    ensures near { IfSome result (λ line. line < 12) }
+    ensures near { IfSome result (λ line. line < LINES) }
     ensures none { IfNone result (IsKept (seen page.entry) k rule) }
 {
-    for r in 0..6 {
+    for r in 0..ROWS {
         for h in 0..2 {
-            for c in 0..11 {
+            for c in 0..COLUMNS + 1 {
                 if breaks(rule, page, k, r, h, c) {
                     return Some(2 * r + h);
                 }
@@ -377,9 +401,9 @@ fn first_broken(
 ) -> Option<(GridRule, usize)>
     requires rungs { k < length page.parts.now }
     requires within { All (IsWithin (length page.lines.now)) page.parts.now }
-    requires few { k ≤ 100 }
+    requires few { k ≤ RUNGS }
     ensures some { IfSome result (λ x. IsBrokenOn x.0 (seen page.entry) k x.1) }
-    ensures near { IfSome result (λ x. x.1 < 12) }
+    ensures near { IfSome result (λ x. x.1 < LINES) }
     ensures none { IfNone result (AllByRecursion (IsKept (seen page.entry) k) rules.entry.now) }
 {
     while let [rule, rest @ ..] = rules {
@@ -395,9 +419,9 @@ fn first_broken(
 pub(crate) fn broken_place(page: PageView<'_, '_>, k: usize) -> Option<(GridRule, usize)>
     requires rungs { k < length page.parts.now }
     requires within { All (IsWithin (length page.lines.now)) page.parts.now }
-    requires few { k ≤ 100 }
+    requires few { k ≤ RUNGS }
     ensures some { IfSome result (λ x. IsBrokenOn x.0 (seen page.entry) k x.1) }
-    ensures near { IfSome result (λ x. x.1 < 12) }
+    ensures near { IfSome result (λ x. x.1 < LINES) }
     ensures none { IfNone result ((rule : GridRule) → IsKept (seen page.entry) k rule) }
 {
     first_broken(&ORDER, page, k)
