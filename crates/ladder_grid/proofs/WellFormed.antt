@@ -1,19 +1,38 @@
--- The cells that a drawing is read as are well formed: memories are numbered one after the other, and no block or jump is read yet.
-use Rattle.std.proofs.Common.{◌≡◌, ℕ, ◌+◌, ◌≤◌, Bool, true, false, cond, List, [], ◌∷◌, ◌++◌, get_or, zero, suc, Option, Some, None, refl, sym, ap, ◌∙◌, arith}
-use Rattle.ladder_vars.specs.Decls.{Declared}
+-- The cells that a sound page is read as are well formed.
+use Rattle.std.proofs.Common.{◌≡◌, ℕ, ◌+◌, ◌-◌, ◌*◌, ◌/◌, ◌%◌, ◌<◌, ◌≤◌, ◌⊎◌, inl, inr, Bool, true, false, ◌==◌, cond, List, length, get_or, count_by, nat_lt, position, suc, Option, Some, None, refl, sym, ap, subst, ◌∙◌, arith, slice_get}
+use Rattle.std.proofs.lemmas.Bool.{cases_lt, ltb-true, lt-ltb, eqb-false, ne_eqb}
+use Rattle.std.proofs.lemmas.List.Quantifiers.{position-Some}
+use Rattle.std.proofs.lemmas.List.{get_or_past, length-map}
 use Rattle.ladder_vars.specs.declared.decls.Symbol.{Symbol}
 use Rattle.ladder_vars.specs.declared.decls.Symbol.TheVariants.{Var, Instance}
+use Rattle.ladder_grid.specs.declared.cell.Mode.{Mode}
+use Rattle.ladder_grid.specs.declared.cell.CoilMode.{CoilMode}
 use Rattle.ladder_grid.specs.declared.cell.Cell.{Cell}
 use Rattle.ladder_grid.specs.declared.cell.Cell.TheVariants as cell
+use Rattle.ladder_grid.specs.declared.site.Site.{Site}
+use Rattle.ladder_vars.specs.declared.kind.Pin.{Pin}
 use Rattle.ladder_grid.specs.declared.form.Form.{Form}
-use Rattle.ladder_grid.specs.declared.form.Form.TheVariants.{Empty, Wire, Contact, Coil, Block, Lower}
-use Rattle.ladder_grid.specs.declared.lines.Part.{Part}
+use Rattle.ladder_grid.specs.declared.form.Form.TheVariants.{Empty, Wire, Contact, Coil, Block, Lower, Jump, Return}
+use Rattle.ladder_grid.specs.declared.fault.Rule.TheVariants.{Grid}
+use Rattle.ladder_grid.specs.declared.fault.GridRule.TheVariants as rule
 use Rattle.ladder_grid.specs.declared.operand.Reference.{Reference}
-use Rattle.ladder_grid.specs.Picture.{Lines}
-use Rattle.ladder_grid.specs.Lines.{rung_of}
-use Rattle.ladder_grid.specs.Program.{Drawing, memory_in, block_in, has_memory, is_there, IsWellFormed}
-use Rattle.ladder_grid.specs.Reading.{numbered, cell_with, cell_drawn, contact_on, coil_on}
-use Rattle.ladder_grid.specs.Places.{first_places, at_place, all_places, numbered_from}
+use Rattle.ladder_grid.specs.Gap.{Labels, is_named}
+use Rattle.ladder_grid.specs.Operand.{instance_of, instance_on, is_odd}
+use Rattle.ladder_grid.specs.Page.{Page, part_at, label_of, labels_of, form_at, name_over, instance_at, instance_above}
+use Rattle.ladder_grid.specs.Geometry.{reading_place}
+use Rattle.ladder_vars.specs.Kind.{traits_of}
+use Rattle.ladder_grid.specs.Rules.{leaps, wrong_kind, lacks_lower, is_apart, form_above, form_below, bad_block}
+use Rattle.ladder_grid.specs.PageRules.{later, target_to, jump_label, PartBreaks, IsSoundPage, target_of}
+use Rattle.ladder_grid.specs.Program.{drawing, blank_site, memory_in, block_in, goes_to, has_memory, Fits, has_second, IsWellFormed}
+use Rattle.ladder_grid.specs.Geometry.{place}
+use Rattle.ladder_grid.specs.Reading.{numbered, contact_on, coil_on, block_on, lower_of, jump_on, cell_with, cell_drawn, site_drawn, memories_before}
+use Rattle.ladder_grid.specs.Geometry.{at_place}
+use Rattle.ladder_grid.specs.Build.{sites_of}
+use Rattle.ladder_grid.proofs.FitLaws.{SymbolFits, refer_fits, instance_fits, cell_fits, fits_numbered}
+use Rattle.ladder_grid.proofs.LowerLaws.{kind_second, lower_found, block_even}
+use Rattle.ladder_grid.proofs.ReadingOrder.{rung_of_place, row_of_place, column_of_place}
+use Rattle.ladder_grid.proofs.PlaceLaws.{length-all_places, first_places-at}
+use Rattle.ladder_grid.proofs.NumberLaws.{number_is, before_yes, before_more, count-sites}
 
 none_some : {A : Type 0} {x : A} → None ≡ Some x → ⊥
 none_some h = cc
@@ -24,160 +43,658 @@ some_same a b h = cc
 off_on : false ≡ true → ⊥
 off_on h = cc
 
--- ---- memories
-has_number : (n : ℕ) (c : Cell) → has_memory c ≡ true → memory_in (numbered n c) ≡ Some n
-has_number n cell.Empty h = absurd (off_on h)
-has_number n cell.Wire h = absurd (off_on h)
-has_number n (cell.Contact mode operand None) h = absurd (off_on h)
-has_number n (cell.Contact mode operand (Some m)) h = refl
-has_number n (cell.Coil mode var None) h = absurd (off_on h)
-has_number n (cell.Coil mode var (Some m)) h = refl
-has_number n (cell.Block inst) h = absurd (off_on h)
-has_number n (cell.Lower inst linked) h = absurd (off_on h)
-has_number n (cell.Jump target) h = absurd (off_on h)
+-- ---- numbering changes memories alone
+same_block : (n : ℕ) (c : Cell) → block_in (numbered n c) ≡ block_in c
+same_block n cell.Empty = refl
+same_block n cell.Wire = refl
+same_block n (cell.Contact mode operand None) = refl
+same_block n (cell.Contact mode operand (Some m)) = refl
+same_block n (cell.Coil mode var None) = refl
+same_block n (cell.Coil mode var (Some m)) = refl
+same_block n (cell.Block inst) = refl
+same_block n (cell.Lower inst linked) = refl
+same_block n (cell.Jump target) = refl
+same_block n cell.Return = refl
 
-missing : (m : Option ℕ) → is_there m ≡ false → m ≡ None
-missing None h = refl
-missing (Some n) h = cc
+same_goal : (rungs n : ℕ) (c : Cell) → goes_to rungs (numbered n c) ≡ goes_to rungs c
+same_goal rungs n cell.Empty = refl
+same_goal rungs n cell.Wire = refl
+same_goal rungs n (cell.Contact mode operand None) = refl
+same_goal rungs n (cell.Contact mode operand (Some m)) = refl
+same_goal rungs n (cell.Coil mode var None) = refl
+same_goal rungs n (cell.Coil mode var (Some m)) = refl
+same_goal rungs n (cell.Block inst) = refl
+same_goal rungs n (cell.Lower inst linked) = refl
+same_goal rungs n (cell.Jump target) = refl
+same_goal rungs n cell.Return = refl
 
-abbrev numbers : Bool → ℕ → Cell → List Cell → List Cell
-numbers b next c cs = cond b (numbered next c ∷ numbered_from (next + 1) cs) (c ∷ numbered_from next cs)
+-- the instance of a lower cell
+lower_in : Cell → Option ℕ
+lower_in cell.Empty = None
+lower_in cell.Wire = None
+lower_in (cell.Contact mode operand memory) = None
+lower_in (cell.Coil mode var memory) = None
+lower_in (cell.Block inst) = None
+lower_in (cell.Lower inst linked) = Some inst
+lower_in (cell.Jump target) = None
+lower_in cell.Return = None
 
-abbrev HasNumber : List Cell → ℕ → ℕ → Type 0
-HasNumber cs i number = memory_in (get_or cs i cell.Empty) ≡ Some number
+same_lower : (n : ℕ) (c : Cell) → lower_in (numbered n c) ≡ lower_in c
+unfolding lower_in
+same_lower n cell.Empty = refl
+same_lower n cell.Wire = refl
+same_lower n (cell.Contact mode operand None) = refl
+same_lower n (cell.Contact mode operand (Some m)) = refl
+same_lower n (cell.Coil mode var None) = refl
+same_lower n (cell.Coil mode var (Some m)) = refl
+same_lower n (cell.Block inst) = refl
+same_lower n (cell.Lower inst linked) = refl
+same_lower n (cell.Jump target) = refl
+same_lower n cell.Return = refl
 
-abbrev AtLeast : ℕ → List Cell → Type 0
-AtLeast next cs = (i number : ℕ) → HasNumber cs i number → next ≤ number
+-- ---- what a drawn cell says of its form
+block_on_block : (o : Option ℕ) → block_in (block_on o) ≡ o
+block_on_block None = refl
+block_on_block (Some inst) = refl
 
-at_least_by : (b : Bool) (c : Cell) (cs : List Cell) (next : ℕ) → has_memory c ≡ b → AtLeast (next + 1) (numbered_from (next + 1) cs) → AtLeast next (numbered_from next cs)
-    → AtLeast next (numbers b next c cs)
-at_least_by true c cs next e more same zero number h = let n : next ≡ number = some_same next number (sym (has_number next c e) ∙ h) in omega arith
-at_least_by true c cs next e more same (suc i) number h = let n : next + 1 ≤ number = more i number h in omega arith
-at_least_by false c cs next e more same zero number h = absurd (none_some (sym (missing (memory_in c) e) ∙ h))
-at_least_by false c cs next e more same (suc i) number h = same i number h
+lower_no_block : (o : Option ℕ) (linked : Bool) → block_in (lower_of o linked) ≡ None
+lower_no_block None linked = refl
+lower_no_block (Some inst) linked = refl
 
-at_least : (cs : List Cell) (next : ℕ) → AtLeast next (numbered_from next cs)
-at_least [] next i number h = absurd (none_some h)
-at_least (c ∷ cs) next i number h = at_least_by (has_memory c) c cs next refl (at_least cs (next + 1)) (at_least cs next) i number h
+jump_no_block : (o : Option ℕ) → block_in (jump_on o) ≡ None
+jump_no_block None = refl
+jump_no_block (Some target) = refl
 
-abbrev AreApart : List Cell → Type 0
-AreApart cs = (i j number : ℕ) → HasNumber cs i number → HasNumber cs j number → i ≡ j
+contact_no_block : (m : Mode) (s : Symbol) → block_in (contact_on m s) ≡ None
+contact_no_block m (Var number) = refl
+contact_no_block m (Instance number) = refl
 
-apart_by : (b : Bool) (c : Cell) (cs : List Cell) (next : ℕ) → has_memory c ≡ b → AreApart (numbered_from (next + 1) cs) → AreApart (numbered_from next cs)
-    → AreApart (numbers b next c cs)
-apart_by true c cs next e more same zero zero number h k = refl
-apart_by true c cs next e more same zero (suc j) number h k =
-    let n : next ≡ number = some_same next number (sym (has_number next c e) ∙ h) in
-    let m : next + 1 ≤ number = at_least cs (next + 1) j number k in
-    absurd (omega arith)
-apart_by true c cs next e more same (suc i) zero number h k =
-    let n : next ≡ number = some_same next number (sym (has_number next c e) ∙ k) in
-    let m : next + 1 ≤ number = at_least cs (next + 1) i number h in
-    absurd (omega arith)
-apart_by true c cs next e more same (suc i) (suc j) number h k = ap suc (more i j number h k)
-apart_by false c cs next e more same zero j number h k = absurd (none_some (sym (missing (memory_in c) e) ∙ h))
-apart_by false c cs next e more same (suc i) zero number h k = absurd (none_some (sym (missing (memory_in c) e) ∙ k))
-apart_by false c cs next e more same (suc i) (suc j) number h k = ap suc (same i j number h k)
+coil_no_block : (m : CoilMode) (s : Symbol) → block_in (coil_on m s) ≡ None
+coil_no_block m (Var number) = refl
+coil_no_block m (Instance number) = refl
 
-apart : (cs : List Cell) (next : ℕ) → AreApart (numbered_from next cs)
-apart [] next i j number h k = absurd (none_some h)
-apart (c ∷ cs) next i j number h k = apart_by (has_memory c) c cs next refl (apart cs (next + 1)) (apart cs next) i j number h k
+drawn_block : (form : Option Form) (name : Option Reference) (above target : Option ℕ) → block_in (cell_with form name above target) ≡ instance_on form name
+drawn_block None name above target = refl
+drawn_block (Some Empty) name above target = refl
+drawn_block (Some Wire) name above target = refl
+drawn_block (Some (Contact m)) None above target = refl
+drawn_block (Some (Contact m)) (Some x) above target = contact_no_block m x.symbol
+drawn_block (Some (Coil m)) None above target = refl
+drawn_block (Some (Coil m)) (Some x) above target = coil_no_block m x.symbol
+drawn_block (Some (Block kind)) None above target = refl
+drawn_block (Some (Block kind)) (Some x) above target = block_on_block (instance_of x.symbol)
+drawn_block (Some (Lower pin linked)) name above target = lower_no_block above linked
+drawn_block (Some (Jump label)) name above target = jump_no_block target
+drawn_block (Some Return) name above target = refl
 
--- ---- no block and no jump
-abbrev is_simple : Cell → Bool
-is_simple cell.Empty = true
-is_simple cell.Wire = true
-is_simple (cell.Contact mode operand memory) = true
-is_simple (cell.Coil mode var memory) = true
-is_simple (cell.Block inst) = false
-is_simple (cell.Lower inst linked) = false
-is_simple (cell.Jump target) = false
+block_on_goal : (rungs : ℕ) (o : Option ℕ) → goes_to rungs (block_on o) ≡ None
+block_on_goal rungs None = refl
+block_on_goal rungs (Some inst) = refl
 
-abbrev AreSimple : List Cell → Type 0
-AreSimple [] = Unit {0}
-AreSimple (c ∷ cs) = (is_simple c ≡ true) × AreSimple cs
+lower_no_goal : (rungs : ℕ) (o : Option ℕ) (linked : Bool) → goes_to rungs (lower_of o linked) ≡ None
+lower_no_goal rungs None linked = refl
+lower_no_goal rungs (Some inst) linked = refl
 
-simple_append : (cs ds : List Cell) → AreSimple cs → AreSimple ds → AreSimple (cs ++ ds)
-simple_append [] ds h k = k
-simple_append (c ∷ cs) ds h k = (h.0, simple_append cs ds h.1 k)
+jump_goal : (rungs : ℕ) (o : Option ℕ) → goes_to rungs (jump_on o) ≡ o
+jump_goal rungs None = refl
+jump_goal rungs (Some target) = refl
 
-simple_places : (f : ℕ → Cell) → ((n : ℕ) → is_simple (f n) ≡ true) → (n : ℕ) → AreSimple (first_places f n)
-unfolding first_places
-simple_places f h zero = tt
-simple_places f h (suc n) = simple_append (first_places f n) (f n ∷ []) (simple_places f h n) (h n, tt)
+contact_no_goal : (rungs : ℕ) (m : Mode) (s : Symbol) → goes_to rungs (contact_on m s) ≡ None
+contact_no_goal rungs m (Var number) = refl
+contact_no_goal rungs m (Instance number) = refl
 
-simple_all : (f : Lines → ℕ → ℕ → Cell) → ((rung : Lines) (r c : ℕ) → is_simple (f rung r c) ≡ true) → (lines : Lines) (ps : List Part) → AreSimple (all_places f lines ps)
-simple_all f h lines [] = tt
-simple_all f h lines (p ∷ ps) =
-    simple_append (first_places (at_place (f (rung_of lines p))) 60) _ (simple_places (at_place (f (rung_of lines p))) (λ n. h (rung_of lines p) _ _) 60) (simple_all f h lines ps)
+coil_no_goal : (rungs : ℕ) (m : CoilMode) (s : Symbol) → goes_to rungs (coil_on m s) ≡ None
+coil_no_goal rungs m (Var number) = refl
+coil_no_goal rungs m (Instance number) = refl
 
-simple_numbered : (n : ℕ) (c : Cell) → is_simple c ≡ true → is_simple (numbered n c) ≡ true
-simple_numbered n cell.Empty h = refl
-simple_numbered n cell.Wire h = refl
-simple_numbered n (cell.Contact mode operand None) h = refl
-simple_numbered n (cell.Contact mode operand (Some m)) h = refl
-simple_numbered n (cell.Coil mode var None) h = refl
-simple_numbered n (cell.Coil mode var (Some m)) h = refl
-simple_numbered n (cell.Block inst) h = absurd (off_on h)
-simple_numbered n (cell.Lower inst linked) h = absurd (off_on h)
-simple_numbered n (cell.Jump target) h = absurd (off_on h)
+-- a cell that leads out of its rung: where to
+Goal : ℕ → Option Form → Option ℕ → ℕ → Type 0
+Goal rungs form target t = (leaps form ≡ true) × ((t ≡ rungs) ⊎ (target ≡ Some t))
 
-simple_by : (b : Bool) (c : Cell) (cs : List Cell) (next : ℕ) → is_simple c ≡ true → AreSimple (numbered_from (next + 1) cs) → AreSimple (numbered_from next cs)
-    → AreSimple (numbers b next c cs)
-simple_by true c cs next h more same = (simple_numbered next c h, more)
-simple_by false c cs next h more same = (h, same)
+no_goal : (rungs t : ℕ) (form : Option Form) (target : Option ℕ) (c : Cell) → goes_to rungs c ≡ None → goes_to rungs c ≡ Some t → Goal rungs form target t
+no_goal rungs t form target c h k = absurd (none_some (sym h ∙ k))
 
-simple_from : (cs : List Cell) (next : ℕ) → AreSimple cs → AreSimple (numbered_from next cs)
-simple_from [] next h = tt
-simple_from (c ∷ cs) next h = simple_by (has_memory c) c cs next h.0 (simple_from cs (next + 1) h.1) (simple_from cs next h.1)
+drawn_goal : (rungs t : ℕ) (form : Option Form) (name : Option Reference) (above target : Option ℕ) → goes_to rungs (cell_with form name above target) ≡ Some t
+    → Goal rungs form target t
+unfolding Goal
+drawn_goal rungs t None name above target h = absurd (none_some h)
+drawn_goal rungs t (Some Empty) name above target h = absurd (none_some h)
+drawn_goal rungs t (Some Wire) name above target h = absurd (none_some h)
+drawn_goal rungs t (Some (Contact m)) None above target h = absurd (none_some h)
+drawn_goal rungs t (Some (Contact m)) (Some x) above target h = absurd (none_some (sym (contact_no_goal rungs m x.symbol) ∙ h))
+drawn_goal rungs t (Some (Coil m)) None above target h = absurd (none_some h)
+drawn_goal rungs t (Some (Coil m)) (Some x) above target h = absurd (none_some (sym (coil_no_goal rungs m x.symbol) ∙ h))
+drawn_goal rungs t (Some (Block kind)) None above target h = absurd (none_some h)
+drawn_goal rungs t (Some (Block kind)) (Some x) above target h = absurd (none_some (sym (block_on_goal rungs (instance_of x.symbol)) ∙ h))
+drawn_goal rungs t (Some (Lower pin linked)) name above target h = absurd (none_some (sym (lower_no_goal rungs above linked) ∙ h))
+drawn_goal rungs t (Some (Jump label)) name above target h = (refl, inr (sym (jump_goal rungs target) ∙ h))
+drawn_goal rungs t (Some Return) name above target h = (refl, inl (some_same t rungs (sym h)))
 
-simple_at : (cs : List Cell) → AreSimple cs → (i : ℕ) → is_simple (get_or cs i cell.Empty) ≡ true
-simple_at [] h i = refl
-simple_at (c ∷ cs) h zero = h.0
-simple_at (c ∷ cs) h (suc i) = simple_at cs h.1 i
+block_no_lower : (o : Option ℕ) → lower_in (block_on o) ≡ None
+unfolding lower_in
+block_no_lower None = refl
+block_no_lower (Some inst) = refl
 
-contact_simple : (m : _) (s : Symbol) → is_simple (contact_on m s) ≡ true
-contact_simple m (Var number) = refl
-contact_simple m (Instance number) = refl
+lower_lower : (o : Option ℕ) (linked : Bool) → lower_in (lower_of o linked) ≡ o
+unfolding lower_in
+lower_lower None linked = refl
+lower_lower (Some inst) linked = refl
 
-coil_simple : (m : _) (s : Symbol) → is_simple (coil_on m s) ≡ true
-coil_simple m (Var number) = refl
-coil_simple m (Instance number) = refl
+jump_no_lower : (o : Option ℕ) → lower_in (jump_on o) ≡ None
+unfolding lower_in
+jump_no_lower None = refl
+jump_no_lower (Some target) = refl
 
-drawn_simple : (form : Option Form) (name : Option Reference) → is_simple (cell_with form name) ≡ true
-drawn_simple None name = refl
-drawn_simple (Some Empty) name = refl
-drawn_simple (Some Wire) name = refl
-drawn_simple (Some (Contact m)) None = refl
-drawn_simple (Some (Contact m)) (Some x) = contact_simple m x.symbol
-drawn_simple (Some (Coil m)) None = refl
-drawn_simple (Some (Coil m)) (Some x) = coil_simple m x.symbol
-drawn_simple (Some (Block kind)) name = refl
-drawn_simple (Some (Lower kind linked)) name = refl
+contact_no_lower : (m : Mode) (s : Symbol) → lower_in (contact_on m s) ≡ None
+unfolding lower_in
+contact_no_lower m (Var number) = refl
+contact_no_lower m (Instance number) = refl
 
-simple_block : (c : Cell) → is_simple c ≡ true → (number : ℕ) → block_in c ≡ Some number → ⊥
-simple_block cell.Empty h number k = none_some k
-simple_block cell.Wire h number k = none_some k
-simple_block (cell.Contact mode operand memory) h number k = none_some k
-simple_block (cell.Coil mode var memory) h number k = none_some k
-simple_block (cell.Block inst) h number k = off_on h
-simple_block (cell.Lower inst linked) h number k = off_on h
-simple_block (cell.Jump target) h number k = off_on h
+coil_no_lower : (m : CoilMode) (s : Symbol) → lower_in (coil_on m s) ≡ None
+unfolding lower_in
+coil_no_lower m (Var number) = refl
+coil_no_lower m (Instance number) = refl
 
-simple_jump : (c : Cell) (target : ℕ) → is_simple c ≡ true → c ≡ cell.Jump target → ⊥
-simple_jump c target h k = off_on (sym (ap is_simple k) ∙ h)
+drawn_lower : (inst : ℕ) (form : Option Form) (name : Option Reference) (above target : Option ℕ) → lower_in (cell_with form name above target) ≡ Some inst → above ≡ Some inst
+unfolding lower_in
+drawn_lower inst None name above target h = absurd (none_some h)
+drawn_lower inst (Some Empty) name above target h = absurd (none_some h)
+drawn_lower inst (Some Wire) name above target h = absurd (none_some h)
+drawn_lower inst (Some (Contact m)) None above target h = absurd (none_some h)
+drawn_lower inst (Some (Contact m)) (Some x) above target h = absurd (none_some (sym (contact_no_lower m x.symbol) ∙ h))
+drawn_lower inst (Some (Coil m)) None above target h = absurd (none_some h)
+drawn_lower inst (Some (Coil m)) (Some x) above target h = absurd (none_some (sym (coil_no_lower m x.symbol) ∙ h))
+drawn_lower inst (Some (Block kind)) None above target h = absurd (none_some h)
+drawn_lower inst (Some (Block kind)) (Some x) above target h = absurd (none_some (sym (block_no_lower (instance_of x.symbol)) ∙ h))
+drawn_lower inst (Some (Lower pin linked)) name above target h = sym (lower_lower above linked) ∙ h
+drawn_lower inst (Some (Jump label)) name above target h = absurd (none_some (sym (jump_no_lower target) ∙ h))
+drawn_lower inst (Some Return) name above target h = absurd (none_some h)
 
-pub read_well_formed : (d : Drawing) (decls : Declared) (lines : Lines) (ps : List Part)
-    → d.cells ≡ numbered_from 0 (all_places (cell_drawn decls) lines ps) → IsWellFormed d
-read_well_formed d decls lines ps e =
-    let drawn = all_places (cell_drawn decls) lines ps in
-    let simple : (i : ℕ) → is_simple (get_or d.cells i cell.Empty) ≡ true = λ i.
-    ap (λ cs. is_simple (get_or cs i cell.Empty)) e ∙ simple_at (numbered_from 0 drawn) (simple_from drawn 0 (simple_all (cell_drawn decls) (λ rung r c. drawn_simple _ _) lines ps)) i in
-    record {
-      one_memory = λ number i j h k.
-          apart drawn 0 i j number
-          (ap (λ cs. memory_in (get_or cs i cell.Empty)) (sym e) ∙ h)
-          (ap (λ cs. memory_in (get_or cs j cell.Empty)) (sym e) ∙ k);
-      one_block = λ number i j h k. absurd (simple_block (get_or d.cells i cell.Empty) (simple i) number h);
-      jumps_down = λ i target h. absurd (simple_jump (get_or d.cells i cell.Empty) target (simple i) h);
-    }
+-- a cell with a block's instance is the block
+is_block : (c : Cell) (inst : ℕ) → block_in c ≡ Some inst → c ≡ cell.Block inst
+is_block cell.Empty inst h = absurd (none_some h)
+is_block cell.Wire inst h = absurd (none_some h)
+is_block (cell.Contact mode operand memory) inst h = absurd (none_some h)
+is_block (cell.Coil mode var memory) inst h = absurd (none_some h)
+is_block (cell.Block n) inst h = ap (λ m. cell.Block m) (some_same n inst h)
+is_block (cell.Lower n linked) inst h = absurd (none_some h)
+is_block (cell.Jump target) inst h = absurd (none_some h)
+is_block cell.Return inst h = absurd (none_some h)
+
+-- ---- targets
+later_is : (k t : ℕ) (o : Option ℕ) → later k o ≡ Some t → (k < t) × (o ≡ Some t)
+later_is k t None h = absurd (none_some h)
+later_is k t (Some target) h =
+    elim (nat_lt k target) as (λ b. nat_lt k target ≡ b → cond b (Some target) None ≡ Some t → (k < t) × (Some target ≡ Some t)) [
+      | true ↦ λ test same.
+          let below : k < target = ltb-true k target test in
+          let e : target ≡ t = some_same target t same in
+          (subst (λ x. k < x) e below, same)
+      | false ↦ λ test same. absurd (none_some same)
+    ] refl h
+
+target_within : (labels : Labels) (k t : ℕ) (label : Option (List ℕ)) → target_to labels k label ≡ Some t → (k < t) × (t < length labels)
+target_within labels k t None h = absurd (none_some h)
+target_within labels k t (Some word) h =
+    let l = later_is k t (position (is_named word) labels) h in
+    (l.0, (position-Some (is_named word) labels t None l.1).0)
+
+-- ---- cells of a sound page
+module _ (page : Page) (rungs : ℕ) (sites : List Site)
+    (sound : IsSoundPage page)
+    (same : sites ≡ sites_of page)
+    (count : rungs ≡ length page.parts)
+    (few : rungs ≤ 100) where
+  cell_i : ℕ → Cell
+  cell_i i = (get_or sites i blank_site).cell
+
+  whole : length sites ≡ 60 * rungs
+  whole = ap length same ∙ length-all_places (site_drawn page) (length page.parts) ∙ ap (λ n. 60 * n) (sym count)
+
+  -- what is a cell's at the place i
+  record Stands (i : ℕ) (P : ℕ → ℕ → ℕ → Type 0) : Type 0 where
+    rung : ℕ
+    row : ℕ
+    column : ℕ
+    below : rung < rungs
+    in_rung : row < 6
+    in_row : column < 10
+    at : i ≡ place rung row column
+    holds : P rung row column
+
+  cell_is : (i : ℕ) → i < 60 * rungs → cell_i i ≡ numbered (memories_before page i) (at_place (cell_drawn page) i)
+  unfolding cell_i
+  cell_is i below =
+      let within : i < 60 * length page.parts = omega (arith, below, count) in
+      let here : place (i / 60) (i % 60 % 6) (i % 60 / 6) ≡ i = omega arith in
+      ap (λ ss. (get_or ss i blank_site).cell) same
+      ∙ ap (λ x. x.cell) (first_places-at (at_place (site_drawn page)) (60 * length page.parts) i blank_site within)
+      ∙ ap (λ n. numbered (memories_before page n) (at_place (cell_drawn page) i)) here
+
+  past_end : (i : ℕ) → 60 * rungs ≤ i → cell_i i ≡ cell.Empty
+  unfolding cell_i
+  past_end i past = ap (λ x. x.cell) (get_or_past sites i blank_site (omega (arith, past, whole)))
+
+  -- a memory has the number of those before it
+  memory_is : (i number : ℕ) → memory_in (cell_i i) ≡ Some number → (i < 60 * rungs) × (memories_before page i ≡ number)
+      × (memories_before page (suc i) ≡ number + 1)
+  memory_is i number h =
+      elim (cases_lt i (60 * rungs)) [
+        | inl below ↦
+            let n = number_is (memories_before page i) number (at_place (cell_drawn page) i) (ap memory_in (sym (cell_is i below)) ∙ h) in
+            (below, n.0, before_yes page i n.1 ∙ ap (λ m. m + 1) n.0)
+        | inr past ↦ absurd (none_some (ap memory_in (sym (past_end i past)) ∙ h))
+      ]
+
+  one_memory : (number i j : ℕ) → memory_in (cell_i i) ≡ Some number → memory_in (cell_i j) ≡ Some number → i ≡ j
+  one_memory number i j h k =
+      let a = memory_is i number h in
+      let b = memory_is j number k in
+      elim (cases_lt i j) [
+        | inl first ↦ absurd (omega (arith, a.2, b.1, before_more page j (suc i) (omega (arith, first))))
+        | inr more ↦ elim (cases_lt j i) [
+          | inl second ↦ absurd (omega (arith, b.2, a.1, before_more page i (suc j) (omega (arith, second))))
+          | inr less ↦ omega (arith, more, less)
+        ]
+      ]
+
+  memories_below : (number i : ℕ) → memory_in (cell_i i) ≡ Some number → number < count_by (λ (s : Site). has_memory s.cell) sites
+  memories_below number i h =
+      let a = memory_is i number h in
+      let all : count_by (λ (s : Site). has_memory s.cell) sites ≡ memories_before page (60 * length page.parts)
+      = ap (count_by (λ (s : Site). has_memory s.cell)) same ∙ count-sites page (60 * length page.parts) in
+      omega (arith, all, a.2, before_more page (60 * length page.parts) (suc i) (omega (arith, a.0, count)))
+
+  -- what a part of the cells says, that numbering doesn't change and that nothing has past the end
+  stands : (f : Cell → Option ℕ) → ((n : ℕ) (c : Cell) → f (numbered n c) ≡ f c) → f cell.Empty ≡ None
+      → (i number : ℕ) → f (cell_i i) ≡ Some number → Stands i (λ k r c. f (cell_drawn page k r c) ≡ Some number)
+  stands f kept empty i number h =
+      elim (cases_lt i (60 * rungs)) [
+        | inl below ↦
+            let rung : i / 60 < rungs = omega arith in
+            let row : i % 60 % 6 < 6 = omega arith in
+            let column : i % 60 / 6 < 10 = omega arith in
+            let is : i ≡ place (i / 60) (i % 60 % 6) (i % 60 / 6) = omega arith in
+            record {
+              rung = i / 60;
+              row = i % 60 % 6;
+              column = i % 60 / 6;
+              below = rung;
+              in_rung = row;
+              in_row = column;
+              at = is;
+              holds = sym (kept (memories_before page i) (at_place (cell_drawn page) i)) ∙ ap f (sym (cell_is i below)) ∙ h;
+            }
+        | inr past ↦
+            let none : cell_i i ≡ cell.Empty = past_end i past in
+            absurd (none_some (sym (ap f none ∙ empty) ∙ h))
+      ]
+
+  -- G12: an instance is drawn once
+  never_twice : (number k r c j q b : ℕ) → k < rungs → r < 6 → c < 10 → q < 6 → b < 10
+      → instance_at page k r c ≡ Some number → instance_at page j q b ≡ Some number → reading_place j q b < reading_place k r c → ⊥
+  unfolding PartBreaks
+  never_twice number k r c j q b below rows columns other_rows other_columns here there earlier =
+      let high : c ≤ 10 = omega arith in
+      let name_line : 0 < 2 = omega arith in
+      let inside : k < length page.parts = omega (arith, below, count) in
+      let judged : k < 100 = omega (arith, below, few) in
+      sound (Grid rule.DrawnTwice) k ((part_at page k).start + (2 * r + 0)) (inl (
+        inside,
+        inr (inr (
+          judged,
+          2 * r + 0,
+          refl,
+          record {
+            row = r;
+            half = 0;
+            column = c;
+            in_rung = rows;
+            in_row = name_line;
+            in_columns = high;
+            on = refl;
+            breaks = (
+              refl,
+              columns,
+              (
+                number,
+                here,
+                record {
+                  rung = j;
+                  row = q;
+                  column = b;
+                  in_rung = other_rows;
+                  in_row = other_columns;
+                  earlier = earlier;
+                  drawn = there;
+                },
+              ),
+            );
+          },
+        )),
+      ))
+
+  -- G14: a rung has one jump
+  never_two : (k r c q b : ℕ) → k < rungs → r < 6 → c < 10 → q < 6 → b < 10
+      → leaps (form_at page k r c) ≡ true → leaps (form_at page k q b) ≡ true → 10 * q + b < 10 * r + c → ⊥
+  unfolding PartBreaks
+  never_two k r c q b below rows columns other_rows other_columns here there earlier =
+      let high : c ≤ 10 = omega arith in
+      let wire_line : 1 < 2 = omega arith in
+      let inside : k < length page.parts = omega (arith, below, count) in
+      let judged : k < 100 = omega (arith, below, few) in
+      sound (Grid rule.TwoJumps) k ((part_at page k).start + (2 * r + 1)) (inl (
+        inside,
+        inr (inr (
+          judged,
+          2 * r + 1,
+          refl,
+          record {
+            row = r;
+            half = 1;
+            column = c;
+            in_rung = rows;
+            in_row = wire_line;
+            in_columns = high;
+            on = refl;
+            breaks = (
+              refl,
+              columns,
+              record {
+                row = q;
+                column = b;
+                in_rung = other_rows;
+                in_row = other_columns;
+                earlier = earlier;
+                this = here;
+                other = there;
+              },
+            );
+          },
+        )),
+      ))
+
+  block_place : (i number : ℕ) → block_in (cell_i i) ≡ Some number → Stands i (λ k r c. instance_at page k r c ≡ Some number)
+  unfolding instance_at
+  block_place i number h =
+      let s = stands block_in same_block refl i number h in
+      record {
+        rung = s.rung;
+        row = s.row;
+        column = s.column;
+        below = s.below;
+        in_rung = s.in_rung;
+        in_row = s.in_row;
+        at = s.at;
+        holds = sym (drawn_block (form_at page s.rung s.row s.column) (name_over page s.rung s.row s.column) _ _) ∙ s.holds;
+      }
+
+  one_block : (number i j : ℕ) → block_in (cell_i i) ≡ Some number → block_in (cell_i j) ≡ Some number → i ≡ j
+  one_block number i j h k =
+      let a = block_place i number h in
+      let b = block_place j number k in
+      elim (cases_lt (reading_place a.rung a.row a.column) (reading_place b.rung b.row b.column)) [
+        | inl first ↦ absurd (never_twice number b.rung b.row b.column a.rung a.row a.column b.below b.in_rung b.in_row a.in_rung a.in_row b.holds a.holds first)
+        | inr more ↦ elim (cases_lt (reading_place b.rung b.row b.column) (reading_place a.rung a.row a.column)) [
+          | inl second ↦ absurd (never_twice number a.rung a.row a.column b.rung b.row b.column a.below a.in_rung a.in_row b.in_rung b.in_row a.holds b.holds second)
+          | inr less ↦
+              let e : reading_place a.rung a.row a.column ≡ reading_place b.rung b.row b.column = omega (arith, more, less) in
+              let rung : a.rung ≡ b.rung
+              = sym (rung_of_place a.rung a.row a.column a.in_rung a.in_row) ∙ ap (λ n. n / 60) e ∙ rung_of_place b.rung b.row b.column b.in_rung b.in_row in
+              let row : a.row ≡ b.row
+              = sym (row_of_place a.rung a.row a.column a.in_rung a.in_row) ∙ ap (λ n. n % 60 / 10) e ∙ row_of_place b.rung b.row b.column b.in_rung b.in_row in
+              let column : a.column ≡ b.column
+              = sym (column_of_place a.rung a.row a.column a.in_rung a.in_row) ∙ ap (λ n. n % 60 % 10) e ∙ column_of_place b.rung b.row b.column b.in_rung b.in_row in
+              omega (arith, a.at, b.at, rung, row, column)
+        ]
+      ]
+
+  jump_place : (i t : ℕ) → goes_to rungs (cell_i i) ≡ Some t
+      → Stands i (λ k r c. (leaps (form_at page k r c) ≡ true) × (k < t) × (t ≤ rungs))
+  unfolding Goal
+  jump_place i t h =
+      let s = stands (goes_to rungs) (same_goal rungs) refl i t h in
+      let g = drawn_goal rungs t (form_at page s.rung s.row s.column) (name_over page s.rung s.row s.column) _ _ s.holds in
+      let bounds : (s.rung < t) × (t ≤ rungs) = elim g.1 [
+        | inl past ↦ (omega (arith, past, s.below), omega (arith, past))
+        | inr known ↦
+            let w = target_within (labels_of page.lines page.parts) s.rung t (jump_label (form_at page s.rung s.row s.column)) known in
+            (w.0, omega (arith, w.1, count, length-map page.parts (label_of page.lines)))
+      ] in
+      record {
+        rung = s.rung;
+        row = s.row;
+        column = s.column;
+        below = s.below;
+        in_rung = s.in_rung;
+        in_row = s.in_row;
+        at = s.at;
+        holds = (g.0, bounds.0, bounds.1);
+      }
+
+  jumps_down : (rung i target : ℕ) → i < 60 → goes_to rungs (cell_i (60 * rung + i)) ≡ Some target → (rung < target) × (target ≤ rungs)
+  jumps_down rung i target within h =
+      let s = jump_place (60 * rung + i) target h in
+      let here : s.rung ≡ rung = omega (arith, s.at, s.in_rung, s.in_row, within) in
+      (omega (arith, here, s.holds.1), s.holds.2)
+
+  one_jump : (rung i j s t : ℕ) → i < 60 → j < 60 → goes_to rungs (cell_i (60 * rung + i)) ≡ Some s
+      → goes_to rungs (cell_i (60 * rung + j)) ≡ Some t → i ≡ j
+  one_jump rung i j s t i_within j_within h k =
+      let a = jump_place (60 * rung + i) s h in
+      let b = jump_place (60 * rung + j) t k in
+      let a_here : a.rung ≡ rung = omega (arith, a.at, a.in_rung, a.in_row, i_within) in
+      let b_here : b.rung ≡ rung = omega (arith, b.at, b.in_rung, b.in_row, j_within) in
+      let together : a.rung ≡ b.rung = a_here ∙ sym b_here in
+      elim (cases_lt (10 * a.row + a.column) (10 * b.row + b.column)) [
+        | inl first ↦ absurd (never_two b.rung b.row b.column a.row a.column b.below b.in_rung b.in_row a.in_rung a.in_row b.holds.0
+            (subst (λ x. leaps (form_at page x a.row a.column) ≡ true) together a.holds.0) first)
+        | inr more ↦ elim (cases_lt (10 * b.row + b.column) (10 * a.row + a.column)) [
+          | inl second ↦ absurd (never_two a.rung a.row a.column b.row b.column a.below a.in_rung a.in_row b.in_rung b.in_row a.holds.0
+              (subst (λ x. leaps (form_at page x b.row b.column) ≡ true) (sym together) b.holds.0) second)
+          | inr less ↦
+              let row : a.row ≡ b.row = omega (arith, more, less, a.in_row, b.in_row) in
+              let column : a.column ≡ b.column = omega (arith, more, less, row) in
+              omega (arith, a.at, b.at, together, row, column)
+        ]
+      ]
+
+  lower_place : (i inst : ℕ) → lower_in (cell_i i) ≡ Some inst → Stands i (λ k r c. instance_above page k r c ≡ Some inst)
+  unfolding lower_in
+  lower_place i inst h =
+      let s = stands lower_in same_lower refl i inst h in
+      record {
+        rung = s.rung;
+        row = s.row;
+        column = s.column;
+        below = s.below;
+        in_rung = s.in_rung;
+        in_row = s.in_row;
+        at = s.at;
+        holds = drawn_lower inst (form_at page s.rung s.row s.column) (name_over page s.rung s.row s.column) _ _ s.holds;
+      }
+
+  above_is : (k r c inst : ℕ) → instance_above page k r c ≡ Some inst → (1 ≤ r) × (instance_at page k (r - 1) c ≡ Some inst)
+  above_is k r c inst h =
+      elim (r == 0) as (λ b. (r == 0) ≡ b → cond b None (instance_at page k (r - 1) c) ≡ Some inst → (1 ≤ r) × (instance_at page k (r - 1) c ≡ Some inst)) [
+        | true ↦ λ test same. absurd (none_some same)
+        | false ↦ λ test same.
+            let some : 1 ≤ r = elim (cases_lt 0 r) [
+              | inl more ↦ omega (arith, more)
+              | inr none ↦ absurd (eqb-false r 0 test (omega (arith, none)))
+            ] in
+            (some, same)
+      ] refl h
+
+  block_cell : (k r c inst : ℕ) → k < rungs → r < 6 → c < 10 → instance_at page k r c ≡ Some inst → cell_i (place k r c) ≡ cell.Block inst
+  unfolding instance_at
+  block_cell k r c inst below rows columns h =
+      let within : place k r c < 60 * rungs = omega arith in
+      let rung : place k r c / 60 ≡ k = omega arith in
+      let row : place k r c % 60 % 6 ≡ r = omega arith in
+      let column : place k r c % 60 / 6 ≡ c = omega arith in
+      let drawn : block_in (cell_drawn page k r c) ≡ Some inst = drawn_block (form_at page k r c) (name_over page k r c) _ _ ∙ h in
+      let read : block_in (at_place (cell_drawn page) (place k r c)) ≡ Some inst = rw (rung, row, column) drawn in
+      cell_is (place k r c) within
+      ∙ ap (numbered (memories_before page (place k r c))) (is_block (at_place (cell_drawn page) (place k r c)) inst read)
+
+  under_block : (i inst : ℕ) (linked : Bool) → cell_i i ≡ cell.Lower inst linked
+      → (1 ≤ i % 6) × (cell_i (i - 1) ≡ cell.Block inst)
+  unfolding lower_in
+  under_block i inst linked h =
+      let s = lower_place i inst (ap lower_in h) in
+      let up = above_is s.rung s.row s.column inst s.holds in
+      let row : s.row - 1 < 6 = omega (arith, s.in_rung) in
+      let before : i - 1 ≡ place s.rung (s.row - 1) s.column = omega (arith, s.at, up.0) in
+      (omega (arith, s.at, up.0, s.in_rung), ap cell_i before ∙ block_cell s.rung (s.row - 1) s.column inst s.below row s.in_row up.1)
+
+  -- G10: no name is one that its symbol can't have
+  never_odd : (k r c : ℕ) → k < rungs → r < 6 → c < 10 → is_odd page.decls (form_at page k r c) (name_over page k r c) ≡ false
+  unfolding PartBreaks
+  never_odd k r c below rows columns =
+      elim (is_odd page.decls (form_at page k r c) (name_over page k r c)) as (λ b. is_odd page.decls (form_at page k r c) (name_over page k r c) ≡ b → b ≡ false) [
+        | false ↦ λ _. refl
+        | true ↦ λ odd.
+            let high : c ≤ 10 = omega arith in
+            let name_line : 0 < 2 = omega arith in
+            let inside : k < length page.parts = omega (arith, below, count) in
+            let judged : k < 100 = omega (arith, below, few) in
+            let judged : k < 100 = omega (arith, below, few) in
+            let in_columns : nat_lt c 10 ≡ true = lt-ltb c 10 columns in
+            let broken : wrong_kind page k r 0 c ≡ true = rw (in_columns, odd) refl in
+            absurd (sound (Grid rule.WrongKind) k ((part_at page k).start + (2 * r + 0)) (inl (
+              inside,
+              inr (inr (
+                judged,
+                2 * r + 0,
+                refl,
+                record {
+                  row = r;
+                  half = 0;
+                  column = c;
+                  in_rung = rows;
+                  in_row = name_line;
+                  in_columns = high;
+                  on = refl;
+                  breaks = broken;
+                },
+              )),
+            )))
+      ] refl
+
+  name_fits : (k r c : ℕ) (x : Reference) → name_over page k r c ≡ Some x → SymbolFits page.decls x.symbol
+  name_fits k r c x h = refer_fits page.decls _ x h
+
+  over_fits : (k r c n : ℕ) → instance_above page k r c ≡ Some n → n < length page.decls.instances
+  unfolding instance_at
+  over_fits k r c n h =
+      let up = above_is k r c n h in
+      instance_fits page.decls (form_at page k (r - 1) c) (name_over page k (r - 1) c) n (name_fits k (r - 1) c) up.1
+
+  fits : (i : ℕ) → Fits page.decls (cell_i i)
+  fits i =
+      elim (cases_lt i (60 * rungs)) [
+        | inl below ↦
+            let rung : i / 60 < rungs = omega arith in
+            let row : i % 60 % 6 < 6 = omega arith in
+            let column : i % 60 / 6 < 10 = omega arith in
+            subst (Fits page.decls) (sym (cell_is i below)) (fits_numbered page.decls (memories_before page i) (at_place (cell_drawn page) i)
+            (cell_fits page.decls _ _ _ _ (name_fits (i / 60) (i % 60 % 6) (i % 60 / 6)) (over_fits (i / 60) (i % 60 % 6) (i % 60 / 6))
+            (never_odd (i / 60) (i % 60 % 6) (i % 60 / 6) rung row column)))
+        | inr past ↦ subst (Fits page.decls) (sym (past_end i past)) tt
+      ]
+
+  -- G11: a block has its lower cell
+  never_apart : (k r c : ℕ) → k < rungs → r < 6 → c < 10 → is_apart (form_above page k r c) (form_at page k r c) (form_below page k r c) ≡ false
+  unfolding PartBreaks
+  never_apart k r c below rows columns =
+      elim (is_apart (form_above page k r c) (form_at page k r c) (form_below page k r c)) as
+      (λ b. is_apart (form_above page k r c) (form_at page k r c) (form_below page k r c) ≡ b → b ≡ false) [
+        | false ↦ λ _. refl
+        | true ↦ λ apart_here.
+            let high : c ≤ 10 = omega arith in
+            let wire_line : 1 < 2 = omega arith in
+            let inside : k < length page.parts = omega (arith, below, count) in
+            let judged : k < 100 = omega (arith, below, few) in
+            let judged : k < 100 = omega (arith, below, few) in
+            let in_columns : nat_lt c 10 ≡ true = lt-ltb c 10 columns in
+            let broken : bad_block page k r 1 c ≡ true = rw (in_columns, apart_here) refl in
+            absurd (sound (Grid rule.BlockShape) k ((part_at page k).start + (2 * r + 1)) (inl (
+              inside,
+              inr (inr (
+                judged,
+                2 * r + 1,
+                refl,
+                record {
+                  row = r;
+                  half = 1;
+                  column = c;
+                  in_rung = rows;
+                  in_row = wire_line;
+                  in_columns = high;
+                  on = refl;
+                  breaks = broken;
+                },
+              )),
+            )))
+      ] refl
+
+  below_is : (k r c : ℕ) (form : Form) → r < 6 → form_below page k r c ≡ Some form → (r < 5) × (form_at page k (r + 1) c ≡ Some form)
+  below_is k r c form rows h =
+      elim (r + 1 == 6) as (λ b. (r + 1 == 6) ≡ b → cond b None (form_at page k (r + 1) c) ≡ Some form → (r < 5) × (form_at page k (r + 1) c ≡ Some form)) [
+        | true ↦ λ test same. absurd (none_some same)
+        | false ↦ λ test same.
+            let less : r < 5 = elim (cases_lt r 5) [
+              | inl below ↦ below
+              | inr last ↦ absurd (eqb-false (r + 1) 6 test (omega (arith, last, rows)))
+            ] in
+            (less, same)
+      ] refl h
+
+  lower_cell : (k r c inst : ℕ) (q : Pin) (linked : Bool) → k < rungs → r < 5 → c < 10 → instance_at page k r c ≡ Some inst
+      → form_at page k (r + 1) c ≡ Some (Lower q linked) → cell_i (place k (r + 1) c) ≡ cell.Lower inst linked
+  lower_cell k r c inst q linked below rows columns here form =
+      let within : place k (r + 1) c < 60 * rungs = omega arith in
+      let rung : place k (r + 1) c / 60 ≡ k = omega arith in
+      let row : place k (r + 1) c % 60 % 6 ≡ r + 1 = omega arith in
+      let column : place k (r + 1) c % 60 / 6 ≡ c = omega arith in
+      let test : (r + 1 == 0) ≡ false = ne_eqb (r + 1) 0 (λ e. absurd (omega (arith, e))) in
+      let up : r + 1 - 1 ≡ r = omega arith in
+      let above : instance_above page k (r + 1) c ≡ Some inst = rw (test, up) here in
+      let drawn : cell_drawn page k (r + 1) c ≡ cell.Lower inst linked
+      = ap (λ f. cell_with f (name_over page k (r + 1) c) (instance_above page k (r + 1) c) (target_of (labels_of page.lines page.parts) k (form_at page k (r + 1) c))) form
+      ∙ ap (λ o. lower_of o linked) above in
+      let read : at_place (cell_drawn page) (place k (r + 1) c) ≡ cell.Lower inst linked = rw (rung, row, column) drawn in
+      cell_is (place k (r + 1) c) within ∙ ap (numbered (memories_before page (place k (r + 1) c))) read
+
+  has_lower : (i inst : ℕ) → cell_i i ≡ cell.Block inst → has_second (slice_get page.decls.instances inst) ≡ true
+      → (linked : Bool) × (i % 6 + 1 < 6) × (cell_i (i + 1) ≡ cell.Lower inst linked)
+  unfolding instance_at
+  has_lower i inst h second =
+      let s = block_place i inst (ap block_in h) in
+      let b = block_even page.decls (form_at page s.rung s.row s.column) (name_over page s.rung s.row s.column) inst s.holds
+      (never_odd s.rung s.row s.column s.below s.in_rung s.in_row) in
+      let lacks : lacks_lower (traits_of b.0).second_input (form_below page s.rung s.row s.column) ≡ false
+      = ap (λ f. is_apart (form_above page s.rung s.row s.column) f (form_below page s.rung s.row s.column)) (sym b.1)
+      ∙ never_apart s.rung s.row s.column s.below s.in_rung s.in_row in
+      let low = lower_found (traits_of b.0).second_input (form_below page s.rung s.row s.column) (kind_second b.0 (slice_get page.decls.instances inst) b.2 second) lacks in
+      let down = below_is s.rung s.row s.column (Lower low.0 low.1) s.in_rung low.2 in
+      let next : i + 1 ≡ place s.rung (s.row + 1) s.column = omega (arith, s.at) in (
+        low.1,
+        omega (arith, s.at, down.0),
+        ap cell_i next
+            ∙ lower_cell s.rung s.row s.column inst low.0 low.1 s.below down.0 s.in_row s.holds down.1,
+      )
+
+  pub read_well_formed : IsWellFormed (drawing page.decls rungs sites)
+  unfolding cell_i
+  read_well_formed = record {
+    one_memory = one_memory;
+    memories_below = memories_below;
+    one_block = one_block;
+    one_jump = one_jump;
+    jumps_down = jumps_down;
+    under_block = under_block;
+    fits = fits;
+    has_lower = has_lower;
+  }

@@ -1,12 +1,14 @@
 -- The forms of a cell: what its eleven characters are, before the name over it is looked up.
 -- The symbols are those of IEC 61131-3:2013, 8.2 (contacts, coils) and 6.6.3 (blocks); their places in the cell are the profile's.
-use Rattle.std.specs.Prelude.{◌≡◌, ℕ, ◌≤◌, ◌⊎◌, List, [], ◌∷◌, ◌++◌, replicate, codes, true, false}
-use Rattle.ladder_vars.specs.declared.decls.BlockKind.TheVariants as kind
+use Rattle.std.specs.Prelude.{◌≡◌, ℕ, ◌≤◌, ◌⊎◌, ◌&&◌, nat_le, Bool, List, [], ◌∷◌, ◌++◌, length, replicate, codes, true, false, Option, Some, None}
+use Rattle.ladder_vars.specs.Name.{is_name}
+use Rattle.ladder_vars.specs.declared.kind.BlockKind.TheVariants as kind
 use Rattle.ladder_grid.specs.Bytes.{dash, space}
 use Rattle.ladder_grid.specs.declared.cell.Mode.TheVariants as mode
 use Rattle.ladder_grid.specs.declared.cell.CoilMode.TheVariants as coil
+use Rattle.ladder_vars.specs.declared.kind.Pin.TheVariants as pin
 use Rattle.ladder_grid.specs.declared.form.Form.{Form}
-use Rattle.ladder_grid.specs.declared.form.Form.TheVariants.{Empty, Wire, Contact, Coil, Block, Lower}
+use Rattle.ladder_grid.specs.declared.form.Form.TheVariants.{Empty, Wire, Contact, Coil, Block, Lower, Jump, Return}
 
 -- spellings, each with the form that it has
 abbrev pub Table : Type 0
@@ -17,15 +19,17 @@ abbrev pub Lists : Table → List ℕ → Form → Type 0
 Lists [] chars form = ⊥
 Lists (e ∷ es) chars form = ((chars ≡ e.0) × (form ≡ e.1)) ⊎ Lists es chars form
 
--- The cells that are spelled in one way: empty, a wire, the upper cells of the blocks, and the lower cells of
--- the counters, each first with its left link and then without.
+-- The cells that are spelled in one way: empty, a wire, the upper cells of the blocks, and the lower cells, each first with
+-- its left link and then without.
 abbrev pub whole_cells : Table
 whole_cells =
     (codes "           ", Empty) ∷ (codes "-----------", Wire)
     ∷ (codes "-|IN TON Q|", Block kind.Ton) ∷ (codes "-|IN TOF Q|", Block kind.Tof) ∷ (codes "-|IN TP  Q|", Block kind.Tp)
     ∷ (codes "-|CU CTU Q|", Block kind.Ctu) ∷ (codes "-|CD CTD Q|", Block kind.Ctd)
-    ∷ (codes "-|R       |", Lower kind.Ctu true) ∷ (codes " |R       |", Lower kind.Ctu false)
-    ∷ (codes "-|LD      |", Lower kind.Ctd true) ∷ (codes " |LD      |", Lower kind.Ctd false) ∷ []
+    ∷ (codes "-|S1 SR Q1|", Block kind.Sr) ∷ (codes "-|S  RS Q1|", Block kind.Rs)
+    ∷ (codes "-|R       |", Lower pin.Reset true) ∷ (codes " |R       |", Lower pin.Reset false)
+    ∷ (codes "-|LD      |", Lower pin.Load true) ∷ (codes " |LD      |", Lower pin.Load false)
+    ∷ (codes "-|R1      |", Lower pin.Reset1 true) ∷ (codes " |R1      |", Lower pin.Reset1 false) ∷ []
 
 -- The symbols of contacts and coils.
 abbrev pub symbols : Table
@@ -46,6 +50,30 @@ pub record HasSymbol (chars : List ℕ) (form : Form) : Type 0 where
   pub listed : Lists symbols symbol form
   pub spelled : chars ≡ replicate before dash ++ (symbol ++ replicate after filler)
 
+-- A label is a name of at most eight characters.
+abbrev pub is_label_name : List ℕ → Bool
+is_label_name word = nat_le (length word) 8 && is_name word
+
+-- what leaves the rung: `<RETURN>`, or `>>` and a label
+abbrev pub IsLeap : List ℕ → Form → Type 0
+IsLeap mark form =
+    ((mark ≡ codes "<RETURN>") × (form ≡ Return))
+    ⊎ ((label : List ℕ) × (mark ≡ codes ">>" ++ label) × (is_label_name label ≡ true) × (form ≡ Jump label))
+
+-- One or more dashes, such a mark, then only spaces, or nothing.
+pub record HasLeap (chars : List ℕ) (form : Form) : Type 0 where
+  pub before : ℕ
+  pub after : ℕ
+  pub mark : List ℕ
+  pub some_dashes : 1 ≤ before
+  pub leaps : IsLeap mark form
+  pub spelled : chars ≡ replicate before dash ++ (mark ++ replicate after space)
+
 -- The characters of a cell have this form.
 abbrev pub HasForm : List ℕ → Form → Type 0
-HasForm chars form = Lists whole_cells chars form ⊎ HasSymbol chars form
+HasForm chars form = Lists whole_cells chars form ⊎ (HasSymbol chars form ⊎ HasLeap chars form)
+
+-- What the characters of a cell are: this form, or none.
+abbrev pub IsFormOf : List ℕ → Option Form → Type 0
+IsFormOf chars None = (form : Form) → HasForm chars form → ⊥
+IsFormOf chars (Some form) = HasForm chars form

@@ -1,16 +1,19 @@
 -- What the text over a cell stands for (the profile; output variables of instances as in IEC 61131-3).
-use Rattle.std.specs.Prelude.{ℕ, ◌+◌, ◌-◌, ◌==◌, nat_le, Bool, true, false, not, ◌&&◌, ◌||◌, List, [], ◌∷◌, length, take, slice_get, slice_index_or, Option, Some, None, if◌then◌else◌}
-use Rattle.ladder_vars.specs.Name.{is_name}
+use Rattle.std.specs.Prelude.{ℕ, ◌+◌, ◌-◌, ◌==◌, nat_le, Bool, true, false, not, ◌&&◌, ◌||◌, List, [], ◌∷◌, length, take, drop, codes, slice_get, Option, Some, None, if◌then◌else◌}
+use Rattle.ladder_vars.specs.Name.{is_name, same_letters}
+use Rattle.ladder_vars.specs.Kind.{traits_of}
 use Rattle.ladder_vars.specs.Decls.{Declared, find, is_input}
 use Rattle.ladder_vars.specs.declared.decls.Symbol.{Symbol}
 use Rattle.ladder_vars.specs.declared.decls.Symbol.TheVariants as symbol
 use Rattle.ladder_vars.specs.declared.decls.Var.{Var}
 use Rattle.ladder_vars.specs.declared.decls.Instance.{Instance}
-use Rattle.ladder_vars.specs.declared.decls.BlockKind.{BlockKind}
-use Rattle.ladder_vars.specs.declared.decls.BlockKind.TheVariants as kind
+use Rattle.ladder_vars.specs.declared.kind.BlockKind.{BlockKind}
+use Rattle.ladder_vars.specs.declared.kind.BlockKind.TheVariants as kind
 use Rattle.ladder_grid.specs.Bytes.{space}
 use Rattle.ladder_grid.specs.declared.form.Form.{Form}
 use Rattle.ladder_grid.specs.declared.form.Form.TheVariants.{Contact, Coil, Block}
+use Rattle.ladder_vars.specs.declared.kind.Output.{Output}
+use Rattle.ladder_vars.specs.declared.kind.Output.TheVariants as output
 use Rattle.ladder_grid.specs.declared.operand.Reference.{Reference}
 
 abbrev pub after_spaces : List ℕ → List ℕ
@@ -26,23 +29,26 @@ text_len at kept (b ∷ bs) = if b == space then text_len (at + 1) kept bs else 
 unfoldable pub word_in : List ℕ → List ℕ
 word_in chars = take (text_len 0 0 (after_spaces chars)) (after_spaces chars)
 
--- the word ends with `.Q`, in either letter case (46 is the dot, 81 and 113 the letters)
-abbrev pub has_q : List ℕ → Bool
-has_q word =
-    nat_le 2 (length word)
-    && (slice_index_or word (length word - 2) 0 == 46
-    && (slice_index_or word (length word - 1) 0 == 81 || slice_index_or word (length word - 1) 0 == 113))
+-- the word ends so, in any letter case
+abbrev pub ends_in : List ℕ → List ℕ → Bool
+ends_in suffix word = nat_le (length suffix) (length word) && same_letters (drop (length word - length suffix) word) suffix
+
+abbrev pub without_end : ℕ → List ℕ → List ℕ
+without_end n word = take (length word - n) word
 
 abbrev pub named : Declared → List ℕ → Option Symbol
 named decls word = if is_name word then find decls word else None
 
-abbrev pub referred : Bool → Option Symbol → Option Reference
+abbrev pub referred : Option Output → Option Symbol → Option Reference
 referred output None = None
 referred output (Some s) = Some (record { symbol = s; output = output })
 
--- A declared name, or a declared name with `.Q`.
+-- A declared name, or one with `.Q` or `.Q1`.
 unfoldable pub refer_to : Declared → List ℕ → Option Reference
-refer_to decls word = if has_q word then referred true (named decls (take (length word - 2) word)) else referred false (named decls word)
+refer_to decls word =
+    if ends_in (codes ".Q") word then referred (Some output.Q) (named decls (without_end 2 word))
+    else (if ends_in (codes ".Q1") word then referred (Some output.Q1) (named decls (without_end 3 word))
+    else referred None (named decls word))
 
 abbrev pub is_input_at : Option Var → Bool
 is_input_at (Some v) = is_input v
@@ -54,30 +60,56 @@ same_kind kind.Tof kind.Tof = true
 same_kind kind.Tp kind.Tp = true
 same_kind kind.Ctu kind.Ctu = true
 same_kind kind.Ctd kind.Ctd = true
+same_kind kind.Sr kind.Sr = true
+same_kind kind.Rs kind.Rs = true
 same_kind a b = false
 
 abbrev pub is_of_kind : BlockKind → Option Instance → Bool
 is_of_kind k (Some i) = same_kind k i.kind
 is_of_kind k None = false
 
--- a contact reads a variable, or an instance's Q
-abbrev pub is_odd_on_contact : Symbol → Bool → Bool
-is_odd_on_contact (symbol.Var i) output = output
-is_odd_on_contact (symbol.Instance i) output = not output
+abbrev pub same_output : Output → Output → Bool
+same_output output.Q output.Q = true
+same_output output.Q output.Q1 = false
+same_output output.Q1 output.Q = false
+same_output output.Q1 output.Q1 = true
+
+-- the instance has this output
+abbrev pub gives_output : Option Instance → Option Output → Bool
+gives_output (Some i) (Some o) = same_output o (traits_of i.kind).output
+gives_output _ _ = false
+
+abbrev pub is_given : Option Output → Bool
+is_given None = false
+is_given (Some o) = true
+
+-- a contact reads a variable, or the output of an instance
+abbrev pub is_odd_on_contact : Declared → Symbol → Option Output → Bool
+is_odd_on_contact decls (symbol.Var i) output = is_given output
+is_odd_on_contact decls (symbol.Instance i) output = not (gives_output (slice_get decls.instances i) output)
 
 -- a coil writes a variable that is no input
-abbrev pub is_odd_on_coil : Declared → Symbol → Bool → Bool
-is_odd_on_coil decls (symbol.Var i) output = output || is_input_at (slice_get decls.vars i)
+abbrev pub is_odd_on_coil : Declared → Symbol → Option Output → Bool
+is_odd_on_coil decls (symbol.Var i) output = is_given output || is_input_at (slice_get decls.vars i)
 is_odd_on_coil decls (symbol.Instance i) output = true
 
 -- a block is an instance of its kind
-abbrev pub is_odd_on_block : Declared → BlockKind → Symbol → Bool → Bool
+abbrev pub is_odd_on_block : Declared → BlockKind → Symbol → Option Output → Bool
 is_odd_on_block decls k (symbol.Var i) output = true
-is_odd_on_block decls k (symbol.Instance i) output = output || not (is_of_kind k (slice_get decls.instances i))
+is_odd_on_block decls k (symbol.Instance i) output = is_given output || not (is_of_kind k (slice_get decls.instances i))
 
 -- The name is none that the symbol may have.
 abbrev pub is_odd : Declared → Option Form → Option Reference → Bool
-is_odd decls (Some (Contact mode)) (Some x) = is_odd_on_contact x.symbol x.output
+is_odd decls (Some (Contact mode)) (Some x) = is_odd_on_contact decls x.symbol x.output
 is_odd decls (Some (Coil mode)) (Some x) = is_odd_on_coil decls x.symbol x.output
 is_odd decls (Some (Block k)) (Some x) = is_odd_on_block decls k x.symbol x.output
 is_odd decls _ _ = false
+
+abbrev pub instance_of : Symbol → Option ℕ
+instance_of (symbol.Var i) = None
+instance_of (symbol.Instance i) = Some i
+
+-- the instance that a block with this text over it is
+abbrev pub instance_on : Option Form → Option Reference → Option ℕ
+instance_on (Some (Block k)) (Some x) = instance_of x.symbol
+instance_on _ _ = None

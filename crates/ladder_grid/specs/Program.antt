@@ -1,41 +1,48 @@
 -- A program as its drawing has it, and the list of steps that a scan goes through.
 -- Rungs, rows and columns are counted from 0. The place of a cell in its rung is 6 * column + row.
-use Rattle.std.specs.Prelude.{◌≡◌, ℕ, zero, suc, ◌+◌, ◌-◌, ◌*◌, ◌/◌, ◌%◌, ◌^◌, ◌<◌, ◌≤◌, min, max, nat_le, Bool, true, false, ◌&&◌, ◌==◌, List, [], ◌∷◌, ◌++◌, length, count_by, slice_index_or, Option, Some, None, if◌then◌else◌}
+use Rattle.std.specs.Prelude.{◌≡◌, ℕ, zero, suc, ◌+◌, ◌-◌, ◌*◌, ◌/◌, ◌%◌, ◌^◌, ◌<◌, ◌≤◌, min, max, nat_le, Bool, true, false, ◌&&◌, ◌==◌, List, [], ◌∷◌, ◌++◌, length, count_by, slice_get, slice_index_or, Option, Some, None, if◌then◌else◌}
 use Rattle.std.specs.List.{list_any}
 use Rattle.ladder_vars.specs.Decls.{Declared}
+use Rattle.ladder_vars.specs.declared.decls.Instance.{Instance}
+use Rattle.ladder_vars.specs.declared.kind.Pin.{Pin}
+use Rattle.ladder_grid.specs.declared.geometry.TheConstants.{RUNGS, ROWS, PLACES}
+use Rattle.ladder_grid.specs.Geometry.{place}
+use Rattle.ladder_grid.specs.Operand.{is_input_at}
+use Rattle.ladder_vars.specs.Kind.{traits_of}
+use Rattle.ladder_grid.specs.declared.cell.Operand.{Operand}
+use Rattle.ladder_grid.specs.declared.cell.Operand.TheVariants as operand
 use Rattle.ladder_grid.specs.declared.cell.Cell.{Cell}
 use Rattle.ladder_grid.specs.declared.cell.Cell.TheVariants as cell
 use Rattle.ladder_grid.specs.declared.cell.Joint.{Joint}
 use Rattle.ladder_grid.specs.declared.cell.Joint.TheVariants as joint
+use Rattle.ladder_grid.specs.declared.site.Site.{Site}
 use Rattle.ladder_grid.specs.declared.program.Step.{Step}
 
--- The declarations, the cells and whether each has a right link, and on the left of each cell its joint and the vertical
--- link from there to the row below. All four lists go by rung, column and row.
+-- The declarations, and what stands at each place: all places by rung, column and row.
 pub record Drawing : Type 0 where
   pub decls : Declared
   pub rungs : ℕ
-  pub cells : List Cell
-  pub links : List Bool
-  pub joints : List Joint
-  pub verticals : List Bool
+  pub sites : List Site
 
-abbrev pub drawing : Declared → ℕ → List Cell → List Bool → List Joint → List Bool → Drawing
-drawing decls rungs cells links joints verticals = record {
-  decls = decls;
-  rungs = rungs;
-  cells = cells;
-  links = links;
-  joints = joints;
-  verticals = verticals;
-}
+abbrev pub drawing : Declared → ℕ → List Site → Drawing
+drawing decls rungs sites = record { decls = decls; rungs = rungs; sites = sites }
 
--- where the lists have what belongs to a cell
-abbrev pub place : ℕ → ℕ → ℕ → ℕ
-place rung row column = 60 * rung + (6 * column + row)
+abbrev pub blank_site : Site
+blank_site = record { cell = cell.Empty; right_link = false; joint = joint.Blank; vertical = false }
+
+-- what stands at a place
+abbrev pub site_in : Drawing → ℕ → Site
+site_in d i = slice_index_or d.sites i blank_site
+
+abbrev pub site_at : Drawing → ℕ → ℕ → ℕ → Site
+site_at d rung row column = site_in d (place rung row column)
+
+abbrev pub cell_in : Drawing → ℕ → Cell
+cell_in d i = (site_in d i).cell
 
 -- the cell at a place of a rung
 abbrev pub cell_of : Drawing → ℕ → ℕ → Cell
-cell_of d rung at = slice_index_or d.cells (60 * rung + at) cell.Empty
+cell_of d rung at = cell_in d (PLACES * rung + at)
 
 -- Power goes from a right link into the group of a joint where the joint is `-` or `+` (IEC 61131-3, power flow).
 abbrev pub takes_power : Joint → Bool
@@ -47,14 +54,14 @@ takes_power joint.Bar = false
 -- vertical links on the left of the column join the n + 1 rows from this one on
 unfoldable pub joined : Drawing → ℕ → ℕ → ℕ → ℕ → Bool
 joined d rung column row zero = true
-joined d rung column row (suc n) = joined d rung column row n && slice_index_or d.verticals (place rung (row + n) column) false
+joined d rung column row (suc n) = joined d rung column row n && (site_at d rung (row + n) column).vertical
 
 -- The right link of the row `from` in the column before enters the group of the row's joint.
 abbrev pub feeds : Drawing → ℕ → ℕ → ℕ → ℕ → Bool
 feeds d rung row column from =
     nat_le 1 column
-    && (slice_index_or d.links (place rung from (column - 1)) false
-    && (takes_power (slice_index_or d.joints (place rung from column) joint.Blank)
+    && ((site_at d rung from (column - 1)).right_link
+    && (takes_power (site_at d rung from column).joint
     && joined d rung column (min row from) (max row from - min row from)))
 
 -- the number whose bit of weight 2 ^ i is whether f i holds, for i below n
@@ -70,10 +77,11 @@ is_empty (cell.Coil mode var memory) = false
 is_empty (cell.Block inst) = false
 is_empty (cell.Lower inst linked) = false
 is_empty (cell.Jump target) = false
+is_empty cell.Return = false
 
 -- A cell with the rows of the column before that feed it; none in the first column, where the left rail does.
 abbrev pub step_at : Drawing → ℕ → ℕ → Step
-step_at d rung at = record { row = at % 6; column = at / 6; cell = cell_of d rung at; feeds = mask (feeds d rung (at % 6) (at / 6)) 6 }
+step_at d rung at = record { row = at % ROWS; column = at / ROWS; cell = cell_of d rung at; feeds = mask (feeds d rung (at % ROWS) (at / ROWS)) ROWS }
 
 -- those of the cells before the place `at` that aren't empty
 unfoldable pub steps_before : Drawing → ℕ → ℕ → List Step
@@ -84,24 +92,30 @@ steps_before d rung (suc at) =
 
 -- One step for each cell of the rung that isn't empty, by column and row.
 unfoldable pub steps_of : Drawing → ℕ → List Step
-steps_of d rung = steps_before d rung 60
+steps_of d rung = steps_before d rung PLACES
 
-abbrev pub jump_in : Cell → ℕ → Option (ℕ × ℕ × ℕ) → Option (ℕ × ℕ × ℕ)
-jump_in cell.Empty at other = other
-jump_in cell.Wire at other = other
-jump_in (cell.Contact mode operand memory) at other = other
-jump_in (cell.Coil mode var memory) at other = other
-jump_in (cell.Block inst) at other = other
-jump_in (cell.Lower inst linked) at other = other
-jump_in (cell.Jump target) at other = Some (at % 6, at / 6, target)
+-- where a cell leads out of its rung: past the last one by a return
+abbrev pub goes_to : ℕ → Cell → Option ℕ
+goes_to rungs cell.Empty = None
+goes_to rungs cell.Wire = None
+goes_to rungs (cell.Contact mode operand memory) = None
+goes_to rungs (cell.Coil mode var memory) = None
+goes_to rungs (cell.Block inst) = None
+goes_to rungs (cell.Lower inst linked) = None
+goes_to rungs (cell.Jump target) = Some target
+goes_to rungs cell.Return = Some rungs
+
+abbrev pub jump_in : Option ℕ → ℕ → Option (ℕ × ℕ × ℕ) → Option (ℕ × ℕ × ℕ)
+jump_in None at other = other
+jump_in (Some target) at other = Some (at % ROWS, at / ROWS, target)
 
 unfoldable pub jump_before : Drawing → ℕ → ℕ → Option (ℕ × ℕ × ℕ)
 jump_before d rung zero = None
-jump_before d rung (suc at) = jump_in (cell_of d rung at) at (jump_before d rung at)
+jump_before d rung (suc at) = jump_in (goes_to d.rungs (cell_of d rung at)) at (jump_before d rung at)
 
--- The row and the column of the rung's jump, and its target. A rung has at most one.
+-- The row and the column of the rung's jump or return, and its target. A rung has at most one.
 unfoldable pub jump_of : Drawing → ℕ → Option (ℕ × ℕ × ℕ)
-jump_of d rung = jump_before d rung 60
+jump_of d rung = jump_before d rung PLACES
 
 abbrev pub memory_in : Cell → Option ℕ
 memory_in cell.Empty = None
@@ -111,6 +125,7 @@ memory_in (cell.Coil mode var memory) = memory
 memory_in (cell.Block inst) = None
 memory_in (cell.Lower inst linked) = None
 memory_in (cell.Jump target) = None
+memory_in cell.Return = None
 
 abbrev pub is_there : Option ℕ → Bool
 is_there None = false
@@ -121,7 +136,7 @@ has_memory c = is_there (memory_in c)
 
 -- how many edge contacts and edge coils there are
 abbrev pub memories_of : Drawing → ℕ
-memories_of d = count_by has_memory d.cells
+memories_of d = count_by (λ s. has_memory s.cell) d.sites
 
 abbrev pub is_coil_of : ℕ → Cell → Bool
 is_coil_of var cell.Empty = false
@@ -131,18 +146,16 @@ is_coil_of var (cell.Coil mode v memory) = v == var
 is_coil_of var (cell.Block inst) = false
 is_coil_of var (cell.Lower inst linked) = false
 is_coil_of var (cell.Jump target) = false
+is_coil_of var cell.Return = false
 
 -- whether a coil stands on the variable
 abbrev pub has_coil : ℕ → Drawing → Bool
-has_coil var d = list_any (is_coil_of var) d.cells
+has_coil var d = list_any (λ s. is_coil_of var s.cell) d.sites
 
--- Each list has sixty entries a rung.
+-- There are at most a hundred rungs, of sixty places each.
 pub record IsWhole (d : Drawing) : Type 0 where
-  pub few : d.rungs ≤ 100
-  pub cells : length d.cells ≡ 60 * d.rungs
-  pub links : length d.links ≡ 60 * d.rungs
-  pub joints : length d.joints ≡ 60 * d.rungs
-  pub verticals : length d.verticals ≡ 60 * d.rungs
+  pub few : d.rungs ≤ RUNGS
+  pub size : length d.sites ≡ PLACES * d.rungs
 
 -- What a program keeps beside its drawing is the drawing's.
 pub record IsCompiled (d : Drawing) (compiled : List (List Step)) (jumps : List (Option (ℕ × ℕ × ℕ))) (memories : ℕ)
@@ -162,12 +175,45 @@ block_in (cell.Coil mode var memory) = None
 block_in (cell.Block inst) = Some inst
 block_in (cell.Lower inst linked) = None
 block_in (cell.Jump target) = None
+block_in cell.Return = None
 
--- What the rules of a drawing make sure of, and a scan rests on: each memory and each instance belongs to one cell, and a jump goes to
--- a later rung.
+abbrev pub OperandFits : Declared → Operand → Type 0
+OperandFits decls (operand.Var number) = number < length decls.vars
+OperandFits decls (operand.Output number) = number < length decls.instances
+
+-- The numbers that a cell has are those of declarations, and no coil writes an input.
+abbrev pub Fits : Declared → Cell → Type 0
+Fits decls cell.Empty = Unit {0}
+Fits decls cell.Wire = Unit {0}
+Fits decls (cell.Contact mode operand memory) = OperandFits decls operand
+Fits decls (cell.Coil mode var memory) = (var < length decls.vars) × (is_input_at (slice_get decls.vars var) ≡ false)
+Fits decls (cell.Block inst) = inst < length decls.instances
+Fits decls (cell.Lower inst linked) = inst < length decls.instances
+Fits decls (cell.Jump target) = Unit {0}
+Fits decls cell.Return = Unit {0}
+
+abbrev pub is_pin : Option Pin → Bool
+is_pin None = false
+is_pin (Some p) = true
+
+-- an instance with a second input
+abbrev pub has_second : Option Instance → Bool
+has_second None = false
+has_second (Some i) = is_pin (traits_of i.kind).second_input
+
+-- What the rules of a drawing make sure of, and a scan rests on: each memory and each instance belongs to one cell; a rung has
+-- one jump, to a later rung or past the last one; a lower cell stands under its block.
 pub record IsWellFormed (d : Drawing) : Type 0 where
-  pub one_memory : (number i j : ℕ) → memory_in (slice_index_or d.cells i cell.Empty) ≡ Some number
-      → memory_in (slice_index_or d.cells j cell.Empty) ≡ Some number → i ≡ j
-  pub one_block : (number i j : ℕ) → block_in (slice_index_or d.cells i cell.Empty) ≡ Some number
-      → block_in (slice_index_or d.cells j cell.Empty) ≡ Some number → i ≡ j
-  pub jumps_down : (i target : ℕ) → slice_index_or d.cells i cell.Empty ≡ cell.Jump target → i / 60 < target
+  pub one_memory : (number i j : ℕ) → memory_in (cell_in d i) ≡ Some number
+      → memory_in (cell_in d j) ≡ Some number → i ≡ j
+  pub memories_below : (number i : ℕ) → memory_in (cell_in d i) ≡ Some number → number < memories_of d
+  pub one_block : (number i j : ℕ) → block_in (cell_in d i) ≡ Some number
+      → block_in (cell_in d j) ≡ Some number → i ≡ j
+  pub one_jump : (rung i j s t : ℕ) → i < PLACES → j < PLACES → goes_to d.rungs (cell_of d rung i) ≡ Some s
+      → goes_to d.rungs (cell_of d rung j) ≡ Some t → i ≡ j
+  pub jumps_down : (rung i target : ℕ) → i < PLACES → goes_to d.rungs (cell_of d rung i) ≡ Some target → (rung < target) × (target ≤ d.rungs)
+  pub under_block : (i inst : ℕ) (linked : Bool) → cell_in d i ≡ cell.Lower inst linked
+      → (1 ≤ i % ROWS) × (cell_in d (i - 1) ≡ cell.Block inst)
+  pub fits : (i : ℕ) → Fits d.decls (cell_in d i)
+  pub has_lower : (i inst : ℕ) → cell_in d i ≡ cell.Block inst → has_second (slice_get d.decls.instances inst) ≡ true
+      → (linked : Bool) × (i % ROWS + 1 < ROWS) × (cell_in d (i + 1) ≡ cell.Lower inst linked)

@@ -1,21 +1,30 @@
--- The rules of the cells, joints and names of one rung (the profile): what each asks of a place. A place is a row r, its
+-- The rules of the cells, joints and names of a page (the profile): what each asks of a place. A place is a rung k, a row r, its
 -- name line (h = 0) or its wire line (h = 1), and a column c; column 10 stands for the right rail.
-use Rattle.std.specs.Prelude.{◌≡◌, ℕ, ◌+◌, ◌-◌, ◌*◌, ◌<◌, nat_lt, nat_le, Bool, true, false, not, ◌&&◌, ◌||◌, ◌==◌, List, Option, Some, None}
+use Rattle.std.specs.Prelude.{◌≡◌, ℕ, ◌+◌, ◌-◌, ◌*◌, ◌<◌, ◌≤◌, nat_lt, nat_le, Bool, true, false, not, ◌&&◌, ◌||◌, ◌==◌, List, Option, Some, None, if◌then◌else◌}
 use Rattle.std.specs.List.{list_any}
-use Rattle.ladder_vars.specs.Decls.{Declared}
+use Rattle.ladder_vars.specs.Kind.{traits_of}
+use Rattle.ladder_grid.specs.declared.geometry.TheConstants.{ROWS, COLUMNS, PITCH, RAIL}
 use Rattle.ladder_grid.specs.Bytes.{space, dash, plus, bar}
+use Rattle.ladder_vars.specs.declared.kind.Pin.{Pin}
+use Rattle.ladder_vars.specs.declared.kind.Pin.TheVariants as pin
 use Rattle.ladder_grid.specs.declared.form.Form.{Form}
-use Rattle.ladder_grid.specs.declared.form.Form.TheVariants.{Empty, Wire, Contact, Coil, Block, Lower}
+use Rattle.ladder_grid.specs.declared.form.Form.TheVariants.{Contact, Coil, Block, Lower, Jump, Return}
 use Rattle.ladder_grid.specs.declared.fault.GridRule.{GridRule}
 use Rattle.ladder_grid.specs.declared.fault.GridRule.TheVariants as rule
 use Rattle.ladder_grid.specs.declared.operand.Reference.{Reference}
-use Rattle.ladder_grid.specs.Operand.{word_in, refer_to, is_odd}
-use Rattle.ladder_grid.specs.Picture.{Lines, ch, text_over, form_of, joint, right_link, IsUnfed}
-use Rattle.ladder_grid.specs.StandIns.{is_form_taken, is_name_taken}
+use Rattle.ladder_grid.specs.Operand.{is_odd}
+use Rattle.ladder_grid.specs.Picture.{Lines, ch, text_over, joint}
+use Rattle.ladder_grid.specs.Feeding.{right_link, IsUnfed}
+use Rattle.ladder_grid.specs.Page.{Page, rung_at, form_at, name_over, instance_at}
+use Rattle.ladder_grid.specs.Geometry.{reading_place}
+
+abbrev pub is_form : Option Form → Bool
+is_form None = false
+is_form (Some form) = true
 
 -- G3: the cell has none of the forms.
-abbrev pub bad_cell : Lines → ℕ → ℕ → ℕ → Bool
-bad_cell rung r h c = h == 1 && (nat_lt c 10 && not (is_form_taken (form_of rung r c)))
+abbrev pub bad_cell : Page → ℕ → ℕ → ℕ → ℕ → Bool
+bad_cell page k r h c = h == 1 && (nat_lt c COLUMNS && not (is_form (form_at page k r c)))
 
 -- on a name line a joint's place has a space or a bar
 abbrev pub bad_name_joint : ℕ → Bool
@@ -30,12 +39,13 @@ abbrev pub bad_rail : ℕ → Bool
 bad_rail b = not (b == space || (b == plus || b == bar))
 
 -- G4: the character at a joint's place or at the right rail isn't allowed there, or doesn't fit the cells beside it.
-abbrev pub bad_joint : Lines → ℕ → ℕ → ℕ → Bool
-bad_joint rung r h c =
-    (c == 10 && bad_rail (ch rung (2 * r + h) 120))
-    || ((nat_le 1 c && nat_lt c 10)
-    && ((h == 0 && bad_name_joint (ch rung (2 * r) (12 * c)))
-    || (h == 1 && bad_wire_joint (joint rung r c) (right_link rung r (c - 1)) (ch rung (2 * r + 1) (12 * c + 1)))))
+abbrev pub bad_joint : Page → ℕ → ℕ → ℕ → ℕ → Bool
+bad_joint page k r h c =
+    (c == COLUMNS && bad_rail (ch (rung_at page k) (2 * r + h) RAIL))
+    || ((nat_le 1 c && nat_lt c COLUMNS)
+    && ((h == 0 && bad_name_joint (ch (rung_at page k) (2 * r) (PITCH * c)))
+    || (h == 1
+    && bad_wire_joint (joint (rung_at page k) r c) (right_link page k r (c - 1)) (ch (rung_at page k) (2 * r + 1) (PITCH * c + 1)))))
 
 abbrev pub is_branch : ℕ → Bool
 is_branch b = b == plus || b == bar
@@ -44,66 +54,132 @@ is_branch b = b == plus || b == bar
 abbrev pub bad_vertical : Lines → ℕ → ℕ → ℕ → Bool
 bad_vertical rung r h c =
     h == 0
-    && ((nat_le 1 c && nat_lt c 10)
-    && (ch rung (2 * r) (12 * c) == bar && (r == 0 || (not (is_branch (joint rung (r - 1) c)) || not (is_branch (joint rung r c))))))
+    && ((nat_le 1 c && nat_lt c COLUMNS)
+    && (ch rung (2 * r) (PITCH * c) == bar && (r == 0 || (not (is_branch (joint rung (r - 1) c)) || not (is_branch (joint rung r c))))))
 
 -- the forms that have a name over them
 abbrev pub wants_name : Option Form → Bool
-wants_name None = false
-wants_name (Some Empty) = false
-wants_name (Some Wire) = false
 wants_name (Some (Contact mode)) = true
 wants_name (Some (Coil mode)) = true
-wants_name (Some (Block kind)) = true
-wants_name (Some (Lower kind linked)) = false
+wants_name (Some (Block k)) = true
+wants_name form = false
 
 abbrev pub has_text : List ℕ → Bool
 has_text chars = list_any (λ b. not (b == space)) chars
 
 -- G7: no name over a contact, a coil or a block.
-abbrev pub name_missing : Lines → ℕ → ℕ → ℕ → Bool
-name_missing rung r h c = h == 0 && (nat_lt c 10 && (wants_name (form_of rung r c) && not (has_text (text_over rung r c))))
+abbrev pub name_missing : Page → ℕ → ℕ → ℕ → ℕ → Bool
+name_missing page k r h c = h == 0 && (nat_lt c COLUMNS && (wants_name (form_at page k r c) && not (has_text (text_over (rung_at page k) r c))))
 
 -- G8: a text over another cell.
-abbrev pub name_without : Lines → ℕ → ℕ → ℕ → Bool
-name_without rung r h c = h == 0 && (nat_lt c 10 && (not (wants_name (form_of rung r c)) && has_text (text_over rung r c)))
+abbrev pub name_without : Page → ℕ → ℕ → ℕ → ℕ → Bool
+name_without page k r h c = h == 0 && (nat_lt c COLUMNS && (not (wants_name (form_at page k r c)) && has_text (text_over (rung_at page k) r c)))
 
--- what the text over a cell stands for
-abbrev pub reference_over : Declared → Lines → ℕ → ℕ → Option Reference
-reference_over decls rung r c = refer_to decls (word_in (text_over rung r c))
+abbrev pub is_known : Option Reference → Bool
+is_known None = false
+is_known (Some name) = true
 
 -- G9: the text over the cell is no declared name.
-abbrev pub undeclared : Declared → Lines → ℕ → ℕ → ℕ → Bool
-undeclared decls rung r h c =
-    h == 0 && (nat_lt c 10 && (wants_name (form_of rung r c) && not (is_name_taken (reference_over decls rung r c))))
+abbrev pub undeclared : Page → ℕ → ℕ → ℕ → ℕ → Bool
+undeclared page k r h c = h == 0 && (nat_lt c COLUMNS && (wants_name (form_at page k r c) && not (is_known (name_over page k r c))))
 
 -- G10: the name is none that the symbol may have.
-abbrev pub wrong_kind : Declared → Lines → ℕ → ℕ → ℕ → Bool
-wrong_kind decls rung r h c = h == 0 && (nat_lt c 10 && is_odd decls (form_of rung r c) (reference_over decls rung r c))
+abbrev pub wrong_kind : Page → ℕ → ℕ → ℕ → ℕ → Bool
+wrong_kind page k r h c = h == 0 && (nat_lt c COLUMNS && is_odd page.decls (form_at page k r c) (name_over page k r c))
+
+abbrev pub same_pin : Pin → Pin → Bool
+same_pin pin.Reset pin.Reset = true
+same_pin pin.Load pin.Load = true
+same_pin pin.Reset1 pin.Reset1 = true
+same_pin a b = false
+
+-- it is the lower cell of this input, if there is one
+abbrev pub is_lower_for : Option Pin → Option Form → Bool
+is_lower_for (Some p) (Some (Lower q linked)) = same_pin p q
+is_lower_for _ _ = false
+
+abbrev pub takes_second : Pin → Option Pin → Bool
+takes_second q None = false
+takes_second q (Some p) = same_pin p q
+
+abbrev pub is_block_for : Pin → Option Form → Bool
+is_block_for q (Some (Block k)) = takes_second q (traits_of k).second_input
+is_block_for q form = false
+
+abbrev pub lacks_lower : Option Pin → Option Form → Bool
+lacks_lower None below = false
+lacks_lower (Some p) below = not (is_lower_for (Some p) below)
+
+-- with these forms above and below it
+abbrev pub is_apart : Option Form → Option Form → Option Form → Bool
+is_apart above (Some (Block k)) below = lacks_lower (traits_of k).second_input below
+is_apart above (Some (Lower q linked)) below = not (is_block_for q above)
+is_apart above form below = false
+
+abbrev pub form_above : Page → ℕ → ℕ → ℕ → Option Form
+form_above page k r c = if r == 0 then None else form_at page k (r - 1) c
+
+abbrev pub form_below : Page → ℕ → ℕ → ℕ → Option Form
+form_below page k r c = if r + 1 == ROWS then None else form_at page k (r + 1) c
+
+-- G11: a block with a second input lacks its lower cell in the next row, or a lower cell its block above.
+abbrev pub bad_block : Page → ℕ → ℕ → ℕ → ℕ → Bool
+bad_block page k r h c = h == 1 && (nat_lt c COLUMNS && is_apart (form_above page k r c) (form_at page k r c) (form_below page k r c))
+
+-- G12: the block's instance was drawn at an earlier place, of this rung or of one before.
+pub record IsDrawnBefore (page : Page) (inst k r c : ℕ) : Type 0 where
+  pub rung : ℕ
+  pub row : ℕ
+  pub column : ℕ
+  pub in_rung : row < ROWS
+  pub in_row : column < COLUMNS
+  pub earlier : reading_place rung row column < reading_place k r c
+  pub drawn : instance_at page rung row column ≡ Some inst
+
+abbrev pub IsDrawnTwice : Page → ℕ → ℕ → ℕ → Type 0
+IsDrawnTwice page k r c = (inst : ℕ) × (instance_at page k r c ≡ Some inst) × IsDrawnBefore page inst k r c
+
+abbrev pub leaps : Option Form → Bool
+leaps (Some (Jump label)) = true
+leaps (Some Return) = true
+leaps form = false
+
+-- G14: a jump or a return stands before in the rung.
+pub record IsSecondJump (page : Page) (k r c : ℕ) : Type 0 where
+  pub row : ℕ
+  pub column : ℕ
+  pub in_rung : row < ROWS
+  pub in_row : column < COLUMNS
+  pub earlier : COLUMNS * row + column < COLUMNS * r + c
+  pub this : leaps (form_at page k r c) ≡ true
+  pub other : leaps (form_at page k row column) ≡ true
 
 -- The rule is broken at the place. Only these rules speak of places.
-abbrev pub BreaksAt : GridRule → Declared → Lines → ℕ → ℕ → ℕ → Type 0
-BreaksAt rule.BadCell decls rung r h c = bad_cell rung r h c ≡ true
-BreaksAt rule.BadJoint decls rung r h c = bad_joint rung r h c ≡ true
-BreaksAt rule.BrokenVertical decls rung r h c = bad_vertical rung r h c ≡ true
-BreaksAt rule.Unfed decls rung r h c = (h ≡ 1) × (c < 10) × IsUnfed rung r c
-BreaksAt rule.NameMissing decls rung r h c = name_missing rung r h c ≡ true
-BreaksAt rule.NameWithoutSymbol decls rung r h c = name_without rung r h c ≡ true
-BreaksAt rule.Undeclared decls rung r h c = undeclared decls rung r h c ≡ true
-BreaksAt rule.WrongKind decls rung r h c = wrong_kind decls rung r h c ≡ true
-BreaksAt other decls rung r h c = ⊥
+abbrev pub BreaksAt : GridRule → Page → ℕ → ℕ → ℕ → ℕ → Type 0
+BreaksAt rule.BadCell page k r h c = bad_cell page k r h c ≡ true
+BreaksAt rule.BadJoint page k r h c = bad_joint page k r h c ≡ true
+BreaksAt rule.BrokenVertical page k r h c = bad_vertical (rung_at page k) r h c ≡ true
+BreaksAt rule.Unfed page k r h c = (h ≡ 1) × (c < COLUMNS) × IsUnfed page k r c
+BreaksAt rule.NameMissing page k r h c = name_missing page k r h c ≡ true
+BreaksAt rule.NameWithoutSymbol page k r h c = name_without page k r h c ≡ true
+BreaksAt rule.Undeclared page k r h c = undeclared page k r h c ≡ true
+BreaksAt rule.WrongKind page k r h c = wrong_kind page k r h c ≡ true
+BreaksAt rule.BlockShape page k r h c = bad_block page k r h c ≡ true
+BreaksAt rule.DrawnTwice page k r h c = (h ≡ 0) × (c < COLUMNS) × IsDrawnTwice page k r c
+BreaksAt rule.TwoJumps page k r h c = (h ≡ 1) × (c < COLUMNS) × IsSecondJump page k r c
+BreaksAt other page k r h c = ⊥
 
 -- The rule is broken on this line of the rung.
-pub record IsBrokenOn (rule : GridRule) (decls : Declared) (rung : Lines) (line : ℕ) : Type 0 where
+pub record IsBrokenOn (rule : GridRule) (page : Page) (rung line : ℕ) : Type 0 where
   pub row : ℕ
   pub half : ℕ
   pub column : ℕ
-  pub in_rung : row < 6
+  pub in_rung : row < ROWS
   pub in_row : half < 2
-  pub in_columns : column < 11
+  pub in_columns : column ≤ COLUMNS
   pub on : line ≡ 2 * row + half
-  pub breaks : BreaksAt rule decls rung row half column
+  pub breaks : BreaksAt rule page rung row half column
 
--- The rule is broken nowhere.
-abbrev pub IsKept : Declared → Lines → GridRule → Type 0
-IsKept decls rung rule = (r h c : ℕ) → r < 6 → h < 2 → c < 11 → BreaksAt rule decls rung r h c → ⊥
+-- The rule is broken nowhere in the rung.
+abbrev pub IsKept : Page → ℕ → GridRule → Type 0
+IsKept page k rule = (r h c : ℕ) → r < ROWS → h < 2 → c ≤ COLUMNS → BreaksAt rule page k r h c → ⊥

@@ -1,13 +1,14 @@
 ghost use Rattle.std.specs.Prelude.{◌≡◌, ◌==◌, map};
 ghost use Rattle.std.specs.List.{list_all};
 ghost use Rattle.std.specs.Str.{bytes_eq};
-ghost use Rattle.ladder_grid.specs.ReadForm.{lookup, after_dashes, is_filler, symbol_at, marked_at, form_at};
+ghost use Rattle.ladder_grid.specs.ReadForm.{lookup, after_dashes, is_filler, symbol_at, label_at, behind_label, label_named, jump_with, jump_to, jump_at, return_at, mark_at, marked_at, form_at};
 
 use crate::cell::{CoilMode, Mode};
-use ladder_vars::BlockKind;
+use crate::gap::word_len;
+use ladder_vars::{BlockKind, Name, Pin};
 
 /// What the eleven characters of a cell are, before the name over it is looked up.
-#[derive(Clone, Copy, Debug, PartialEq, Eq)]
+#[derive(Clone, Copy)]
 pub(crate) enum Form {
     Empty,
     Wire,
@@ -15,12 +16,16 @@ pub(crate) enum Form {
     Coil(CoilMode),
     /// The upper cell of a block of this kind.
     Block(BlockKind),
-    /// The cell under a block of this kind, with or without a left link.
-    Lower(BlockKind, bool),
+    /// The cell under a block with this input, with or without a left link.
+    Lower(Pin, bool),
+    /// A jump to the rung with this label.
+    Jump(Name),
+    /// A jump past the last rung.
+    Return,
 }
 
 /// The cells that are spelled in one way.
-const WHOLE_CELLS: [(&[u8], Form); 11] = [
+const WHOLE_CELLS: [(&[u8], Form); 15] = [
     (b"           ", Form::Empty),
     (b"-----------", Form::Wire),
     (b"-|IN TON Q|", Form::Block(BlockKind::Ton)),
@@ -28,10 +33,14 @@ const WHOLE_CELLS: [(&[u8], Form); 11] = [
     (b"-|IN TP  Q|", Form::Block(BlockKind::Tp)),
     (b"-|CU CTU Q|", Form::Block(BlockKind::Ctu)),
     (b"-|CD CTD Q|", Form::Block(BlockKind::Ctd)),
-    (b"-|R       |", Form::Lower(BlockKind::Ctu, true)),
-    (b" |R       |", Form::Lower(BlockKind::Ctu, false)),
-    (b"-|LD      |", Form::Lower(BlockKind::Ctd, true)),
-    (b" |LD      |", Form::Lower(BlockKind::Ctd, false)),
+    (b"-|S1 SR Q1|", Form::Block(BlockKind::Sr)),
+    (b"-|S  RS Q1|", Form::Block(BlockKind::Rs)),
+    (b"-|R       |", Form::Lower(Pin::Reset, true)),
+    (b" |R       |", Form::Lower(Pin::Reset, false)),
+    (b"-|LD      |", Form::Lower(Pin::Load, true)),
+    (b" |LD      |", Form::Lower(Pin::Load, false)),
+    (b"-|R1      |", Form::Lower(Pin::Reset1, true)),
+    (b" |R1      |", Form::Lower(Pin::Reset1, false)),
 ];
 
 /// The symbols that stand on a wire.
@@ -109,6 +118,81 @@ fn symbol_at(chars: &[u8]) -> Option<Form>
     }
 }
 
+#[tactic(auto, unfolding(crate::specs::ReadForm::label_at))]
+fn label_at(text: &[u8]) -> &[u8]
+    ensures { result.now ≡ label_at text.now }
+{
+    &text[..word_len(text)]
+}
+
+#[tactic(auto, unfolding(crate::specs::ReadForm::behind_label))]
+fn behind_label(text: &[u8]) -> &[u8]
+    ensures { result.now ≡ behind_label text.now }
+{
+    &text[word_len(text)..]
+}
+
+fn label_named(word: &[u8]) -> Option<Name>
+    ensures { result ≡ label_named word.now }
+{
+    if word.len() <= 8 {
+        Name::new(word)
+    } else {
+        None
+    }
+}
+
+fn jump_with(label: Option<Name>) -> Option<Form>
+    ensures { result ≡ jump_with label }
+{
+    match label {
+        Some(label) => Some(Form::Jump(label)),
+        None => None,
+    }
+}
+
+/// A jump to the label at the front, where spaces alone stand behind it.
+fn jump_to(text: &[u8]) -> Option<Form>
+    ensures { result ≡ jump_to text.now }
+{
+    if all_are(b' ', behind_label(text)) {
+        jump_with(label_named(label_at(text)))
+    } else {
+        None
+    }
+}
+
+fn jump_at(text: &[u8]) -> Option<Form>
+    ensures { result ≡ jump_at text.now }
+{
+    match text {
+        [] | [_] => None,
+        [_, b, rest @ ..] => { if *b == b'>' { jump_to(rest) } else { None } }
+    }
+}
+
+#[tactic(auto, unfolding(crate::specs::ReadForm::return_at))]
+fn return_at(text: &[u8]) -> Option<Form>
+    ensures { result ≡ return_at text.now }
+{
+    let end = text.len().min(8);
+    if same_bytes(b"<RETURN>", &text[..end]) && all_are(b' ', &text[end..]) {
+        Some(Form::Return)
+    } else {
+        None
+    }
+}
+
+fn mark_at(text: &[u8]) -> Option<Form>
+    ensures { result ≡ mark_at text.now }
+{
+    match text {
+        [b'>', ..] => jump_at(text),
+        [b'<', ..] => return_at(text),
+        _ => symbol_at(text),
+    }
+}
+
 #[tactic(auto, unfolding(crate::specs::ReadForm::marked_at))]
 fn marked_at(chars: &[u8]) -> Option<Form>
     ensures { result ≡ marked_at chars.now }
@@ -117,7 +201,7 @@ fn marked_at(chars: &[u8]) -> Option<Form>
     if rest.len() == chars.len() {
         None
     } else {
-        symbol_at(rest)
+        mark_at(rest)
     }
 }
 

@@ -1,14 +1,15 @@
-ghost use Rattle.std.specs.Prelude.{◌≡◌, ◌≤◌, length};
-ghost use Rattle.ladder_grid.specs.Operand.{after_spaces, text_len, word_in, has_q, named, refer_to, same_kind, is_odd_on_contact, is_odd_on_coil, is_odd_on_block, is_odd};
+ghost use Rattle.std.specs.Prelude.{◌≡◌, ◌≤◌, ◌-◌, length, drop, slice_get};
+ghost use Rattle.ladder_vars.specs.Name.{same_letters};
+ghost use Rattle.ladder_grid.specs.Operand.{after_spaces, text_len, word_in, ends_in, without_end, named, referred, refer_to, same_kind, same_output, gives_output, is_odd_on_contact, is_odd_on_coil, is_odd_on_block, is_odd, instance_of};
 
 use crate::form::Form;
-use ladder_vars::{BlockKind, Decls, Name, Symbol, VarKind};
+use ladder_vars::{BlockKind, Decls, Name, Output, Symbol, VarKind};
 
-/// A declared name, with `.Q` or without it.
+/// A declared name, with `.Q` or `.Q1` or without them.
 #[derive(Clone, Copy, Debug, PartialEq, Eq)]
 pub(crate) struct Reference {
     pub symbol: Symbol,
-    pub output: bool,
+    pub output: Option<Output>,
 }
 
 fn after_spaces(mut chars: &[u8]) -> &[u8]
@@ -45,14 +46,31 @@ pub(crate) fn word_in(chars: &[u8]) -> &[u8]
     &text[..text_len(text)]
 }
 
-fn has_q(word: &[u8]) -> bool
-    ensures { result ≡ has_q word.now }
+fn same_letters(a: &[u8], b: &[u8]) -> bool
+    ensures { result ≡ same_letters a.now b.now }
 {
-    if word.len() < 2 {
-        return false;
-    }
-    let last = word[word.len() - 1];
-    word[word.len() - 2] == b'.' && (last == b'Q' || last == b'q')
+    a.eq_ignore_ascii_case(b)
+}
+
+/// So many characters at the end of the word.
+fn end_of(n: usize, word: &[u8]) -> &[u8]
+    ensures { result.now ≡ drop (length word.now - n) word.now }
+{
+    &word[word.len().saturating_sub(n)..]
+}
+
+/// Whether the word ends so, in any letter case.
+fn ends_in(suffix: &[u8], word: &[u8]) -> bool
+    ensures { result ≡ ends_in suffix.now word.now }
+{
+    suffix.len() <= word.len() && same_letters(end_of(suffix.len(), word), suffix)
+}
+
+/// The word without so many characters at its end.
+fn without_end(n: usize, word: &[u8]) -> &[u8]
+    ensures { result.now ≡ without_end n word.now }
+{
+    &word[..word.len().saturating_sub(n)]
 }
 
 fn named(decls: &Decls, word: &[u8]) -> Option<Symbol>
@@ -64,20 +82,26 @@ fn named(decls: &Decls, word: &[u8]) -> Option<Symbol>
     }
 }
 
+fn referred(output: Option<Output>, symbol: Option<Symbol>) -> Option<Reference>
+    ensures { result ≡ referred output symbol }
+{
+    match symbol {
+        Some(symbol) => Some(Reference { symbol, output }),
+        None => None,
+    }
+}
+
 /// What a word stands for.
 #[tactic(auto, unfolding(crate::specs::Operand::refer_to))]
 pub(crate) fn refer_to(decls: &Decls, word: &[u8]) -> Option<Reference>
     ensures { result ≡ refer_to decls.now word.now }
 {
-    let output = has_q(word);
-    let spelling = if output {
-        &word[..word.len() - 2]
+    if ends_in(b".Q", word) {
+        referred(Some(Output::Q), named(decls, without_end(2, word)))
+    } else if ends_in(b".Q1", word) {
+        referred(Some(Output::Q1), named(decls, without_end(3, word)))
     } else {
-        word
-    };
-    match named(decls, spelling) {
-        Some(symbol) => Some(Reference { symbol, output }),
-        None => None,
+        referred(None, named(decls, word))
     }
 }
 
@@ -90,25 +114,45 @@ fn same_kind(a: BlockKind, b: BlockKind) -> bool
         (BlockKind::Tp, BlockKind::Tp) => true,
         (BlockKind::Ctu, BlockKind::Ctu) => true,
         (BlockKind::Ctd, BlockKind::Ctd) => true,
+        (BlockKind::Sr, BlockKind::Sr) => true,
+        (BlockKind::Rs, BlockKind::Rs) => true,
         _ => false,
     }
 }
 
-fn is_odd_on_contact(symbol: Symbol, output: bool) -> bool
-    ensures { result ≡ is_odd_on_contact symbol output }
+fn same_output(a: Output, b: Output) -> bool
+    ensures { result ≡ same_output a b }
 {
-    match symbol {
-        Symbol::Var(_) => output,
-        Symbol::Instance(_) => !output,
+    match (a, b) {
+        (Output::Q, Output::Q) | (Output::Q1, Output::Q1) => true,
+        (Output::Q, Output::Q1) | (Output::Q1, Output::Q) => false,
     }
 }
 
-fn is_odd_on_coil(decls: &Decls, symbol: Symbol, output: bool) -> bool
+fn gives_output(decls: &Decls, i: usize, output: Option<Output>) -> bool
+    ensures { result ≡ gives_output (slice_get decls.now.instances i) output }
+{
+    match (decls.instances().get(i), output) {
+        (Some(instance), Some(output)) => same_output(output, instance.kind.traits().output),
+        _ => false,
+    }
+}
+
+fn is_odd_on_contact(decls: &Decls, symbol: Symbol, output: Option<Output>) -> bool
+    ensures { result ≡ is_odd_on_contact decls.now symbol output }
+{
+    match symbol {
+        Symbol::Var(_) => output.is_some(),
+        Symbol::Instance(i) => !gives_output(decls, i, output),
+    }
+}
+
+fn is_odd_on_coil(decls: &Decls, symbol: Symbol, output: Option<Output>) -> bool
     ensures { result ≡ is_odd_on_coil decls.now symbol output }
 {
     match symbol {
         Symbol::Var(i) => {
-            if output {
+            if output.is_some() {
                 return true;
             }
             match decls.vars().get(i) {
@@ -120,13 +164,13 @@ fn is_odd_on_coil(decls: &Decls, symbol: Symbol, output: bool) -> bool
     }
 }
 
-fn is_odd_on_block(decls: &Decls, kind: BlockKind, symbol: Symbol, output: bool) -> bool
+fn is_odd_on_block(decls: &Decls, kind: BlockKind, symbol: Symbol, output: Option<Output>) -> bool
     ensures { result ≡ is_odd_on_block decls.now kind symbol output }
 {
     match symbol {
         Symbol::Var(_) => true,
         Symbol::Instance(i) => {
-            if output {
+            if output.is_some() {
                 return true;
             }
             match decls.instances().get(i) {
@@ -142,9 +186,19 @@ pub(crate) fn is_odd(decls: &Decls, form: Option<Form>, name: Option<Reference>)
     ensures { result ≡ is_odd decls.now form name }
 {
     match (form, name) {
-        (Some(Form::Contact(_)), Some(x)) => is_odd_on_contact(x.symbol, x.output),
+        (Some(Form::Contact(_)), Some(x)) => is_odd_on_contact(decls, x.symbol, x.output),
         (Some(Form::Coil(_)), Some(x)) => is_odd_on_coil(decls, x.symbol, x.output),
         (Some(Form::Block(kind)), Some(x)) => is_odd_on_block(decls, kind, x.symbol, x.output),
         _ => false,
+    }
+}
+
+/// The instance that a symbol is.
+pub(crate) fn instance_of(symbol: Symbol) -> Option<usize>
+    ensures { result ≡ instance_of symbol }
+{
+    match symbol {
+        Symbol::Var(_) => None,
+        Symbol::Instance(i) => Some(i),
     }
 }

@@ -3,7 +3,7 @@ use Rattle.std.proofs.Common.{◌≡◌, ℕ, ◌+◌, ◌*◌, ◌/◌, ◌%◌
 use Rattle.std.proofs.lemmas.List.Elements.{All-append, All-nil}
 use Rattle.std.proofs.lemmas.Grind.{common_steps}
 use Rattle.ladder_grid.specs.declared.cell.Cell.{Cell}
-use Rattle.ladder_grid.specs.declared.cell.Cell.TheVariants.{Empty, Wire, Contact, Coil, Block, Lower, Jump}
+use Rattle.ladder_grid.specs.declared.cell.Cell.TheVariants.{Empty, Wire, Contact, Coil, Block, Lower, Jump, Return}
 use Rattle.ladder_grid.specs.declared.program.Step.{Step}
 use Rattle.ladder_grid.specs.Program.{Drawing, steps_of}
 use Rattle.ladder_scan.specs.declared.block.Stored.{Stored}
@@ -11,7 +11,8 @@ use Rattle.ladder_scan.specs.Algebra.{Algebra}
 use Rattle.ladder_scan.specs.Truth.{plain}
 use Rattle.ladder_scan.specs.Blocks.{q_of}
 use Rattle.ladder_scan.specs.Routes.{gather}
-use Rattle.ladder_scan.specs.Cells.{Diagram, Frame, Kept, put_in, var_in, block_in, memory_in}
+use Rattle.ladder_grid.specs.Program.{block_in, memory_in}
+use Rattle.ladder_scan.specs.Cells.{Diagram, Frame, Kept, put_in, var_in}
 use Rattle.ladder_scan.specs.Rung.{written, changed, effects, changes, Held, link, second, lower, after_rung, frame_of, link_at, evaluated}
 use Rattle.ladder_scan.specs.Programs.{diagram_of, is_filled, IsSound}
 use Rattle.ladder_scan.specs.Sweeping.{frame, kept, held, among, step_for, steps_below, effects_of, changes_of, AreLinks}
@@ -46,6 +47,7 @@ is_empty (Coil mode var memory) h = cc
 is_empty (Block inst) h = cc
 is_empty (Lower inst linked) h = cc
 is_empty (Jump target) h = cc
+is_empty Return h = cc
 
 abbrev the_held : List Bool → Kept → Held
 the_held v k = record { values = v; kept = k }

@@ -3,7 +3,7 @@ use Rattle.std.proofs.Common.{◌≡◌, ℕ, ◌+◌, ◌*◌, ◌/◌, ◌%◌
 use Rattle.std.proofs.lemmas.Bool.Decides.{nat_tests}
 use Rattle.std.proofs.lemmas.Grind.{common_steps}
 use Rattle.ladder_grid.specs.declared.cell.Cell.{Cell}
-use Rattle.ladder_grid.specs.declared.cell.Cell.TheVariants.{Empty, Wire, Contact, Coil, Block, Lower, Jump}
+use Rattle.ladder_grid.specs.declared.cell.Cell.TheVariants.{Empty}
 use Rattle.ladder_grid.specs.declared.program.Step.{Step}
 use Rattle.ladder_grid.specs.Program.{Drawing, feeds, mask, is_empty, cell_of, step_at, steps_before, steps_of}
 use Rattle.ladder_scan.specs.Routes.{gather}
@@ -102,15 +102,6 @@ in_rung place h = grind (arith, nat_tests)
 pub cell_is : (p : Drawing) (rung place : ℕ) → place < 60 → cell_at p rung place ≡ cell_of p rung place
 cell_is p rung place h = ap (λ b. cond b (cell_of p rung place) Empty) (in_rung place h)
 
-filled_is : (c : Cell) → is_filled c ≡ not (is_empty c)
-filled_is Empty = refl
-filled_is Wire = refl
-filled_is (Contact mode operand memory) = refl
-filled_is (Coil mode var memory) = refl
-filled_is (Block inst) = refl
-filled_is (Lower inst linked) = refl
-filled_is (Jump target) = refl
-
 abbrev the_step : Drawing → ℕ → ℕ → Cell → Step
 the_step p rung place c = record { row = place % 6; column = place / 6; cell = c; feeds = masks_of p rung place }
 
@@ -124,7 +115,7 @@ steps_upto p rung zero h = refl
 steps_upto p rung (suc n) h =
     one_more (is_empty (cell_of p rung n)) _ _ (step_at p rung n) (the_step p rung n (cell_at p rung n)) (steps_upto p rung n (omega arith)) (ap (the_step p rung n) (sym (cell_is p rung n (omega arith))))
     ∙ ap (λ b. steps_below (diagram_of p) rung (masks_of p rung) n ++ cond b (the_step p rung n (cell_at p rung n) ∷ []) [])
-    (sym (filled_is (cell_of p rung n)) ∙ ap is_filled (sym (cell_is p rung n (omega arith))))
+    (ap is_filled (sym (cell_is p rung n (omega arith))))
 
 pub steps_are : (p : Drawing) (rung : ℕ) → steps_of p rung ≡ steps_below (diagram_of p) rung (masks_of p rung) 60
 unfolding steps_of

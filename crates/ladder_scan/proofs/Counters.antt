@@ -3,9 +3,9 @@ use Rattle.std.proofs.Common.{◌≡◌, ℕ, ◌+◌, min, Bool, true, false, n
 use Rattle.std.specs.Int.{int_max}
 use Rattle.std.proofs.lemmas.Bool.Decides.{nat_tests}
 use Rattle.std.proofs.lemmas.Int.{ints}
-use Rattle.ladder_vars.specs.declared.decls.BlockKind.TheVariants.{Ctu, Ctd}
+use Rattle.ladder_vars.specs.declared.kind.BlockKind.TheVariants.{Ctu, Ctd}
 use Rattle.ladder_scan.specs.declared.block.Stored.{Stored}
-use Rattle.ladder_scan.specs.declared.block.Stored.TheVariants.{Timer, Counter}
+use Rattle.ladder_scan.specs.declared.block.Stored.TheVariants.{Timer, Counter, Bistable}
 use Rattle.ladder_scan.specs.Blocks.{step, counted_up, counted_down}
 use Rattle.ladder_scan.specs.Histories.{StepInput, after, last_on, rises, loaded, cv_of, CtuHistory, CtdHistory}
 
@@ -13,10 +13,12 @@ use Rattle.ladder_scan.specs.Histories.{StepInput, after, last_on, rises, loaded
 abbrev IsCounter : Bool → ℤ → Stored → Type 0
 IsCounter on value (Timer last running start q) = ⊥
 IsCounter on value (Counter last cv q) = (last ≡ on) × (cv ≡ value)
+IsCounter on value (Bistable q) = ⊥
 
 is_cv : (on : Bool) (value : ℤ) (s : Stored) → IsCounter on value s → cv_of s ≡ value
 is_cv on value (Timer last running start q) h = absurd h
 is_cv on value (Counter last cv q) h = h.1
+is_cv on value (Bistable q) h = absurd h
 
 up_rise : (n : ℕ) → cond (int_lt (pos (min 32767 n)) (pos 32767)) (pos (min 32767 n) +ℤ pos 1) (pos (min 32767 n)) ≡ pos (min 32767 (n + 1))
 up_rise n = grind (arith, ints, nat_tests)
@@ -32,6 +34,7 @@ ctu_step : (preset : ℕ) (was : Bool) (n : ℕ) (on second : Bool) (now : ℕ) 
     IsCounter on (pos (min 32767 (cond second 0 (cond (on && not was) (n + 1) n)))) (step Ctu preset s on second now)
 unfolding step
 ctu_step preset was n on second now (Timer last running start q) h = absurd h
+ctu_step preset was n on second now (Bistable q) h = absurd h
 ctu_step preset was n on second now (Counter last cv q) h =
     (refl, ap (λ l. counted_up l cv on second) h.0 ∙ ap (λ c. counted_up was c on second) h.1 ∙ up_more was on second n)
 
@@ -64,6 +67,7 @@ ctd_step : (preset : ℕ) (was : Bool) (a n : ℕ) (on second : Bool) (now : ℕ
     IsCounter on (level (cond second preset a) (cond second 0 (cond (on && not was) (n + 1) n))) (step Ctd preset s on second now)
 unfolding step
 ctd_step preset was a n on second now (Timer last running start q) h = absurd h
+ctd_step preset was a n on second now (Bistable q) h = absurd h
 ctd_step preset was a n on second now (Counter last cv q) h =
     (refl, ap (λ l. counted_down preset l cv on second) h.0 ∙ ap (λ c. counted_down preset was c on second) h.1 ∙ down_more preset was on second a n)
 

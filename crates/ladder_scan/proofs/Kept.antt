@@ -3,7 +3,7 @@ use Rattle.std.proofs.Common.{◌≡◌, ℕ, ◌+◌, ◌*◌, ◌/◌, ◌%◌
 use Rattle.ladder_scan.specs.Algebra.{Algebra}
 use Rattle.ladder_scan.specs.Relations.{IsKept, Both, BothFrames}
 use Rattle.ladder_scan.specs.Routes.{join_all, Route, rail, block_end, through, routes, route_value, ends_below, left_link}
-use Rattle.ladder_vars.specs.declared.decls.BlockKind.{BlockKind}
+use Rattle.ladder_vars.specs.declared.kind.BlockKind.{BlockKind}
 use Rattle.ladder_scan.specs.declared.block.Stored.{Stored}
 use Rattle.ladder_grid.specs.declared.cell.Mode.{Mode}
 use Rattle.ladder_grid.specs.declared.cell.Mode.TheVariants.{Plain, Negated, Rising, Falling}
@@ -12,8 +12,9 @@ use Rattle.ladder_grid.specs.declared.cell.CoilMode.TheVariants as coil
 use Rattle.ladder_grid.specs.declared.cell.Operand.{Operand}
 use Rattle.ladder_grid.specs.declared.cell.Operand.TheVariants.{Var, Output}
 use Rattle.ladder_grid.specs.declared.cell.Cell.{Cell}
-use Rattle.ladder_grid.specs.declared.cell.Cell.TheVariants.{Empty, Wire, Contact, Coil, Block, Lower, Jump}
-use Rattle.ladder_scan.specs.Cells.{Diagram, Frame, Kept, at, put_in, var_in, block_in, is_block, memory_of, stored_of, operand_value, closed, contact, q_here, q_from, coil_value, stored_by}
+use Rattle.ladder_grid.specs.declared.cell.Cell.TheVariants.{Empty, Wire, Contact, Coil, Block, Lower, Jump, Return}
+use Rattle.ladder_grid.specs.Program.{block_in}
+use Rattle.ladder_scan.specs.Cells.{Diagram, Frame, Kept, at, put_in, var_in, is_block, memory_of, stored_of, operand_value, closed, contact, q_here, q_from, coil_value, stored_by}
 use Rattle.ladder_scan.specs.Rung.{link, second, written, effects, after_rung}
 use Rattle.ladder_scan.specs.Blocks.{has_second, q_of}
 use Rattle.ladder_scan.specs.Scan.{given}
@@ -105,6 +106,7 @@ module _ {A B : Type 0} (a : Algebra A) (b : Algebra B) (R : A → B → Type 0)
   cell_kept f g h m n r (Block inst) = k.known false
   cell_kept f g h m n r (Lower inst linked) = k.known false
   cell_kept f g h m n r (Jump target) = k.known false
+  cell_kept f g h m n r Return = k.known false
 
   known_same : (x y : Bool) → x ≡ y → R (a.known x) (b.known y)
   known_same x y e = subst (λ (z : Bool). R (a.known x) (b.known z)) e (k.known x)
@@ -124,6 +126,7 @@ module _ {A B : Type 0} (a : Algebra A) (b : Algebra B) (R : A → B → Type 0)
   q_kept d p h now (Block inst) e x y u v r s = from_kept (d.kind inst) (d.preset inst) _ _ now e.1 x y u v r s
   q_kept d p h now (Lower inst linked) e x y u v r s = k.known false
   q_kept d p h now (Jump target) e x y u v r s = k.known false
+  q_kept d p h now Return e x y u v r s = k.known false
 
   stored_kept : (mode : CoilMode) (l m x : A) (u n v : B) → R l u → R m n → R x v → R (stored_by a mode l m x) (stored_by b mode u n v)
   stored_kept coil.Store l m x u n v r s t = r
@@ -141,6 +144,7 @@ module _ {A B : Type 0} (a : Algebra A) (b : Algebra B) (R : A → B → Type 0)
   coil_kept (Block inst) l m x u n v r s t = t
   coil_kept (Lower inst linked) l m x u n v r s t = t
   coil_kept (Jump target) l m x u n v r s t = t
+  coil_kept Return l m x u n v r s t = t
 
   -- ---- one rung
   pub link_kept : (d : Diagram) (p h : Kept) (now j : ℕ) → Alike d j p h → (f : Frame A) (g : Frame B) → BothFrames R f g → (e : ℕ) → R (link a d p now j f e) (link b d h now j g e)

@@ -1,6 +1,7 @@
 pub mod Timers
 pub mod Counters
 pub mod Pulses
+pub mod Bistables
 pub mod Joins
 pub mod Flow
 pub mod Kept
@@ -12,7 +13,7 @@ pub mod Links
 pub mod Compiled
 pub mod Sound
 pub mod Along
-pub mod Timed
+pub mod Possible
 pub mod Giving
 pub mod Rungs
 pub mod Scanned

@@ -2,13 +2,13 @@
 use Rattle.std.proofs.Common.{◌≡◌, ℕ, ◌+◌, ◌-◌, ◌*◌, ◌/◌, ◌%◌, ◌<◌, ◌≤◌, Bool, true, false, cond, List, [], ◌∷◌, ◌++◌, get_or, set, length, zero, suc, nat_eq, refl, sym, ap, ap₂, subst, ◌∙◌, arith, get_or-set_other, get_or-set_same, length-set, inl, inr}
 use Rattle.std.proofs.lemmas.Bool.Decides.{nat_tests}
 use Rattle.std.proofs.lemmas.Bool.{cases_eq}
-use Rattle.ladder_vars.specs.declared.decls.BlockKind.{BlockKind}
+use Rattle.ladder_vars.specs.declared.kind.BlockKind.{BlockKind}
 use Rattle.ladder_grid.specs.declared.cell.Mode.{Mode}
 use Rattle.ladder_grid.specs.declared.cell.Mode.TheVariants.{Plain, Negated, Rising, Falling}
 use Rattle.ladder_grid.specs.declared.cell.Operand.{Operand}
 use Rattle.ladder_grid.specs.declared.cell.Operand.TheVariants.{Var, Output}
 use Rattle.ladder_grid.specs.declared.cell.Cell.{Cell}
-use Rattle.ladder_grid.specs.declared.cell.Cell.TheVariants.{Empty, Wire, Contact, Coil, Block, Lower, Jump}
+use Rattle.ladder_grid.specs.declared.cell.Cell.TheVariants.{Empty, Wire, Contact, Coil, Block, Lower, Jump, Return}
 use Rattle.ladder_grid.specs.declared.program.Step.{Step}
 use Rattle.ladder_scan.specs.declared.block.Stored.{Stored}
 use Rattle.ladder_scan.specs.Algebra.{Algebra, LatticeLaws}
@@ -98,6 +98,7 @@ module _ {S : Type 0} (o : Algebra S) (V : S → Type 0) (l : LatticeLaws S V o)
   closed-value f h m vm (Block inst) = l.known_value false
   closed-value f h m vm (Lower inst linked) = l.known_value false
   closed-value f h m vm (Jump target) = l.known_value false
+  closed-value f h m vm Return = l.known_value false
 
   from-value : (kind : BlockKind) (preset : ℕ) (s : Stored) (now : ℕ) (x y : S) → V x → V y → V (q_from o kind preset s now x y)
   from-value kind preset s now x y vx vy =
@@ -113,6 +114,7 @@ module _ {S : Type 0} (o : Algebra S) (V : S → Type 0) (l : LatticeLaws S V o)
   q-value d k now (Block inst) x y vx vy = from-value (d.kind inst) (d.preset inst) _ now x y vx vy
   q-value d k now (Lower inst linked) x y vx vy = l.known_value false
   q-value d k now (Jump target) x y vx vy = l.known_value false
+  q-value d k now Return x y vx vy = l.known_value false
 
   last_row : (b : Bool) (s x y : S) → (b ≡ true → x ≡ y) → cond b (o.join s x) s ≡ cond b (o.join s y) s
   last_row true s x y h = ap (o.join s) (h refl)
@@ -168,6 +170,7 @@ module _ {S : Type 0} (o : Algebra S) (V : S → Type 0) (l : LatticeLaws S V o)
     empty_right (Block inst) q r link m x h vx = cc
     empty_right (Lower inst linked) q r link m x h vx = cc
     empty_right (Jump target) q r link m x h vx = cc
+    empty_right Return q r link m x h vx = cc
 
     left_value : (column row : ℕ) → row < 6 → V (left_link o (circuit o d k now j f) column row)
     left_value column row h = subst (λ (x : S). V x) (link_is column row h) (link_value o V l d k now j f vs (6 * column + row))

@@ -4,14 +4,15 @@ use Rattle.std.proofs.lemmas.List.{map-set, set-get_or}
 use Rattle.ladder_scan.specs.Algebra.{Algebra}
 use Rattle.ladder_scan.specs.Truth.{plain}
 use Rattle.ladder_scan.specs.Relations.{IsKept, Both, BothFrames}
-use Rattle.ladder_vars.specs.declared.decls.BlockKind.{BlockKind}
-use Rattle.ladder_vars.specs.declared.decls.BlockKind.TheVariants.{Ton, Tof, Tp, Ctu, Ctd}
+use Rattle.ladder_vars.specs.declared.kind.BlockKind.{BlockKind}
+use Rattle.ladder_vars.specs.declared.kind.BlockKind.TheVariants.{Ton, Tof, Tp, Ctu, Ctd, Sr, Rs}
 use Rattle.ladder_scan.specs.declared.block.Stored.{Stored}
-use Rattle.ladder_scan.specs.declared.block.Stored.TheVariants.{Timer, Counter}
+use Rattle.ladder_scan.specs.declared.block.Stored.TheVariants.{Timer, Counter, Bistable}
 use Rattle.ladder_scan.specs.Blocks.{step, q_of}
 use Rattle.ladder_grid.specs.declared.cell.Cell.{Cell}
-use Rattle.ladder_grid.specs.declared.cell.Cell.TheVariants.{Empty, Wire, Contact, Coil, Block, Lower, Jump}
-use Rattle.ladder_scan.specs.Cells.{Diagram, Frame, Kept, at, put_in, memory_in, var_in, block_in, stored_of, q_here, q_from, coil_value, no_block}
+use Rattle.ladder_grid.specs.declared.cell.Cell.TheVariants.{Empty, Wire, Contact, Coil, Block, Lower, Jump, Return}
+use Rattle.ladder_grid.specs.Program.{memory_in, block_in}
+use Rattle.ladder_scan.specs.Cells.{Diagram, Frame, Kept, at, put_in, var_in, stored_of, q_here, q_from, coil_value, no_block}
 use Rattle.ladder_scan.specs.Rung.{link, second, written, effects, after_rung, Held, frame_of, stepped, changes, link_at, evaluated}
 use Rattle.ladder_scan.specs.Laws.{Once}
 use Rattle.ladder_scan.proofs.Kept.{AlikeCell, Alike, rung_kept}
@@ -58,14 +59,20 @@ q_plain Ton preset (Timer last running start q) now true y = refl
 q_plain Ton preset (Timer last running start q) now false y = refl
 q_plain Ton preset (Counter last cv q) now true y = refl
 q_plain Ton preset (Counter last cv q) now false y = refl
+q_plain Ton preset (Bistable q) now true y = refl
+q_plain Ton preset (Bistable q) now false y = refl
 q_plain Tof preset (Timer last running start q) now true y = refl
 q_plain Tof preset (Timer last running start q) now false y = refl
 q_plain Tof preset (Counter last cv q) now true y = refl
 q_plain Tof preset (Counter last cv q) now false y = refl
+q_plain Tof preset (Bistable q) now true y = refl
+q_plain Tof preset (Bistable q) now false y = refl
 q_plain Tp preset (Timer last running start q) now true y = refl
 q_plain Tp preset (Timer last running start q) now false y = refl
 q_plain Tp preset (Counter last cv q) now true y = refl
 q_plain Tp preset (Counter last cv q) now false y = refl
+q_plain Tp preset (Bistable q) now true y = refl
+q_plain Tp preset (Bistable q) now false y = refl
 q_plain Ctu preset s now true true = refl
 q_plain Ctu preset s now true false = refl
 q_plain Ctu preset s now false true = refl
@@ -74,6 +81,14 @@ q_plain Ctd preset s now true true = refl
 q_plain Ctd preset s now true false = refl
 q_plain Ctd preset s now false true = refl
 q_plain Ctd preset s now false false = refl
+q_plain Sr preset s now true true = refl
+q_plain Sr preset s now true false = refl
+q_plain Sr preset s now false true = refl
+q_plain Sr preset s now false false = refl
+q_plain Rs preset s now true true = refl
+q_plain Rs preset s now true false = refl
+q_plain Rs preset s now false true = refl
+q_plain Rs preset s now false false = refl
 
 -- what the step makes of the stored block, and what is written to its Q
 ends_step : (d : Diagram) (now : ℕ) (k h : Kept) (c : Cell) → AlikeCell k h c → (x y : Bool) →
@@ -87,6 +102,7 @@ ends_step d now k h (Block inst) e x y =
     ∙ sym (map-set q_of h.blocks inst (step (d.kind inst) (d.preset inst) (get_or h.blocks inst no_block) x y now))
 ends_step d now k h (Lower inst linked) e x y = refl
 ends_step d now k h (Jump target) e x y = refl
+ends_step d now k h Return e x y = refl
 
 -- ---- one rung
 abbrev frame : {S : Type 0} → List S → List S → Frame S

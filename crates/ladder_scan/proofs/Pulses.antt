@@ -1,9 +1,9 @@
 -- What a pulse timer answers after a list of steps.
 use Rattle.std.proofs.Common.{◌≡◌, ℕ, ◌-◌, Bool, true, false, not, cond, ◌&&◌, ◌||◌, nat_lt, nat_eq, List, [], ◌∷◌, refl, sym, ap, ◌∙◌, arith}
 use Rattle.std.proofs.lemmas.Bool.Decides.{nat_tests}
-use Rattle.ladder_vars.specs.declared.decls.BlockKind.TheVariants.{Tp}
+use Rattle.ladder_vars.specs.declared.kind.BlockKind.TheVariants.{Tp}
 use Rattle.ladder_scan.specs.declared.block.Stored.{Stored}
-use Rattle.ladder_scan.specs.declared.block.Stored.TheVariants.{Timer, Counter}
+use Rattle.ladder_scan.specs.declared.block.Stored.TheVariants.{Timer, Counter, Bistable}
 use Rattle.ladder_scan.specs.Blocks.{step, new_block, q_of}
 use Rattle.ladder_scan.specs.Histories.{StepInput, after, last_on, is_rise, rose_within, TpHistory}
 
@@ -28,6 +28,7 @@ at_within preset now start (x ∷ older) h e =
 abbrev IsPulse : ℕ → ℕ → List StepInput → Stored → Type 0
 IsPulse preset now xs (Timer last running start q) = (last ≡ last_on xs) × ((q ≡ running) × (running ≡ true → (rose_at start xs ≡ true) × (nat_lt (now - start) preset ≡ true)))
 IsPulse preset now xs (Counter last cv q) = ⊥
+IsPulse preset now xs (Bistable q) = ⊥
 
 same_moment : (now : ℕ) → nat_eq now now ≡ true
 same_moment now = grind (arith, nat_tests)
@@ -66,6 +67,7 @@ pulse_more preset x older before last running start false false f l s b h = cc
 pulse_step : (preset : ℕ) (x : StepInput) (older : List StepInput) (before : ℕ) (s : Stored) → IsPulse preset before older s → IsPulse preset x.now (x ∷ older) (step Tp preset s x.on x.second x.now)
 unfolding step
 pulse_step preset x older before (Counter last cv q) h = absurd h
+pulse_step preset x older before (Bistable q) h = absurd h
 pulse_step preset x older before (Timer last running start q) h =
     (refl, (refl, λ r. pulse_more preset x older before last running start _ _ (λ e. (h.1.1 e).0) h.0 refl refl r))
 
@@ -83,6 +85,7 @@ pulse_is preset (x ∷ older) = pulse_step preset x older (latest older) (after 
 
 pulse_q : (preset now : ℕ) (xs : List StepInput) (s : Stored) → IsPulse preset now xs s → q_of s ≡ true → rose_within preset now xs ≡ true
 pulse_q preset now xs (Counter last cv q) h e = absurd h
+pulse_q preset now xs (Bistable q) h e = absurd h
 pulse_q preset now xs (Timer last running start q) h e =
     let w : (rose_at start xs ≡ true) × (nat_lt (now - start) preset ≡ true) = h.1.1 (sym h.1.0 ∙ e) in
     at_within preset now start xs w.0 w.1

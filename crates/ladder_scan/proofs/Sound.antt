@@ -2,13 +2,12 @@
 use Rattle.std.proofs.Common.{◌≡◌, ℕ, ◌+◌, ◌*◌, ◌/◌, ◌%◌, ◌<◌, ◌≤◌, Bool, true, false, cond, ◌&&◌, slice_get, zero, suc, nat_lt, Option, Some, None, refl, ap, ◌∙◌, arith, subst}
 use Rattle.std.proofs.lemmas.Bool.Decides.{nat_tests}
 use Rattle.ladder_vars.specs.declared.decls.Instance.{Instance}
-use Rattle.ladder_vars.specs.Decls.{largest_preset, AreKept}
+use Rattle.ladder_vars.specs.Decls.{AreKept}
+use Rattle.ladder_vars.specs.Kind.{largest_preset}
 use Rattle.std.proofs.lemmas.Option.{get_or_from_slice_get, slice_get_within}
 use Rattle.ladder_grid.specs.declared.cell.Cell.{Cell}
-use Rattle.ladder_grid.specs.declared.cell.Cell.TheVariants.{Empty, Wire, Contact, Coil, Block, Lower, Jump}
-use Rattle.ladder_grid.specs.Program as grid
-use Rattle.ladder_grid.specs.Program.{Drawing, feeds, place, is_empty, cell_of, jump_in, jump_before, jump_of, IsWellFormed}
-use Rattle.ladder_scan.specs.Cells.{memory_in, block_in}
+use Rattle.ladder_grid.specs.declared.cell.Cell.TheVariants.{Empty, Wire, Contact, Coil, Block, Lower, Jump, Return}
+use Rattle.ladder_grid.specs.Program.{Drawing, cell_of, goes_to, jump_in, jump_before, jump_of, memory_in, block_in, IsWellFormed}
 use Rattle.ladder_scan.specs.Laws.{Once, Forward}
 use Rattle.ladder_scan.specs.Programs.{cell_at, is_linked, kind_in, preset_in, leap_in, target_in, diagram_of, is_filled, IsSound}
 use Rattle.ladder_scan.proofs.Compiled.{cell_is}
@@ -25,34 +24,16 @@ none_some : {A : Type 0} {x : A} → None ≡ Some x → ⊥
 none_some h = cc
 
 -- ---- a cell that has a memory or an instance stands within its rung
-memory_same : (c : Cell) → grid.memory_in c ≡ memory_in c
-memory_same Empty = refl
-memory_same Wire = refl
-memory_same (Contact mode operand memory) = refl
-memory_same (Coil mode var memory) = refl
-memory_same (Block inst) = refl
-memory_same (Lower inst linked) = refl
-memory_same (Jump target) = refl
-
-block_same : (c : Cell) → grid.block_in c ≡ block_in c
-block_same Empty = refl
-block_same Wire = refl
-block_same (Contact mode operand memory) = refl
-block_same (Coil mode var memory) = refl
-block_same (Block inst) = refl
-block_same (Lower inst linked) = refl
-block_same (Jump target) = refl
-
 within : (e : ℕ) → nat_lt e 60 ≡ true → e < 60
 within e h = grind (arith, nat_tests)
 
 -- what holds of a place where something stands
-memory_here : (p : Drawing) (j e i : ℕ) (b : Bool) → nat_lt e 60 ≡ b → memory_in (cond b (cell_of p j e) Empty) ≡ Some i → (e < 60) × (grid.memory_in (cell_of p j e) ≡ Some i)
-memory_here p j e i true t h = (within e t, memory_same (cell_of p j e) ∙ h)
+memory_here : (p : Drawing) (j e i : ℕ) (b : Bool) → nat_lt e 60 ≡ b → memory_in (cond b (cell_of p j e) Empty) ≡ Some i → (e < 60) × (memory_in (cell_of p j e) ≡ Some i)
+memory_here p j e i true t h = (within e t, h)
 memory_here p j e i false t h = absurd (none_some h)
 
-block_here : (p : Drawing) (j e i : ℕ) (b : Bool) → nat_lt e 60 ≡ b → block_in (cond b (cell_of p j e) Empty) ≡ Some i → (e < 60) × (grid.block_in (cell_of p j e) ≡ Some i)
-block_here p j e i true t h = (within e t, block_same (cell_of p j e) ∙ h)
+block_here : (p : Drawing) (j e i : ℕ) (b : Bool) → nat_lt e 60 ≡ b → block_in (cond b (cell_of p j e) Empty) ≡ Some i → (e < 60) × (block_in (cell_of p j e) ≡ Some i)
+block_here p j e i true t h = (within e t, h)
 block_here p j e i false t h = absurd (none_some h)
 
 same_rung : (j e h g : ℕ) → e < 60 → g < 60 → 60 * j + e ≡ 60 * h + g → (j ≡ h) × (e ≡ g)
@@ -62,12 +43,12 @@ once : (p : Drawing) → IsWellFormed p → Once (diagram_of p)
 unfolding diagram_of
 once p w = record {
   memory = λ i j e h g a b.
-      let x : (e < 60) × (grid.memory_in (cell_of p j e) ≡ Some i) = memory_here p j e i (nat_lt e 60) refl a in
-      let y : (g < 60) × (grid.memory_in (cell_of p h g) ≡ Some i) = memory_here p h g i (nat_lt g 60) refl b in
+      let x : (e < 60) × (memory_in (cell_of p j e) ≡ Some i) = memory_here p j e i (nat_lt e 60) refl a in
+      let y : (g < 60) × (memory_in (cell_of p h g) ≡ Some i) = memory_here p h g i (nat_lt g 60) refl b in
       same_rung j e h g x.0 y.0 (w.one_memory i (60 * j + e) (60 * h + g) x.1 y.1);
   block = λ i j e h g a b.
-      let x : (e < 60) × (grid.block_in (cell_of p j e) ≡ Some i) = block_here p j e i (nat_lt e 60) refl a in
-      let y : (g < 60) × (grid.block_in (cell_of p h g) ≡ Some i) = block_here p h g i (nat_lt g 60) refl b in
+      let x : (e < 60) × (block_in (cell_of p j e) ≡ Some i) = block_here p j e i (nat_lt e 60) refl a in
+      let y : (g < 60) × (block_in (cell_of p h g) ≡ Some i) = block_here p h g i (nat_lt g 60) refl b in
       same_rung j e h g x.0 y.0 (w.one_block i (60 * j + e) (60 * h + g) x.1 y.1);
 }
 
@@ -83,6 +64,7 @@ linked_filled (Coil mode var memory) h = refl
 linked_filled (Block inst) h = refl
 linked_filled (Lower inst linked) h = refl
 linked_filled (Jump target) h = refl
+linked_filled Return h = refl
 
 linked : (p : Drawing) (j e : ℕ) → (nat_lt (e % 6) 5 && is_linked (cell_at p j (e + 1))) ≡ true → (e % 6 < 5) × (is_filled (cell_at p j (e + 1)) ≡ true)
 linked p j e h =
@@ -92,7 +74,7 @@ linked p j e h =
 -- ---- jumps
 record JumpsAt (p : Drawing) (j n : ℕ) (found : Option (ℕ × ℕ × ℕ)) : Type 0 where
   below : 0 < target_in found → leap_in found < n
-  there : 0 < target_in found → cell_of p j (leap_in found) ≡ Jump (target_in found)
+  there : 0 < target_in found → goes_to p.rungs (cell_of p j (leap_in found)) ≡ Some (target_in found)
 
 place_is : (e : ℕ) → 6 * (e / 6) + e % 6 ≡ e
 place_is e = omega arith
@@ -100,61 +82,60 @@ place_is e = omega arith
 later_jump : (p : Drawing) (j n : ℕ) (found : Option (ℕ × ℕ × ℕ)) → JumpsAt p j n found → JumpsAt p j (n + 1) found
 later_jump p j n found h = record { below = λ t. let b = h.below t in omega (arith, b); there = h.there }
 
-jump_more : (p : Drawing) (j n : ℕ) (c : Cell) (found : Option (ℕ × ℕ × ℕ)) → cell_of p j n ≡ c → JumpsAt p j n found → JumpsAt p j (n + 1) (jump_in c n found)
-jump_more p j n Empty found e h = later_jump p j n found h
-jump_more p j n Wire found e h = later_jump p j n found h
-jump_more p j n (Contact mode operand memory) found e h = later_jump p j n found h
-jump_more p j n (Coil mode var memory) found e h = later_jump p j n found h
-jump_more p j n (Block inst) found e h = later_jump p j n found h
-jump_more p j n (Lower inst linked) found e h = later_jump p j n found h
-jump_more p j n (Jump target) found e h = record { below = λ t. omega arith; there = λ t. ap (cell_of p j) (place_is n) ∙ e }
+jump_more : (p : Drawing) (j n : ℕ) (goal : Option ℕ) (found : Option (ℕ × ℕ × ℕ)) → goes_to p.rungs (cell_of p j n) ≡ goal
+    → JumpsAt p j n found → JumpsAt p j (n + 1) (jump_in goal n found)
+jump_more p j n None found e h = later_jump p j n found h
+jump_more p j n (Some target) found e h = record {
+  below = λ t. omega arith;
+  there = λ t. ap (λ m. goes_to p.rungs (cell_of p j m)) (place_is n) ∙ e;
+}
 
 jump_found : (p : Drawing) (j n : ℕ) → JumpsAt p j n (jump_before p j n)
 unfolding jump_before
 jump_found p j zero = record { below = λ t. absurd (omega arith); there = λ t. absurd (omega arith) }
 jump_found p j (suc n) =
     let next : n + 1 ≡ suc n = omega arith in
-    subst (λ (m : ℕ). JumpsAt p j m (jump_in (cell_of p j n) n (jump_before p j n))) next (jump_more p j n (cell_of p j n) (jump_before p j n) refl (jump_found p j n))
+    subst (λ (m : ℕ). JumpsAt p j m (jump_in (goes_to p.rungs (cell_of p j n)) n (jump_before p j n))) next (jump_more p j n (goes_to p.rungs (cell_of p j n)) (jump_before p j n) refl (jump_found p j n))
 
 abbrev IsSmall : Option (ℕ × ℕ × ℕ) → Type 0
 IsSmall None = Unit {0}
 IsSmall (Some t) = (t.0 < 6) × (t.1 < 10)
 
-small_more : (n : ℕ) → n < 60 → (c : Cell) (found : Option (ℕ × ℕ × ℕ)) → IsSmall found → IsSmall (jump_in c n found)
-small_more n h Empty found s = s
-small_more n h Wire found s = s
-small_more n h (Contact mode operand memory) found s = s
-small_more n h (Coil mode var memory) found s = s
-small_more n h (Block inst) found s = s
-small_more n h (Lower inst linked) found s = s
-small_more n h (Jump target) found s = (omega arith, omega arith)
+small_more : (n : ℕ) → n < 60 → (goal : Option ℕ) (found : Option (ℕ × ℕ × ℕ)) → IsSmall found → IsSmall (jump_in goal n found)
+small_more n h None found s = s
+small_more n h (Some target) found s = (omega arith, omega arith)
 
 jump_small : (p : Drawing) (j n : ℕ) → n ≤ 60 → IsSmall (jump_before p j n)
 unfolding jump_before
 jump_small p j zero h = tt
-jump_small p j (suc n) h = small_more n (omega arith) (cell_of p j n) (jump_before p j n) (jump_small p j n (omega arith))
+jump_small p j (suc n) h = small_more n (omega arith) (goes_to p.rungs (cell_of p j n)) (jump_before p j n) (jump_small p j n (omega arith))
 
 -- the row and the column of a jump
 pub jump_place : (p : Drawing) (j row column target : ℕ) → jump_of p j ≡ Some (row, column, target) → (row < 6) × (column < 10)
 unfolding jump_of
 jump_place p j row column target e = subst (λ (x : Option (ℕ × ℕ × ℕ)). IsSmall x) e (jump_small p j 60 (omega arith))
 
-rung_of : (j e : ℕ) → e < 60 → (60 * j + e) / 60 ≡ j
-rung_of j e h = omega arith
-
 forward : (p : Drawing) → IsWellFormed p → Forward (diagram_of p)
 unfolding diagram_of jump_of
 forward p w j t =
     let h = jump_found p j 60 in
-    let on : (60 * j + leap_in (jump_before p j 60)) / 60 < target_in (jump_before p j 60) = w.jumps_down (60 * j + leap_in (jump_before p j 60)) (target_in (jump_before p j 60)) (h.there t) in
-    let here : (60 * j + leap_in (jump_before p j 60)) / 60 ≡ j = rung_of j (leap_in (jump_before p j 60)) (h.below t) in
-    omega (arith, on, here)
+    (w.jumps_down j (leap_in (jump_before p j 60)) (target_in (jump_before p j 60)) (h.below t) (h.there t)).0
+
+leads_filled : (rungs target : ℕ) (c : Cell) → goes_to rungs c ≡ Some target → is_filled c ≡ true
+leads_filled rungs target Empty h = absurd (none_some h)
+leads_filled rungs target Wire h = refl
+leads_filled rungs target (Contact mode operand memory) h = refl
+leads_filled rungs target (Coil mode var memory) h = refl
+leads_filled rungs target (Block inst) h = refl
+leads_filled rungs target (Lower inst linked) h = refl
+leads_filled rungs target (Jump to) h = refl
+leads_filled rungs target Return h = refl
 
 leaps : (p : Drawing) (j : ℕ) → 0 < (diagram_of p).target j → ((diagram_of p).leap j < 60) × (is_filled ((diagram_of p).cell j ((diagram_of p).leap j)) ≡ true)
 unfolding diagram_of jump_of
 leaps p j t =
     let h = jump_found p j 60 in
-    (h.below t, ap is_filled (cell_is p j (leap_in (jump_before p j 60)) (h.below t) ∙ h.there t))
+    (h.below t, ap is_filled (cell_is p j (leap_in (jump_before p j 60)) (h.below t)) ∙ leads_filled p.rungs _ _ (h.there t))
 
 -- ---- presets
 presets : (p : Drawing) → AreKept p.decls → (i : ℕ) (found : Option Instance) → slice_get p.decls.instances i ≡ found → preset_in found ≤ largest_preset (kind_in found)

@@ -1,7 +1,7 @@
 -- What timers answer after a list of steps.
 use Rattle.std.proofs.Common.{◌≡◌, ℕ, ◌-◌, ◌≤◌, Bool, true, false, cond, ◌&&◌, ◌||◌, nat_lt, nat_le, List, [], ◌∷◌, refl, sym, ap, ◌∙◌, arith}
 use Rattle.std.proofs.lemmas.Bool.Decides.{nat_tests}
-use Rattle.ladder_vars.specs.declared.decls.BlockKind.TheVariants.{Ton, Tof}
+use Rattle.ladder_vars.specs.declared.kind.BlockKind.TheVariants.{Ton, Tof}
 use Rattle.ladder_scan.specs.declared.block.Stored.{Stored}
 use Rattle.ladder_scan.specs.declared.block.Stored.TheVariants.{Timer}
 use Rattle.ladder_scan.specs.Blocks.{step, q_of}

@@ -1,17 +1,20 @@
--- One step of a timer or counter (IEC 61131-3 standard function blocks). PT and PV are the preset; moments are whole milliseconds.
+-- One step of a standard function block: a bistable, a counter or a timer (IEC 61131-3:2013, 6.6.3.5). PT and PV are the preset;
+-- moments are whole milliseconds.
 -- What the standard's timing diagrams leave open is the profile's choice: at equal moments a timer with PT 0 is through at once, a rise
 -- during a pulse does nothing, a TP with PT 0 never begins, a reset or load goes before a rise, and CV stops at the ends of its range.
-use Rattle.std.specs.Prelude.{ℕ, ◌-◌, Bool, true, false, not, if◌then◌else◌, ◌&&◌, ◌||◌, nat_lt, nat_le, ℤ, pos, negsuc, ◌+ℤ◌, ◌-ℤ◌, int_lt, int_le}
-use Rattle.ladder_vars.specs.declared.decls.BlockKind.{BlockKind}
-use Rattle.ladder_vars.specs.declared.decls.BlockKind.TheVariants.{Ton, Tof, Tp, Ctu, Ctd}
+use Rattle.std.specs.Prelude.{ℕ, ◌-◌, Bool, true, false, not, if◌then◌else◌, ◌&&◌, ◌||◌, is_some, nat_lt, nat_le, ℤ, pos, negsuc, ◌+ℤ◌, ◌-ℤ◌, int_lt, int_le}
+use Rattle.ladder_vars.specs.declared.kind.BlockKind.{BlockKind}
+use Rattle.ladder_vars.specs.declared.kind.BlockKind.TheVariants.{Ton, Tof, Tp, Ctu, Ctd, Sr, Rs}
+use Rattle.ladder_vars.specs.Kind.{traits_of}
 use Rattle.ladder_scan.specs.declared.block.Stored.{Stored}
-use Rattle.ladder_scan.specs.declared.block.Stored.TheVariants.{Timer, Counter}
+use Rattle.ladder_scan.specs.declared.block.Stored.TheVariants.{Timer, Counter, Bistable}
 
 -- A timer stores the last IN, whether it runs, the moment at which it began to (0 where it doesn't run) and Q;
--- a counter the last count input, CV and Q.
+-- a counter the last count input, CV and Q; a bistable Q1.
 abbrev pub q_of : Stored → Bool
 q_of (Timer last running start q) = q
 q_of (Counter last cv q) = q
+q_of (Bistable q) = q
 
 -- What an instance stores before its first step.
 abbrev pub new_block : BlockKind → Stored
@@ -20,6 +23,8 @@ new_block Tof = Timer false false 0 false
 new_block Tp = Timer false false 0 false
 new_block Ctu = Counter false (pos 0) false
 new_block Ctd = Counter false (pos 0) false
+new_block Sr = Bistable false
+new_block Rs = Bistable false
 
 -- TON, the on-delay. IN OFF: it doesn't run, and Q is OFF. IN ON: it runs, from now on where it didn't, and Q is ON once PT has passed.
 abbrev pub ton_step : ℕ → Bool → ℕ → Bool → ℕ → Stored
@@ -62,8 +67,16 @@ abbrev pub counted_down : ℕ → Bool → ℤ → Bool → Bool → ℤ
 counted_down preset last cv on load =
     if load then pos preset else (if on && (not last && int_lt (negsuc 32767) cv) then cv -ℤ pos 1 else cv)
 
--- The step of a block: its kind and preset, what it stored, IN or the count input, R or LD, and the moment.
--- A timer has no second input. What isn't of the kind stays as it was; a state of a program holds no such block.
+-- SR, the bistable with dominant set: Q1 := S1 OR (NOT R AND Q1).
+abbrev pub sr_q : Bool → Bool → Bool → Bool
+sr_q q set reset = set || (not reset && q)
+
+-- RS, the bistable with dominant reset: Q1 := NOT R1 AND (S OR Q1).
+abbrev pub rs_q : Bool → Bool → Bool → Bool
+rs_q q set reset = not reset && (set || q)
+
+-- The step of a block: its kind and preset, what it stored, its two inputs and the moment. The first input is IN, CU, CD, S1 or S,
+-- the second R, LD or R1. A timer has no second input. What isn't of the kind stays as it was; a state holds no such block.
 unfoldable pub step : BlockKind → ℕ → Stored → Bool → Bool → ℕ → Stored
 step Ton preset (Timer last running start q) on second now = ton_step preset running start on now
 step Tof preset (Timer last running start q) on second now = tof_step preset last running start on now
@@ -76,14 +89,21 @@ step Ctu preset (Counter last cv q) on second now =
 step Ctd preset (Counter last cv q) on second now =
     let value = counted_down preset last cv on second in
     Counter on value (int_le value (pos 0))
+step Sr preset (Timer last running start q) on second now = Timer last running start q
+step Rs preset (Timer last running start q) on second now = Timer last running start q
 step Ton preset (Counter last cv q) on second now = Counter last cv q
 step Tof preset (Counter last cv q) on second now = Counter last cv q
 step Tp preset (Counter last cv q) on second now = Counter last cv q
+step Sr preset (Counter last cv q) on second now = Counter last cv q
+step Rs preset (Counter last cv q) on second now = Counter last cv q
+step Ton preset (Bistable q) on second now = Bistable q
+step Tof preset (Bistable q) on second now = Bistable q
+step Tp preset (Bistable q) on second now = Bistable q
+step Ctu preset (Bistable q) on second now = Bistable q
+step Ctd preset (Bistable q) on second now = Bistable q
+step Sr preset (Bistable q) on second now = Bistable (sr_q q on second)
+step Rs preset (Bistable q) on second now = Bistable (rs_q q on second)
 
--- A counter has a second input, R or LD.
+-- Whether a block has a second input.
 abbrev pub has_second : BlockKind → Bool
-has_second Ton = false
-has_second Tof = false
-has_second Tp = false
-has_second Ctu = true
-has_second Ctd = true
+has_second kind = is_some (traits_of kind).second_input

@@ -1,7 +1,7 @@
 -- What each cell of a rung reads and writes, over any signal.
 use Rattle.std.specs.Prelude.{ℕ, Bool, true, false, if◌then◌else◌, List, Option, Some, None}
 use Rattle.std.proofs.Common.{get_or, set}
-use Rattle.ladder_vars.specs.declared.decls.BlockKind.{BlockKind}
+use Rattle.ladder_vars.specs.declared.kind.BlockKind.{BlockKind}
 use Rattle.ladder_grid.specs.declared.cell.Mode.{Mode}
 use Rattle.ladder_grid.specs.declared.cell.Mode.TheVariants.{Plain, Negated, Rising, Falling}
 use Rattle.ladder_grid.specs.declared.cell.CoilMode.{CoilMode}
@@ -9,7 +9,8 @@ use Rattle.ladder_grid.specs.declared.cell.CoilMode.TheVariants as coil
 use Rattle.ladder_grid.specs.declared.cell.Operand.{Operand}
 use Rattle.ladder_grid.specs.declared.cell.Operand.TheVariants.{Var, Output}
 use Rattle.ladder_grid.specs.declared.cell.Cell.{Cell}
-use Rattle.ladder_grid.specs.declared.cell.Cell.TheVariants.{Empty, Wire, Contact, Coil, Block, Lower, Jump}
+use Rattle.ladder_grid.specs.declared.cell.Cell.TheVariants.{Empty, Wire, Contact, Coil, Block, Lower, Jump, Return}
+use Rattle.ladder_grid.specs.Program.{memory_in, block_in}
 use Rattle.ladder_scan.specs.declared.block.Stored.{Stored}
 use Rattle.ladder_scan.specs.declared.block.Stored.TheVariants.{Timer}
 use Rattle.ladder_scan.specs.Algebra.{Algebra}
@@ -26,7 +27,7 @@ pub record Diagram : Type 0 where
   -- of an instance
   pub kind : ℕ → BlockKind
   pub preset : ℕ → ℕ
-  -- the place of a rung's jump and the rung that it goes to; `target` is 0 where a rung has no jump
+  -- the place of a rung's jump or return and the rung that it goes to, for a return the number of rungs; `target` is 0 where there is none
   pub leap : ℕ → ℕ
   pub target : ℕ → ℕ
   -- for each variable, whether it is an input
@@ -51,16 +52,7 @@ abbrev pub put_in : {A : Type 0} → List A → Option ℕ → A → List A
 put_in xs None x = xs
 put_in xs (Some i) x = set xs i x
 
--- A cell has at most one memory, writes at most one variable and steps at most one instance.
-abbrev pub memory_in : Cell → Option ℕ
-memory_in Empty = None
-memory_in Wire = None
-memory_in (Contact mode operand memory) = memory
-memory_in (Coil mode var memory) = memory
-memory_in (Block inst) = None
-memory_in (Lower inst linked) = None
-memory_in (Jump target) = None
-
+-- A cell writes at most one variable; it has at most one memory (`memory_in`) and steps at most one instance (`block_in`).
 abbrev pub var_in : Cell → Option ℕ
 var_in Empty = None
 var_in Wire = None
@@ -69,15 +61,7 @@ var_in (Coil mode var memory) = Some var
 var_in (Block inst) = None
 var_in (Lower inst linked) = None
 var_in (Jump target) = None
-
-abbrev pub block_in : Cell → Option ℕ
-block_in Empty = None
-block_in Wire = None
-block_in (Contact mode operand memory) = None
-block_in (Coil mode var memory) = None
-block_in (Block inst) = Some inst
-block_in (Lower inst linked) = None
-block_in (Jump target) = None
+var_in Return = None
 
 abbrev pub is_block : Cell → Bool
 is_block Empty = false
@@ -87,6 +71,7 @@ is_block (Coil mode var memory) = false
 is_block (Block inst) = true
 is_block (Lower inst linked) = false
 is_block (Jump target) = false
+is_block Return = false
 
 -- What is read where there is no such instance.
 abbrev pub no_block : Stored
@@ -119,6 +104,7 @@ closed o f m (Coil mode var memory) = o.known true
 closed o f m (Block inst) = o.known false
 closed o f m (Lower inst linked) = o.known false
 closed o f m (Jump target) = o.known false
+closed o f m Return = o.known false
 
 abbrev pub q_after : BlockKind → ℕ → Stored → ℕ → Bool → Bool → Bool
 q_after kind preset stored now first second = q_of (step kind preset stored first second now)
@@ -140,6 +126,7 @@ q_here o d k now (Coil mode var memory) x y = o.known false
 q_here o d k now (Block inst) x y = q_from o (d.kind inst) (d.preset inst) (get_or k.blocks inst no_block) now x y
 q_here o d k now (Lower inst linked) x y = o.known false
 q_here o d k now (Jump target) x y = o.known false
+q_here o d k now Return x y = o.known false
 
 -- What a coil writes, by its left link, its memory m, which is the link that it had, and what stands in its variable:
 -- `( )` the link, `(/)` its inverse, `(S)` ON and `(R)` OFF where the link is ON, `(P)` whether the link has become ON, `(N)` whether OFF.
@@ -159,3 +146,4 @@ coil_value o (Coil mode var memory) link m old = stored_by o mode link m old
 coil_value o (Block inst) link m old = old
 coil_value o (Lower inst linked) link m old = old
 coil_value o (Jump target) link m old = old
+coil_value o Return link m old = old

@@ -1,13 +1,13 @@
 -- What a block answers after any list of steps, said without a stored block. The latest step is the head of the list.
-use Rattle.std.specs.Prelude.{◌≡◌, ℕ, ◌+◌, ◌-◌, ◌≤◌, min, Bool, true, false, not, if◌then◌else◌, ◌&&◌, ◌||◌, nat_lt, nat_le, List, [], ◌∷◌, ℤ, pos, negsuc, ◌-ℤ◌}
+use Rattle.std.specs.Prelude.{◌≡◌, ℕ, ◌+◌, ◌-◌, ◌≤◌, min, Bool, true, false, not, if◌then◌else◌, ◌&&◌, ◌||◌, ◌↔◌, All, IsTrue, ◌++◌, nat_lt, nat_le, List, [], ◌∷◌, ℤ, pos, negsuc, ◌-ℤ◌}
 use Rattle.std.specs.Int.{int_max}
-use Rattle.ladder_vars.specs.declared.decls.BlockKind.{BlockKind}
-use Rattle.ladder_vars.specs.declared.decls.BlockKind.TheVariants.{Ton, Tof, Tp, Ctu, Ctd}
+use Rattle.ladder_vars.specs.declared.kind.BlockKind.{BlockKind}
+use Rattle.ladder_vars.specs.declared.kind.BlockKind.TheVariants.{Ton, Tof, Tp, Ctu, Ctd, Sr, Rs}
 use Rattle.ladder_scan.specs.declared.block.Stored.{Stored}
-use Rattle.ladder_scan.specs.declared.block.Stored.TheVariants.{Timer, Counter}
+use Rattle.ladder_scan.specs.declared.block.Stored.TheVariants.{Timer, Counter, Bistable}
 use Rattle.ladder_scan.specs.Blocks.{step, q_of, new_block}
 
--- What a step is given: IN or the count input, R or LD, and the moment.
+-- What a step is given: the first input (IN, CU, CD, S1 or S), the second (R, LD or R1), and the moment.
 pub record StepInput : Type 0 where
   pub on : Bool
   pub second : Bool
@@ -62,6 +62,7 @@ loaded preset (x ∷ older) = if x.second then preset else loaded preset older
 abbrev pub cv_of : Stored → ℤ
 cv_of (Timer last running start q) = pos 0
 cv_of (Counter last cv q) = cv
+cv_of (Bistable q) = pos 0
 
 -- TON: Q is ON exactly where IN is ON, and has been for PT.
 abbrev pub TonHistory : Type 0
@@ -86,3 +87,25 @@ CtuHistory = (preset : ℕ) (xs : List StepInput) → cv_of (after Ctu preset xs
 abbrev pub CtdHistory : Type 0
 CtdHistory = (preset : ℕ) (xs : List StepInput)
     → cv_of (after Ctd preset xs) ≡ int_max (negsuc 32767) (pos (loaded preset xs) -ℤ pos (rises xs))
+
+-- Some step had S1 ON, and no later one had R ON.
+pub record IsSet (xs : List StepInput) : Type 0 where
+  pub later : List StepInput
+  pub at : StepInput
+  pub older : List StepInput
+  pub steps : xs ≡ later ++ at ∷ older
+  pub set : at.on ≡ true
+  pub not_reset : All (λ y. y.second ≡ false) later
+
+-- Some step had S ON, and neither it nor a later one had R1 ON.
+pub record IsSetAlone (xs : List StepInput) : Type 0 where
+  pub is_set : IsSet xs
+  pub alone : is_set.at.second ≡ false
+
+-- SR: Q1 is ON exactly where some step had S1 ON and no later one R: in one step with both, S1 wins.
+abbrev pub SrHistory : Type 0
+SrHistory = (preset : ℕ) (xs : List StepInput) → IsTrue (q_of (after Sr preset xs)) ↔ IsSet xs
+
+-- RS: Q1 is ON exactly where some step had S ON, and neither it nor a later one R1: in one step with both, R1 wins.
+abbrev pub RsHistory : Type 0
+RsHistory = (preset : ℕ) (xs : List StepInput) → IsTrue (q_of (after Rs preset xs)) ↔ IsSetAlone xs

@@ -3,7 +3,8 @@ use Rattle.std.specs.Prelude.{◌≡◌, ℕ, ◌<◌, List, Bool, Some}
 use Rattle.ladder_scan.specs.Algebra.{Algebra}
 use Rattle.ladder_scan.specs.Truth.{plain}
 use Rattle.ladder_scan.specs.Relations.{AllowsAt, Both}
-use Rattle.ladder_scan.specs.Cells.{Diagram, memory_in, block_in}
+use Rattle.ladder_grid.specs.Program.{memory_in, block_in}
+use Rattle.ladder_scan.specs.Cells.{Diagram}
 use Rattle.ladder_scan.specs.Rung.{Held}
 use Rattle.ladder_scan.specs.Scan.{Evaluates, after_scan, given}
 use Rattle.ladder_scan.specs.SignalScan.{after_look}

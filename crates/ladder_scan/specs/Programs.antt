@@ -1,17 +1,18 @@
 -- A program as the scan sees it, and what reading it has made sure of.
-use Rattle.std.specs.Prelude.{◌≡◌, ℕ, ◌+◌, ◌*◌, ◌%◌, ◌<◌, ◌≤◌, Bool, true, false, if◌then◌else◌, ◌&&◌, map, nat_lt, Option, Some, None, slice_get, slice_index_or}
-use Rattle.ladder_vars.specs.declared.decls.BlockKind.{BlockKind}
-use Rattle.ladder_vars.specs.declared.decls.BlockKind.TheVariants.{Ton}
+use Rattle.std.specs.Prelude.{◌≡◌, ℕ, ◌+◌, ◌*◌, ◌%◌, ◌<◌, ◌≤◌, Bool, true, false, not, if◌then◌else◌, ◌&&◌, map, nat_lt, Option, Some, None, slice_get}
+use Rattle.ladder_vars.specs.declared.kind.BlockKind.{BlockKind}
+use Rattle.ladder_vars.specs.declared.kind.BlockKind.TheVariants.{Ton}
 use Rattle.ladder_vars.specs.declared.decls.Instance.{Instance}
-use Rattle.ladder_vars.specs.Decls.{is_input, largest_preset}
+use Rattle.ladder_vars.specs.Decls.{is_input}
+use Rattle.ladder_vars.specs.Kind.{largest_preset}
 use Rattle.ladder_grid.specs.declared.cell.Cell.{Cell}
-use Rattle.ladder_grid.specs.declared.cell.Cell.TheVariants.{Empty, Wire, Contact, Coil, Block, Lower, Jump}
-use Rattle.ladder_grid.specs.Program.{Drawing, feeds, jump_of}
+use Rattle.ladder_grid.specs.declared.cell.Cell.TheVariants.{Empty, Wire, Contact, Coil, Block, Lower, Jump, Return}
+use Rattle.ladder_grid.specs.Program.{Drawing, cell_of, is_empty, feeds, jump_of}
 use Rattle.ladder_scan.specs.Cells.{Diagram}
 use Rattle.ladder_scan.specs.Laws.{Once, Forward}
 
 abbrev pub cell_at : Drawing → ℕ → ℕ → Cell
-cell_at p rung place = if nat_lt place 60 then slice_index_or p.cells (60 * rung + place) Empty else Empty
+cell_at p rung place = if nat_lt place 60 then cell_of p rung place else Empty
 
 abbrev pub is_linked : Cell → Bool
 is_linked Empty = false
@@ -21,6 +22,7 @@ is_linked (Coil mode var memory) = false
 is_linked (Block inst) = false
 is_linked (Lower inst linked) = linked
 is_linked (Jump target) = false
+is_linked Return = false
 
 -- Of an instance that isn't there, which no cell names.
 abbrev pub kind_in : Option Instance → BlockKind
@@ -31,7 +33,7 @@ abbrev pub preset_in : Option Instance → ℕ
 preset_in None = 0
 preset_in (Some i) = i.preset
 
--- The place of a rung's jump, and the rung that it goes to; 0 where there is none.
+-- The place of a rung's jump or return, and the rung that it goes to, past the last one by a return; 0 where there is none.
 abbrev pub leap_in : Option (ℕ × ℕ × ℕ) → ℕ
 leap_in None = 0
 leap_in (Some jump) = 6 * jump.1 + jump.0
@@ -54,16 +56,10 @@ diagram_of p = record {
 }
 
 abbrev pub is_filled : Cell → Bool
-is_filled Empty = false
-is_filled Wire = true
-is_filled (Contact mode operand memory) = true
-is_filled (Coil mode var memory) = true
-is_filled (Block inst) = true
-is_filled (Lower inst linked) = true
-is_filled (Jump target) = true
+is_filled c = not (is_empty c)
 
 -- Presets are in range, and each memory and instance belongs to one cell; a linked lower cell stands in the column of its block; a jump
--- stands in its rung and goes to a later one.
+-- or return stands in its rung and goes to a later one, or past the last.
 pub record IsSound (d : Diagram) : Type 0 where
   pub presets : (i : ℕ) → d.preset i ≤ largest_preset (d.kind i)
   pub once : Once d

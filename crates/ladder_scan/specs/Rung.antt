@@ -3,13 +3,14 @@
 use Rattle.std.specs.Prelude.{ℕ, ◌+◌, ◌*◌, ◌/◌, ◌%◌, Bool, false, if◌then◌else◌, List, map}
 use Rattle.std.proofs.Common.{zero, suc}
 use Rattle.ladder_grid.specs.declared.cell.Cell.{Cell}
-use Rattle.ladder_grid.specs.declared.cell.Cell.TheVariants.{Empty, Wire, Contact, Coil, Block, Lower, Jump}
+use Rattle.ladder_grid.specs.declared.cell.Cell.TheVariants.{Empty, Wire, Contact, Coil, Block, Lower, Jump, Return}
 use Rattle.ladder_scan.specs.declared.block.Stored.{Stored}
 use Rattle.ladder_scan.specs.Algebra.{Algebra}
 use Rattle.ladder_scan.specs.Truth.{plain}
 use Rattle.ladder_scan.specs.Routes.{Circuit, left_link}
 use Rattle.ladder_scan.specs.Blocks.{step, q_of}
-use Rattle.ladder_scan.specs.Cells.{Diagram, Frame, Kept, at, put_in, memory_in, var_in, block_in, is_block, memory_of, stored_of, operand_value, closed, q_here, coil_value}
+use Rattle.ladder_grid.specs.Program.{memory_in, block_in}
+use Rattle.ladder_scan.specs.Cells.{Diagram, Frame, Kept, at, put_in, var_in, is_block, memory_of, stored_of, operand_value, closed, q_here, coil_value}
 
 -- A lower cell without a link has OFF.
 abbrev pub lower : {S : Type 0} → Algebra S → Bool → S → S
@@ -75,6 +76,7 @@ remembered start x (Coil mode var memory) = x
 remembered start x (Block inst) = x
 remembered start x (Lower inst linked) = x
 remembered start x (Jump target) = x
+remembered start x Return = x
 
 -- What the instance of a cell stores then: of a block, that of its step.
 abbrev pub stepped : Diagram → ℕ → Cell → Stored → Bool → Bool → Stored
@@ -85,6 +87,7 @@ stepped d now (Coil mode var memory) s x y = s
 stepped d now (Block inst) s x y = step (d.kind inst) (d.preset inst) s x y now
 stepped d now (Lower inst linked) s x y = s
 stepped d now (Jump target) s x y = s
+stepped d now Return s x y = s
 
 -- What a cell with left link x and second input y leaves, in a rung that began with the frame `start`.
 abbrev pub changed : Diagram → ℕ → Frame Bool → Cell → Bool → Bool → Held → Held

@@ -1,10 +1,12 @@
--- What stands between two scans.
-use Rattle.std.specs.Prelude.{◌≡◌, ℕ, ◌≤◌, false, List, length, map, replicate}
+-- The state that is kept from scan to scan.
+use Rattle.std.specs.Prelude.{◌≡◌, ℕ, ◌<◌, ◌≤◌, ◌^◌, Bool, false, List, length, map, replicate, FitsSigned}
+use Rattle.std.specs.Int.{w16}
 use Rattle.std.proofs.Common.{get_or}
-use Rattle.ladder_vars.specs.declared.decls.BlockKind.{BlockKind}
+use Rattle.ladder_vars.specs.declared.kind.BlockKind.{BlockKind}
+use Rattle.ladder_vars.specs.declared.kind.BlockKind.TheVariants.{Ton, Tof, Tp, Ctu, Ctd, Sr, Rs}
 use Rattle.ladder_grid.specs.Program.{Drawing, memories_of}
 use Rattle.ladder_scan.specs.declared.block.Stored.{Stored}
-use Rattle.ladder_scan.specs.declared.block.Stored.TheVariants.{Timer, Counter}
+use Rattle.ladder_scan.specs.declared.block.Stored.TheVariants.{Timer, Counter, Bistable}
 use Rattle.ladder_scan.specs.Blocks.{new_block}
 use Rattle.ladder_scan.specs.Cells.{no_block}
 use Rattle.ladder_scan.specs.Rung.{Held}
@@ -38,10 +40,61 @@ pub record Fits (p : Drawing) (s : Standing) : Type 0 where
   pub memories : length s.held.kept.memories ≡ memories_of p
   pub kinds : s.kinds ≡ kinds_of p
 
--- A timer didn't begin after the moment.
-abbrev pub IsTimed : ℕ → Stored → Type 0
-IsTimed moment (Timer last running start q) = start ≤ moment
-IsTimed moment (Counter last cv q) = Unit {0}
+-- What belongs to a kind of instance.
+pub data Shape : Type 0 where
+  timer : Shape
+  counter : Shape
+  bistable : Shape
 
-abbrev pub AreTimed : ℕ → List Stored → Type 0
-AreTimed moment blocks = (i : ℕ) → IsTimed moment (get_or blocks i no_block)
+abbrev pub shape_of : BlockKind → Shape
+shape_of Ton = timer
+shape_of Tof = timer
+shape_of Tp = timer
+shape_of Ctu = counter
+shape_of Ctd = counter
+shape_of Sr = bistable
+shape_of Rs = bistable
+
+abbrev pub shape : Stored → Shape
+shape (Timer last running start q) = timer
+shape (Counter last cv q) = counter
+shape (Bistable q) = bistable
+
+-- What can be stored at a moment: a timer that runs did not begin to after the moment, and one that does not has start 0;
+-- CV is a whole number of 16 bits.
+abbrev pub IsPossible : ℕ → Stored → Type 0
+IsPossible moment (Timer last running start q) = (start ≤ moment) × (running ≡ false → start ≡ 0)
+IsPossible moment (Counter last cv q) = FitsSigned w16 cv
+IsPossible moment (Bistable q) = Unit {0}
+
+-- What an instance of this kind can store at this moment.
+pub record CanStore (kind : BlockKind) (moment : ℕ) (s : Stored) : Type 0 where
+  pub shape : shape s ≡ shape_of kind
+  pub possible : IsPossible moment s
+
+abbrev pub ArePossible : ℕ → List Stored → Type 0
+ArePossible moment blocks = (i : ℕ) → IsPossible moment (get_or blocks i no_block)
+
+-- Each instance stores what belongs to its kind, and what can be stored at the moment.
+pub record AreSound (kinds : List BlockKind) (blocks : List Stored) (moment : ℕ) : Type 0 where
+  pub shapes : map shape blocks ≡ map shape_of kinds
+  pub possible : ArePossible moment blocks
+
+-- What holds of every state.
+pub record IsStanding (s : Standing) : Type 0 where
+  pub sound : AreSound s.kinds s.held.kept.blocks s.moment
+  pub small : s.moment < 2 ^ 64
+
+-- ---- a state with one part replaced
+
+abbrev pub with_values : Standing → List Bool → Standing
+with_values s values = record s { held = record s.held { values = values } }
+
+abbrev pub with_memories : Standing → List Bool → Standing
+with_memories s memories = record s { held = record s.held { kept = record s.held.kept { memories = memories } } }
+
+abbrev pub with_blocks : Standing → List Stored → Standing
+with_blocks s blocks = record s { held = record s.held { kept = record s.held.kept { blocks = blocks } } }
+
+abbrev pub with_moment : Standing → ℕ → Standing
+with_moment s moment = record s { moment = moment }

@@ -1,5 +1,5 @@
 ghost use Rattle.std.specs.Prelude.{◌≡◌, ◌≤◌};
-ghost use Rattle.ladder_vars.specs.Decls.{largest_preset};
+ghost use Rattle.ladder_vars.specs.Kind.{largest_preset};
 ghost use Rattle.ladder_scan.specs.Blocks.{step, q_of, new_block, ton_step, tof_step, tp_step, counted_up, counted_down, has_second};
 
 use ladder_vars::BlockKind;
@@ -20,6 +20,10 @@ pub enum Stored {
         cv: i16,
         q: bool,
     },
+    /// Q1.
+    Bistable {
+        q: bool,
+    },
 }
 
 impl Stored {
@@ -38,6 +42,7 @@ impl Stored {
                 cv: 0,
                 q: false,
             },
+            BlockKind::Sr | BlockKind::Rs => Stored::Bistable { q: false },
         }
     }
 
@@ -45,7 +50,7 @@ impl Stored {
         ensures { result ≡ q_of self }
     {
         match self {
-            Stored::Timer { q, .. } | Stored::Counter { q, .. } => q,
+            Stored::Timer { q, .. } | Stored::Counter { q, .. } | Stored::Bistable { q } => q,
         }
     }
 }
@@ -141,10 +146,10 @@ fn counted_down(preset: u16, last: bool, cv: i16, on: bool, load: bool) -> i16
 pub(crate) fn has_second(kind: BlockKind) -> bool
     ensures { result ≡ has_second kind }
 {
-    matches!(kind, BlockKind::Ctu | BlockKind::Ctd)
+    kind.traits().second_input.is_some()
 }
 
-/// The step of a block: `first` is IN or the count input, `second` a counter's R or LD.
+/// The step of a block. The first input is IN, CU, CD, S1 or S, the second R, LD or R1.
 #[tactic(auto, unfolding(crate::specs::Blocks::step))]
 pub(crate) fn step(
     kind: BlockKind,
@@ -157,48 +162,54 @@ pub(crate) fn step(
     requires { preset ≤ largest_preset kind }
     ensures { result ≡ step kind preset stored first second now }
 {
-    match (kind, stored) {
-        (BlockKind::Ton, Stored::Timer { running, start, .. }) => ton(
-            u64::from(preset),
+    match stored {
+        Stored::Timer {
+            last,
             running,
             start,
-            first,
-            now,
-        ),
-        (
-            BlockKind::Tof,
-            Stored::Timer {
-                last,
-                running,
-                start,
-                ..
-            },
-        ) => tof(u64::from(preset), last, running, start, first, now),
-        (
-            BlockKind::Tp,
-            Stored::Timer {
-                last,
-                running,
-                start,
-                ..
-            },
-        ) => tp(u64::from(preset), last, running, start, first, now),
-        (BlockKind::Ctu, Stored::Counter { last, cv, .. }) => {
-            let cv = counted_up(last, cv, first, second);
-            Stored::Counter {
-                last: first,
-                cv,
-                q: i64::from(preset) <= i64::from(cv),
+            ..
+        } => {
+            let preset = u64::from(preset);
+            match kind {
+                BlockKind::Ton => ton(preset, running, start, first, now),
+                BlockKind::Tof => tof(preset, last, running, start, first, now),
+                BlockKind::Tp => tp(preset, last, running, start, first, now),
+                BlockKind::Ctu | BlockKind::Ctd | BlockKind::Sr | BlockKind::Rs => stored,
             }
         }
-        (BlockKind::Ctd, Stored::Counter { last, cv, .. }) => {
-            let cv = counted_down(preset as u16, last, cv, first, second);
-            Stored::Counter {
-                last: first,
-                cv,
-                q: cv <= 0,
+        Stored::Counter { last, cv, .. } => {
+            match kind {
+                BlockKind::Ctu => {
+                    let cv = counted_up(last, cv, first, second);
+                    Stored::Counter {
+                        last: first,
+                        cv,
+                        q: i64::from(preset) <= i64::from(cv),
+                    }
+                }
+                BlockKind::Ctd => {
+                    let cv = counted_down(preset as u16, last, cv, first, second);
+                    Stored::Counter {
+                        last: first,
+                        cv,
+                        q: cv <= 0,
+                    }
+                }
+                BlockKind::Ton | BlockKind::Tof | BlockKind::Tp | BlockKind::Sr | BlockKind::Rs =>
+                    stored,
             }
         }
-        _ => stored,
+        Stored::Bistable { q } => {
+            match kind {
+                BlockKind::Sr => Stored::Bistable {
+                    q: first | (!second & q),
+                },
+                BlockKind::Rs => Stored::Bistable {
+                    q: !second & (first | q),
+                },
+                BlockKind::Ton | BlockKind::Tof | BlockKind::Tp | BlockKind::Ctu | BlockKind::Ctd =>
+                    stored,
+            }
+        }
     }
 }

@@ -63,8 +63,12 @@ fn effect<S: Signal>(
             let new = q_here(scene, step.row, step.column, inst, links);
             put(ends, inst, S::choose(guard, new, old));
         }
-        Cell::Empty | Cell::Wire | Cell::Contact { .. } | Cell::Lower { .. } | Cell::Jump { .. } =>
-            {}
+        Cell::Empty
+        | Cell::Wire
+        | Cell::Contact { .. }
+        | Cell::Lower { .. }
+        | Cell::Jump { .. }
+        | Cell::Return => {}
     }
 }
 
@@ -120,8 +124,12 @@ fn change(
                 blocks[inst] = crate::block::step(kind, preset, blocks[inst], link, below, now);
             }
         }
-        Cell::Contact { .. } | Cell::Empty | Cell::Wire | Cell::Lower { .. } | Cell::Jump { .. } =>
-            {}
+        Cell::Contact { .. }
+        | Cell::Empty
+        | Cell::Wire
+        | Cell::Lower { .. }
+        | Cell::Jump { .. }
+        | Cell::Return => {}
     }
 }
 

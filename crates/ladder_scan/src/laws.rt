@@ -2,7 +2,7 @@
 ghost use Rattle.ladder_scan.specs.Relations.{AllowsAt, IsKept, allows_kept};
 ghost use Rattle.ladder_scan.specs.Laws.{FollowsJumps, LookAllows, LookIsScan, LookKeeps};
 ghost use Rattle.ladder_scan.specs.Programs.{diagram_of};
-ghost use Rattle.ladder_scan.specs.Histories.{TonHistory, TofHistory, TpHistory, CtuHistory, CtdHistory};
+ghost use Rattle.ladder_scan.specs.Histories.{TonHistory, TofHistory, TpHistory, CtuHistory, CtdHistory, SrHistory, RsHistory};
 
 use crate::signal::Signal;
 use crate::sweep::checked;
@@ -51,13 +51,15 @@ pub fn sound<S: Signal>(program: &Program)
     look_is_scan(program);
 }
 
-/// What timers and counters answer after any list of steps.
+/// What a block answers after any list of steps of a new one.
 pub fn histories()
     ensures ton { TonHistory }
     ensures tof { TofHistory }
     ensures tp { TpHistory }
     ensures ctu { CtuHistory }
     ensures ctd { CtdHistory }
+    ensures sr { SrHistory }
+    ensures rs { RsHistory }
 {}
 
 /// Over truth values a look leaves the values that a scan leaves.

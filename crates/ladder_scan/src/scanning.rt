@@ -4,7 +4,7 @@ ghost use Rattle.ladder_scan.specs.Blocks.{q_of};
 ghost use Rattle.ladder_scan.specs.Rung.{evaluated};
 ghost use Rattle.ladder_scan.specs.Scan.{given, next_rung, after_scan};
 ghost use Rattle.ladder_scan.specs.Programs.{diagram_of, IsSound};
-ghost use Rattle.ladder_scan.specs.Standing.{Fits, AreTimed};
+ghost use Rattle.ladder_scan.specs.Standing.{Fits, ArePossible, shape};
 ghost use Rattle.ladder_scan.specs.Sweeping.{held};
 ghost use Rattle.ladder_scan.specs.RungByRung.{scanned};
 
@@ -24,7 +24,12 @@ fn is_input_at(vars: &[Var], number: usize) -> bool
     ensures { result ≡ slice_index_or (map is_input vars.now) number false }
 {
     match vars.get(number) {
-        Some(var) => matches!(var.kind, VarKind::Input),
+        Some(var) => {
+            match var.kind {
+                VarKind::Input => true,
+                VarKind::Output | VarKind::Memory => false,
+            }
+        }
         None => false,
     }
 }
@@ -75,7 +80,7 @@ fn copy_ends(blocks: &[Stored], ends: &mut [bool])
     }
 }
 
-/// Where the jump of a rung stands, and the rung that it goes to; 0 where there is no jump.
+/// Where the jump or return of a rung stands, and the rung that it goes to; 0 where there is none.
 #[tactic(auto, unfolding(crate::specs::Programs::diagram_of))]
 pub(crate) fn jump(program: &Program, rung: usize) -> (usize, usize)
     requires { rung < program.now.rungs }
@@ -175,7 +180,8 @@ fn scan_fields(
     requires ends { length ends.old ≡ length blocks.old }
     ensures held { held values.new memories.new blocks.new
         ≡ after_scan (diagram_of program.now) now inputs.now (held values.old memories.old blocks.old) }
-    ensures timed { AreTimed now blocks.old → AreTimed now blocks.new }
+    ensures shapes { map shape blocks.new ≡ map shape blocks.old }
+    ensures possible { ArePossible now blocks.old → ArePossible now blocks.new }
 {
     give(program.decls(), inputs, values);
     scan_rungs(program, now, values, memories, blocks, start, ends);
@@ -187,7 +193,7 @@ fn scan_fields(
 /// # Errors
 ///
 /// `MomentBack` (S1) where `now` is before the moment of the state, which then stays as it was.
-#[tactic(auto, using(crate::proofs::Timed::later_timed))]
+#[tactic(auto, using(crate::proofs::Possible::after_sound))]
 pub fn scan(
     program: &Program,
     state: &mut State,

@@ -1,6 +1,7 @@
-ghost use Rattle.std.specs.Prelude.{◌≡◌, ◌<◌, ◌↔◌, length, map, IfOk, IsTrue, slice_get, Some};
+ghost use Rattle.std.specs.Prelude.{◌≡◌, ◌<◌, ◌≤◌, ◌↔◌, length, map, set, IfOk, IsTrue, slice_get, slice_index_or, Some};
+ghost use Rattle.ladder_vars.specs.declared.kind.BlockKind.TheVariants.{Ton};
 ghost use Rattle.ladder_scan.specs.Blocks.{new_block};
-ghost use Rattle.ladder_scan.specs.Standing.{fresh, Fits};
+ghost use Rattle.ladder_scan.specs.Standing.{fresh, CanStore, Fits, IsStanding, with_blocks, with_memories, with_moment, with_values};
 
 use crate::block::Stored;
 use ladder_grid::Program;
@@ -24,9 +25,11 @@ impl<T: Drop> From<AllocFailed<T>> for Memory {
     }
 }
 
-/// What stands between two scans: the value of each variable, the state of each memory and instance, and the moment.
+/// The state kept between scans: the value of each variable, each memory, what each instance stores, and the moment of the last
+/// scan in milliseconds.
 ///
-/// No timer in it began after the moment.
+/// Each instance stores what belongs to its kind. A timer that runs did not begin to after the moment; one that does not has
+/// start 0.
 #[derive(Drop)]
 pub struct State {
     pub(crate) values: Vec<bool>,
@@ -41,7 +44,7 @@ pub struct State {
 
 impl Model for State {
     ghost use Rattle.std.specs.Prelude.{◌≡◌, length};
-    ghost use Rattle.ladder_scan.specs.Standing.{Standing, AreTimed};
+    ghost use Rattle.ladder_scan.specs.Standing.{Standing, AreSound};
     ghost use Rattle.ladder_scan.specs.Sweeping.{held};
 
     ghost Value = { Standing };
@@ -50,8 +53,7 @@ impl Model for State {
 
     ghost invariant = { λ s. (length s.start.items ≡ length s.values.items)
         × ((length s.ends.items ≡ length s.blocks.items)
-        × ((length s.blocks.items ≡ length s.kinds.items)
-        × AreTimed s.moment s.blocks.items)) };
+        × AreSound s.kinds.items s.blocks.items s.moment) };
 }
 
 fn initial_values(alloc: Global, vars: &[Var]) -> Result<Vec<bool>, AllocError>
@@ -160,5 +162,61 @@ impl State {
         ensures { result ≡ self.now.moment }
     {
         self.moment
+    }
+
+    /// Does nothing: its contract is what holds of every state.
+    pub fn checked(&self)
+        ensures { IsStanding self.now }
+    {
+        let _moment = self.moment;
+    }
+
+    /// The memory of an edge contact or an edge coil, by its number in the program.
+    pub fn memory(&self, number: usize) -> bool
+        requires { number < length self.now.held.kept.memories }
+        ensures { slice_get self.now.held.kept.memories number ≡ Some result }
+    {
+        self.memories[number]
+    }
+
+    /// What an instance stores, by its number in order of declaration.
+    pub fn block(&self, inst: usize) -> Stored
+        requires { inst < length self.now.held.kept.blocks }
+        ensures { slice_get self.now.held.kept.blocks inst ≡ Some result }
+    {
+        self.blocks[inst]
+    }
+
+    /// Gives a variable a value.
+    pub fn set_value(&mut self, var: usize, value: bool)
+        requires { var < length self.old.held.values }
+        ensures { self.new ≡ with_values self.old (set self.old.held.values var value) }
+    {
+        self.values[var] = value;
+    }
+
+    /// Gives a memory a value.
+    pub fn set_memory(&mut self, number: usize, value: bool)
+        requires { number < length self.old.held.kept.memories }
+        ensures { self.new ≡ with_memories self.old (set self.old.held.kept.memories number value) }
+    {
+        self.memories[number] = value;
+    }
+
+    /// Makes the moment a later one, or leaves it.
+    pub fn set_moment(&mut self, moment: u64)
+        requires { self.old.moment ≤ moment }
+        ensures { self.new ≡ with_moment self.old moment }
+    {
+        self.moment = moment;
+    }
+
+    /// Replaces what an instance stores.
+    pub fn set_block(&mut self, inst: usize, stored: Stored)
+        requires range { inst < length self.old.held.kept.blocks }
+        requires stored { CanStore (slice_index_or self.old.kinds inst Ton) self.old.moment stored }
+        ensures { self.new ≡ with_blocks self.old (set self.old.held.kept.blocks inst stored) }
+    {
+        self.blocks[inst] = stored;
     }
 }

@@ -1,5 +1,5 @@
 ghost use Rattle.std.specs.Prelude.{◌≡◌, ◌<◌, ◌≤◌, ◌+◌, ◌*◌, ◌^◌, length, slice_index_or, false, All};
-ghost use Rattle.ladder_vars.specs.Decls.{largest_preset};
+ghost use Rattle.ladder_vars.specs.Kind.{largest_preset};
 ghost use Rattle.ladder_grid.specs.Program.{steps_of};
 ghost use Rattle.ladder_scan.specs.Cells.{operand_value, closed, contact, q_from, q_after, memory_of, no_block};
 ghost use Rattle.ladder_scan.specs.Programs.{diagram_of, IsSound};
@@ -60,9 +60,8 @@ fn closed<S: Signal>(cell: Cell, values: &[S], ends: &[S], memory: S) -> S
             operand_value(values, ends, operand),
             memory,
         ),
-        Cell::Empty | Cell::Block { .. } | Cell::Lower { .. } | Cell::Jump { .. } => S::known(
-            false,
-        ),
+        Cell::Empty | Cell::Block { .. } | Cell::Lower { .. } | Cell::Jump { .. } | Cell::Return =>
+            S::known(false),
     }
 }
 
@@ -144,11 +143,19 @@ pub(crate) fn linked(program: &Program, rung: usize, row: usize, column: usize) 
     requires column { column < 10 }
     ensures { result ≡ (diagram_of program.now).linked rung (6 * column + row) }
 {
-    row < 5
-        && matches!(
-            cell(program, rung, row + 1, column),
-            Cell::Lower { linked: true, .. }
-        )
+    if 5 <= row {
+        return false;
+    }
+    match cell(program, rung, row + 1, column) {
+        Cell::Lower { linked, .. } => linked,
+        Cell::Empty
+        | Cell::Wire
+        | Cell::Contact { .. }
+        | Cell::Coil { .. }
+        | Cell::Block { .. }
+        | Cell::Jump { .. }
+        | Cell::Return => false,
+    }
 }
 
 impl<'a> Scene<'a> {
@@ -169,7 +176,14 @@ impl<'a> Scene<'a> {
                     None => false,
                 }
             }
-            _ => false,
+            Cell::Contact { .. }
+            | Cell::Coil { .. }
+            | Cell::Empty
+            | Cell::Wire
+            | Cell::Block { .. }
+            | Cell::Lower { .. }
+            | Cell::Jump { .. }
+            | Cell::Return => false,
         }
     }
 
@@ -240,7 +254,12 @@ fn right_link<S: Signal>(
     match cell {
         Cell::Block { inst } => q_here(scene, row, column, inst, links),
         Cell::Empty => S::known(false),
-        _ => value(links, 6 * column + row).and(closed(
+        Cell::Wire
+        | Cell::Contact { .. }
+        | Cell::Coil { .. }
+        | Cell::Lower { .. }
+        | Cell::Jump { .. }
+        | Cell::Return => value(links, 6 * column + row).and(closed(
             cell,
             values,
             ends,

@@ -1,14 +1,15 @@
 -- Where all declarations keep names, addresses and limits, no rule refuses one of them after those before it.
-use Rattle.std.proofs.Common.{◌≡◌, ℕ, ◌≤◌, false, nat_le, List, ◌∷◌, ◌++◌, length, map, Some, None, refl, sym, ap, subst, ◌∙◌, arith, append_assoc}
+use Rattle.std.proofs.Common.{◌≡◌, ℕ, ◌≤◌, false, nat_le, nat_lt, List, ◌∷◌, ◌++◌, length, map, Some, None, refl, sym, ap, subst, ◌∙◌, arith, append_assoc}
 use Rattle.std.specs.List.{IsDistinct, list_any}
 use Rattle.std.proofs.lemmas.List.{length-append, map-append}
 use Rattle.std.proofs.lemmas.List.Elements.{filter_map-append}
-use Rattle.std.proofs.lemmas.Bool.{lt-leb}
+use Rattle.std.proofs.lemmas.Bool.{lt-leb, le-ltb}
 use Rattle.ladder_vars.specs.declared.decls.Var.{Var}
 use Rattle.ladder_vars.specs.declared.decls.Instance.{Instance}
 use Rattle.ladder_vars.specs.declared.decls.Body.TheVariants as body
 use Rattle.ladder_vars.specs.Name.{same_letters}
 use Rattle.ladder_vars.specs.Decls.{Declared, AreKept, addresses_of, same_address}
+use Rattle.ladder_vars.specs.Kind.{traits_of}
 use Rattle.ladder_vars.specs.Grammar.{Decl, declared_by}
 use Rattle.ladder_vars.specs.ReadDecls.{is_declared, is_taken, refusal}
 use Rattle.ladder_vars.proofs.Keeping.{same_letters-flips, same_address-flips, used-addresses}
@@ -62,8 +63,8 @@ accepts_instance a i vs is kept =
     let vars : list_any (same_letters i.name) A ≡ false = list_any-left (same_letters i.name) A B (list_any-left (same_letters i.name) (A ++ B) C earlier) in
     let instances : list_any (same_letters i.name) C ≡ false = list_any-right (same_letters i.name) (A ++ B) C earlier in
     let new : is_declared a i.name ≡ false = not_declared a i.name vars instances in
-    let short_name : length i.name ≤ 9 = All-middle (λ x. length x.name ≤ 9) a.instances i is kept.short_names in
-    let short : nat_le 10 (length i.name) ≡ false = lt-leb 10 (length i.name) (omega arith) in
+    let short_name : length i.name ≤ (traits_of i.kind).longest_name = All-middle (λ x. length x.name ≤ (traits_of x.kind).longest_name) a.instances i is kept.short_names in
+    let short : nat_lt (traits_of i.kind).longest_name (length i.name) ≡ false = le-ltb (traits_of i.kind).longest_name (length i.name) short_name in
     let room : nat_le 64 (length a.instances) ≡ false
     = lt-leb 64 (length a.instances) (omega (arith, kept.few_instances, length-append {A = Instance} a.instances (i ∷ is))) in
     rw (short, new, room) refl

@@ -1,7 +1,7 @@
 -- No token of a declaration ends the block.
 use Rattle.std.proofs.Common.{inl, inr, List, [], ◌∷◌, ◌++◌, ℕ, codes, Bool, Option, Some, None, subst, sym}
 use Rattle.ladder_vars.specs.declared.decls.VarKind.{VarKind}
-use Rattle.ladder_vars.specs.declared.decls.BlockKind.{BlockKind}
+use Rattle.ladder_vars.specs.declared.kind.BlockKind.{BlockKind}
 use Rattle.ladder_vars.specs.declared.decls.Address.{Address}
 use Rattle.ladder_vars.specs.declared.decls.Body.{Body}
 use Rattle.ladder_vars.specs.declared.decls.Body.TheVariants as body
@@ -9,7 +9,7 @@ use Rattle.ladder_vars.specs.Grammar.{IsPlace, IsInitial, IsPreset, IsBody}
 use Rattle.ladder_vars.specs.Rules.{NoEnd}
 use Rattle.ladder_vars.proofs.TextFaults.{NoEnd-append}
 use Rattle.ladder_vars.proofs.GrammarReads.{alike}
-use Rattle.ladder_vars.proofs.GrammarFaults.{bit_no_end, block_no_end, address_no_end, parameter_no_end, preset_no_end}
+use Rattle.ladder_vars.proofs.GrammarFaults.{bit_no_end, block_no_end, address_no_end, parameter_no_end, value_no_end}
 
 place_no_end : (ts : List (List ℕ)) (kind : VarKind) (address : Option Address) → IsPlace ts kind address → NoEnd ts
 place_no_end ts kind None h = subst NoEnd (sym h.0) tt
@@ -29,10 +29,10 @@ preset_tokens_no_end ts kind n (inr p) =
       (
         alike (codes "(") (codes "END_VAR") p.opening p.is_opening,
         (
-          parameter_no_end kind p.parameter p.is_parameter,
+          parameter_no_end p.form p.parameter p.is_parameter,
           (
             alike (codes ":=") (codes "END_VAR") p.given p.is_given,
-            (preset_no_end kind p.word n p.is_word, (alike (codes ")") (codes "END_VAR") p.closing p.is_closing, tt)),
+            (value_no_end p.form p.word n p.is_word, (alike (codes ")") (codes "END_VAR") p.closing p.is_closing, tt)),
           ),
         ),
       ),

@@ -1,25 +1,26 @@
 -- Where declarations are not read, the rule of the fault is broken at its place.
-use Rattle.std.proofs.Common.{◌≡◌, ℕ, inl, inr, Bool, true, nat_le, List, [], ◌∷◌, length, map, Option, Some, None, Err, refl, sym, ap, subst, ◌∙◌}
+use Rattle.std.proofs.Common.{◌≡◌, ℕ, inl, inr, Bool, true, nat_le, nat_lt, List, [], ◌∷◌, length, map, Option, Some, None, Err, refl, sym, ap, subst, ◌∙◌, arith}
 use Rattle.std.specs.List.{list_any}
-use Rattle.std.proofs.lemmas.Bool.{leb-true}
+use Rattle.std.proofs.lemmas.Bool.{leb-true, ltb-true}
 use Rattle.std.proofs.lemmas.List.Folds.{list_any-append}
 use Rattle.ladder_vars.specs.declared.fault.Fault.{Fault}
 use Rattle.ladder_vars.specs.declared.fault.VarRule.{VarRule}
 use Rattle.ladder_vars.specs.declared.fault.VarRule.TheVariants as rule
 use Rattle.ladder_vars.specs.declared.decls.VarKind.{VarKind}
-use Rattle.ladder_vars.specs.declared.decls.BlockKind.{BlockKind}
+use Rattle.ladder_vars.specs.declared.kind.BlockKind.{BlockKind}
 use Rattle.ladder_vars.specs.declared.decls.Address.{Address}
 use Rattle.ladder_vars.specs.declared.decls.Body.{Body}
 use Rattle.ladder_vars.specs.declared.decls.Body.TheVariants as body
 use Rattle.ladder_vars.specs.Name.{same_letters, is_name, has_name_form}
 use Rattle.ladder_vars.specs.Decls.{Declared, names_of}
 use Rattle.ladder_vars.specs.Text.{AreTokens}
+use Rattle.ladder_vars.specs.Kind.{traits_of}
 use Rattle.ladder_vars.specs.Grammar.{Decl, declared_by}
 use Rattle.ladder_vars.specs.ReadDecls.{name_of, is_declared, is_taken, refusal, with_decl, refused, added}
 use Rattle.ladder_vars.specs.Rules.{WordDue, DeclDue, Breaks}
 use Rattle.ladder_vars.proofs.Steps.{chosen}
 use Rattle.ladder_vars.proofs.Lists.{list_any-map}
-use Rattle.ladder_vars.proofs.Keeping.{used-addresses}
+use Rattle.ladder_vars.proofs.Keeping.{used-addresses, AreFew}
 use Rattle.ladder_vars.proofs.TextTakes.{AreTokens-append}
 use Rattle.ladder_vars.proofs.TextFaults.{Meets}
 use Rattle.ladder_vars.proofs.PresetFaults.{NoPresetBody}
@@ -42,9 +43,9 @@ taken_breaks text ds name kind None initial after due taken = absurd cc
 taken_breaks text ds name kind (Some a) initial after due taken =
     (ds, name, after, kind, a, initial, due, sym (used-addresses (declared_by ds).vars a) ∙ taken, refl)
 
-refusal_breaks : (text : List ℕ) (ds : List Decl) (name : List ℕ) (b : Body) (after : List ℕ) (r : VarRule) → DeclDue text ds name b after
-    → refusal (declared_by ds) name b ≡ Some r → Breaks r text (length after)
-refusal_breaks text ds name (body.Var kind address initial) after r due h =
+refusal_breaks : (text : List ℕ) (ds : List Decl) (name : List ℕ) (b : Body) (after : List ℕ) (r : VarRule) → AreFew (declared_by ds)
+    → DeclDue text ds name b after → refusal (declared_by ds) name b ≡ Some r → Breaks r text (length after)
+refusal_breaks text ds name (body.Var kind address initial) after r few due h =
     let d : Declared = declared_by ds in
     elim (chosen (is_declared d name) _ _ _ h) [
       | inl twice ↦
@@ -58,17 +59,17 @@ refusal_breaks text ds name (body.Var kind address initial) after r due h =
           | inl full ↦
               let e : rule.TooMany ≡ r = cc in
               subst (λ x. Breaks x text (length after)) e
-              (ds, name, after, body.Var kind address initial, due, leb-true 256 (length d.vars) full.0, refl)
+              (ds, name, after, body.Var kind address initial, due, omega (arith, leb-true 256 (length d.vars) full.0, few.vars), refl)
           | inr room ↦ absurd cc
         ]
       ]
     ]
-refusal_breaks text ds name (body.Instance kind preset) after r due h =
+refusal_breaks text ds name (body.Instance kind preset) after r few due h =
     let d : Declared = declared_by ds in
-    elim (chosen (nat_le 10 (length name)) _ _ _ h) [
+    elim (chosen (nat_lt (traits_of kind).longest_name (length name)) _ _ _ h) [
       | inl long ↦
           let e : rule.BadName ≡ r = cc in
-          subst (λ x. Breaks x text (length after)) e (inr (ds, name, after, kind, preset, due, leb-true 10 (length name) long.0, refl))
+          subst (λ x. Breaks x text (length after)) e (inr (ds, name, after, kind, preset, due, ltb-true (traits_of kind).longest_name (length name) long.0, refl))
       | inr short ↦ elim (chosen (is_declared d name) _ _ _ short.1) [
         | inl twice ↦
             let e : rule.Duplicate ≡ r = cc in
@@ -77,7 +78,7 @@ refusal_breaks text ds name (body.Instance kind preset) after r due h =
           | inl full ↦
               let e : rule.TooMany ≡ r = cc in
               subst (λ x. Breaks x text (length after)) e
-              (ds, name, after, body.Instance kind preset, due, leb-true 64 (length d.instances) full.0, refl)
+              (ds, name, after, body.Instance kind preset, due, omega (arith, leb-true 64 (length d.instances) full.0, few.instances), refl)
           | inr room ↦ absurd cc
         ]
       ]
@@ -90,12 +91,12 @@ refused-err (Some r) left x f h =
 refused-err None left x f h = absurd cc
 
 pub added_breaks : (text : List ℕ) (ds : List Decl) (a : Declared) (name : List ℕ) (b : Body) (after : List ℕ) (f : Fault) → a ≡ declared_by ds
-    → DeclDue text ds name b after → added a name b (length after) ≡ Err f → Breaks f.rule text f.left
+    → AreFew a → DeclDue text ds name b after → added a name b (length after) ≡ Err f → Breaks f.rule text f.left
 unfolding added
-added_breaks text ds a name b after f same due h =
+added_breaks text ds a name b after f same few due h =
     let e = refused-err (refusal a name b) (length after) (with_decl a name b) f h in
     let broken : refusal (declared_by ds) name b ≡ Some f.rule = ap (λ d. refusal d name b) (sym same) ∙ e.0 in
-    subst (λ n. Breaks f.rule text n) e.1 (refusal_breaks text ds name b after f.rule due broken)
+    subst (λ n. Breaks f.rule text n) e.1 (refusal_breaks text ds name b after f.rule (subst AreFew same few) due broken)
 
 -- ---- a word that is no name, and a body that is not read
 
@@ -120,10 +121,12 @@ preset_breaks text ds name after kind f due named p =
     let read : AreTokens (p.colon ∷ p.block ∷ p.assign ∷ p.opening ∷ p.parameter ∷ p.given ∷ p.bad.word ∷ []) after p.bad.after
     = AreTokens-append (p.colon ∷ p.block ∷ p.assign ∷ p.opening ∷ p.parameter ∷ p.given ∷ []) (p.bad.word ∷ []) after p.before p.bad.after p.read p.bad.read in
     subst (λ r. Breaks r text f.left) (sym p.bad.rule_is) (
-      kind,
+      p.form,
       p.bad.word,
       p.bad.after,
       record {
+        kind = kind;
+        takes = p.takes;
         ds = ds;
         name = name;
         behind = after;

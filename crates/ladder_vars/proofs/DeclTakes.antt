@@ -44,6 +44,10 @@ pub added_is : (a : Declared) (name : List ℕ) (b : Body) (left : ℕ) (more : 
 unfolding added
 added_is a name b left more h = (refused-ok (refusal a name b) left (with_decl a name b) more h).1
 
+pub accepted_is : (a : Declared) (name : List ℕ) (b : Body) (left : ℕ) (more : Declared) → added a name b left ≡ Ok more → refusal a name b ≡ None
+unfolding added
+accepted_is a name b left more h = (refused-ok (refusal a name b) left (with_decl a name b) more h).0
+
 vars-push : (ds : List Decl) (d : Decl) → (declared_by (ds ++ d ∷ [])).vars ≡ (declared_by ds).vars ++ (declared_by (d ∷ [])).vars
 vars-push ds d = filter_map-append (λ x. var_of x.name x.body) ds (d ∷ [])
 

@@ -5,12 +5,14 @@ use Rattle.std.proofs.lemmas.Bool.{or_cases, eqb-true, and_parts}
 use Rattle.ladder_vars.specs.declared.fault.Fault.{Fault}
 use Rattle.ladder_vars.specs.declared.fault.VarRule.TheVariants as rule
 use Rattle.ladder_vars.specs.declared.decls.VarKind.{VarKind}
-use Rattle.ladder_vars.specs.declared.decls.BlockKind.{BlockKind}
-use Rattle.ladder_vars.specs.declared.decls.BlockKind.TheVariants as block_kind
+use Rattle.ladder_vars.specs.declared.kind.BlockKind.{BlockKind}
+use Rattle.ladder_vars.specs.declared.kind.Parameter.{Parameter}
+use Rattle.ladder_vars.specs.declared.kind.Parameter.TheVariants as parameter
 use Rattle.ladder_vars.specs.declared.decls.Address.{Address}
 use Rattle.ladder_vars.specs.Name.{same_letters}
 use Rattle.ladder_vars.specs.Text.{AreTokens}
-use Rattle.ladder_vars.specs.Grammar.{Is, IsAddress, IsTime, IsCount, IsPresetWord, bit_of, block_of, parameter_of}
+use Rattle.ladder_vars.specs.Grammar.{Is, IsAddress, IsTime, IsCount, IsValue, bit_of, block_of}
+use Rattle.ladder_vars.specs.Kind.{parameter_word}
 use Rattle.ladder_vars.specs.ReadText.{◌>>=◌, token_at}
 use Rattle.ladder_vars.specs.ReadWords.{address_of}
 use Rattle.ladder_vars.specs.ReadDecls.{at, some_or, expect, given_bit, initial_at, bool_at, placed}
@@ -54,6 +56,8 @@ block_no_end w k h =
             alike (codes "END_VAR") (codes "TP") w e,
             alike (codes "END_VAR") (codes "CTU") w e,
             alike (codes "END_VAR") (codes "CTD") w e,
+            alike (codes "END_VAR") (codes "SR") w e,
+            alike (codes "END_VAR") (codes "RS") w e,
           ) refl in
           absurd cc
     ] refl
@@ -85,19 +89,13 @@ time_no_end w n (h, small) =
       ]
     ]
 
-pub preset_no_end : (k : BlockKind) (w : List ℕ) (n : ℕ) → IsPresetWord k w n → IsNoEnd w
-preset_no_end block_kind.Ton w n h = time_no_end w n h
-preset_no_end block_kind.Tof w n h = time_no_end w n h
-preset_no_end block_kind.Tp w n h = time_no_end w n h
-preset_no_end block_kind.Ctu w n h = count_no_end w n h
-preset_no_end block_kind.Ctd w n h = count_no_end w n h
+pub value_no_end : (form : Parameter) (w : List ℕ) (n : ℕ) → IsValue form w n → IsNoEnd w
+value_no_end parameter.Time w n h = time_no_end w n h
+value_no_end parameter.Count w n h = count_no_end w n h
 
-pub parameter_no_end : (k : BlockKind) (w : List ℕ) → Is (parameter_of k) w → IsNoEnd w
-parameter_no_end block_kind.Ton w h = alike (codes "PT") (codes "END_VAR") w h
-parameter_no_end block_kind.Tof w h = alike (codes "PT") (codes "END_VAR") w h
-parameter_no_end block_kind.Tp w h = alike (codes "PT") (codes "END_VAR") w h
-parameter_no_end block_kind.Ctu w h = alike (codes "PV") (codes "END_VAR") w h
-parameter_no_end block_kind.Ctd w h = alike (codes "PV") (codes "END_VAR") w h
+pub parameter_no_end : (form : Parameter) (w : List ℕ) → Is (parameter_word form) w → IsNoEnd w
+parameter_no_end parameter.Time w h = alike (codes "PT") (codes "END_VAR") w h
+parameter_no_end parameter.Count w h = alike (codes "PV") (codes "END_VAR") w h
 
 -- ---- steps
 

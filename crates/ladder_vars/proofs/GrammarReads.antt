@@ -5,17 +5,19 @@ use Rattle.std.proofs.lemmas.Cmp.{nat_list_eq_equiv}
 use Rattle.ladder_vars.specs.declared.fault.Fault.{Fault}
 use Rattle.ladder_vars.specs.declared.decls.VarKind.{VarKind}
 use Rattle.ladder_vars.specs.declared.decls.VarKind.TheVariants as var_kind
-use Rattle.ladder_vars.specs.declared.decls.BlockKind.{BlockKind}
+use Rattle.ladder_vars.specs.declared.kind.BlockKind.{BlockKind}
+use Rattle.ladder_vars.specs.declared.kind.Parameter.{Parameter}
 use Rattle.ladder_vars.specs.declared.decls.Address.{Address}
 use Rattle.ladder_vars.specs.declared.decls.Body.{Body}
 use Rattle.ladder_vars.specs.declared.decls.Body.TheVariants as body
 use Rattle.ladder_vars.specs.Name.{same_letters}
 use Rattle.ladder_vars.specs.Text.{AreTokens}
-use Rattle.ladder_vars.specs.Grammar.{Is, IsInitial, HasPreset, IsPreset, IsVarBody, IsInstanceBody, IsBody, bit_of, block_of, parameter_of}
-use Rattle.ladder_vars.specs.ReadWords.{address_of, preset_of}
+use Rattle.ladder_vars.specs.Grammar.{Is, IsInitial, HasPreset, IsPreset, IsVarBody, IsInstanceBody, IsBody, bit_of, block_of}
+use Rattle.ladder_vars.specs.Kind.{parameter_word}
+use Rattle.ladder_vars.specs.ReadWords.{address_of, value_of}
 use Rattle.ladder_vars.specs.ReadDecls.{expect, given_bit, initial_at, preset_word, given_preset, preset_at, bool_at, placed, block_at, typed, body_at}
 use Rattle.ladder_vars.proofs.TextReads.{first_token}
-use Rattle.ladder_vars.proofs.WordLaws.{address_reads, preset_reads}
+use Rattle.ladder_vars.proofs.WordLaws.{address_reads, value_reads}
 
 -- a token that is one word is another where the words are
 pub alike : (word other token : List ℕ) → Is word token → same_letters token other ≡ same_letters word other
@@ -57,22 +59,22 @@ initial_reads ts value semicolon us text rest (inr (assign, bit, parts, is_assig
     let given = given_bit_reads bit semicolon us value first.0 rest is_bit is_semicolon first.2 in
     record { after = given.after; value = rw (first.1, not_end, is_assign) given.value; others = given.others }
 
-preset_word_reads : (kind : BlockKind) (word : List ℕ) (us : List (List ℕ)) (n : ℕ) (text rest : List ℕ) → preset_of kind word ≡ Some n
-    → AreTokens (word ∷ us) text rest → Reads (preset_word kind) n text us rest
+preset_word_reads : (form : Parameter) (word : List ℕ) (us : List (List ℕ)) (n : ℕ) (text rest : List ℕ) → value_of form word ≡ Some n
+    → AreTokens (word ∷ us) text rest → Reads (preset_word form) n text us rest
 unfolding preset_word
-preset_word_reads kind word us n text rest is_word h =
+preset_word_reads form word us n text rest is_word h =
     let first = first_token word us text rest h in
     record { after = first.0; value = rw (first.1, is_word) refl; others = first.2 }
 
 given_preset_reads : (ts : List (List ℕ)) (kind : BlockKind) (n : ℕ) (semicolon : List ℕ) (us : List (List ℕ)) (text rest : List ℕ)
     → (p : HasPreset ts kind n) → Is (codes ";") semicolon
-    → AreTokens (p.opening ∷ p.parameter ∷ p.given ∷ p.word ∷ p.closing ∷ semicolon ∷ us) text rest → Reads (given_preset kind) n text us rest
+    → AreTokens (p.opening ∷ p.parameter ∷ p.given ∷ p.word ∷ p.closing ∷ semicolon ∷ us) text rest → Reads (given_preset p.form) n text us rest
 unfolding given_preset
 given_preset_reads ts kind n semicolon us text rest p is_semicolon h =
     let a = expect_reads (codes "(") p.opening (p.parameter ∷ p.given ∷ p.word ∷ p.closing ∷ semicolon ∷ us) text rest p.is_opening h in
-    let b = expect_reads (parameter_of kind) p.parameter (p.given ∷ p.word ∷ p.closing ∷ semicolon ∷ us) a.0 rest p.is_parameter a.2 in
+    let b = expect_reads (parameter_word p.form) p.parameter (p.given ∷ p.word ∷ p.closing ∷ semicolon ∷ us) a.0 rest p.is_parameter a.2 in
     let c = expect_reads (codes ":=") p.given (p.word ∷ p.closing ∷ semicolon ∷ us) b.0 rest p.is_given b.2 in
-    let x = preset_word_reads kind p.word (p.closing ∷ semicolon ∷ us) n c.0 rest (preset_reads kind p.word n p.is_word) c.2 in
+    let x = preset_word_reads p.form p.word (p.closing ∷ semicolon ∷ us) n c.0 rest (value_reads p.form p.word n p.is_word) c.2 in
     let d = expect_reads (codes ")") p.closing (semicolon ∷ us) x.after rest p.is_closing x.others in
     let e = expect_reads (codes ";") semicolon us d.0 rest is_semicolon d.2 in
     record { after = e.0; value = rw (a.1, b.1, c.1, x.value, d.1, e.1) refl; others = e.2 }
@@ -90,7 +92,7 @@ preset_at_reads ts kind n semicolon us text rest (inr p) is_semicolon h =
     let first = first_token p.assign later text rest tokens in
     let not_end : same_letters p.assign (codes ";") ≡ false = alike (codes ":=") (codes ";") p.assign p.is_assign in
     let given = given_preset_reads ts kind n semicolon us first.0 rest p is_semicolon first.2 in
-    record { after = given.after; value = rw (first.1, not_end, p.is_assign) given.value; others = given.others }
+    record { after = given.after; value = rw (first.1, not_end, p.is_assign, p.takes) given.value; others = given.others }
 
 bool_at_reads : (kind : VarKind) (address : Option Address) (ts : List (List ℕ)) (value : Bool) (semicolon : List ℕ) (us : List (List ℕ)) (text rest : List ℕ)
     → IsInitial ts value → Is (codes ";") semicolon → AreTokens (ts ++ (semicolon ∷ us)) text rest
@@ -168,6 +170,8 @@ block_of-other word kind h =
             alike (codes "BOOL") (codes "TP") word e,
             alike (codes "BOOL") (codes "CTU") word e,
             alike (codes "BOOL") (codes "CTD") word e,
+            alike (codes "BOOL") (codes "SR") word e,
+            alike (codes "BOOL") (codes "RS") word e,
           ) refl in
           absurd cc
     ] refl

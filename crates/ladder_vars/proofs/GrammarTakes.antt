@@ -3,19 +3,21 @@ use Rattle.std.proofs.Common.{◌≡◌, ℕ, inl, inr, Bool, false, List, [], �
 use Rattle.ladder_vars.specs.declared.fault.Fault.{Fault}
 use Rattle.ladder_vars.specs.declared.decls.VarKind.{VarKind}
 use Rattle.ladder_vars.specs.declared.decls.VarKind.TheVariants as var_kind
-use Rattle.ladder_vars.specs.declared.decls.BlockKind.{BlockKind}
+use Rattle.ladder_vars.specs.declared.kind.BlockKind.{BlockKind}
+use Rattle.ladder_vars.specs.declared.kind.Parameter.{Parameter}
 use Rattle.ladder_vars.specs.declared.decls.Address.{Address}
 use Rattle.ladder_vars.specs.declared.decls.Body.{Body}
 use Rattle.ladder_vars.specs.declared.decls.Body.TheVariants as body
 use Rattle.ladder_vars.specs.Name.{same_letters}
 use Rattle.ladder_vars.specs.Text.{AreTokens}
-use Rattle.ladder_vars.specs.Grammar.{Is, IsPlace, IsInitial, HasPreset, IsPreset, IsVarBody, IsInstanceBody, IsBody, bit_of, block_of, parameter_of}
+use Rattle.ladder_vars.specs.Grammar.{Is, IsPlace, IsInitial, HasPreset, IsPreset, IsVarBody, IsInstanceBody, IsBody, bit_of, block_of}
+use Rattle.ladder_vars.specs.Kind.{traits_of, parameter_word}
 use Rattle.ladder_vars.specs.ReadText.{token_at}
-use Rattle.ladder_vars.specs.ReadWords.{address_of, preset_of}
-use Rattle.ladder_vars.specs.ReadDecls.{some_or, expect, given_bit, initial_at, preset_word, given_preset, preset_at, bool_at, placed, block_at, typed, body_at}
+use Rattle.ladder_vars.specs.ReadWords.{address_of, value_of}
+use Rattle.ladder_vars.specs.ReadDecls.{some_or, expect, given_bit, initial_at, preset_word, given_preset, given_to, preset_at, bool_at, placed, block_at, typed, body_at}
 use Rattle.ladder_vars.proofs.Steps.{bind_ok, chosen}
 use Rattle.ladder_vars.proofs.TextTakes.{token_takes, AreTokens-append}
-use Rattle.ladder_vars.proofs.WordLaws.{address_takes, preset_takes}
+use Rattle.ladder_vars.proofs.WordLaws.{address_takes, value_takes}
 
 pub some_or-ok : {A : Type 0} (f : Fault) (o : Option A) (x : A) → some_or f o ≡ Ok x → o ≡ Some x
 some_or-ok f (Some y) x e = let same : y ≡ x = cc in ap Some same
@@ -100,31 +102,31 @@ record TakesPreset (kind : BlockKind) (n : ℕ) (text rest : List ℕ) : Type 0 
   is_semicolon : Is (codes ";") semicolon
   tokens : AreTokens (preset ++ semicolon ∷ []) text rest
 
-pub preset_word_takes : (kind : BlockKind) (n : ℕ) (text rest : List ℕ) → preset_word kind text ≡ Ok (n, rest)
-    → (w : List ℕ) × (preset_of kind w ≡ Some n) × AreTokens (w ∷ []) text rest
+pub preset_word_takes : (form : Parameter) (n : ℕ) (text rest : List ℕ) → preset_word form text ≡ Ok (n, rest)
+    → (w : List ℕ) × (value_of form w ≡ Some n) × AreTokens (w ∷ []) text rest
 unfolding preset_word
-preset_word_takes kind n text rest h =
+preset_word_takes form n text rest h =
     let word = bind_ok (token_at text) _ (n, rest) h in
     let w : List ℕ = word.0.0 in
     let a : List ℕ = word.0.1 in
-    let v = bind_ok (some_or _ (preset_of kind w)) _ (n, rest) word.2 in
+    let v = bind_ok (some_or _ (value_of form w)) _ (n, rest) word.2 in
     let parts : (v.0 ≡ n) × (a ≡ rest) = halves v.0 n a rest v.2 in
-    (w, some_or-ok _ (preset_of kind w) v.0 v.1 ∙ ap Some parts.0, subst (λ r. AreTokens (w ∷ []) text r) parts.1 (token_takes text w a word.1))
+    (w, some_or-ok _ (value_of form w) v.0 v.1 ∙ ap Some parts.0, subst (λ r. AreTokens (w ∷ []) text r) parts.1 (token_takes text w a word.1))
 
-given_preset_takes : (kind : BlockKind) (n : ℕ) (m text start rest : List ℕ) → Is (codes ":=") m → AreTokens (m ∷ []) start text
-    → given_preset kind text ≡ Ok (n, rest) → TakesPreset kind n start rest
+given_preset_takes : (kind : BlockKind) (form : Parameter) (n : ℕ) (m text start rest : List ℕ) → (traits_of kind).parameter ≡ Some form
+    → Is (codes ":=") m → AreTokens (m ∷ []) start text → given_preset form text ≡ Ok (n, rest) → TakesPreset kind n start rest
 unfolding given_preset
-given_preset_takes kind n m text start rest is_assign first h =
+given_preset_takes kind form n m text start rest takes is_assign first h =
     let a = bind_ok (expect (codes "(") text) _ (n, rest) h in
-    let b = bind_ok (expect (parameter_of kind) a.0) _ (n, rest) a.2 in
+    let b = bind_ok (expect (parameter_word form) a.0) _ (n, rest) a.2 in
     let c = bind_ok (expect (codes ":=") b.0) _ (n, rest) b.2 in
-    let x = bind_ok (preset_word kind c.0) _ (n, rest) c.2 in
+    let x = bind_ok (preset_word form c.0) _ (n, rest) c.2 in
     let d = bind_ok (expect (codes ")") x.0.1) _ (n, rest) x.2 in
     let e = bind_ok (expect (codes ";") d.0) _ (n, rest) d.2 in
     let ta = expect_takes (codes "(") text a.0 a.1 in
-    let tb = expect_takes (parameter_of kind) a.0 b.0 b.1 in
+    let tb = expect_takes (parameter_word form) a.0 b.0 b.1 in
     let tc = expect_takes (codes ":=") b.0 c.0 c.1 in
-    let tx = preset_word_takes kind x.0.0 c.0 x.0.1 x.1 in
+    let tx = preset_word_takes form x.0.0 c.0 x.0.1 x.1 in
     let td = expect_takes (codes ")") x.0.1 d.0 d.1 in
     let te = expect_takes (codes ";") d.0 e.0 e.1 in
     let parts : (x.0.0 ≡ n) × (e.0 ≡ rest) = halves x.0.0 n e.0 rest e.2 in
@@ -136,6 +138,8 @@ given_preset_takes kind n m text start rest is_assign first h =
     let p7 : AreTokens (m ∷ ta.0 ∷ tb.0 ∷ tc.0 ∷ tx.0 ∷ td.0 ∷ te.0 ∷ []) start e.0
     = then (m ∷ ta.0 ∷ tb.0 ∷ tc.0 ∷ tx.0 ∷ td.0 ∷ []) (te.0 ∷ []) start d.0 e.0 p6 te.2 in
     let has : HasPreset (m ∷ ta.0 ∷ tb.0 ∷ tc.0 ∷ tx.0 ∷ td.0 ∷ []) kind n = record {
+      form = form;
+      takes = takes;
       assign = m;
       opening = ta.0;
       parameter = tb.0;
@@ -147,7 +151,7 @@ given_preset_takes kind n m text start rest is_assign first h =
       is_opening = ta.1;
       is_parameter = tb.1;
       is_given = tc.1;
-      is_word = preset_takes kind tx.0 n (tx.1 ∙ ap Some parts.0);
+      is_word = value_takes form tx.0 n (tx.1 ∙ ap Some parts.0);
       is_closing = td.1;
     } in
     record {
@@ -157,6 +161,11 @@ given_preset_takes kind n m text start rest is_assign first h =
       is_semicolon = te.1;
       tokens = subst (λ r. AreTokens (m ∷ ta.0 ∷ tb.0 ∷ tc.0 ∷ tx.0 ∷ td.0 ∷ te.0 ∷ []) start r) parts.1 p7;
     }
+
+given_to_takes : (kind : BlockKind) (form : Option Parameter) (n : ℕ) (m text start rest : List ℕ) → (traits_of kind).parameter ≡ form
+    → Is (codes ":=") m → AreTokens (m ∷ []) start text → given_to form text ≡ Ok (n, rest) → TakesPreset kind n start rest
+given_to_takes kind (Some form) n m text start rest takes is_assign first h = given_preset_takes kind form n m text start rest takes is_assign first h
+given_to_takes kind None n m text start rest takes is_assign first h = absurd cc
 
 preset_at_takes : (kind : BlockKind) (n : ℕ) (text rest : List ℕ) → preset_at kind text ≡ Ok (n, rest) → TakesPreset kind n text rest
 unfolding preset_at
@@ -177,7 +186,7 @@ preset_at_takes kind n text rest h =
           }
       | inr other ↦ elim (chosen (same_letters m (codes ":=")) _ _ _ other.1) [
         | inr wrong ↦ absurd cc
-        | inl assign ↦ given_preset_takes kind n m a text rest assign.0 first assign.1
+        | inl assign ↦ given_to_takes kind (traits_of kind).parameter n m a text rest refl assign.0 first assign.1
       ]
     ]
 

@@ -1,19 +1,20 @@
 -- Names, addresses and limits are kept by one more declaration exactly where no rule refuses it.
-use Rattle.std.proofs.Common.{◌≡◌, ℕ, ◌≤◌, ◌<◌, false, ◌||◌, ◌==◌, nat_le, List, [], ◌∷◌, ◌++◌, length, map, Option, Some, None, refl, sym, ap, ◌∙◌, arith, append_assoc, inl, inr}
+use Rattle.std.proofs.Common.{◌≡◌, ℕ, ◌≤◌, ◌<◌, false, ◌||◌, ◌==◌, nat_le, nat_lt, List, [], ◌∷◌, ◌++◌, length, map, Option, Some, None, refl, sym, ap, ◌∙◌, arith, append_assoc, inl, inr}
 use Rattle.std.specs.List.{IsDistinct, list_any}
 use Rattle.std.specs.Str.{str_to_ascii_lowercase}
 use Rattle.std.proofs.lemmas.Cmp.{nat_eq_equiv, nat_list_eq_equiv}
 use Rattle.std.proofs.lemmas.List.{append-nil, length-append, map-append}
 use Rattle.std.proofs.lemmas.List.Elements.{All-nil, All-push, filter_map-append}
 use Rattle.std.proofs.lemmas.List.Folds.{list_any-append}
-use Rattle.std.proofs.lemmas.Bool.{leb-false}
+use Rattle.std.proofs.lemmas.Bool.{leb-false, ltb-false}
 use Rattle.ladder_vars.specs.declared.decls.Address.{Address}
 use Rattle.ladder_vars.specs.declared.decls.Var.{Var}
 use Rattle.ladder_vars.specs.declared.decls.Instance.{Instance}
 use Rattle.ladder_vars.specs.declared.decls.Body.{Body}
 use Rattle.ladder_vars.specs.declared.decls.Body.TheVariants as body
 use Rattle.ladder_vars.specs.Name.{same_letters}
-use Rattle.ladder_vars.specs.Decls.{Declared, AreKept, names_of, addresses_of, same_number, same_address, largest_preset}
+use Rattle.ladder_vars.specs.Decls.{Declared, AreKept, names_of, addresses_of, same_number, same_address}
+use Rattle.ladder_vars.specs.Kind.{traits_of, largest_preset}
 use Rattle.ladder_vars.specs.ReadDecls.{nothing, is_there, is_declared, is_taken, refusal, with_var, with_instance, with_decl, PresetFits}
 use Rattle.ladder_vars.proofs.Steps.{chosen, or_false}
 use Rattle.ladder_vars.proofs.Lists.{list_any-map, IsDistinct-put_between}
@@ -25,7 +26,7 @@ AreKept-nothing = record {
   addresses = tt;
   few_vars = omega arith;
   few_instances = omega arith;
-  short_names = All-nil (λ i. length i.name ≤ 9);
+  short_names = All-nil (λ i. length i.name ≤ (traits_of i.kind).longest_name);
   presets = All-nil (λ i. i.preset ≤ largest_preset i.kind);
 }
 
@@ -121,7 +122,7 @@ AreKept-var d v kept accepted =
 pub AreKept-instance : (d : Declared) (i : Instance) → AreKept d → refusal d i.name (body.Instance i.kind i.preset) ≡ None → i.preset ≤ largest_preset i.kind
     → AreKept (with_instance d i)
 AreKept-instance d i kept accepted fits =
-    elim (chosen (nat_le 10 (length i.name)) _ _ _ accepted) [
+    elim (chosen (nat_lt (traits_of i.kind).longest_name (length i.name)) _ _ _ accepted) [
       | inl long ↦ absurd cc
       | inr short ↦ elim (chosen (is_declared d i.name) _ _ _ short.1) [
         | inl twice ↦ absurd cc
@@ -131,15 +132,50 @@ AreKept-instance d i kept accepted fits =
               let apart : list_any (same_letters i.name) (names_of d ++ []) ≡ false = rw (append-nil (names_of d)) (names_none d i.name new.0) in
               let distinct : IsDistinct same_letters (names_of d ++ []) = rw (append-nil (names_of d)) kept.names in
               let few : length d.instances < 64 = leb-false 64 (length d.instances) room.0 in
-              let short_name : length i.name ≤ 9 = omega (arith, leb-false 10 (length i.name) short.0) in
+              let short_name : length i.name ≤ (traits_of i.kind).longest_name = ltb-false (traits_of i.kind).longest_name (length i.name) short.0 in
               record {
                 names = rw (names-instance d i) (IsDistinct-put_between same_letters same_letters-flips (names_of d) i.name [] distinct apart);
                 addresses = kept.addresses;
                 few_vars = kept.few_vars;
                 few_instances = omega (arith, length-append {A = Instance} d.instances (i ∷ []));
-                short_names = All-push (λ x. length x.name ≤ 9) d.instances i kept.short_names short_name;
+                short_names = All-push (λ x. length x.name ≤ (traits_of x.kind).longest_name) d.instances i kept.short_names short_name;
                 presets = All-push (λ x. x.preset ≤ largest_preset x.kind) d.instances i kept.presets fits;
               }
+        ]
+      ]
+    ]
+
+-- So many declarations there may be while the text is read.
+pub record AreFew (d : Declared) : Type 0 where
+  pub vars : length d.vars ≤ 256
+  pub instances : length d.instances ≤ 64
+
+pub AreFew-decl : (d : Declared) (name : List ℕ) (b : Body) → AreFew d → refusal d name b ≡ None → AreFew (with_decl d name b)
+AreFew-decl d name (body.Var kind address initial) few accepted =
+    elim (chosen (is_declared d name) _ _ _ accepted) [
+      | inl twice ↦ absurd cc
+      | inr new ↦ elim (chosen (is_taken d address) _ _ _ new.1) [
+        | inl taken ↦ absurd cc
+        | inr unused ↦ elim (chosen (nat_le 256 (length d.vars)) _ _ _ unused.1) [
+          | inl full ↦ absurd cc
+          | inr room ↦
+              let below : length d.vars < 256 = leb-false 256 (length d.vars) room.0 in
+              let v : Var = record { name = name; kind = kind; address = address; initial = initial } in
+              record { vars = omega (arith, length-append {A = Var} d.vars (v ∷ [])); instances = few.instances }
+        ]
+      ]
+    ]
+AreFew-decl d name (body.Instance kind preset) few accepted =
+    elim (chosen (nat_lt (traits_of kind).longest_name (length name)) _ _ _ accepted) [
+      | inl long ↦ absurd cc
+      | inr short ↦ elim (chosen (is_declared d name) _ _ _ short.1) [
+        | inl twice ↦ absurd cc
+        | inr new ↦ elim (chosen (nat_le 64 (length d.instances)) _ _ _ new.1) [
+          | inl full ↦ absurd cc
+          | inr room ↦
+              let below : length d.instances < 64 = leb-false 64 (length d.instances) room.0 in
+              let i : Instance = record { name = name; kind = kind; preset = preset } in
+              record { vars = few.vars; instances = omega (arith, length-append {A = Instance} d.instances (i ∷ [])) }
         ]
       ]
     ]

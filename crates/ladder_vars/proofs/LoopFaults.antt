@@ -1,5 +1,5 @@
 -- Where a text is not read, the rule of the fault is broken at its place.
-use Rattle.std.proofs.Common.{◌≡◌, ℕ, zero, suc, ◌+◌, ◌<◌, inl, inr, true, false, List, [], ◌∷◌, ◌++◌, length, codes, Err, refl, sym, ap, ◌∙◌, arith}
+use Rattle.std.proofs.Common.{◌≡◌, ℕ, zero, suc, ◌+◌, ◌<◌, inl, inr, true, false, List, [], ◌∷◌, ◌++◌, length, codes, Err, refl, sym, ap, subst, ◌∙◌, arith}
 use Rattle.ladder_vars.specs.declared.fault.Fault.{Fault}
 use Rattle.ladder_vars.specs.declared.fault.VarRule.{VarRule}
 use Rattle.ladder_vars.specs.declared.fault.VarRule.TheVariants as rule
@@ -11,6 +11,7 @@ use Rattle.ladder_vars.specs.Grammar.{Decl, IsDecl, declared_by}
 use Rattle.ladder_vars.specs.ReadText.{token_at}
 use Rattle.ladder_vars.specs.ReadDecls.{expect, name_of, with_decl, added, body_at, nothing, decls_from, all_of}
 use Rattle.ladder_vars.specs.Rules.{NameDue, WordDue, DeclDue, Breaks, BreaksOn, line_of}
+use Rattle.ladder_vars.proofs.Keeping.{AreFew, AreFew-decl}
 use Rattle.ladder_vars.proofs.Steps.{bind_err, chosen}
 use Rattle.ladder_vars.proofs.TextReads.{first_token}
 use Rattle.ladder_vars.proofs.TextTakes.{token_takes, AreTokens-append}
@@ -21,7 +22,7 @@ use Rattle.ladder_vars.proofs.GrammarFaults.{expect_meets}
 use Rattle.ladder_vars.proofs.PresetFaults.{body_meets}
 use Rattle.ladder_vars.proofs.BodyEnds.{body_no_end}
 use Rattle.ladder_vars.proofs.DeclReads.{tokens-shorter}
-use Rattle.ladder_vars.proofs.DeclTakes.{AreDecls-push, named_is, added_is, declared_by-push}
+use Rattle.ladder_vars.proofs.DeclTakes.{AreDecls-push, named_is, added_is, accepted_is, declared_by-push}
 use Rattle.ladder_vars.proofs.DeclFaults.{meets_breaks, added_breaks, name_breaks, preset_breaks}
 
 next_due : (text : List ℕ) (ds : List Decl) (due name after rest : List ℕ) (b : Body) → NameDue text ds due → AreTokens (name ∷ []) due after
@@ -52,10 +53,10 @@ shorter_rest n due w after rest b enough word taken =
     omega (arith, first.3, ap length first.2, tokens-shorter taken.behind after rest taken.tokens)
 
 decls_break : (n : ℕ) (text : List ℕ) (ds : List Decl) (a : Declared) (due : List ℕ) (f : Fault) → length due < n → NameDue text ds due → a ≡ declared_by ds
-    → decls_from n a due ≡ Err f → Breaks f.rule text f.left
+    → AreFew a → decls_from n a due ≡ Err f → Breaks f.rule text f.left
 unfolding decls_from
-decls_break zero text ds a due f enough h same e = absurd (omega arith)
-decls_break (suc n) text ds a due f enough h same e =
+decls_break zero text ds a due f enough h same few e = absurd (omega arith)
+decls_break (suc n) text ds a due f enough h same few e =
     elim (bind_err (token_at due) _ f e) [
       | inl none ↦ meets_breaks text f (meets_later (h.opening ∷ h.tokens) text due f h.no_end h.read (token_meets due f none))
       | inr ((w, after), found, then) ↦
@@ -84,7 +85,7 @@ decls_break (suc n) text ds a due f enough h same e =
                               read = taken.tokens;
                             } in
                             elim (bind_err (added a name b (length after)) _ f more) [
-                              | inl refused_ ↦ added_breaks text ds a w b after f same decl_due (ap (λ x. added a x b (length after)) named.0 ∙ refused_)
+                              | inl refused_ ↦ added_breaks text ds a w b after f same few decl_due (ap (λ x. added a x b (length after)) named.0 ∙ refused_)
                               | inr (next, made, others) ↦
                                   let d : Decl = record { name = w; body = b } in
                                   let due_then : NameDue text (ds ++ d ∷ []) rest = next_due text ds due w after rest b h word other.0 named.1 taken in
@@ -92,12 +93,17 @@ decls_break (suc n) text ds a due f enough h same e =
                                   = sym (added_is a name b (length after) next made) ∙ ap (λ x. with_decl a x b) (sym named.0) ∙ ap (λ x. with_decl x w b) same
                                   ∙ sym (declared_by-push ds d) in
                                   let shorter : length rest < n = shorter_rest n due w after rest b enough word taken in
-                                  decls_break n text (ds ++ d ∷ []) next rest f shorter due_then pushed others
+                                  let still : AreFew next
+                                  = subst AreFew (added_is a name b (length after) next made) (AreFew-decl a name b few (accepted_is a name b (length after) next made)) in
+                                  decls_break n text (ds ++ d ∷ []) next rest f shorter due_then pushed still others
                             ]
                       ]
                 ]
           ]
     ]
+
+few_first : AreFew nothing
+few_first = record { vars = omega arith; instances = omega arith }
 
 pub all_breaks : (text : List ℕ) (f : Fault) → all_of text ≡ Err f → Breaks f.rule text f.left
 unfolding all_of
@@ -114,7 +120,7 @@ all_breaks text f h =
             no_end = (alike (codes "VAR") (codes "END_VAR") opening.0 opening.1, tt);
             read = opening.2;
           } in
-          decls_break (length start + 1) text [] nothing start f (omega arith) due refl then
+          decls_break (length start + 1) text [] nothing start f (omega arith) due refl few_first then
     ]
 
 pub breaks_on : (r : VarRule) (text : List ℕ) (left : ℕ) → Breaks r text left → BreaksOn r text (line_of text left)

@@ -1,51 +1,53 @@
 -- Where a preset is not read, a rule is broken at a token, or the preset is none; and the bodies that have one.
-use Rattle.std.proofs.Common.{◌≡◌, ℕ, ◌⊎◌, inl, inr, true, false, ◌||◌, ◌==◌, List, [], ◌∷◌, length, codes, Some, None, Err, refl, sym, ap, ◌∙◌}
+use Rattle.std.proofs.Common.{◌≡◌, ℕ, ◌⊎◌, inl, inr, true, false, ◌||◌, ◌==◌, List, [], ◌∷◌, length, codes, Option, Some, None, Err, refl, sym, ap, ◌∙◌}
 use Rattle.ladder_vars.specs.declared.fault.Fault.{Fault}
 use Rattle.ladder_vars.specs.declared.fault.VarRule.TheVariants as rule
 use Rattle.ladder_vars.specs.declared.decls.VarKind.TheVariants as var_kind
-use Rattle.ladder_vars.specs.declared.decls.BlockKind.{BlockKind}
+use Rattle.ladder_vars.specs.declared.kind.BlockKind.{BlockKind}
+use Rattle.ladder_vars.specs.declared.kind.Parameter.{Parameter}
 use Rattle.ladder_vars.specs.Name.{same_letters}
 use Rattle.ladder_vars.specs.Text.{begins, is_word_byte, AreTokens}
-use Rattle.ladder_vars.specs.Grammar.{Is, IsPresetWord, block_of, parameter_of}
+use Rattle.ladder_vars.specs.Grammar.{Is, IsValue, block_of}
+use Rattle.ladder_vars.specs.Kind.{traits_of, parameter_word}
 use Rattle.ladder_vars.specs.ReadText.{token_at}
-use Rattle.ladder_vars.specs.ReadWords.{preset_of}
-use Rattle.ladder_vars.specs.ReadDecls.{at, some_or, preset_fault, expect, preset_word, given_preset, preset_at, block_at, typed, body_at}
+use Rattle.ladder_vars.specs.ReadWords.{value_of}
+use Rattle.ladder_vars.specs.ReadDecls.{at, some_or, preset_fault, expect, preset_word, given_preset, given_to, preset_at, block_at, typed, body_at}
 use Rattle.ladder_vars.specs.Rules.{NoEnd}
 use Rattle.ladder_vars.proofs.Steps.{bind_err, chosen}
 use Rattle.ladder_vars.proofs.TextTakes.{token_takes, AreTokens-append}
 use Rattle.ladder_vars.proofs.TextFaults.{Meets, token_meets, meets_later}
-use Rattle.ladder_vars.proofs.WordLaws.{preset_takes, preset_reads}
+use Rattle.ladder_vars.proofs.WordLaws.{value_takes, value_reads}
 use Rattle.ladder_vars.proofs.GrammarReads.{alike}
 use Rattle.ladder_vars.proofs.GrammarTakes.{some_or-ok, expect_takes, preset_word_takes}
-use Rattle.ladder_vars.proofs.GrammarFaults.{IsNoEnd, preset_no_end, parameter_no_end, block_no_end, some_or-err, behind, expect_meets, then_expect, bool_meets, placed_meets}
+use Rattle.ladder_vars.proofs.GrammarFaults.{IsNoEnd, value_no_end, parameter_no_end, block_no_end, some_or-err, behind, expect_meets, then_expect, bool_meets, placed_meets}
 
 -- a word that is no preset stands where one is due
-pub record NoPreset (kind : BlockKind) (f : Fault) (text : List ℕ) : Type 0 where
+pub record NoPreset (form : Parameter) (f : Fault) (text : List ℕ) : Type 0 where
   pub word : List ℕ
   pub after : List ℕ
   pub read : AreTokens (word ∷ []) text after
   pub is_word : begins (λ b. is_word_byte b || b == 37) word ≡ true
-  pub none : (n : ℕ) → IsPresetWord kind word n → ⊥
+  pub none : (n : ℕ) → IsValue form word n → ⊥
   pub rule_is : f.rule ≡ rule.BadPreset
   pub left_is : f.left ≡ length after
 
-preset_word_meets : (kind : BlockKind) (text : List ℕ) (f : Fault) → preset_word kind text ≡ Err f → Meets f text ⊎ NoPreset kind f text
+preset_word_meets : (form : Parameter) (text : List ℕ) (f : Fault) → preset_word form text ≡ Err f → Meets f text ⊎ NoPreset form f text
 unfolding preset_word
-preset_word_meets kind text f h =
+preset_word_meets form text f h =
     elim (bind_err (token_at text) _ f h) [
       | inl none ↦ inl (token_meets text f none)
-      | inr (x, found, then) ↦ elim (bind_err (some_or (at (preset_fault x.0) x.1) (preset_of kind x.0)) _ f then) [
+      | inr (x, found, then) ↦ elim (bind_err (some_or (at (preset_fault x.0) x.1) (value_of form x.0)) _ f then) [
         | inr (n, is, rest) ↦ absurd cc
         | inl none ↦
-            let e = some_or-err (at (preset_fault x.0) x.1) f (preset_of kind x.0) none in
-            elim (begins (λ b. is_word_byte b || b == 37) x.0) as (λ t. begins (λ b. is_word_byte b || b == 37) x.0 ≡ t → Meets f text ⊎ NoPreset kind f text) [
+            let e = some_or-err (at (preset_fault x.0) x.1) f (value_of form x.0) none in
+            elim (begins (λ b. is_word_byte b || b == 37) x.0) as (λ t. begins (λ b. is_word_byte b || b == 37) x.0 ≡ t → Meets f text ⊎ NoPreset form f text) [
               | false ↦ λ mark. inl (inl (ap (λ g. g.rule) (sym e.1) ∙ rw mark refl))
               | true ↦ λ word. inr (record {
                 word = x.0;
                 after = x.1;
                 read = token_takes text x.0 x.1 found;
                 is_word = word;
-                none = λ n is. let some : preset_of kind x.0 ≡ Some n = preset_reads kind x.0 n is in let no_preset : preset_of kind x.0 ≡ None = e.0 in absurd cc;
+                none = λ n is. let some : value_of form x.0 ≡ Some n = value_reads form x.0 n is in let no_preset : value_of form x.0 ≡ None = e.0 in absurd cc;
                 rule_is = ap (λ g. g.rule) (sym e.1) ∙ rw word refl;
                 left_is = ap (λ g. g.left) (sym e.1);
               })
@@ -54,30 +56,30 @@ preset_word_meets kind text f h =
     ]
 
 -- `( PT :=` stands before it
-record NoPresetGiven (kind : BlockKind) (f : Fault) (text : List ℕ) : Type 0 where
+record NoPresetGiven (form : Parameter) (f : Fault) (text : List ℕ) : Type 0 where
   opening : List ℕ
   parameter : List ℕ
   given : List ℕ
   before : List ℕ
   is_opening : Is (codes "(") opening
-  is_parameter : Is (parameter_of kind) parameter
+  is_parameter : Is (parameter_word form) parameter
   is_given : Is (codes ":=") given
   read : AreTokens (opening ∷ parameter ∷ given ∷ []) text before
-  bad : NoPreset kind f before
+  bad : NoPreset form f before
 
-given_preset_meets : (kind : BlockKind) (text : List ℕ) (f : Fault) → given_preset kind text ≡ Err f → Meets f text ⊎ NoPresetGiven kind f text
+given_preset_meets : (form : Parameter) (text : List ℕ) (f : Fault) → given_preset form text ≡ Err f → Meets f text ⊎ NoPresetGiven form f text
 unfolding given_preset
-given_preset_meets kind text f h =
+given_preset_meets form text f h =
     elim (bind_err (expect (codes "(") text) _ f h) [
       | inl none ↦ inl (expect_meets (codes "(") text f none)
       | inr (a, ra, ha) ↦
           let ta = expect_takes (codes "(") text a ra in
           let na : IsNoEnd ta.0 = alike (codes "(") (codes "END_VAR") ta.0 ta.1 in
-          elim (bind_err (expect (parameter_of kind) a) _ f ha) [
-            | inl none ↦ inl (behind ta.0 text a f na ta.2 (expect_meets (parameter_of kind) a f none))
+          elim (bind_err (expect (parameter_word form) a) _ f ha) [
+            | inl none ↦ inl (behind ta.0 text a f na ta.2 (expect_meets (parameter_word form) a f none))
             | inr (b, rb, hb) ↦
-                let tb = expect_takes (parameter_of kind) a b rb in
-                let nb : IsNoEnd tb.0 = parameter_no_end kind tb.0 tb.1 in
+                let tb = expect_takes (parameter_word form) a b rb in
+                let nb : IsNoEnd tb.0 = parameter_no_end form tb.0 tb.1 in
                 let two : AreTokens (ta.0 ∷ tb.0 ∷ []) text b = AreTokens-append (ta.0 ∷ []) (tb.0 ∷ []) text a b ta.2 tb.2 in
                 elim (bind_err (expect (codes ":=") b) _ f hb) [
                   | inl none ↦ inl (meets_later (ta.0 ∷ tb.0 ∷ []) text b f (na, (nb, tt)) two (expect_meets (codes ":=") b f none))
@@ -85,8 +87,8 @@ given_preset_meets kind text f h =
                       let tc = expect_takes (codes ":=") b c rc in
                       let nc : IsNoEnd tc.0 = alike (codes ":=") (codes "END_VAR") tc.0 tc.1 in
                       let three : AreTokens (ta.0 ∷ tb.0 ∷ tc.0 ∷ []) text c = AreTokens-append (ta.0 ∷ tb.0 ∷ []) (tc.0 ∷ []) text b c two tc.2 in
-                      elim (bind_err (preset_word kind c) _ f hc) [
-                        | inl none ↦ elim (preset_word_meets kind c f none) [
+                      elim (bind_err (preset_word form c) _ f hc) [
+                        | inl none ↦ elim (preset_word_meets form c f none) [
                           | inl m ↦ inl (meets_later (ta.0 ∷ tb.0 ∷ tc.0 ∷ []) text c f (na, (nb, (nc, tt))) three m)
                           | inr bad ↦ inr (record {
                             opening = ta.0;
@@ -101,8 +103,8 @@ given_preset_meets kind text f h =
                           })
                         ]
                         | inr (x, rx, hx) ↦
-                            let tx = preset_word_takes kind x.0 c x.1 rx in
-                            let nx : IsNoEnd tx.0 = preset_no_end kind tx.0 x.0 (preset_takes kind tx.0 x.0 tx.1) in
+                            let tx = preset_word_takes form x.0 c x.1 rx in
+                            let nx : IsNoEnd tx.0 = value_no_end form tx.0 x.0 (value_takes form tx.0 x.0 tx.1) in
                             let later : Meets f x.1 = then_expect (codes ")") x.1 _ f (λ w i. alike (codes ")") (codes "END_VAR") w i)
                             (λ d hd. then_expect (codes ";") d _ f (λ w i. alike (codes ";") (codes "END_VAR") w i) (λ e he. absurd cc) hd) hx in
                             inl (meets_later (ta.0 ∷ tb.0 ∷ tc.0 ∷ []) text c f (na, (nb, (nc, tt))) three (behind tx.0 c x.1 f nx tx.2 later))
@@ -113,6 +115,8 @@ given_preset_meets kind text f h =
 
 -- the whole body before it
 pub record NoPresetBody (kind : BlockKind) (f : Fault) (text : List ℕ) : Type 0 where
+  pub form : Parameter
+  pub takes : (traits_of kind).parameter ≡ Some form
   pub colon : List ℕ
   pub block : List ℕ
   pub assign : List ℕ
@@ -124,13 +128,24 @@ pub record NoPresetBody (kind : BlockKind) (f : Fault) (text : List ℕ) : Type 
   pub is_block : block_of block ≡ Some kind
   pub is_assign : Is (codes ":=") assign
   pub is_opening : Is (codes "(") opening
-  pub is_parameter : Is (parameter_of kind) parameter
+  pub is_parameter : Is (parameter_word form) parameter
   pub is_given : Is (codes ":=") given
   pub read : AreTokens (colon ∷ block ∷ assign ∷ opening ∷ parameter ∷ given ∷ []) text before
-  pub bad : NoPreset kind f before
+  pub bad : NoPreset form f before
+
+-- a preset that the kind of block may have
+abbrev NoPresetOf : BlockKind → Fault → List ℕ → Type 0
+NoPresetOf kind f text = (form : Parameter) × ((traits_of kind).parameter ≡ Some form) × NoPresetGiven form f text
+
+given_to_meets : (kind : BlockKind) (form : Option Parameter) (text : List ℕ) (f : Fault) → (traits_of kind).parameter ≡ form → given_to form text ≡ Err f
+    → Meets f text ⊎ NoPresetOf kind f text
+given_to_meets kind None text f takes h = let e : at rule.BadToken text ≡ f = cc in inl (inl (ap (λ g. g.rule) (sym e)))
+given_to_meets kind (Some form) text f takes h =
+    elim (given_preset_meets form text f h) [ inl m ↦ inl m | inr bad ↦ inr (form, takes, bad) ]
 
 preset_at_meets : (kind : BlockKind) (text : List ℕ) (f : Fault) → preset_at kind text ≡ Err f
-    → Meets f text ⊎ ((assign a : List ℕ) × Is (codes ":=") assign × AreTokens (assign ∷ []) text a × NoPresetGiven kind f a)
+    → Meets f text ⊎ ((assign a : List ℕ) × Is (codes ":=") assign × AreTokens (assign ∷ []) text a × (form : Parameter)
+    × ((traits_of kind).parameter ≡ Some form) × NoPresetGiven form f a)
 unfolding preset_at
 preset_at_meets kind text f h =
     elim (bind_err (token_at text) _ f h) [
@@ -140,9 +155,9 @@ preset_at_meets kind text f h =
           elim (chosen (same_letters x.0 (codes ";")) _ _ _ then) [
             | inl end ↦ absurd cc
             | inr other ↦ elim (chosen (same_letters x.0 (codes ":=")) _ _ _ other.1) [
-              | inl assign ↦ elim (given_preset_meets kind x.1 f assign.1) [
+              | inl assign ↦ elim (given_to_meets kind (traits_of kind).parameter x.1 f refl assign.1) [
                 | inl m ↦ inl (behind x.0 text x.1 f (alike (codes ":=") (codes "END_VAR") x.0 assign.0) read m)
-                | inr bad ↦ inr (x.0, x.1, assign.0, read, bad)
+                | inr (form, takes, bad) ↦ inr (x.0, x.1, assign.0, read, form, takes, bad)
               ]
               | inr wrong ↦ let e : at rule.BadToken x.1 ≡ f = cc in inl (inl (ap (λ g. g.rule) (sym e)))
             ]
@@ -158,11 +173,13 @@ block_meets kind colon block start text f is_colon is_block read h =
       | inr (x, found, then) ↦ absurd cc
       | inl none ↦ elim (preset_at_meets kind text f none) [
         | inl m ↦ inl (meets_later (colon ∷ block ∷ []) start text f no_end read m)
-        | inr (assign, a, is_assign, first, g) ↦
+        | inr (assign, a, is_assign, first, form, takes, g) ↦
             let three : AreTokens (colon ∷ block ∷ assign ∷ []) start a = AreTokens-append (colon ∷ block ∷ []) (assign ∷ []) start text a read first in
             let six : AreTokens (colon ∷ block ∷ assign ∷ g.opening ∷ g.parameter ∷ g.given ∷ []) start g.before
             = AreTokens-append (colon ∷ block ∷ assign ∷ []) (g.opening ∷ g.parameter ∷ g.given ∷ []) start a g.before three g.read in
             inr (record {
+              form = form;
+              takes = takes;
               colon = colon;
               block = block;
               assign = assign;

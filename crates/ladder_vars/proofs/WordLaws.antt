@@ -8,13 +8,13 @@ use Rattle.std.proofs.lemmas.List.{take-append-drop}
 use Rattle.std.proofs.lemmas.Str.Ascii.{lowercase-uppercase}
 use Rattle.std.proofs.Math.Seq.{take-append_seam, drop-append_seam}
 use Rattle.ladder_vars.specs.declared.decls.VarKind.{VarKind}
-use Rattle.ladder_vars.specs.declared.decls.BlockKind.{BlockKind}
-use Rattle.ladder_vars.specs.declared.decls.BlockKind.TheVariants as block_kind
+use Rattle.ladder_vars.specs.declared.kind.Parameter.{Parameter}
+use Rattle.ladder_vars.specs.declared.kind.Parameter.TheVariants as parameter
 use Rattle.ladder_vars.specs.declared.decls.Address.{Address}
 use Rattle.ladder_vars.specs.Text.{begins}
 use Rattle.ladder_vars.specs.Duration.{IsNumber, number_of}
-use Rattle.ladder_vars.specs.Grammar.{Is, IsSecond, IsAddress, IsCount, IsPresetWord, kind_of}
-use Rattle.ladder_vars.specs.ReadWords.{short_number, count_of, after_size, second_of, numbers_of, placed_at, address_of, preset_of}
+use Rattle.ladder_vars.specs.Grammar.{Is, IsSecond, IsAddress, IsCount, IsValue, kind_of}
+use Rattle.ladder_vars.specs.ReadWords.{short_number, count_of, after_size, second_of, numbers_of, placed_at, address_of, value_of}
 use Rattle.ladder_vars.proofs.Steps.{chosen}
 use Rattle.ladder_vars.proofs.Runs.{bind_some, prefix_len-run}
 use Rattle.ladder_vars.proofs.TimeLaws.{time_reads, time_takes}
@@ -182,16 +182,10 @@ address_takes (percent ∷ letter ∷ text) kind a h =
 
 -- ---- presets
 
-pub preset_reads : (kind : BlockKind) (word : List ℕ) (n : ℕ) → IsPresetWord kind word n → preset_of kind word ≡ Some n
-preset_reads block_kind.Ton word n h = time_reads word n h
-preset_reads block_kind.Tof word n h = time_reads word n h
-preset_reads block_kind.Tp word n h = time_reads word n h
-preset_reads block_kind.Ctu word n h = count_reads word n h
-preset_reads block_kind.Ctd word n h = count_reads word n h
+pub value_reads : (form : Parameter) (word : List ℕ) (n : ℕ) → IsValue form word n → value_of form word ≡ Some n
+value_reads parameter.Time word n h = time_reads word n h
+value_reads parameter.Count word n h = count_reads word n h
 
-pub preset_takes : (kind : BlockKind) (word : List ℕ) (n : ℕ) → preset_of kind word ≡ Some n → IsPresetWord kind word n
-preset_takes block_kind.Ton word n h = time_takes word n h
-preset_takes block_kind.Tof word n h = time_takes word n h
-preset_takes block_kind.Tp word n h = time_takes word n h
-preset_takes block_kind.Ctu word n h = count_takes word n h
-preset_takes block_kind.Ctd word n h = count_takes word n h
+pub value_takes : (form : Parameter) (word : List ℕ) (n : ℕ) → value_of form word ≡ Some n → IsValue form word n
+value_takes parameter.Time word n h = time_takes word n h
+value_takes parameter.Count word n h = count_takes word n h

@@ -2,14 +2,13 @@
 use Rattle.std.specs.Prelude.{ℕ, ◌≤◌, Bool, true, false, ◌&&◌, ◌==◌, List, ◌++◌, length, map, position, Option, Some, None}
 use Rattle.std.specs.List.{All, IsDistinct, filter_map}
 use Rattle.ladder_vars.specs.declared.decls.VarKind.TheVariants as kind
-use Rattle.ladder_vars.specs.declared.decls.BlockKind.{BlockKind}
-use Rattle.ladder_vars.specs.declared.decls.BlockKind.TheVariants as block
 use Rattle.ladder_vars.specs.declared.decls.Address.{Address}
 use Rattle.ladder_vars.specs.declared.decls.Var.{Var}
 use Rattle.ladder_vars.specs.declared.decls.Instance.{Instance}
 use Rattle.ladder_vars.specs.declared.decls.Symbol.{Symbol}
 use Rattle.ladder_vars.specs.declared.decls.Symbol.TheVariants as symbol
 use Rattle.ladder_vars.specs.Name.{same_letters}
+use Rattle.ladder_vars.specs.Kind.{traits_of, largest_preset}
 
 pub record Declared : Type 0 where
   pub vars : List Var
@@ -49,19 +48,11 @@ names_of declared = map (λ v. v.name) declared.vars ++ map (λ i. i.name) decla
 abbrev pub addresses_of : List Var → List Address
 addresses_of vars = filter_map (λ v. v.address) vars
 
--- The largest preset of a block (the profile): a duration in milliseconds is below 2 ^ 32, a counter's PV at most 32767.
-abbrev pub largest_preset : BlockKind → ℕ
-largest_preset block.Ton = 4294967295
-largest_preset block.Tof = 4294967295
-largest_preset block.Tp = 4294967295
-largest_preset block.Ctu = 32767
-largest_preset block.Ctd = 32767
-
 -- What holds of all declarations: each name and each address is declared once (IEC 61131-3), and the limits are kept (the profile).
 pub record AreKept (declared : Declared) : Type 0 where
   pub names : IsDistinct same_letters (names_of declared)
   pub addresses : IsDistinct same_address (addresses_of declared.vars)
   pub few_vars : length declared.vars ≤ 256
   pub few_instances : length declared.instances ≤ 64
-  pub short_names : All (λ i. length i.name ≤ 9) declared.instances
+  pub short_names : All (λ i. length i.name ≤ (traits_of i.kind).longest_name) declared.instances
   pub presets : All (λ i. i.preset ≤ largest_preset i.kind) declared.instances

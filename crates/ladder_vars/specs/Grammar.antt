@@ -1,19 +1,21 @@
 -- The block VAR .. END_VAR of a text, as a grammar over the spellings of its tokens (IEC 61131-3, declaration of variables).
 -- Each declaration has one name, a place AT %I, AT %Q or AT %M, or none, and an initial value or a preset, or none.
 use Rattle.std.specs.Prelude.{◌≡◌, ℕ, ◌≤◌, ◌⊎◌, ◌==◌, Bool, true, false, List, [], ◌∷◌, ◌++◌, codes, Option, Some, None}
-use Rattle.std.specs.List.{filter_map}
+use Rattle.std.specs.List.{filter_map, find}
 use Rattle.std.specs.Map.{lookup}
 use Rattle.std.specs.Char.{to_ascii_uppercase}
 use Rattle.ladder_vars.specs.declared.decls.VarKind.{VarKind}
 use Rattle.ladder_vars.specs.declared.decls.VarKind.TheVariants as var_kind
-use Rattle.ladder_vars.specs.declared.decls.BlockKind.{BlockKind}
-use Rattle.ladder_vars.specs.declared.decls.BlockKind.TheVariants as block_kind
+use Rattle.ladder_vars.specs.declared.kind.BlockKind.{BlockKind}
+use Rattle.ladder_vars.specs.declared.kind.Parameter.{Parameter}
+use Rattle.ladder_vars.specs.declared.kind.Parameter.TheVariants as parameter
 use Rattle.ladder_vars.specs.declared.decls.Address.{Address}
 use Rattle.ladder_vars.specs.declared.decls.Var.{Var}
 use Rattle.ladder_vars.specs.declared.decls.Instance.{Instance}
 use Rattle.ladder_vars.specs.declared.decls.Body.{Body}
 use Rattle.ladder_vars.specs.declared.decls.Body.TheVariants as body
 use Rattle.ladder_vars.specs.Name.{same_letters, is_name}
+use Rattle.ladder_vars.specs.Kind.{traits_of, all_kinds, parameter_word, largest_value}
 use Rattle.ladder_vars.specs.Decls.{Declared, AreKept}
 use Rattle.ladder_vars.specs.Text.{AreTokens}
 use Rattle.ladder_vars.specs.Duration.{IsNumber, IsDuration}
@@ -70,37 +72,25 @@ IsInitial ts value =
 
 -- ---- function blocks and presets
 
-abbrev pub blocks : List (List ℕ × BlockKind)
-blocks =
-    (codes "TON", block_kind.Ton) ∷ (codes "TOF", block_kind.Tof) ∷ (codes "TP", block_kind.Tp)
-    ∷ (codes "CTU", block_kind.Ctu) ∷ (codes "CTD", block_kind.Ctd) ∷ []
-
+-- the kind whose type the word names
 abbrev pub block_of : List ℕ → Option BlockKind
-block_of word = lookup (same_letters word) blocks
+block_of word = find (λ k. same_letters word (traits_of k).word) all_kinds
 
--- a timer's PT is a duration of less than 2 ^ 32 ms
+-- what a parameter can be given
 abbrev pub IsTime : List ℕ → ℕ → Type 0
-IsTime word n = IsDuration word n × (n ≤ 4294967295)
+IsTime word n = IsDuration word n × (n ≤ largest_value parameter.Time)
 
 abbrev pub IsCount : List ℕ → ℕ → Type 0
-IsCount word n = IsNumber word n × (n ≤ 32767)
+IsCount word n = IsNumber word n × (n ≤ largest_value parameter.Count)
 
-abbrev pub parameter_of : BlockKind → List ℕ
-parameter_of block_kind.Ton = codes "PT"
-parameter_of block_kind.Tof = codes "PT"
-parameter_of block_kind.Tp = codes "PT"
-parameter_of block_kind.Ctu = codes "PV"
-parameter_of block_kind.Ctd = codes "PV"
+abbrev pub IsValue : Parameter → List ℕ → ℕ → Type 0
+IsValue parameter.Time word n = IsTime word n
+IsValue parameter.Count word n = IsCount word n
 
-abbrev pub IsPresetWord : BlockKind → List ℕ → ℕ → Type 0
-IsPresetWord block_kind.Ton word n = IsTime word n
-IsPresetWord block_kind.Tof word n = IsTime word n
-IsPresetWord block_kind.Tp word n = IsTime word n
-IsPresetWord block_kind.Ctu word n = IsCount word n
-IsPresetWord block_kind.Ctd word n = IsCount word n
-
--- `:= ( PT := duration )` or `:= ( PV := number )`
+-- `:= ( PT := duration )` of a timer, or `:= ( PV := number )` of a counter; a bistable has no preset
 pub record HasPreset (ts : List (List ℕ)) (kind : BlockKind) (n : ℕ) : Type 0 where
+  pub form : Parameter
+  pub takes : (traits_of kind).parameter ≡ Some form
   pub assign : List ℕ
   pub opening : List ℕ
   pub parameter : List ℕ
@@ -110,9 +100,9 @@ pub record HasPreset (ts : List (List ℕ)) (kind : BlockKind) (n : ℕ) : Type 
   pub tokens : ts ≡ assign ∷ opening ∷ parameter ∷ given ∷ word ∷ closing ∷ []
   pub is_assign : Is (codes ":=") assign
   pub is_opening : Is (codes "(") opening
-  pub is_parameter : Is (parameter_of kind) parameter
+  pub is_parameter : Is (parameter_word form) parameter
   pub is_given : Is (codes ":=") given
-  pub is_word : IsPresetWord kind word n
+  pub is_word : IsValue form word n
   pub is_closing : Is (codes ")") closing
 
 -- a preset, or nothing, which is 0
@@ -135,7 +125,7 @@ pub record IsVarBody (ts : List (List ℕ)) (kind : VarKind) (address : Option A
   pub is_initial : IsInitial initial value
   pub is_semicolon : Is (codes ";") semicolon
 
--- what stands behind the name of an instance: TON, TOF, TP, CTU or CTD with its preset
+-- what stands behind the name of an instance: its type with the preset
 pub record IsInstanceBody (ts : List (List ℕ)) (kind : BlockKind) (n : ℕ) : Type 0 where
   pub colon : List ℕ
   pub block : List ℕ

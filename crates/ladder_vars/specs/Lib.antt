@@ -1,5 +1,6 @@
 pub mod Name
 pub mod NameView
+pub mod Kind
 pub mod Decls
 pub mod Text
 pub mod Duration

@@ -1,5 +1,5 @@
 -- Private to the proofs: declarations read from left to right, as the code reads them, with the first fault that is met.
-use Rattle.std.specs.Prelude.{◌≡◌, ℕ, zero, suc, ◌+◌, Bool, false, ◌||◌, ◌&&◌, ◌==◌, ◌≤◌, nat_le, List, [], ◌∷◌, ◌++◌, length, codes, Option, Some, None, if◌then◌else◌, Result, Ok, Err}
+use Rattle.std.specs.Prelude.{◌≡◌, ℕ, zero, suc, ◌+◌, Bool, false, ◌||◌, ◌&&◌, ◌==◌, ◌≤◌, nat_le, nat_lt, List, [], ◌∷◌, ◌++◌, length, codes, Option, Some, None, if◌then◌else◌, Result, Ok, Err}
 use Rattle.std.specs.List.{list_any}
 use Rattle.ladder_vars.specs.declared.fault.VarRule.{VarRule}
 use Rattle.ladder_vars.specs.declared.fault.VarRule.TheVariants as rule
@@ -7,18 +7,20 @@ use Rattle.ladder_vars.specs.declared.fault.Fault.{Fault}
 use Rattle.ladder_vars.specs.declared.fault.ReadFault.{ReadFault}
 use Rattle.ladder_vars.specs.declared.fault.ReadFault.TheVariants as fault
 use Rattle.ladder_vars.specs.declared.decls.VarKind.TheVariants as var_kind
-use Rattle.ladder_vars.specs.declared.decls.BlockKind.{BlockKind}
+use Rattle.ladder_vars.specs.declared.kind.BlockKind.{BlockKind}
+use Rattle.ladder_vars.specs.declared.kind.Parameter.{Parameter}
 use Rattle.ladder_vars.specs.declared.decls.Address.{Address}
 use Rattle.ladder_vars.specs.declared.decls.Var.{Var}
 use Rattle.ladder_vars.specs.declared.decls.Instance.{Instance}
 use Rattle.ladder_vars.specs.declared.decls.Body.{Body}
 use Rattle.ladder_vars.specs.declared.decls.Body.TheVariants as body
 use Rattle.ladder_vars.specs.Name.{same_letters, is_name, has_name_form}
-use Rattle.ladder_vars.specs.Decls.{Declared, is_input_kind, same_address, largest_preset}
+use Rattle.ladder_vars.specs.Kind.{traits_of, parameter_word, largest_preset}
+use Rattle.ladder_vars.specs.Decls.{Declared, is_input_kind, same_address}
 use Rattle.ladder_vars.specs.Text.{begins, is_word_byte}
-use Rattle.ladder_vars.specs.Grammar.{bit_of, block_of, parameter_of}
+use Rattle.ladder_vars.specs.Grammar.{bit_of, block_of}
 use Rattle.ladder_vars.specs.ReadText.{◌>>=◌, token_at, unfinished}
-use Rattle.ladder_vars.specs.ReadWords.{address_of, preset_of}
+use Rattle.ladder_vars.specs.ReadWords.{address_of, value_of}
 
 -- the same, unless memory ran out
 abbrev pub Fails : {Y : Type 0} → ReadFault → Result Y Fault → Type 0
@@ -62,27 +64,32 @@ initial_at text = do
 abbrev pub preset_fault : List ℕ → VarRule
 preset_fault token = if begins (λ b. is_word_byte b || b == 37) token then rule.BadPreset else rule.BadToken
 
-unfoldable pub preset_word : BlockKind → List ℕ → Result (ℕ × List ℕ) Fault
-preset_word kind text = do
+unfoldable pub preset_word : Parameter → List ℕ → Result (ℕ × List ℕ) Fault
+preset_word form text = do
   x ← token_at text
-  n ← some_or (at (preset_fault x.0) x.1) (preset_of kind x.0)
+  n ← some_or (at (preset_fault x.0) x.1) (value_of form x.0)
   Ok (n, x.1)
 
-unfoldable pub given_preset : BlockKind → List ℕ → Result (ℕ × List ℕ) Fault
-given_preset kind text = do
+unfoldable pub given_preset : Parameter → List ℕ → Result (ℕ × List ℕ) Fault
+given_preset form text = do
   a ← expect (codes "(") text
-  b ← expect (parameter_of kind) a
+  b ← expect (parameter_word form) a
   c ← expect (codes ":=") b
-  x ← preset_word kind c
+  x ← preset_word form c
   d ← expect (codes ")") x.1
   e ← expect (codes ";") d
   Ok (x.0, e)
+
+-- a bistable has no parameter to preset
+abbrev pub given_to : Option Parameter → List ℕ → Result (ℕ × List ℕ) Fault
+given_to (Some form) text = given_preset form text
+given_to None text = Err (at rule.BadToken text)
 
 unfoldable pub preset_at : BlockKind → List ℕ → Result (ℕ × List ℕ) Fault
 preset_at kind text = do
   x ← token_at text
   if same_letters x.0 (codes ";") then Ok (0, x.1)
-      else (if same_letters x.0 (codes ":=") then given_preset kind x.1 else Err (at rule.BadToken x.1))
+      else (if same_letters x.0 (codes ":=") then given_to (traits_of kind).parameter x.1 else Err (at rule.BadToken x.1))
 
 -- ---- what stands behind a name
 
@@ -148,7 +155,7 @@ refusal declared name (body.Var kind address initial) =
     else (if is_taken declared address then Some rule.DuplicateAddress
     else (if nat_le 256 (length declared.vars) then Some rule.TooMany else None))
 refusal declared name (body.Instance kind preset) =
-    if nat_le 10 (length name) then Some rule.BadName
+    if nat_lt (traits_of kind).longest_name (length name) then Some rule.BadName
     else (if is_declared declared name then Some rule.Duplicate
     else (if nat_le 64 (length declared.instances) then Some rule.TooMany else None))
 

@@ -4,12 +4,13 @@ use Rattle.std.specs.List.{list_all, prefix_len}
 use Rattle.std.specs.Map.{lookup}
 use Rattle.std.specs.Char.{is_ascii_digit, is_ascii_alphabetic, to_ascii_uppercase}
 use Rattle.ladder_vars.specs.declared.decls.VarKind.{VarKind}
-use Rattle.ladder_vars.specs.declared.decls.BlockKind.{BlockKind}
-use Rattle.ladder_vars.specs.declared.decls.BlockKind.TheVariants as block_kind
+use Rattle.ladder_vars.specs.declared.kind.Parameter.{Parameter}
+use Rattle.ladder_vars.specs.declared.kind.Parameter.TheVariants as parameter
 use Rattle.ladder_vars.specs.declared.decls.Address.{Address}
 use Rattle.ladder_vars.specs.declared.time.Unit.{Unit as TimeUnit}
 use Rattle.ladder_vars.specs.declared.time.Unit.TheVariants as time_unit
 use Rattle.ladder_vars.specs.Name.{same_letters}
+use Rattle.ladder_vars.specs.Kind.{largest_value}
 use Rattle.ladder_vars.specs.Duration.{number_of, millis_of, range_of}
 use Rattle.ladder_vars.specs.Grammar.{kind_of}
 
@@ -29,7 +30,7 @@ short_number word =
     if nat_le 1 (length word) && (nat_le (length word) 5 && list_all is_ascii_digit word) then Some (number_of word) else None
 
 abbrev pub count_of : List ℕ → Option ℕ
-count_of word = short_number word >>= λ n. if nat_le n 32767 then Some n else None
+count_of word = short_number word >>= λ n. if nat_le n (largest_value parameter.Count) then Some n else None
 
 -- ---- addresses
 
@@ -116,14 +117,11 @@ unfoldable pub time_of : List ℕ → Option ℕ
 time_of text = do
   after ← after_prefix text
   total ← total_of after
-  if nat_le total 4294967295 then Some total else None
+  if nat_le total (largest_value parameter.Time) then Some total else None
 
-abbrev pub preset_of : BlockKind → List ℕ → Option ℕ
-preset_of block_kind.Ton word = time_of word
-preset_of block_kind.Tof word = time_of word
-preset_of block_kind.Tp word = time_of word
-preset_of block_kind.Ctu word = count_of word
-preset_of block_kind.Ctd word = count_of word
+abbrev pub value_of : Parameter → List ℕ → Option ℕ
+value_of parameter.Time word = time_of word
+value_of parameter.Count word = count_of word
 
 -- what a function returned is what reading gives
 abbrev pub Gives : {X Y : Type 0} → (X → Y) → Option X → Option Y → Type 0

@@ -1,18 +1,20 @@
 -- Where a rule V1 to V8 of a block of declarations is broken: the rule, and how many bytes of the text are left where it shows.
 -- V2 says no more than that no other token fits, so it is not stated here; V9 is want of memory and no rule of the text.
-use Rattle.std.specs.Prelude.{◌≡◌, ℕ, ◌+◌, ◌-◌, ◌≤◌, ◌⊎◌, ◌||◌, ◌==◌, Bool, true, false, List, [], ◌∷◌, length, take, count_by, codes, Some}
+use Rattle.std.specs.Prelude.{◌≡◌, ℕ, ◌+◌, ◌-◌, ◌<◌, ◌⊎◌, ◌||◌, ◌==◌, Bool, true, false, List, [], ◌∷◌, length, take, count_by, codes, Some}
 use Rattle.std.specs.List.{list_any, AllByRecursion}
 use Rattle.ladder_vars.specs.declared.fault.VarRule.{VarRule}
 use Rattle.ladder_vars.specs.declared.fault.VarRule.TheVariants as rule
 use Rattle.ladder_vars.specs.declared.decls.VarKind.{VarKind}
-use Rattle.ladder_vars.specs.declared.decls.BlockKind.{BlockKind}
+use Rattle.ladder_vars.specs.declared.kind.BlockKind.{BlockKind}
+use Rattle.ladder_vars.specs.declared.kind.Parameter.{Parameter}
 use Rattle.ladder_vars.specs.declared.decls.Address.{Address}
 use Rattle.ladder_vars.specs.declared.decls.Body.{Body}
 use Rattle.ladder_vars.specs.declared.decls.Body.TheVariants as body
 use Rattle.ladder_vars.specs.Name.{same_letters, has_name_form, is_name}
+use Rattle.ladder_vars.specs.Kind.{traits_of, parameter_word}
 use Rattle.ladder_vars.specs.Decls.{names_of, addresses_of, same_address}
 use Rattle.ladder_vars.specs.Text.{begins, is_word_byte, Gap, AreTokens, IsUnfinished, IsBadByte}
-use Rattle.ladder_vars.specs.Grammar.{Is, Decl, AreDecls, IsBody, declared_by, block_of, parameter_of, IsPresetWord}
+use Rattle.ladder_vars.specs.Grammar.{Is, Decl, AreDecls, IsBody, declared_by, block_of, IsValue}
 
 -- The line, counted from 1, of what stands so many bytes before the end; 10 is LF.
 abbrev pub line_of : List ℕ → ℕ → ℕ
@@ -55,8 +57,10 @@ pub record DeclDue (text : List ℕ) (ds : List Decl) (name : List ℕ) (b : Bod
   pub is_body : IsBody behind b
   pub read : AreTokens behind after rest
 
--- A block's preset is due, and this token stands there.
-pub record PresetDue (text : List ℕ) (kind : BlockKind) (word after : List ℕ) : Type 0 where
+-- A value of this parameter is due, and this token stands there.
+pub record PresetDue (text : List ℕ) (form : Parameter) (word after : List ℕ) : Type 0 where
+  pub kind : BlockKind
+  pub takes : (traits_of kind).parameter ≡ Some form
   pub ds : List Decl
   pub name : List ℕ
   pub behind : List ℕ
@@ -72,7 +76,7 @@ pub record PresetDue (text : List ℕ) (kind : BlockKind) (word after : List ℕ
   pub is_block : block_of block ≡ Some kind
   pub is_assign : Is (codes ":=") assign
   pub is_opening : Is (codes "(") opening
-  pub is_parameter : Is (parameter_of kind) parameter
+  pub is_parameter : Is (parameter_word form) parameter
   pub is_given : Is (codes ":=") given
   pub read : AreTokens (colon ∷ block ∷ assign ∷ opening ∷ parameter ∷ given ∷ word ∷ []) behind after
 
@@ -82,16 +86,16 @@ HasBadName text left =
     (ds : List Decl) × (word after : List ℕ) × WordDue text ds word after
     × (has_name_form word ≡ true) × (is_name word ≡ false) × (left ≡ length after)
 
--- An instance has a name of more than 9 characters.
+-- An instance has a longer name than its kind allows.
 abbrev pub HasLongInstance : List ℕ → ℕ → Type 0
 HasLongInstance text left =
     (ds : List Decl) × (name after : List ℕ) × (kind : BlockKind) × (preset : ℕ)
-    × DeclDue text ds name (body.Instance kind preset) after × (10 ≤ length name) × (left ≡ length after)
+    × DeclDue text ds name (body.Instance kind preset) after × ((traits_of kind).longest_name < length name) × (left ≡ length after)
 
--- There are 256 variables before this one, or 64 instances.
+-- It is the 257th variable, or the 65th instance.
 abbrev pub IsFull : List Decl → Body → Type 0
-IsFull ds (body.Var kind address initial) = 256 ≤ length (declared_by ds).vars
-IsFull ds (body.Instance kind preset) = 64 ≤ length (declared_by ds).instances
+IsFull ds (body.Var kind address initial) = length (declared_by ds).vars ≡ 256
+IsFull ds (body.Instance kind preset) = length (declared_by ds).instances ≡ 64
 
 -- The rule is broken, and so many bytes are left where it shows.
 abbrev pub Breaks : VarRule → List ℕ → ℕ → Type 0
@@ -106,8 +110,8 @@ Breaks rule.DuplicateAddress text left =
     × DeclDue text ds name (body.Var kind (Some a) initial) after
     × (list_any (same_address a) (addresses_of (declared_by ds).vars) ≡ true) × (left ≡ length after)
 Breaks rule.BadPreset text left =
-    (kind : BlockKind) × (word after : List ℕ) × PresetDue text kind word after × (begins (λ b. is_word_byte b || b == 37) word ≡ true)
-    × ((n : ℕ) → IsPresetWord kind word n → ⊥) × (left ≡ length after)
+    (form : Parameter) × (word after : List ℕ) × PresetDue text form word after × (begins (λ b. is_word_byte b || b == 37) word ≡ true)
+    × ((n : ℕ) → IsValue form word n → ⊥) × (left ≡ length after)
 Breaks rule.TooMany text left =
     (ds : List Decl) × (name after : List ℕ) × (b : Body) × DeclDue text ds name b after × IsFull ds b × (left ≡ length after)
 Breaks rule.Unfinished text left = (at : List ℕ) × Reaches text at × IsUnfinished at × (left ≡ 0)

@@ -1,13 +1,13 @@
 ghost use Rattle.std.specs.Prelude.{◌≡◌, ◌≤◌, ◌<◌, ◌||◌, ◌==◌, length, codes, Option, Some, None, IfOk, IfSome};
 ghost use Rattle.ladder_vars.specs.Text.{begins, is_word_byte};
-ghost use Rattle.ladder_vars.specs.Decls.{largest_preset};
-ghost use Rattle.ladder_vars.specs.Grammar.{parameter_of};
+ghost use Rattle.ladder_vars.specs.Kind.{largest_value, largest_of, largest_preset};
 ghost use Rattle.ladder_vars.specs.ReadText.{Gives};
-ghost use Rattle.ladder_vars.specs.ReadWords.{preset_of};
-ghost use Rattle.ladder_vars.specs.ReadDecls.{expect, given_bit, initial_at, preset_fault, preset_word, given_preset, preset_at, bool_at, placed, block_at, typed, body_at, PresetFits};
+ghost use Rattle.ladder_vars.specs.ReadWords.{value_of};
+ghost use Rattle.ladder_vars.specs.ReadDecls.{expect, given_bit, initial_at, preset_fault, preset_word, given_preset, given_to, preset_at, bool_at, placed, block_at, typed, body_at, PresetFits};
 
-use crate::decls::{Address, BlockKind, Body, VarKind};
+use crate::decls::{Address, Body, VarKind};
 use crate::fault::{Fault, VarRule};
+use crate::kind::{BlockKind, Parameter};
 use crate::name::same_letters;
 use crate::text::{is_word_byte, token};
 use crate::time::time_of;
@@ -65,23 +65,14 @@ fn initial_at(text: &[u8]) -> Result<(bool, &[u8]), Fault>
     }
 }
 
-/// The parameter that is the preset of a block.
-fn parameter_of(kind: BlockKind) -> &'static [u8]
-    ensures { result.now ≡ parameter_of kind }
+/// The value of a parameter that a word spells.
+fn value_of(form: Parameter, word: &[u8]) -> Option<u32>
+    ensures value { result ≡ value_of form word.now }
+    ensures fits { IfSome result (λ n. n ≤ largest_value form) }
 {
-    match kind {
-        BlockKind::Ton | BlockKind::Tof | BlockKind::Tp => b"PT",
-        BlockKind::Ctu | BlockKind::Ctd => b"PV",
-    }
-}
-
-fn preset_of(kind: BlockKind, word: &[u8]) -> Option<u32>
-    ensures value { result ≡ preset_of kind word.now }
-    ensures fits { IfSome result (λ n. n ≤ largest_preset kind) }
-{
-    match kind {
-        BlockKind::Ton | BlockKind::Tof | BlockKind::Tp => time_of(word),
-        BlockKind::Ctu | BlockKind::Ctd => count_of(word),
+    match form {
+        Parameter::Time => time_of(word),
+        Parameter::Count => count_of(word),
     }
 }
 
@@ -102,9 +93,9 @@ fn preset_fault(token: &[u8]) -> VarRule
 }
 
 #[tactic(auto, unfolding(crate::specs::ReadDecls::preset_word))]
-fn preset_word(kind: BlockKind, text: &[u8]) -> Result<(u32, &[u8]), Fault>
-    ensures value { Gives (λ x. (x.0, x.1.now)) result (preset_word kind text.now) }
-    ensures fits { IfOk result (λ x. x.0 ≤ largest_preset kind) }
+fn preset_word(form: Parameter, text: &[u8]) -> Result<(u32, &[u8]), Fault>
+    ensures value { Gives (λ x. (x.0, x.1.now)) result (preset_word form text.now) }
+    ensures fits { IfOk result (λ x. x.0 ≤ largest_value form) }
     ensures shorter { IfOk result (λ x. length x.1.now < length text.now) }
 {
     let (word, rest) = token(text)?;
@@ -112,24 +103,36 @@ fn preset_word(kind: BlockKind, text: &[u8]) -> Result<(u32, &[u8]), Fault>
         rule: preset_fault(word),
         left: rest.len(),
     };
-    let preset = preset_of(kind, word).ok_or(fault)?;
+    let preset = value_of(form, word).ok_or(fault)?;
     Ok((preset, rest))
 }
 
 /// `( PT := duration ) ;` or `( PV := number ) ;`.
 #[tactic(auto, unfolding(crate::specs::ReadDecls::given_preset))]
-fn given_preset(kind: BlockKind, text: &[u8]) -> Result<(u32, &[u8]), Fault>
-    ensures value { Gives (λ x. (x.0, x.1.now)) result (given_preset kind text.now) }
-    ensures fits { IfOk result (λ x. x.0 ≤ largest_preset kind) }
+fn given_preset(form: Parameter, text: &[u8]) -> Result<(u32, &[u8]), Fault>
+    ensures value { Gives (λ x. (x.0, x.1.now)) result (given_preset form text.now) }
+    ensures fits { IfOk result (λ x. x.0 ≤ largest_value form) }
     ensures shorter { IfOk result (λ x. length x.1.now < length text.now) }
 {
     let rest = expect(b"(", text)?;
-    let rest = expect(parameter_of(kind), rest)?;
+    let rest = expect(form.word(), rest)?;
     let rest = expect(b":=", rest)?;
-    let (preset, rest) = preset_word(kind, rest)?;
+    let (preset, rest) = preset_word(form, rest)?;
     let rest = expect(b")", rest)?;
     let rest = expect(b";", rest)?;
     Ok((preset, rest))
+}
+
+/// The preset behind `:=`, where the block has a parameter.
+fn given_to(form: Option<Parameter>, text: &[u8]) -> Result<(u32, &[u8]), Fault>
+    ensures value { Gives (λ x. (x.0, x.1.now)) result (given_to form text.now) }
+    ensures fits { IfOk result (λ x. x.0 ≤ largest_of form) }
+    ensures shorter { IfOk result (λ x. length x.1.now < length text.now) }
+{
+    match form {
+        Some(form) => given_preset(form, text),
+        None => Err(bad_token(text)),
+    }
 }
 
 /// `;`, or `:=` with a preset and `;`.
@@ -143,7 +146,7 @@ fn preset_at(kind: BlockKind, text: &[u8]) -> Result<(u32, &[u8]), Fault>
     if same_letters(mark, b";") {
         Ok((0, rest))
     } else if same_letters(mark, b":=") {
-        given_preset(kind, rest)
+        given_to(kind.traits().parameter, rest)
     } else {
         Err(bad_token(rest))
     }

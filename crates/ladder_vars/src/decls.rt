@@ -5,6 +5,7 @@ ghost use Rattle.ladder_vars.specs.Decls.{is_input, find, AreKept};
 ghost use Rattle.ladder_vars.specs.ReadDecls.{is_there, is_declared, is_taken, refusal, nothing, added, leading_with, with_var, with_instance, with_decl, GivesInMemory, PresetFits};
 
 use crate::fault::{Fault, ReadFault, VarRule};
+use crate::kind::BlockKind;
 use crate::name::Name;
 use std::alloc::{AllocError, Global};
 use std::marker::Model;
@@ -12,8 +13,6 @@ use std::marker::Model;
 const MOST_VARS: usize = 256;
 
 const MOST_INSTANCES: usize = 64;
-
-const LONGEST_INSTANCE: usize = 9;
 
 /// What a variable is for.
 #[derive(Clone, Copy, Debug, PartialEq, Eq)]
@@ -44,27 +43,12 @@ pub struct Var {
     pub initial: bool,
 }
 
-/// The standard function blocks.
-#[derive(Clone, Copy, Debug, PartialEq, Eq)]
-pub enum BlockKind {
-    /// On-delay timer.
-    Ton,
-    /// Off-delay timer.
-    Tof,
-    /// Pulse timer.
-    Tp,
-    /// Up-counter.
-    Ctu,
-    /// Down-counter.
-    Ctd,
-}
-
 /// An instance of a function block.
 #[derive(Clone, Copy)]
 pub struct Instance {
     pub name: Name,
     pub kind: BlockKind,
-    /// PT of a timer in milliseconds, or PV of a counter.
+    /// PT of a timer in milliseconds, PV of a counter, or 0 for a bistable.
     pub preset: u32,
 }
 
@@ -92,8 +76,8 @@ pub enum Symbol {
 /// The declarations of a text: variables and instances, each in order of declaration.
 ///
 /// No two names are the same whatever their letter case, and no two addresses. There are at most
-/// 256 variables and 64 instances. The name of an instance has at most 9 characters, and the preset
-/// of a counter is at most 32767.
+/// 256 variables and 64 instances. The name of an instance has at most 9 characters, that of a
+/// bistable at most 8, and the preset of a counter is at most 32767.
 #[derive(Drop)]
 pub struct Decls {
     vars: Vec<Var>,
@@ -211,8 +195,8 @@ impl Decls {
                     None
                 }
             }
-            Body::Instance { .. } => {
-                if name.bytes().len() > LONGEST_INSTANCE {
+            Body::Instance { kind, .. } => {
+                if name.bytes().len() > kind.traits().longest_name {
                     Some(VarRule::BadName)
                 } else if self.is_declared(name) {
                     Some(VarRule::Duplicate)

@@ -1,4 +1,4 @@
-//! The declarations at the head of a ladder diagram: names, variables, timers and counters.
+//! The declarations at the head of a ladder diagram: names, variables and function blocks.
 //!
 //! A program text begins with one block `VAR .. END_VAR` of IEC 61131-3. This crate says what the
 //! block declares, and refuses a text whose block breaks one of the rules V1 to V8.
@@ -8,14 +8,16 @@ mod declaration;
 mod decls;
 mod digits;
 mod fault;
+mod kind;
 mod name;
 mod read;
 mod text;
 mod time;
 mod words;
 
-pub use decls::{Address, BlockKind, Decls, Instance, Symbol, Var, VarKind};
+pub use decls::{Address, Decls, Instance, Symbol, Var, VarKind};
 pub use fault::{VarFault, VarRule};
+pub use kind::{BlockKind, BlockTraits, Output, Parameter, Pin};
 pub use name::Name;
 pub use read::read_decls;
 pub use time::read_time;

@@ -178,6 +178,8 @@ pub(crate) fn time_of(text: &[u8]) -> Option<u32>
 pub fn read_time(text: &[u8]) -> Option<u32>
     ensures some { IfSome result (λ n. IsTime text.now n) }
     ensures none { IfNone result ((n : ℕ) → IsTime text.now n → ⊥) }
+    // A literal has one value.
+    ensures only { IfSome result (λ n. (m : ℕ) → IsTime text.now m → m ≡ n) }
 {
     time_of(text)
 }

@@ -2,8 +2,9 @@ ghost use Rattle.std.specs.Prelude.{◌≡◌, ◌≤◌, IfSome};
 ghost use Rattle.ladder_vars.specs.Grammar.{kind_of, bit_of, block_of};
 ghost use Rattle.ladder_vars.specs.ReadWords.{count_of, after_size, second_of, numbers_of, placed_at, address_of};
 
-use crate::decls::{Address, BlockKind, VarKind};
+use crate::decls::{Address, VarKind};
 use crate::digits::{digits_len, short_number};
+use crate::kind::BlockKind;
 use crate::name::same_letters;
 
 /// The largest PV of a counter.
@@ -30,19 +31,10 @@ pub(crate) fn bit_of(word: &[u8]) -> Option<bool>
 pub(crate) fn block_of(word: &[u8]) -> Option<BlockKind>
     ensures { result ≡ block_of word.now }
 {
-    if same_letters(word, b"TON") {
-        Some(BlockKind::Ton)
-    } else if same_letters(word, b"TOF") {
-        Some(BlockKind::Tof)
-    } else if same_letters(word, b"TP") {
-        Some(BlockKind::Tp)
-    } else if same_letters(word, b"CTU") {
-        Some(BlockKind::Ctu)
-    } else if same_letters(word, b"CTD") {
-        Some(BlockKind::Ctd)
-    } else {
-        None
-    }
+    BlockKind::ALL
+        .iter()
+        .copied()
+        .find(|kind| same_letters(word, kind.traits().word))
 }
 
 /// The PV that a word spells.

@@ -1,5 +1,6 @@
 use Rattle.std.proofs.Common.{ap, length, arith}
 use Rattle.std.proofs.lemmas.List.{length-map}
+use Rattle.ladder_scan.proofs.Possible.{as_many}
 use Rattle.ladder_scan.proofs.looking.look.Goals as goal
 
 pub look_fields-requires-clause-ends : goal.look_fields-requires-clause-ends
@@ -10,4 +11,4 @@ look_fields-requires-clause-ends g c =
     let kinds = ap length c.requires.state.kinds in
     let all = length-map c.args.program.now.decls.instances (λ i. i.kind) in
     let blocks = ap length c.deref-3.ensures.value in
-    omega (arith, room, in_work, in_state, kinds, all, blocks, c.requires.work.instances, c.state.invariant.1.1.0)
+    omega (arith, room, in_work, in_state, kinds, all, blocks, c.requires.work.instances, as_many _ _ _ c.state.invariant.1.1)

@@ -12,6 +12,13 @@ no_time : (o : Option ℕ) (text : List ℕ) → o ≡ time_of text → IfNone o
 no_time (Some n) text e = tt
 no_time None text e = λ n is. let found : None ≡ Some n = e ∙ time_reads text n is in absurd cc
 
+one_time : (o : Option ℕ) (text : List ℕ) → o ≡ time_of text → IfSome o (λ n. (m : ℕ) → IsTime text m → m ≡ n)
+one_time (Some n) text e = λ m is. let same : Some n ≡ Some m = e ∙ time_reads text m is in cc
+one_time None text e = tt
+
+pub returns-clause-only : goal.returns-clause-only
+returns-clause-only c = one_time c.time_of.result c.args.text.now c.time_of.ensures
+
 pub returns-clause-some : goal.returns-clause-some
 returns-clause-some c = some_time c.time_of.result c.args.text.now c.time_of.ensures
 

@@ -1,0 +1,30 @@
+-- A page has one drawing, and a text is one program.
+use Rattle.std.proofs.Common.{◌≡◌, ℕ, ◌*◌, ◌<◌, List, drop, sym, ap, subst, ◌∙◌}
+use Rattle.ladder_vars.specs.Decls.{Declared}
+use Rattle.ladder_vars.specs.Grammar.{HasDecls}
+use Rattle.ladder_grid.specs.Page.{Page}
+use Rattle.ladder_grid.specs.PageRules.{ReadsAs}
+use Rattle.ladder_grid.specs.Program.{Drawing, drawing, blank_site}
+use Rattle.ladder_grid.specs.Reading.{IsDrawn, IsProgram}
+use Rattle.ladder_grid.specs.ReadLines.{page_of}
+use Rattle.ladder_grid.proofs.PageLaws.{one_page}
+use Rattle.ladder_grid.proofs.PlaceLaws.{same_list}
+
+pub one_drawing : (page : Page) (d e : Drawing) → IsDrawn page d → IsDrawn page e → d ≡ e
+one_drawing page d e h g =
+    let rungs : d.rungs ≡ e.rungs = h.rungs ∙ sym g.rungs in
+    let up = λ (k : ℕ) (b : k < d.rungs). subst (λ n. k < n) rungs b in
+    let decls : d.decls ≡ e.decls = h.declared ∙ sym g.declared in
+    let sites : d.sites ≡ e.sites = same_list blank_site d.rungs d.sites e.sites h.whole.size (g.whole.size ∙ ap (λ n. 60 * n) (sym rungs))
+    (λ k r c b x y. h.sites k r c b x y ∙ sym (g.sites k r c (up k b) x y)) in
+    ap (λ x. drawing x d.rungs d.sites) decls ∙ ap (λ x. drawing e.decls x d.sites) rungs ∙ ap (λ x. drawing e.decls e.rungs x) sites
+
+pub one_program : (text : List ℕ) (declared : Declared) (at : ℕ)
+    → ((other : Declared) (rest : List ℕ) → HasDecls text other rest → (other ≡ declared) × (rest ≡ drop at text))
+    → (p : Drawing) → IsDrawn (page_of declared (drop at text)) p → (d : Drawing) → IsProgram text d → d ≡ p
+one_program text declared at only p drawn d program =
+    let same = only program.page.decls program.rest program.read in
+    let reads : ReadsAs (drop at text) program.page = subst (λ x. ReadsAs x program.page) same.1 program.reads in
+    let one : program.page ≡ page_of declared (drop at text)
+    = one_page (drop at text) program.page reads ∙ ap (λ x. page_of x (drop at text)) same.0 in
+    one_drawing (page_of declared (drop at text)) d p (subst (λ x. IsDrawn x d) one program.drawn) drawn

@@ -1,0 +1,43 @@
+use Rattle.std.proofs.Common.{◌≡◌, ℕ, suc, ◌+◌, ◌/◌, ◌%◌, ap, sym, ◌∙◌, arith, add-one, refl, if◌then◌else◌}
+use Rattle.ladder_grid.specs.declared.cell.Cell.{Cell}
+use Rattle.ladder_grid.specs.Page.{Page}
+use Rattle.ladder_grid.specs.Program.{has_memory}
+use Rattle.ladder_grid.specs.Geometry.{place}
+use Rattle.ladder_grid.specs.Reading.{cell_drawn, site_with, site_drawn, memories_before}
+use Rattle.ladder_grid.specs.Geometry.{at_place}
+use Rattle.ladder_grid.specs.Seen.{seen}
+use Rattle.ladder_grid.proofs.PlaceLaws.{no_place_yet, one_place_more}
+use Rattle.ladder_grid.proofs.build.sites.Goals as goal
+
+none_before : (page : Page) → 0 ≡ memories_before page 0
+unfolding memories_before
+none_before page = refl
+
+site_is : (page : Page) (n next : ℕ) (cell : Cell) → next ≡ memories_before page n → cell ≡ at_place (cell_drawn page) n
+    → at_place (site_with page next cell) n ≡ at_place (site_drawn page) n
+site_is page n next cell number is =
+    let here : place (n / 60) (n % 60 % 6) (n % 60 / 6) ≡ n = omega arith in
+    ap (λ m. at_place (site_with page m cell) n) (number ∙ ap (memories_before page) (sym here))
+    ∙ ap (λ c. at_place (site_with page (memories_before page (place (n / 60) (n % 60 % 6) (n % 60 / 6))) c) n) is
+
+next_is : (page : Page) (n next after : ℕ) (cell : Cell) → next ≡ memories_before page n → cell ≡ at_place (cell_drawn page) n
+    → after ≡ (if has_memory cell then next + 1 else next) → after ≡ memories_before page (n + 1)
+unfolding memories_before
+next_is page n next after cell number is value =
+    let same : (if has_memory cell then next + 1 else next) ≡ memories_before page (suc n) = rw (number, is) refl in
+    value ∙ same ∙ ap (memories_before page) (sym (add-one n))
+
+pub loop-n-init : goal.loop-n-init
+loop-n-init c = record { so_far = rw c.new-sites.ensures.items (no_place_yet _); number = none_before _; small = omega arith }
+
+pub loop-n-preserved : goal.loop-n-preserved
+loop-n-preserved c =
+    let page : Page = seen c.args.page in
+    let i = c.loop-n.invariant in
+    record {
+      so_far = c.in_ok-push.ensures.items
+          ∙ one_place_more _ (at_place (site_drawn page)) c.loop-n.n _ i.so_far
+          (c.site_with.ensures ∙ site_is page c.loop-n.n _ _ i.number c.cell_drawn-cell.ensures);
+      number = next_is page c.loop-n.n _ _ _ i.number c.cell_drawn-cell.ensures c.after_memory-next.ensures.value;
+      small = omega (arith, i.small, c.after_memory-next.ensures.close);
+    }

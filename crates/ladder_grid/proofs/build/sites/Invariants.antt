@@ -1,0 +1,13 @@
+use Rattle.std.proofs.Common.{◌≡◌, ◌≤◌}
+use Rattle.ladder_grid.specs.Reading.{site_drawn, memories_before}
+use Rattle.ladder_grid.specs.Geometry.{at_place}
+use Rattle.ladder_grid.specs.AllPlaces.{first_places}
+use Rattle.ladder_grid.specs.Seen.{seen}
+use Rattle.ladder_grid.proofs.build.sites.Given as goal
+
+abbrev pub invariant-loop-n : goal.invariant-loop-n
+invariant-loop-n l = record {
+  so_far : l.sites.items ≡ first_places (at_place (site_drawn (seen l.page))) l.n;
+  number : l.next ≡ memories_before (seen l.page) l.n;
+  small : l.next ≤ l.n;
+}

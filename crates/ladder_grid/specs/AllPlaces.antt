@@ -1,0 +1,13 @@
+-- Private: lists with an entry for each place, as the code makes them.
+use Rattle.std.specs.Prelude.{ℕ, zero, suc, ◌*◌, List, [], ◌∷◌, ◌++◌}
+use Rattle.ladder_grid.specs.declared.geometry.TheConstants.{PLACES}
+use Rattle.ladder_grid.specs.Geometry.{at_place}
+
+-- f 0, f 1 and so on, n of them
+unfoldable pub first_places : {A : Type 0} → (ℕ → A) → ℕ → List A
+first_places f zero = []
+first_places f (suc n) = first_places f n ++ f n ∷ []
+
+-- by rung, column and row
+abbrev pub all_places : {A : Type 0} → (ℕ → ℕ → ℕ → A) → ℕ → List A
+all_places f rungs = first_places (at_place f) (PLACES * rungs)

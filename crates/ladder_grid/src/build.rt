@@ -1,0 +1,111 @@
+//! Builds the program of a page on which no rule is broken.
+
+ghost use Rattle.std.specs.Prelude.{◌≡◌, ◌≤◌, ◌<◌, ◌+◌, ◌^◌, if◌then◌else◌, map, length, All, IfOk, IfErr};
+ghost use Rattle.ladder_grid.specs.declared.geometry.TheConstants.{RUNGS};
+ghost use Rattle.ladder_grid.specs.ReadLines.{IsWithin, page_of};
+ghost use Rattle.ladder_grid.specs.Seen.{seen};
+ghost use Rattle.ladder_grid.specs.Page.{labels_of};
+ghost use Rattle.ladder_grid.specs.Program.{has_memory};
+ghost use Rattle.ladder_grid.specs.Build.{sites_of, AreSitesOf};
+ghost use Rattle.ladder_grid.specs.Stops.{IsBrokenIn, IsSmall, IsNear};
+ghost use Rattle.ladder_grid.specs.Reading.{IsDrawn};
+
+use crate::cell::Cell;
+use crate::fault::Stop;
+use crate::geometry::{PLACES, ROWS};
+use crate::lines::{blanked, lines, parts, unclosed_line};
+use crate::page::{PageView, forms};
+use crate::page_check::check;
+use crate::program::Program;
+use crate::site::{Site, cell_drawn, site_with};
+use crate::steps::has_memory;
+use ladder_vars::{Decls, Name};
+use std::alloc::{AllocError, Global};
+
+/// The number of the next memory, past this cell.
+fn after_memory(number: usize, cell: &Cell) -> usize
+    requires { number < 2 ^ 32 }
+    ensures value { result ≡ (if has_memory cell.now then number + 1 else number) }
+    ensures close { result ≤ number + 1 }
+{
+    if has_memory(cell) { number + 1 } else { number }
+}
+
+/// What stands at each place, by rung, column and row; memories are numbered in this order.
+fn sites(
+    alloc: Global,
+    page: PageView<'_, '_>,
+    labels: &[Option<Name>],
+) -> Result<Vec<Site>, AllocError>
+    requires within { All (IsWithin (length page.lines.now)) page.parts.now }
+    requires few { length page.parts.now ≤ RUNGS }
+    requires known { labels.now ≡ labels_of (map (λ l. l.now) page.lines.now) page.parts.now }
+    ensures { IfOk result (λ v. v.items ≡ sites_of (seen page.entry)) }
+{
+    let mut sites = Vec::new(alloc);
+    let mut next = 0;
+    for n in 0..PLACES * page.parts.len() {
+        let cell = cell_drawn(
+            page,
+            labels,
+            n / PLACES,
+            n % PLACES % ROWS,
+            n % PLACES / ROWS,
+        );
+        sites.push(site_with(
+            page,
+            next,
+            cell,
+            n / PLACES,
+            n % PLACES % ROWS,
+            n % PLACES / ROWS,
+        ))?;
+        next = after_memory(next, &cell);
+    }
+    Ok(sites)
+}
+
+/// The sites of a page, where no rule is broken on it.
+fn checked_sites(alloc: Global, page: PageView<'_, '_>) -> Result<(usize, Vec<Site>), Stop>
+    requires within { All (IsWithin (length page.lines.now)) page.parts.now }
+    ensures found { IfOk result (λ x. AreSitesOf (seen page.entry) x.0 x.1.items) }
+    ensures broken { IfErr result (IsBrokenIn (seen page.entry)) }
+    ensures near { IfErr result (IsNear (length page.entry.parts.now) (length page.entry.lines.now)) }
+{
+    let labels = check(alloc, page)?;
+    let sites = sites(alloc, page, &labels)?;
+    Ok((page.parts.len(), sites))
+}
+
+fn read_sites(alloc: Global, decls: &Decls, text: &[u8]) -> Result<(usize, Vec<Site>), Stop>
+    ensures found { IfOk result (λ x. AreSitesOf (page_of decls.now text.now) x.0 x.1.items) }
+    ensures broken { IfErr result (IsBrokenIn (page_of decls.now text.now)) }
+    ensures small { IfErr result IsSmall }
+{
+    let unclosed = unclosed_line(text);
+    let shown = blanked(alloc, text)?;
+    let lines = lines(alloc, &shown)?;
+    let parts = parts(alloc, &lines)?;
+    let forms = forms(alloc, &lines, &parts)?;
+    checked_sites(
+        alloc,
+        PageView {
+            decls,
+            lines: &lines,
+            unclosed,
+            parts: &parts,
+            forms: &forms,
+        },
+    )
+}
+
+/// The program that these declarations and the text behind them make.
+pub(crate) fn read_drawing(alloc: Global, decls: Decls, text: &[u8]) -> Result<Program, Stop>
+    ensures found { IfOk result (λ p. IsDrawn (page_of decls text.now) p) }
+    ensures broken { IfErr result (IsBrokenIn (page_of decls text.now)) }
+    ensures small { IfErr result IsSmall }
+{
+    let (rungs, sites) = read_sites(alloc, &decls, text)?;
+    let program = Program::new(alloc, decls, rungs, sites)?;
+    Ok(program)
+}

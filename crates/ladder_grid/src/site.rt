@@ -1,0 +1,207 @@
+//! What a page has at a place of a rung.
+
+ghost use Rattle.std.specs.Prelude.{◌≡◌, ◌<◌, map, length, All};
+ghost use Rattle.ladder_grid.specs.declared.geometry.TheConstants.{ROWS, COLUMNS};
+ghost use Rattle.ladder_grid.specs.ReadLines.{IsWithin};
+ghost use Rattle.ladder_grid.specs.Seen.{seen};
+ghost use Rattle.ladder_grid.specs.Page.{labels_of};
+ghost use Rattle.ladder_grid.specs.Reading.{contact_memory, coil_memory, numbered, contact_on, coil_on, block_on, lower_of, jump_on, cell_with, cell_drawn, joint_of, site_with};
+
+use crate::cell::{Cell, CoilMode, Joint, Mode, Operand};
+use crate::feeding::right_link;
+use crate::form::Form;
+use crate::operand::{Reference, instance_of};
+use crate::page::{PageView, form_at, instance_above, name_over, rung_at};
+use crate::page_check::target_of;
+use crate::picture::{joint, vertical};
+use ladder_vars::{Name, Symbol};
+
+/// What stands at a place of a rung: a cell, whether power can leave it on its right, the joint on its left, and whether a
+/// vertical link goes from that joint to the row below.
+#[derive(Clone, Copy, Debug, PartialEq, Eq)]
+pub struct Site {
+    pub cell: Cell,
+    pub right_link: bool,
+    pub joint: Joint,
+    pub vertical: bool,
+}
+
+fn contact_memory(mode: Mode) -> Option<usize>
+    ensures { result ≡ contact_memory mode }
+{
+    match mode {
+        Mode::Plain | Mode::Negated => None,
+        Mode::Rising | Mode::Falling => Some(0),
+    }
+}
+
+fn coil_memory(mode: CoilMode) -> Option<usize>
+    ensures { result ≡ coil_memory mode }
+{
+    match mode {
+        CoilMode::Store | CoilMode::Inverse | CoilMode::Set | CoilMode::Reset => None,
+        CoilMode::Rising | CoilMode::Falling => Some(0),
+    }
+}
+
+fn contact_on(mode: Mode, symbol: Symbol) -> Cell
+    ensures { result ≡ contact_on mode symbol }
+{
+    let memory = contact_memory(mode);
+    match symbol {
+        Symbol::Var(number) => Cell::Contact {
+            mode,
+            operand: Operand::Var(number),
+            memory,
+        },
+        Symbol::Instance(number) => Cell::Contact {
+            mode,
+            operand: Operand::Output(number),
+            memory,
+        },
+    }
+}
+
+fn coil_on(mode: CoilMode, symbol: Symbol) -> Cell
+    ensures { result ≡ coil_on mode symbol }
+{
+    match symbol {
+        Symbol::Var(var) => Cell::Coil {
+            mode,
+            var,
+            memory: coil_memory(mode),
+        },
+        Symbol::Instance(_) => Cell::Empty,
+    }
+}
+
+fn block_on(inst: Option<usize>) -> Cell
+    ensures { result ≡ block_on inst }
+{
+    match inst {
+        Some(inst) => Cell::Block { inst },
+        None => Cell::Empty,
+    }
+}
+
+fn lower_of(inst: Option<usize>, linked: bool) -> Cell
+    ensures { result ≡ lower_of inst linked }
+{
+    match inst {
+        Some(inst) => Cell::Lower { inst, linked },
+        None => Cell::Empty,
+    }
+}
+
+fn jump_on(target: Option<usize>) -> Cell
+    ensures { result ≡ jump_on target }
+{
+    match target {
+        Some(target) => Cell::Jump { target },
+        None => Cell::Empty,
+    }
+}
+
+fn cell_with(
+    form: Option<Form>,
+    name: Option<Reference>,
+    above: Option<usize>,
+    target: Option<usize>,
+) -> Cell
+    ensures { result ≡ cell_with form name above target }
+{
+    match (form, name) {
+        (Some(Form::Wire), _) => Cell::Wire,
+        (Some(Form::Contact(mode)), Some(x)) => contact_on(mode, x.symbol),
+        (Some(Form::Coil(mode)), Some(x)) => coil_on(mode, x.symbol),
+        (Some(Form::Block(_)), Some(x)) => block_on(instance_of(x.symbol)),
+        (Some(Form::Lower(_, linked)), _) => lower_of(above, linked),
+        (Some(Form::Jump(_)), _) => jump_on(target),
+        (Some(Form::Return), _) => Cell::Return,
+        _ => Cell::Empty,
+    }
+}
+
+/// The cell at a place, its memory not numbered yet.
+pub(crate) fn cell_drawn(
+    page: PageView<'_, '_>,
+    labels: &[Option<Name>],
+    k: usize,
+    r: usize,
+    c: usize,
+) -> Cell
+    requires rungs { k < length page.parts.now }
+    requires within { All (IsWithin (length page.lines.now)) page.parts.now }
+    requires known { labels.now ≡ labels_of (map (λ l. l.now) page.lines.now) page.parts.now }
+    requires rows { r < ROWS }
+    requires columns { c < COLUMNS }
+    ensures { result ≡ cell_drawn (seen page.entry) k r c }
+{
+    let form = form_at(page, k, r, c);
+    cell_with(
+        form,
+        name_over(page, k, r, c),
+        instance_above(page, k, r, c),
+        target_of(labels, k, &form),
+    )
+}
+
+fn joint_of(b: u8) -> Joint
+    ensures { result ≡ joint_of b }
+{
+    match b {
+        b'-' => Joint::Dash,
+        b'+' => Joint::Plus,
+        b'|' => Joint::Bar,
+        _ => Joint::Blank,
+    }
+}
+
+fn numbered(number: usize, cell: Cell) -> Cell
+    ensures { result ≡ numbered number cell }
+{
+    match cell {
+        Cell::Contact {
+            mode,
+            operand,
+            memory: Some(_),
+        } => Cell::Contact {
+            mode,
+            operand,
+            memory: Some(number),
+        },
+        Cell::Coil {
+            mode,
+            var,
+            memory: Some(_),
+        } => Cell::Coil {
+            mode,
+            var,
+            memory: Some(number),
+        },
+        other => other,
+    }
+}
+
+/// What stands at a place that has this cell; `number` is that of the next memory.
+pub(crate) fn site_with(
+    page: PageView<'_, '_>,
+    number: usize,
+    cell: Cell,
+    k: usize,
+    r: usize,
+    c: usize,
+) -> Site
+    requires rungs { k < length page.parts.now }
+    requires within { All (IsWithin (length page.lines.now)) page.parts.now }
+    requires rows { r < ROWS }
+    requires columns { c < COLUMNS }
+    ensures { result ≡ site_with (seen page.entry) number cell k r c }
+{
+    Site {
+        cell: numbered(number, cell),
+        right_link: right_link(page, k, r, c),
+        joint: joint_of(joint(rung_at(page, k), r, c)),
+        vertical: vertical(rung_at(page, k), r, c),
+    }
+}

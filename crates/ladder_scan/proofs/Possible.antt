@@ -1,0 +1,254 @@
+-- What instances store belongs to their kind and is possible at the moment.
+use Rattle.std.proofs.Common.{length, ◌≡◌, ℕ, ◌≤◌, Bool, true, false, cond, ◌||◌, List, [], ◌∷◌, map, get_or, set, zero, suc, nat_lt, sym, subst, ap, ap₂, ◌∙◌, refl, arith, ℤ, pos, negsuc, ◌+ℤ◌, ◌-ℤ◌, int_lt}
+use Rattle.std.specs.Prelude.{FitsSigned}
+use Rattle.std.specs.Int.{w16}
+use Rattle.std.proofs.lemmas.Int.{ints}
+use Rattle.std.proofs.lemmas.Bool.Decides.{nat_tests}
+use Rattle.std.proofs.lemmas.List.{length-map}
+use Rattle.ladder_vars.specs.declared.kind.BlockKind.{BlockKind}
+use Rattle.ladder_vars.specs.declared.kind.BlockKind.TheVariants.{Ton, Tof, Tp, Ctu, Ctd, Sr, Rs}
+use Rattle.ladder_vars.specs.declared.decls.Instance.{Instance}
+use Rattle.ladder_vars.specs.Kind.{largest_preset}
+use Rattle.ladder_grid.specs.declared.cell.Cell.{Cell}
+use Rattle.ladder_grid.specs.declared.cell.Cell.TheVariants.{Empty, Wire, Contact, Coil, Block, Lower, Jump, Return}
+use Rattle.ladder_scan.specs.declared.block.Stored.{Stored}
+use Rattle.ladder_scan.specs.declared.block.Stored.TheVariants.{Timer, Counter, Bistable}
+use Rattle.ladder_scan.specs.Truth.{plain}
+use Rattle.ladder_scan.specs.Blocks.{step, new_block, tof_runs, tp_stays, tp_begins, counted_up, counted_down}
+use Rattle.ladder_grid.specs.Program.{block_in}
+use Rattle.ladder_scan.specs.Cells.{Diagram, Frame, Kept, put_in, no_block, stored_of}
+use Rattle.ladder_scan.specs.Rung.{Held, second, stepped, changes, frame_of, link_at, evaluated}
+use Rattle.ladder_scan.specs.Scan.{next_rung}
+use Rattle.ladder_scan.specs.Programs.{IsSound}
+use Rattle.ladder_scan.specs.RungByRung.{Scanned, scanned}
+use Rattle.ladder_scan.specs.Standing.{IsPossible, ArePossible, AreSound, Shape, shape, shape_of}
+
+zero_fits : FitsSigned w16 (pos 0)
+zero_fits = grind (arith, ints, nat_tests)
+
+new_one : (kind : BlockKind) → IsPossible 0 (new_block kind)
+new_one Ton = (omega arith, λ e. refl)
+new_one Tof = (omega arith, λ e. refl)
+new_one Tp = (omega arith, λ e. refl)
+new_one Ctu = zero_fits
+new_one Ctd = zero_fits
+new_one Sr = tt
+new_one Rs = tt
+
+new_possible : (instances : List Instance) → ArePossible 0 (map (λ i. new_block i.kind) instances)
+new_possible [] i = (omega arith, λ e. refl)
+new_possible (x ∷ xs) zero = new_one x.kind
+new_possible (x ∷ xs) (suc i) = new_possible xs i
+
+pub fresh_possible : (instances : List Instance) (blocks : List Stored) → blocks ≡ map (λ i. new_block i.kind) instances → ArePossible 0 blocks
+fresh_possible instances blocks e = subst (λ (bs : List Stored). ArePossible 0 bs) (sym e) (new_possible instances)
+
+new_shape : (kind : BlockKind) → shape (new_block kind) ≡ shape_of kind
+new_shape Ton = refl
+new_shape Tof = refl
+new_shape Tp = refl
+new_shape Ctu = refl
+new_shape Ctd = refl
+new_shape Sr = refl
+new_shape Rs = refl
+
+new_shapes : (instances : List Instance) → map shape (map (λ i. new_block i.kind) instances) ≡ map shape_of (map (λ i. i.kind) instances)
+new_shapes [] = refl
+new_shapes (x ∷ xs) = ap₂ (λ (a : Shape) (l : List Shape). a ∷ l) (new_shape x.kind) (new_shapes xs)
+
+pub fresh_shapes : (xs ys all : List Instance) (blocks : List Stored) (kinds : List BlockKind) → xs ≡ all → ys ≡ all
+    → blocks ≡ map (λ i. new_block i.kind) ys → kinds ≡ map (λ i. i.kind) xs → map shape blocks ≡ map shape_of kinds
+fresh_shapes xs ys all blocks kinds e f b k = rw (b, k, f, e) (new_shapes all)
+
+below : (b : Bool) (x y now : ℕ) → x ≤ now → y ≤ now → cond b x y ≤ now
+below true x y now h k = h
+below false x y now h k = k
+
+-- where a timer does not run its start is 0
+off_zero : (b : Bool) (x : ℕ) → b ≡ false → cond b x 0 ≡ 0
+off_zero true x e = cc
+off_zero false x e = refl
+
+off_pulse : (stays begins : Bool) (start now : ℕ) → (stays || begins) ≡ false → cond stays start (cond begins now 0) ≡ 0
+off_pulse true begins start now e = cc
+off_pulse false true start now e = cc
+off_pulse false false start now e = refl
+
+on_off : {A : Type 0} → true ≡ false → A
+on_off e = cc
+
+-- CV stays in its range
+either : (b : Bool) (x y : ℤ) → FitsSigned w16 x → FitsSigned w16 y → FitsSigned w16 (cond b x y)
+either true x y h k = h
+either false x y h k = k
+
+up_one : (cv : ℤ) → FitsSigned w16 cv → FitsSigned w16 (cond (int_lt cv (pos 32767)) (cv +ℤ pos 1) cv)
+up_one cv h = grind (arith, ints, nat_tests)
+
+up_fits : (last on reset : Bool) (cv : ℤ) → FitsSigned w16 cv → FitsSigned w16 (counted_up last cv on reset)
+up_fits last on true cv h = zero_fits
+up_fits last false false cv h = h
+up_fits true true false cv h = h
+up_fits false true false cv h = up_one cv h
+
+down_one : (cv : ℤ) → FitsSigned w16 cv → FitsSigned w16 (cond (int_lt (negsuc 32767) cv) (cv -ℤ pos 1) cv)
+down_one cv h = grind (arith, ints, nat_tests)
+
+down_fits : (preset : ℕ) (last on load : Bool) (cv : ℤ) → preset ≤ 32767 → FitsSigned w16 cv → FitsSigned w16 (counted_down preset last cv on load)
+down_fits preset last on true cv p h = grind (arith, ints, nat_tests)
+down_fits preset last false false cv p h = h
+down_fits preset true true false cv p h = h
+down_fits preset false true false cv p h = down_one cv h
+
+step_possible : (kind : BlockKind) (preset : ℕ) (s : Stored) (on second : Bool) (now : ℕ) → preset ≤ largest_preset kind
+    → IsPossible now s → IsPossible now (step kind preset s on second now)
+unfolding step
+step_possible Ton preset (Timer last running start q) true second now p h = (below running start now now h.0 (omega arith), λ e. on_off e)
+step_possible Ton preset (Timer last running start q) false second now p h = (omega arith, λ e. refl)
+step_possible Tof preset (Timer last running start q) true second now p h = (omega arith, λ e. refl)
+step_possible Tof preset (Timer last running start q) false second now p h =
+    (below _ _ 0 now (below last now start now (omega arith) h.0) (omega arith), λ e. off_zero (tof_runs preset last running start now) _ e)
+step_possible Tp preset (Timer last running start q) on second now p h = (
+  below _ start _ now h.0 (below _ now 0 now (omega arith) (omega arith)),
+  λ e. off_pulse (tp_stays preset running start now) (tp_begins preset last running start on now) start now e,
+)
+step_possible Ctu preset (Timer last running start q) on second now p h = h
+step_possible Ctd preset (Timer last running start q) on second now p h = h
+step_possible Sr preset (Timer last running start q) on second now p h = h
+step_possible Rs preset (Timer last running start q) on second now p h = h
+step_possible Ton preset (Counter last cv q) on second now p h = h
+step_possible Tof preset (Counter last cv q) on second now p h = h
+step_possible Tp preset (Counter last cv q) on second now p h = h
+step_possible Sr preset (Counter last cv q) on second now p h = h
+step_possible Rs preset (Counter last cv q) on second now p h = h
+step_possible Ctu preset (Counter last cv q) on second now p h = up_fits last on second cv h
+step_possible Ctd preset (Counter last cv q) on second now p h = down_fits preset last on second cv p h
+step_possible Ton preset (Bistable q) on second now p h = tt
+step_possible Tof preset (Bistable q) on second now p h = tt
+step_possible Tp preset (Bistable q) on second now p h = tt
+step_possible Ctu preset (Bistable q) on second now p h = tt
+step_possible Ctd preset (Bistable q) on second now p h = tt
+step_possible Sr preset (Bistable q) on second now p h = tt
+step_possible Rs preset (Bistable q) on second now p h = tt
+
+-- a step keeps the shape
+step_shape : (kind : BlockKind) (preset : ℕ) (s : Stored) (on second : Bool) (now : ℕ) → shape (step kind preset s on second now) ≡ shape s
+unfolding step
+step_shape Ton preset (Timer last running start q) true second now = refl
+step_shape Ton preset (Timer last running start q) false second now = refl
+step_shape Tof preset (Timer last running start q) true second now = refl
+step_shape Tof preset (Timer last running start q) false second now = refl
+step_shape Tp preset (Timer last running start q) on second now = refl
+step_shape Ctu preset (Timer last running start q) on second now = refl
+step_shape Ctd preset (Timer last running start q) on second now = refl
+step_shape Sr preset (Timer last running start q) on second now = refl
+step_shape Rs preset (Timer last running start q) on second now = refl
+step_shape Ton preset (Counter last cv q) on second now = refl
+step_shape Tof preset (Counter last cv q) on second now = refl
+step_shape Tp preset (Counter last cv q) on second now = refl
+step_shape Sr preset (Counter last cv q) on second now = refl
+step_shape Rs preset (Counter last cv q) on second now = refl
+step_shape Ctu preset (Counter last cv q) on second now = refl
+step_shape Ctd preset (Counter last cv q) on second now = refl
+step_shape Ton preset (Bistable q) on second now = refl
+step_shape Tof preset (Bistable q) on second now = refl
+step_shape Tp preset (Bistable q) on second now = refl
+step_shape Ctu preset (Bistable q) on second now = refl
+step_shape Ctd preset (Bistable q) on second now = refl
+step_shape Sr preset (Bistable q) on second now = refl
+step_shape Rs preset (Bistable q) on second now = refl
+
+pub set_possible : (now : ℕ) (bs : List Stored) (n : ℕ) (s : Stored) → ArePossible now bs → IsPossible now s → ArePossible now (set bs n s)
+set_possible now [] n s h t i = h i
+set_possible now (b ∷ bs) zero s h t zero = t
+set_possible now (b ∷ bs) zero s h t (suc i) = h (suc i)
+set_possible now (b ∷ bs) (suc n) s h t zero = h 0
+set_possible now (b ∷ bs) (suc n) s h t (suc i) = set_possible now bs n s (λ j. h (suc j)) t i
+
+-- what stands in place of another of its shape
+set_shape : (bs : List Stored) (n : ℕ) (s : Stored) → shape s ≡ shape (get_or bs n no_block) → map shape (set bs n s) ≡ map shape bs
+set_shape [] n s e = refl
+set_shape (b ∷ bs) zero s e = ap (λ (a : Shape). a ∷ map shape bs) e
+set_shape (b ∷ bs) (suc n) s e = ap (λ (l : List Shape). shape b ∷ l) (set_shape bs n s e)
+
+same_shape : (bs : List Stored) (kinds : List BlockKind) (n : ℕ) → map shape bs ≡ map shape_of kinds → shape (get_or bs n no_block) ≡ shape_of (get_or kinds n Ton)
+same_shape [] [] n e = refl
+same_shape [] (k ∷ kinds) n e = let bad : 0 ≡ suc (length (map shape_of kinds)) = ap length e in absurd (omega (arith, bad))
+same_shape (b ∷ bs) [] n e = let bad : suc (length (map shape bs)) ≡ 0 = ap length e in absurd (omega (arith, bad))
+same_shape (b ∷ bs) (k ∷ kinds) zero e = cc
+same_shape (b ∷ bs) (k ∷ kinds) (suc n) e = let t : map shape bs ≡ map shape_of kinds = cc in same_shape bs kinds n t
+
+pub set_shapes : (bs : List Stored) (kinds : List BlockKind) (n : ℕ) (s : Stored) → map shape bs ≡ map shape_of kinds → shape s ≡ shape_of (get_or kinds n Ton)
+    → map shape (set bs n s) ≡ map shape_of kinds
+set_shapes bs kinds n s e h = set_shape bs n s (h ∙ sym (same_shape bs kinds n e)) ∙ e
+
+cell_possible : (d : Diagram) → IsSound d → (now : ℕ) (k : Kept) (c : Cell) (x y : Bool) → ArePossible now k.blocks
+    → ArePossible now (put_in k.blocks (block_in c) (stepped d now c (stored_of k c) x y))
+cell_possible d w now k Empty x y h = h
+cell_possible d w now k Wire x y h = h
+cell_possible d w now k (Contact mode operand memory) x y h = h
+cell_possible d w now k (Coil mode var memory) x y h = h
+cell_possible d w now k (Block inst) x y h = set_possible now k.blocks inst _ h (step_possible (d.kind inst) (d.preset inst) _ x y now (w.presets inst) (h inst))
+cell_possible d w now k (Lower inst linked) x y h = h
+cell_possible d w now k (Jump target) x y h = h
+cell_possible d w now k Return x y h = h
+
+cell_shapes : (d : Diagram) (now : ℕ) (k : Kept) (c : Cell) (x y : Bool) → map shape (put_in k.blocks (block_in c) (stepped d now c (stored_of k c) x y)) ≡ map shape k.blocks
+cell_shapes d now k Empty x y = refl
+cell_shapes d now k Wire x y = refl
+cell_shapes d now k (Contact mode operand memory) x y = refl
+cell_shapes d now k (Coil mode var memory) x y = refl
+cell_shapes d now k (Block inst) x y = set_shape k.blocks inst _ (step_shape (d.kind inst) (d.preset inst) (get_or k.blocks inst no_block) x y now)
+cell_shapes d now k (Lower inst linked) x y = refl
+cell_shapes d now k (Jump target) x y = refl
+cell_shapes d now k Return x y = refl
+
+changes_possible : (d : Diagram) → IsSound d → (now j : ℕ) (start : Frame Bool) (links : ℕ → Bool) (n : ℕ) (h : Held)
+    → ArePossible now h.kept.blocks → ArePossible now (changes d now j start links n h).kept.blocks
+unfolding changes
+changes_possible d w now j start links zero h t = t
+changes_possible d w now j start links (suc n) h t =
+    cell_possible d w now (changes d now j start links n h).kept (d.cell j n) (links n) (second plain d j links n) (changes_possible d w now j start links n h t)
+
+changes_shapes : (d : Diagram) (now j : ℕ) (start : Frame Bool) (links : ℕ → Bool) (n : ℕ) (h : Held) → map shape (changes d now j start links n h).kept.blocks ≡ map shape h.kept.blocks
+unfolding changes
+changes_shapes d now j start links zero h = refl
+changes_shapes d now j start links (suc n) h =
+    cell_shapes d now (changes d now j start links n h).kept (d.cell j n) (links n) (second plain d j links n) ∙ changes_shapes d now j start links n h
+
+abbrev next : Diagram → ℕ → ℕ → Scanned → Scanned
+next d now n s = record { held = evaluated d now n s.held; resume = next_rung d now n s.held }
+
+either_possible : (d : Diagram) → IsSound d → (now n : ℕ) (s : Scanned) (b : Bool) → ArePossible now s.held.kept.blocks → ArePossible now (cond b s (next d now n s)).held.kept.blocks
+either_possible d w now n s true t = t
+either_possible d w now n s false t = changes_possible d w now n (frame_of s.held) (link_at d now n s.held) 60 s.held t
+
+either_shapes : (d : Diagram) (now n : ℕ) (s : Scanned) (b : Bool) → map shape (cond b s (next d now n s)).held.kept.blocks ≡ map shape s.held.kept.blocks
+either_shapes d now n s true = refl
+either_shapes d now n s false = changes_shapes d now n (frame_of s.held) (link_at d now n s.held) 60 s.held
+
+pub scanned_possible : (d : Diagram) → IsSound d → (now : ℕ) (h : Held) → ArePossible now h.kept.blocks → (n : ℕ) → ArePossible now (scanned d now h n).held.kept.blocks
+unfolding scanned
+scanned_possible d w now h t zero = t
+scanned_possible d w now h t (suc n) = either_possible d w now n (scanned d now h n) (nat_lt n (scanned d now h n).resume) (scanned_possible d w now h t n)
+
+pub scanned_shapes : (d : Diagram) (now : ℕ) (h : Held) (n : ℕ) → map shape (scanned d now h n).held.kept.blocks ≡ map shape h.kept.blocks
+unfolding scanned
+scanned_shapes d now h zero = refl
+scanned_shapes d now h (suc n) = either_shapes d now n (scanned d now h n) (nat_lt n (scanned d now h n).resume) ∙ scanned_shapes d now h n
+
+later_one : (m now : ℕ) (s : Stored) → m ≤ now → IsPossible m s → IsPossible now s
+later_one m now (Timer last running start q) h t = (omega (arith, t.0), t.1)
+later_one m now (Counter last cv q) h t = t
+later_one m now (Bistable q) h t = t
+
+later : (m now : ℕ) (bs : List Stored) → m ≤ now → ArePossible m bs → ArePossible now bs
+later m now bs h t i = later_one m now (get_or bs i no_block) h (t i)
+
+-- what a scan leaves
+pub after_sound : (m now : ℕ) (kinds : List BlockKind) (bs cs : List Stored) → AreSound kinds bs m → m ≤ now → map shape cs ≡ map shape bs
+    → (ArePossible now bs → ArePossible now cs) → AreSound kinds cs now
+after_sound m now kinds bs cs s h e f = record { shapes = e ∙ s.shapes; possible = f (later m now bs h s.possible) }
+
+pub as_many : (kinds : List BlockKind) (blocks : List Stored) (moment : ℕ) → AreSound kinds blocks moment → length blocks ≡ length kinds
+as_many kinds blocks moment s = sym (length-map blocks shape) ∙ ap length s.shapes ∙ length-map kinds shape_of
