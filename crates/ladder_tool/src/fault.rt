@@ -5,7 +5,7 @@ ghost use Rattle.ladder_tool.specs.FaultLine.{cause_number, fault_line, grid_num
 
 use ladder_causes::CauseFault;
 use ladder_grid::{GridFault, GridRule};
-use ladder_sim::{Piece, Sink, TextFault, WriteFault, put, put_pieces};
+use ladder_text::{Piece, Sink, TextFault, WriteFault, put, put_pieces};
 use ladder_vars::{VarFault, VarRule};
 use thiserror::Error;
 
