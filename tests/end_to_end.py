@@ -40,7 +40,23 @@ def inputs(count):
     return f"VAR\n{declared}  Y AT %QX0 : BOOL;\nEND_VAR\n\n|     I1          Y\n|----| |---------( )----\n"
 
 
-GENERATORS = {"spaces": spaces, "filled_motor": filled_motor, "inputs": inputs}
+def variables(count):
+    """So many declarations of variables."""
+    return "VAR\n" + "".join(f"V{number} : BOOL;\n" for number in range(1, count + 1)) + "END_VAR\n"
+
+
+def instances(count):
+    """So many declarations of timers."""
+    return "VAR\n" + "".join(f"T{number} : TON;\n" for number in range(1, count + 1)) + "END_VAR\n"
+
+
+def rungs(count):
+    """So many rungs of one line, the first one on line 6."""
+    return "VAR\n  A AT %IX0 : BOOL;\n  Y AT %QX0 : BOOL;\nEND_VAR\n\n" + "|\n\n" * count
+
+
+MAKERS = (spaces, filled_motor, inputs, variables, instances, rungs)
+GENERATORS = {maker.__name__: maker for maker in MAKERS}
 
 
 def lines(path):
@@ -130,6 +146,8 @@ SPECIAL = {
     "words-help-of-causes": help_is_printed("causes", "--help"),
     "words-short-help-of-causes": help_is_printed("causes", "-h"),
     "streams-help-on-a-full-device": on_a_stream(["--help"], "stdout", full_device, (None, b"fault X6\n", 1)),
+    "check-on-a-full-device": on_a_stream(["check", "motor.ld"], "stdout", full_device, (None, b"fault X6\n", 1)),
+    "check-help": help_is_printed("check", "--help"),
     "streams-rows-on-a-full-device": on_a_stream(CAUSES, "stdout", full_device, (None, b"fault X6\n", 1)),
     "streams-rows-on-an-unread-pipe": on_a_stream(CAUSES, "stdout", unread_pipe, (None, b"fault X6\n", 1)),
     "streams-rows-on-a-closed-output": rows_on_a_closed_output,
