@@ -7,7 +7,7 @@ Each folder of tests/cases is a case, run in a temporary folder of its own:
     stdout, stderr  the exact bytes that are expected (absent: none)
     status          the expected status (absent: 0)
     files           lines `NAME FROM`: a copy of a file, named from the root of the repository
-    made            lines `NAME GENERATOR [NUMBER]...`: a text that a generator below makes
+    made            lines `NAME GENERATOR [WORDS]`: a text that a generator below makes, several lines of one name one behind the other
 
 Every other file of the folder is copied. PATTERN, as 'causes-*', chooses cases by name.
 """
@@ -26,36 +26,41 @@ NO_INPUT = ("words", "stdout", "stderr", "status", "files", "made")
 
 def spaces(length):
     """Nothing but spaces."""
-    return " " * length
+    return " " * int(length)
 
 
 def filled_motor(length):
     """The motor, and line ends up to a length."""
-    return (HERE / "programs" / "motor.ld").read_text("ascii").ljust(length, "\n")
+    return (HERE / "programs" / "motor.ld").read_text("ascii").ljust(int(length), "\n")
 
 
 def inputs(count):
     """So many inputs, of which the first one alone feeds the coil."""
-    declared = "".join(f"  I{number} AT %IX{number - 1} : BOOL;\n" for number in range(1, count + 1))
+    declared = "".join(f"  I{number} AT %IX{number - 1} : BOOL;\n" for number in range(1, int(count) + 1))
     return f"VAR\n{declared}  Y AT %QX0 : BOOL;\nEND_VAR\n\n|     I1          Y\n|----| |---------( )----\n"
 
 
 def variables(count):
     """So many declarations of variables."""
-    return "VAR\n" + "".join(f"V{number} : BOOL;\n" for number in range(1, count + 1)) + "END_VAR\n"
+    return "".join(f"V{number} : BOOL;\n" for number in range(1, int(count) + 1))
 
 
-def instances(count):
+def timers(count):
     """So many declarations of timers."""
-    return "VAR\n" + "".join(f"T{number} : TON;\n" for number in range(1, count + 1)) + "END_VAR\n"
+    return "".join(f"T{number} : TON;\n" for number in range(1, int(count) + 1))
 
 
 def rungs(count):
-    """So many rungs of one line, the first one on line 6."""
-    return "VAR\n  A AT %IX0 : BOOL;\n  Y AT %QX0 : BOOL;\nEND_VAR\n\n" + "|\n\n" * count
+    """So many rungs of one line, each with a blank line behind it."""
+    return "|\n\n" * int(count)
 
 
-MAKERS = (spaces, filled_motor, inputs, variables, instances, rungs)
+def line(words):
+    """These words as they stand."""
+    return f"{words}\n"
+
+
+MAKERS = (spaces, filled_motor, inputs, variables, timers, rungs, line)
 GENERATORS = {maker.__name__: maker for maker in MAKERS}
 
 
@@ -72,13 +77,14 @@ def fill(case, folder):
     for path in case.iterdir():
         if path.name not in NO_INPUT:
             shutil.copy(path, folder)
-    for line in lines(case / "files"):
-        name, source = line.split()
+    for words in lines(case / "files"):
+        name, source = words.split()
         shutil.copy(ROOT / source, folder / name)
-    for line in lines(case / "made"):
-        name, generator, *numbers = line.split()
-        text = GENERATORS[generator](*map(int, numbers))
-        (folder / name).write_text(text, "ascii", newline="")
+    for words in lines(case / "made"):
+        name, _, piece = words.partition(" ")
+        generator, _, rest = piece.partition(" ")
+        with open(folder / name, "a", encoding="ascii", newline="") as file:
+            file.write(GENERATORS[generator](rest))
 
 
 def run(program, words, folder, **streams):
