@@ -88,9 +88,12 @@ def fill(case, folder):
 
 
 def run(program, words, folder, **streams):
-    """Standard output, standard error and status; a stream that isn't a pipe is None."""
+    """Standard output, standard error and status; a stream that isn't a pipe is None, and so is the status after a minute."""
     streams = {"stdin": subprocess.DEVNULL, "stdout": subprocess.PIPE, "stderr": subprocess.PIPE, **streams}
-    done = subprocess.run([program, *words], cwd=folder, timeout=60, check=False, **streams)
+    try:
+        done = subprocess.run([program, *words], cwd=folder, timeout=60, check=False, **streams)
+    except subprocess.TimeoutExpired as late:
+        return late.stdout, late.stderr, None
     return done.stdout, done.stderr, done.returncode
 
 
