@@ -7,7 +7,7 @@ Each folder of tests/cases is a case, run in a temporary folder of its own:
     stdout, stderr  the exact bytes that are expected (absent: none)
     status          the expected status (absent: 0)
     files           lines `NAME FROM`: a copy of a file, named from the root of the repository
-    made            lines `NAME GENERATOR [NUMBER]...`: a text that a generator below makes
+    made            lines `NAME GENERATOR [WORDS]`: a text that a generator below makes, several lines of one name one behind the other
 
 Every other file of the folder is copied. PATTERN, as 'causes-*', chooses cases by name.
 """
@@ -26,21 +26,42 @@ NO_INPUT = ("words", "stdout", "stderr", "status", "files", "made")
 
 def spaces(length):
     """Nothing but spaces."""
-    return " " * length
+    return " " * int(length)
 
 
 def filled_motor(length):
     """The motor, and line ends up to a length."""
-    return (HERE / "programs" / "motor.ld").read_text("ascii").ljust(length, "\n")
+    return (HERE / "programs" / "motor.ld").read_text("ascii").ljust(int(length), "\n")
 
 
 def inputs(count):
     """So many inputs, of which the first one alone feeds the coil."""
-    declared = "".join(f"  I{number} AT %IX{number - 1} : BOOL;\n" for number in range(1, count + 1))
+    declared = "".join(f"  I{number} AT %IX{number - 1} : BOOL;\n" for number in range(1, int(count) + 1))
     return f"VAR\n{declared}  Y AT %QX0 : BOOL;\nEND_VAR\n\n|     I1          Y\n|----| |---------( )----\n"
 
 
-GENERATORS = {"spaces": spaces, "filled_motor": filled_motor, "inputs": inputs}
+def variables(count):
+    """So many declarations of variables."""
+    return "".join(f"V{number} : BOOL;\n" for number in range(1, int(count) + 1))
+
+
+def timers(count):
+    """So many declarations of timers."""
+    return "".join(f"T{number} : TON;\n" for number in range(1, int(count) + 1))
+
+
+def rungs(count):
+    """So many rungs of one line, each with a blank line behind it."""
+    return "|\n\n" * int(count)
+
+
+def line(words):
+    """These words as they stand."""
+    return f"{words}\n"
+
+
+MAKERS = (spaces, filled_motor, inputs, variables, timers, rungs, line)
+GENERATORS = {maker.__name__: maker for maker in MAKERS}
 
 
 def lines(path):
@@ -56,19 +77,23 @@ def fill(case, folder):
     for path in case.iterdir():
         if path.name not in NO_INPUT:
             shutil.copy(path, folder)
-    for line in lines(case / "files"):
-        name, source = line.split()
+    for words in lines(case / "files"):
+        name, source = words.split()
         shutil.copy(ROOT / source, folder / name)
-    for line in lines(case / "made"):
-        name, generator, *numbers = line.split()
-        text = GENERATORS[generator](*map(int, numbers))
-        (folder / name).write_text(text, "ascii", newline="")
+    for words in lines(case / "made"):
+        name, _, piece = words.partition(" ")
+        generator, _, rest = piece.partition(" ")
+        with open(folder / name, "a", encoding="ascii", newline="") as file:
+            file.write(GENERATORS[generator](rest))
 
 
 def run(program, words, folder, **streams):
-    """Standard output, standard error and status; a stream that isn't a pipe is None."""
+    """Standard output, standard error and status; a stream that isn't a pipe is None, and so is the status after a minute."""
     streams = {"stdin": subprocess.DEVNULL, "stdout": subprocess.PIPE, "stderr": subprocess.PIPE, **streams}
-    done = subprocess.run([program, *words], cwd=folder, timeout=60, check=False, **streams)
+    try:
+        done = subprocess.run([program, *words], cwd=folder, timeout=60, check=False, **streams)
+    except subprocess.TimeoutExpired as late:
+        return late.stdout, late.stderr, None
     return done.stdout, done.stderr, done.returncode
 
 
@@ -130,6 +155,8 @@ SPECIAL = {
     "words-help-of-causes": help_is_printed("causes", "--help"),
     "words-short-help-of-causes": help_is_printed("causes", "-h"),
     "streams-help-on-a-full-device": on_a_stream(["--help"], "stdout", full_device, (None, b"fault X6\n", 1)),
+    "check-on-a-full-device": on_a_stream(["check", "motor.ld"], "stdout", full_device, (None, b"fault X6\n", 1)),
+    "check-help": help_is_printed("check", "--help"),
     "streams-rows-on-a-full-device": on_a_stream(CAUSES, "stdout", full_device, (None, b"fault X6\n", 1)),
     "streams-rows-on-an-unread-pipe": on_a_stream(CAUSES, "stdout", unread_pipe, (None, b"fault X6\n", 1)),
     "streams-rows-on-a-closed-output": rows_on_a_closed_output,
