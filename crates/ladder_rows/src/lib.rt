@@ -14,6 +14,8 @@ mod memory;
 #[cfg(test)]
 mod requests;
 #[cfg(test)]
+mod runs;
+#[cfg(test)]
 mod scans;
 #[cfg(test)]
 mod texts;

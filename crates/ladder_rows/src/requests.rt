@@ -11,6 +11,9 @@ fn request(alloc: Global, words: &[&str]) -> Result<Request, AllocError> {
         inputs.push(String::from_str(alloc, word)?)?;
     }
     Ok(Request::Causes {
+        moment: None,
+        after: None,
+        limit: None,
         file: String::from_str(alloc, "program")?,
         coil: String::from_str(alloc, words.first().copied().unwrap_or(""))?,
         inputs,

@@ -25,7 +25,7 @@ pub(crate) fn program(alloc: Global, text: &[u8]) -> Result<Program, Memory> {
 }
 
 /// The stored value of a variable.
-fn stored(program: &Program, state: &State, var: usize) -> Option<bool> {
+pub(crate) fn stored(program: &Program, state: &State, var: usize) -> Option<bool> {
     if state.fits(program) && var < program.decls().vars().len() {
         Some(state.value(var))
     } else {
@@ -34,7 +34,7 @@ fn stored(program: &Program, state: &State, var: usize) -> Option<bool> {
 }
 
 /// What one look at moment 0 from the fresh state leaves of a variable.
-fn looked<S: Signal>(
+pub(crate) fn looked<S: Signal>(
     alloc: Global,
     text: &[u8],
     inputs: &[S],
