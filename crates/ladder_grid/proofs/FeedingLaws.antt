@@ -8,6 +8,7 @@ use Rattle.ladder_grid.specs.declared.form.Form.{Form}
 use Rattle.ladder_grid.specs.declared.form.Form.TheVariants.{Empty, Wire, Contact, Coil, Block, Lower, Jump, Return}
 use Rattle.ladder_grid.specs.declared.fault.Rule.TheVariants.{Grid}
 use Rattle.ladder_grid.specs.declared.fault.GridRule.TheVariants as rule
+use Rattle.ladder_grid.specs.declared.picture.Half.TheVariants as half
 use Rattle.ladder_grid.specs.declared.operand.Reference.{Reference}
 use Rattle.ladder_grid.specs.Form.{Table, Lists, whole_cells, HasForm, IsFormOf}
 use Rattle.ladder_grid.specs.Picture.{Lines, ch, joint, vertical, cell_text, SameGroup}
@@ -156,11 +157,10 @@ module _ (page : Page) (d : Drawing) (drawn : IsDrawn page d) where
             let inside : k < length page.parts = omega (arith, below, drawn.rungs) in
             let judged : k < 100 = omega (arith, below, drawn.whole.few) in
             let high : c ≤ 10 = omega (arith, columns) in
-            let wire_line : 1 < 2 = omega arith in
             let past : nat_le 1 c ≡ true = le-leb 1 c some in
             let in_columns : nat_lt c 10 ≡ true = lt-ltb c 10 columns in
             let last : (c == 10) ≡ false = ne_eqb c 10 (λ is. absurd (omega (arith, is, columns))) in
-            let broken : bad_joint page k r 1 c ≡ true = rw (last, past, in_columns, e) refl in
+            let broken : bad_joint page k r half.Wire c ≡ true = rw (last, past, in_columns, e) refl in
             absurd (drawn.sound (Grid rule.BadJoint) k ((part_at page k).start + (2 * r + 1)) (inl (
               inside,
               inr (inr (
@@ -169,13 +169,10 @@ module _ (page : Page) (d : Drawing) (drawn : IsDrawn page d) where
                 refl,
                 record {
                   row = r;
-                  half = 1;
-                  column = c;
+                  half = half.Wire;
                   in_rung = rows;
-                  in_row = wire_line;
-                  in_columns = high;
                   on = refl;
-                  breaks = broken;
+                  along = (c, high, broken);
                 },
               )),
             )))
@@ -189,7 +186,6 @@ module _ (page : Page) (d : Drawing) (drawn : IsDrawn page d) where
       let inside : k < length page.parts = omega (arith, below, drawn.rungs) in
       let judged : k < 100 = omega (arith, below, drawn.whole.few) in
       let high : c ≤ 10 = omega (arith, columns) in
-      let wire_line : 1 < 2 = omega arith in
       drawn.sound (Grid rule.Unfed) k ((part_at page k).start + (2 * r + 1)) (inl (
         inside,
         inr (inr (
@@ -198,13 +194,10 @@ module _ (page : Page) (d : Drawing) (drawn : IsDrawn page d) where
           refl,
           record {
             row = r;
-            half = 1;
-            column = c;
+            half = half.Wire;
             in_rung = rows;
-            in_row = wire_line;
-            in_columns = high;
             on = refl;
-            breaks = (refl, columns, (some, dashed, unfed));
+            along = (c, high, (refl, columns, (some, dashed, unfed)));
           },
         )),
       ))

@@ -1,3 +1,5 @@
+//! The forms of a cell.
+
 ghost use Rattle.std.specs.Prelude.{◌≡◌, ◌==◌, map};
 ghost use Rattle.std.specs.List.{list_all};
 ghost use Rattle.std.specs.Str.{bytes_eq};
@@ -84,16 +86,10 @@ fn after_dashes(mut chars: &[u8]) -> &[u8]
     chars
 }
 
-fn all_are(byte: u8, mut chars: &[u8]) -> bool
-    ensures { result ≡ list_all (λ b. b == byte) chars.entry.now }
+fn all_are(byte: u8, chars: &[u8]) -> bool
+    ensures { result ≡ list_all (λ b. b == byte) chars.now }
 {
-    while let [b, rest @ ..] = chars {
-        if *b != byte {
-            return false;
-        }
-        chars = rest;
-    }
-    true
+    chars.iter().all(|b| *b == byte)
 }
 
 fn is_filler(tail: &[u8]) -> bool

@@ -126,23 +126,23 @@ fn cell_with(
 pub(crate) fn cell_drawn(
     page: PageView<'_, '_>,
     labels: &[Option<Name>],
-    k: usize,
-    r: usize,
-    c: usize,
+    rung: usize,
+    row: usize,
+    column: usize,
 ) -> Cell
-    requires rungs { k < length page.parts.now }
+    requires rungs { rung < length page.parts.now }
     requires within { All (IsWithin (length page.lines.now)) page.parts.now }
     requires known { labels.now ≡ labels_of (map (λ l. l.now) page.lines.now) page.parts.now }
-    requires rows { r < ROWS }
-    requires columns { c < COLUMNS }
-    ensures { result ≡ cell_drawn (seen page.entry) k r c }
+    requires rows { row < ROWS }
+    requires columns { column < COLUMNS }
+    ensures { result ≡ cell_drawn (seen page.entry) rung row column }
 {
-    let form = form_at(page, k, r, c);
+    let form = form_at(page, rung, row, column);
     cell_with(
         form,
-        name_over(page, k, r, c),
-        instance_above(page, k, r, c),
-        target_of(labels, k, &form),
+        name_over(page, rung, row, column),
+        instance_above(page, rung, row, column),
+        target_of(labels, rung, &form),
     )
 }
 
@@ -188,20 +188,20 @@ pub(crate) fn site_with(
     page: PageView<'_, '_>,
     number: usize,
     cell: Cell,
-    k: usize,
-    r: usize,
-    c: usize,
+    rung: usize,
+    row: usize,
+    column: usize,
 ) -> Site
-    requires rungs { k < length page.parts.now }
+    requires rungs { rung < length page.parts.now }
     requires within { All (IsWithin (length page.lines.now)) page.parts.now }
-    requires rows { r < ROWS }
-    requires columns { c < COLUMNS }
-    ensures { result ≡ site_with (seen page.entry) number cell k r c }
+    requires rows { row < ROWS }
+    requires columns { column < COLUMNS }
+    ensures { result ≡ site_with (seen page.entry) number cell rung row column }
 {
     Site {
         cell: numbered(number, cell),
-        right_link: right_link(page, k, r, c),
-        joint: joint_of(joint(rung_at(page, k), r, c)),
-        vertical: vertical(rung_at(page, k), r, c),
+        right_link: right_link(page, rung, row, column),
+        joint: joint_of(joint(rung_at(page, rung), row, column)),
+        vertical: vertical(rung_at(page, rung), row, column),
     }
 }
