@@ -49,12 +49,12 @@ module _ (page : Page) (d : Drawing) (drawn : IsDrawn page d) where
 
   -- ---- groups
 
-  joined_links : (k c row n : ℕ) → k < d.rungs → c < 10 → row + n ≤ 6 → joined d k c row n ≡ true
+  joined_links : (k c row n : ℕ) → k < d.rungs → c < 10 → row + n ≤ 6 → joined d k row c n ≡ true
       → (m : ℕ) → row ≤ m → m < row + n → vertical (rung_at page k) m c ≡ true
   unfolding joined
   joined_links k c row zero below columns rows h m from to = absurd (omega (arith, from, to))
   joined_links k c row (suc n) below columns rows h m from to =
-      let parts = and_parts (joined d k c row n) (site_at d k (row + n) c).vertical h in
+      let parts = and_parts (joined d k row c n) (site_at d k (row + n) c).vertical h in
       elim (cases_lt m (row + n)) [
         | inl before ↦ joined_links k c row n below columns (omega (arith, rows)) parts.0 m from before
         | inr past ↦
@@ -64,12 +64,12 @@ module _ (page : Page) (d : Drawing) (drawn : IsDrawn page d) where
       ]
 
   links_joined : (k c row n : ℕ) → k < d.rungs → c < 10 → row + n ≤ 6
-      → ((m : ℕ) → row ≤ m → m < row + n → vertical (rung_at page k) m c ≡ true) → joined d k c row n ≡ true
+      → ((m : ℕ) → row ≤ m → m < row + n → vertical (rung_at page k) m c ≡ true) → joined d k row c n ≡ true
   unfolding joined
   links_joined k c row zero below columns rows h = refl
   links_joined k c row (suc n) below columns rows h =
       let inside : row + n < 6 = omega (arith, rows) in
-      let before : joined d k c row n ≡ true
+      let before : joined d k row c n ≡ true
       = links_joined k c row n below columns (omega (arith, rows)) (λ m from to. h m from (omega (arith, to))) in
       let last : (site_at d k (row + n) c).vertical ≡ true
       = vertical_is k (row + n) c below inside columns ∙ h (row + n) (omega arith) (omega arith) in
@@ -102,7 +102,7 @@ module _ (page : Page) (d : Drawing) (drawn : IsDrawn page d) where
             let some : nat_le 1 c ≡ true = le-leb 1 c h.0 in
             let right : (site_at d k q (c - 1)).right_link ≡ true = link ∙ e.0 in
             let meets : takes_power (site_at d k q c).joint ≡ true = takes ∙ e.1 in
-            let group : joined d k c (min r q) (max r q - min r q) ≡ true = groups.1 h.1 in
+            let group : joined d k (min r q) c (max r q - min r q) ≡ true = groups.1 h.1 in
             rw (some, right, meets, group) refl,
       )
 

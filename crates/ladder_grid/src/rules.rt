@@ -115,10 +115,11 @@ fn bad_vertical(lines: &[&[u8]], row: usize, half: Half, column: usize) -> bool
 fn wants_name(form: Option<Form>) -> bool
     ensures { result ≡ wants_name form }
 {
-    matches!(
-        form,
-        Some(Form::Contact(_)) | Some(Form::Coil(_)) | Some(Form::Block(_))
-    )
+    match form {
+        Some(Form::Contact(_) | Form::Coil(_) | Form::Block(_)) => true,
+        None | Some(Form::Empty | Form::Wire | Form::Lower(_, _) | Form::Jump(_) | Form::Return) =>
+            false,
+    }
 }
 
 /// Whether there is a character that is no space.
@@ -204,20 +205,24 @@ fn wrong_kind(page: PageView<'_, '_>, rung: usize, row: usize, half: Half, colum
 fn same_pin(a: Pin, b: Pin) -> bool
     ensures { result ≡ same_pin a b }
 {
-    match (a, b) {
-        (Pin::Reset, Pin::Reset) => true,
-        (Pin::Load, Pin::Load) => true,
-        (Pin::Reset1, Pin::Reset1) => true,
-        _ => false,
-    }
+    a == b
 }
 
 fn is_lower_for(pin: Option<Pin>, form: Option<Form>) -> bool
     ensures { result ≡ is_lower_for pin form }
 {
-    match (pin, form) {
-        (Some(p), Some(Form::Lower(other, _))) => same_pin(p, other),
-        _ => false,
+    match form {
+        Some(Form::Lower(other, _)) => takes_second(other, pin),
+        None
+        | Some(
+            Form::Empty
+            | Form::Wire
+            | Form::Contact(_)
+            | Form::Coil(_)
+            | Form::Block(_)
+            | Form::Jump(_)
+            | Form::Return,
+        ) => false,
     }
 }
 
@@ -235,7 +240,16 @@ fn is_block_for(other: Pin, form: Option<Form>) -> bool
 {
     match form {
         Some(Form::Block(kind)) => takes_second(other, kind.traits().second_input),
-        _ => false,
+        None
+        | Some(
+            Form::Empty
+            | Form::Wire
+            | Form::Contact(_)
+            | Form::Coil(_)
+            | Form::Lower(_, _)
+            | Form::Jump(_)
+            | Form::Return,
+        ) => false,
     }
 }
 
@@ -254,7 +268,15 @@ fn is_apart(above: Option<Form>, form: Option<Form>, below: Option<Form>) -> boo
     match form {
         Some(Form::Block(kind)) => lacks_lower(kind.traits().second_input, below),
         Some(Form::Lower(other, _)) => !is_block_for(other, above),
-        _ => false,
+        None
+        | Some(
+            Form::Empty
+            | Form::Wire
+            | Form::Contact(_)
+            | Form::Coil(_)
+            | Form::Jump(_)
+            | Form::Return,
+        ) => false,
     }
 }
 
@@ -357,7 +379,18 @@ fn is_drawn_twice(page: PageView<'_, '_>, rung: usize, row: usize, column: usize
 fn leaps(form: Option<Form>) -> bool
     ensures { result ≡ leaps form }
 {
-    matches!(form, Some(Form::Jump(_)) | Some(Form::Return))
+    match form {
+        Some(Form::Jump(_) | Form::Return) => true,
+        None
+        | Some(
+            Form::Empty
+            | Form::Wire
+            | Form::Contact(_)
+            | Form::Coil(_)
+            | Form::Block(_)
+            | Form::Lower(_, _),
+        ) => false,
+    }
 }
 
 fn is_second_jump(page: PageView<'_, '_>, rung: usize, row: usize, column: usize) -> bool

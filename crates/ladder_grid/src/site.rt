@@ -110,15 +110,15 @@ fn cell_with(
 ) -> Cell
     ensures { result ≡ cell_with form name above target }
 {
-    match (form, name) {
-        (Some(Form::Wire), _) => Cell::Wire,
-        (Some(Form::Contact(mode)), Some(x)) => contact_on(mode, x.symbol),
-        (Some(Form::Coil(mode)), Some(x)) => coil_on(mode, x.symbol),
-        (Some(Form::Block(_)), Some(x)) => block_on(instance_of(x.symbol)),
-        (Some(Form::Lower(_, linked)), _) => lower_of(above, linked),
-        (Some(Form::Jump(_)), _) => jump_on(target),
-        (Some(Form::Return), _) => Cell::Return,
-        _ => Cell::Empty,
+    match form {
+        Some(Form::Wire) => Cell::Wire,
+        Some(Form::Contact(mode)) => name.map_or(Cell::Empty, |x| contact_on(mode, x.symbol)),
+        Some(Form::Coil(mode)) => name.map_or(Cell::Empty, |x| coil_on(mode, x.symbol)),
+        Some(Form::Block(_)) => name.map_or(Cell::Empty, |x| block_on(instance_of(x.symbol))),
+        Some(Form::Lower(_, linked)) => lower_of(above, linked),
+        Some(Form::Jump(_)) => jump_on(target),
+        Some(Form::Return) => Cell::Return,
+        Some(Form::Empty) | None => Cell::Empty,
     }
 }
 
@@ -179,7 +179,13 @@ fn numbered(number: usize, cell: Cell) -> Cell
             var,
             memory: Some(number),
         },
-        other => other,
+        Cell::Contact { memory: None, .. } | Cell::Coil { memory: None, .. } => cell,
+        Cell::Empty
+        | Cell::Wire
+        | Cell::Block { .. }
+        | Cell::Lower { .. }
+        | Cell::Jump { .. }
+        | Cell::Return => cell,
     }
 }
 
