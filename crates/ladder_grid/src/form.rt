@@ -45,7 +45,7 @@ const WHOLE_CELLS: [(&[u8], Form); 15] = [
     (b" |R1      |", Form::Lower(Pin::Reset1, false)),
 ];
 
-/// The symbols that stand on a wire.
+/// The symbols that are drawn on a wire.
 const SYMBOLS: [(&[u8], Form); 10] = [
     (b"| |", Form::Contact(Mode::Plain)),
     (b"|/|", Form::Contact(Mode::Negated)),
@@ -98,7 +98,7 @@ fn is_filler(tail: &[u8]) -> bool
     all_are(b'-', tail) || all_are(b' ', tail)
 }
 
-/// The symbol at the front, where nothing but its filler stands behind it.
+/// The symbol at the start, where nothing but its filler follows.
 fn symbol_at(chars: &[u8]) -> Option<Form>
     ensures { result ≡ symbol_at chars.now }
 {
@@ -147,7 +147,7 @@ fn jump_with(label: Option<Name>) -> Option<Form>
     }
 }
 
-/// A jump to the label at the front, where spaces alone stand behind it.
+/// A jump to the label at the start, where only spaces follow.
 fn jump_to(text: &[u8]) -> Option<Form>
     ensures { result ≡ jump_to text.now }
 {

@@ -1,6 +1,7 @@
 -- Private to the proofs: declarations read from left to right, as the code reads them, with the first fault that is met.
 use Rattle.std.specs.Prelude.{◌≡◌, ℕ, zero, suc, ◌+◌, Bool, false, ◌||◌, ◌&&◌, ◌==◌, ◌≤◌, nat_le, nat_lt, List, [], ◌∷◌, ◌++◌, length, codes, Option, Some, None, if◌then◌else◌, Result, Ok, Err}
 use Rattle.std.specs.List.{list_any}
+use Rattle.ladder_vars.specs.declared.limits.TheConstants.{MOST_VARS, MOST_INSTANCES}
 use Rattle.ladder_vars.specs.declared.fault.VarRule.{VarRule}
 use Rattle.ladder_vars.specs.declared.fault.VarRule.TheVariants as rule
 use Rattle.ladder_vars.specs.declared.fault.Fault.{Fault}
@@ -153,11 +154,11 @@ abbrev pub refusal : Declared → List ℕ → Body → Option VarRule
 refusal declared name (body.Var kind address initial) =
     if is_declared declared name then Some rule.Duplicate
     else (if is_taken declared address then Some rule.DuplicateAddress
-    else (if nat_le 256 (length declared.vars) then Some rule.TooMany else None))
+    else (if nat_le MOST_VARS (length declared.vars) then Some rule.TooMany else None))
 refusal declared name (body.Instance kind preset) =
     if nat_lt (traits_of kind).longest_name (length name) then Some rule.BadName
     else (if is_declared declared name then Some rule.Duplicate
-    else (if nat_le 64 (length declared.instances) then Some rule.TooMany else None))
+    else (if nat_le MOST_INSTANCES (length declared.instances) then Some rule.TooMany else None))
 
 -- how many inputs lead, with one more variable behind so many others
 abbrev pub leading_with : ℕ → ℕ → var_kind.the_data → ℕ

@@ -2,6 +2,7 @@
 -- V2 says no more than that no other token fits, so it is not stated here; V9 is want of memory and no rule of the text.
 use Rattle.std.specs.Prelude.{◌≡◌, ℕ, ◌+◌, ◌-◌, ◌<◌, ◌⊎◌, ◌||◌, ◌==◌, Bool, true, false, List, [], ◌∷◌, length, take, count_by, codes, Some}
 use Rattle.std.specs.List.{list_any, AllByRecursion}
+use Rattle.ladder_vars.specs.declared.limits.TheConstants.{MOST_VARS, MOST_INSTANCES}
 use Rattle.ladder_vars.specs.declared.fault.VarRule.{VarRule}
 use Rattle.ladder_vars.specs.declared.fault.VarRule.TheVariants as rule
 use Rattle.ladder_vars.specs.declared.decls.VarKind.{VarKind}
@@ -94,8 +95,8 @@ HasLongInstance text left =
 
 -- It is the 257th variable, or the 65th instance.
 abbrev pub IsFull : List Decl → Body → Type 0
-IsFull ds (body.Var kind address initial) = length (declared_by ds).vars ≡ 256
-IsFull ds (body.Instance kind preset) = length (declared_by ds).instances ≡ 64
+IsFull ds (body.Var kind address initial) = length (declared_by ds).vars ≡ MOST_VARS
+IsFull ds (body.Instance kind preset) = length (declared_by ds).instances ≡ MOST_INSTANCES
 
 -- The rule is broken, and so many bytes are left where it shows.
 abbrev pub Breaks : VarRule → List ℕ → ℕ → Type 0

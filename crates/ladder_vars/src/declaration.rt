@@ -1,3 +1,5 @@
+//! Reads one declaration of a block.
+
 ghost use Rattle.std.specs.Prelude.{◌≡◌, ◌≤◌, ◌<◌, ◌||◌, ◌==◌, length, codes, Option, Some, None, IfOk, IfSome};
 ghost use Rattle.ladder_vars.specs.Text.{begins, is_word_byte};
 ghost use Rattle.ladder_vars.specs.Kind.{largest_value, largest_of, largest_preset};

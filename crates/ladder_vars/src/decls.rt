@@ -1,3 +1,5 @@
+//! The declarations of a text.
+
 ghost use Rattle.std.specs.Prelude.{◌≡◌, ◌≤◌, OnOk, IsNone, position, count_by};
 ghost use Rattle.std.specs.List.{list_any, prefix_len};
 ghost use Rattle.ladder_vars.specs.Name.{same_letters};
@@ -6,13 +8,10 @@ ghost use Rattle.ladder_vars.specs.ReadDecls.{is_there, is_declared, is_taken, r
 
 use crate::fault::{Fault, ReadFault, VarRule};
 use crate::kind::BlockKind;
+use crate::limits::{MOST_INSTANCES, MOST_VARS};
 use crate::name::Name;
 use std::alloc::{AllocError, Global};
 use std::marker::Model;
-
-const MOST_VARS: usize = 256;
-
-const MOST_INSTANCES: usize = 64;
 
 /// What a variable is for.
 #[derive(Clone, Copy, Debug, PartialEq, Eq)]

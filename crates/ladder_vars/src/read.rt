@@ -1,3 +1,5 @@
+//! Reads the block of declarations at the head of a text.
+
 ghost use Rattle.std.specs.Prelude.{◌≡◌, ◌≤◌, ◌+◌, ◌≢◌, ℕ, List, length, drop, IfOk, IfErr};
 ghost use Rattle.ladder_vars.specs.Decls.{Declared, AreKept};
 ghost use Rattle.ladder_vars.specs.Grammar.{HasDecls, HasNoDecls};
@@ -71,7 +73,7 @@ fn line_of(text: &[u8], left: usize) -> usize
     line
 }
 
-/// The declarations of a program text, and the place right behind END_VAR.
+/// Reads the declarations of a program text, and gives the place right after END_VAR.
 ///
 /// A refusal names a rule and the line where it is broken. V1, V2, V3 and V6 come at the token where
 /// the reading stops, V8 at the line behind the last line end. Once a declaration has ended, V3 of

@@ -1,3 +1,5 @@
+//! Cuts a text into tokens.
+
 ghost use Rattle.std.specs.Prelude.{◌≡◌, ◌≤◌, ◌<◌, length, IfOk};
 ghost use Rattle.std.specs.List.{prefix_len};
 ghost use Rattle.ladder_vars.specs.Text.{begins_with, is_blank, is_word_byte, is_address_byte, token_len};
@@ -94,32 +96,18 @@ fn skip(text: &[u8]) -> Result<&[u8], Fault>
     }
 }
 
-fn word_len(mut text: &[u8]) -> usize
-    ensures value { result ≡ prefix_len is_word_byte text.entry.now }
-    ensures within { result ≤ length text.entry.now }
+fn word_len(text: &[u8]) -> usize
+    ensures value { result ≡ prefix_len is_word_byte text.now }
+    ensures within { result ≤ length text.now }
 {
-    let whole = text.len();
-    while let [b, rest @ ..] = text {
-        if !is_word_byte(*b) {
-            break;
-        }
-        text = rest;
-    }
-    whole - text.len()
+    text.iter().take_while(|b| is_word_byte(**b)).count()
 }
 
-fn address_len(mut text: &[u8]) -> usize
-    ensures value { result ≡ prefix_len is_address_byte text.entry.now }
-    ensures within { result ≤ length text.entry.now }
+fn address_len(text: &[u8]) -> usize
+    ensures value { result ≡ prefix_len is_address_byte text.now }
+    ensures within { result ≤ length text.now }
 {
-    let whole = text.len();
-    while let [b, rest @ ..] = text {
-        if !is_address_byte(*b) {
-            break;
-        }
-        text = rest;
-    }
-    whole - text.len()
+    text.iter().take_while(|b| is_address_byte(**b)).count()
 }
 
 /// How long the token at the front of a text is: 0 where none stands there.

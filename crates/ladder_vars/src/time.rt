@@ -1,3 +1,5 @@
+//! Duration literals.
+
 ghost use Rattle.std.specs.Prelude.{◌≡◌, ◌≤◌, ◌<◌, ◌+◌, ◌^◌, length, ℕ, IfSome, IfNone};
 ghost use Rattle.std.specs.List.{prefix_len};
 ghost use Rattle.std.specs.Char.{is_ascii_alphabetic};
@@ -62,18 +64,11 @@ fn unit_of(letters: &[u8]) -> Option<Unit>
     }
 }
 
-fn letters_len(mut text: &[u8]) -> usize
-    ensures value { result ≡ prefix_len is_ascii_alphabetic text.entry.now }
-    ensures within { result ≤ length text.entry.now }
+fn letters_len(text: &[u8]) -> usize
+    ensures value { result ≡ prefix_len is_ascii_alphabetic text.now }
+    ensures within { result ≤ length text.now }
 {
-    let whole = text.len();
-    while let [b, rest @ ..] = text {
-        if !b.is_ascii_alphabetic() {
-            break;
-        }
-        text = rest;
-    }
-    whole - text.len()
+    text.iter().take_while(|b| b.is_ascii_alphabetic()).count()
 }
 
 #[tactic(auto, unfolding(crate::specs::ReadWords::part_at))]
