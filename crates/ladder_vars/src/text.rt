@@ -1,6 +1,6 @@
 //! Cuts a text into tokens.
 
-ghost use Rattle.std.specs.Prelude.{◌≡◌, ◌≤◌, ◌<◌, length, IfOk};
+ghost use Rattle.std.specs.Prelude.{◌≡◌, ◌≤◌, ◌<◌, ◌∷◌, length, Ok, IfOk, IfSome, IfNone};
 ghost use Rattle.std.specs.List.{prefix_len};
 ghost use Rattle.ladder_vars.specs.Text.{begins_with, is_blank, is_word_byte, is_address_byte, token_len};
 ghost use Rattle.ladder_vars.specs.ReadText.{skip_from, no_token, token_at, Gives};
@@ -46,7 +46,27 @@ fn is_address_byte(b: u8) -> bool
     b.is_ascii_alphanumeric() || b == b'.'
 }
 
-/// The text behind the blanks and comments at its front.
+/// Where in a gap the byte after this one is; None where the gap ends before this byte.
+fn next_within(within: Within, b: u8, after: &[u8]) -> Option<Within>
+    ensures some { IfSome result (λ next. skip_from within (b ∷ after.now) ≡ skip_from next after.now) }
+    ensures none { IfNone result (skip_from within (b ∷ after.now) ≡ Ok (b ∷ after.now)) }
+{
+    match within {
+        Within::Blanks if is_blank(b, after) => Some(Within::Blanks),
+        Within::Blanks if b == b'(' && begins_with(b'*', after) => Some(Within::Opening),
+        Within::Blanks if b == b'/' && begins_with(b'/', after) => Some(Within::LineComment),
+        Within::Blanks => None,
+        Within::LineComment if b == b'\n' => Some(Within::Blanks),
+        Within::LineComment => Some(Within::LineComment),
+        // The star of `(*` closes nothing.
+        Within::Opening => Some(Within::Comment),
+        Within::Comment if b == b'*' && begins_with(b')', after) => Some(Within::Closing),
+        Within::Comment => Some(Within::Comment),
+        Within::Closing => Some(Within::Blanks),
+    }
+}
+
+/// The text after the blanks and comments at its start.
 fn skip(text: &[u8]) -> Result<&[u8], Fault>
     ensures shorter { IfOk result (λ rest. length rest.now ≤ length text.now) }
     ensures value { Gives (λ rest. rest.now) result (skip_from Within.Blanks text.now) }
@@ -54,37 +74,10 @@ fn skip(text: &[u8]) -> Result<&[u8], Fault>
     let mut rest = text;
     let mut within = Within::Blanks;
     while let [b, after @ ..] = rest {
-        let next = match within {
-            Within::Blanks => {
-                if is_blank(*b, after) {
-                    Within::Blanks
-                } else if *b == b'(' && begins_with(b'*', after) {
-                    Within::Opening
-                } else if *b == b'/' && begins_with(b'/', after) {
-                    Within::LineComment
-                } else {
-                    return Ok(rest);
-                }
-            }
-            Within::LineComment => {
-                if *b == b'\n' {
-                    Within::Blanks
-                } else {
-                    Within::LineComment
-                }
-            }
-            // The star of `(*` closes nothing.
-            Within::Opening => Within::Comment,
-            Within::Comment => {
-                if *b == b'*' && begins_with(b')', after) {
-                    Within::Closing
-                } else {
-                    Within::Comment
-                }
-            }
-            Within::Closing => Within::Blanks,
-        };
-        within = next;
+        match next_within(within, *b, after) {
+            Some(next) => within = next,
+            None => return Ok(rest),
+        }
         rest = after;
     }
     match within {
