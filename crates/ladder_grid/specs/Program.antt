@@ -17,7 +17,7 @@ use Rattle.ladder_grid.specs.declared.cell.Joint.{Joint}
 use Rattle.ladder_grid.specs.declared.cell.Joint.TheVariants as joint
 use Rattle.ladder_grid.specs.declared.site.Site.{Site}
 
--- The declarations, and what stands at each place: all places by rung, column and row.
+-- The declarations, and what is at each place: all places by rung, column and row.
 pub record Drawing : Type 0 where
   pub decls : Declared
   pub rungs : ℕ
@@ -29,7 +29,7 @@ drawing decls rungs sites = record { decls = decls; rungs = rungs; sites = sites
 abbrev pub blank_site : Site
 blank_site = record { cell = cell.Empty; right_link = false; joint = joint.Blank; vertical = false }
 
--- what stands at a place
+-- what is at a place
 abbrev pub site_in : Drawing → ℕ → Site
 site_in d i = slice_index_or d.sites i blank_site
 
@@ -127,7 +127,7 @@ is_coil_of var (cell.Lower inst linked) = false
 is_coil_of var (cell.Jump target) = false
 is_coil_of var cell.Return = false
 
--- whether a coil stands on the variable
+-- whether a coil writes the variable
 abbrev pub has_coil : ℕ → Drawing → Bool
 has_coil var d = list_any (λ s. is_coil_of var s.cell) d.sites
 

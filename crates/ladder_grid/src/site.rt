@@ -16,7 +16,7 @@ use crate::page_check::target_of;
 use crate::picture::{joint, vertical};
 use ladder_vars::{Name, Symbol};
 
-/// What stands at a place of a rung: a cell, whether power can leave it on its right, the joint on its left, and whether a
+/// What is at a place of a rung: a cell, whether power can leave it on its right, the joint on its left, and whether a
 /// vertical link goes from that joint to the row below.
 #[derive(Clone, Copy, Debug, PartialEq, Eq)]
 pub struct Site {
@@ -189,7 +189,7 @@ fn numbered(number: usize, cell: Cell) -> Cell
     }
 }
 
-/// What stands at a place that has this cell; `number` is that of the next memory.
+/// What is at a place that has this cell; `number` is that of the next memory.
 pub(crate) fn site_with(
     page: PageView<'_, '_>,
     number: usize,

@@ -11,7 +11,7 @@ use Rattle.ladder_vars.specs.declared.kind.Output.{Output}
 use Rattle.ladder_vars.specs.declared.kind.Output.TheVariants as output
 
 -- The word of the type, the parameter that may be preset, how long the name of an instance may be (the profile: with the
--- output behind it, it has to fit over a contact), the second input, and the output that a contact can read.
+-- output after it, it has to fit over a contact), the second input, and the output that a contact can read.
 pub record Traits : Type 0 where
   pub word : List ℕ
   pub parameter : Option Parameter

@@ -70,7 +70,7 @@ units =
 abbrev pub unit_of : List ℕ → Option TimeUnit
 unit_of letters = lookup (same_letters letters) units
 
--- a number, its unit, and what stands behind them; numbers are cut at 2 ^ 32, which is more than any duration has
+-- a number, its unit, and what follows them; numbers are cut at 2 ^ 32, which is more than any duration has
 pub record PartAt : Type 0 where
   pub number : ℕ
   pub unit : TimeUnit

@@ -51,7 +51,7 @@ pub struct Instance {
     pub preset: u32,
 }
 
-/// What stands behind a name in its declaration.
+/// What follows a name in its declaration.
 #[derive(Clone, Copy)]
 pub(crate) enum Body {
     Var {
@@ -120,7 +120,7 @@ fn is_there(place: Option<Address>, address: Address) -> bool
     }
 }
 
-/// How many inputs lead, with one more variable behind `count` others.
+/// How many inputs lead, with one more variable after `count` others.
 fn leading_with(leading: usize, count: usize, kind: VarKind) -> usize
     requires { leading ≤ 256 }
     ensures { result ≡ leading_with leading count kind }
@@ -245,7 +245,7 @@ impl Decls {
         }
     }
 
-    /// Takes one more declaration, where so many bytes are left behind its name.
+    /// Takes one more declaration, where so many bytes are left after its name.
     #[tactic(auto, unfolding(crate::specs::ReadDecls::added))]
     pub(crate) fn add(&mut self, name: Name, body: Body, left: usize) -> Result<(), ReadFault>
         requires { PresetFits body }

@@ -103,7 +103,7 @@ fn address_len(text: &[u8]) -> usize
     text.iter().take_while(|b| is_address_byte(**b)).count()
 }
 
-/// How long the token at the front of a text is: 0 where none stands there.
+/// How long the token at the start of a text is: 0 where there is none.
 fn token_len(text: &[u8]) -> usize
     ensures value { result ≡ token_len text.now }
     ensures within { result ≤ length text.now }
@@ -148,7 +148,7 @@ fn no_token(text: &[u8]) -> Fault
     }
 }
 
-/// The first token of a text, and what stands behind it.
+/// The first token of a text, and what follows it.
 #[tactic(auto, unfolding(crate::specs::ReadText::token_at))]
 pub(crate) fn token(text: &[u8]) -> Result<(&[u8], &[u8]), Fault>
     ensures value { Gives (λ x. (x.0.now, x.1.now)) result (token_at text.now) }

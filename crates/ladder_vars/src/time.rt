@@ -86,7 +86,7 @@ fn part_at(text: &[u8]) -> Option<(u64, Unit, &[u8])>
     Some((number(digits), unit, rest))
 }
 
-/// The text behind the underscore at its front, where there is one.
+/// The text after the underscore at its start, where there is one.
 fn after_underscore(text: &[u8]) -> &[u8]
     ensures value { result.now ≡ after_underscore text.now }
     ensures shorter { length result.now ≤ length text.now }
@@ -114,7 +114,7 @@ fn may_follow(last: Unit, number: u64, unit: Unit) -> bool
     unit.millis() < last.millis() && number < unit.range()
 }
 
-/// The milliseconds of a duration behind its prefix, or 2^32 where they are more.
+/// The milliseconds of a duration after its prefix, or 2^32 where they are more.
 #[tactic(auto, unfolding(crate::specs::ReadWords::total_of))]
 fn total_of(text: &[u8]) -> Option<u64>
     ensures { result ≡ total_of text.now }
@@ -134,7 +134,7 @@ fn total_of(text: &[u8]) -> Option<u64>
     Some(total)
 }
 
-/// What stands behind a word at the front, whatever the case of its letters.
+/// What follows a word at the start, whatever the case of its letters.
 fn after_word<'a>(word: &[u8], text: &'a [u8]) -> Option<&'a [u8]>
     ensures { Gives (λ rest. rest.now) result (after_word word.now text.now) }
 {

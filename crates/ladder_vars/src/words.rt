@@ -61,7 +61,7 @@ fn kind_of(letter: u8) -> Option<VarKind>
     }
 }
 
-/// What stands behind the size `X`, which may be left out.
+/// What follows the size `X`, which may be left out.
 fn after_size(text: &[u8]) -> &[u8]
     ensures { result.now ≡ after_size text.now }
 {
