@@ -38,10 +38,16 @@ pub record Frame (S : Type 0) : Type 0 where
   pub values : List S
   pub ends : List S
 
+abbrev pub frame : {S : Type 0} → List S → List S → Frame S
+frame values ends = record { values = values; ends = ends }
+
 -- What is kept beside the values: the memories of edge contacts and edge coils, and what each instance stores.
 pub record Kept : Type 0 where
   pub memories : List Bool
   pub blocks : List Stored
+
+abbrev pub kept : List Bool → List Stored → Kept
+kept memories blocks = record { memories = memories; blocks = blocks }
 
 -- What stands in a list at a number that may be missing, and the list with that entry replaced.
 abbrev pub at : {A : Type 0} → List A → Option ℕ → A → A

@@ -1,6 +1,6 @@
 -- The evaluation of one rung: its power flow, from the values at its start, and then its effects by column, then row, each seeing what
 -- the ones before it left. First over any signal, under a guard, and then over truth values, where memories and blocks change too.
-use Rattle.std.specs.Prelude.{ℕ, ◌+◌, ◌*◌, ◌/◌, ◌%◌, Bool, false, if◌then◌else◌, List, map}
+use Rattle.std.specs.Prelude.{◌≡◌, ℕ, ◌+◌, ◌*◌, ◌/◌, ◌%◌, Bool, false, if◌then◌else◌, List, length, map}
 use Rattle.std.proofs.Common.{zero, suc}
 use Rattle.ladder_grid.specs.declared.cell.Cell.{Cell}
 use Rattle.ladder_grid.specs.declared.cell.Cell.TheVariants.{Empty, Wire, Contact, Coil, Block, Lower, Jump, Return}
@@ -10,7 +10,7 @@ use Rattle.ladder_scan.specs.Truth.{plain}
 use Rattle.ladder_scan.specs.Routes.{Circuit, left_link}
 use Rattle.ladder_scan.specs.Blocks.{step, q_of}
 use Rattle.ladder_grid.specs.Program.{memory_in, block_in}
-use Rattle.ladder_scan.specs.Cells.{Diagram, Frame, Kept, at, put_in, var_in, is_block, memory_of, stored_of, operand_value, closed, q_here, coil_value}
+use Rattle.ladder_scan.specs.Cells.{Diagram, Frame, frame, Kept, kept, at, put_in, var_in, is_block, memory_of, stored_of, operand_value, closed, q_here, coil_value}
 
 -- A lower cell without a link has OFF.
 abbrev pub lower : {S : Type 0} → Algebra S → Bool → S → S
@@ -64,8 +64,23 @@ pub record Held : Type 0 where
   pub values : List Bool
   pub kept : Kept
 
+abbrev pub held : List Bool → List Bool → List Stored → Held
+held values memories blocks = record { values = values; kept = kept memories blocks }
+
+-- What contacts see from the start of a rung on.
 abbrev pub frame_of : Held → Frame Bool
-frame_of h = record { values = h.values; ends = map q_of h.kept.blocks }
+frame_of h = frame h.values (map q_of h.kept.blocks)
+
+-- As many values and Qs as variables and instances.
+pub record SameSizes {S : Type 0} (f : Frame S) (h : Held) : Type 0 where
+  pub values : length f.values ≡ length h.values
+  pub ends : length f.ends ≡ length h.kept.blocks
+
+-- As many variables, memories and instances.
+pub record SameLengths (g h : Held) : Type 0 where
+  pub values : length g.values ≡ length h.values
+  pub memories : length g.kept.memories ≡ length h.kept.memories
+  pub blocks : length g.kept.blocks ≡ length h.kept.blocks
 
 -- What the memory of a cell becomes: of a contact, its operand's value at the rung's start, whatever its left link; of a coil, its link.
 abbrev pub remembered : Frame Bool → Bool → Cell → Bool

@@ -2,8 +2,6 @@
 use Rattle.std.specs.Prelude.{◌≡◌, ℕ, ◌+◌, ◌-◌, ◌*◌, ◌/◌, ◌%◌, ◌^◌, ◌<◌, Bool, true, false, if◌then◌else◌, List, [], ◌∷◌, ◌==◌}
 use Rattle.std.proofs.Common.{get_or, set, zero, suc}
 use Rattle.ladder_grid.specs.declared.program.Step.{Step}
-use Rattle.ladder_scan.specs.declared.block.Stored.{Stored}
-use Rattle.ladder_scan.specs.declared.sweep.Scene.{Scene}
 use Rattle.ladder_scan.specs.Algebra.{Algebra}
 use Rattle.ladder_scan.specs.Truth.{plain}
 use Rattle.ladder_scan.specs.Routes.{gather}
@@ -15,18 +13,6 @@ use Rattle.ladder_scan.specs.Programs.{is_filled}
 unfoldable pub join_where : {S : Type 0} → Algebra S → (ℕ → Bool) → (ℕ → S) → ℕ → S
 join_where o passes f zero = o.known false
 join_where o passes f (suc n) = if passes n then o.join (join_where o passes f n) (f n) else join_where o passes f n
-
-abbrev pub frame : {S : Type 0} → List S → List S → Frame S
-frame values ends = record { values = values; ends = ends }
-
-abbrev pub kept : List Bool → List Stored → Kept
-kept memories blocks = record { memories = memories; blocks = blocks }
-
-abbrev pub held : List Bool → List Bool → List Stored → Held
-held values memories blocks = record { values = values; kept = kept memories blocks }
-
-abbrev pub kept_of : Scene → Kept
-kept_of s = kept s.memories.now s.blocks.now
 
 -- The signal at a number of a list, OFF past its end.
 abbrev pub among : {S : Type 0} → Algebra S → List S → ℕ → S

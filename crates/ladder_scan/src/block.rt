@@ -1,3 +1,5 @@
+//! The steps of the standard function blocks.
+
 ghost use Rattle.std.specs.Prelude.{◌≡◌, ◌≤◌};
 ghost use Rattle.ladder_vars.specs.Kind.{largest_preset};
 ghost use Rattle.ladder_scan.specs.Blocks.{step, q_of, new_block, ton_step, tof_step, tp_step, counted_up, counted_down, has_second};

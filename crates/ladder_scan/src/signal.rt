@@ -1,3 +1,5 @@
+//! What travels through a diagram in place of a truth value.
+
 ghost use Rattle.std.specs.Prelude.{◌≡◌, ℕ, Bool, true};
 ghost use Rattle.ladder_scan.specs.Algebra.{Algebra, LatticeLaws, AllowsLaws};
 ghost use Rattle.ladder_scan.specs.Truth.{plain, AnyBool, OnePlace, plain_allows, plain_lattice, plain_allowed};

@@ -1,6 +1,6 @@
 use Rattle.std.proofs.Common.{◌∙◌, ◌<◌, sym, arith}
 use Rattle.ladder_scan.proofs.Sound.{jump_place}
-use Rattle.ladder_scan.proofs.scanning.jump.Goals as goal
+use Rattle.ladder_scan.proofs.scene.jump.Goals as goal
 
 pub overflow_mul-result : goal.overflow_mul-result
 overflow_mul-result c =
