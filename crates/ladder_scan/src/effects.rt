@@ -88,17 +88,13 @@ fn change(
     let link = link_at(links, 6 * step.column + step.row);
     match step.cell {
         Cell::Contact {
-            operand,
-            memory: Some(number),
-            ..
-        } => storage.put_memory(number, start.operand(operand)),
+            operand, memory, ..
+        } => storage.remember(memory, start.operand(operand)),
         Cell::Coil { mode, var, memory } => {
             let before = storage.memory(step.cell);
             let new = stored_by(mode, link, before, storage.value(var));
             storage.put_value(var, new);
-            if let Some(number) = memory {
-                storage.put_memory(number, link);
-            }
+            storage.remember(memory, link);
         }
         Cell::Block { inst } => {
             let (kind, preset) = instance(scene.program, inst);
@@ -109,12 +105,7 @@ fn change(
                 block::step(kind, preset, stored, link, below, scene.now),
             );
         }
-        Cell::Contact { .. }
-        | Cell::Empty
-        | Cell::Wire
-        | Cell::Lower { .. }
-        | Cell::Jump { .. }
-        | Cell::Return => {}
+        Cell::Empty | Cell::Wire | Cell::Lower { .. } | Cell::Jump { .. } | Cell::Return => {}
     }
 }
 

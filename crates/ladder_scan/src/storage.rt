@@ -3,7 +3,7 @@
 ghost use Rattle.std.specs.Prelude.{◌≡◌, length, map, slice_index_or, slice_set, false, IfOk};
 ghost use Rattle.ladder_vars.specs.Decls.{is_input};
 ghost use Rattle.ladder_scan.specs.Blocks.{new_block};
-ghost use Rattle.ladder_scan.specs.Cells.{memory_of, no_block};
+ghost use Rattle.ladder_scan.specs.Cells.{memory_of, no_block, put_in};
 ghost use Rattle.ladder_scan.specs.Rung.{held, SameSizes};
 ghost use Rattle.ladder_scan.specs.Scan.{given};
 ghost use Rattle.ladder_scan.specs.Standing.{fresh};
@@ -145,6 +145,15 @@ impl Storage {
     {
         if var < self.values.len() {
             self.values[var] = value;
+        }
+    }
+
+    /// Writes the memory of a cell, where it has one.
+    pub(crate) fn remember(&mut self, memory: Option<usize>, value: bool)
+        ensures { self.new ≡ held self.old.values (put_in self.old.kept.memories memory value) self.old.kept.blocks }
+    {
+        if let Some(number) = memory {
+            self.put_memory(number, value);
         }
     }
 
