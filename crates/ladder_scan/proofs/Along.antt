@@ -13,13 +13,10 @@ use Rattle.ladder_grid.specs.Program.{block_in, memory_in}
 use Rattle.ladder_scan.specs.Cells.{Diagram, Frame, Kept, put_in, var_in, frame, kept}
 use Rattle.ladder_scan.specs.Rung.{written, changed, effects, changes, Held, link, second, lower, after_rung, frame_of, link_at, evaluated}
 use Rattle.ladder_scan.specs.Programs.{diagram_of, is_filled, IsSound}
-use Rattle.ladder_scan.specs.Sweeping.{among, step_for, steps_below, effects_of, changes_of, AreLinks}
+use Rattle.ladder_scan.specs.Sweeping.{IsPlaced, among, step_for, steps_below, effects_of, changes_of, AreLinks}
 use Rattle.ladder_scan.proofs.Compiled.{masks_of, steps_are}
 
 -- ---- the places of the steps
-abbrev pub IsPlaced : Step → Type 0
-IsPlaced s = (s.row < 6) × (s.column < 10)
-
 one_place : (d : Diagram) (j : ℕ) (masks : ℕ → ℕ) (b : Bool) (n : ℕ) → n < 60 → All IsPlaced (cond b (step_for d j masks n ∷ []) [])
 one_place d j masks true n h =
     let row : n % 6 < 6 = omega arith in
@@ -122,7 +119,7 @@ pub links_agree : {S : Type 0} (o : Algebra S) (d : Diagram) (k : Kept) (now j :
 links_agree o d k now j f links sound h e lt filled = (
   h e lt filled,
   same_lower o (d.linked j e) _ _ (λ b.
-      let w : (e % 6 < 5) × (is_filled (d.cell j (e + 1)) ≡ true) = sound.linked j e b in
+      let w : (e % 6 + 1 < 6) × (is_filled (d.cell j (e + 1)) ≡ true) = sound.linked j e b in
       h (e + 1) (omega arith) w.1),
 )
 

@@ -1,7 +1,8 @@
 -- What each cell of a rung reads and writes, over any signal.
-use Rattle.std.specs.Prelude.{ℕ, Bool, true, false, if◌then◌else◌, List, Option, Some, None}
+use Rattle.std.specs.Prelude.{ℕ, ◌+◌, ◌*◌, Bool, true, false, if◌then◌else◌, List, Option, Some, None}
 use Rattle.std.proofs.Common.{get_or, set}
 use Rattle.ladder_vars.specs.declared.kind.BlockKind.{BlockKind}
+use Rattle.ladder_grid.specs.declared.geometry.TheConstants.{ROWS}
 use Rattle.ladder_grid.specs.declared.cell.Mode.{Mode}
 use Rattle.ladder_grid.specs.declared.cell.Mode.TheVariants.{Plain, Negated, Rising, Falling}
 use Rattle.ladder_grid.specs.declared.cell.CoilMode.{CoilMode}
@@ -16,7 +17,11 @@ use Rattle.ladder_scan.specs.declared.block.Stored.TheVariants.{Timer}
 use Rattle.ladder_scan.specs.Algebra.{Algebra}
 use Rattle.ladder_scan.specs.Blocks.{step, q_of, has_second}
 
--- A program as the scan sees it. A cell goes by its rung and its place in it, 6 * column + row; past the last place it is Empty.
+-- The place of a cell in its rung. Rows and columns are counted from 0.
+abbrev pub place_at : ℕ → ℕ → ℕ
+place_at row column = ROWS * column + row
+
+-- A program as the scan sees it. A cell goes by its rung and its place in it; past the last place it is Empty.
 pub record Diagram : Type 0 where
   pub rungs : ℕ
   pub cell : ℕ → ℕ → Cell

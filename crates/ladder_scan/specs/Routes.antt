@@ -1,6 +1,7 @@
 -- Power flow through one rung (IEC 61131-3): power flows from the left rail to the right, along routes. Rows and columns count from 0.
 use Rattle.std.specs.Prelude.{ℕ, ◌+◌, Bool, true, false, List, [], ◌∷◌, ◌++◌, map, if◌then◌else◌, ◌==◌}
 use Rattle.std.proofs.Common.{zero, suc}
+use Rattle.ladder_grid.specs.declared.geometry.TheConstants.{ROWS}
 use Rattle.ladder_scan.specs.Algebra.{Algebra}
 
 -- A route: it starts at the left rail, or at the right end of the block at a row and column, and goes on through one cell a column.
@@ -34,7 +35,7 @@ onto is_block row column before =
 unfoldable pub routes : (ℕ → ℕ → ℕ → Bool) → (ℕ → ℕ → Bool) → ℕ → ℕ → List Route
 routes feeds is_block zero row = rail ∷ []
 routes feeds is_block (suc column) row =
-    gather (λ from. if feeds column row from then onto is_block from column (routes feeds is_block column from) else []) 6
+    gather (λ from. if feeds column row from then onto is_block from column (routes feeds is_block column from) else []) ROWS
 
 -- The OR of a list.
 unfoldable pub join_all : {S : Type 0} → Algebra S → List S → S

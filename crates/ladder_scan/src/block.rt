@@ -211,8 +211,12 @@ pub(crate) fn step(
         }
         Stored::Bistable { q } => {
             match kind {
-                Sr => Stored::Bistable { q: first | (!second & q) },
-                Rs => Stored::Bistable { q: !second & (first | q) },
+                Sr => Stored::Bistable {
+                    q: first | (!second & q),
+                },
+                Rs => Stored::Bistable {
+                    q: !second & (first | q),
+                },
                 Ton | Tof | Tp | Ctu | Ctd => stored,
             }
         }

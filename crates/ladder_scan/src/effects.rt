@@ -1,15 +1,16 @@
 //! The effects of a rung, once its power flow is known: what its coils, blocks and edge contacts write.
 
 ghost use Rattle.std.specs.Prelude.{◌≡◌, ◌<◌, All};
+ghost use Rattle.ladder_grid.specs.declared.geometry.TheConstants.{ROWS, COLUMNS};
 ghost use Rattle.ladder_grid.specs.Program.{steps_of};
 ghost use Rattle.ladder_scan.specs.Truth.{plain};
 ghost use Rattle.ladder_scan.specs.Cells.{stored_by};
 ghost use Rattle.ladder_scan.specs.Rung.{written, changed, second};
 ghost use Rattle.ladder_scan.specs.Programs.{diagram_of, IsSound};
-ghost use Rattle.ladder_scan.specs.Sweeping.{among, place_of, effects_of, changes_of};
+ghost use Rattle.ladder_scan.specs.Sweeping.{IsPlaced, among, place_of, effects_of, changes_of};
 
 use crate::block;
-use crate::scene::{Scene, instance};
+use crate::scene::{Scene, instance, place_at};
 use crate::signal::Signal;
 use crate::signals::Signals;
 use crate::storage::Storage;
@@ -39,8 +40,8 @@ fn effect<S: Signal>(
     seen: &mut Signals<S>,
 )
     requires rung { scene.rung < scene.program.now.rungs }
-    requires row { step.row < 6 }
-    requires column { step.column < 10 }
+    requires row { step.row < ROWS }
+    requires column { step.column < COLUMNS }
     requires program { IsSound (diagram_of scene.program.now) }
     ensures { seen.new ≡ written S.algebra (diagram_of scene.entry.program.now) storage.now.kept scene.entry.now guard
         step.cell (among S.algebra links.now (place_of step))
@@ -49,7 +50,7 @@ fn effect<S: Signal>(
 {
     match step.cell {
         Cell::Coil { mode, var, .. } => {
-            let link = link_at(links, 6 * step.column + step.row);
+            let link = link_at(links, place_at(step.row, step.column));
             let old = seen.value(var);
             let new = stored_by(mode, link, S::known(storage.memory(step.cell)), old);
             seen.put_value(var, S::choose(guard, new, old));
@@ -77,18 +78,20 @@ fn change(
     storage: &mut Storage,
 )
     requires rung { scene.rung < scene.program.now.rungs }
-    requires row { step.row < 6 }
-    requires column { step.column < 10 }
+    requires row { step.row < ROWS }
+    requires column { step.column < COLUMNS }
     requires program { IsSound (diagram_of scene.program.now) }
     ensures { storage.new ≡ changed (diagram_of scene.entry.program.now) scene.entry.now start.now step.cell
         (among plain links.now (place_of step))
         (second plain (diagram_of scene.entry.program.now) scene.entry.rung (among plain links.now) (place_of step))
         storage.old }
 {
-    let link = link_at(links, 6 * step.column + step.row);
+    let link = link_at(links, place_at(step.row, step.column));
     match step.cell {
         Cell::Contact {
-            operand, memory, ..
+            operand,
+            memory,
+            ..
         } => storage.remember(memory, start.operand(operand)),
         Cell::Coil { mode, var, memory } => {
             let before = storage.memory(step.cell);
@@ -119,7 +122,7 @@ pub(crate) fn effects<S: Signal>(
     seen: &mut Signals<S>,
 )
     requires rung { scene.rung < scene.program.now.rungs }
-    requires places { All (λ s. (s.row < 6) × (s.column < 10)) (steps_of scene.program.now scene.rung) }
+    requires places { All IsPlaced (steps_of scene.program.now scene.rung) }
     requires program { IsSound (diagram_of scene.program.now) }
     ensures { seen.new ≡ effects_of S.algebra (diagram_of scene.entry.program.now) storage.now.kept scene.entry.now
         scene.entry.rung guard (among S.algebra links.now) (steps_of scene.entry.program.now scene.entry.rung) seen.old }
@@ -138,7 +141,7 @@ pub(crate) fn changes(
     storage: &mut Storage,
 )
     requires rung { scene.rung < scene.program.now.rungs }
-    requires places { All (λ s. (s.row < 6) × (s.column < 10)) (steps_of scene.program.now scene.rung) }
+    requires places { All IsPlaced (steps_of scene.program.now scene.rung) }
     requires program { IsSound (diagram_of scene.program.now) }
     ensures { storage.new ≡ changes_of (diagram_of scene.entry.program.now) scene.entry.now scene.entry.rung start.now
         (among plain links.now) (steps_of scene.entry.program.now scene.entry.rung) storage.old }

@@ -1,6 +1,7 @@
 //! One scan of a program over a signal, which leaves the state as it is.
 
 ghost use Rattle.std.specs.Prelude.{◌≡◌, ◌+◌, ◌-◌, ◌^◌, ◌<◌, ◌≤◌, ◌↔◌, ℕ, min, length, map, All, IfOk, IsTrue, slice_get, Some, slice_index_or, false, if◌then◌else◌, nat_lt};
+ghost use Rattle.ladder_grid.specs.declared.geometry.TheConstants.{PLACES};
 ghost use Rattle.ladder_scan.specs.SignalScan.{guard_of, look_frame, looked, after_look};
 ghost use Rattle.ladder_scan.specs.Rung.{SameSizes};
 ghost use Rattle.ladder_scan.specs.Programs.{diagram_of, IsSound};
@@ -17,6 +18,7 @@ use crate::state::State;
 use crate::storage::Storage;
 use crate::sweep::{find_links, link_at};
 use ladder_grid::Program;
+use ladder_grid::geometry::PLACES;
 use std::alloc::Global;
 use std::marker::Model;
 
@@ -31,6 +33,7 @@ pub struct Work<S> {
 
 impl<S> Model for Work<S> {
     ghost use Rattle.std.specs.Prelude.{◌≡◌, length};
+    ghost use Rattle.ladder_grid.specs.declared.geometry.TheConstants.{PLACES};
     ghost use Rattle.ladder_scan.specs.Sheets.{Sheet};
 
     ghost Value = { Sheet S };
@@ -42,7 +45,7 @@ impl<S> Model for Work<S> {
       looks = w.looks;
     } };
 
-    ghost invariant = { λ w. length w.links.items ≡ 60 };
+    ghost invariant = { λ w. length w.links.items ≡ PLACES };
 }
 
 impl<S: Signal> Work<S> {
@@ -54,7 +57,7 @@ impl<S: Signal> Work<S> {
         let decls = program.decls();
         Ok(Work {
             seen: Signals::new(alloc, decls.vars().len(), decls.instances().len())?,
-            links: vec![in alloc; S::known(false); 60]?,
+            links: vec![in alloc; S::known(false); PLACES]?,
             taken: vec![in alloc; S::known(false); program.rungs()]?,
             looks: 0,
         })
@@ -142,7 +145,7 @@ fn look_rungs<S: Signal>(
     requires program { IsSound (diagram_of program.now) }
     requires values { AreValues S.algebra S.value seen.old }
     requires taken { length taken.old ≡ program.now.rungs }
-    requires links { length links.old ≡ 60 }
+    requires links { length links.old ≡ PLACES }
     ensures { seen.new ≡ (looked S.algebra (diagram_of program.now) storage.now.kept now seen.old program.now.rungs).frame }
 {
     // the furthest target of the jumps so far: with none past a rung, its guard is ON

@@ -1,6 +1,7 @@
 //! One scan of a program over its state.
 
 ghost use Rattle.std.specs.Prelude.{◌≡◌, ◌<◌, ◌≤◌, ◌↔◌, map, IfOk, OnErr, IsErr};
+ghost use Rattle.ladder_grid.specs.declared.geometry.TheConstants.{RUNGS};
 ghost use Rattle.ladder_scan.specs.Rung.{evaluated, SameSizes, SameLengths};
 ghost use Rattle.ladder_scan.specs.Scan.{next_rung, after_scan};
 ghost use Rattle.ladder_scan.specs.Programs.{diagram_of, IsSound};
@@ -14,6 +15,7 @@ use crate::state::State;
 use crate::storage::Storage;
 use crate::sweep::{find_links, link_at};
 use ladder_grid::Program;
+use ladder_grid::geometry::PLACES;
 
 /// The moment of a scan is before that of the state.
 #[derive(Clone, Copy, Debug, PartialEq, Eq)]
@@ -23,7 +25,7 @@ pub struct MomentBack;
 #[tactic(auto, using(crate::proofs::Along::by_steps, crate::proofs::Sizes::rung_sizes))]
 fn evaluate(scene: Scene<'_>, storage: &mut Storage, start: &mut Signals<bool>) -> usize
     requires rung { scene.rung < scene.program.now.rungs }
-    requires few { scene.rung < 100 }
+    requires few { scene.rung < RUNGS }
     requires program { IsSound (diagram_of scene.program.now) }
     requires sizes { SameSizes start.old storage.old }
     ensures held { storage.new ≡ evaluated (diagram_of scene.entry.program.now) scene.entry.now scene.entry.rung storage.old }
@@ -31,7 +33,7 @@ fn evaluate(scene: Scene<'_>, storage: &mut Storage, start: &mut Signals<bool>) 
     ensures sizes { SameSizes start.new storage.new }
 {
     copy_start(storage, start);
-    let mut links = [false; 60];
+    let mut links = [false; PLACES];
     find_links(scene, storage, start, &mut links);
     changes(scene, start, &links, storage);
     let (leap, target) = jump(scene.program, scene.rung);

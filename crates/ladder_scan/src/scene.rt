@@ -1,8 +1,11 @@
 //! A rung of a program that is evaluated at a moment, and what the scan reads of the program.
 
 ghost use Rattle.std.specs.Prelude.{◌≡◌, ◌<◌, ◌+◌, ◌*◌};
+ghost use Rattle.ladder_grid.specs.declared.geometry.TheConstants.{ROWS, COLUMNS};
+ghost use Rattle.ladder_scan.specs.Cells.{place_at};
 ghost use Rattle.ladder_scan.specs.Programs.{diagram_of, IsSound};
 
+use ladder_grid::geometry::ROWS;
 use ladder_grid::{Cell, Program};
 use ladder_vars::BlockKind;
 
@@ -20,6 +23,15 @@ pub(crate) fn checked(program: &Program)
 {
     program.checked();
     let _instances = program.decls().instances();
+}
+
+/// The place of a cell in its rung.
+pub(crate) fn place_at(row: usize, column: usize) -> usize
+    requires row { row < ROWS }
+    requires column { column < COLUMNS }
+    ensures { result ≡ place_at row column }
+{
+    ROWS * column + row
 }
 
 /// The kind and the preset of an instance.
@@ -42,7 +54,7 @@ pub(crate) fn jump(program: &Program, rung: usize) -> (usize, usize)
     ensures target { result.1 ≡ (diagram_of program.now).target rung }
 {
     match program.jump(rung) {
-        Some((row, column, target)) => (6 * column + row, target),
+        Some((row, column, target)) => (place_at(row, column), target),
         None => (0, 0),
     }
 }
@@ -50,9 +62,9 @@ pub(crate) fn jump(program: &Program, rung: usize) -> (usize, usize)
 #[tactic(auto, unfolding(crate::specs::Programs::diagram_of))]
 pub(crate) fn cell(program: &Program, rung: usize, row: usize, column: usize) -> Cell
     requires rung { rung < program.now.rungs }
-    requires row { row < 6 }
-    requires column { column < 10 }
-    ensures { result ≡ (diagram_of program.now).cell rung (6 * column + row) }
+    requires row { row < ROWS }
+    requires column { column < COLUMNS }
+    ensures { result ≡ (diagram_of program.now).cell rung (place_at row column) }
 {
     program.cell(rung, row, column)
 }
@@ -61,11 +73,11 @@ pub(crate) fn cell(program: &Program, rung: usize, row: usize, column: usize) ->
 #[tactic(auto, unfolding(crate::specs::Programs::diagram_of))]
 pub(crate) fn linked(program: &Program, rung: usize, row: usize, column: usize) -> bool
     requires rung { rung < program.now.rungs }
-    requires row { row < 6 }
-    requires column { column < 10 }
-    ensures { result ≡ (diagram_of program.now).linked rung (6 * column + row) }
+    requires row { row < ROWS }
+    requires column { column < COLUMNS }
+    ensures { result ≡ (diagram_of program.now).linked rung (place_at row column) }
 {
-    if 5 <= row {
+    if row + 1 == ROWS {
         return false;
     }
     match cell(program, rung, row + 1, column) {

@@ -2,17 +2,19 @@
 
 ghost use Rattle.std.specs.Prelude.{◌≡◌, ◌<◌, ◌≤◌, ◌+◌, ◌*◌, ◌^◌, length, slice_index_or, false, All};
 ghost use Rattle.ladder_vars.specs.Kind.{largest_preset};
+ghost use Rattle.ladder_grid.specs.declared.geometry.TheConstants.{ROWS, COLUMNS, PLACES};
 ghost use Rattle.ladder_grid.specs.Program.{steps_of};
-ghost use Rattle.ladder_scan.specs.Cells.{closed, contact, q_from, q_after};
+ghost use Rattle.ladder_scan.specs.Cells.{place_at, closed, contact, q_from, q_after};
 ghost use Rattle.ladder_scan.specs.Rung.{second};
 ghost use Rattle.ladder_scan.specs.Programs.{diagram_of, IsSound};
-ghost use Rattle.ladder_scan.specs.Sweeping.{among, block_q, in_mask, place_of, right_at, reached, swept, AreValues, AreLinks};
+ghost use Rattle.ladder_scan.specs.Sweeping.{IsPlaced, among, block_q, in_mask, place_of, right_at, reached, swept, AreValues, AreLinks};
 
 use crate::block::{Stored, has_second, step};
-use crate::scene::{Scene, cell, instance, linked};
+use crate::scene::{Scene, cell, instance, linked, place_at};
 use crate::signal::Signal;
 use crate::signals::Signals;
 use crate::storage::Storage;
+use ladder_grid::geometry::ROWS;
 use ladder_grid::{Cell, Mode, Step};
 use ladder_vars::BlockKind;
 
@@ -91,12 +93,12 @@ fn q_from<S: Signal>(
 /// The second input of the block at a place, by the left links of the rung.
 pub(crate) fn second<S: Signal>(scene: Scene<'_>, links: &[S], row: usize, column: usize) -> S
     requires rung { scene.rung < scene.program.now.rungs }
-    requires row { row < 6 }
-    requires column { column < 10 }
-    ensures { result ≡ second S.algebra (diagram_of scene.entry.program.now) scene.entry.rung (among S.algebra links.now) (6 * column + row) }
+    requires row { row < ROWS }
+    requires column { column < COLUMNS }
+    ensures { result ≡ second S.algebra (diagram_of scene.entry.program.now) scene.entry.rung (among S.algebra links.now) (place_at row column) }
 {
     if linked(scene.program, scene.rung, row, column) {
-        link_at(links, 6 * column + row + 1)
+        link_at(links, place_at(row, column) + 1)
     } else {
         S::known(false)
     }
@@ -112,11 +114,11 @@ pub(crate) fn q_here<S: Signal>(
     inst: usize,
 ) -> S
     requires rung { scene.rung < scene.program.now.rungs }
-    requires row { row < 6 }
-    requires column { column < 10 }
+    requires row { row < ROWS }
+    requires column { column < COLUMNS }
     requires program { IsSound (diagram_of scene.program.now) }
     ensures { result ≡ block_q S.algebra (diagram_of scene.entry.program.now) storage.now.kept scene.entry.now scene.entry.rung inst
-        (among S.algebra links.now) (6 * column + row) }
+        (among S.algebra links.now) (place_at row column) }
 {
     let (kind, preset) = instance(scene.program, inst);
     q_from(
@@ -124,7 +126,7 @@ pub(crate) fn q_here<S: Signal>(
         preset,
         storage.stored(inst),
         scene.now,
-        link_at(links, 6 * column + row),
+        link_at(links, place_at(row, column)),
         second(scene, links, row, column),
     )
 }
@@ -139,11 +141,11 @@ fn right_link<S: Signal>(
     column: usize,
 ) -> S
     requires rung { scene.rung < scene.program.now.rungs }
-    requires row { row < 6 }
-    requires column { column < 10 }
+    requires row { row < ROWS }
+    requires column { column < COLUMNS }
     requires program { IsSound (diagram_of scene.program.now) }
     ensures { result ≡ right_at S.algebra (diagram_of scene.entry.program.now) storage.now.kept scene.entry.now scene.entry.rung seen.now
-        (among S.algebra links.now) (6 * column + row) }
+        (among S.algebra links.now) (place_at row column) }
 {
     let cell = cell(scene.program, scene.rung, row, column);
     match cell {
@@ -156,14 +158,14 @@ fn right_link<S: Signal>(
         | Cell::Jump { .. }
         | Cell::Return => {
             let memory = S::known(storage.memory(cell));
-            link_at(links, 6 * column + row).and(closed(cell, seen, memory))
+            link_at(links, place_at(row, column)).and(closed(cell, seen, memory))
         }
     }
 }
 
 /// Whether a mask has the bit of a row.
-fn has(mask: u8, row: u32) -> bool
-    requires { row < 6 }
+fn has(mask: u8, row: usize) -> bool
+    requires { row < ROWS }
     ensures { result ≡ in_mask mask row }
 {
     (mask >> row) & 1 == 1
@@ -171,7 +173,7 @@ fn has(mask: u8, row: u32) -> bool
 
 /// The bit of a row.
 fn own_bit(row: usize) -> u8
-    requires { row < 6 }
+    requires { row < ROWS }
     ensures { result ≡ 2 ^ row }
 {
     1 << row
@@ -187,8 +189,8 @@ fn reached<S: Signal>(
     step: Step,
 ) -> S
     requires rung { scene.rung < scene.program.now.rungs }
-    requires row { step.row < 6 }
-    requires column { step.column < 10 }
+    requires row { step.row < ROWS }
+    requires column { step.column < COLUMNS }
     requires program { IsSound (diagram_of scene.program.now) }
     ensures { result ≡ reached S.algebra (diagram_of scene.entry.program.now) storage.now.kept scene.entry.now scene.entry.rung
         seen.now links.now step }
@@ -202,9 +204,9 @@ fn reached<S: Signal>(
         return S::known(false).or(right_link(scene, storage, seen, links, step.row, before));
     }
     let mut sum = S::known(false);
-    for row in 0..6 {
+    for row in 0..ROWS {
         if has(step.feeds, row) {
-            sum = sum.or(right_link(scene, storage, seen, links, row as usize, before));
+            sum = sum.or(right_link(scene, storage, seen, links, row, before));
         }
     }
     sum
@@ -214,15 +216,15 @@ fn reached<S: Signal>(
 #[tactic(auto, using(crate::proofs::Turns::sweep_step))]
 fn sweep<S: Signal>(scene: Scene<'_>, storage: &Storage, seen: &Signals<S>, links: &mut [S])
     requires rung { scene.rung < scene.program.now.rungs }
-    requires places { All (λ s. (s.row < 6) × (s.column < 10)) (steps_of scene.program.now scene.rung) }
-    requires links { length links.old ≡ 60 }
+    requires places { All IsPlaced (steps_of scene.program.now scene.rung) }
+    requires links { length links.old ≡ PLACES }
     requires program { IsSound (diagram_of scene.program.now) }
     ensures { links.new ≡ swept S.algebra (diagram_of scene.entry.program.now) storage.now.kept scene.entry.now scene.entry.rung
         seen.now (steps_of scene.entry.program.now scene.entry.rung) links.old }
 {
     for step in scene.program.steps(scene.rung) {
         let link = reached(scene, storage, seen, links, *step);
-        links[6 * step.column + step.row] = link;
+        links[place_at(step.row, step.column)] = link;
     }
 }
 
@@ -234,7 +236,7 @@ pub(crate) fn find_links<S: Signal>(
     links: &mut [S],
 )
     requires rung { scene.rung < scene.program.now.rungs }
-    requires links { length links.old ≡ 60 }
+    requires links { length links.old ≡ PLACES }
     requires values { AreValues S.algebra S.value seen.now }
     requires program { IsSound (diagram_of scene.program.now) }
     ensures { AreLinks S.algebra (diagram_of scene.entry.program.now) storage.now.kept scene.entry.now scene.entry.rung
