@@ -86,7 +86,7 @@ abbrev pub rs_q : Bool → Bool → Bool → Bool
 rs_q q set reset = not reset && (set || q)
 
 -- The step of a block: its kind and preset, what it stored, its two inputs and the moment. The first input is IN, CU, CD, S1 or S,
--- the second R, LD or R1. A timer has no second input. What isn't of the kind stays as it was; a state holds no such block.
+-- the second R, LD or R1. A timer has no second input. A block that is not of the kind is left unchanged; no state holds one.
 unfoldable pub step : BlockKind → ℕ → Stored → Bool → Bool → ℕ → Stored
 step Ton preset (Timer last running start q) on second now = ton_step preset running start on now
 step Tof preset (Timer last running start q) on second now = tof_step preset last running start on now

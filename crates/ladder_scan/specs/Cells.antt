@@ -54,7 +54,7 @@ pub record Kept : Type 0 where
 abbrev pub kept : List Bool → List Stored → Kept
 kept memories blocks = record { memories = memories; blocks = blocks }
 
--- What stands in a list at a number that may be missing, and the list with that entry replaced.
+-- The entry of a list at an optional number, and the list with that entry replaced.
 abbrev pub at : {A : Type 0} → List A → Option ℕ → A → A
 at xs None otherwise = otherwise
 at xs (Some i) otherwise = get_or xs i otherwise
@@ -84,7 +84,7 @@ is_block (Lower inst linked) = false
 is_block (Jump target) = false
 is_block Return = false
 
--- What is read where there is no such instance.
+-- What is read past the last instance.
 abbrev pub no_block : Stored
 no_block = Timer false false 0 false
 
@@ -139,7 +139,7 @@ q_here o d k now (Lower inst linked) x y = o.known false
 q_here o d k now (Jump target) x y = o.known false
 q_here o d k now Return x y = o.known false
 
--- What a coil writes, by its left link, its memory m, which is the link that it had, and what stands in its variable:
+-- What a coil writes, by its left link, its memory m, which is the link that it had, and the old value of its variable:
 -- `( )` the link, `(/)` its inverse, `(S)` ON and `(R)` OFF where the link is ON, `(P)` whether the link has become ON, `(N)` whether OFF.
 abbrev pub stored_by : {S : Type 0} → Algebra S → CoilMode → S → S → S → S
 stored_by o coil.Store link m old = link

@@ -25,7 +25,7 @@ is_linked (Lower inst linked) = linked
 is_linked (Jump target) = false
 is_linked Return = false
 
--- Of an instance that isn't there, which no cell names.
+-- The kind and the preset of an instance; past the last one, which no cell names, TON and 0.
 abbrev pub kind_in : Option Instance → BlockKind
 kind_in None = Ton
 kind_in (Some i) = i.kind
@@ -59,8 +59,8 @@ diagram_of p = record {
 abbrev pub is_filled : Cell → Bool
 is_filled c = not (is_empty c)
 
--- Presets are in range, and each memory and instance belongs to one cell; a linked lower cell stands in the column of its block; a jump
--- or return stands in its rung and goes to a later one, or past the last.
+-- Presets are in range, and each memory and instance belongs to one cell; a linked lower cell is in the column of its block; a jump
+-- or return is in its rung and goes to a later one, or past the last.
 pub record IsSound (d : Diagram) : Type 0 where
   pub presets : (i : ℕ) → d.preset i ≤ largest_preset (d.kind i)
   pub once : Once d

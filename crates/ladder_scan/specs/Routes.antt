@@ -11,7 +11,7 @@ pub data Route : Type 0 where
   through : Route → ℕ → ℕ → Route
 
 -- What a rung is to the power. `feeds column row from`: the right link of the cell at (from, column) meets the joint group on the left
--- of the cell at (row, column + 1). `is_block row column`: a block stands there. `closed row column`: how far that cell lets power
+-- of the cell at (row, column + 1). `is_block row column`: whether a block is there. `closed row column`: how far that cell lets power
 -- through. `q row column left lower`: the Q of the block there, from its left link and that of the cell below it.
 pub record Circuit (S : Type 0) : Type 0 where
   pub feeds : ℕ → ℕ → ℕ → Bool
@@ -24,7 +24,7 @@ unfoldable pub gather : {A : Type 0} → (ℕ → List A) → ℕ → List A
 gather f zero = []
 gather f (suc n) = gather f n ++ f n
 
--- The routes up to the right link of a cell: the end of the block, where one stands there, and otherwise each route to its left link
+-- The routes up to the right link of a cell: the end of the block, where one is there, and otherwise each route to its left link
 -- with the cell added.
 abbrev pub onto : (ℕ → ℕ → Bool) → ℕ → ℕ → List Route → List Route
 onto is_block row column before =

@@ -39,7 +39,7 @@ second o d j links place = lower o (d.linked j place) (links (place + 1))
 -- ---- over any signal
 
 -- What a cell with left link x and second input y leaves: each single write is the choice, by the rung's guard, between the new value
--- and what stands there. Memories and blocks are those of the stored state, since no element is evaluated twice in a scan.
+-- and the old one. Memories and blocks are those of the stored state, since no element is evaluated twice in a scan.
 abbrev pub written : {S : Type 0} → Algebra S → Diagram → Kept → ℕ → S → Cell → S → S → Frame S → Frame S
 written o d k now guard c x y f =
     let value = at f.values (var_in c) (o.known false) in

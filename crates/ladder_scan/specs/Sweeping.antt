@@ -1,4 +1,4 @@
--- Private: the sweep and the effects as the code goes, over the cells of a rung that aren't empty, by column, then row.
+-- Private: the sweep and the effects as the code does them, over the cells of a rung that are not empty, by column, then row.
 use Rattle.std.specs.Prelude.{◌≡◌, ℕ, ◌+◌, ◌-◌, ◌/◌, ◌%◌, ◌^◌, ◌<◌, Bool, true, false, if◌then◌else◌, List, [], ◌∷◌, ◌==◌}
 use Rattle.std.proofs.Common.{get_or, set, zero, suc}
 use Rattle.ladder_grid.specs.declared.geometry.TheConstants.{ROWS, COLUMNS, PLACES}
@@ -19,7 +19,7 @@ join_where o passes f (suc n) = if passes n then o.join (join_where o passes f n
 abbrev pub among : {S : Type 0} → Algebra S → List S → ℕ → S
 among o xs i = get_or xs i (o.known false)
 
--- The Q of an instance whose block stands at a place, by the left links.
+-- The Q of an instance whose block is at a place, by the left links.
 abbrev pub block_q : {S : Type 0} → Algebra S → Diagram → Kept → ℕ → ℕ → ℕ → (ℕ → S) → ℕ → S
 block_q o d k now j inst links place =
     q_from o (d.kind inst) (d.preset inst) (get_or k.blocks inst no_block) now (links place) (second o d j links place)
@@ -28,7 +28,7 @@ block_q o d k now j inst links place =
 abbrev pub in_mask : ℕ → ℕ → Bool
 in_mask mask from = mask / 2 ^ from % 2 == 1
 
--- A step stands in the rung.
+-- The row and the column of a step are those of a rung.
 abbrev pub IsPlaced : Step → Type 0
 IsPlaced s = (s.row < ROWS) × (s.column < COLUMNS)
 
@@ -82,7 +82,7 @@ pub record AreValues {S : Type 0} (o : Algebra S) (V : S → Type 0) (f : Frame 
   pub values : (i : ℕ) → V (get_or f.values i (o.known false))
   pub ends : (i : ℕ) → V (get_or f.ends i (o.known false))
 
--- These are the left links of the cells that aren't empty.
+-- These are the left links of the cells that are not empty.
 abbrev pub AreLinks : {S : Type 0} → Algebra S → Diagram → Kept → ℕ → ℕ → Frame S → List S → Type 0
 AreLinks o d k now j f links = (place : ℕ) → place < PLACES → is_filled (d.cell j place) ≡ true
     → get_or links place (o.known false) ≡ link o d k now j f place

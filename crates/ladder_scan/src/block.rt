@@ -6,23 +6,23 @@ ghost use Rattle.ladder_scan.specs.Blocks.{step, q_of, new_block, ton_step, tof_
 
 use ladder_vars::BlockKind::{self, Ctd, Ctu, Rs, Sr, Tof, Ton, Tp};
 
-/// What an instance keeps from step to step.
+/// What an instance stores from step to step.
 #[derive(Clone, Copy, Debug, PartialEq, Eq)]
 pub enum Stored {
-    /// The last IN, whether it runs, the moment at which it began to (0 where it does not run), and Q.
+    /// A timer: the last IN, whether it runs, the moment at which it began to (0 where it does not run), and Q.
     Timer {
         last: bool,
         running: bool,
         start: u64,
         q: bool,
     },
-    /// The last count input, the counted value, and Q.
+    /// A counter: the last count input, the counted value, and Q.
     Counter {
         last: bool,
         cv: i16,
         q: bool,
     },
-    /// Q1.
+    /// A bistable: Q1.
     Bistable {
         q: bool,
     },

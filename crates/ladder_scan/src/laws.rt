@@ -51,7 +51,7 @@ pub fn sound<S: Signal>(program: &Program)
     look_is_scan(program);
 }
 
-/// What a block answers after any list of steps of a new one.
+/// The output of a block after any list of steps from a fresh one.
 pub fn histories()
     ensures ton { TonHistory }
     ensures tof { TofHistory }

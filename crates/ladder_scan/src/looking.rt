@@ -22,7 +22,7 @@ use ladder_grid::geometry::PLACES;
 use std::alloc::Global;
 use std::marker::Model;
 
-/// What a look fills: the values that one scan over a signal leaves.
+/// The buffers of a look, which hold its result: the values that one scan over a signal leaves.
 #[derive(Drop)]
 pub struct Work<S> {
     seen: Signals<S>,
@@ -49,7 +49,11 @@ impl<S> Model for Work<S> {
 }
 
 impl<S: Signal> Work<S> {
-    /// Room for looks at the program.
+    /// Buffers for looks at the program.
+    ///
+    /// # Errors
+    ///
+    /// `Memory` when out of memory.
     pub fn new(alloc: Global, program: &Program) -> Result<Work<S>, Memory>
         ensures fits { IfOk result (λ w. HasRoom program.now w) }
         ensures looks { IfOk result (λ w. w.looks ≡ 0) }
@@ -63,7 +67,7 @@ impl<S: Signal> Work<S> {
         })
     }
 
-    /// Whether there is room for as many rungs, variables and instances as the program has.
+    /// Whether it was made for as many rungs, variables and instances as the program has.
     pub fn fits(&self, program: &Program) -> bool
         ensures { IsTrue result ↔ HasRoom program.now self.now }
     {
@@ -73,7 +77,7 @@ impl<S: Signal> Work<S> {
             && self.seen.ends.len() == decls.instances().len()
     }
 
-    /// The value of a variable after the last look.
+    /// The value of a variable after the last look, by its number in order of declaration.
     pub fn value(&self, var: usize) -> S
         requires { var < length self.now.values }
         ensures { slice_get self.now.values var ≡ Some result }
@@ -81,7 +85,7 @@ impl<S: Signal> Work<S> {
         self.seen.values[var]
     }
 
-    /// How many looks were made; the count stays at its largest number.
+    /// How many looks were made; the count saturates.
     pub fn looks(&self) -> u64
         ensures { result ≡ self.now.looks }
     {
@@ -161,8 +165,8 @@ fn look_rungs<S: Signal>(
     }
 }
 
-/// One scan over a signal, on the values, memories and instances of the state, which stays as it is: `work` then holds the values
-/// of the variables after it. The input variables take the given signals, in order of declaration.
+/// One scan over a signal at the moment `now`, from the values, memories and instances of the state, which is not changed. `work`
+/// then holds the values of the variables. The input variables take the given signals, in order of declaration.
 ///
 /// It does not allocate.
 pub fn look<S: Signal>(program: &Program, state: &State, inputs: &[S], now: u64, work: &mut Work<S>)

@@ -1,4 +1,4 @@
-//! Out of memory.
+//! The fault of a call that allocates.
 
 use std::alloc::{AllocError, AllocFailed};
 

@@ -80,12 +80,12 @@ fn scan_storage(
     scan_rungs(program, now, storage, start);
 }
 
-/// One scan: the input variables take the given values, in order of declaration, the rungs are evaluated from top to bottom,
-/// and `now` becomes the moment of the state.
+/// One scan at the moment `now`, in milliseconds: the input variables take the given values, in order of declaration, and the rungs
+/// are evaluated from top to bottom (IEC 61131-3).
 ///
 /// # Errors
 ///
-/// `MomentBack` (S1) where `now` is before the moment of the state, which then stays as it was.
+/// `MomentBack` where `now` is before the moment of the state, which is then unchanged.
 #[tactic(auto, using(crate::proofs::Possible::after_sound))]
 pub fn scan(
     program: &Program,

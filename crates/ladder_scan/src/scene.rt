@@ -17,7 +17,7 @@ pub(crate) struct Scene<'a> {
     pub rung: usize,
 }
 
-/// Does nothing: its contract is what reading a program has made sure of.
+/// Does nothing: its contract is what holds of every program that was read.
 pub(crate) fn checked(program: &Program)
     ensures { IsSound (diagram_of program.now) }
 {
@@ -46,7 +46,7 @@ pub(crate) fn instance(program: &Program, inst: usize) -> (BlockKind, u32)
     }
 }
 
-/// Where the jump or return of a rung stands, and the rung that it goes to; 0 where there is none.
+/// The place of the jump or return of a rung, and the rung that it goes to; 0 where there is none.
 #[tactic(auto, unfolding(crate::specs::Programs::diagram_of))]
 pub(crate) fn jump(program: &Program, rung: usize) -> (usize, usize)
     requires { rung < program.now.rungs }

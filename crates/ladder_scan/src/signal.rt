@@ -33,7 +33,7 @@ pub trait Signal: Copy {
     fn choose(condition: Self, on: Self, off: Self) -> Self
         ensures { result ≡ algebra.choice condition on off };
 
-    /// Answers true: each signal that a program holds is a value.
+    /// Returns true: each signal that a program holds is a value.
     fn is_value(self) -> bool
         ensures answer { result ≡ true }
         ensures is { value self };

@@ -63,6 +63,10 @@ fn same_kinds(kinds: &[BlockKind], instances: &[Instance]) -> bool
 
 impl State {
     /// The state before the first scan: the variables have their initial values, all else is OFF or 0.
+    ///
+    /// # Errors
+    ///
+    /// `Memory` when out of memory.
     pub fn fresh(alloc: Global, program: &Program) -> Result<State, Memory>
         ensures is { IfOk result (λ s. s ≡ fresh program.now) }
         ensures fits { IfOk result (λ s. Fits program.now s) }
@@ -79,6 +83,10 @@ impl State {
     }
 
     /// An equal state.
+    ///
+    /// # Errors
+    ///
+    /// `Memory` when out of memory.
     pub fn copy(&self, alloc: Global) -> Result<State, Memory>
         ensures { IfOk result (λ s. s ≡ self.now) }
     {
@@ -111,7 +119,7 @@ impl State {
         self.storage.values[var]
     }
 
-    /// The moment of the last scan; 0 before the first.
+    /// The moment of the last scan, in milliseconds; 0 before the first.
     pub fn moment(&self) -> u64
         ensures { result ≡ self.now.moment }
     {
@@ -141,7 +149,7 @@ impl State {
         self.storage.blocks[inst]
     }
 
-    /// Gives a variable a value.
+    /// Writes a variable, by its number in order of declaration.
     pub fn set_value(&mut self, var: usize, value: bool)
         requires { var < length self.old.held.values }
         ensures { self.new ≡ with_values self.old (set self.old.held.values var value) }
@@ -149,7 +157,7 @@ impl State {
         self.storage.put_value(var, value);
     }
 
-    /// Gives a memory a value.
+    /// Writes a memory, by its number in the program.
     pub fn set_memory(&mut self, number: usize, value: bool)
         requires { number < length self.old.held.kept.memories }
         ensures { self.new ≡ with_memories self.old (set self.old.held.kept.memories number value) }
@@ -157,7 +165,7 @@ impl State {
         self.storage.put_memory(number, value);
     }
 
-    /// Makes the moment a later one, or leaves it.
+    /// Sets the moment, which is not before the present one.
     pub fn set_moment(&mut self, moment: u64)
         requires { self.old.moment ≤ moment }
         ensures { self.new ≡ with_moment self.old moment }
@@ -165,7 +173,7 @@ impl State {
         self.moment = moment;
     }
 
-    /// Replaces what an instance stores.
+    /// Writes what an instance stores, by its number in order of declaration: what belongs to its kind and is possible at the moment.
     pub fn set_block(&mut self, inst: usize, stored: Stored)
         requires range { inst < length self.old.held.kept.blocks }
         requires stored { CanStore (slice_index_or self.old.kinds inst Ton) self.old.moment stored }

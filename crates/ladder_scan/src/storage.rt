@@ -13,7 +13,7 @@ use crate::inputs::give;
 use crate::memory::Memory;
 use crate::signals::Signals;
 use ladder_grid::{Cell, Program};
-use ladder_vars::{Decls, Instance, Var};
+use ladder_vars::{BlockKind, Decls, Instance, Var};
 use std::alloc::{AllocError, Global};
 use std::marker::Model;
 
@@ -130,12 +130,7 @@ impl Storage {
     {
         match self.blocks.get(inst) {
             Some(stored) => *stored,
-            None => Stored::Timer {
-                last: false,
-                running: false,
-                start: 0,
-                q: false,
-            },
+            None => Stored::new(BlockKind::Ton),
         }
     }
 
