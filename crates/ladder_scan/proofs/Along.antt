@@ -1,27 +1,23 @@
 -- Along the steps of a rung the effects are those of all its places.
-use Rattle.std.proofs.Common.{◌≡◌, ℕ, ◌+◌, ◌*◌, ◌/◌, ◌%◌, ◌<◌, ◌≤◌, Bool, true, false, cond, List, [], ◌∷◌, ◌++◌, map, zero, suc, refl, sym, ap, ap₂, subst, ◌∙◌, arith, All, Option, Some, None}
+use Rattle.std.proofs.Common.{◌≡◌, ℕ, ◌+◌, ◌*◌, ◌/◌, ◌%◌, ◌<◌, ◌≤◌, Bool, true, false, cond, List, [], ◌∷◌, ◌++◌, zero, suc, refl, sym, ap, ap₂, subst, ◌∙◌, arith, All, Option, Some, None}
 use Rattle.std.proofs.lemmas.List.Elements.{All-append, All-nil}
 use Rattle.std.proofs.lemmas.Grind.{common_steps}
 use Rattle.ladder_grid.specs.declared.cell.Cell.{Cell}
 use Rattle.ladder_grid.specs.declared.cell.Cell.TheVariants.{Empty, Wire, Contact, Coil, Block, Lower, Jump, Return}
 use Rattle.ladder_grid.specs.declared.program.Step.{Step}
-use Rattle.ladder_grid.specs.Program.{Drawing, steps_of}
-use Rattle.ladder_scan.specs.declared.block.Stored.{Stored}
+use Rattle.ladder_grid.specs.Compiled.{steps_of}
+use Rattle.ladder_grid.specs.Program.{Drawing}
 use Rattle.ladder_scan.specs.Algebra.{Algebra}
 use Rattle.ladder_scan.specs.Truth.{plain}
-use Rattle.ladder_scan.specs.Blocks.{q_of}
 use Rattle.ladder_scan.specs.Routes.{gather}
 use Rattle.ladder_grid.specs.Program.{block_in, memory_in}
-use Rattle.ladder_scan.specs.Cells.{Diagram, Frame, Kept, put_in, var_in}
+use Rattle.ladder_scan.specs.Cells.{Diagram, Frame, Kept, put_in, var_in, frame, kept}
 use Rattle.ladder_scan.specs.Rung.{written, changed, effects, changes, Held, link, second, lower, after_rung, frame_of, link_at, evaluated}
 use Rattle.ladder_scan.specs.Programs.{diagram_of, is_filled, IsSound}
-use Rattle.ladder_scan.specs.Sweeping.{frame, kept, held, among, step_for, steps_below, effects_of, changes_of, AreLinks}
+use Rattle.ladder_scan.specs.Sweeping.{IsPlaced, among, step_for, steps_below, effects_of, changes_of, AreLinks}
 use Rattle.ladder_scan.proofs.Compiled.{masks_of, steps_are}
 
 -- ---- the places of the steps
-abbrev pub IsPlaced : Step → Type 0
-IsPlaced s = (s.row < 6) × (s.column < 10)
-
 one_place : (d : Diagram) (j : ℕ) (masks : ℕ → ℕ) (b : Bool) (n : ℕ) → n < 60 → All IsPlaced (cond b (step_for d j masks n ∷ []) [])
 one_place d j masks true n h =
     let row : n % 6 < 6 = omega arith in
@@ -124,7 +120,7 @@ pub links_agree : {S : Type 0} (o : Algebra S) (d : Diagram) (k : Kept) (now j :
 links_agree o d k now j f links sound h e lt filled = (
   h e lt filled,
   same_lower o (d.linked j e) _ _ (λ b.
-      let w : (e % 6 < 5) × (is_filled (d.cell j (e + 1)) ≡ true) = sound.linked j e b in
+      let w : (e % 6 + 1 < 6) × (is_filled (d.cell j (e + 1)) ≡ true) = sound.linked j e b in
       h (e + 1) (omega arith) w.1),
 )
 
@@ -142,10 +138,10 @@ evaluated_along p sound now j h links are =
     ∙ changes_along (diagram_of p) now j (frame_of h) (among plain links) (link_at (diagram_of p) now j h) (masks_of p j) 60
     (links_agree plain (diagram_of p) h.kept now j (frame_of h) links sound are) h
 
-pub by_steps : (p : Drawing) → IsSound (diagram_of p) → (now j : ℕ) (v m : List Bool) (b : List Stored) (start ends links : List Bool) (v2 m2 : List Bool) (b2 : List Stored) → start ≡ v → ends ≡ map q_of b →
-    AreLinks plain (diagram_of p) (kept m b) now j (frame start ends) links → held v2 m2 b2 ≡ changes_of (diagram_of p) now j (frame start ends) (among plain links) (steps_of p j) (held v m b) →
-    held v2 m2 b2 ≡ evaluated (diagram_of p) now j (held v m b)
-by_steps p sound now j v m b start ends links v2 m2 b2 s e are h =
-    let f : frame start ends ≡ frame_of (held v m b) = ap₂ (λ x y. frame x y) s e in
-    h ∙ ap (λ (x : Frame Bool). changes_of (diagram_of p) now j x (among plain links) (steps_of p j) (held v m b)) f
-    ∙ evaluated_along p sound now j (held v m b) links (subst (λ (x : Frame Bool). AreLinks plain (diagram_of p) (kept m b) now j x links) f are)
+pub by_steps : (p : Drawing) → IsSound (diagram_of p) → (now j : ℕ) (h next : Held) (start : Frame Bool) (links : List Bool) → start ≡ frame_of h →
+    AreLinks plain (diagram_of p) h.kept now j start links → next ≡ changes_of (diagram_of p) now j start (among plain links) (steps_of p j) h →
+    next ≡ evaluated (diagram_of p) now j h
+by_steps p sound now j h next start links s are e =
+    e
+    ∙ ap (λ (f : Frame Bool). changes_of (diagram_of p) now j f (among plain links) (steps_of p j) h) s
+    ∙ evaluated_along p sound now j h links (subst (λ (f : Frame Bool). AreLinks plain (diagram_of p) h.kept now j f links) s are)

@@ -20,3 +20,4 @@ pub mod Scanned
 pub mod Looks
 pub mod Values
 pub mod Starts
+pub mod Sizes

@@ -30,7 +30,7 @@ the_column column row h = omega arith
 the_row : (column row : ℕ) → row < 6 → (6 * column + row) % 6 ≡ row
 the_row column row h = omega arith
 
-small : (column q : ℕ) → q < 6 → (6 * column + q) % 6 < 5 → q < 5
+small : (column q : ℕ) → q < 6 → (6 * column + q) % 6 + 1 < 6 → q < 5
 small column q h k = omega arith
 
 assoc : (column q : ℕ) → 6 * column + q + 1 ≡ 6 * column + (q + 1)
@@ -188,7 +188,7 @@ module _ {S : Type 0} (o : Algebra S) (V : S → Type 0) (l : LatticeLaws S V o)
         let x : get_or links e (o.known false) ≡ left_link o (circuit o d k now j f) column q = right e (omega arith) filled ∙ link_is column q h in
         let y : lower o (d.linked j e) (get_or links (e + 1) (o.known false)) ≡ lower o (d.linked j e) (left_link o (circuit o d k now j f) column (q + 1)) =
         same_lower (d.linked j e) _ _ (λ b.
-        let w : (e % 6 < 5) × (is_filled (d.cell j (e + 1)) ≡ true) = sound.linked j e b in
+        let w : (e % 6 + 1 < 6) × (is_filled (d.cell j (e + 1)) ≡ true) = sound.linked j e b in
         let q5 : q < 5 = small column q h w.0 in
         right (e + 1) (omega arith) w.1 ∙ ap (λ n. link o d k now j f n) (assoc column q) ∙ link_is column (q + 1) (omega arith)) in
         ap (λ t. cond (is_block c) (q_here o d k now c (among o links e) (second o d j (among o links) e))
@@ -212,7 +212,7 @@ module _ {S : Type 0} (o : Algebra S) (V : S → Type 0) (l : LatticeLaws S V o)
         let some : 1 ≤ e / 6 = from_six e b in
         let place : 6 * (column + 1) + row ≡ e = the_place e some in
         let here : column + 1 ≡ e / 6 = next_column e some in
-        let c9 : column < 9 = omega arith in
+        let c9 : column + 1 < 10 = omega arith in
         ap (λ t. cond t (o.known true) (join_where o (in_mask (masks e)) (λ from. right_at o d k now j f (among o links) (6 * (e / 6 - 1) + from)) 6)) b
         ∙ fed_same (in_mask (masks e)) (d.feeds j column row) _ _ 6
         (λ q h. ap (λ n. in_mask (masks n) q) (sym place) ∙ are column row q c9 (row_small e) h)

@@ -12,7 +12,7 @@ use Rattle.ladder_scan.specs.Blocks.{step, q_of}
 use Rattle.ladder_grid.specs.declared.cell.Cell.{Cell}
 use Rattle.ladder_grid.specs.declared.cell.Cell.TheVariants.{Empty, Wire, Contact, Coil, Block, Lower, Jump, Return}
 use Rattle.ladder_grid.specs.Program.{memory_in, block_in}
-use Rattle.ladder_scan.specs.Cells.{Diagram, Frame, Kept, at, put_in, var_in, stored_of, q_here, q_from, coil_value, no_block}
+use Rattle.ladder_scan.specs.Cells.{Diagram, Frame, frame, Kept, at, put_in, var_in, stored_of, q_here, q_from, coil_value, no_block}
 use Rattle.ladder_scan.specs.Rung.{link, second, written, effects, after_rung, Held, frame_of, stepped, changes, link_at, evaluated}
 use Rattle.ladder_scan.specs.Laws.{Once}
 use Rattle.ladder_scan.proofs.Kept.{AlikeCell, Alike, rung_kept}
@@ -105,9 +105,6 @@ ends_step d now k h (Jump target) e x y = refl
 ends_step d now k h Return e x y = refl
 
 -- ---- one rung
-abbrev frame : {S : Type 0} → List S → List S → Frame S
-frame v x = record { values = v; ends = x }
-
 frames : {S : Type 0} (v w : List S) (x y : List S) → v ≡ w → x ≡ y → frame v x ≡ frame w y
 frames v w x y e f = cc
 

@@ -15,13 +15,13 @@ use Rattle.ladder_scan.specs.declared.block.Stored.{Stored}
 use Rattle.ladder_scan.specs.declared.block.Stored.TheVariants.{Timer, Counter, Bistable}
 use Rattle.ladder_scan.specs.Truth.{plain}
 use Rattle.ladder_scan.specs.Blocks.{step, new_block, tof_runs, tp_stays, tp_begins, counted_up, counted_down}
-use Rattle.ladder_grid.specs.Program.{block_in}
+use Rattle.ladder_grid.specs.Program.{Drawing, block_in}
 use Rattle.ladder_scan.specs.Cells.{Diagram, Frame, Kept, put_in, no_block, stored_of}
 use Rattle.ladder_scan.specs.Rung.{Held, second, stepped, changes, frame_of, link_at, evaluated}
 use Rattle.ladder_scan.specs.Scan.{next_rung}
 use Rattle.ladder_scan.specs.Programs.{IsSound}
 use Rattle.ladder_scan.specs.RungByRung.{Scanned, scanned}
-use Rattle.ladder_scan.specs.Standing.{IsPossible, ArePossible, AreSound, Shape, shape, shape_of}
+use Rattle.ladder_scan.specs.Standing.{fresh, kinds_of, IsPossible, ArePossible, AreSound, Shape, shape, shape_of}
 
 zero_fits : FitsSigned w16 (pos 0)
 zero_fits = grind (arith, ints, nat_tests)
@@ -40,9 +40,6 @@ new_possible [] i = (omega arith, λ e. refl)
 new_possible (x ∷ xs) zero = new_one x.kind
 new_possible (x ∷ xs) (suc i) = new_possible xs i
 
-pub fresh_possible : (instances : List Instance) (blocks : List Stored) → blocks ≡ map (λ i. new_block i.kind) instances → ArePossible 0 blocks
-fresh_possible instances blocks e = subst (λ (bs : List Stored). ArePossible 0 bs) (sym e) (new_possible instances)
-
 new_shape : (kind : BlockKind) → shape (new_block kind) ≡ shape_of kind
 new_shape Ton = refl
 new_shape Tof = refl
@@ -56,9 +53,13 @@ new_shapes : (instances : List Instance) → map shape (map (λ i. new_block i.k
 new_shapes [] = refl
 new_shapes (x ∷ xs) = ap₂ (λ (a : Shape) (l : List Shape). a ∷ l) (new_shape x.kind) (new_shapes xs)
 
-pub fresh_shapes : (xs ys all : List Instance) (blocks : List Stored) (kinds : List BlockKind) → xs ≡ all → ys ≡ all
-    → blocks ≡ map (λ i. new_block i.kind) ys → kinds ≡ map (λ i. i.kind) xs → map shape blocks ≡ map shape_of kinds
-fresh_shapes xs ys all blocks kinds e f b k = rw (b, k, f, e) (new_shapes all)
+pub fresh_sound : (p : Drawing) (h : Held) (kinds : List BlockKind) → h ≡ (fresh p).held → kinds ≡ kinds_of p → AreSound kinds h.kept.blocks 0
+fresh_sound p h kinds e k =
+    let b : h.kept.blocks ≡ map (λ i. new_block i.kind) p.decls.instances = ap (λ (x : Held). x.kept.blocks) e in
+    record {
+      shapes = rw (b, k) (new_shapes p.decls.instances);
+      possible = subst (λ (bs : List Stored). ArePossible 0 bs) (sym b) (new_possible p.decls.instances);
+    }
 
 below : (b : Bool) (x y now : ℕ) → x ≤ now → y ≤ now → cond b x y ≤ now
 below true x y now h k = h

@@ -1,12 +1,10 @@
 -- One rung more of a scan.
-use Rattle.std.proofs.Common.{◌≡◌, ℕ, ◌+◌, ◌<◌, ◌≤◌, Bool, true, false, cond, List, add-one, nat_lt, refl, ap, ◌∙◌, arith}
+use Rattle.std.proofs.Common.{◌≡◌, ℕ, ◌+◌, ◌<◌, ◌≤◌, true, false, cond, add-one, nat_lt, refl, ap, ◌∙◌, arith}
 use Rattle.std.proofs.lemmas.Bool.Decides.{nat_tests}
-use Rattle.ladder_scan.specs.declared.block.Stored.{Stored}
 use Rattle.ladder_scan.specs.Cells.{Diagram}
 use Rattle.ladder_scan.specs.Rung.{Held, evaluated}
 use Rattle.ladder_scan.specs.Scan.{next_rung}
 use Rattle.ladder_scan.specs.RungByRung.{scanned}
-use Rattle.ladder_scan.specs.Sweeping.{held}
 
 is_less : (a b : ℕ) → a < b → nat_lt a b ≡ true
 is_less a b h = grind (arith, nat_tests)
@@ -33,6 +31,3 @@ at_first d now h = refl
 pub resume_first : (d : Diagram) (now : ℕ) (h : Held) → (scanned d now h 0).resume ≡ 0
 unfolding scanned
 resume_first d now h = refl
-
-pub held_same : {v w m n : List Bool} {a b : List Stored} → v ≡ w → m ≡ n → a ≡ b → held v m a ≡ held w n b
-held_same e f g = cc

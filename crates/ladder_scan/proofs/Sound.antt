@@ -53,7 +53,7 @@ once p w = record {
 }
 
 -- ---- linked lower cells
-row_is : (e : ℕ) → nat_lt (e % 6) 5 ≡ true → e % 6 < 5
+row_is : (e : ℕ) → nat_lt (e % 6 + 1) 6 ≡ true → e % 6 + 1 < 6
 row_is e h = grind (arith, nat_tests)
 
 linked_filled : (c : Cell) → is_linked c ≡ true → is_filled c ≡ true
@@ -66,9 +66,9 @@ linked_filled (Lower inst linked) h = refl
 linked_filled (Jump target) h = refl
 linked_filled Return h = refl
 
-linked : (p : Drawing) (j e : ℕ) → (nat_lt (e % 6) 5 && is_linked (cell_at p j (e + 1))) ≡ true → (e % 6 < 5) × (is_filled (cell_at p j (e + 1)) ≡ true)
+linked : (p : Drawing) (j e : ℕ) → (nat_lt (e % 6 + 1) 6 && is_linked (cell_at p j (e + 1))) ≡ true → (e % 6 + 1 < 6) × (is_filled (cell_at p j (e + 1)) ≡ true)
 linked p j e h =
-    let w : (nat_lt (e % 6) 5 ≡ true) × (is_linked (cell_at p j (e + 1)) ≡ true) = both_true _ _ h in
+    let w : (nat_lt (e % 6 + 1) 6 ≡ true) × (is_linked (cell_at p j (e + 1)) ≡ true) = both_true _ _ h in
     (row_is e w.0, linked_filled (cell_at p j (e + 1)) w.1)
 
 -- ---- jumps

@@ -2,14 +2,14 @@
 use Rattle.std.proofs.Common.{◌≡◌, ℕ, Bool, true, false, List, [], ◌∷◌, map, get_or, zero, suc, arith, sym, ap, ◌∙◌, All, subst}
 use Rattle.ladder_vars.specs.Decls.{is_input}
 use Rattle.ladder_grid.specs.Program.{Drawing}
-use Rattle.ladder_scan.specs.declared.block.Stored.{Stored}
 use Rattle.ladder_scan.specs.Algebra.{Algebra, LatticeLaws}
 use Rattle.ladder_scan.specs.Blocks.{q_of}
-use Rattle.ladder_scan.specs.Cells.{Frame}
+use Rattle.ladder_scan.specs.Cells.{Diagram, Frame, frame}
 use Rattle.ladder_scan.specs.Scan.{given}
-use Rattle.ladder_scan.specs.SignalScan.{looked, after_look}
+use Rattle.ladder_scan.specs.SignalScan.{looked, look_frame, after_look}
 use Rattle.ladder_scan.specs.Programs.{diagram_of}
-use Rattle.ladder_scan.specs.Sweeping.{frame, kept, held, AreValues}
+use Rattle.ladder_scan.specs.Rung.{Held}
+use Rattle.ladder_scan.specs.Sweeping.{AreValues}
 use Rattle.ladder_scan.proofs.Scanned.{rungs_back, inputs_back}
 
 module _ {S : Type 0} (o : Algebra S) (V : S → Type 0) (l : LatticeLaws S V o) where
@@ -35,21 +35,23 @@ module _ {S : Type 0} (o : Algebra S) (V : S → Type 0) (l : LatticeLaws S V o)
   given_values (false ∷ flags) xs (v ∷ values) hx hv zero = hv 0
   given_values (false ∷ flags) xs (v ∷ values) hx hv (suc i) = given_values flags xs values hx (λ k. hv (suc k)) i
 
-  pub start_values : (flags : List Bool) (inputs : List S) → All V inputs → (stored : List Bool) (blocks : List Stored) (values ends : List S)
-      → values ≡ given flags inputs (map o.known stored) → ends ≡ map (λ b. o.known (q_of b)) blocks → AreValues o V (frame values ends)
-  start_values flags inputs h stored blocks values ends e f = record {
-    values = subst (λ (vs : List S). (i : ℕ) → V (get_or vs i (o.known false))) (sym e)
-        (given_values flags inputs (map o.known stored) (all_values inputs h) (known_values (λ v. v) stored));
-    ends = subst (λ (vs : List S). (i : ℕ) → V (get_or vs i (o.known false))) (sym f) (known_values q_of blocks);
-  }
+  pub begin_values : (d : Diagram) (inputs : List S) → All V inputs → (h : Held) (f : Frame S) → f ≡ look_frame o d inputs h → AreValues o V f
+  begin_values d inputs all h f e = subst (λ (g : Frame S). AreValues o V g) (sym e) (record {
+    values = given_values d.inputs inputs (map o.known h.values) (all_values inputs all) (known_values (λ v. v) h.values);
+    ends = known_values q_of h.kept.blocks;
+  })
 
-  pub by_rungs : (p : Drawing) (now : ℕ) (inputs : List S) (stored memories : List Bool) (blocks : List Stored) (values ends after after_ends : List S)
-      → values ≡ given (map is_input p.decls.vars) inputs (map o.known stored) → ends ≡ map (λ b. o.known (q_of b)) blocks
-      → frame after after_ends ≡ (looked o (diagram_of p) (kept memories blocks) now (frame values ends) p.rungs).frame
-      → after ≡ after_look o (diagram_of p) now inputs (held stored memories blocks)
-  by_rungs p now inputs stored memories blocks values ends after after_ends e f h =
-      ap (λ (x : Frame S). x.values) h
-      ∙ ap (λ n. (looked o (diagram_of p) (kept memories blocks) now (frame values ends) n).frame.values) (rungs_back p)
-      ∙ ap (λ xs. (looked o (diagram_of p) (kept memories blocks) now (frame xs ends) (diagram_of p).rungs).frame.values)
-      (e ∙ ap (λ fs. given fs inputs (map o.known stored)) (inputs_back p))
-      ∙ ap (λ xs. (looked o (diagram_of p) (kept memories blocks) now (frame (given (diagram_of p).inputs inputs (map o.known stored)) xs) (diagram_of p).rungs).frame.values) f
+pub by_looks : {S : Type 0} (o : Algebra S) (p : Drawing) (now : ℕ) (inputs : List S) (h : Held) (f next : Frame S) → f ≡ look_frame o (diagram_of p) inputs h
+    → next ≡ (looked o (diagram_of p) h.kept now f p.rungs).frame → next.values ≡ after_look o (diagram_of p) now inputs h
+by_looks o p now inputs h f next e n =
+    ap (λ (x : Frame _). x.values) n
+    ∙ ap (λ m. (looked o (diagram_of p) h.kept now f m).frame.values) (rungs_back p)
+    ∙ ap (λ (x : Frame _). (looked o (diagram_of p) h.kept now x (diagram_of p).rungs).frame.values) e
+
+pub begins : {S : Type 0} (o : Algebra S) (p : Drawing) (inputs : List S) (h : Held) (known begun : Frame S)
+    → known ≡ frame (map o.known h.values) (map (λ b. o.known (q_of b)) h.kept.blocks)
+    → begun ≡ frame (given (map is_input p.decls.vars) inputs known.values) known.ends → begun ≡ look_frame o (diagram_of p) inputs h
+begins o p inputs h known begun k e =
+    e
+    ∙ ap (λ (f : Frame _). frame (given (map is_input p.decls.vars) inputs f.values) f.ends) k
+    ∙ ap (λ fs. frame (given fs inputs (map o.known h.values)) (map (λ b. o.known (q_of b)) h.kept.blocks)) (inputs_back p)

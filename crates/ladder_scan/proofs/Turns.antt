@@ -5,10 +5,9 @@ use Rattle.std.proofs.lemmas.List.{drop_more, drop_all}
 use Rattle.ladder_grid.specs.declared.program.Step.{Step}
 use Rattle.ladder_scan.specs.Algebra.{Algebra}
 use Rattle.ladder_scan.specs.Truth.{plain}
-use Rattle.ladder_scan.specs.declared.block.Stored.{Stored}
 use Rattle.ladder_scan.specs.Cells.{Diagram, Frame, Kept}
 use Rattle.ladder_scan.specs.Rung.{Held, written, changed, second}
-use Rattle.ladder_scan.specs.Sweeping.{in_mask, join_where, swept, reached, place_of, frame, held, effects_of, changes_of}
+use Rattle.ladder_scan.specs.Sweeping.{in_mask, join_where, swept, reached, place_of, effects_of, changes_of}
 
 pub join_where-zero : {S : Type 0} (o : Algebra S) (p : ℕ → Bool) (f : ℕ → S) → join_where o p f 0 ≡ o.known false
 unfolding join_where
@@ -55,14 +54,14 @@ sweep_end o d k now j f links ss i h = ap (λ xs. swept o d k now j f xs links) 
 
 pub ruleset sweep_step = (sweep_more, sweep_end)
 
-pub effects_more : {S : Type 0} (o : Algebra S) (d : Diagram) (k : Kept) (now j : ℕ) (guard : S) (links : ℕ → S) (v e v2 e2 : List S) (ss : List Step) (i : ℕ) (s : Step)
+pub effects_more : {S : Type 0} (o : Algebra S) (d : Diagram) (k : Kept) (now j : ℕ) (guard : S) (links : ℕ → S) (f next : Frame S) (ss : List Step) (i : ℕ) (s : Step)
     → i < length ss
-    → frame v2 e2 ≡ written o d k now guard (get_or ss i s).cell (links (place_of (get_or ss i s))) (second o d j links (place_of (get_or ss i s))) (frame v e)
-    → effects_of o d k now j guard links (drop (i + 1) ss) (frame v2 e2) ≡ effects_of o d k now j guard links (drop i ss) (frame v e)
+    → next ≡ written o d k now guard (get_or ss i s).cell (links (place_of (get_or ss i s))) (second o d j links (place_of (get_or ss i s))) f
+    → effects_of o d k now j guard links (drop (i + 1) ss) next ≡ effects_of o d k now j guard links (drop i ss) f
 unfolding effects_of
-effects_more o d k now j guard links v e v2 e2 ss i s lt h =
+effects_more o d k now j guard links f next ss i s lt h =
     ap (effects_of o d k now j guard links (drop (i + 1) ss)) h
-    ∙ sym (ap (λ xs. effects_of o d k now j guard links xs (frame v e)) (drop_more ss i s lt))
+    ∙ sym (ap (λ xs. effects_of o d k now j guard links xs f) (drop_more ss i s lt))
 
 pub effects_end : {S : Type 0} (o : Algebra S) (d : Diagram) (k : Kept) (now j : ℕ) (guard : S) (links : ℕ → S) (f : Frame S) (ss : List Step) (i : ℕ)
     → length ss ≤ i → effects_of o d k now j guard links (drop i ss) f ≡ f
@@ -71,14 +70,14 @@ effects_end o d k now j guard links f ss i le = ap (λ xs. effects_of o d k now 
 
 pub ruleset effects_step = (effects_more, effects_end)
 
-pub changes_more : (d : Diagram) (now j : ℕ) (start : Frame Bool) (links : ℕ → Bool) (v m v2 m2 : List Bool) (b b2 : List Stored) (ss : List Step) (i : ℕ) (s : Step)
+pub changes_more : (d : Diagram) (now j : ℕ) (start : Frame Bool) (links : ℕ → Bool) (h next : Held) (ss : List Step) (i : ℕ) (s : Step)
     → i < length ss
-    → held v2 m2 b2 ≡ changed d now start (get_or ss i s).cell (links (place_of (get_or ss i s))) (second plain d j links (place_of (get_or ss i s))) (held v m b)
-    → changes_of d now j start links (drop (i + 1) ss) (held v2 m2 b2) ≡ changes_of d now j start links (drop i ss) (held v m b)
+    → next ≡ changed d now start (get_or ss i s).cell (links (place_of (get_or ss i s))) (second plain d j links (place_of (get_or ss i s))) h
+    → changes_of d now j start links (drop (i + 1) ss) next ≡ changes_of d now j start links (drop i ss) h
 unfolding changes_of
-changes_more d now j start links v m v2 m2 b b2 ss i s lt h =
-    ap (changes_of d now j start links (drop (i + 1) ss)) h
-    ∙ sym (ap (λ xs. changes_of d now j start links xs (held v m b)) (drop_more ss i s lt))
+changes_more d now j start links h next ss i s lt e =
+    ap (changes_of d now j start links (drop (i + 1) ss)) e
+    ∙ sym (ap (λ xs. changes_of d now j start links xs h) (drop_more ss i s lt))
 
 pub changes_end : (d : Diagram) (now j : ℕ) (start : Frame Bool) (links : ℕ → Bool) (h : Held) (ss : List Step) (i : ℕ)
     → length ss ≤ i → changes_of d now j start links (drop i ss) h ≡ h

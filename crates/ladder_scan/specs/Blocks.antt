@@ -62,10 +62,20 @@ abbrev pub counted_up : Bool → ℤ → Bool → Bool → ℤ
 counted_up last cv on reset =
     if reset then pos 0 else (if on && (not last && int_lt cv (pos 32767)) then cv +ℤ pos 1 else cv)
 
+abbrev pub ctu_step : ℕ → Bool → ℤ → Bool → Bool → Stored
+ctu_step preset last cv on reset =
+    let value = counted_up last cv on reset in
+    Counter on value (int_le (pos preset) value)
+
 -- CTD. LD ON: CV is PV; otherwise a rise of the count input takes 1 away above -32768. Q is CV <= 0.
 abbrev pub counted_down : ℕ → Bool → ℤ → Bool → Bool → ℤ
 counted_down preset last cv on load =
     if load then pos preset else (if on && (not last && int_lt (negsuc 32767) cv) then cv -ℤ pos 1 else cv)
+
+abbrev pub ctd_step : ℕ → Bool → ℤ → Bool → Bool → Stored
+ctd_step preset last cv on load =
+    let value = counted_down preset last cv on load in
+    Counter on value (int_le value (pos 0))
 
 -- SR, the bistable with dominant set: Q1 := S1 OR (NOT R AND Q1).
 abbrev pub sr_q : Bool → Bool → Bool → Bool
@@ -76,19 +86,15 @@ abbrev pub rs_q : Bool → Bool → Bool → Bool
 rs_q q set reset = not reset && (set || q)
 
 -- The step of a block: its kind and preset, what it stored, its two inputs and the moment. The first input is IN, CU, CD, S1 or S,
--- the second R, LD or R1. A timer has no second input. What isn't of the kind stays as it was; a state holds no such block.
+-- the second R, LD or R1. A timer has no second input. A block that is not of the kind is left unchanged; no state holds one.
 unfoldable pub step : BlockKind → ℕ → Stored → Bool → Bool → ℕ → Stored
 step Ton preset (Timer last running start q) on second now = ton_step preset running start on now
 step Tof preset (Timer last running start q) on second now = tof_step preset last running start on now
 step Tp preset (Timer last running start q) on second now = tp_step preset last running start on now
 step Ctu preset (Timer last running start q) on second now = Timer last running start q
 step Ctd preset (Timer last running start q) on second now = Timer last running start q
-step Ctu preset (Counter last cv q) on second now =
-    let value = counted_up last cv on second in
-    Counter on value (int_le (pos preset) value)
-step Ctd preset (Counter last cv q) on second now =
-    let value = counted_down preset last cv on second in
-    Counter on value (int_le value (pos 0))
+step Ctu preset (Counter last cv q) on second now = ctu_step preset last cv on second
+step Ctd preset (Counter last cv q) on second now = ctd_step preset last cv on second
 step Sr preset (Timer last running start q) on second now = Timer last running start q
 step Rs preset (Timer last running start q) on second now = Timer last running start q
 step Ton preset (Counter last cv q) on second now = Counter last cv q

@@ -1,7 +1,8 @@
 -- What each cell of a rung reads and writes, over any signal.
-use Rattle.std.specs.Prelude.{ℕ, Bool, true, false, if◌then◌else◌, List, Option, Some, None}
+use Rattle.std.specs.Prelude.{ℕ, ◌+◌, ◌*◌, Bool, true, false, if◌then◌else◌, List, Option, Some, None}
 use Rattle.std.proofs.Common.{get_or, set}
 use Rattle.ladder_vars.specs.declared.kind.BlockKind.{BlockKind}
+use Rattle.ladder_grid.specs.declared.geometry.TheConstants.{ROWS}
 use Rattle.ladder_grid.specs.declared.cell.Mode.{Mode}
 use Rattle.ladder_grid.specs.declared.cell.Mode.TheVariants.{Plain, Negated, Rising, Falling}
 use Rattle.ladder_grid.specs.declared.cell.CoilMode.{CoilMode}
@@ -16,7 +17,11 @@ use Rattle.ladder_scan.specs.declared.block.Stored.TheVariants.{Timer}
 use Rattle.ladder_scan.specs.Algebra.{Algebra}
 use Rattle.ladder_scan.specs.Blocks.{step, q_of, has_second}
 
--- A program as the scan sees it. A cell goes by its rung and its place in it, 6 * column + row; past the last place it is Empty.
+-- The place of a cell in its rung. Rows and columns are counted from 0.
+abbrev pub place_at : ℕ → ℕ → ℕ
+place_at row column = ROWS * column + row
+
+-- A program as the scan sees it. A cell goes by its rung and its place in it; past the last place it is Empty.
 pub record Diagram : Type 0 where
   pub rungs : ℕ
   pub cell : ℕ → ℕ → Cell
@@ -38,12 +43,18 @@ pub record Frame (S : Type 0) : Type 0 where
   pub values : List S
   pub ends : List S
 
+abbrev pub frame : {S : Type 0} → List S → List S → Frame S
+frame values ends = record { values = values; ends = ends }
+
 -- What is kept beside the values: the memories of edge contacts and edge coils, and what each instance stores.
 pub record Kept : Type 0 where
   pub memories : List Bool
   pub blocks : List Stored
 
--- What stands in a list at a number that may be missing, and the list with that entry replaced.
+abbrev pub kept : List Bool → List Stored → Kept
+kept memories blocks = record { memories = memories; blocks = blocks }
+
+-- The entry of a list at an optional number, and the list with that entry replaced.
 abbrev pub at : {A : Type 0} → List A → Option ℕ → A → A
 at xs None otherwise = otherwise
 at xs (Some i) otherwise = get_or xs i otherwise
@@ -73,7 +84,7 @@ is_block (Lower inst linked) = false
 is_block (Jump target) = false
 is_block Return = false
 
--- What is read where there is no such instance.
+-- What is read past the last instance.
 abbrev pub no_block : Stored
 no_block = Timer false false 0 false
 
@@ -128,7 +139,7 @@ q_here o d k now (Lower inst linked) x y = o.known false
 q_here o d k now (Jump target) x y = o.known false
 q_here o d k now Return x y = o.known false
 
--- What a coil writes, by its left link, its memory m, which is the link that it had, and what stands in its variable:
+-- What a coil writes, by its left link, its memory m, which is the link that it had, and the old value of its variable:
 -- `( )` the link, `(/)` its inverse, `(S)` ON and `(R)` OFF where the link is ON, `(P)` whether the link has become ON, `(N)` whether OFF.
 abbrev pub stored_by : {S : Type 0} → Algebra S → CoilMode → S → S → S → S
 stored_by o coil.Store link m old = link

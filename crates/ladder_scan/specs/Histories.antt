@@ -1,4 +1,4 @@
--- What a block answers after any list of steps, said without a stored block. The latest step is the head of the list.
+-- The output of a block after any list of steps, stated without a stored block. The latest step is the head of the list.
 use Rattle.std.specs.Prelude.{◌≡◌, ℕ, ◌+◌, ◌-◌, ◌≤◌, min, Bool, true, false, not, if◌then◌else◌, ◌&&◌, ◌||◌, ◌↔◌, All, IsTrue, ◌++◌, nat_lt, nat_le, List, [], ◌∷◌, ℤ, pos, negsuc, ◌-ℤ◌}
 use Rattle.std.specs.Int.{int_max}
 use Rattle.ladder_vars.specs.declared.kind.BlockKind.{BlockKind}

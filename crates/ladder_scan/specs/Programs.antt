@@ -1,18 +1,19 @@
 -- A program as the scan sees it, and what reading it has made sure of.
-use Rattle.std.specs.Prelude.{◌≡◌, ℕ, ◌+◌, ◌*◌, ◌%◌, ◌<◌, ◌≤◌, Bool, true, false, not, if◌then◌else◌, ◌&&◌, map, nat_lt, Option, Some, None, slice_get}
+use Rattle.std.specs.Prelude.{◌≡◌, ℕ, ◌+◌, ◌%◌, ◌<◌, ◌≤◌, Bool, true, false, not, if◌then◌else◌, ◌&&◌, map, nat_lt, Option, Some, None, slice_get}
 use Rattle.ladder_vars.specs.declared.kind.BlockKind.{BlockKind}
 use Rattle.ladder_vars.specs.declared.kind.BlockKind.TheVariants.{Ton}
 use Rattle.ladder_vars.specs.declared.decls.Instance.{Instance}
 use Rattle.ladder_vars.specs.Decls.{is_input}
 use Rattle.ladder_vars.specs.Kind.{largest_preset}
+use Rattle.ladder_grid.specs.declared.geometry.TheConstants.{ROWS, PLACES}
 use Rattle.ladder_grid.specs.declared.cell.Cell.{Cell}
 use Rattle.ladder_grid.specs.declared.cell.Cell.TheVariants.{Empty, Wire, Contact, Coil, Block, Lower, Jump, Return}
 use Rattle.ladder_grid.specs.Program.{Drawing, cell_of, is_empty, feeds, jump_of}
-use Rattle.ladder_scan.specs.Cells.{Diagram}
+use Rattle.ladder_scan.specs.Cells.{Diagram, place_at}
 use Rattle.ladder_scan.specs.Laws.{Once, Forward}
 
 abbrev pub cell_at : Drawing → ℕ → ℕ → Cell
-cell_at p rung place = if nat_lt place 60 then cell_of p rung place else Empty
+cell_at p rung place = if nat_lt place PLACES then cell_of p rung place else Empty
 
 abbrev pub is_linked : Cell → Bool
 is_linked Empty = false
@@ -24,7 +25,7 @@ is_linked (Lower inst linked) = linked
 is_linked (Jump target) = false
 is_linked Return = false
 
--- Of an instance that isn't there, which no cell names.
+-- The kind and the preset of an instance; past the last one, which no cell names, TON and 0.
 abbrev pub kind_in : Option Instance → BlockKind
 kind_in None = Ton
 kind_in (Some i) = i.kind
@@ -36,7 +37,7 @@ preset_in (Some i) = i.preset
 -- The place of a rung's jump or return, and the rung that it goes to, past the last one by a return; 0 where there is none.
 abbrev pub leap_in : Option (ℕ × ℕ × ℕ) → ℕ
 leap_in None = 0
-leap_in (Some jump) = 6 * jump.1 + jump.0
+leap_in (Some jump) = place_at jump.0 jump.1
 
 abbrev pub target_in : Option (ℕ × ℕ × ℕ) → ℕ
 target_in None = 0
@@ -47,7 +48,7 @@ diagram_of p = record {
   rungs = p.rungs;
   cell = cell_at p;
   feeds = λ rung column row from. feeds p rung row (column + 1) from;
-  linked = λ rung place. nat_lt (place % 6) 5 && is_linked (cell_at p rung (place + 1));
+  linked = λ rung place. nat_lt (place % ROWS + 1) ROWS && is_linked (cell_at p rung (place + 1));
   kind = λ i. kind_in (slice_get p.decls.instances i);
   preset = λ i. preset_in (slice_get p.decls.instances i);
   leap = λ rung. leap_in (jump_of p rung);
@@ -58,11 +59,11 @@ diagram_of p = record {
 abbrev pub is_filled : Cell → Bool
 is_filled c = not (is_empty c)
 
--- Presets are in range, and each memory and instance belongs to one cell; a linked lower cell stands in the column of its block; a jump
--- or return stands in its rung and goes to a later one, or past the last.
+-- Presets are in range, and each memory and instance belongs to one cell; a linked lower cell is in the column of its block; a jump
+-- or return is in its rung and goes to a later one, or past the last.
 pub record IsSound (d : Diagram) : Type 0 where
   pub presets : (i : ℕ) → d.preset i ≤ largest_preset (d.kind i)
   pub once : Once d
-  pub linked : (j place : ℕ) → d.linked j place ≡ true → (place % 6 < 5) × (is_filled (d.cell j (place + 1)) ≡ true)
+  pub linked : (j place : ℕ) → d.linked j place ≡ true → (place % ROWS + 1 < ROWS) × (is_filled (d.cell j (place + 1)) ≡ true)
   pub forward : Forward d
-  pub leaps : (j : ℕ) → 0 < d.target j → (d.leap j < 60) × (is_filled (d.cell j (d.leap j)) ≡ true)
+  pub leaps : (j : ℕ) → 0 < d.target j → (d.leap j < PLACES) × (is_filled (d.cell j (d.leap j)) ≡ true)

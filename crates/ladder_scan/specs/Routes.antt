@@ -1,6 +1,7 @@
 -- Power flow through one rung (IEC 61131-3): power flows from the left rail to the right, along routes. Rows and columns count from 0.
 use Rattle.std.specs.Prelude.{ℕ, ◌+◌, Bool, true, false, List, [], ◌∷◌, ◌++◌, map, if◌then◌else◌, ◌==◌}
 use Rattle.std.proofs.Common.{zero, suc}
+use Rattle.ladder_grid.specs.declared.geometry.TheConstants.{ROWS}
 use Rattle.ladder_scan.specs.Algebra.{Algebra}
 
 -- A route: it starts at the left rail, or at the right end of the block at a row and column, and goes on through one cell a column.
@@ -10,7 +11,7 @@ pub data Route : Type 0 where
   through : Route → ℕ → ℕ → Route
 
 -- What a rung is to the power. `feeds column row from`: the right link of the cell at (from, column) meets the joint group on the left
--- of the cell at (row, column + 1). `is_block row column`: a block stands there. `closed row column`: how far that cell lets power
+-- of the cell at (row, column + 1). `is_block row column`: whether a block is there. `closed row column`: how far that cell lets power
 -- through. `q row column left lower`: the Q of the block there, from its left link and that of the cell below it.
 pub record Circuit (S : Type 0) : Type 0 where
   pub feeds : ℕ → ℕ → ℕ → Bool
@@ -23,7 +24,7 @@ unfoldable pub gather : {A : Type 0} → (ℕ → List A) → ℕ → List A
 gather f zero = []
 gather f (suc n) = gather f n ++ f n
 
--- The routes up to the right link of a cell: the end of the block, where one stands there, and otherwise each route to its left link
+-- The routes up to the right link of a cell: the end of the block, where one is there, and otherwise each route to its left link
 -- with the cell added.
 abbrev pub onto : (ℕ → ℕ → Bool) → ℕ → ℕ → List Route → List Route
 onto is_block row column before =
@@ -34,7 +35,7 @@ onto is_block row column before =
 unfoldable pub routes : (ℕ → ℕ → ℕ → Bool) → (ℕ → ℕ → Bool) → ℕ → ℕ → List Route
 routes feeds is_block zero row = rail ∷ []
 routes feeds is_block (suc column) row =
-    gather (λ from. if feeds column row from then onto is_block from column (routes feeds is_block column from) else []) 6
+    gather (λ from. if feeds column row from then onto is_block from column (routes feeds is_block column from) else []) ROWS
 
 -- The OR of a list.
 unfoldable pub join_all : {S : Type 0} → Algebra S → List S → S

@@ -1,7 +1,8 @@
 -- The evaluation of one rung: its power flow, from the values at its start, and then its effects by column, then row, each seeing what
 -- the ones before it left. First over any signal, under a guard, and then over truth values, where memories and blocks change too.
-use Rattle.std.specs.Prelude.{ℕ, ◌+◌, ◌*◌, ◌/◌, ◌%◌, Bool, false, if◌then◌else◌, List, map}
+use Rattle.std.specs.Prelude.{◌≡◌, ℕ, ◌+◌, ◌/◌, ◌%◌, Bool, false, if◌then◌else◌, List, length, map}
 use Rattle.std.proofs.Common.{zero, suc}
+use Rattle.ladder_grid.specs.declared.geometry.TheConstants.{ROWS, PLACES}
 use Rattle.ladder_grid.specs.declared.cell.Cell.{Cell}
 use Rattle.ladder_grid.specs.declared.cell.Cell.TheVariants.{Empty, Wire, Contact, Coil, Block, Lower, Jump, Return}
 use Rattle.ladder_scan.specs.declared.block.Stored.{Stored}
@@ -10,7 +11,7 @@ use Rattle.ladder_scan.specs.Truth.{plain}
 use Rattle.ladder_scan.specs.Routes.{Circuit, left_link}
 use Rattle.ladder_scan.specs.Blocks.{step, q_of}
 use Rattle.ladder_grid.specs.Program.{memory_in, block_in}
-use Rattle.ladder_scan.specs.Cells.{Diagram, Frame, Kept, at, put_in, var_in, is_block, memory_of, stored_of, operand_value, closed, q_here, coil_value}
+use Rattle.ladder_scan.specs.Cells.{place_at, Diagram, Frame, frame, Kept, kept, at, put_in, var_in, is_block, memory_of, stored_of, operand_value, closed, q_here, coil_value}
 
 -- A lower cell without a link has OFF.
 abbrev pub lower : {S : Type 0} → Algebra S → Bool → S → S
@@ -19,17 +20,17 @@ lower o linked link = if linked then link else o.known false
 -- A rung as the power sees it, from the values, memories and blocks at its start.
 abbrev pub circuit : {S : Type 0} → Algebra S → Diagram → Kept → ℕ → ℕ → Frame S → Circuit S
 circuit o d k now j f =
-    let cell = λ (row column : ℕ). d.cell j (6 * column + row) in
+    let cell = λ (row column : ℕ). d.cell j (place_at row column) in
     record {
       feeds = d.feeds j;
       is_block = λ row column. is_block (cell row column);
       closed = λ row column. closed o f (o.known (memory_of k (cell row column))) (cell row column);
-      q = λ row column x y. q_here o d k now (cell row column) x (lower o (d.linked j (6 * column + row)) y);
+      q = λ row column x y. q_here o d k now (cell row column) x (lower o (d.linked j (place_at row column)) y);
     }
 
 -- The left link of the cell at a place of rung j.
 abbrev pub link : {S : Type 0} → Algebra S → Diagram → Kept → ℕ → ℕ → Frame S → ℕ → S
-link o d k now j f place = left_link o (circuit o d k now j f) (place / 6) (place % 6)
+link o d k now j f place = left_link o (circuit o d k now j f) (place / ROWS) (place % ROWS)
 
 -- The second input of the block at a place, where these are the left links of the rung.
 abbrev pub second : {S : Type 0} → Algebra S → Diagram → ℕ → (ℕ → S) → ℕ → S
@@ -38,7 +39,7 @@ second o d j links place = lower o (d.linked j place) (links (place + 1))
 -- ---- over any signal
 
 -- What a cell with left link x and second input y leaves: each single write is the choice, by the rung's guard, between the new value
--- and what stands there. Memories and blocks are those of the stored state, since no element is evaluated twice in a scan.
+-- and the old one. Memories and blocks are those of the stored state, since no element is evaluated twice in a scan.
 abbrev pub written : {S : Type 0} → Algebra S → Diagram → Kept → ℕ → S → Cell → S → S → Frame S → Frame S
 written o d k now guard c x y f =
     let value = at f.values (var_in c) (o.known false) in
@@ -55,7 +56,7 @@ effects o d k now j guard links (suc n) f =
     written o d k now guard (d.cell j n) (links n) (second o d j links n) (effects o d k now j guard links n f)
 
 abbrev pub after_rung : {S : Type 0} → Algebra S → Diagram → Kept → ℕ → ℕ → S → Frame S → Frame S
-after_rung o d k now j guard f = effects o d k now j guard (link o d k now j f) 60 f
+after_rung o d k now j guard f = effects o d k now j guard (link o d k now j f) PLACES f
 
 -- ---- over truth values
 
@@ -64,8 +65,23 @@ pub record Held : Type 0 where
   pub values : List Bool
   pub kept : Kept
 
+abbrev pub held : List Bool → List Bool → List Stored → Held
+held values memories blocks = record { values = values; kept = kept memories blocks }
+
+-- What contacts see from the start of a rung on.
 abbrev pub frame_of : Held → Frame Bool
-frame_of h = record { values = h.values; ends = map q_of h.kept.blocks }
+frame_of h = frame h.values (map q_of h.kept.blocks)
+
+-- As many values and Qs as variables and instances.
+pub record SameSizes {S : Type 0} (f : Frame S) (h : Held) : Type 0 where
+  pub values : length f.values ≡ length h.values
+  pub ends : length f.ends ≡ length h.kept.blocks
+
+-- As many variables, memories and instances.
+pub record SameLengths (g h : Held) : Type 0 where
+  pub values : length g.values ≡ length h.values
+  pub memories : length g.kept.memories ≡ length h.kept.memories
+  pub blocks : length g.kept.blocks ≡ length h.kept.blocks
 
 -- What the memory of a cell becomes: of a contact, its operand's value at the rung's start, whatever its left link; of a coil, its link.
 abbrev pub remembered : Frame Bool → Bool → Cell → Bool
@@ -111,4 +127,4 @@ link_at d now j h = link plain d h.kept now j (frame_of h)
 
 -- Rung j evaluated.
 abbrev pub evaluated : Diagram → ℕ → ℕ → Held → Held
-evaluated d now j h = changes d now j (frame_of h) (link_at d now j h) 60 h
+evaluated d now j h = changes d now j (frame_of h) (link_at d now j h) PLACES h

@@ -1,4 +1,4 @@
--- Private: the scan as the code goes, through all rungs, where `resume` is the first rung that isn't passed over.
+-- Private: the scan as the code does it, through all rungs, where `resume` is the next rung to be evaluated.
 use Rattle.std.specs.Prelude.{ℕ, if◌then◌else◌, nat_lt}
 use Rattle.std.proofs.Common.{zero, suc}
 use Rattle.ladder_scan.specs.Cells.{Diagram}

@@ -1,13 +1,12 @@
--- Private: the sweep and the effects as the code goes, over the cells of a rung that aren't empty, by column, then row.
-use Rattle.std.specs.Prelude.{◌≡◌, ℕ, ◌+◌, ◌-◌, ◌*◌, ◌/◌, ◌%◌, ◌^◌, ◌<◌, Bool, true, false, if◌then◌else◌, List, [], ◌∷◌, ◌==◌}
+-- Private: the sweep and the effects as the code does them, over the cells of a rung that are not empty, by column, then row.
+use Rattle.std.specs.Prelude.{◌≡◌, ℕ, ◌+◌, ◌-◌, ◌/◌, ◌%◌, ◌^◌, ◌<◌, Bool, true, false, if◌then◌else◌, List, [], ◌∷◌, ◌==◌}
 use Rattle.std.proofs.Common.{get_or, set, zero, suc}
+use Rattle.ladder_grid.specs.declared.geometry.TheConstants.{ROWS, COLUMNS, PLACES}
 use Rattle.ladder_grid.specs.declared.program.Step.{Step}
-use Rattle.ladder_scan.specs.declared.block.Stored.{Stored}
-use Rattle.ladder_scan.specs.declared.sweep.Scene.{Scene}
 use Rattle.ladder_scan.specs.Algebra.{Algebra}
 use Rattle.ladder_scan.specs.Truth.{plain}
 use Rattle.ladder_scan.specs.Routes.{gather}
-use Rattle.ladder_scan.specs.Cells.{Diagram, Frame, Kept, is_block, memory_of, closed, q_here, q_from, no_block}
+use Rattle.ladder_scan.specs.Cells.{place_at, Diagram, Frame, Kept, is_block, memory_of, closed, q_here, q_from, no_block}
 use Rattle.ladder_scan.specs.Rung.{second, written, changed, Held, link}
 use Rattle.ladder_scan.specs.Programs.{is_filled}
 
@@ -16,23 +15,11 @@ unfoldable pub join_where : {S : Type 0} → Algebra S → (ℕ → Bool) → (�
 join_where o passes f zero = o.known false
 join_where o passes f (suc n) = if passes n then o.join (join_where o passes f n) (f n) else join_where o passes f n
 
-abbrev pub frame : {S : Type 0} → List S → List S → Frame S
-frame values ends = record { values = values; ends = ends }
-
-abbrev pub kept : List Bool → List Stored → Kept
-kept memories blocks = record { memories = memories; blocks = blocks }
-
-abbrev pub held : List Bool → List Bool → List Stored → Held
-held values memories blocks = record { values = values; kept = kept memories blocks }
-
-abbrev pub kept_of : Scene → Kept
-kept_of s = kept s.memories.now s.blocks.now
-
 -- The signal at a number of a list, OFF past its end.
 abbrev pub among : {S : Type 0} → Algebra S → List S → ℕ → S
 among o xs i = get_or xs i (o.known false)
 
--- The Q of an instance whose block stands at a place, by the left links.
+-- The Q of an instance whose block is at a place, by the left links.
 abbrev pub block_q : {S : Type 0} → Algebra S → Diagram → Kept → ℕ → ℕ → ℕ → (ℕ → S) → ℕ → S
 block_q o d k now j inst links place =
     q_from o (d.kind inst) (d.preset inst) (get_or k.blocks inst no_block) now (links place) (second o d j links place)
@@ -41,8 +28,12 @@ block_q o d k now j inst links place =
 abbrev pub in_mask : ℕ → ℕ → Bool
 in_mask mask from = mask / 2 ^ from % 2 == 1
 
+-- The row and the column of a step are those of a rung.
+abbrev pub IsPlaced : Step → Type 0
+IsPlaced s = (s.row < ROWS) × (s.column < COLUMNS)
+
 abbrev pub place_of : Step → ℕ
-place_of s = 6 * s.column + s.row
+place_of s = place_at s.row s.column
 
 -- The right link of the cell at a place, by the left links.
 abbrev pub right_at : {S : Type 0} → Algebra S → Diagram → Kept → ℕ → ℕ → Frame S → (ℕ → S) → ℕ → S
@@ -56,7 +47,7 @@ right_at o d k now j f links place =
 abbrev pub reached : {S : Type 0} → Algebra S → Diagram → Kept → ℕ → ℕ → Frame S → List S → Step → S
 reached o d k now j f links s =
     if s.column == 0 then o.known true
-    else join_where o (in_mask s.feeds) (λ from. right_at o d k now j f (among o links) (6 * (s.column - 1) + from)) 6
+    else join_where o (in_mask s.feeds) (λ from. right_at o d k now j f (among o links) (place_at from (s.column - 1))) ROWS
 
 -- The left links after the sweep over these steps.
 unfoldable pub swept : {S : Type 0} → Algebra S → Diagram → Kept → ℕ → ℕ → Frame S → List Step → List S → List S
@@ -76,22 +67,22 @@ changes_of d now j start links (s ∷ ss) h =
 
 -- The steps of the cells at the places below n, where `masks place` has the rows that feed the cell there.
 abbrev pub step_for : Diagram → ℕ → (ℕ → ℕ) → ℕ → Step
-step_for d j masks place = record { row = place % 6; column = place / 6; cell = d.cell j place; feeds = masks place }
+step_for d j masks place = record { row = place % ROWS; column = place / ROWS; cell = d.cell j place; feeds = masks place }
 
 abbrev pub steps_below : Diagram → ℕ → (ℕ → ℕ) → ℕ → List Step
 steps_below d j masks n = gather (λ place. if is_filled (d.cell j place) then step_for d j masks place ∷ [] else []) n
 
 -- The masks of a rung have the rows that feed each cell, from the second column on.
 abbrev pub AreMasks : Diagram → ℕ → (ℕ → ℕ) → Type 0
-AreMasks d j masks = (column row from : ℕ) → column < 9 → row < 6 → from < 6
-    → in_mask (masks (6 * (column + 1) + row)) from ≡ d.feeds j column row from
+AreMasks d j masks = (column row from : ℕ) → column + 1 < COLUMNS → row < ROWS → from < ROWS
+    → in_mask (masks (place_at row (column + 1))) from ≡ d.feeds j column row from
 
 -- All values and all Qs are values of the signal.
 pub record AreValues {S : Type 0} (o : Algebra S) (V : S → Type 0) (f : Frame S) : Type 0 where
   pub values : (i : ℕ) → V (get_or f.values i (o.known false))
   pub ends : (i : ℕ) → V (get_or f.ends i (o.known false))
 
--- These are the left links of the cells that aren't empty.
+-- These are the left links of the cells that are not empty.
 abbrev pub AreLinks : {S : Type 0} → Algebra S → Diagram → Kept → ℕ → ℕ → Frame S → List S → Type 0
-AreLinks o d k now j f links = (place : ℕ) → place < 60 → is_filled (d.cell j place) ≡ true
+AreLinks o d k now j f links = (place : ℕ) → place < PLACES → is_filled (d.cell j place) ≡ true
     → get_or links place (o.known false) ≡ link o d k now j f place

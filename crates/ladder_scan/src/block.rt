@@ -1,26 +1,28 @@
+//! The steps of the standard function blocks.
+
 ghost use Rattle.std.specs.Prelude.{◌≡◌, ◌≤◌};
 ghost use Rattle.ladder_vars.specs.Kind.{largest_preset};
-ghost use Rattle.ladder_scan.specs.Blocks.{step, q_of, new_block, ton_step, tof_step, tp_step, counted_up, counted_down, has_second};
+ghost use Rattle.ladder_scan.specs.Blocks.{step, q_of, new_block, ton_step, tof_step, tp_step, counted_up, counted_down, ctu_step, ctd_step, has_second};
 
-use ladder_vars::BlockKind;
+use ladder_vars::BlockKind::{self, Ctd, Ctu, Rs, Sr, Tof, Ton, Tp};
 
-/// What an instance keeps from step to step.
+/// What an instance stores from step to step.
 #[derive(Clone, Copy, Debug, PartialEq, Eq)]
 pub enum Stored {
-    /// The last IN, whether it runs, the moment at which it began to (0 where it does not run), and Q.
+    /// A timer: the last IN, whether it runs, the moment at which it began to (0 where it does not run), and Q.
     Timer {
         last: bool,
         running: bool,
         start: u64,
         q: bool,
     },
-    /// The last count input, the counted value, and Q.
+    /// A counter: the last count input, the counted value, and Q.
     Counter {
         last: bool,
         cv: i16,
         q: bool,
     },
-    /// Q1.
+    /// A bistable: Q1.
     Bistable {
         q: bool,
     },
@@ -143,6 +145,29 @@ fn counted_down(preset: u16, last: bool, cv: i16, on: bool, load: bool) -> i16
     }
 }
 
+fn ctu(preset: u32, last: bool, cv: i16, on: bool, reset: bool) -> Stored
+    ensures { result ≡ ctu_step preset last cv on reset }
+{
+    let cv = counted_up(last, cv, on, reset);
+    Stored::Counter {
+        last: on,
+        cv,
+        q: i64::from(preset) <= i64::from(cv),
+    }
+}
+
+fn ctd(preset: u32, last: bool, cv: i16, on: bool, load: bool) -> Stored
+    requires { preset ≤ 32767 }
+    ensures { result ≡ ctd_step preset last cv on load }
+{
+    let cv = counted_down(preset as u16, last, cv, on, load);
+    Stored::Counter {
+        last: on,
+        cv,
+        q: cv <= 0,
+    }
+}
+
 pub(crate) fn has_second(kind: BlockKind) -> bool
     ensures { result ≡ has_second kind }
 {
@@ -171,44 +196,28 @@ pub(crate) fn step(
         } => {
             let preset = u64::from(preset);
             match kind {
-                BlockKind::Ton => ton(preset, running, start, first, now),
-                BlockKind::Tof => tof(preset, last, running, start, first, now),
-                BlockKind::Tp => tp(preset, last, running, start, first, now),
-                BlockKind::Ctu | BlockKind::Ctd | BlockKind::Sr | BlockKind::Rs => stored,
+                Ton => ton(preset, running, start, first, now),
+                Tof => tof(preset, last, running, start, first, now),
+                Tp => tp(preset, last, running, start, first, now),
+                Ctu | Ctd | Sr | Rs => stored,
             }
         }
         Stored::Counter { last, cv, .. } => {
             match kind {
-                BlockKind::Ctu => {
-                    let cv = counted_up(last, cv, first, second);
-                    Stored::Counter {
-                        last: first,
-                        cv,
-                        q: i64::from(preset) <= i64::from(cv),
-                    }
-                }
-                BlockKind::Ctd => {
-                    let cv = counted_down(preset as u16, last, cv, first, second);
-                    Stored::Counter {
-                        last: first,
-                        cv,
-                        q: cv <= 0,
-                    }
-                }
-                BlockKind::Ton | BlockKind::Tof | BlockKind::Tp | BlockKind::Sr | BlockKind::Rs =>
-                    stored,
+                Ctu => ctu(preset, last, cv, first, second),
+                Ctd => ctd(preset, last, cv, first, second),
+                Ton | Tof | Tp | Sr | Rs => stored,
             }
         }
         Stored::Bistable { q } => {
             match kind {
-                BlockKind::Sr => Stored::Bistable {
+                Sr => Stored::Bistable {
                     q: first | (!second & q),
                 },
-                BlockKind::Rs => Stored::Bistable {
+                Rs => Stored::Bistable {
                     q: !second & (first | q),
                 },
-                BlockKind::Ton | BlockKind::Tof | BlockKind::Tp | BlockKind::Ctu | BlockKind::Ctd =>
-                    stored,
+                Ton | Tof | Tp | Ctu | Ctd => stored,
             }
         }
     }

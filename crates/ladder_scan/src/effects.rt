@@ -1,24 +1,21 @@
-ghost use Rattle.std.specs.Prelude.{◌≡◌, ◌<◌, All, slice_set};
-ghost use Rattle.ladder_grid.specs.Program.{steps_of};
+//! The effects of a rung, once its power flow is known: what its coils, blocks and edge contacts write.
+
+ghost use Rattle.std.specs.Prelude.{◌≡◌, ◌<◌, All};
+ghost use Rattle.ladder_grid.specs.declared.geometry.TheConstants.{ROWS, COLUMNS};
+ghost use Rattle.ladder_grid.specs.Compiled.{steps_of};
 ghost use Rattle.ladder_scan.specs.Truth.{plain};
 ghost use Rattle.ladder_scan.specs.Cells.{stored_by};
 ghost use Rattle.ladder_scan.specs.Rung.{written, changed, second};
 ghost use Rattle.ladder_scan.specs.Programs.{diagram_of, IsSound};
-ghost use Rattle.ladder_scan.specs.Sweeping.{frame, held, kept_of, among, place_of, effects_of, changes_of};
+ghost use Rattle.ladder_scan.specs.Sweeping.{IsPlaced, among, place_of, effects_of, changes_of};
 
-use crate::block::Stored;
+use crate::block;
+use crate::scene::{Scene, instance, place_at};
 use crate::signal::Signal;
-use crate::sweep::{Scene, instance, linked, operand_value, q_here, value};
-use ladder_grid::{Cell, CoilMode, Program, Step};
-
-/// Replaces the entry at a number; past the end there is none.
-fn put<T: Copy>(entries: &mut [T], number: usize, new: T)
-    ensures { entries.new ≡ slice_set entries.old number new }
-{
-    if number < entries.len() {
-        entries[number] = new;
-    }
-}
+use crate::signals::Signals;
+use crate::storage::Storage;
+use crate::sweep::{link_at, q_here, second};
+use ladder_grid::{Cell, CoilMode, Step};
 
 fn stored_by<S: Signal>(mode: CoilMode, link: S, memory: S, old: S) -> S
     ensures { result ≡ stored_by S.algebra mode link memory old }
@@ -36,32 +33,32 @@ fn stored_by<S: Signal>(mode: CoilMode, link: S, memory: S, old: S) -> S
 /// What one cell writes, over any signal, under the guard of its rung.
 fn effect<S: Signal>(
     scene: Scene<'_>,
+    storage: &Storage,
     guard: S,
     links: &[S],
     step: Step,
-    values: &mut [S],
-    ends: &mut [S],
+    seen: &mut Signals<S>,
 )
     requires rung { scene.rung < scene.program.now.rungs }
-    requires row { step.row < 6 }
-    requires column { step.column < 10 }
+    requires row { step.row < ROWS }
+    requires column { step.column < COLUMNS }
     requires program { IsSound (diagram_of scene.program.now) }
-    ensures { frame values.new ends.new ≡ written S.algebra (diagram_of scene.entry.program.now) (kept_of scene.entry) scene.entry.now guard
+    ensures { seen.new ≡ written S.algebra (diagram_of scene.entry.program.now) storage.now.kept scene.entry.now guard
         step.cell (among S.algebra links.now (place_of step))
         (second S.algebra (diagram_of scene.entry.program.now) scene.entry.rung (among S.algebra links.now) (place_of step))
-        (frame values.old ends.old) }
+        seen.old }
 {
     match step.cell {
         Cell::Coil { mode, var, .. } => {
-            let link = value(links, 6 * step.column + step.row);
-            let old = value(values, var);
-            let new = stored_by(mode, link, S::known(scene.memory(step.cell)), old);
-            put(values, var, S::choose(guard, new, old));
+            let link = link_at(links, place_at(step.row, step.column));
+            let old = seen.value(var);
+            let new = stored_by(mode, link, S::known(storage.memory(step.cell)), old);
+            seen.put_value(var, S::choose(guard, new, old));
         }
         Cell::Block { inst } => {
-            let old = value(ends, inst);
-            let new = q_here(scene, step.row, step.column, inst, links);
-            put(ends, inst, S::choose(guard, new, old));
+            let old = seen.end(inst);
+            let new = q_here(scene, storage, links, step.row, step.column, inst);
+            seen.put_end(inst, S::choose(guard, new, old));
         }
         Cell::Empty
         | Cell::Wire
@@ -72,64 +69,46 @@ fn effect<S: Signal>(
     }
 }
 
-/// What one cell changes, over truth values; `start` and `ends` are the values and the Qs at the rung's start.
+/// What one cell changes, over truth values; `start` is what contacts see, from the rung's start on.
 fn change(
-    program: &Program,
-    rung: usize,
-    now: u64,
-    start: &[bool],
-    ends: &[bool],
+    scene: Scene<'_>,
+    start: &Signals<bool>,
     links: &[bool],
     step: Step,
-    values: &mut [bool],
-    memories: &mut [bool],
-    blocks: &mut [Stored],
+    storage: &mut Storage,
 )
-    requires rung { rung < program.now.rungs }
-    requires row { step.row < 6 }
-    requires column { step.column < 10 }
-    requires program { IsSound (diagram_of program.now) }
-    ensures { held values.new memories.new blocks.new ≡ changed (diagram_of program.now) now (frame start.now ends.now) step.cell
+    requires rung { scene.rung < scene.program.now.rungs }
+    requires row { step.row < ROWS }
+    requires column { step.column < COLUMNS }
+    requires program { IsSound (diagram_of scene.program.now) }
+    ensures { storage.new ≡ changed (diagram_of scene.entry.program.now) scene.entry.now start.now step.cell
         (among plain links.now (place_of step))
-        (second plain (diagram_of program.now) rung (among plain links.now) (place_of step))
-        (held values.old memories.old blocks.old) }
+        (second plain (diagram_of scene.entry.program.now) scene.entry.rung (among plain links.now) (place_of step))
+        storage.old }
 {
-    let place = 6 * step.column + step.row;
-    let link = value(links, place);
+    let link = link_at(links, place_at(step.row, step.column));
     match step.cell {
         Cell::Contact {
             operand,
-            memory: Some(number),
+            memory,
             ..
-        } => put(memories, number, operand_value(start, ends, operand)),
+        } => storage.remember(memory, start.operand(operand)),
         Cell::Coil { mode, var, memory } => {
-            let before = match memory {
-                Some(number) => value(memories, number),
-                None => false,
-            };
-            let new = stored_by(mode, link, before, value(values, var));
-            put(values, var, new);
-            if let Some(number) = memory {
-                put(memories, number, link);
-            }
+            let before = storage.memory(step.cell);
+            let new = stored_by(mode, link, before, storage.value(var));
+            storage.put_value(var, new);
+            storage.remember(memory, link);
         }
         Cell::Block { inst } => {
-            let below = if linked(program, rung, step.row, step.column) {
-                value(links, place + 1)
-            } else {
-                false
-            };
-            let (kind, preset) = instance(program, inst);
-            if inst < blocks.len() {
-                blocks[inst] = crate::block::step(kind, preset, blocks[inst], link, below, now);
-            }
+            let (kind, preset) = instance(scene.program, inst);
+            let below = second(scene, links, step.row, step.column);
+            let stored = storage.stored(inst);
+            storage.put_block(
+                inst,
+                block::step(kind, preset, stored, link, below, scene.now),
+            );
         }
-        Cell::Contact { .. }
-        | Cell::Empty
-        | Cell::Wire
-        | Cell::Lower { .. }
-        | Cell::Jump { .. }
-        | Cell::Return => {}
+        Cell::Empty | Cell::Wire | Cell::Lower { .. } | Cell::Jump { .. } | Cell::Return => {}
     }
 }
 
@@ -137,44 +116,37 @@ fn change(
 #[tactic(auto, using(crate::proofs::Turns::effects_step))]
 pub(crate) fn effects<S: Signal>(
     scene: Scene<'_>,
+    storage: &Storage,
     guard: S,
     links: &[S],
-    values: &mut [S],
-    ends: &mut [S],
+    seen: &mut Signals<S>,
 )
     requires rung { scene.rung < scene.program.now.rungs }
-    requires places { All (λ s. (s.row < 6) × (s.column < 10)) (steps_of scene.program.now scene.rung) }
+    requires places { All IsPlaced (steps_of scene.program.now scene.rung) }
     requires program { IsSound (diagram_of scene.program.now) }
-    ensures { frame values.new ends.new ≡ effects_of S.algebra (diagram_of scene.entry.program.now) (kept_of scene.entry) scene.entry.now
-        scene.entry.rung guard (among S.algebra links.now) (steps_of scene.entry.program.now scene.entry.rung) (frame values.old ends.old) }
+    ensures { seen.new ≡ effects_of S.algebra (diagram_of scene.entry.program.now) storage.now.kept scene.entry.now
+        scene.entry.rung guard (among S.algebra links.now) (steps_of scene.entry.program.now scene.entry.rung) seen.old }
 {
     for step in scene.program.steps(scene.rung) {
-        effect(scene, guard, links, *step, values, ends);
+        effect(scene, storage, guard, links, *step, seen);
     }
 }
 
 /// The effects of a rung over truth values, by column, then row.
 #[tactic(auto, using(crate::proofs::Turns::changes_step))]
 pub(crate) fn changes(
-    program: &Program,
-    rung: usize,
-    now: u64,
-    start: &[bool],
-    ends: &[bool],
+    scene: Scene<'_>,
+    start: &Signals<bool>,
     links: &[bool],
-    values: &mut [bool],
-    memories: &mut [bool],
-    blocks: &mut [Stored],
+    storage: &mut Storage,
 )
-    requires rung { rung < program.now.rungs }
-    requires places { All (λ s. (s.row < 6) × (s.column < 10)) (steps_of program.now rung) }
-    requires program { IsSound (diagram_of program.now) }
-    ensures { held values.new memories.new blocks.new ≡ changes_of (diagram_of program.now) now rung (frame start.now ends.now)
-        (among plain links.now) (steps_of program.now rung) (held values.old memories.old blocks.old) }
+    requires rung { scene.rung < scene.program.now.rungs }
+    requires places { All IsPlaced (steps_of scene.program.now scene.rung) }
+    requires program { IsSound (diagram_of scene.program.now) }
+    ensures { storage.new ≡ changes_of (diagram_of scene.entry.program.now) scene.entry.now scene.entry.rung start.now
+        (among plain links.now) (steps_of scene.entry.program.now scene.entry.rung) storage.old }
 {
-    for step in program.steps(rung) {
-        change(
-            program, rung, now, start, ends, links, *step, values, memories, blocks,
-        );
+    for step in scene.program.steps(scene.rung) {
+        change(scene, start, links, *step, storage);
     }
 }

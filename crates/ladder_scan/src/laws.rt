@@ -4,8 +4,8 @@ ghost use Rattle.ladder_scan.specs.Laws.{FollowsJumps, LookAllows, LookIsScan, L
 ghost use Rattle.ladder_scan.specs.Programs.{diagram_of};
 ghost use Rattle.ladder_scan.specs.Histories.{TonHistory, TofHistory, TpHistory, CtuHistory, CtdHistory, SrHistory, RsHistory};
 
+use crate::scene::checked;
 use crate::signal::Signal;
-use crate::sweep::checked;
 use ladder_grid::Program;
 use std::marker::PhantomData;
 
@@ -51,7 +51,7 @@ pub fn sound<S: Signal>(program: &Program)
     look_is_scan(program);
 }
 
-/// What a block answers after any list of steps of a new one.
+/// The output of a block after any list of steps from a fresh one.
 pub fn histories()
     ensures ton { TonHistory }
     ensures tof { TofHistory }

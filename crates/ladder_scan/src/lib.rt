@@ -3,16 +3,22 @@
 
 mod block;
 mod effects;
+mod inputs;
 pub mod laws;
 mod looking;
+mod memory;
 mod scanning;
+mod scene;
 mod signal;
+mod signals;
 mod state;
+mod storage;
 mod sweep;
 
 pub use block::Stored;
 pub use laws::Relation;
 pub use looking::{Work, look};
+pub use memory::Memory;
 pub use scanning::{MomentBack, scan};
 pub use signal::Signal;
-pub use state::{Memory, State};
+pub use state::State;

@@ -1,3 +1,5 @@
+//! What travels through a diagram in place of a truth value.
+
 ghost use Rattle.std.specs.Prelude.{◌≡◌, ℕ, Bool, true};
 ghost use Rattle.ladder_scan.specs.Algebra.{Algebra, LatticeLaws, AllowsLaws};
 ghost use Rattle.ladder_scan.specs.Truth.{plain, AnyBool, OnePlace, plain_allows, plain_lattice, plain_allowed};
@@ -31,7 +33,7 @@ pub trait Signal: Copy {
     fn choose(condition: Self, on: Self, off: Self) -> Self
         ensures { result ≡ algebra.choice condition on off };
 
-    /// Answers true: each signal that a program holds is a value.
+    /// Returns true: each signal that a program holds is a value.
     fn is_value(self) -> bool
         ensures answer { result ≡ true }
         ensures is { value self };

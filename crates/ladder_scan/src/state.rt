@@ -1,29 +1,17 @@
+//! The state that is kept from scan to scan.
+
 ghost use Rattle.std.specs.Prelude.{◌≡◌, ◌<◌, ◌≤◌, ◌↔◌, length, map, set, IfOk, IsTrue, slice_get, slice_index_or, Some};
 ghost use Rattle.ladder_vars.specs.declared.kind.BlockKind.TheVariants.{Ton};
-ghost use Rattle.ladder_scan.specs.Blocks.{new_block};
 ghost use Rattle.ladder_scan.specs.Standing.{fresh, CanStore, Fits, IsStanding, with_blocks, with_memories, with_moment, with_values};
 
 use crate::block::Stored;
+use crate::memory::Memory;
+use crate::signals::Signals;
+use crate::storage::Storage;
 use ladder_grid::Program;
-use ladder_vars::{BlockKind, Instance, Var};
-use std::alloc::{AllocError, AllocFailed, Global};
+use ladder_vars::{BlockKind, Instance};
+use std::alloc::{AllocError, Global};
 use std::marker::Model;
-
-/// There was not enough memory.
-#[derive(Clone, Copy, Debug, PartialEq, Eq)]
-pub struct Memory;
-
-impl From<AllocError> for Memory {
-    fn from(_error: AllocError) -> Memory {
-        Memory
-    }
-}
-
-impl<T: Drop> From<AllocFailed<T>> for Memory {
-    fn from(_error: AllocFailed<T>) -> Memory {
-        Memory
-    }
-}
 
 /// The state kept between scans: the value of each variable, each memory, what each instance stores, and the moment of the last
 /// scan in milliseconds.
@@ -32,34 +20,22 @@ impl<T: Drop> From<AllocFailed<T>> for Memory {
 /// start 0.
 #[derive(Drop)]
 pub struct State {
-    pub(crate) values: Vec<bool>,
-    pub(crate) memories: Vec<bool>,
+    pub(crate) storage: Storage,
     pub(crate) kinds: Vec<BlockKind>,
-    pub(crate) blocks: Vec<Stored>,
     pub(crate) moment: u64,
-    // room for the values and the Qs at a rung's start
-    pub(crate) start: Vec<bool>,
-    pub(crate) ends: Vec<bool>,
+    // room for what contacts see from a rung's start on
+    pub(crate) start: Signals<bool>,
 }
 
 impl Model for State {
-    ghost use Rattle.std.specs.Prelude.{◌≡◌, length};
+    ghost use Rattle.ladder_scan.specs.Rung.{SameSizes};
     ghost use Rattle.ladder_scan.specs.Standing.{Standing, AreSound};
-    ghost use Rattle.ladder_scan.specs.Sweeping.{held};
 
     ghost Value = { Standing };
 
-    ghost view = { λ s. record { held = held s.values.items s.memories.items s.blocks.items; kinds = s.kinds.items; moment = s.moment } };
+    ghost view = { λ s. record { held = s.storage; kinds = s.kinds.items; moment = s.moment } };
 
-    ghost invariant = { λ s. (length s.start.items ≡ length s.values.items)
-        × ((length s.ends.items ≡ length s.blocks.items)
-        × AreSound s.kinds.items s.blocks.items s.moment) };
-}
-
-fn initial_values(alloc: Global, vars: &[Var]) -> Result<Vec<bool>, AllocError>
-    ensures { IfOk result (λ v. v.items ≡ map (λ v. v.initial) vars.now) }
-{
-    vars.iter().map(|var| var.initial).collect(alloc)
+    ghost invariant = { λ s. SameSizes s.start s.storage × AreSound s.kinds.items s.storage.kept.blocks s.moment };
 }
 
 fn kinds(alloc: Global, instances: &[Instance]) -> Result<Vec<BlockKind>, AllocError>
@@ -68,15 +44,6 @@ fn kinds(alloc: Global, instances: &[Instance]) -> Result<Vec<BlockKind>, AllocE
     instances
         .iter()
         .map(|instance| instance.kind)
-        .collect(alloc)
-}
-
-fn new_blocks(alloc: Global, instances: &[Instance]) -> Result<Vec<Stored>, AllocError>
-    ensures { IfOk result (λ v. v.items ≡ map (λ i. new_block i.kind) instances.now) }
-{
-    instances
-        .iter()
-        .map(|instance| Stored::new(instance.kind))
         .collect(alloc)
 }
 
@@ -96,46 +63,41 @@ fn same_kinds(kinds: &[BlockKind], instances: &[Instance]) -> bool
 
 impl State {
     /// The state before the first scan: the variables have their initial values, all else is OFF or 0.
+    ///
+    /// # Errors
+    ///
+    /// `Memory` when out of memory.
     pub fn fresh(alloc: Global, program: &Program) -> Result<State, Memory>
         ensures is { IfOk result (λ s. s ≡ fresh program.now) }
         ensures fits { IfOk result (λ s. Fits program.now s) }
     {
-        let decls = program.decls();
-        let values = initial_values(alloc, decls.vars())?;
-        let memories = vec![in alloc; false; program.memories()]?;
-        let kinds = kinds(alloc, decls.instances())?;
-        let blocks = new_blocks(alloc, decls.instances())?;
-        let start = vec![in alloc; false; values.len()]?;
-        let ends = vec![in alloc; false; blocks.len()]?;
+        let storage = Storage::fresh(alloc, program)?;
+        let kinds = kinds(alloc, program.decls().instances())?;
+        let start = storage.room(alloc)?;
         Ok(State {
-            values,
-            memories,
+            storage,
             kinds,
-            blocks,
             moment: 0,
             start,
-            ends,
         })
     }
 
     /// An equal state.
+    ///
+    /// # Errors
+    ///
+    /// `Memory` when out of memory.
     pub fn copy(&self, alloc: Global) -> Result<State, Memory>
         ensures { IfOk result (λ s. s ≡ self.now) }
     {
-        let values = Vec::from_slice(alloc, &self.values)?;
-        let memories = Vec::from_slice(alloc, &self.memories)?;
+        let storage = self.storage.copy(alloc)?;
         let kinds = Vec::from_slice(alloc, &self.kinds)?;
-        let blocks = Vec::from_slice(alloc, &self.blocks)?;
-        let start = vec![in alloc; false; values.len()]?;
-        let ends = vec![in alloc; false; blocks.len()]?;
+        let start = storage.room(alloc)?;
         Ok(State {
-            values,
-            memories,
+            storage,
             kinds,
-            blocks,
             moment: self.moment,
             start,
-            ends,
         })
     }
 
@@ -144,8 +106,8 @@ impl State {
         ensures { IsTrue result ↔ Fits program.now self.now }
     {
         let decls = program.decls();
-        self.values.len() == decls.vars().len()
-            && self.memories.len() == program.memories()
+        self.storage.values.len() == decls.vars().len()
+            && self.storage.memories.len() == program.memories()
             && same_kinds(&self.kinds, decls.instances())
     }
 
@@ -154,10 +116,10 @@ impl State {
         requires { var < length self.now.held.values }
         ensures { slice_get self.now.held.values var ≡ Some result }
     {
-        self.values[var]
+        self.storage.values[var]
     }
 
-    /// The moment of the last scan; 0 before the first.
+    /// The moment of the last scan, in milliseconds; 0 before the first.
     pub fn moment(&self) -> u64
         ensures { result ≡ self.now.moment }
     {
@@ -176,7 +138,7 @@ impl State {
         requires { number < length self.now.held.kept.memories }
         ensures { slice_get self.now.held.kept.memories number ≡ Some result }
     {
-        self.memories[number]
+        self.storage.memories[number]
     }
 
     /// What an instance stores, by its number in order of declaration.
@@ -184,26 +146,26 @@ impl State {
         requires { inst < length self.now.held.kept.blocks }
         ensures { slice_get self.now.held.kept.blocks inst ≡ Some result }
     {
-        self.blocks[inst]
+        self.storage.blocks[inst]
     }
 
-    /// Gives a variable a value.
+    /// Writes a variable, by its number in order of declaration.
     pub fn set_value(&mut self, var: usize, value: bool)
         requires { var < length self.old.held.values }
         ensures { self.new ≡ with_values self.old (set self.old.held.values var value) }
     {
-        self.values[var] = value;
+        self.storage.put_value(var, value);
     }
 
-    /// Gives a memory a value.
+    /// Writes a memory, by its number in the program.
     pub fn set_memory(&mut self, number: usize, value: bool)
         requires { number < length self.old.held.kept.memories }
         ensures { self.new ≡ with_memories self.old (set self.old.held.kept.memories number value) }
     {
-        self.memories[number] = value;
+        self.storage.put_memory(number, value);
     }
 
-    /// Makes the moment a later one, or leaves it.
+    /// Sets the moment, which is not before the present one.
     pub fn set_moment(&mut self, moment: u64)
         requires { self.old.moment ≤ moment }
         ensures { self.new ≡ with_moment self.old moment }
@@ -211,12 +173,12 @@ impl State {
         self.moment = moment;
     }
 
-    /// Replaces what an instance stores.
+    /// Writes what an instance stores, by its number in order of declaration: what belongs to its kind and is possible at the moment.
     pub fn set_block(&mut self, inst: usize, stored: Stored)
         requires range { inst < length self.old.held.kept.blocks }
         requires stored { CanStore (slice_index_or self.old.kinds inst Ton) self.old.moment stored }
         ensures { self.new ≡ with_blocks self.old (set self.old.held.kept.blocks inst stored) }
     {
-        self.blocks[inst] = stored;
+        self.storage.put_block(inst, stored);
     }
 }

@@ -2,7 +2,7 @@ use Rattle.std.proofs.Common.{max, ap, ◌≡◌, ◌∙◌, sym, subst, arith, 
 use Rattle.ladder_scan.specs.Cells.{Frame}
 use Rattle.ladder_scan.specs.SignalScan.{looked, guard_of}
 use Rattle.ladder_scan.specs.Programs.{diagram_of}
-use Rattle.ladder_scan.specs.Sweeping.{frame, kept, AreValues}
+use Rattle.ladder_scan.specs.Sweeping.{AreValues}
 use Rattle.ladder_scan.proofs.Along.{places, rung_along}
 use Rattle.ladder_scan.proofs.Values.{looked_values}
 use Rattle.ladder_scan.proofs.Looks.{looked_frame, looked_taken, jump_same, reach_more}
@@ -13,7 +13,7 @@ find_links-requires-clause-values g c =
     let s = g.S.Signal in
     let o = s.algebra in
     subst (λ (f : Frame _). AreValues o s.value f) (sym c.loop-rung.invariant.here)
-    (looked_values o s.value g.met.S.Signal.lattice (diagram_of c.args.program.now) (kept c.args.memories.now c.args.blocks.now) c.args.now (frame c.args.values.now c.args.ends.now) c.requires.values c.loop-rung.rung)
+    (looked_values o s.value g.met.S.Signal.lattice (diagram_of c.args.program.now) c.args.storage.now.kept c.args.now c.args.seen.now c.requires.values c.loop-rung.rung)
 
 pub effects-requires-clause-places : goal.effects-requires-clause-places
 effects-requires-clause-places g c = places c.args.program.now c.loop-rung.rung
@@ -24,15 +24,15 @@ loop-rung-preserved g c =
     let o = s.algebra in
     let p = c.args.program.now in
     let d = diagram_of p in
-    let k = kept c.args.memories.now c.args.blocks.now in
+    let k = c.args.storage.now.kept in
     let now = c.args.now in
     let j = c.loop-rung.rung in
-    let f = frame c.args.values.now c.args.ends.now in
-    let here = frame c.loop-rung.values c.loop-rung.ends in
+    let f = c.args.seen.now in
+    let here = c.loop-rung.seen in
     let all = c.loop-rung.taken in
     let on : c.guard-guard.result ≡ guard_of o d (take j all) j = c.guard-guard.ensures in
     record {
-      here = looked_frame o d k now f j here (frame c.effects.new.values c.effects.new.ends) (take j all) c.guard-guard.result c.loop-rung.invariant.here c.loop-rung.invariant.taken on
+      here = looked_frame o d k now f j here c.effects.new.seen (take j all) c.guard-guard.result c.loop-rung.invariant.here c.loop-rung.invariant.taken on
           (c.effects.ensures ∙ rung_along o p c.requires.program k now j c.guard-guard.result here c.find_links.new.links c.find_links.ensures);
       taken = looked_taken o d k now f j here all c.guard-guard.result c.taken_by.result (omega arith) c.loop-rung.invariant.here c.loop-rung.invariant.taken on
           (c.taken_by.ensures ∙ jump_same o (d.target j) c.guard-guard.result _ _ (λ h. c.find_links.ensures (d.leap j) (c.requires.program.leaps j h).0 (c.requires.program.leaps j h).1));

@@ -1,7 +1,7 @@
 use Rattle.std.proofs.Common.{◌∙◌, ap, arith, get_or, false, List}
 use Rattle.ladder_grid.specs.declared.program.Step.{Step}
 use Rattle.ladder_scan.specs.Programs.{diagram_of}
-use Rattle.ladder_scan.specs.Sweeping.{swept, kept_of, frame}
+use Rattle.ladder_scan.specs.Sweeping.{swept}
 use Rattle.ladder_scan.proofs.Compiled.{masks_of, masks_are, steps_are}
 use Rattle.ladder_scan.proofs.Links.{links_right}
 use Rattle.ladder_scan.proofs.Along.{places}
@@ -17,9 +17,9 @@ returns g c =
     let p = c.args.scene.program.now in
     let d = diagram_of p in
     let j = c.args.scene.rung in
-    let k = kept_of c.args.scene in
+    let k = c.args.storage.now.kept in
     let now = c.args.scene.now in
-    let f = frame c.args.values.now c.args.ends.now in
+    let f = c.args.seen.now in
     λ e lt filled.
     ap (λ xs. get_or xs e (o.known false)) c.sweep.ensures
     ∙ ap (λ (ss : List Step). get_or (swept o d k now j f ss c.args.links.now) e (o.known false)) (steps_are p j)

@@ -1,15 +1,12 @@
-use Rattle.std.proofs.Common.{rules}
-use Rattle.ladder_scan.proofs.Possible.{fresh_possible, fresh_shapes}
+use Rattle.std.proofs.Common.{ap, map, ◌∙◌}
+use Rattle.ladder_vars.specs.Decls.{Declared}
+use Rattle.ladder_vars.specs.declared.decls.Instance.{Instance}
+use Rattle.ladder_scan.proofs.Possible.{fresh_sound}
 use Rattle.ladder_scan.proofs.state.State.fresh.Goals as goal
 
 pub invariant_of-result : goal.invariant_of-result
 invariant_of-result c = (
-  search rules,
-  (
-    search rules,
-    record {
-      shapes = fresh_shapes c.instances.result.now c.instances-2.result.now _ _ _ c.instances.ensures.value c.instances-2.ensures.value c.in_ok-blocks.ensures c.in_ok-kinds.ensures;
-      possible = fresh_possible _ _ c.in_ok-blocks.ensures;
-    },
-  ),
+  c.in_ok-start.ensures,
+  fresh_sound c.args.program.now c.in_ok-storage.storage _ c.in_ok-storage.ensures
+      (c.in_ok-kinds.ensures ∙ ap (map (λ (i : Instance). i.kind)) (c.instances.ensures.value ∙ ap (λ (d : Declared). d.instances) c.decls.ensures)),
 )

@@ -1,6 +1,8 @@
-use Rattle.std.proofs.Common.{rules, sym, subst, get_or}
+use Rattle.std.proofs.Common.{ap, length, map, sym, subst, get_or, ◌∙◌}
+use Rattle.std.proofs.lemmas.List.{length-set}
 use Rattle.ladder_vars.specs.declared.kind.BlockKind.TheVariants.{Ton}
-use Rattle.ladder_scan.specs.Standing.{CanStore, Standing}
+use Rattle.ladder_scan.specs.Rung.{Held}
+use Rattle.ladder_scan.specs.Standing.{ArePossible, CanStore, Standing, shape}
 use Rattle.ladder_scan.proofs.Possible.{set_possible, set_shapes}
 use Rattle.ladder_scan.proofs.state.State.set_block.Goals as goal
 
@@ -8,12 +10,12 @@ pub invariant_of-self : goal.invariant_of-self
 invariant_of-self c =
     let inv = c.self.invariant in
     let can = subst (λ (s : Standing). CanStore (get_or s.kinds c.args.inst Ton) s.moment c.args.stored) (sym c.self.view_is) c.requires.stored in (
-      search rules,
-      (
-        search rules,
-        record {
-          shapes = set_shapes _ _ c.args.inst _ inv.1.1.shapes can.shape;
-          possible = set_possible _ _ c.args.inst _ inv.1.1.possible can.possible;
-        },
-      ),
+      record {
+        values = inv.0.values ∙ sym (ap (λ (h : Held). length h.values) c.put_block.ensures);
+        ends = inv.0.ends ∙ sym (ap (λ (h : Held). length h.kept.blocks) c.put_block.ensures ∙ length-set c.self.inside.storage.kept.blocks c.args.inst c.args.stored);
+      },
+      record {
+        shapes = ap (λ (h : Held). map shape h.kept.blocks) c.put_block.ensures ∙ set_shapes _ _ c.args.inst _ inv.1.shapes can.shape;
+        possible = subst (λ (h : Held). ArePossible c.self.inside.moment h.kept.blocks) (sym c.put_block.ensures) (set_possible _ _ c.args.inst _ inv.1.possible can.possible);
+      },
     )

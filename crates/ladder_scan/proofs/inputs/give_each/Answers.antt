@@ -1,7 +1,7 @@
 use Rattle.std.proofs.Common.{◌∙◌, sym, map, false, arith, ◌≤◌, ◌<◌, length}
 use Rattle.ladder_vars.specs.Decls.{is_input}
 use Rattle.ladder_scan.proofs.Giving.{passed, ended, taken, all_given}
-use Rattle.ladder_scan.proofs.scanning.give_each.Goals as goal
+use Rattle.ladder_scan.proofs.inputs.give_each.Goals as goal
 
 pub loop-number-preserved-then-not-is_input_at : goal.loop-number-preserved-then-not-is_input_at
 loop-number-preserved-then-not-is_input_at g c =

@@ -1,7 +1,7 @@
 use Rattle.std.proofs.Common.{subst}
 use Rattle.ladder_vars.specs.Decls.{Declared, AreKept}
 use Rattle.ladder_scan.proofs.Sound.{sound}
-use Rattle.ladder_scan.proofs.sweep.checked.Goals as goal
+use Rattle.ladder_scan.proofs.scene.checked.Goals as goal
 
 pub returns : goal.returns
 returns c =

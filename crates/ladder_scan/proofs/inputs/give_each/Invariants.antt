@@ -1,7 +1,7 @@
 use Rattle.std.proofs.Common.{◌≡◌, ◌≤◌, ◌++◌, take, drop, map, length}
 use Rattle.ladder_vars.specs.Decls.{is_input}
 use Rattle.ladder_scan.specs.Scan.{given}
-use Rattle.ladder_scan.proofs.scanning.give_each.Given as goal
+use Rattle.ladder_scan.proofs.inputs.give_each.Given as goal
 
 abbrev pub invariant-loop-number : goal.invariant-loop-number
 invariant-loop-number g l = record {

@@ -1,7 +1,7 @@
 use Rattle.std.proofs.Common.{◌∙◌, sym, map, arith}
 use Rattle.ladder_vars.specs.Decls.{is_input}
 use Rattle.ladder_scan.proofs.Giving.{given_leading, leading_on}
-use Rattle.ladder_scan.proofs.scanning.give.Goals as goal
+use Rattle.ladder_scan.proofs.inputs.give.Goals as goal
 
 pub returns-then-inputs-leading_inputs : goal.returns-then-inputs-leading_inputs
 returns-then-inputs-leading_inputs g c =

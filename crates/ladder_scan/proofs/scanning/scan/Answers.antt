@@ -1,0 +1,10 @@
+use Rattle.std.proofs.Common.{◌∙◌, ap, length}
+use Rattle.ladder_scan.specs.Standing.{Standing}
+use Rattle.ladder_scan.proofs.scanning.scan.Goals as goal
+
+pub returns-clause-fits : goal.returns-clause-fits
+returns-clause-fits c = λ fits. record {
+  values = c.scan_storage.ensures.lengths.values ∙ ap (λ (s : Standing). length s.held.values) c.state.view_is ∙ fits.values;
+  memories = c.scan_storage.ensures.lengths.memories ∙ ap (λ (s : Standing). length s.held.kept.memories) c.state.view_is ∙ fits.memories;
+  kinds = ap (λ (s : Standing). s.kinds) c.state.view_is ∙ fits.kinds;
+}

@@ -1,0 +1,58 @@
+//! The values of the input variables, which a scan is given.
+
+ghost use Rattle.std.specs.Prelude.{◌≡◌, ◌≤◌, ◌++◌, drop, length, map, slice_index_or, false};
+ghost use Rattle.ladder_vars.specs.Decls.{is_input};
+ghost use Rattle.ladder_scan.specs.Scan.{given};
+
+use crate::signal::Signal;
+use ladder_vars::{Decls, Var, VarKind};
+
+fn is_input_at(vars: &[Var], number: usize) -> bool
+    ensures { result ≡ slice_index_or (map is_input vars.now) number false }
+{
+    match vars.get(number) {
+        Some(var) => {
+            match var.kind {
+                VarKind::Input => true,
+                VarKind::Output | VarKind::Memory => false,
+            }
+        }
+        None => false,
+    }
+}
+
+fn give_leading<S: Signal>(inputs: &[S], values: &mut [S])
+    requires { length inputs.now ≤ length values.old }
+    ensures { values.new ≡ inputs.now ++ drop (length inputs.now) values.old }
+{
+    values[..inputs.len()].copy_from_slice(inputs);
+}
+
+/// Gives the input variables their values, in order of declaration. Where the inputs are declared first, as they mostly
+/// are, this is one copy.
+pub(crate) fn give<S: Signal>(decls: &Decls, inputs: &[S], values: &mut [S])
+    ensures { values.new ≡ given (map is_input decls.now.vars) inputs.now values.old }
+{
+    if inputs.len() <= values.len() && inputs.len() <= decls.leading_inputs() {
+        give_leading(inputs, values);
+        return;
+    }
+    give_each(decls.vars(), inputs, values);
+}
+
+/// Goes over all variables, inputs or not.
+fn give_each<S: Signal>(vars: &[Var], inputs: &[S], values: &mut [S])
+    ensures { values.new ≡ given (map is_input vars.now) inputs.now values.old }
+{
+    let mut next = 0;
+    for number in 0..values.len() {
+        if !is_input_at(vars, number) {
+            continue;
+        }
+        if inputs.len() <= next {
+            continue;
+        }
+        values[number] = inputs[next];
+        next += 1;
+    }
+}

@@ -1,0 +1,152 @@
+//! What contacts and coils see: the signals of the variables and of the instances' outputs.
+
+ghost use Rattle.std.specs.Prelude.{◌≡◌, length, map, slice_index_or, slice_set, false, IfOk};
+ghost use Rattle.ladder_vars.specs.Decls.{is_input};
+ghost use Rattle.ladder_scan.specs.Blocks.{q_of};
+ghost use Rattle.ladder_scan.specs.Cells.{frame, operand_value};
+ghost use Rattle.ladder_scan.specs.Rung.{frame_of, SameSizes};
+ghost use Rattle.ladder_scan.specs.Scan.{given};
+
+use crate::block::Stored;
+use crate::inputs::give;
+use crate::memory::Memory;
+use crate::signal::Signal;
+use crate::storage::Storage;
+use ladder_grid::Operand;
+use ladder_vars::Decls;
+use std::alloc::Global;
+use std::marker::Model;
+
+/// The signal of each variable, and that of each instance's Q.
+#[derive(Drop)]
+pub(crate) struct Signals<S> {
+    pub values: Vec<S>,
+    pub ends: Vec<S>,
+}
+
+impl<S> Model for Signals<S> {
+    ghost use Rattle.ladder_scan.specs.Cells.{Frame, frame};
+
+    ghost Value = { Frame S };
+
+    ghost view = { λ f. frame f.values.items f.ends.items };
+}
+
+impl<S: Signal> Signals<S> {
+    /// Room for the signals of so many variables and instances.
+    pub(crate) fn new(
+        alloc: Global,
+        variables: usize,
+        instances: usize,
+    ) -> Result<Signals<S>, Memory>
+        ensures values { IfOk result (λ f. length f.values ≡ variables) }
+        ensures ends { IfOk result (λ f. length f.ends ≡ instances) }
+    {
+        Ok(Signals {
+            values: vec![in alloc; S::known(false); variables]?,
+            ends: vec![in alloc; S::known(false); instances]?,
+        })
+    }
+
+    /// Takes all that is stored.
+    pub(crate) fn know(&mut self, storage: &Storage)
+        requires { SameSizes self.old storage.now }
+        ensures { self.new ≡ frame (map S.algebra.known storage.now.values) (map (λ b. S.algebra.known (q_of b)) storage.now.kept.blocks) }
+    {
+        know_values(&storage.values, &mut self.values);
+        know_ends(&storage.blocks, &mut self.ends);
+    }
+
+    /// Gives the input variables their signals, in order of declaration.
+    pub(crate) fn give(&mut self, decls: &Decls, inputs: &[S])
+        ensures { self.new ≡ frame (given (map is_input decls.now.vars) inputs.now self.old.values) self.old.ends }
+    {
+        give(decls, inputs, &mut self.values);
+    }
+
+    /// The signal of a variable, and OFF past the last one.
+    pub(crate) fn value(&self, var: usize) -> S
+        ensures { result ≡ slice_index_or self.now.values var (S.algebra.known false) }
+    {
+        match self.values.get(var) {
+            Some(value) => *value,
+            None => S::known(false),
+        }
+    }
+
+    /// The signal of an instance's Q, and OFF past the last one.
+    pub(crate) fn end(&self, inst: usize) -> S
+        ensures { result ≡ slice_index_or self.now.ends inst (S.algebra.known false) }
+    {
+        match self.ends.get(inst) {
+            Some(end) => *end,
+            None => S::known(false),
+        }
+    }
+
+    pub(crate) fn operand(&self, operand: Operand) -> S
+        ensures { result ≡ operand_value S.algebra self.now operand }
+    {
+        match operand {
+            Operand::Var(var) => self.value(var),
+            Operand::Output(inst) => self.end(inst),
+        }
+    }
+
+    /// Writes a variable; past the last one there is none.
+    pub(crate) fn put_value(&mut self, var: usize, value: S)
+        ensures { self.new ≡ frame (slice_set self.old.values var value) self.old.ends }
+    {
+        if var < self.values.len() {
+            self.values[var] = value;
+        }
+    }
+
+    /// Writes the Q of an instance; past the last one there is none.
+    pub(crate) fn put_end(&mut self, inst: usize, end: S)
+        ensures { self.new ≡ frame self.old.values (slice_set self.old.ends inst end) }
+    {
+        if inst < self.ends.len() {
+            self.ends[inst] = end;
+        }
+    }
+}
+
+/// The stored values as signals.
+fn know_values<S: Signal>(stored: &[bool], values: &mut [S])
+    requires { length values.old ≡ length stored.now }
+    ensures { values.new ≡ map S.algebra.known stored.now }
+{
+    for number in 0..stored.len() {
+        values[number] = S::known(stored[number]);
+    }
+}
+
+/// The stored Qs as signals.
+fn know_ends<S: Signal>(blocks: &[Stored], ends: &mut [S])
+    requires { length ends.old ≡ length blocks.now }
+    ensures { ends.new ≡ map (λ b. S.algebra.known (q_of b)) blocks.now }
+{
+    for inst in 0..blocks.len() {
+        ends[inst] = S::known(blocks[inst].q());
+    }
+}
+
+/// The Q of each instance.
+fn copy_ends(blocks: &[Stored], ends: &mut [bool])
+    requires { length ends.old ≡ length blocks.now }
+    ensures { ends.new ≡ map q_of blocks.now }
+{
+    for inst in 0..blocks.len() {
+        ends[inst] = blocks[inst].q();
+    }
+}
+
+/// What contacts see from the start of a rung on.
+pub(crate) fn copy_start(storage: &Storage, start: &mut Signals<bool>)
+    requires { SameSizes start.old storage.now }
+    ensures { start.new ≡ frame_of storage.now }
+{
+    start.values.copy_from_slice(&storage.values);
+    copy_ends(&storage.blocks, &mut start.ends);
+}
