@@ -6,12 +6,14 @@ Rows and looks that aren't those that must come out are said loudly; no time fai
 """
 import os
 import pathlib
+import random
 import subprocess
 import sys
 import tempfile
 import time
 
 HERE = pathlib.Path(__file__).resolve().parent
+MOST = 1_048_576
 
 
 def inputs(first, last):
@@ -61,29 +63,73 @@ def each(seconds, number):
 
 def report(name, seconds, said, due):
     rows, looks = counts(said)
-    print(f"{name:24}{seconds * 1e3:10.2f}{rows or 0:12}{looks or 0:10}{each(seconds, looks)}{each(seconds, rows)}")
+    print(f"{name:26}{seconds * 1e3:10.2f}{rows or 0:12}{looks or 0:10}{each(seconds, looks)}{each(seconds, rows)}")
     if (rows, looks) != due:
         print(f"!!!!!!!!!! WRONG: {name}: {said.strip()!r}, and rows {due[0]} looks {due[1]} must come out")
 
 
-def full_text():
+def declarations():
     """Declarations of the greatest length."""
     text = "VAR\n" + "(* a comment that fills the block *)\n" * 27_000 + "  Y AT %QX0 : BOOL;\nEND_VAR\n"
-    return text.ljust(1_048_576)
+    return text.ljust(MOST).encode()
+
+
+def declared(blocks):
+    timers = "".join(f"  T{number} : TON;\n" for number in range(blocks))
+    return f"VAR\n  A AT %IX0 : BOOL;\n  Y AT %QX0 : BOOL;\n{timers}END_VAR\n\n"
+
+
+def full_row(first, names):
+    """A row of ten cells, joined to the row above it at each column."""
+    over = "|" + "".join(f"{name:^11}" + (" " if first else "|") for name in names[:9]) + f"{names[9]:^11}"
+    wire = "|" + "+".join(["-|IN TON Q|" if name[0] == "T" else "----| |----" for name in names[:9]]) + "+----( )----"
+    return f"{over}\n{wire}\n"
+
+
+def full_rungs(blocks):
+    """100 rungs of 6 full rows; the last rungs have a block in each row."""
+    rungs = []
+    for rung in range(100):
+        first = (rung - 100) * 6 + blocks + 2
+        rows = [["A"] * 8 + [f"T{first + row}" if 0 <= first + row < blocks else "A"] + ["Y"] for row in range(6)]
+        rungs.append("".join(full_row(row == 0, names) for row, names in enumerate(rows)))
+    return (declared(blocks) + "\n".join(rungs)).encode()
+
+
+def any_bytes():
+    """Bytes of the greatest length, behind declarations, so that the drawing reads them."""
+    start = declared(0).encode()
+    return start + random.Random(1).randbytes(MOST - len(start))
+
+
+def bars():
+    """Rung lines of the greatest length."""
+    return (declared(0).encode() + b"|----| |----+" * MOST)[:MOST]
+
+
+# name and text: programs that are read and checked
+TEXTS = [
+    ("1 MiB of declarations", declarations),
+    ("100 full rungs", lambda: full_rungs(0)),
+    ("100 full rungs, 64 blocks", lambda: full_rungs(64)),
+    ("1 MiB of any bytes", any_bytes),
+    ("1 MiB on one rung line", bars),
+]
 
 
 def main():
     program, runs = os.path.abspath(sys.argv[1]), int((sys.argv[2:] or ["9"])[0])
-    print(f"{'case':24}{'ms':>10}{'rows':>12}{'looks':>10}{'ns a look':>12}{'ns a row':>12}")
+    print(f"{'case':26}{'ms':>10}{'rows':>12}{'looks':>10}{'ns a look':>12}{'ns a row':>12}")
     for name, circuit, listed, rows, looks in CASES:
         command = [program, "causes", str(HERE / "circuits" / f"{circuit}.ld"), "Y", *listed]
         seconds, _, said = least(command, runs)
         report(name, seconds, said, (rows, looks))
-    with tempfile.NamedTemporaryFile("w", encoding="ascii") as file:
-        file.write(full_text())
-        file.flush()
-        seconds, _, said = least([program, "causes", file.name, "Y"], runs)
-    print(f"{'1 MiB of declarations':24}{seconds * 1e3:10.2f}  {said.strip()}")
+    for name, text in TEXTS:
+        with tempfile.NamedTemporaryFile() as file:
+            file.write(text())
+            file.flush()
+            seconds, status, said = least([program, "check", file.name], runs)
+        print(f"{name:26}{seconds * 1e3:10.2f}  check: status {status} {said.strip()}")
 
 
 if __name__ == "__main__":

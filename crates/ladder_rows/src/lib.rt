@@ -18,6 +18,8 @@ mod runs;
 #[cfg(test)]
 mod scans;
 #[cfg(test)]
+mod table;
+#[cfg(test)]
 mod texts;
 #[cfg(test)]
 mod words;

@@ -1,0 +1,26 @@
+use Rattle.std.proofs.Common.{◌≡◌, ℕ, ap, arith, rules, length, subst, sym, refl, lit<}
+use Rattle.ladder_search.specs.Path.{IsWalking}
+use Rattle.ladder_search.specs.Trees.{IsPlan}
+use Rattle.ladder_search.proofs.WalkLaws.{span-is}
+use Rattle.ladder_rows.specs.Table.{table_search}
+use Rattle.ladder_rows.proofs.table.found.Goals as goal
+
+pub loop-init : goal.loop-init
+loop-init c =
+    let t = c.in_ok-table.table in
+    let s = table_search t.chosen.items t.first in
+    let w = c.begin-walk.result in
+    let same = c.in_ok-table.ensures.first in
+    let plan : IsPlan (record { tail = 1; top = 3; first = c.args.first }) s = record {
+      tail = refl;
+      top = refl;
+      first = sym same;
+      narrow = omega arith;
+      few = omega arith;
+      within = omega (arith, same, c.requires, span-is s 3);
+    } in
+    record {
+      plan = plan;
+      walking = subst (λ (n : ℕ). IsWalking s n w.number w.mask w.ahead w.base w.height) (sym c.in_ok-table.ensures.looks) (c.begin-walk.ensures.walking s plan);
+      ready = search rules;
+    }

@@ -1,0 +1,12 @@
+use Rattle.std.proofs.Common.{◌≡◌, length}
+use Rattle.ladder_search.specs.Path.{Walking}
+use Rattle.ladder_search.specs.Trees.{IsPlan}
+use Rattle.ladder_rows.specs.Table.{table_search}
+use Rattle.ladder_rows.proofs.table.found.Given as goal
+
+abbrev pub invariant-loop : goal.invariant-loop
+invariant-loop l = record {
+  plan : IsPlan l.plan (table_search l.table.chosen.items l.table.first);
+  walking : Walking (table_search l.table.chosen.items l.table.first) l.table.looks l.walk;
+  ready : length l.table.chosen.items ≡ 16;
+}

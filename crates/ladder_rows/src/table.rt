@@ -1,0 +1,159 @@
+//! The search on a table of sixteen numbers.
+ghost use Rattle.std.specs.Prelude.{◌≡◌, ◌≤◌, ◌+◌, ◌^◌, IfOk, length, not};
+ghost use Rattle.std.specs.List.{list_all};
+ghost use Rattle.ladder_rows.specs.Table.{common, pair, part, table_search};
+ghost use Rattle.ladder_search.specs.Trees.{digit};
+
+use ladder_search::{Plan, Tree, advance, begin};
+use std::alloc::{AllocError, Global};
+
+/// Which of sixteen numbers are chosen. A prefix is decided where its completions are alike.
+#[derive(Drop)]
+struct Table {
+    chosen: Vec<bool>,
+    first: u64,
+    looks: u64,
+}
+
+fn all_chosen(entries: &[bool]) -> bool
+    ensures { result ≡ list_all (λ b. b) entries.now }
+{
+    entries.iter().all(|chosen| *chosen)
+}
+
+fn none_chosen(entries: &[bool]) -> bool
+    ensures { result ≡ list_all not entries.now }
+{
+    entries.iter().all(|chosen| !*chosen)
+}
+
+/// What all entries are, where they are alike.
+fn common(entries: &[bool]) -> Option<bool>
+    ensures { result ≡ common entries.now }
+{
+    if all_chosen(entries) {
+        Some(true)
+    } else if none_chosen(entries) {
+        Some(false)
+    } else {
+        None
+    }
+}
+
+/// How many completions a prefix has.
+fn size(height: u32) -> usize
+    requires { height ≤ 3 }
+    ensures { result ≡ 2 ^ (1 + height) }
+{
+    1 << (1 + height)
+}
+
+/// What the entries of a prefix are, where they are alike.
+fn common_part(chosen: &[bool], height: u32, base: u64) -> Option<bool>
+    requires height { height ≤ 3 }
+    requires within { base + 2 ^ (1 + height) ≤ length chosen.now }
+    requires few { length chosen.now ≤ 16 }
+    ensures { result ≡ common (part chosen.now height base) }
+{
+    let from = base as usize;
+    common(&chosen[from..from + size(height)])
+}
+
+fn digit(chosen: bool) -> u64
+    ensures { result ≡ digit chosen }
+{
+    u64::from(chosen)
+}
+
+/// Two entries as bits, the first one of weight 1.
+fn pair(chosen: &[bool], base: u64) -> u64
+    requires within { base + 2 ≤ length chosen.now }
+    requires few { length chosen.now ≤ 16 }
+    ensures { result ≡ pair chosen.now base }
+{
+    let from = base as usize;
+    digit(chosen[from]) + 2 * digit(chosen[from + 1])
+}
+
+impl Tree for Table {
+    ghost use Rattle.std.specs.Prelude.{◌≡◌, length};
+    ghost use Rattle.std.proofs.Common.{refl, ◌∙◌};
+
+    ghost search = { λ t. table_search t.chosen.items t.first };
+
+    ghost looks = { λ t. t.looks };
+
+    ghost is_ready = { λ t. length t.chosen.items ≡ 16 };
+
+    ghost keeps = { λ s t. t.chosen.items ≡ s.chosen.items };
+
+    ghost keeps_itself = { λ t. refl };
+
+    ghost keeps_on = { λ s t u h k. k ∙ h };
+
+    fn decide(&mut self, height: u32, base: u64) -> Option<bool> {
+        self.looks += 1;
+        common_part(&self.chosen, height, base)
+    }
+
+    fn word(&mut self, base: u64) -> u64 {
+        self.looks += 1;
+        pair(&self.chosen, base)
+    }
+}
+
+fn sixteen(alloc: Global, first: u64) -> Result<Table, AllocError>
+    ensures first { IfOk result (λ t. t.first ≡ first) }
+    ensures looks { IfOk result (λ t. t.looks ≡ 0) }
+{
+    let mut chosen = Vec::new(alloc);
+    for digit in b"0001000011110010" {
+        chosen.push(*digit == b'1')?;
+    }
+    Ok(Table {
+        chosen,
+        first,
+        looks: 0,
+    })
+}
+
+/// The numbers that a search from `first` on gives, each with the looks so far, and at the end the looks in all.
+fn found(alloc: Global, first: u64) -> Result<(Vec<(u64, u64)>, u64), AllocError>
+    requires { first ≤ 16 }
+{
+    let mut table = sixteen(alloc, first)?;
+    let mut numbers = Vec::new(alloc);
+    if table.chosen.len() != 16 {
+        return Err(AllocError);
+    }
+    let plan = Plan {
+        tail: 1,
+        top: 3,
+        first,
+    };
+    let mut walk = begin(plan);
+    for _ in 0..20 {
+        let Some(number) = advance(plan, &mut table, &mut walk) else {
+            break;
+        };
+        numbers.push((number, table.looks))?;
+    }
+    Ok((numbers, table.looks))
+}
+
+#[test]
+fn a_table_is_searched(rt: HostRuntime) -> Result<(), AllocError> {
+    let cases: [(u64, &[(u64, u64)], u64); 5] = [
+        (0, &[(3, 5), (8, 8), (9, 8), (10, 8), (11, 8), (14, 11)], 11),
+        (4, &[(8, 5), (9, 5), (10, 5), (11, 5), (14, 8)], 8),
+        (9, &[(9, 3), (10, 3), (11, 3), (14, 6)], 6),
+        (12, &[(14, 5)], 5),
+        (16, &[], 0),
+    ];
+    for (first, wanted, looks) in cases {
+        let (numbers, made) = found(rt.alloc(), first.min(16))?;
+        assert!(rt; numbers.as_slice() == wanted, "from {first}");
+        assert_eq!(rt; made, looks, "from {first}");
+    }
+    Ok(())
+}
