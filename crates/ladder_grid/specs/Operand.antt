@@ -1,6 +1,7 @@
 -- What the text over a cell stands for (the profile; output variables of instances as in IEC 61131-3).
-use Rattle.std.specs.Prelude.{ℕ, ◌+◌, ◌-◌, ◌==◌, nat_le, Bool, true, false, not, ◌&&◌, ◌||◌, List, [], ◌∷◌, length, take, drop, codes, slice_get, Option, Some, None, if◌then◌else◌}
+use Rattle.std.specs.Prelude.{◌≡◌, ◌++◌, replicate, ℕ, ◌+◌, ◌-◌, ◌==◌, nat_le, Bool, true, false, not, ◌&&◌, ◌||◌, List, [], ◌∷◌, length, take, drop, codes, slice_get, Option, Some, None, if◌then◌else◌}
 use Rattle.ladder_vars.specs.Name.{is_name, same_letters}
+use Rattle.ladder_vars.specs.Text.{begins_with}
 use Rattle.ladder_vars.specs.Kind.{traits_of}
 use Rattle.ladder_vars.specs.Decls.{Declared, find, is_input}
 use Rattle.ladder_vars.specs.declared.decls.Symbol.{Symbol}
@@ -28,6 +29,15 @@ text_len at kept (b ∷ bs) = if b == space then text_len (at + 1) kept bs else 
 -- The characters without the spaces at both ends.
 unfoldable pub word_in : List ℕ → List ℕ
 word_in chars = take (text_len 0 0 (after_spaces chars)) (after_spaces chars)
+
+-- The characters are spaces, the word and spaces; the word neither begins nor ends with a space. Any characters have one such
+-- word, which is the one above.
+pub record IsWordIn (chars word : List ℕ) : Type 0 where
+  pub before : ℕ
+  pub after : ℕ
+  pub spelled : chars ≡ replicate before space ++ (word ++ replicate after space)
+  pub first : begins_with space word ≡ false
+  pub last : (front : List ℕ) → word ≡ front ++ space ∷ [] → ⊥
 
 -- the word ends so, in any letter case
 abbrev pub ends_in : List ℕ → List ℕ → Bool
