@@ -1,96 +1,186 @@
 #!/usr/bin/env python3
-"""Runs the built program as a user does: end_to_end.py PROGRAM."""
+"""Runs the built program as a user does: end_to_end.py PROGRAM [PATTERN].
+
+Each folder of tests/cases is a case, run in a temporary folder of its own:
+
+    words           the words behind the program's name, one a line
+    stdout, stderr  the exact bytes that are expected (absent: none)
+    status          the expected status (absent: 0)
+    files           lines `NAME FROM`: a copy of a file, named from the root of the repository
+    made            lines `NAME GENERATOR [WORDS]`: a text that a generator below makes, several lines of one name one behind the other
+
+Every other file of the folder is copied. PATTERN, as 'causes-*', chooses cases by name.
+"""
+import fnmatch
 import os
+import pathlib
+import shutil
 import subprocess
 import sys
 import tempfile
 
-MOTOR = """VAR
-  Start AT %IX0 : BOOL;
-  Stop AT %IX1 : BOOL;
-  Motor AT %QX0 : BOOL;
-END_VAR
-
-|   Start       Stop        Motor
-|----| |----+----|/|---------( )----
-|   Motor   |
-|----| |----+
-"""
-
-# It runs when it is begun with, and an instance is declared that isn't drawn.
-RUNNING = MOTOR.replace("Motor AT %QX0 : BOOL;", "Motor AT %QX0 : BOOL := TRUE;\n  Delay : TON := (PT := T#5s);")
-
-# The coil's variable has no address, and both contacts read what stood when the rung began.
-MEMORY = """VAR
-  A AT %IX0 : BOOL;
-  M : BOOL := 1;
-END_VAR
-|     A           M           M
-|----| |---------|/|---------( )----
-"""
-
-# name, program text (None: no file), words, standard output, standard error, status
-CASES = [
-    ("motor", MOTOR, ["causes", "text.ld", "Motor", "Start", "Stop"], "number,Start,Stop\n2,1,0\n", "rows 1\n", 0),
-    ("listed in another order", MOTOR, ["causes", "text.ld", "Motor", "Stop", "Start"], "number,Stop,Start\n1,0,1\n", "rows 1\n", 0),
-    ("no inputs listed", MOTOR, ["causes", "text.ld", "Motor"], "number\n", "rows 0\n", 0),
-    ("initial values", RUNNING, ["causes", "text.ld", "Motor", "Start", "Stop"], "number,Start,Stop\n0,0,0\n2,1,0\n", "rows 2\n", 0),
-    ("a coil on a memory variable", MEMORY, ["causes", "text.ld", "m", "A"], "number,A\n", "rows 0\n", 0),
-    ("a loose vertical link", MOTOR.replace("|/|", "| |").replace("+----| |-", "-----| |-"), ["causes", "text.ld", "Motor"], "", "fault G5 rung 1 line 9\n", 1),
-    ("no words", MOTOR, [], "", "fault usage\n", 2),
-    ("no file named", MOTOR, ["causes"], "", "fault usage\n", 2),
-    ("no coil named", MOTOR, ["causes", "text.ld"], "", "fault usage\n", 2),
-    ("an unknown subcommand", MOTOR, ["effects", "text.ld"], "", "fault usage\n", 2),
-    ("an unknown option", MOTOR, ["causes", "--all", "text.ld", "Motor"], "", "fault usage\n", 2),
-    ("words that are no text", MOTOR, [b"causes", b"text.ld", b"\xff"], "", "fault usage\n", 2),
-    ("a missing file", None, ["causes", "text.ld", "Motor"], "", "fault X1 program\n", 1),
-    ("a folder", None, ["causes", ".", "Motor"], "", "fault X1 program\n", 1),
-    ("an unknown coil", MOTOR, ["causes", "text.ld", "Moter"], "", "fault X3 word 1\n", 1),
-    ("an unknown input", MOTOR, ["causes", "text.ld", "Motor", "Start", "Halt"], "", "fault X3 word 3\n", 1),
-    ("no coil", MOTOR, ["causes", "text.ld", "Start"], "", "fault C2\n", 1),
-    ("no input", MOTOR, ["causes", "text.ld", "Motor", "Motor"], "", "fault C4\n", 1),
-    ("an input twice", MOTOR, ["causes", "text.ld", "Motor", "Start", "start"], "", "fault C5\n", 1),
-    ("an empty file", "", ["causes", "text.ld", "Motor"], "", "fault V8 line 1\n", 1),
-    ("an unfinished block", "VAR\nA AT %IX0 : BOOL;\nEND_VA", ["causes", "text.ld", "A"], "", "fault V8 line 3\n", 1),
-    ("a name twice", "VAR\nA AT %IX0 : BOOL;\na AT %IX1 : BOOL;\nEND_VAR\n", ["causes", "text.ld", "A"], "", "fault V4 line 3\n", 1),
-    ("an address twice", "VAR\nA AT %IX0 : BOOL;\nB AT %I00 : BOOL;\nEND_VAR\n", ["causes", "text.ld", "A"], "", "fault V5 line 3\n", 1),
-    ("a text too long", " " * 1_048_577, ["causes", "text.ld", "A"], "", "fault X5 program\n", 1),
-    ("the longest text", " " * 1_048_576, ["causes", "text.ld", "A"], "", "fault V8 line 1\n", 1),
-]
+HERE = pathlib.Path(__file__).resolve().parent
+ROOT = HERE.parent
+NO_INPUT = ("words", "stdout", "stderr", "status", "files", "made")
 
 
-def run(program, words, folder, stdout=subprocess.PIPE):
-    done = subprocess.run([program, *words], cwd=folder, stdout=stdout, stderr=subprocess.PIPE, timeout=60)
+def spaces(length):
+    """Nothing but spaces."""
+    return " " * int(length)
+
+
+def filled_motor(length):
+    """The motor, and line ends up to a length."""
+    return (HERE / "programs" / "motor.ld").read_text("ascii").ljust(int(length), "\n")
+
+
+def inputs(count):
+    """So many inputs, of which the first one alone feeds the coil."""
+    declared = "".join(f"  I{number} AT %IX{number - 1} : BOOL;\n" for number in range(1, int(count) + 1))
+    return f"VAR\n{declared}  Y AT %QX0 : BOOL;\nEND_VAR\n\n|     I1          Y\n|----| |---------( )----\n"
+
+
+def variables(count):
+    """So many declarations of variables."""
+    return "".join(f"V{number} : BOOL;\n" for number in range(1, int(count) + 1))
+
+
+def timers(count):
+    """So many declarations of timers."""
+    return "".join(f"T{number} : TON;\n" for number in range(1, int(count) + 1))
+
+
+def rungs(count):
+    """So many rungs of one line, each with a blank line behind it."""
+    return "|\n\n" * int(count)
+
+
+def line(words):
+    """These words as they stand."""
+    return f"{words}\n"
+
+
+MAKERS = (spaces, filled_motor, inputs, variables, timers, rungs, line)
+GENERATORS = {maker.__name__: maker for maker in MAKERS}
+
+
+def lines(path):
+    return path.read_text("ascii").splitlines() if path.exists() else []
+
+
+def content(path):
+    return path.read_bytes() if path.exists() else b""
+
+
+def fill(case, folder):
+    """Puts the files of a case into a folder."""
+    for path in case.iterdir():
+        if path.name not in NO_INPUT:
+            shutil.copy(path, folder)
+    for words in lines(case / "files"):
+        name, source = words.split()
+        shutil.copy(ROOT / source, folder / name)
+    for words in lines(case / "made"):
+        name, _, piece = words.partition(" ")
+        generator, _, rest = piece.partition(" ")
+        with open(folder / name, "a", encoding="ascii", newline="") as file:
+            file.write(GENERATORS[generator](rest))
+
+
+def run(program, words, folder, **streams):
+    """Standard output, standard error and status; a stream that isn't a pipe is None, and so is the status after a minute."""
+    streams = {"stdin": subprocess.DEVNULL, "stdout": subprocess.PIPE, "stderr": subprocess.PIPE, **streams}
+    try:
+        done = subprocess.run([program, *words], cwd=folder, timeout=60, check=False, **streams)
+    except subprocess.TimeoutExpired as late:
+        return late.stdout, late.stderr, None
     return done.stdout, done.stderr, done.returncode
 
 
-def check(name, have, want):
-    if have != want:
-        print(f"{name}\n  want {want}\n  have {have}")
-    return have == want
+def differences(have, want):
+    """A line for each part that differs; a part that is wanted as ... may be anything but empty."""
+    parts = zip(("stdout", "stderr", "status"), have, want)
+    return [f"  {part}: want {shown(due)}\n  {' ' * len(part)}  have {shown(found)}"
+            for part, found, due in parts if (not found if due is ... else found != due)]
+
+
+def shown(part):
+    text = "anything" if part is ... else repr(part)
+    return text if len(text) <= 2000 else f"{text[:2000]}... ({len(part)} bytes)"
+
+
+def run_case(program, case, folder):
+    fill(case, folder)
+    words = content(case / "words").splitlines()
+    want = content(case / "stdout"), content(case / "stderr"), int(content(case / "status") or 0)
+    return differences(run(program, words, folder), want)
+
+
+def help_is_printed(*words):
+    return lambda program, folder: differences(run(program, words, folder), (..., b"", 0))
+
+
+def full_device():
+    return open("/dev/full", "wb")
+
+
+def unread_pipe():
+    """The writing end of a pipe that nobody reads."""
+    reader, writer = os.pipe()
+    os.close(reader)
+    return open(writer, "wb")
+
+
+def on_a_stream(words, name, opened, want):
+    """A case on the motor with one of its streams opened otherwise."""
+
+    def job(program, folder):
+        shutil.copy(HERE / "programs" / "motor.ld", folder)
+        with opened() as stream:
+            return differences(run(program, words, folder, **{name: stream}), want)
+
+    return job
+
+
+def rows_on_a_closed_output(program, folder):
+    shutil.copy(HERE / "programs" / "motor.ld", folder)
+    have = run(program, CAUSES, folder, stdout=subprocess.DEVNULL, preexec_fn=lambda: os.close(1))
+    return differences(have, (None, b"fault X6\n", 1))
+
+
+CAUSES = ["causes", "motor.ld", "Motor", "Start", "Stop"]
+SPECIAL = {
+    "words-help": help_is_printed("--help"),
+    "words-help-as-a-subcommand": help_is_printed("help"),
+    "words-help-of-causes": help_is_printed("causes", "--help"),
+    "words-short-help-of-causes": help_is_printed("causes", "-h"),
+    "streams-help-on-a-full-device": on_a_stream(["--help"], "stdout", full_device, (None, b"fault X6\n", 1)),
+    "check-on-a-full-device": on_a_stream(["check", "motor.ld"], "stdout", full_device, (None, b"fault X6\n", 1)),
+    "check-help": help_is_printed("check", "--help"),
+    "streams-rows-on-a-full-device": on_a_stream(CAUSES, "stdout", full_device, (None, b"fault X6\n", 1)),
+    "streams-rows-on-an-unread-pipe": on_a_stream(CAUSES, "stdout", unread_pipe, (None, b"fault X6\n", 1)),
+    "streams-rows-on-a-closed-output": rows_on_a_closed_output,
+    "streams-counts-on-a-full-device": on_a_stream(CAUSES, "stderr", full_device, (b"number,Start,Stop\n2,1,0\n", None, 1)),
+    "streams-fault-on-a-full-device": on_a_stream(["causes", "motor.ld", "Moter"], "stderr", full_device, (b"", None, 1)),
+    "streams-usage-on-a-full-device": on_a_stream(["causes"], "stderr", full_device, (b"", None, 2)),
+}
 
 
 def main():
-    program = os.path.abspath(sys.argv[1])
+    """Runs the chosen cases and answers the status."""
+    program, pattern = os.path.abspath(sys.argv[1]), (sys.argv[2:] or ["*"])[0]
+    jobs = {case.name: lambda program, folder, case=case: run_case(program, case, folder) for case in (HERE / "cases").iterdir()}
+    jobs.update(SPECIAL)
+    names = sorted(name for name in jobs if fnmatch.fnmatch(name, pattern))
     passed = 0
-    for name, text, words, out, err, status in CASES:
+    for name in names:
         with tempfile.TemporaryDirectory() as folder:
-            if text is not None:
-                with open(os.path.join(folder, "text.ld"), "w", encoding="ascii") as file:
-                    file.write(text)
-            passed += check(name, run(program, words, folder), (out.encode(), err.encode(), status))
-
-    with tempfile.TemporaryDirectory() as folder:
-        out, err, status = run(program, ["--help"], folder)
-        passed += check("help", (bool(out), err, status), (True, b"", 0))
-        with open(os.path.join(folder, "text.ld"), "w", encoding="ascii") as file:
-            file.write(MOTOR)
-        with open("/dev/full", "wb") as full:
-            _, err, status = run(program, ["causes", "text.ld", "Motor"], folder, full)
-        passed += check("a full device", (err, status), (b"fault X6\n", 1))
-
-    print(f"{passed} of {len(CASES) + 2} end-to-end cases passed")
-    return 0 if passed == len(CASES) + 2 else 1
+            found = jobs[name](program, pathlib.Path(folder))
+        passed += not found
+        if found:
+            print(name, *found, sep="\n")
+    print(f"{passed} of {len(names)} passed")
+    return 0 if names and passed == len(names) else 1
 
 
 if __name__ == "__main__":

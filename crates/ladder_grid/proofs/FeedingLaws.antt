@@ -8,6 +8,7 @@ use Rattle.ladder_grid.specs.declared.form.Form.{Form}
 use Rattle.ladder_grid.specs.declared.form.Form.TheVariants.{Empty, Wire, Contact, Coil, Block, Lower, Jump, Return}
 use Rattle.ladder_grid.specs.declared.fault.Rule.TheVariants.{Grid}
 use Rattle.ladder_grid.specs.declared.fault.GridRule.TheVariants as rule
+use Rattle.ladder_grid.specs.declared.picture.Half.TheVariants as half
 use Rattle.ladder_grid.specs.declared.operand.Reference.{Reference}
 use Rattle.ladder_grid.specs.Form.{Table, Lists, whole_cells, HasForm, IsFormOf}
 use Rattle.ladder_grid.specs.Picture.{Lines, ch, joint, vertical, cell_text, SameGroup}
@@ -48,12 +49,12 @@ module _ (page : Page) (d : Drawing) (drawn : IsDrawn page d) where
 
   -- ---- groups
 
-  joined_links : (k c row n : ℕ) → k < d.rungs → c < 10 → row + n ≤ 6 → joined d k c row n ≡ true
+  joined_links : (k c row n : ℕ) → k < d.rungs → c < 10 → row + n ≤ 6 → joined d k row c n ≡ true
       → (m : ℕ) → row ≤ m → m < row + n → vertical (rung_at page k) m c ≡ true
   unfolding joined
   joined_links k c row zero below columns rows h m from to = absurd (omega (arith, from, to))
   joined_links k c row (suc n) below columns rows h m from to =
-      let parts = and_parts (joined d k c row n) (site_at d k (row + n) c).vertical h in
+      let parts = and_parts (joined d k row c n) (site_at d k (row + n) c).vertical h in
       elim (cases_lt m (row + n)) [
         | inl before ↦ joined_links k c row n below columns (omega (arith, rows)) parts.0 m from before
         | inr past ↦
@@ -63,12 +64,12 @@ module _ (page : Page) (d : Drawing) (drawn : IsDrawn page d) where
       ]
 
   links_joined : (k c row n : ℕ) → k < d.rungs → c < 10 → row + n ≤ 6
-      → ((m : ℕ) → row ≤ m → m < row + n → vertical (rung_at page k) m c ≡ true) → joined d k c row n ≡ true
+      → ((m : ℕ) → row ≤ m → m < row + n → vertical (rung_at page k) m c ≡ true) → joined d k row c n ≡ true
   unfolding joined
   links_joined k c row zero below columns rows h = refl
   links_joined k c row (suc n) below columns rows h =
       let inside : row + n < 6 = omega (arith, rows) in
-      let before : joined d k c row n ≡ true
+      let before : joined d k row c n ≡ true
       = links_joined k c row n below columns (omega (arith, rows)) (λ m from to. h m from (omega (arith, to))) in
       let last : (site_at d k (row + n) c).vertical ≡ true
       = vertical_is k (row + n) c below inside columns ∙ h (row + n) (omega arith) (omega arith) in
@@ -101,7 +102,7 @@ module _ (page : Page) (d : Drawing) (drawn : IsDrawn page d) where
             let some : nat_le 1 c ≡ true = le-leb 1 c h.0 in
             let right : (site_at d k q (c - 1)).right_link ≡ true = link ∙ e.0 in
             let meets : takes_power (site_at d k q c).joint ≡ true = takes ∙ e.1 in
-            let group : joined d k c (min r q) (max r q - min r q) ≡ true = groups.1 h.1 in
+            let group : joined d k (min r q) c (max r q - min r q) ≡ true = groups.1 h.1 in
             rw (some, right, meets, group) refl,
       )
 
@@ -156,11 +157,10 @@ module _ (page : Page) (d : Drawing) (drawn : IsDrawn page d) where
             let inside : k < length page.parts = omega (arith, below, drawn.rungs) in
             let judged : k < 100 = omega (arith, below, drawn.whole.few) in
             let high : c ≤ 10 = omega (arith, columns) in
-            let wire_line : 1 < 2 = omega arith in
             let past : nat_le 1 c ≡ true = le-leb 1 c some in
             let in_columns : nat_lt c 10 ≡ true = lt-ltb c 10 columns in
             let last : (c == 10) ≡ false = ne_eqb c 10 (λ is. absurd (omega (arith, is, columns))) in
-            let broken : bad_joint page k r 1 c ≡ true = rw (last, past, in_columns, e) refl in
+            let broken : bad_joint page k r half.Wire c ≡ true = rw (last, past, in_columns, e) refl in
             absurd (drawn.sound (Grid rule.BadJoint) k ((part_at page k).start + (2 * r + 1)) (inl (
               inside,
               inr (inr (
@@ -169,13 +169,10 @@ module _ (page : Page) (d : Drawing) (drawn : IsDrawn page d) where
                 refl,
                 record {
                   row = r;
-                  half = 1;
-                  column = c;
+                  half = half.Wire;
                   in_rung = rows;
-                  in_row = wire_line;
-                  in_columns = high;
                   on = refl;
-                  breaks = broken;
+                  along = (c, high, broken);
                 },
               )),
             )))
@@ -189,7 +186,6 @@ module _ (page : Page) (d : Drawing) (drawn : IsDrawn page d) where
       let inside : k < length page.parts = omega (arith, below, drawn.rungs) in
       let judged : k < 100 = omega (arith, below, drawn.whole.few) in
       let high : c ≤ 10 = omega (arith, columns) in
-      let wire_line : 1 < 2 = omega arith in
       drawn.sound (Grid rule.Unfed) k ((part_at page k).start + (2 * r + 1)) (inl (
         inside,
         inr (inr (
@@ -198,13 +194,10 @@ module _ (page : Page) (d : Drawing) (drawn : IsDrawn page d) where
           refl,
           record {
             row = r;
-            half = 1;
-            column = c;
+            half = half.Wire;
             in_rung = rows;
-            in_row = wire_line;
-            in_columns = high;
             on = refl;
-            breaks = (refl, columns, (some, dashed, unfed));
+            along = (c, high, (refl, columns, (some, dashed, unfed)));
           },
         )),
       ))

@@ -15,6 +15,7 @@ use Rattle.ladder_grid.specs.declared.form.Form.{Form}
 use Rattle.ladder_grid.specs.declared.form.Form.TheVariants.{Empty, Wire, Contact, Coil, Block, Lower, Jump, Return}
 use Rattle.ladder_grid.specs.declared.fault.Rule.TheVariants.{Grid}
 use Rattle.ladder_grid.specs.declared.fault.GridRule.TheVariants as rule
+use Rattle.ladder_grid.specs.declared.picture.Half.TheVariants as half
 use Rattle.ladder_grid.specs.declared.operand.Reference.{Reference}
 use Rattle.ladder_grid.specs.Gap.{Labels, is_named}
 use Rattle.ladder_grid.specs.Operand.{instance_of, instance_on, is_odd}
@@ -336,38 +337,38 @@ module _ (page : Page) (rungs : ℕ) (sites : List Site)
   unfolding PartBreaks
   never_twice number k r c j q b below rows columns other_rows other_columns here there earlier =
       let high : c ≤ 10 = omega arith in
-      let name_line : 0 < 2 = omega arith in
       let inside : k < length page.parts = omega (arith, below, count) in
       let judged : k < 100 = omega (arith, below, few) in
-      sound (Grid rule.DrawnTwice) k ((part_at page k).start + (2 * r + 0)) (inl (
+      sound (Grid rule.DrawnTwice) k ((part_at page k).start + 2 * r) (inl (
         inside,
         inr (inr (
           judged,
-          2 * r + 0,
+          2 * r,
           refl,
           record {
             row = r;
-            half = 0;
-            column = c;
+            half = half.Name;
             in_rung = rows;
-            in_row = name_line;
-            in_columns = high;
             on = refl;
-            breaks = (
-              refl,
-              columns,
+            along = (
+              c,
+              high,
               (
-                number,
-                here,
-                record {
-                  rung = j;
-                  row = q;
-                  column = b;
-                  in_rung = other_rows;
-                  in_row = other_columns;
-                  earlier = earlier;
-                  drawn = there;
-                },
+                refl,
+                columns,
+                (
+                  number,
+                  here,
+                  record {
+                    rung = j;
+                    row = q;
+                    column = b;
+                    in_rung = other_rows;
+                    in_row = other_columns;
+                    earlier = earlier;
+                    drawn = there;
+                  },
+                ),
               ),
             );
           },
@@ -380,7 +381,6 @@ module _ (page : Page) (rungs : ℕ) (sites : List Site)
   unfolding PartBreaks
   never_two k r c q b below rows columns other_rows other_columns here there earlier =
       let high : c ≤ 10 = omega arith in
-      let wire_line : 1 < 2 = omega arith in
       let inside : k < length page.parts = omega (arith, below, count) in
       let judged : k < 100 = omega (arith, below, few) in
       sound (Grid rule.TwoJumps) k ((part_at page k).start + (2 * r + 1)) (inl (
@@ -391,24 +391,25 @@ module _ (page : Page) (rungs : ℕ) (sites : List Site)
           refl,
           record {
             row = r;
-            half = 1;
-            column = c;
+            half = half.Wire;
             in_rung = rows;
-            in_row = wire_line;
-            in_columns = high;
             on = refl;
-            breaks = (
-              refl,
-              columns,
-              record {
-                row = q;
-                column = b;
-                in_rung = other_rows;
-                in_row = other_columns;
-                earlier = earlier;
-                this = here;
-                other = there;
-              },
+            along = (
+              c,
+              high,
+              (
+                refl,
+                columns,
+                record {
+                  row = q;
+                  column = b;
+                  in_rung = other_rows;
+                  in_row = other_columns;
+                  earlier = earlier;
+                  this = here;
+                  other = there;
+                },
+              ),
             );
           },
         )),
@@ -556,27 +557,23 @@ module _ (page : Page) (rungs : ℕ) (sites : List Site)
         | false ↦ λ _. refl
         | true ↦ λ odd.
             let high : c ≤ 10 = omega arith in
-            let name_line : 0 < 2 = omega arith in
             let inside : k < length page.parts = omega (arith, below, count) in
             let judged : k < 100 = omega (arith, below, few) in
             let judged : k < 100 = omega (arith, below, few) in
             let in_columns : nat_lt c 10 ≡ true = lt-ltb c 10 columns in
-            let broken : wrong_kind page k r 0 c ≡ true = rw (in_columns, odd) refl in
-            absurd (sound (Grid rule.WrongKind) k ((part_at page k).start + (2 * r + 0)) (inl (
+            let broken : wrong_kind page k r half.Name c ≡ true = rw (in_columns, odd) refl in
+            absurd (sound (Grid rule.WrongKind) k ((part_at page k).start + 2 * r) (inl (
               inside,
               inr (inr (
                 judged,
-                2 * r + 0,
+                2 * r,
                 refl,
                 record {
                   row = r;
-                  half = 0;
-                  column = c;
+                  half = half.Name;
                   in_rung = rows;
-                  in_row = name_line;
-                  in_columns = high;
                   on = refl;
-                  breaks = broken;
+                  along = (c, high, broken);
                 },
               )),
             )))
@@ -613,12 +610,11 @@ module _ (page : Page) (rungs : ℕ) (sites : List Site)
         | false ↦ λ _. refl
         | true ↦ λ apart_here.
             let high : c ≤ 10 = omega arith in
-            let wire_line : 1 < 2 = omega arith in
             let inside : k < length page.parts = omega (arith, below, count) in
             let judged : k < 100 = omega (arith, below, few) in
             let judged : k < 100 = omega (arith, below, few) in
             let in_columns : nat_lt c 10 ≡ true = lt-ltb c 10 columns in
-            let broken : bad_block page k r 1 c ≡ true = rw (in_columns, apart_here) refl in
+            let broken : bad_block page k r half.Wire c ≡ true = rw (in_columns, apart_here) refl in
             absurd (sound (Grid rule.BlockShape) k ((part_at page k).start + (2 * r + 1)) (inl (
               inside,
               inr (inr (
@@ -627,13 +623,10 @@ module _ (page : Page) (rungs : ℕ) (sites : List Site)
                 refl,
                 record {
                   row = r;
-                  half = 1;
-                  column = c;
+                  half = half.Wire;
                   in_rung = rows;
-                  in_row = wire_line;
-                  in_columns = high;
                   on = refl;
-                  breaks = broken;
+                  along = (c, high, broken);
                 },
               )),
             )))

@@ -13,7 +13,7 @@ use Rattle.ladder_grid.specs.Program.{Drawing, site_at, joined, feeds}
 abbrev pub SameGroups : Page → Drawing → Type 0
 SameGroups page d =
     (k r q c : ℕ) → k < d.rungs → r < ROWS → q < ROWS → c < COLUMNS
-    → (joined d k c (min r q) (max r q - min r q) ≡ true) ↔ SameGroup (rung_at page k) c r q
+    → (joined d k (min r q) c (max r q - min r q) ≡ true) ↔ SameGroup (rung_at page k) c r q
 
 -- A row feeds a cell of the program exactly where its right link enters the group of the cell's joint in the picture.
 abbrev pub SameFeeding : Page → Drawing → Type 0

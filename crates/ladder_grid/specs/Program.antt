@@ -1,6 +1,6 @@
--- A program as its drawing has it, and the list of steps that a scan goes through.
+-- A program: its declarations, and what its drawing has at each place.
 -- Rungs, rows and columns are counted from 0. The place of a cell in its rung is 6 * column + row.
-use Rattle.std.specs.Prelude.{◌≡◌, ℕ, zero, suc, ◌+◌, ◌-◌, ◌*◌, ◌/◌, ◌%◌, ◌^◌, ◌<◌, ◌≤◌, min, max, nat_le, Bool, true, false, ◌&&◌, ◌==◌, List, [], ◌∷◌, ◌++◌, length, count_by, slice_get, slice_index_or, Option, Some, None, if◌then◌else◌}
+use Rattle.std.specs.Prelude.{◌≡◌, ℕ, zero, suc, ◌+◌, ◌-◌, ◌*◌, ◌/◌, ◌%◌, ◌<◌, ◌≤◌, min, max, nat_le, Bool, true, false, ◌&&◌, ◌==◌, List, length, count_by, slice_get, slice_index_or, Option, Some, None}
 use Rattle.std.specs.List.{list_any}
 use Rattle.ladder_vars.specs.Decls.{Declared}
 use Rattle.ladder_vars.specs.declared.decls.Instance.{Instance}
@@ -16,9 +16,8 @@ use Rattle.ladder_grid.specs.declared.cell.Cell.TheVariants as cell
 use Rattle.ladder_grid.specs.declared.cell.Joint.{Joint}
 use Rattle.ladder_grid.specs.declared.cell.Joint.TheVariants as joint
 use Rattle.ladder_grid.specs.declared.site.Site.{Site}
-use Rattle.ladder_grid.specs.declared.program.Step.{Step}
 
--- The declarations, and what stands at each place: all places by rung, column and row.
+-- The declarations, and what is at each place: all places by rung, column and row.
 pub record Drawing : Type 0 where
   pub decls : Declared
   pub rungs : ℕ
@@ -30,7 +29,7 @@ drawing decls rungs sites = record { decls = decls; rungs = rungs; sites = sites
 abbrev pub blank_site : Site
 blank_site = record { cell = cell.Empty; right_link = false; joint = joint.Blank; vertical = false }
 
--- what stands at a place
+-- what is at a place
 abbrev pub site_in : Drawing → ℕ → Site
 site_in d i = slice_index_or d.sites i blank_site
 
@@ -53,8 +52,8 @@ takes_power joint.Bar = false
 
 -- vertical links on the left of the column join the n + 1 rows from this one on
 unfoldable pub joined : Drawing → ℕ → ℕ → ℕ → ℕ → Bool
-joined d rung column row zero = true
-joined d rung column row (suc n) = joined d rung column row n && (site_at d rung (row + n) column).vertical
+joined d rung row column zero = true
+joined d rung row column (suc n) = joined d rung row column n && (site_at d rung (row + n) column).vertical
 
 -- The right link of the row `from` in the column before enters the group of the row's joint.
 abbrev pub feeds : Drawing → ℕ → ℕ → ℕ → ℕ → Bool
@@ -62,12 +61,7 @@ feeds d rung row column from =
     nat_le 1 column
     && ((site_at d rung from (column - 1)).right_link
     && (takes_power (site_at d rung from column).joint
-    && joined d rung column (min row from) (max row from - min row from)))
-
--- the number whose bit of weight 2 ^ i is whether f i holds, for i below n
-unfoldable pub mask : (ℕ → Bool) → ℕ → ℕ
-mask f zero = 0
-mask f (suc n) = mask f n + (if f n then 2 ^ n else 0)
+    && joined d rung (min row from) column (max row from - min row from)))
 
 abbrev pub is_empty : Cell → Bool
 is_empty cell.Empty = true
@@ -78,21 +72,6 @@ is_empty (cell.Block inst) = false
 is_empty (cell.Lower inst linked) = false
 is_empty (cell.Jump target) = false
 is_empty cell.Return = false
-
--- A cell with the rows of the column before that feed it; none in the first column, where the left rail does.
-abbrev pub step_at : Drawing → ℕ → ℕ → Step
-step_at d rung at = record { row = at % ROWS; column = at / ROWS; cell = cell_of d rung at; feeds = mask (feeds d rung (at % ROWS) (at / ROWS)) ROWS }
-
--- those of the cells before the place `at` that aren't empty
-unfoldable pub steps_before : Drawing → ℕ → ℕ → List Step
-steps_before d rung zero = []
-steps_before d rung (suc at) =
-    if is_empty (cell_of d rung at) then steps_before d rung at
-    else steps_before d rung at ++ step_at d rung at ∷ []
-
--- One step for each cell of the rung that isn't empty, by column and row.
-unfoldable pub steps_of : Drawing → ℕ → List Step
-steps_of d rung = steps_before d rung PLACES
 
 -- where a cell leads out of its rung: past the last one by a return
 abbrev pub goes_to : ℕ → Cell → Option ℕ
@@ -148,7 +127,7 @@ is_coil_of var (cell.Lower inst linked) = false
 is_coil_of var (cell.Jump target) = false
 is_coil_of var cell.Return = false
 
--- whether a coil stands on the variable
+-- whether a coil writes the variable
 abbrev pub has_coil : ℕ → Drawing → Bool
 has_coil var d = list_any (λ s. is_coil_of var s.cell) d.sites
 
@@ -156,16 +135,6 @@ has_coil var d = list_any (λ s. is_coil_of var s.cell) d.sites
 pub record IsWhole (d : Drawing) : Type 0 where
   pub few : d.rungs ≤ RUNGS
   pub size : length d.sites ≡ PLACES * d.rungs
-
--- What a program keeps beside its drawing is the drawing's.
-pub record IsCompiled (d : Drawing) (compiled : List (List Step)) (jumps : List (Option (ℕ × ℕ × ℕ))) (memories : ℕ)
-    : Type 0 where
-  pub whole : IsWhole d
-  pub step_count : length compiled ≡ d.rungs
-  pub each_steps : (k : ℕ) → k < d.rungs → slice_index_or compiled k [] ≡ steps_of d k
-  pub jump_count : length jumps ≡ d.rungs
-  pub each_jump : (k : ℕ) → k < d.rungs → slice_index_or jumps k None ≡ jump_of d k
-  pub memory_count : memories ≡ memories_of d
 
 abbrev pub block_in : Cell → Option ℕ
 block_in cell.Empty = None

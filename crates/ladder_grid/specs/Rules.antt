@@ -1,5 +1,5 @@
 -- The rules of the cells, joints and names of a page (the profile): what each asks of a place. A place is a rung k, a row r, its
--- name line (h = 0) or its wire line (h = 1), and a column c; column 10 stands for the right rail.
+-- name line or its wire line, and a column c; column 10 stands for the right rail.
 use Rattle.std.specs.Prelude.{◌≡◌, ℕ, ◌+◌, ◌-◌, ◌*◌, ◌<◌, ◌≤◌, nat_lt, nat_le, Bool, true, false, not, ◌&&◌, ◌||◌, ◌==◌, List, Option, Some, None, if◌then◌else◌}
 use Rattle.std.specs.List.{list_any}
 use Rattle.ladder_vars.specs.Kind.{traits_of}
@@ -13,7 +13,9 @@ use Rattle.ladder_grid.specs.declared.fault.GridRule.{GridRule}
 use Rattle.ladder_grid.specs.declared.fault.GridRule.TheVariants as rule
 use Rattle.ladder_grid.specs.declared.operand.Reference.{Reference}
 use Rattle.ladder_grid.specs.Operand.{is_odd}
-use Rattle.ladder_grid.specs.Picture.{Lines, ch, text_over, joint}
+use Rattle.ladder_grid.specs.Picture.{Lines, line_of, ch, text_over, joint}
+use Rattle.ladder_grid.specs.declared.picture.Half.{Half}
+use Rattle.ladder_grid.specs.declared.picture.Half.TheVariants as half
 use Rattle.ladder_grid.specs.Feeding.{right_link, IsUnfed}
 use Rattle.ladder_grid.specs.Page.{Page, rung_at, form_at, name_over, instance_at}
 use Rattle.ladder_grid.specs.Geometry.{reading_place}
@@ -23,8 +25,9 @@ is_form None = false
 is_form (Some form) = true
 
 -- G3: the cell has none of the forms.
-abbrev pub bad_cell : Page → ℕ → ℕ → ℕ → ℕ → Bool
-bad_cell page k r h c = h == 1 && (nat_lt c COLUMNS && not (is_form (form_at page k r c)))
+abbrev pub bad_cell : Page → ℕ → ℕ → Half → ℕ → Bool
+bad_cell page k r half.Name c = false
+bad_cell page k r half.Wire c = nat_lt c COLUMNS && not (is_form (form_at page k r c))
 
 -- on a name line a joint's place has a space or a bar
 abbrev pub bad_name_joint : ℕ → Bool
@@ -39,23 +42,25 @@ abbrev pub bad_rail : ℕ → Bool
 bad_rail b = not (b == space || (b == plus || b == bar))
 
 -- G4: the character at a joint's place or at the right rail isn't allowed there, or doesn't fit the cells beside it.
-abbrev pub bad_joint : Page → ℕ → ℕ → ℕ → ℕ → Bool
+abbrev pub bad_at_joint : Page → ℕ → ℕ → Half → ℕ → Bool
+bad_at_joint page k r half.Name c = bad_name_joint (ch (rung_at page k) (2 * r) (PITCH * c))
+bad_at_joint page k r half.Wire c =
+    bad_wire_joint (joint (rung_at page k) r c) (right_link page k r (c - 1)) (ch (rung_at page k) (2 * r + 1) (PITCH * c + 1))
+
+abbrev pub bad_joint : Page → ℕ → ℕ → Half → ℕ → Bool
 bad_joint page k r h c =
-    (c == COLUMNS && bad_rail (ch (rung_at page k) (2 * r + h) RAIL))
-    || ((nat_le 1 c && nat_lt c COLUMNS)
-    && ((h == 0 && bad_name_joint (ch (rung_at page k) (2 * r) (PITCH * c)))
-    || (h == 1
-    && bad_wire_joint (joint (rung_at page k) r c) (right_link page k r (c - 1)) (ch (rung_at page k) (2 * r + 1) (PITCH * c + 1)))))
+    (c == COLUMNS && bad_rail (ch (rung_at page k) (line_of r h) RAIL))
+    || ((nat_le 1 c && nat_lt c COLUMNS) && bad_at_joint page k r h c)
 
 abbrev pub is_branch : ℕ → Bool
 is_branch b = b == plus || b == bar
 
 -- G5: a bar on a name line where the joint above it or the one below it is neither a `+` nor a bar; row 0 has none above.
-abbrev pub bad_vertical : Lines → ℕ → ℕ → ℕ → Bool
-bad_vertical rung r h c =
-    h == 0
-    && ((nat_le 1 c && nat_lt c COLUMNS)
-    && (ch rung (2 * r) (PITCH * c) == bar && (r == 0 || (not (is_branch (joint rung (r - 1) c)) || not (is_branch (joint rung r c))))))
+abbrev pub bad_vertical : Lines → ℕ → Half → ℕ → Bool
+bad_vertical rung r half.Name c =
+    (nat_le 1 c && nat_lt c COLUMNS)
+    && (ch rung (2 * r) (PITCH * c) == bar && (r == 0 || (not (is_branch (joint rung (r - 1) c)) || not (is_branch (joint rung r c)))))
+bad_vertical rung r half.Wire c = false
 
 -- the forms that have a name over them
 abbrev pub wants_name : Option Form → Bool
@@ -68,24 +73,28 @@ abbrev pub has_text : List ℕ → Bool
 has_text chars = list_any (λ b. not (b == space)) chars
 
 -- G7: no name over a contact, a coil or a block.
-abbrev pub name_missing : Page → ℕ → ℕ → ℕ → ℕ → Bool
-name_missing page k r h c = h == 0 && (nat_lt c COLUMNS && (wants_name (form_at page k r c) && not (has_text (text_over (rung_at page k) r c))))
+abbrev pub name_missing : Page → ℕ → ℕ → Half → ℕ → Bool
+name_missing page k r half.Name c = nat_lt c COLUMNS && (wants_name (form_at page k r c) && not (has_text (text_over (rung_at page k) r c)))
+name_missing page k r half.Wire c = false
 
 -- G8: a text over another cell.
-abbrev pub name_without : Page → ℕ → ℕ → ℕ → ℕ → Bool
-name_without page k r h c = h == 0 && (nat_lt c COLUMNS && (not (wants_name (form_at page k r c)) && has_text (text_over (rung_at page k) r c)))
+abbrev pub name_without : Page → ℕ → ℕ → Half → ℕ → Bool
+name_without page k r half.Name c = nat_lt c COLUMNS && (not (wants_name (form_at page k r c)) && has_text (text_over (rung_at page k) r c))
+name_without page k r half.Wire c = false
 
 abbrev pub is_known : Option Reference → Bool
 is_known None = false
 is_known (Some name) = true
 
 -- G9: the text over the cell is no declared name.
-abbrev pub undeclared : Page → ℕ → ℕ → ℕ → ℕ → Bool
-undeclared page k r h c = h == 0 && (nat_lt c COLUMNS && (wants_name (form_at page k r c) && not (is_known (name_over page k r c))))
+abbrev pub undeclared : Page → ℕ → ℕ → Half → ℕ → Bool
+undeclared page k r half.Name c = nat_lt c COLUMNS && (wants_name (form_at page k r c) && not (is_known (name_over page k r c)))
+undeclared page k r half.Wire c = false
 
 -- G10: the name is none that the symbol may have.
-abbrev pub wrong_kind : Page → ℕ → ℕ → ℕ → ℕ → Bool
-wrong_kind page k r h c = h == 0 && (nat_lt c COLUMNS && is_odd page.decls (form_at page k r c) (name_over page k r c))
+abbrev pub wrong_kind : Page → ℕ → ℕ → Half → ℕ → Bool
+wrong_kind page k r half.Name c = nat_lt c COLUMNS && is_odd page.decls (form_at page k r c) (name_over page k r c)
+wrong_kind page k r half.Wire c = false
 
 abbrev pub same_pin : Pin → Pin → Bool
 same_pin pin.Reset pin.Reset = true
@@ -123,8 +132,9 @@ abbrev pub form_below : Page → ℕ → ℕ → ℕ → Option Form
 form_below page k r c = if r + 1 == ROWS then None else form_at page k (r + 1) c
 
 -- G11: a block with a second input lacks its lower cell in the next row, or a lower cell its block above.
-abbrev pub bad_block : Page → ℕ → ℕ → ℕ → ℕ → Bool
-bad_block page k r h c = h == 1 && (nat_lt c COLUMNS && is_apart (form_above page k r c) (form_at page k r c) (form_below page k r c))
+abbrev pub bad_block : Page → ℕ → ℕ → Half → ℕ → Bool
+bad_block page k r half.Wire c = nat_lt c COLUMNS && is_apart (form_above page k r c) (form_at page k r c) (form_below page k r c)
+bad_block page k r half.Name c = false
 
 -- G12: the block's instance was drawn at an earlier place, of this rung or of one before.
 pub record IsDrawnBefore (page : Page) (inst k r c : ℕ) : Type 0 where
@@ -155,31 +165,32 @@ pub record IsSecondJump (page : Page) (k r c : ℕ) : Type 0 where
   pub other : leaps (form_at page k row column) ≡ true
 
 -- The rule is broken at the place. Only these rules speak of places.
-abbrev pub BreaksAt : GridRule → Page → ℕ → ℕ → ℕ → ℕ → Type 0
+abbrev pub BreaksAt : GridRule → Page → ℕ → ℕ → Half → ℕ → Type 0
 BreaksAt rule.BadCell page k r h c = bad_cell page k r h c ≡ true
 BreaksAt rule.BadJoint page k r h c = bad_joint page k r h c ≡ true
 BreaksAt rule.BrokenVertical page k r h c = bad_vertical (rung_at page k) r h c ≡ true
-BreaksAt rule.Unfed page k r h c = (h ≡ 1) × (c < COLUMNS) × IsUnfed page k r c
+BreaksAt rule.Unfed page k r h c = (h ≡ half.Wire) × (c < COLUMNS) × IsUnfed page k r c
 BreaksAt rule.NameMissing page k r h c = name_missing page k r h c ≡ true
 BreaksAt rule.NameWithoutSymbol page k r h c = name_without page k r h c ≡ true
 BreaksAt rule.Undeclared page k r h c = undeclared page k r h c ≡ true
 BreaksAt rule.WrongKind page k r h c = wrong_kind page k r h c ≡ true
 BreaksAt rule.BlockShape page k r h c = bad_block page k r h c ≡ true
-BreaksAt rule.DrawnTwice page k r h c = (h ≡ 0) × (c < COLUMNS) × IsDrawnTwice page k r c
-BreaksAt rule.TwoJumps page k r h c = (h ≡ 1) × (c < COLUMNS) × IsSecondJump page k r c
+BreaksAt rule.DrawnTwice page k r h c = (h ≡ half.Name) × (c < COLUMNS) × IsDrawnTwice page k r c
+BreaksAt rule.TwoJumps page k r h c = (h ≡ half.Wire) × (c < COLUMNS) × IsSecondJump page k r c
 BreaksAt other page k r h c = ⊥
+
+-- The rule is broken on this line of a row.
+abbrev pub IsBrokenAlong : GridRule → Page → ℕ → ℕ → Half → Type 0
+IsBrokenAlong rule page k r h = (c : ℕ) × (c ≤ COLUMNS) × BreaksAt rule page k r h c
 
 -- The rule is broken on this line of the rung.
 pub record IsBrokenOn (rule : GridRule) (page : Page) (rung line : ℕ) : Type 0 where
   pub row : ℕ
-  pub half : ℕ
-  pub column : ℕ
+  pub half : Half
   pub in_rung : row < ROWS
-  pub in_row : half < 2
-  pub in_columns : column ≤ COLUMNS
-  pub on : line ≡ 2 * row + half
-  pub breaks : BreaksAt rule page rung row half column
+  pub on : line ≡ line_of row half
+  pub along : IsBrokenAlong rule page rung row half
 
 -- The rule is broken nowhere in the rung.
 abbrev pub IsKept : Page → ℕ → GridRule → Type 0
-IsKept page k rule = (r h c : ℕ) → r < ROWS → h < 2 → c ≤ COLUMNS → BreaksAt rule page k r h c → ⊥
+IsKept page k rule = (r : ℕ) → r < ROWS → (h : Half) → IsBrokenAlong rule page k r h → ⊥

@@ -31,7 +31,7 @@ fn after_memory(number: usize, cell: &Cell) -> usize
     if has_memory(cell) { number + 1 } else { number }
 }
 
-/// What stands at each place, by rung, column and row; memories are numbered in this order.
+/// What is at each place, by rung, column and row; memories are numbered in this order.
 fn sites(
     alloc: Global,
     page: PageView<'_, '_>,
@@ -99,7 +99,7 @@ fn read_sites(alloc: Global, decls: &Decls, text: &[u8]) -> Result<(usize, Vec<S
     )
 }
 
-/// The program that these declarations and the text behind them make.
+/// The program that these declarations and the text after them make.
 pub(crate) fn read_drawing(alloc: Global, decls: Decls, text: &[u8]) -> Result<Program, Stop>
     ensures found { IfOk result (λ p. IsDrawn (page_of decls text.now) p) }
     ensures broken { IfErr result (IsBrokenIn (page_of decls text.now)) }

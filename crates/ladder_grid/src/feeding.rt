@@ -22,36 +22,39 @@ fn passes_on(form: &Option<Form>) -> bool
 }
 
 /// Whether a cell has a right link.
-pub(crate) fn right_link(page: PageView<'_, '_>, k: usize, r: usize, c: usize) -> bool
-    requires rungs { k < length page.parts.now }
+pub(crate) fn right_link(page: PageView<'_, '_>, rung: usize, row: usize, column: usize) -> bool
+    requires rungs { rung < length page.parts.now }
     requires within { All (IsWithin (length page.lines.now)) page.parts.now }
-    requires rows { r < ROWS }
-    requires columns { c < COLUMNS }
-    ensures { result ≡ right_link (seen page.entry) k r c }
+    requires rows { row < ROWS }
+    requires columns { column < COLUMNS }
+    ensures { result ≡ right_link (seen page.entry) rung row column }
 {
-    passes_on(&form_at(page, k, r, c)) && ch(rung_at(page, k), 2 * r + 1, PITCH * c + CELL) != b' '
+    passes_on(&form_at(page, rung, row, column))
+        && ch(rung_at(page, rung), 2 * row + 1, PITCH * column + CELL) != b' '
 }
 
-fn enters(page: PageView<'_, '_>, k: usize, r: usize, c: usize) -> bool
-    requires rungs { k < length page.parts.now }
+fn enters(page: PageView<'_, '_>, rung: usize, row: usize, column: usize) -> bool
+    requires rungs { rung < length page.parts.now }
     requires within { All (IsWithin (length page.lines.now)) page.parts.now }
-    requires rows { r < ROWS }
-    requires columns { c < COLUMNS }
-    ensures { result ≡ enters (seen page.entry) k r c }
+    requires rows { row < ROWS }
+    requires columns { column < COLUMNS }
+    ensures { result ≡ enters (seen page.entry) rung row column }
 {
-    let joint = joint(rung_at(page, k), r, c);
-    right_link(page, k, r, c.saturating_sub(1)) && (joint == b'-' || joint == b'+')
+    let joint = joint(rung_at(page, rung), row, column);
+    right_link(page, rung, row, column.saturating_sub(1)) && (joint == b'-' || joint == b'+')
 }
 
-fn is_fed(page: PageView<'_, '_>, k: usize, r: usize, c: usize) -> bool
-    requires rungs { k < length page.parts.now }
+fn is_fed(page: PageView<'_, '_>, rung: usize, row: usize, column: usize) -> bool
+    requires rungs { rung < length page.parts.now }
     requires within { All (IsWithin (length page.lines.now)) page.parts.now }
-    requires rows { r < ROWS }
-    requires columns { c < COLUMNS }
-    ensures { IsTrue result ↔ IsFed (seen page.entry) k r c }
+    requires rows { row < ROWS }
+    requires columns { column < COLUMNS }
+    ensures { IsTrue result ↔ IsFed (seen page.entry) rung row column }
 {
-    for q in 0..ROWS {
-        if enters(page, k, q, c) && same_group(rung_at(page, k), c, r, q) {
+    for other in 0..ROWS {
+        if enters(page, rung, other, column)
+            && same_group(rung_at(page, rung), column, row, other)
+        {
             return true;
         }
     }
@@ -59,17 +62,17 @@ fn is_fed(page: PageView<'_, '_>, k: usize, r: usize, c: usize) -> bool
 }
 
 /// Whether a cell wants power on its left where none can come.
-pub(crate) fn is_unfed(page: PageView<'_, '_>, k: usize, r: usize, c: usize) -> bool
-    requires rungs { k < length page.parts.now }
+pub(crate) fn is_unfed(page: PageView<'_, '_>, rung: usize, row: usize, column: usize) -> bool
+    requires rungs { rung < length page.parts.now }
     requires within { All (IsWithin (length page.lines.now)) page.parts.now }
-    requires rows { r < ROWS }
-    requires columns { c < COLUMNS }
-    ensures { IsTrue result ↔ IsUnfed (seen page.entry) k r c }
+    requires rows { row < ROWS }
+    requires columns { column < COLUMNS }
+    ensures { IsTrue result ↔ IsUnfed (seen page.entry) rung row column }
 {
-    let rung = rung_at(page, k);
-    if c == 0 || ch(rung, 2 * r + 1, PITCH * c + 1) != b'-' {
+    let lines = rung_at(page, rung);
+    if column == 0 || ch(lines, 2 * row + 1, PITCH * column + 1) != b'-' {
         return false;
     }
-    let joint = joint(rung, r, c);
-    joint == b' ' || (joint == b'+' && !is_fed(page, k, r, c))
+    let joint = joint(lines, row, column);
+    joint == b' ' || (joint == b'+' && !is_fed(page, rung, row, column))
 }

@@ -1,3 +1,5 @@
+//! The forms of a cell.
+
 ghost use Rattle.std.specs.Prelude.{◌≡◌, ◌==◌, map};
 ghost use Rattle.std.specs.List.{list_all};
 ghost use Rattle.std.specs.Str.{bytes_eq};
@@ -43,7 +45,7 @@ const WHOLE_CELLS: [(&[u8], Form); 15] = [
     (b" |R1      |", Form::Lower(Pin::Reset1, false)),
 ];
 
-/// The symbols that stand on a wire.
+/// The symbols that are drawn on a wire.
 const SYMBOLS: [(&[u8], Form); 10] = [
     (b"| |", Form::Contact(Mode::Plain)),
     (b"|/|", Form::Contact(Mode::Negated)),
@@ -84,16 +86,10 @@ fn after_dashes(mut chars: &[u8]) -> &[u8]
     chars
 }
 
-fn all_are(byte: u8, mut chars: &[u8]) -> bool
-    ensures { result ≡ list_all (λ b. b == byte) chars.entry.now }
+fn all_are(byte: u8, chars: &[u8]) -> bool
+    ensures { result ≡ list_all (λ b. b == byte) chars.now }
 {
-    while let [b, rest @ ..] = chars {
-        if *b != byte {
-            return false;
-        }
-        chars = rest;
-    }
-    true
+    chars.iter().all(|b| *b == byte)
 }
 
 fn is_filler(tail: &[u8]) -> bool
@@ -102,7 +98,7 @@ fn is_filler(tail: &[u8]) -> bool
     all_are(b'-', tail) || all_are(b' ', tail)
 }
 
-/// The symbol at the front, where nothing but its filler stands behind it.
+/// The symbol at the start, where nothing but its filler follows.
 fn symbol_at(chars: &[u8]) -> Option<Form>
     ensures { result ≡ symbol_at chars.now }
 {
@@ -151,7 +147,7 @@ fn jump_with(label: Option<Name>) -> Option<Form>
     }
 }
 
-/// A jump to the label at the front, where spaces alone stand behind it.
+/// A jump to the label at the start, where only spaces follow.
 fn jump_to(text: &[u8]) -> Option<Form>
     ensures { result ≡ jump_to text.now }
 {

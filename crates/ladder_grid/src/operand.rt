@@ -1,3 +1,5 @@
+//! What the text over a cell stands for.
+
 ghost use Rattle.std.specs.Prelude.{◌≡◌, ◌≤◌, ◌-◌, length, drop, slice_get};
 ghost use Rattle.ladder_vars.specs.Name.{same_letters};
 ghost use Rattle.ladder_grid.specs.Operand.{after_spaces, text_len, word_in, ends_in, without_end, named, referred, refer_to, same_kind, same_output, gives_output, is_odd_on_contact, is_odd_on_coil, is_odd_on_block, is_odd, instance_of};
@@ -108,25 +110,13 @@ pub(crate) fn refer_to(decls: &Decls, word: &[u8]) -> Option<Reference>
 fn same_kind(a: BlockKind, b: BlockKind) -> bool
     ensures { result ≡ same_kind a b }
 {
-    match (a, b) {
-        (BlockKind::Ton, BlockKind::Ton) => true,
-        (BlockKind::Tof, BlockKind::Tof) => true,
-        (BlockKind::Tp, BlockKind::Tp) => true,
-        (BlockKind::Ctu, BlockKind::Ctu) => true,
-        (BlockKind::Ctd, BlockKind::Ctd) => true,
-        (BlockKind::Sr, BlockKind::Sr) => true,
-        (BlockKind::Rs, BlockKind::Rs) => true,
-        _ => false,
-    }
+    a == b
 }
 
 fn same_output(a: Output, b: Output) -> bool
     ensures { result ≡ same_output a b }
 {
-    match (a, b) {
-        (Output::Q, Output::Q) | (Output::Q1, Output::Q1) => true,
-        (Output::Q, Output::Q1) | (Output::Q1, Output::Q) => false,
-    }
+    a == b
 }
 
 fn gives_output(decls: &Decls, i: usize, output: Option<Output>) -> bool
@@ -134,7 +124,7 @@ fn gives_output(decls: &Decls, i: usize, output: Option<Output>) -> bool
 {
     match (decls.instances().get(i), output) {
         (Some(instance), Some(output)) => same_output(output, instance.kind.traits().output),
-        _ => false,
+        (Some(_), None) | (None, _) => false,
     }
 }
 
@@ -156,7 +146,7 @@ fn is_odd_on_coil(decls: &Decls, symbol: Symbol, output: Option<Output>) -> bool
                 return true;
             }
             match decls.vars().get(i) {
-                Some(var) => matches!(var.kind, VarKind::Input),
+                Some(var) => var.kind == VarKind::Input,
                 None => false,
             }
         }
@@ -185,11 +175,15 @@ fn is_odd_on_block(decls: &Decls, kind: BlockKind, symbol: Symbol, output: Optio
 pub(crate) fn is_odd(decls: &Decls, form: Option<Form>, name: Option<Reference>) -> bool
     ensures { result ≡ is_odd decls.now form name }
 {
-    match (form, name) {
-        (Some(Form::Contact(_)), Some(x)) => is_odd_on_contact(decls, x.symbol, x.output),
-        (Some(Form::Coil(_)), Some(x)) => is_odd_on_coil(decls, x.symbol, x.output),
-        (Some(Form::Block(kind)), Some(x)) => is_odd_on_block(decls, kind, x.symbol, x.output),
-        _ => false,
+    let Some(name) = name else {
+        return false;
+    };
+    match form {
+        Some(Form::Contact(_)) => is_odd_on_contact(decls, name.symbol, name.output),
+        Some(Form::Coil(_)) => is_odd_on_coil(decls, name.symbol, name.output),
+        Some(Form::Block(kind)) => is_odd_on_block(decls, kind, name.symbol, name.output),
+        None | Some(Form::Empty | Form::Wire | Form::Lower(_, _) | Form::Jump(_) | Form::Return) =>
+            false,
     }
 }
 

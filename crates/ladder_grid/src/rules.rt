@@ -1,10 +1,12 @@
-ghost use Rattle.std.specs.Prelude.{◌≡◌, ◌≤◌, ◌<◌, ◌↔◌, length, map, All, Some, IsTrue, IfSome, IfNone};
+//! The rules of cells, joints and names.
+
+ghost use Rattle.std.specs.Prelude.{◌≡◌, ◌≤◌, ◌<◌, ◌↔◌, length, map, All, Some, false, IsTrue, IfSome, IfNone};
 ghost use Rattle.ladder_grid.specs.declared.geometry.TheConstants.{RUNGS, ROWS, COLUMNS, LINES};
 ghost use Rattle.std.specs.List.{AllByRecursion};
 ghost use Rattle.ladder_grid.specs.ReadLines.{IsWithin};
 ghost use Rattle.ladder_grid.specs.Seen.{seen};
 ghost use Rattle.ladder_grid.specs.Geometry.{reading_place};
-ghost use Rattle.ladder_grid.specs.Rules.{is_form, bad_cell, bad_name_joint, bad_wire_joint, bad_rail, bad_joint, is_branch, bad_vertical, wants_name, has_text, name_missing, name_without, is_known, undeclared, wrong_kind, same_pin, is_lower_for, takes_second, is_block_for, lacks_lower, is_apart, form_above, form_below, bad_block, IsDrawnBefore, IsDrawnTwice, leaps, IsSecondJump, BreaksAt, IsBrokenOn, IsKept};
+ghost use Rattle.ladder_grid.specs.Rules.{is_form, bad_cell, bad_name_joint, bad_wire_joint, bad_rail, bad_at_joint, bad_joint, is_branch, bad_vertical, wants_name, has_text, name_missing, name_without, is_known, undeclared, wrong_kind, same_pin, is_lower_for, takes_second, is_block_for, lacks_lower, is_apart, form_above, form_below, bad_block, IsDrawnBefore, IsDrawnTwice, leaps, IsSecondJump, BreaksAt, IsBrokenAlong, IsBrokenOn, IsKept};
 ghost use Rattle.ladder_grid.specs.declared.fault.GridRule.{GridRule};
 
 use crate::fault::GridRule;
@@ -13,7 +15,7 @@ use crate::form::Form;
 use crate::geometry::{COLUMNS, PITCH, PLACES, RAIL, ROWS};
 use crate::operand::{Reference, is_odd};
 use crate::page::{PageView, form_at, instance_at, name_over, rung_at};
-use crate::picture::{ch, joint, text_over};
+use crate::picture::{Half, ch, joint, line_of, text_over};
 use ladder_vars::Pin;
 
 fn is_form(form: Option<Form>) -> bool
@@ -22,13 +24,16 @@ fn is_form(form: Option<Form>) -> bool
     form.is_some()
 }
 
-fn bad_cell(page: PageView<'_, '_>, k: usize, r: usize, h: usize, c: usize) -> bool
-    requires rungs { k < length page.parts.now }
+fn bad_cell(page: PageView<'_, '_>, rung: usize, row: usize, half: Half, column: usize) -> bool
+    requires rungs { rung < length page.parts.now }
     requires within { All (IsWithin (length page.lines.now)) page.parts.now }
-    requires rows { r < ROWS }
-    ensures { result ≡ bad_cell (seen page.entry) k r h c }
+    requires rows { row < ROWS }
+    ensures { result ≡ bad_cell (seen page.entry) rung row half column }
 {
-    h == 1 && c < COLUMNS && !is_form(form_at(page, k, r, c))
+    match half {
+        Half::Name => false,
+        Half::Wire => column < COLUMNS && !is_form(form_at(page, rung, row, column)),
+    }
 }
 
 fn bad_name_joint(b: u8) -> bool
@@ -51,27 +56,35 @@ fn bad_rail(b: u8) -> bool
     !(b == b' ' || b == b'+' || b == b'|')
 }
 
-fn bad_joint(page: PageView<'_, '_>, k: usize, r: usize, h: usize, c: usize) -> bool
-    requires rungs { k < length page.parts.now }
+fn bad_at_joint(page: PageView<'_, '_>, rung: usize, row: usize, half: Half, column: usize) -> bool
+    requires rungs { rung < length page.parts.now }
     requires within { All (IsWithin (length page.lines.now)) page.parts.now }
-    requires rows { r < ROWS }
-    requires halves { h < 2 }
-    requires columns { c ≤ COLUMNS }
-    ensures { result ≡ bad_joint (seen page.entry) k r h c }
+    requires rows { row < ROWS }
+    requires columns { column < COLUMNS }
+    ensures { result ≡ bad_at_joint (seen page.entry) rung row half column }
 {
-    let rung = rung_at(page, k);
-    if c == COLUMNS {
-        bad_rail(ch(rung, 2 * r + h, RAIL))
-    } else if c == 0 {
-        false
-    } else if h == 0 {
-        bad_name_joint(ch(rung, 2 * r, PITCH * c))
+    let lines = rung_at(page, rung);
+    match half {
+        Half::Name => bad_name_joint(ch(lines, 2 * row, PITCH * column)),
+        Half::Wire => bad_wire_joint(
+            joint(lines, row, column),
+            right_link(page, rung, row, column.saturating_sub(1)),
+            ch(lines, 2 * row + 1, PITCH * column + 1),
+        ),
+    }
+}
+
+fn bad_joint(page: PageView<'_, '_>, rung: usize, row: usize, half: Half, column: usize) -> bool
+    requires rungs { rung < length page.parts.now }
+    requires within { All (IsWithin (length page.lines.now)) page.parts.now }
+    requires rows { row < ROWS }
+    requires columns { column ≤ COLUMNS }
+    ensures { result ≡ bad_joint (seen page.entry) rung row half column }
+{
+    if column == COLUMNS {
+        bad_rail(ch(rung_at(page, rung), line_of(row, half), RAIL))
     } else {
-        bad_wire_joint(
-            joint(rung, r, c),
-            right_link(page, k, r, c - 1),
-            ch(rung, 2 * r + 1, PITCH * c + 1),
-        )
+        column >= 1 && bad_at_joint(page, rung, row, half, column)
     }
 }
 
@@ -81,61 +94,71 @@ fn is_branch(b: u8) -> bool
     b == b'+' || b == b'|'
 }
 
-fn bad_vertical(rung: &[&[u8]], r: usize, h: usize, c: usize) -> bool
-    requires rows { r < ROWS }
-    requires columns { c ≤ COLUMNS }
-    ensures { result ≡ bad_vertical (map (λ l. l.now) rung.now) r h c }
+fn bad_vertical(lines: &[&[u8]], row: usize, half: Half, column: usize) -> bool
+    requires rows { row < ROWS }
+    requires columns { column ≤ COLUMNS }
+    ensures { result ≡ bad_vertical (map (λ l. l.now) lines.now) row half column }
 {
-    if h != 0 || c == 0 || c == COLUMNS || ch(rung, 2 * r, PITCH * c) != b'|' {
-        return false;
+    match half {
+        Half::Name => {
+            column >= 1
+                && column < COLUMNS
+                && ch(lines, 2 * row, PITCH * column) == b'|'
+                && (row == 0
+                    || !is_branch(joint(lines, row - 1, column))
+                    || !is_branch(joint(lines, row, column)))
+        }
+        Half::Wire => false,
     }
-    r == 0 || !is_branch(joint(rung, r - 1, c)) || !is_branch(joint(rung, r, c))
 }
 
 fn wants_name(form: Option<Form>) -> bool
     ensures { result ≡ wants_name form }
 {
-    matches!(
-        form,
-        Some(Form::Contact(_)) | Some(Form::Coil(_)) | Some(Form::Block(_))
-    )
+    match form {
+        Some(Form::Contact(_) | Form::Coil(_) | Form::Block(_)) => true,
+        None | Some(Form::Empty | Form::Wire | Form::Lower(_, _) | Form::Jump(_) | Form::Return) =>
+            false,
+    }
 }
 
 /// Whether there is a character that is no space.
-pub(crate) fn has_text(mut chars: &[u8]) -> bool
-    ensures { result ≡ has_text chars.entry.now }
+pub(crate) fn has_text(chars: &[u8]) -> bool
+    ensures { result ≡ has_text chars.now }
 {
-    while let [b, rest @ ..] = chars {
-        if *b != b' ' {
-            return true;
-        }
-        chars = rest;
+    chars.iter().any(|b| *b != b' ')
+}
+
+fn name_missing(page: PageView<'_, '_>, rung: usize, row: usize, half: Half, column: usize) -> bool
+    requires rungs { rung < length page.parts.now }
+    requires within { All (IsWithin (length page.lines.now)) page.parts.now }
+    requires rows { row < ROWS }
+    ensures { result ≡ name_missing (seen page.entry) rung row half column }
+{
+    match half {
+        Half::Name => {
+            column < COLUMNS
+                && wants_name(form_at(page, rung, row, column))
+                && !has_text(&text_over(rung_at(page, rung), row, column))
+        },
+        Half::Wire => false,
     }
-    false
 }
 
-fn name_missing(page: PageView<'_, '_>, k: usize, r: usize, h: usize, c: usize) -> bool
-    requires rungs { k < length page.parts.now }
+fn name_without(page: PageView<'_, '_>, rung: usize, row: usize, half: Half, column: usize) -> bool
+    requires rungs { rung < length page.parts.now }
     requires within { All (IsWithin (length page.lines.now)) page.parts.now }
-    requires rows { r < ROWS }
-    ensures { result ≡ name_missing (seen page.entry) k r h c }
+    requires rows { row < ROWS }
+    ensures { result ≡ name_without (seen page.entry) rung row half column }
 {
-    h == 0
-        && c < COLUMNS
-        && wants_name(form_at(page, k, r, c))
-        && !has_text(&text_over(rung_at(page, k), r, c))
-}
-
-fn name_without(page: PageView<'_, '_>, k: usize, r: usize, h: usize, c: usize) -> bool
-    requires rungs { k < length page.parts.now }
-    requires within { All (IsWithin (length page.lines.now)) page.parts.now }
-    requires rows { r < ROWS }
-    ensures { result ≡ name_without (seen page.entry) k r h c }
-{
-    h == 0
-        && c < COLUMNS
-        && !wants_name(form_at(page, k, r, c))
-        && has_text(&text_over(rung_at(page, k), r, c))
+    match half {
+        Half::Name => {
+            column < COLUMNS
+                && !wants_name(form_at(page, rung, row, column))
+                && has_text(&text_over(rung_at(page, rung), row, column))
+        },
+        Half::Wire => false,
+    }
 }
 
 fn is_known(name: Option<Reference>) -> bool
@@ -144,62 +167,89 @@ fn is_known(name: Option<Reference>) -> bool
     name.is_some()
 }
 
-fn undeclared(page: PageView<'_, '_>, k: usize, r: usize, h: usize, c: usize) -> bool
-    requires rungs { k < length page.parts.now }
+fn undeclared(page: PageView<'_, '_>, rung: usize, row: usize, half: Half, column: usize) -> bool
+    requires rungs { rung < length page.parts.now }
     requires within { All (IsWithin (length page.lines.now)) page.parts.now }
-    requires rows { r < ROWS }
-    ensures { result ≡ undeclared (seen page.entry) k r h c }
+    requires rows { row < ROWS }
+    ensures { result ≡ undeclared (seen page.entry) rung row half column }
 {
-    h == 0
-        && c < COLUMNS
-        && wants_name(form_at(page, k, r, c))
-        && !is_known(name_over(page, k, r, c))
+    match half {
+        Half::Name => {
+            column < COLUMNS
+                && wants_name(form_at(page, rung, row, column))
+                && !is_known(name_over(page, rung, row, column))
+        },
+        Half::Wire => false,
+    }
 }
 
-fn wrong_kind(page: PageView<'_, '_>, k: usize, r: usize, h: usize, c: usize) -> bool
-    requires rungs { k < length page.parts.now }
+fn wrong_kind(page: PageView<'_, '_>, rung: usize, row: usize, half: Half, column: usize) -> bool
+    requires rungs { rung < length page.parts.now }
     requires within { All (IsWithin (length page.lines.now)) page.parts.now }
-    requires rows { r < ROWS }
-    ensures { result ≡ wrong_kind (seen page.entry) k r h c }
+    requires rows { row < ROWS }
+    ensures { result ≡ wrong_kind (seen page.entry) rung row half column }
 {
-    h == 0 && c < COLUMNS && is_odd(page.decls, form_at(page, k, r, c), name_over(page, k, r, c))
+    match half {
+        Half::Name => {
+            column < COLUMNS
+                && is_odd(
+                    page.decls,
+                    form_at(page, rung, row, column),
+                    name_over(page, rung, row, column),
+                )
+        },
+        Half::Wire => false,
+    }
 }
 
 fn same_pin(a: Pin, b: Pin) -> bool
     ensures { result ≡ same_pin a b }
 {
-    match (a, b) {
-        (Pin::Reset, Pin::Reset) => true,
-        (Pin::Load, Pin::Load) => true,
-        (Pin::Reset1, Pin::Reset1) => true,
-        _ => false,
-    }
+    a == b
 }
 
 fn is_lower_for(pin: Option<Pin>, form: Option<Form>) -> bool
     ensures { result ≡ is_lower_for pin form }
 {
-    match (pin, form) {
-        (Some(p), Some(Form::Lower(q, _))) => same_pin(p, q),
-        _ => false,
+    match form {
+        Some(Form::Lower(other, _)) => takes_second(other, pin),
+        None
+        | Some(
+            Form::Empty
+            | Form::Wire
+            | Form::Contact(_)
+            | Form::Coil(_)
+            | Form::Block(_)
+            | Form::Jump(_)
+            | Form::Return,
+        ) => false,
     }
 }
 
-fn takes_second(q: Pin, pin: Option<Pin>) -> bool
-    ensures { result ≡ takes_second q pin }
+fn takes_second(other: Pin, pin: Option<Pin>) -> bool
+    ensures { result ≡ takes_second other pin }
 {
     match pin {
-        Some(p) => same_pin(p, q),
+        Some(p) => same_pin(p, other),
         None => false,
     }
 }
 
-fn is_block_for(q: Pin, form: Option<Form>) -> bool
-    ensures { result ≡ is_block_for q form }
+fn is_block_for(other: Pin, form: Option<Form>) -> bool
+    ensures { result ≡ is_block_for other form }
 {
     match form {
-        Some(Form::Block(kind)) => takes_second(q, kind.traits().second_input),
-        _ => false,
+        Some(Form::Block(kind)) => takes_second(other, kind.traits().second_input),
+        None
+        | Some(
+            Form::Empty
+            | Form::Wire
+            | Form::Contact(_)
+            | Form::Coil(_)
+            | Form::Lower(_, _)
+            | Form::Jump(_)
+            | Form::Return,
+        ) => false,
     }
 }
 
@@ -217,52 +267,64 @@ fn is_apart(above: Option<Form>, form: Option<Form>, below: Option<Form>) -> boo
 {
     match form {
         Some(Form::Block(kind)) => lacks_lower(kind.traits().second_input, below),
-        Some(Form::Lower(q, _)) => !is_block_for(q, above),
-        _ => false,
+        Some(Form::Lower(other, _)) => !is_block_for(other, above),
+        None
+        | Some(
+            Form::Empty
+            | Form::Wire
+            | Form::Contact(_)
+            | Form::Coil(_)
+            | Form::Jump(_)
+            | Form::Return,
+        ) => false,
     }
 }
 
-fn form_above(page: PageView<'_, '_>, k: usize, r: usize, c: usize) -> Option<Form>
-    requires rungs { k < length page.parts.now }
+fn form_above(page: PageView<'_, '_>, rung: usize, row: usize, column: usize) -> Option<Form>
+    requires rungs { rung < length page.parts.now }
     requires within { All (IsWithin (length page.lines.now)) page.parts.now }
-    requires rows { r < ROWS }
-    requires columns { c < COLUMNS }
-    ensures { result ≡ form_above (seen page.entry) k r c }
+    requires rows { row < ROWS }
+    requires columns { column < COLUMNS }
+    ensures { result ≡ form_above (seen page.entry) rung row column }
 {
-    if r == 0 {
+    if row == 0 {
         None
     } else {
-        form_at(page, k, r - 1, c)
+        form_at(page, rung, row - 1, column)
     }
 }
 
-fn form_below(page: PageView<'_, '_>, k: usize, r: usize, c: usize) -> Option<Form>
-    requires rungs { k < length page.parts.now }
+fn form_below(page: PageView<'_, '_>, rung: usize, row: usize, column: usize) -> Option<Form>
+    requires rungs { rung < length page.parts.now }
     requires within { All (IsWithin (length page.lines.now)) page.parts.now }
-    requires rows { r < ROWS }
-    requires columns { c < COLUMNS }
-    ensures { result ≡ form_below (seen page.entry) k r c }
+    requires rows { row < ROWS }
+    requires columns { column < COLUMNS }
+    ensures { result ≡ form_below (seen page.entry) rung row column }
 {
-    if r + 1 == ROWS {
+    if row + 1 == ROWS {
         None
     } else {
-        form_at(page, k, r + 1, c)
+        form_at(page, rung, row + 1, column)
     }
 }
 
-fn bad_block(page: PageView<'_, '_>, k: usize, r: usize, h: usize, c: usize) -> bool
-    requires rungs { k < length page.parts.now }
+fn bad_block(page: PageView<'_, '_>, rung: usize, row: usize, half: Half, column: usize) -> bool
+    requires rungs { rung < length page.parts.now }
     requires within { All (IsWithin (length page.lines.now)) page.parts.now }
-    requires rows { r < ROWS }
-    ensures { result ≡ bad_block (seen page.entry) k r h c }
+    requires rows { row < ROWS }
+    ensures { result ≡ bad_block (seen page.entry) rung row half column }
 {
-    h == 1
-        && c < COLUMNS
-        && is_apart(
-            form_above(page, k, r, c),
-            form_at(page, k, r, c),
-            form_below(page, k, r, c),
-        )
+    match half {
+        Half::Name => false,
+        Half::Wire => {
+            column < COLUMNS
+                && is_apart(
+                    form_above(page, rung, row, column),
+                    form_at(page, rung, row, column),
+                    form_below(page, rung, row, column),
+                )
+        },
+    }
 }
 
 fn same_number(a: Option<usize>, b: usize) -> bool
@@ -275,15 +337,21 @@ fn same_number(a: Option<usize>, b: usize) -> bool
 }
 
 /// Whether a block before the place is the instance.
-fn is_drawn_before(page: PageView<'_, '_>, inst: usize, k: usize, r: usize, c: usize) -> bool
-    requires rungs { k < length page.parts.now }
+fn is_drawn_before(
+    page: PageView<'_, '_>,
+    inst: usize,
+    rung: usize,
+    row: usize,
+    column: usize,
+) -> bool
+    requires rungs { rung < length page.parts.now }
     requires within { All (IsWithin (length page.lines.now)) page.parts.now }
-    requires rows { r < ROWS }
-    requires columns { c < COLUMNS }
-    requires few { k ≤ RUNGS }
-    ensures { IsTrue result ↔ IsDrawnBefore (seen page.entry) inst k r c }
+    requires rows { row < ROWS }
+    requires columns { column < COLUMNS }
+    requires few { rung ≤ RUNGS }
+    ensures { IsTrue result ↔ IsDrawnBefore (seen page.entry) inst rung row column }
 {
-    for n in 0..PLACES * k + (COLUMNS * r + c) {
+    for n in 0..PLACES * rung + (COLUMNS * row + column) {
         if same_number(
             instance_at(page, n / PLACES, n % PLACES / COLUMNS, n % PLACES % COLUMNS),
             inst,
@@ -294,16 +362,16 @@ fn is_drawn_before(page: PageView<'_, '_>, inst: usize, k: usize, r: usize, c: u
     false
 }
 
-fn is_drawn_twice(page: PageView<'_, '_>, k: usize, r: usize, c: usize) -> bool
-    requires rungs { k < length page.parts.now }
+fn is_drawn_twice(page: PageView<'_, '_>, rung: usize, row: usize, column: usize) -> bool
+    requires rungs { rung < length page.parts.now }
     requires within { All (IsWithin (length page.lines.now)) page.parts.now }
-    requires rows { r < ROWS }
-    requires columns { c < COLUMNS }
-    requires few { k ≤ RUNGS }
-    ensures { IsTrue result ↔ IsDrawnTwice (seen page.entry) k r c }
+    requires rows { row < ROWS }
+    requires columns { column < COLUMNS }
+    requires few { rung ≤ RUNGS }
+    ensures { IsTrue result ↔ IsDrawnTwice (seen page.entry) rung row column }
 {
-    match instance_at(page, k, r, c) {
-        Some(inst) => is_drawn_before(page, inst, k, r, c),
+    match instance_at(page, rung, row, column) {
+        Some(inst) => is_drawn_before(page, inst, rung, row, column),
         None => false,
     }
 }
@@ -311,69 +379,123 @@ fn is_drawn_twice(page: PageView<'_, '_>, k: usize, r: usize, c: usize) -> bool
 fn leaps(form: Option<Form>) -> bool
     ensures { result ≡ leaps form }
 {
-    matches!(form, Some(Form::Jump(_)) | Some(Form::Return))
+    match form {
+        Some(Form::Jump(_) | Form::Return) => true,
+        None
+        | Some(
+            Form::Empty
+            | Form::Wire
+            | Form::Contact(_)
+            | Form::Coil(_)
+            | Form::Block(_)
+            | Form::Lower(_, _),
+        ) => false,
+    }
 }
 
-fn is_second_jump(page: PageView<'_, '_>, k: usize, r: usize, c: usize) -> bool
-    requires rungs { k < length page.parts.now }
+fn is_second_jump(page: PageView<'_, '_>, rung: usize, row: usize, column: usize) -> bool
+    requires rungs { rung < length page.parts.now }
     requires within { All (IsWithin (length page.lines.now)) page.parts.now }
-    requires rows { r < ROWS }
-    requires columns { c < COLUMNS }
-    ensures { IsTrue result ↔ IsSecondJump (seen page.entry) k r c }
+    requires rows { row < ROWS }
+    requires columns { column < COLUMNS }
+    ensures { IsTrue result ↔ IsSecondJump (seen page.entry) rung row column }
 {
-    if !leaps(form_at(page, k, r, c)) {
+    if !leaps(form_at(page, rung, row, column)) {
         return false;
     }
-    for n in 0..COLUMNS * r + c {
-        if leaps(form_at(page, k, n / COLUMNS, n % COLUMNS)) {
+    for n in 0..COLUMNS * row + column {
+        if leaps(form_at(page, rung, n / COLUMNS, n % COLUMNS)) {
             return true;
         }
     }
     false
 }
 
-/// Whether the rule is broken at the place.
-fn breaks(rule: GridRule, page: PageView<'_, '_>, k: usize, r: usize, h: usize, c: usize) -> bool
-    requires rungs { k < length page.parts.now }
-    requires within { All (IsWithin (length page.lines.now)) page.parts.now }
-    requires rows { r < ROWS }
-    requires halves { h < 2 }
-    requires columns { c ≤ COLUMNS }
-    requires few { k ≤ RUNGS }
-    ensures { IsTrue result ↔ BreaksAt rule (seen page.entry) k r h c }
+fn is_wire(half: Half) -> bool
+    ensures wire { IsTrue result ↔ (half ≡ Half.Wire) }
+    ensures name { (result ≡ false) ↔ (half ≡ Half.Name) }
 {
-    match rule {
-        GridRule::BadCell => bad_cell(page, k, r, h, c),
-        GridRule::BadJoint => bad_joint(page, k, r, h, c),
-        GridRule::BrokenVertical => bad_vertical(rung_at(page, k), r, h, c),
-        GridRule::Unfed => h == 1 && c < COLUMNS && is_unfed(page, k, r, c),
-        GridRule::NameMissing => name_missing(page, k, r, h, c),
-        GridRule::NameWithoutSymbol => name_without(page, k, r, h, c),
-        GridRule::Undeclared => undeclared(page, k, r, h, c),
-        GridRule::WrongKind => wrong_kind(page, k, r, h, c),
-        GridRule::BlockShape => bad_block(page, k, r, h, c),
-        GridRule::DrawnTwice => h == 0 && c < COLUMNS && is_drawn_twice(page, k, r, c),
-        GridRule::TwoJumps => h == 1 && c < COLUMNS && is_second_jump(page, k, r, c),
-        _ => false,
+    match half {
+        Half::Name => false,
+        Half::Wire => true,
     }
 }
 
-/// The first line of the rung on which the rule is broken.
-fn broken_line(rule: GridRule, page: PageView<'_, '_>, k: usize) -> Option<usize>
-    requires rungs { k < length page.parts.now }
+/// Whether the rule is broken at the place.
+fn breaks(
+    rule: GridRule,
+    page: PageView<'_, '_>,
+    rung: usize,
+    row: usize,
+    half: Half,
+    column: usize,
+) -> bool
+    requires rungs { rung < length page.parts.now }
     requires within { All (IsWithin (length page.lines.now)) page.parts.now }
-    requires few { k ≤ RUNGS }
-    ensures some { IfSome result (λ line. IsBrokenOn rule (seen page.entry) k line) }
-    ensures near { IfSome result (λ line. line < LINES) }
-    ensures none { IfNone result (IsKept (seen page.entry) k rule) }
+    requires rows { row < ROWS }
+    requires columns { column ≤ COLUMNS }
+    requires few { rung ≤ RUNGS }
+    ensures { IsTrue result ↔ BreaksAt rule (seen page.entry) rung row half column }
 {
-    for r in 0..ROWS {
-        for h in 0..2 {
-            for c in 0..COLUMNS + 1 {
-                if breaks(rule, page, k, r, h, c) {
-                    return Some(2 * r + h);
-                }
-            }
+    match rule {
+        GridRule::BadCell => bad_cell(page, rung, row, half, column),
+        GridRule::BadJoint => bad_joint(page, rung, row, half, column),
+        GridRule::BrokenVertical => bad_vertical(rung_at(page, rung), row, half, column),
+        GridRule::Unfed => is_wire(half) && column < COLUMNS && is_unfed(page, rung, row, column),
+        GridRule::NameMissing => name_missing(page, rung, row, half, column),
+        GridRule::NameWithoutSymbol => name_without(page, rung, row, half, column),
+        GridRule::Undeclared => undeclared(page, rung, row, half, column),
+        GridRule::WrongKind => wrong_kind(page, rung, row, half, column),
+        GridRule::BlockShape => bad_block(page, rung, row, half, column),
+        GridRule::DrawnTwice => !is_wire(half)
+            && column < COLUMNS
+            && is_drawn_twice(page, rung, row, column),
+        GridRule::TwoJumps => is_wire(half)
+            && column < COLUMNS
+            && is_second_jump(page, rung, row, column),
+        GridRule::TooWide | GridRule::TooTall | GridRule::LabelFault | GridRule::TooManyRungs => {
+            false
+        }
+    }
+}
+
+/// Whether the rule is broken on this line of a row.
+fn is_broken_along(
+    rule: GridRule,
+    page: PageView<'_, '_>,
+    rung: usize,
+    row: usize,
+    half: Half,
+) -> bool
+    requires rungs { rung < length page.parts.now }
+    requires within { All (IsWithin (length page.lines.now)) page.parts.now }
+    requires rows { row < ROWS }
+    requires few { rung ≤ RUNGS }
+    ensures { IsTrue result ↔ IsBrokenAlong rule (seen page.entry) rung row half }
+{
+    for column in 0..COLUMNS + 1 {
+        if breaks(rule, page, rung, row, half, column) {
+            return true;
+        }
+    }
+    false
+}
+
+/// The first line of the rung on which the rule is broken.
+fn broken_line(rule: GridRule, page: PageView<'_, '_>, rung: usize) -> Option<usize>
+    requires rungs { rung < length page.parts.now }
+    requires within { All (IsWithin (length page.lines.now)) page.parts.now }
+    requires few { rung ≤ RUNGS }
+    ensures some { IfSome result (λ line. IsBrokenOn rule (seen page.entry) rung line) }
+    ensures near { IfSome result (λ line. line < LINES) }
+    ensures none { IfNone result (IsKept (seen page.entry) rung rule) }
+{
+    for row in 0..ROWS {
+        if is_broken_along(rule, page, rung, row, Half::Name) {
+            return Some(line_of(row, Half::Name));
+        }
+        if is_broken_along(rule, page, rung, row, Half::Wire) {
+            return Some(line_of(row, Half::Wire));
         }
     }
     None
@@ -397,17 +519,17 @@ const ORDER: [GridRule; 11] = [
 fn first_broken(
     mut rules: &[GridRule],
     page: PageView<'_, '_>,
-    k: usize,
+    rung: usize,
 ) -> Option<(GridRule, usize)>
-    requires rungs { k < length page.parts.now }
+    requires rungs { rung < length page.parts.now }
     requires within { All (IsWithin (length page.lines.now)) page.parts.now }
-    requires few { k ≤ RUNGS }
-    ensures some { IfSome result (λ x. IsBrokenOn x.0 (seen page.entry) k x.1) }
+    requires few { rung ≤ RUNGS }
+    ensures some { IfSome result (λ x. IsBrokenOn x.0 (seen page.entry) rung x.1) }
     ensures near { IfSome result (λ x. x.1 < LINES) }
-    ensures none { IfNone result (AllByRecursion (IsKept (seen page.entry) k) rules.entry.now) }
+    ensures none { IfNone result (AllByRecursion (IsKept (seen page.entry) rung) rules.entry.now) }
 {
     while let [rule, rest @ ..] = rules {
-        if let Some(line) = broken_line(*rule, page, k) {
+        if let Some(line) = broken_line(*rule, page, rung) {
             return Some((*rule, line));
         }
         rules = rest;
@@ -416,13 +538,13 @@ fn first_broken(
 }
 
 /// The first rule of places that the rung breaks, and its line.
-pub(crate) fn broken_place(page: PageView<'_, '_>, k: usize) -> Option<(GridRule, usize)>
-    requires rungs { k < length page.parts.now }
+pub(crate) fn broken_place(page: PageView<'_, '_>, rung: usize) -> Option<(GridRule, usize)>
+    requires rungs { rung < length page.parts.now }
     requires within { All (IsWithin (length page.lines.now)) page.parts.now }
-    requires few { k ≤ RUNGS }
-    ensures some { IfSome result (λ x. IsBrokenOn x.0 (seen page.entry) k x.1) }
+    requires few { rung ≤ RUNGS }
+    ensures some { IfSome result (λ x. IsBrokenOn x.0 (seen page.entry) rung x.1) }
     ensures near { IfSome result (λ x. x.1 < LINES) }
-    ensures none { IfNone result ((rule : GridRule) → IsKept (seen page.entry) k rule) }
+    ensures none { IfNone result ((rule : GridRule) → IsKept (seen page.entry) rung rule) }
 {
-    first_broken(&ORDER, page, k)
+    first_broken(&ORDER, page, rung)
 }

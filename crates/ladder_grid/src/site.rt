@@ -16,7 +16,7 @@ use crate::page_check::target_of;
 use crate::picture::{joint, vertical};
 use ladder_vars::{Name, Symbol};
 
-/// What stands at a place of a rung: a cell, whether power can leave it on its right, the joint on its left, and whether a
+/// What is at a place of a rung: a cell, whether power can leave it on its right, the joint on its left, and whether a
 /// vertical link goes from that joint to the row below.
 #[derive(Clone, Copy, Debug, PartialEq, Eq)]
 pub struct Site {
@@ -110,15 +110,15 @@ fn cell_with(
 ) -> Cell
     ensures { result ≡ cell_with form name above target }
 {
-    match (form, name) {
-        (Some(Form::Wire), _) => Cell::Wire,
-        (Some(Form::Contact(mode)), Some(x)) => contact_on(mode, x.symbol),
-        (Some(Form::Coil(mode)), Some(x)) => coil_on(mode, x.symbol),
-        (Some(Form::Block(_)), Some(x)) => block_on(instance_of(x.symbol)),
-        (Some(Form::Lower(_, linked)), _) => lower_of(above, linked),
-        (Some(Form::Jump(_)), _) => jump_on(target),
-        (Some(Form::Return), _) => Cell::Return,
-        _ => Cell::Empty,
+    match form {
+        Some(Form::Wire) => Cell::Wire,
+        Some(Form::Contact(mode)) => name.map_or(Cell::Empty, |x| contact_on(mode, x.symbol)),
+        Some(Form::Coil(mode)) => name.map_or(Cell::Empty, |x| coil_on(mode, x.symbol)),
+        Some(Form::Block(_)) => name.map_or(Cell::Empty, |x| block_on(instance_of(x.symbol))),
+        Some(Form::Lower(_, linked)) => lower_of(above, linked),
+        Some(Form::Jump(_)) => jump_on(target),
+        Some(Form::Return) => Cell::Return,
+        Some(Form::Empty) | None => Cell::Empty,
     }
 }
 
@@ -126,23 +126,23 @@ fn cell_with(
 pub(crate) fn cell_drawn(
     page: PageView<'_, '_>,
     labels: &[Option<Name>],
-    k: usize,
-    r: usize,
-    c: usize,
+    rung: usize,
+    row: usize,
+    column: usize,
 ) -> Cell
-    requires rungs { k < length page.parts.now }
+    requires rungs { rung < length page.parts.now }
     requires within { All (IsWithin (length page.lines.now)) page.parts.now }
     requires known { labels.now ≡ labels_of (map (λ l. l.now) page.lines.now) page.parts.now }
-    requires rows { r < ROWS }
-    requires columns { c < COLUMNS }
-    ensures { result ≡ cell_drawn (seen page.entry) k r c }
+    requires rows { row < ROWS }
+    requires columns { column < COLUMNS }
+    ensures { result ≡ cell_drawn (seen page.entry) rung row column }
 {
-    let form = form_at(page, k, r, c);
+    let form = form_at(page, rung, row, column);
     cell_with(
         form,
-        name_over(page, k, r, c),
-        instance_above(page, k, r, c),
-        target_of(labels, k, &form),
+        name_over(page, rung, row, column),
+        instance_above(page, rung, row, column),
+        target_of(labels, rung, &form),
     )
 }
 
@@ -179,29 +179,35 @@ fn numbered(number: usize, cell: Cell) -> Cell
             var,
             memory: Some(number),
         },
-        other => other,
+        Cell::Contact { memory: None, .. } | Cell::Coil { memory: None, .. } => cell,
+        Cell::Empty
+        | Cell::Wire
+        | Cell::Block { .. }
+        | Cell::Lower { .. }
+        | Cell::Jump { .. }
+        | Cell::Return => cell,
     }
 }
 
-/// What stands at a place that has this cell; `number` is that of the next memory.
+/// What is at a place that has this cell; `number` is that of the next memory.
 pub(crate) fn site_with(
     page: PageView<'_, '_>,
     number: usize,
     cell: Cell,
-    k: usize,
-    r: usize,
-    c: usize,
+    rung: usize,
+    row: usize,
+    column: usize,
 ) -> Site
-    requires rungs { k < length page.parts.now }
+    requires rungs { rung < length page.parts.now }
     requires within { All (IsWithin (length page.lines.now)) page.parts.now }
-    requires rows { r < ROWS }
-    requires columns { c < COLUMNS }
-    ensures { result ≡ site_with (seen page.entry) number cell k r c }
+    requires rows { row < ROWS }
+    requires columns { column < COLUMNS }
+    ensures { result ≡ site_with (seen page.entry) number cell rung row column }
 {
     Site {
         cell: numbered(number, cell),
-        right_link: right_link(page, k, r, c),
-        joint: joint_of(joint(rung_at(page, k), r, c)),
-        vertical: vertical(rung_at(page, k), r, c),
+        right_link: right_link(page, rung, row, column),
+        joint: joint_of(joint(rung_at(page, rung), row, column)),
+        vertical: vertical(rung_at(page, rung), row, column),
     }
 }

@@ -1,6 +1,8 @@
-//! The worked rows of the tool and its hostile use, as tests over the public calls.
+//! Tests of the public calls over readers and writers in memory, and of the calls below the command line.
 #![tactic(auto)]
 
+#[cfg(test)]
+mod causes;
 #[cfg(test)]
 mod declarations;
 #[cfg(test)]
@@ -11,6 +13,10 @@ mod faults;
 mod memory;
 #[cfg(test)]
 mod requests;
+#[cfg(test)]
+mod runs;
+#[cfg(test)]
+mod scans;
 #[cfg(test)]
 mod texts;
 #[cfg(test)]

@@ -23,8 +23,29 @@ fn are(words: &[String], wanted: &[&str]) -> bool {
 }
 
 fn asks_for_the_motor(request: &Request) -> bool {
-    let Request::Causes { file, coil, inputs } = request;
-    file.as_str() == "motor.ld" && coil.as_str() == "Motor" && are(inputs, &["Start", "Stop"])
+    match request {
+        Request::Causes {
+            moment,
+            after,
+            limit,
+            file,
+            coil,
+            inputs,
+        } => *moment == Some(5)
+            && *after == None
+            && *limit == Some(u64::MAX)
+            && file.as_str() == "motor.ld"
+            && coil.as_str() == "Motor"
+            && are(inputs, &["Start", "Stop"]),
+        Request::Check { .. } => false,
+    }
+}
+
+fn asks_for_a_check(request: &Request) -> bool {
+    match request {
+        Request::Check { file } => file.as_str() == "motor.ld",
+        Request::Causes { .. } => false,
+    }
 }
 
 fn is_help(fault: &WordFault) -> bool {
@@ -38,11 +59,26 @@ fn is_help(fault: &WordFault) -> bool {
 fn a_request_has_its_words(rt: HostRuntime) -> Result<(), AllocError> {
     let words = strings(
         rt.alloc(),
-        &["ladder", "causes", "motor.ld", "Motor", "Start", "Stop"],
+        &[
+            "ladder",
+            "causes",
+            "--at",
+            "5",
+            "--limit=18446744073709551615",
+            "motor.ld",
+            "Motor",
+            "Start",
+            "Stop",
+        ],
     )?;
-    let read = read_words(rt.alloc(), words);
-    let asks = match &read {
+    let asks = match &read_words(rt.alloc(), words) {
         Ok(request) => asks_for_the_motor(request),
+        Err(_) => false,
+    };
+    assert!(rt; asks);
+    let words = strings(rt.alloc(), &["ladder", "check", "motor.ld"])?;
+    let asks = match &read_words(rt.alloc(), words) {
+        Ok(request) => asks_for_a_check(request),
         Err(_) => false,
     };
     assert!(rt; asks);
@@ -51,12 +87,11 @@ fn a_request_has_its_words(rt: HostRuntime) -> Result<(), AllocError> {
 
 #[test]
 fn wrong_words_are_refused(rt: HostRuntime) -> Result<(), AllocError> {
-    let table: [&[&str]; 7] = [
+    let table: [&[&str]; 6] = [
         &["ladder"],
         &["ladder", "causes"],
         &["ladder", "causes", "motor.ld"],
-        &["ladder", "check", "motor.ld"],
-        &["ladder", "causes", "--at", "5", "motor.ld", "Motor"],
+        &["ladder", "causes", "--at", "-5", "motor.ld", "Motor"],
         &["ladder", "Causes", "motor.ld", "Motor"],
         &["ladder", "causes", "--", "motor.ld"],
     ];

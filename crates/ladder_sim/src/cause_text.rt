@@ -1,18 +1,17 @@
 //! The text of a list of causes.
-ghost use Rattle.std.specs.Prelude.{◌≡◌, ◌≢◌, ◌+◌, ◌*◌, ◌<◌, ◌≤◌, ◌++◌, ◌∷◌, ◌^◌, [], IfOk, Some, codes, false, length, map, slice_get, take, true};
+ghost use Rattle.std.specs.Prelude.{◌≡◌, ◌≢◌, ◌+◌, ◌*◌, ◌<◌, ◌≤◌, ◌++◌, ◌∷◌, ◌^◌, [], ℕ, IfOk, MatchResult, Some, codes, false, length, map, slice_get, take, true};
 ghost use Rattle.ladder_causes.specs.Assignment.{bit_of};
+ghost use Rattle.ladder_causes.specs.Cursor.{Takes, looks_given, looks_of, searched};
 ghost use Rattle.std.specs.List.{slice_range};
-ghost use Rattle.ladder_sim.specs.Block.{Sends};
+ghost use Rattle.ladder_text.specs.Block.{Sends};
 ghost use Rattle.ladder_sim.specs.CauseText.{behind_commas, bit_text, bits, cause_text, header, limited, name_in, row, rows};
-ghost use Rattle.ladder_sim.specs.Log.{Puts};
+ghost use Rattle.ladder_text.specs.Log.{Puts};
 ghost use Rattle.ladder_sim.specs.declared.cause_text.TheConstants.{DIGITS, ROW};
 
-use super::block::Block;
-use super::fault::WriteFault;
-use super::sink::Sink;
 use itoa::write_digits;
 use ladder_causes::Causes;
 use ladder_grid::Program;
+use ladder_text::{Block, Sink, WriteFault};
 use ladder_vars::Decls;
 
 /// How many digits a number has at most.
@@ -132,11 +131,13 @@ fn add_row<W: Sink>(
     block.add(&text[start..DIGITS + 2 * listed + 1], writer)
 }
 
-/// How much of a list was written.
+/// How much of a list was written, and what it took.
 #[derive(Clone, Copy, Debug, PartialEq, Eq)]
 pub struct Summary {
-    /// The rows behind the header.
+    /// The rows after the header.
     pub rows: u64,
+    /// The looks that the cursor has made since it was made.
+    pub looks: u64,
 }
 
 fn is_reached(limit: Option<u64>, rows: u64) -> bool
@@ -149,7 +150,7 @@ fn is_reached(limit: Option<u64>, rows: u64) -> bool
     }
 }
 
-/// Adds the rows that are left, or the first of them, and answers how many.
+/// Adds the rows that are left, or the first of them where there is a limit, and returns how many.
 fn add_rows<W: Sink>(
     block: &mut Block,
     causes: &mut Causes<'_>,
@@ -161,6 +162,8 @@ fn add_rows<W: Sink>(
     requires finite { length causes.old.rest < 2 ^ 64 }
     ensures sends { Sends (W.log writer.old) (W.log writer.new) block.old block.new result (rows listed (limited limit causes.old.rest)) }
     ensures count { IfOk result (λ n. n ≡ length (limited limit causes.old.rest)) }
+    ensures taken { MatchResult result (λ n. Takes causes.old causes.new n) (λ _. (n : ℕ) × Takes causes.old causes.new n) }
+    ensures looks { IfOk result (λ _. looks_of causes.new ≡ looks_given (searched causes.old) (looks_of causes.old) limit causes.old.rest) }
 {
     let mut count = 0u64;
     loop {
@@ -177,10 +180,13 @@ fn add_rows<W: Sink>(
     }
 }
 
-/// Writes the text of the causes that are left, or of the first ones where there is a limit. It takes no memory.
+/// Writes the text of the causes that are left, or of the first ones where there is a limit: a header, and a row for each cause.
+/// It does not allocate. With a limit of n rows the cursor is asked at most n times.
 ///
-/// After a fault, what was written is a front of that text, and the cursor may have given causes that were not written
-/// in full; one goes on after the last whole row.
+/// # Errors
+///
+/// X6: the writer failed. What was written is a prefix of that text, and the cursor may have given causes that were not written in
+/// full; one goes on after the last whole row.
 pub fn write_causes<W: Sink>(
     causes: &mut Causes<'_>,
     limit: Option<u64>,
@@ -188,6 +194,13 @@ pub fn write_causes<W: Sink>(
 ) -> Result<Summary, WriteFault>
     ensures bytes { Puts (W.log writer.old) (W.log writer.new) result (cause_text causes.old.program causes.old.listed (limited limit causes.old.rest)) }
     ensures rows { IfOk result (λ s. s.rows ≡ length (limited limit causes.old.rest)) }
+
+    // Where the cursor then is: it has given the rows that were written, and more only after a fault.
+    ensures taken { MatchResult result (λ s. Takes causes.old causes.new s.rows) (λ _. (n : ℕ) × Takes causes.old causes.new n) }
+
+    // The looks are the cursor's count, which is that of the search as far as it was gone through.
+    ensures looks { IfOk result (λ s. s.looks ≡ looks_of causes.new) }
+    ensures counted { IfOk result (λ _. looks_of causes.new ≡ looks_given (searched causes.old) (looks_of causes.old) limit causes.old.rest) }
 {
     let mut block = Block::new();
     let listed = causes.free().len();
@@ -200,5 +213,8 @@ pub fn write_causes<W: Sink>(
     let Ok(()) = block.flush(writer) else {
         return Err(WriteFault);
     };
-    Ok(Summary { rows })
+    Ok(Summary {
+        rows,
+        looks: causes.looks(),
+    })
 }

@@ -1,2 +1,3 @@
 pub mod UnknownWords
 pub mod Endings
+pub mod Numbers

@@ -1,9 +1,9 @@
 -- The first word that names no variable.
-use Rattle.std.proofs.Common.{◌≡◌, ◌∙◌, ap, sym, refl, ℕ, ◌+◌, ◌<◌, ◌≤◌, List, [], ◌∷◌, length, take, map, Option, Some, None, get_or, slice_index_or, arith, add-one}
+use Rattle.std.proofs.Common.{◌≡◌, ◌∙◌, ap, sym, refl, ℕ, ◌+◌, ◌<◌, ◌≤◌, List, [], ◌∷◌, length, take, map, Some, None, get_or, slice_index_or, arith, add-one}
 use Rattle.std.proofs.lemmas.List.{get_or-map, length-map, length-take-le, take-map}
 use Rattle.clap.specs.Words.{Text}
 use Rattle.ladder_vars.specs.Decls.{Declared}
-use Rattle.ladder_tool.specs.Variables.{AreVariables, IsUnknownAt, IsUnknownWord, variable_of}
+use Rattle.ladder_tool.specs.Variables.{AreVariables, IsUnknownWord, variable_of}
 
 -- as many words are known as there are variables for them
 known_count : (decls : Declared) (words : List Text) (i : ℕ) (vars : List ℕ) → i ≤ length words → AreVariables decls (take i words) vars → length vars ≡ i

@@ -1,20 +1,35 @@
--- The command line, as clap's definitions of a simple command read it: `ladder causes FILE COIL [INPUT]...`.
+-- The command line, as clap's definitions of a simple command read it: `ladder check FILE` and
+-- `ladder causes [--at N] [--after N] [--limit N] FILE COIL [INPUT]...`.
 use Rattle.std.specs.Prelude.{◌≡◌, Some, codes, true, false}
 use Rattle.clap.specs.Words.{App, Rule, Text, app_of, new_app, new_rule, with_rule, with_subcommand}
 use Rattle.clap.specs.declared.builder.ArgAction.TheVariants.{Append}
 use Rattle.clap.specs.declared.builder.Command.{Command}
 use Rattle.clap.specs.declared.builder.Command.TheViews.{out-Command}
+use Rattle.clap.specs.declared.builder.value_parser.ValueParser.TheVariants.{Unsigned}
 
 -- a word that must be there
 abbrev pub place_rule : Text → Rule
 place_rule id = record (new_rule id) { required = true }
 
+-- an option with a number of 64 bits
+abbrev pub number_rule : Text → Rule
+number_rule id = record (new_rule id) { long = Some id; parser = Some (Unsigned 0 18446744073709551615) }
+
 -- the words that are left
 abbrev pub list_rule : Text → Rule
 list_rule id = record (new_rule id) { action = Some Append }
 
+abbrev pub check_app : App
+check_app = with_rule (new_app (codes "check")) (place_rule (codes "file"))
+
+abbrev pub causes_options : App
+causes_options = with_rule (with_rule (with_rule (new_app (codes "causes"))
+    (number_rule (codes "at")))
+    (number_rule (codes "after")))
+    (number_rule (codes "limit"))
+
 abbrev pub causes_app : App
-causes_app = with_rule (with_rule (with_rule (new_app (codes "causes"))
+causes_app = with_rule (with_rule (with_rule causes_options
     (place_rule (codes "file")))
     (place_rule (codes "coil")))
     (list_rule (codes "inputs"))
@@ -23,7 +38,7 @@ abbrev pub needs_subcommand : App → App
 needs_subcommand a = record a { top = record a.top { subcommand_required = true } }
 
 abbrev pub ladder_app : App
-ladder_app = with_subcommand (needs_subcommand (new_app (codes "ladder"))) causes_app.top
+ladder_app = with_subcommand (with_subcommand (needs_subcommand (new_app (codes "ladder"))) check_app.top) causes_app.top
 
 -- a command with no argument that is common to all subcommands, which clap reads as this
 abbrev pub IsApp : App → Command → Type 0

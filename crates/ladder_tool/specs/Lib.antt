@@ -1,4 +1,5 @@
 pub mod CommandLine
+pub mod Asked
 pub mod Asking
 pub mod FaultLine
 pub mod Variables

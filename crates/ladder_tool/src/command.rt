@@ -2,9 +2,9 @@
 ghost use Rattle.std.specs.Prelude.{◌≡◌, IfOk, codes, false};
 ghost use Rattle.clap.specs.Words.{app_of, new_app, rule_of, with_rule, with_subcommand};
 ghost use Rattle.clap.specs.declared.builder.Command.TheViews.{out-Command};
-ghost use Rattle.ladder_tool.specs.CommandLine.{IsApp, causes_app, ladder_app, list_rule, needs_subcommand, place_rule};
+ghost use Rattle.ladder_tool.specs.CommandLine.{IsApp, causes_app, causes_options, check_app, ladder_app, list_rule, needs_subcommand, number_rule, place_rule};
 
-use clap::{Arg, ArgAction, Command};
+use clap::{Arg, ArgAction, Command, value_parser};
 use std::alloc::{AllocError, Global};
 
 /// A word that must be there, by its place.
@@ -13,6 +13,16 @@ fn place<'a>(alloc: Global, id: &'a str) -> Arg<'a>
     ensures global { result.global ≡ false }
 {
     Arg::new(alloc, id).required(true)
+}
+
+/// An option with a number.
+fn number<'a>(alloc: Global, id: &'a str) -> Arg<'a>
+    ensures rule { rule_of result ≡ number_rule id.entry.now }
+    ensures global { result.global ≡ false }
+{
+    Arg::new(alloc, id)
+        .long(id)
+        .value_parser(value_parser!(u64))
 }
 
 /// The words that are left.
@@ -31,10 +41,25 @@ fn add<'a>(command: Command<'a>, arg: Arg<'a>) -> Result<Command<'a>, AllocError
     command.arg(arg)
 }
 
+fn check<'a>(alloc: Global) -> Result<Command<'a>, AllocError>
+    ensures { IfOk result (IsApp check_app) }
+{
+    add(Command::new(alloc, "check"), place(alloc, "file"))
+}
+
+fn causes_options<'a>(alloc: Global) -> Result<Command<'a>, AllocError>
+    ensures { IfOk result (IsApp causes_options) }
+{
+    let command = Command::new(alloc, "causes");
+    let command = add(command, number(alloc, "at"))?;
+    let command = add(command, number(alloc, "after"))?;
+    add(command, number(alloc, "limit"))
+}
+
 fn causes<'a>(alloc: Global) -> Result<Command<'a>, AllocError>
     ensures { IfOk result (IsApp causes_app) }
 {
-    let command = Command::new(alloc, "causes");
+    let command = causes_options(alloc)?;
     let command = add(command, place(alloc, "file"))?;
     let command = add(command, place(alloc, "coil"))?;
     add(command, list(alloc, "inputs"))
@@ -57,5 +82,6 @@ fn top<'a>(alloc: Global) -> Command<'a>
 pub(crate) fn ladder<'a>(alloc: Global) -> Result<Command<'a>, AllocError>
     ensures { IfOk result (λ c. app_of c ≡ ladder_app) }
 {
-    join(top(alloc), causes(alloc)?)
+    let command = join(top(alloc), check(alloc)?)?;
+    join(command, causes(alloc)?)
 }

@@ -1,10 +1,13 @@
 //! The command line of the program `ladder`, and what it performs.
 #![tactic(auto)]
 
+mod checking;
 mod command;
 mod fault;
+mod listing;
 mod performing;
 mod program;
+mod report;
 mod request;
 mod variables;
 mod words;

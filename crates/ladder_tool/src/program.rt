@@ -5,7 +5,7 @@ use super::fault::{TextKind, ToolFault, write_fault};
 use super::performing::perform;
 use super::request::{Request, Texts, WordFault};
 use super::words::read_words;
-use ladder_sim::{Reading, TextFault, Writing, put, read_text};
+use ladder_text::{Reading, TextFault, Writing, put, read_text};
 use std::alloc::Global;
 use std::{fs, io};
 
@@ -31,11 +31,17 @@ pub fn run(rt: &HostRuntime, alloc: Global, words: Vec<String>) -> u8
     }
 }
 
+/// The file of the program text.
+fn program_file(request: &Request) -> &str {
+    match request {
+        Request::Check { file } | Request::Causes { file, .. } => file.as_str(),
+    }
+}
+
 fn run_request(rt: &HostRuntime, alloc: Global, request: &Request) -> u8
     ensures { result ≤ 1 }
 {
-    let Request::Causes { file, .. } = request;
-    let program = match read_file(rt, alloc, file.as_str()) {
+    let program = match read_file(rt, alloc, program_file(request)) {
         Ok(program) => program,
         Err(fault) => {
             report(rt, &ToolFault::Text(TextKind::Program, fault));

@@ -4,8 +4,19 @@ use thiserror::Error;
 /// What the words ask for.
 #[derive(Drop)]
 pub enum Request {
+    /// Whether a program text breaks no rule, and what it has.
+    Check {
+        /// The file of the program text.
+        file: String,
+    },
     /// The causes of a coil: which assignments of the listed inputs switch it on.
     Causes {
+        /// The moment of the scan, in ms; the stored one where there is none.
+        moment: Option<u64>,
+        /// The number to begin after.
+        after: Option<u64>,
+        /// How many rows are written at most.
+        limit: Option<u64>,
         /// The file of the program text.
         file: String,
         /// The name of the coil's variable.

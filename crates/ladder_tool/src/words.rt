@@ -3,7 +3,7 @@ ghost use Rattle.std.specs.Prelude.{◌≡◌, [], codes, IfSome, IsSome, OnOk, 
 ghost use Rattle.clap.specs.Words.{all_of, first_of, found_of, rows_of, subcommand_rows_of};
 ghost use Rattle.clap.specs.Words.{fault_of as clap_fault};
 ghost use Rattle.ladder_tool.specs.CommandLine.{ladder_app};
-ghost use Rattle.ladder_tool.specs.Asking.{Asks, AsksBy};
+ghost use Rattle.ladder_tool.specs.Asking.{Asks, AsksBy, HasNumber};
 
 use super::command::ladder;
 use super::request::{Request, WordFault};
@@ -51,6 +51,10 @@ fn request_of(alloc: Global, name: &str, found: &ArgMatches<'_>) -> Result<Reque
     ensures { IfOk result (Asks name.now (rows_of (found_of found.now))) }
 {
     match name {
+        "check" => {
+            let file = text(alloc, found, "file")?;
+            Ok(Request::Check { file })
+        }
         "causes" => causes_request(alloc, found),
         _ => Err(WordFault::Usage),
     }
@@ -59,10 +63,30 @@ fn request_of(alloc: Global, name: &str, found: &ArgMatches<'_>) -> Result<Reque
 fn causes_request(alloc: Global, found: &ArgMatches<'_>) -> Result<Request, WordFault>
     ensures { IfOk result (Asks (codes "causes") (rows_of (found_of found.now))) }
 {
+    let moment = number(found, "at")?;
+    let after = number(found, "after")?;
+    let limit = number(found, "limit")?;
     let file = text(alloc, found, "file")?;
     let coil = text(alloc, found, "coil")?;
     let inputs = texts(alloc, found, "inputs")?;
-    Ok(Request::Causes { file, coil, inputs })
+    Ok(Request::Causes {
+        moment,
+        after,
+        limit,
+        file,
+        coil,
+        inputs,
+    })
+}
+
+/// The value of an option, where it was given.
+fn number(found: &ArgMatches<'_>, id: &str) -> Result<Option<u64>, WordFault>
+    ensures { IfOk result (HasNumber id.now (rows_of (found_of found.now))) }
+{
+    match found.try_get_one::<u64>(id) {
+        Ok(number) => Ok(number),
+        Err(_) => Err(WordFault::Usage),
+    }
 }
 
 fn text(alloc: Global, found: &ArgMatches<'_>, id: &str) -> Result<String, WordFault>

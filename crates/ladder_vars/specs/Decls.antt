@@ -1,6 +1,7 @@
 -- The declarations of a text as a value: its variables and its function block instances, each in order of declaration.
 use Rattle.std.specs.Prelude.{ℕ, ◌≤◌, Bool, true, false, ◌&&◌, ◌==◌, List, ◌++◌, length, map, position, Option, Some, None}
 use Rattle.std.specs.List.{All, IsDistinct, filter_map}
+use Rattle.ladder_vars.specs.declared.limits.TheConstants.{MOST_VARS, MOST_INSTANCES}
 use Rattle.ladder_vars.specs.declared.decls.VarKind.TheVariants as kind
 use Rattle.ladder_vars.specs.declared.decls.Address.{Address}
 use Rattle.ladder_vars.specs.declared.decls.Var.{Var}
@@ -52,7 +53,7 @@ addresses_of vars = filter_map (λ v. v.address) vars
 pub record AreKept (declared : Declared) : Type 0 where
   pub names : IsDistinct same_letters (names_of declared)
   pub addresses : IsDistinct same_address (addresses_of declared.vars)
-  pub few_vars : length declared.vars ≤ 256
-  pub few_instances : length declared.instances ≤ 64
+  pub few_vars : length declared.vars ≤ MOST_VARS
+  pub few_instances : length declared.instances ≤ MOST_INSTANCES
   pub short_names : All (λ i. length i.name ≤ (traits_of i.kind).longest_name) declared.instances
   pub presets : All (λ i. i.preset ≤ largest_preset i.kind) declared.instances

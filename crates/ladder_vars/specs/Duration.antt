@@ -2,6 +2,7 @@
 use Rattle.std.specs.Prelude.{◌≡◌, ℕ, ◌+◌, ◌-◌, ◌*◌, ◌<◌, ◌≤◌, ◌⊎◌, true, List, [], ◌∷◌, ◌++◌, length, codes}
 use Rattle.std.specs.List.{list_all, sum_by}
 use Rattle.std.specs.Char.{is_ascii_digit}
+use Rattle.ladder_vars.specs.declared.limits.TheConstants.{MOST_DIGITS}
 use Rattle.ladder_vars.specs.declared.time.Unit.TheVariants as unit
 use Rattle.ladder_vars.specs.Name.{same_letters, is_one_of}
 
@@ -16,7 +17,7 @@ number_of digits = value_from 0 digits
 -- A number of the declarations has 1 to 5 digits.
 pub record IsNumber (word : List ℕ) (n : ℕ) : Type 0 where
   pub some : 1 ≤ length word
-  pub few : length word ≤ 5
+  pub few : length word ≤ MOST_DIGITS
   pub digits : list_all is_ascii_digit word ≡ true
   pub value : n ≡ number_of word
 

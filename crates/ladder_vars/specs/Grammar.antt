@@ -111,7 +111,7 @@ IsPreset ts kind n = ((ts ≡ []) × (n ≡ 0)) ⊎ HasPreset ts kind n
 
 -- ---- declarations
 
--- what stands behind the name of a variable: [AT address] : BOOL [:= bit] ;
+-- what follows the name of a variable: [AT address] : BOOL [:= bit] ;
 pub record IsVarBody (ts : List (List ℕ)) (kind : VarKind) (address : Option Address) (value : Bool) : Type 0 where
   pub place : List (List ℕ)
   pub colon : List ℕ
@@ -125,7 +125,7 @@ pub record IsVarBody (ts : List (List ℕ)) (kind : VarKind) (address : Option A
   pub is_initial : IsInitial initial value
   pub is_semicolon : Is (codes ";") semicolon
 
--- what stands behind the name of an instance: its type with the preset
+-- what follows the name of an instance: its type with the preset
 pub record IsInstanceBody (ts : List (List ℕ)) (kind : BlockKind) (n : ℕ) : Type 0 where
   pub colon : List ℕ
   pub block : List ℕ
@@ -141,7 +141,7 @@ abbrev pub IsBody : List (List ℕ) → Body → Type 0
 IsBody ts (body.Var kind address initial) = IsVarBody ts kind address initial
 IsBody ts (body.Instance kind preset) = IsInstanceBody ts kind preset
 
--- A declaration is a name and what stands behind it.
+-- A declaration is a name and what follows it.
 pub record Decl : Type 0 where
   pub name : List ℕ
   pub body : Body
@@ -171,7 +171,7 @@ declared_by ds = record {
   instances = filter_map (λ d. instance_of d.name d.body) ds;
 }
 
--- VAR, the declarations and END_VAR, right behind which the rest of the text begins. Names, addresses and limits are kept.
+-- VAR, the declarations and END_VAR, right after which the rest of the text begins. Names, addresses and limits are kept.
 pub record HasDecls (text : List ℕ) (declared : Declared) (rest : List ℕ) : Type 0 where
   pub opening : List ℕ
   pub tokens : List (List ℕ)

@@ -4,6 +4,7 @@ use Rattle.std.specs.Prelude.{ℕ, Bool, false, not, ◌&&◌, ◌||◌, ◌==�
 use Rattle.std.specs.List.{list_any, list_all}
 use Rattle.std.specs.Char.{is_ascii_alphabetic, is_ascii_alphanumeric}
 use Rattle.std.specs.Str.{str_eq_ignore_ascii_case}
+use Rattle.ladder_vars.specs.declared.limits.TheConstants.{LONGEST_NAME}
 
 -- The words that have a place of their own in the grammar or in a drawing.
 abbrev pub keywords : List (List ℕ)
@@ -33,4 +34,4 @@ has_name_form [] = false
 has_name_form (b ∷ bs) = is_name_start b && list_all is_name_byte bs
 
 abbrev pub is_name : List ℕ → Bool
-is_name word = has_name_form word && (nat_le (length word) 11 && not (is_keyword word))
+is_name word = has_name_form word && (nat_le (length word) LONGEST_NAME && not (is_keyword word))

@@ -1,4 +1,4 @@
--- How a name lies in memory: its bytes, with zeros behind them. Callers see the spelling alone.
+-- How a name lies in memory: its bytes, with zeros after them. Callers see the spelling alone.
 use Rattle.std.specs.Prelude.{◌≡◌, ℕ, ◌-◌, ◌≤◌, List, ◌++◌, length, take, drop, replicate, true}
 use Rattle.std.proofs.Common.{sym, ap}
 use Rattle.std.proofs.Math.Seq.{take-append_seam}

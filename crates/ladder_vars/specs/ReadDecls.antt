@@ -1,6 +1,7 @@
 -- Private to the proofs: declarations read from left to right, as the code reads them, with the first fault that is met.
 use Rattle.std.specs.Prelude.{◌≡◌, ℕ, zero, suc, ◌+◌, Bool, false, ◌||◌, ◌&&◌, ◌==◌, ◌≤◌, nat_le, nat_lt, List, [], ◌∷◌, ◌++◌, length, codes, Option, Some, None, if◌then◌else◌, Result, Ok, Err}
 use Rattle.std.specs.List.{list_any}
+use Rattle.ladder_vars.specs.declared.limits.TheConstants.{MOST_VARS, MOST_INSTANCES}
 use Rattle.ladder_vars.specs.declared.fault.VarRule.{VarRule}
 use Rattle.ladder_vars.specs.declared.fault.VarRule.TheVariants as rule
 use Rattle.ladder_vars.specs.declared.fault.Fault.{Fault}
@@ -91,14 +92,14 @@ preset_at kind text = do
   if same_letters x.0 (codes ";") then Ok (0, x.1)
       else (if same_letters x.0 (codes ":=") then given_to (traits_of kind).parameter x.1 else Err (at rule.BadToken x.1))
 
--- ---- what stands behind a name
+-- ---- what follows a name
 
 unfoldable pub bool_at : var_kind.the_data → Option Address → List ℕ → Result (Body × List ℕ) Fault
 bool_at kind address text = do
   x ← initial_at text
   Ok (body.Var kind address x.0, x.1)
 
--- behind AT
+-- after AT
 unfoldable pub placed : List ℕ → Result (Body × List ℕ) Fault
 placed text = do
   x ← token_at text
@@ -112,7 +113,7 @@ block_at kind text = do
   x ← preset_at kind text
   Ok (body.Instance kind x.0, x.1)
 
--- behind a colon
+-- after a colon
 unfoldable pub typed : List ℕ → Result (Body × List ℕ) Fault
 typed text = do
   x ← token_at text
@@ -153,13 +154,13 @@ abbrev pub refusal : Declared → List ℕ → Body → Option VarRule
 refusal declared name (body.Var kind address initial) =
     if is_declared declared name then Some rule.Duplicate
     else (if is_taken declared address then Some rule.DuplicateAddress
-    else (if nat_le 256 (length declared.vars) then Some rule.TooMany else None))
+    else (if nat_le MOST_VARS (length declared.vars) then Some rule.TooMany else None))
 refusal declared name (body.Instance kind preset) =
     if nat_lt (traits_of kind).longest_name (length name) then Some rule.BadName
     else (if is_declared declared name then Some rule.Duplicate
-    else (if nat_le 64 (length declared.instances) then Some rule.TooMany else None))
+    else (if nat_le MOST_INSTANCES (length declared.instances) then Some rule.TooMany else None))
 
--- how many inputs lead, with one more variable behind so many others
+-- how many inputs lead, with one more variable after so many others
 abbrev pub leading_with : ℕ → ℕ → var_kind.the_data → ℕ
 leading_with leading count kind = if leading == count && is_input_kind kind then leading + 1 else leading
 

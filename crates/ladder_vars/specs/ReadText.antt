@@ -19,7 +19,7 @@ Gives view (Err e) read = read ≡ Err e
 abbrev pub unfinished : Fault
 unfinished = record { rule = rule.Unfinished; left = 0 }
 
--- the text after the blanks and comments at its front
+-- the text after the blanks and comments at its start
 abbrev pub skip_from : Within → List ℕ → Result (List ℕ) Fault
 skip_from within.Blanks [] = Ok []
 skip_from within.LineComment [] = Ok []
@@ -41,7 +41,7 @@ abbrev pub no_token : List ℕ → Fault
 no_token [] = unfinished
 no_token (b ∷ bs) = record { rule = (if nat_le 33 b && nat_le b 126 then rule.BadToken else rule.BadByte); left = length (b ∷ bs) }
 
--- a token and what stands after it
+-- a token and what follows it
 unfoldable pub token_at : List ℕ → Result (List ℕ × List ℕ) Fault
 token_at text = do
   rest ← skip_from within.Blanks text

@@ -3,6 +3,7 @@ use Rattle.std.specs.Prelude.{◌≡◌, ℕ, zero, suc, ◌+◌, ◌*◌, ◌^�
 use Rattle.std.specs.List.{list_all, prefix_len}
 use Rattle.std.specs.Map.{lookup}
 use Rattle.std.specs.Char.{is_ascii_digit, is_ascii_alphabetic, to_ascii_uppercase}
+use Rattle.ladder_vars.specs.declared.limits.TheConstants.{MOST_DIGITS}
 use Rattle.ladder_vars.specs.declared.decls.VarKind.{VarKind}
 use Rattle.ladder_vars.specs.declared.kind.Parameter.{Parameter}
 use Rattle.ladder_vars.specs.declared.kind.Parameter.TheVariants as parameter
@@ -27,7 +28,7 @@ or_else None other = other
 
 abbrev pub short_number : List ℕ → Option ℕ
 short_number word =
-    if nat_le 1 (length word) && (nat_le (length word) 5 && list_all is_ascii_digit word) then Some (number_of word) else None
+    if nat_le 1 (length word) && (nat_le (length word) MOST_DIGITS && list_all is_ascii_digit word) then Some (number_of word) else None
 
 abbrev pub count_of : List ℕ → Option ℕ
 count_of word = short_number word >>= λ n. if nat_le n (largest_value parameter.Count) then Some n else None
@@ -69,7 +70,7 @@ units =
 abbrev pub unit_of : List ℕ → Option TimeUnit
 unit_of letters = lookup (same_letters letters) units
 
--- a number, its unit, and what stands behind them; numbers are cut at 2 ^ 32, which is more than any duration has
+-- a number, its unit, and what follows them; numbers are cut at 2 ^ 32, which is more than any duration has
 pub record PartAt : Type 0 where
   pub number : ℕ
   pub unit : TimeUnit

@@ -1,7 +1,8 @@
 -- Where a rule V1 to V8 of a block of declarations is broken: the rule, and how many bytes of the text are left where it shows.
--- V2 says no more than that no other token fits, so it is not stated here; V9 is want of memory and no rule of the text.
+-- V2 says no more than that no other token fits, so it is not stated here; V9 (out of memory) is no rule of the text.
 use Rattle.std.specs.Prelude.{◌≡◌, ℕ, ◌+◌, ◌-◌, ◌<◌, ◌⊎◌, ◌||◌, ◌==◌, Bool, true, false, List, [], ◌∷◌, length, take, count_by, codes, Some}
 use Rattle.std.specs.List.{list_any, AllByRecursion}
+use Rattle.ladder_vars.specs.declared.limits.TheConstants.{MOST_VARS, MOST_INSTANCES}
 use Rattle.ladder_vars.specs.declared.fault.VarRule.{VarRule}
 use Rattle.ladder_vars.specs.declared.fault.VarRule.TheVariants as rule
 use Rattle.ladder_vars.specs.declared.decls.VarKind.{VarKind}
@@ -94,8 +95,8 @@ HasLongInstance text left =
 
 -- It is the 257th variable, or the 65th instance.
 abbrev pub IsFull : List Decl → Body → Type 0
-IsFull ds (body.Var kind address initial) = length (declared_by ds).vars ≡ 256
-IsFull ds (body.Instance kind preset) = length (declared_by ds).instances ≡ 64
+IsFull ds (body.Var kind address initial) = length (declared_by ds).vars ≡ MOST_VARS
+IsFull ds (body.Instance kind preset) = length (declared_by ds).instances ≡ MOST_INSTANCES
 
 -- The rule is broken, and so many bytes are left where it shows.
 abbrev pub Breaks : VarRule → List ℕ → ℕ → Type 0
@@ -117,7 +118,7 @@ Breaks rule.TooMany text left =
 Breaks rule.Unfinished text left = (at : List ℕ) × Reaches text at × IsUnfinished at × (left ≡ 0)
 Breaks rule.Memory text left = ⊥
 
--- The rule is broken on the line; want of memory is on no line, which is line 0.
+-- The rule is broken on the line; V9 has line 0, which is none.
 abbrev pub BreaksOn : VarRule → List ℕ → ℕ → Type 0
 BreaksOn rule.Memory text line = line ≡ 0
 BreaksOn r text line = (left : ℕ) × Breaks r text left × (line ≡ line_of text left)

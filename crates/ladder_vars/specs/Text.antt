@@ -21,8 +21,8 @@ is_word_byte b = is_ascii_alphanumeric b || (b == 95 || (b == 35 || b == 46))
 abbrev pub is_address_byte : ℕ → Bool
 is_address_byte b = is_ascii_alphanumeric b || b == 46
 
--- How long the token at the front is: a word with its longest run, `%` with the longest run of an address behind it,
--- `:=`, or one of `:` `;` `(` `)`, but `(*` begins a comment. It is 0 where no token stands there.
+-- How long the token at the start is: a word with its longest run, `%` with the longest run of an address after it,
+-- `:=`, or one of `:` `;` `(` `)`, but `(*` begins a comment. It is 0 where there is no token.
 abbrev pub token_len : List ℕ → ℕ
 token_len [] = 0
 token_len (b ∷ bs) =
@@ -62,13 +62,13 @@ ArePieces (p ∷ ps) text rest = (after : List ℕ) × (text ≡ spelling p ++ a
 abbrev pub Gap : List ℕ → List ℕ → Type 0
 Gap text rest = (pieces : List Piece) × ArePieces pieces text rest
 
--- The token stands at the front of the text, and this follows it.
+-- The token stands at the start of the text, and this follows it.
 pub record IsTokenBefore (text token after : List ℕ) : Type 0 where
   pub parts : text ≡ token ++ after
   pub some : 0 < length token
   pub longest : token_len text ≡ length token
 
--- The text is these tokens, each behind a gap, and then the rest, right behind the last token.
+-- The text is these tokens, each after a gap, and then the rest, right after the last token.
 abbrev pub AreTokens : List (List ℕ) → List ℕ → List ℕ → Type 0
 AreTokens [] text rest = text ≡ rest
 AreTokens (t ∷ ts) text rest = (start after : List ℕ) × Gap text start × IsTokenBefore start t after × AreTokens ts after rest
@@ -79,7 +79,7 @@ IsUnfinished [] = Unit {0}
 IsUnfinished (a ∷ []) = ⊥
 IsUnfinished (a ∷ b ∷ inside) = (a ≡ 40) × (b ≡ 42) × (closes inside ≡ false)
 
--- Neither a blank nor a byte from 0x21 to 0x7E stands at the front.
+-- Neither a blank nor a byte from 0x21 to 0x7E stands at the start.
 abbrev pub IsBadByte : List ℕ → Type 0
 IsBadByte [] = ⊥
 IsBadByte (b ∷ after) = (is_blank b after ≡ false) × ((nat_le 33 b && nat_le b 126) ≡ false)

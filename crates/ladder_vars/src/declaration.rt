@@ -1,3 +1,5 @@
+//! Reads one declaration of a block.
+
 ghost use Rattle.std.specs.Prelude.{◌≡◌, ◌≤◌, ◌<◌, ◌||◌, ◌==◌, length, codes, Option, Some, None, IfOk, IfSome};
 ghost use Rattle.ladder_vars.specs.Text.{begins, is_word_byte};
 ghost use Rattle.ladder_vars.specs.Kind.{largest_value, largest_of, largest_preset};
@@ -23,7 +25,7 @@ fn bad_token(rest: &[u8]) -> Fault
     }
 }
 
-/// What stands behind a keyword or a mark that is due.
+/// What follows a keyword or a mark that is due.
 #[tactic(auto, unfolding(crate::specs::ReadDecls::expect))]
 pub(crate) fn expect<'a>(word: &[u8], text: &'a [u8]) -> Result<&'a [u8], Fault>
     ensures value { Gives (λ rest. rest.now) result (expect word.now text.now) }
@@ -123,7 +125,7 @@ fn given_preset(form: Parameter, text: &[u8]) -> Result<(u32, &[u8]), Fault>
     Ok((preset, rest))
 }
 
-/// The preset behind `:=`, where the block has a parameter.
+/// The preset after `:=`, where the block has a parameter.
 fn given_to(form: Option<Parameter>, text: &[u8]) -> Result<(u32, &[u8]), Fault>
     ensures value { Gives (λ x. (x.0, x.1.now)) result (given_to form text.now) }
     ensures fits { IfOk result (λ x. x.0 ≤ largest_of form) }
@@ -152,7 +154,7 @@ fn preset_at(kind: BlockKind, text: &[u8]) -> Result<(u32, &[u8]), Fault>
     }
 }
 
-/// What stands behind the type BOOL.
+/// What follows the type BOOL.
 #[tactic(auto, unfolding(crate::specs::ReadDecls::bool_at))]
 fn bool_at(kind: VarKind, address: Option<Address>, text: &[u8]) -> Result<(Body, &[u8]), Fault>
     ensures value { Gives (λ x. (x.0, x.1.now)) result (bool_at kind address text.now) }
@@ -168,7 +170,7 @@ fn bool_at(kind: VarKind, address: Option<Address>, text: &[u8]) -> Result<(Body
     Ok((body, rest))
 }
 
-/// What stands behind `AT`.
+/// What follows `AT`.
 #[tactic(auto, unfolding(crate::specs::ReadDecls::placed))]
 fn placed(text: &[u8]) -> Result<(Body, &[u8]), Fault>
     ensures value { Gives (λ x. (x.0, x.1.now)) result (placed text.now) }
@@ -182,7 +184,7 @@ fn placed(text: &[u8]) -> Result<(Body, &[u8]), Fault>
     bool_at(kind, Some(address), rest)
 }
 
-/// What stands behind the type of an instance.
+/// What follows the type of an instance.
 #[tactic(auto, unfolding(crate::specs::ReadDecls::block_at))]
 fn block_at(kind: BlockKind, text: &[u8]) -> Result<(Body, &[u8]), Fault>
     ensures value { Gives (λ x. (x.0, x.1.now)) result (block_at kind text.now) }
@@ -193,7 +195,7 @@ fn block_at(kind: BlockKind, text: &[u8]) -> Result<(Body, &[u8]), Fault>
     Ok((Body::Instance { kind, preset }, rest))
 }
 
-/// What stands behind the colon of a declaration without `AT`.
+/// What follows the colon of a declaration without `AT`.
 #[tactic(auto, unfolding(crate::specs::ReadDecls::typed))]
 fn typed(text: &[u8]) -> Result<(Body, &[u8]), Fault>
     ensures value { Gives (λ x. (x.0, x.1.now)) result (typed text.now) }
@@ -209,7 +211,7 @@ fn typed(text: &[u8]) -> Result<(Body, &[u8]), Fault>
     }
 }
 
-/// What stands behind the name of a declaration, up to its `;`.
+/// What follows the name of a declaration, up to its `;`.
 #[tactic(auto, unfolding(crate::specs::ReadDecls::body_at))]
 pub(crate) fn body_at(text: &[u8]) -> Result<(Body, &[u8]), Fault>
     ensures value { Gives (λ x. (x.0, x.1.now)) result (body_at text.now) }

@@ -1,3 +1,5 @@
+//! The declarations of a text.
+
 ghost use Rattle.std.specs.Prelude.{◌≡◌, ◌≤◌, OnOk, IsNone, position, count_by};
 ghost use Rattle.std.specs.List.{list_any, prefix_len};
 ghost use Rattle.ladder_vars.specs.Name.{same_letters};
@@ -6,13 +8,10 @@ ghost use Rattle.ladder_vars.specs.ReadDecls.{is_there, is_declared, is_taken, r
 
 use crate::fault::{Fault, ReadFault, VarRule};
 use crate::kind::BlockKind;
+use crate::limits::{MOST_INSTANCES, MOST_VARS};
 use crate::name::Name;
 use std::alloc::{AllocError, Global};
 use std::marker::Model;
-
-const MOST_VARS: usize = 256;
-
-const MOST_INSTANCES: usize = 64;
 
 /// What a variable is for.
 #[derive(Clone, Copy, Debug, PartialEq, Eq)]
@@ -52,7 +51,7 @@ pub struct Instance {
     pub preset: u32,
 }
 
-/// What stands behind a name in its declaration.
+/// What follows a name in its declaration.
 #[derive(Clone, Copy)]
 pub(crate) enum Body {
     Var {
@@ -121,7 +120,7 @@ fn is_there(place: Option<Address>, address: Address) -> bool
     }
 }
 
-/// How many inputs lead, with one more variable behind `count` others.
+/// How many inputs lead, with one more variable after `count` others.
 fn leading_with(leading: usize, count: usize, kind: VarKind) -> usize
     requires { leading ≤ 256 }
     ensures { result ≡ leading_with leading count kind }
@@ -246,7 +245,7 @@ impl Decls {
         }
     }
 
-    /// Takes one more declaration, where so many bytes are left behind its name.
+    /// Takes one more declaration, where so many bytes are left after its name.
     #[tactic(auto, unfolding(crate::specs::ReadDecls::added))]
     pub(crate) fn add(&mut self, name: Name, body: Body, left: usize) -> Result<(), ReadFault>
         requires { PresetFits body }

@@ -1,8 +1,12 @@
+//! Numbers in decimal.
+
 ghost use Rattle.std.specs.Prelude.{◌≡◌, ◌^◌, ◌≤◌, ◌+◌, ◌-◌, ◌*◌, min, length};
 ghost use Rattle.std.specs.List.{list_all, prefix_len};
 ghost use Rattle.std.specs.Char.{is_ascii_digit};
 ghost use Rattle.ladder_vars.specs.Duration.{number_of};
 ghost use Rattle.ladder_vars.specs.ReadWords.{short_number};
+
+use crate::limits::MOST_DIGITS;
 
 /// Larger than any number that a declaration may have.
 pub(crate) const CAP: u64 = 1 << 32;
@@ -25,31 +29,18 @@ pub(crate) fn number(digits: &[u8]) -> u64
     n
 }
 
-pub(crate) fn are_digits(mut word: &[u8]) -> bool
-    ensures { result ≡ list_all is_ascii_digit word.entry.now }
+pub(crate) fn are_digits(word: &[u8]) -> bool
+    ensures { result ≡ list_all is_ascii_digit word.now }
 {
-    while let [b, rest @ ..] = word {
-        if !b.is_ascii_digit() {
-            return false;
-        }
-        word = rest;
-    }
-    true
+    word.iter().all(|b| b.is_ascii_digit())
 }
 
-/// How many digits stand at the front.
-pub(crate) fn digits_len(mut text: &[u8]) -> usize
-    ensures value { result ≡ prefix_len is_ascii_digit text.entry.now }
-    ensures within { result ≤ length text.entry.now }
+/// How many digits stand at the start.
+pub(crate) fn digits_len(text: &[u8]) -> usize
+    ensures value { result ≡ prefix_len is_ascii_digit text.now }
+    ensures within { result ≤ length text.now }
 {
-    let whole = text.len();
-    while let [b, rest @ ..] = text {
-        if !b.is_ascii_digit() {
-            break;
-        }
-        text = rest;
-    }
-    whole - text.len()
+    text.iter().take_while(|b| b.is_ascii_digit()).count()
 }
 
 /// The number of a word of 1 to 5 digits.
@@ -57,7 +48,7 @@ pub(crate) fn digits_len(mut text: &[u8]) -> usize
 pub(crate) fn short_number(word: &[u8]) -> Option<u32>
     ensures { result ≡ short_number word.now }
 {
-    if 1 <= word.len() && word.len() <= 5 && are_digits(word) {
+    if 1 <= word.len() && word.len() <= MOST_DIGITS && are_digits(word) {
         Some(number(word) as u32)
     } else {
         None

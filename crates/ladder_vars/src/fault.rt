@@ -1,3 +1,5 @@
+//! The rules of a block of declarations, and the faults of a text.
+
 ghost use Rattle.std.specs.Prelude.{◌≡◌};
 ghost use Rattle.ladder_vars.specs.declared.fault.ReadFault.TheVariants.{NoMemory, Broken};
 
@@ -13,7 +15,7 @@ pub enum VarRule {
     /// V2: the tokens are those of the grammar.
     #[error("V2: this token may not stand here")]
     BadToken,
-    /// V3: a name is no keyword and has at most 11 characters, that of an instance at most 9.
+    /// V3: a name is no keyword and has at most 11 characters, that of an instance at most 9, and of a bistable at most 8.
     #[error("V3: this is no name")]
     BadName,
     /// V4: each name is declared once, whatever the case of its letters.

@@ -3,6 +3,8 @@
 ghost use Rattle.std.specs.Prelude.{◌≡◌, ◌≤◌};
 ghost use Rattle.ladder_vars.specs.Kind.{traits_of, parameter_word, largest_value};
 
+use crate::limits::{LONGEST_BISTABLE, LONGEST_INSTANCE};
+
 /// The standard function blocks.
 #[derive(Clone, Copy, Debug, PartialEq, Eq)]
 pub enum BlockKind {
@@ -110,9 +112,27 @@ impl BlockKind {
         ensures output { result.output ≡ (traits_of self).output }
     {
         match self {
-            BlockKind::Ton => row(b"TON", Some(Parameter::Time), 9, None, Output::Q),
-            BlockKind::Tof => row(b"TOF", Some(Parameter::Time), 9, None, Output::Q),
-            BlockKind::Tp => row(b"TP", Some(Parameter::Time), 9, None, Output::Q),
+            BlockKind::Ton => row(
+                b"TON",
+                Some(Parameter::Time),
+                LONGEST_INSTANCE,
+                None,
+                Output::Q,
+            ),
+            BlockKind::Tof => row(
+                b"TOF",
+                Some(Parameter::Time),
+                LONGEST_INSTANCE,
+                None,
+                Output::Q,
+            ),
+            BlockKind::Tp => row(
+                b"TP",
+                Some(Parameter::Time),
+                LONGEST_INSTANCE,
+                None,
+                Output::Q,
+            ),
             BlockKind::Ctu => row(
                 b"CTU",
                 Some(Parameter::Count),
@@ -127,8 +147,8 @@ impl BlockKind {
                 Some(Pin::Load),
                 Output::Q,
             ),
-            BlockKind::Sr => row(b"SR", None, 8, Some(Pin::Reset), Output::Q1),
-            BlockKind::Rs => row(b"RS", None, 8, Some(Pin::Reset1), Output::Q1),
+            BlockKind::Sr => row(b"SR", None, LONGEST_BISTABLE, Some(Pin::Reset), Output::Q1),
+            BlockKind::Rs => row(b"RS", None, LONGEST_BISTABLE, Some(Pin::Reset1), Output::Q1),
         }
     }
 }

@@ -9,6 +9,7 @@ mod decls;
 mod digits;
 mod fault;
 mod kind;
+pub mod limits;
 mod name;
 mod read;
 mod text;

@@ -1,7 +1,10 @@
+//! Names, and words without regard to letter case.
+
 ghost use Rattle.std.specs.Prelude.{◌≡◌, map, true, false, IfSome, IfNone};
 ghost use Rattle.std.specs.List.{list_all};
 ghost use Rattle.ladder_vars.specs.Name.{is_keyword, is_one_of, is_name_byte, has_name_form, is_name, same_letters};
 
+use crate::limits::LONGEST_NAME;
 use std::marker::Model;
 
 /// The words that are no names.
@@ -35,16 +38,12 @@ fn is_keyword(word: &[u8]) -> bool
     is_one_of(&KEYWORDS, word)
 }
 
-fn are_name_bytes(mut bytes: &[u8]) -> bool
-    ensures { result ≡ list_all is_name_byte bytes.entry.now }
+fn are_name_bytes(bytes: &[u8]) -> bool
+    ensures { result ≡ list_all is_name_byte bytes.now }
 {
-    while let [b, rest @ ..] = bytes {
-        if !(b.is_ascii_alphanumeric() || *b == b'_') {
-            return false;
-        }
-        bytes = rest;
-    }
-    true
+    bytes
+        .iter()
+        .all(|b| b.is_ascii_alphanumeric() || *b == b'_')
 }
 
 /// Whether a word is a letter or an underscore, and then letters, digits and underscores.
@@ -65,7 +64,7 @@ pub(crate) fn has_name_form(word: &[u8]) -> bool
 /// and is no keyword.
 #[derive(Clone, Copy)]
 pub struct Name {
-    bytes: [u8; 11],
+    bytes: [u8; LONGEST_NAME],
     len: usize,
 }
 
@@ -91,8 +90,8 @@ impl Name {
         ensures some { IfSome result (λ name. (name ≡ spelling.now) × (is_name spelling.now ≡ true)) }
         ensures none { IfNone result (is_name spelling.now ≡ false) }
     {
-        if spelling.len() <= 11 && has_name_form(spelling) && !is_keyword(spelling) {
-            let mut bytes = [0; 11];
+        if spelling.len() <= LONGEST_NAME && has_name_form(spelling) && !is_keyword(spelling) {
+            let mut bytes = [0; LONGEST_NAME];
             bytes[..spelling.len()].copy_from_slice(spelling);
             Some(Name {
                 bytes,

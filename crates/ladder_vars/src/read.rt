@@ -1,3 +1,5 @@
+//! Reads the block of declarations at the head of a text.
+
 ghost use Rattle.std.specs.Prelude.{◌≡◌, ◌≤◌, ◌+◌, ◌≢◌, ℕ, List, length, drop, IfOk, IfErr};
 ghost use Rattle.ladder_vars.specs.Decls.{Declared, AreKept};
 ghost use Rattle.ladder_vars.specs.Grammar.{HasDecls, HasNoDecls};
@@ -12,7 +14,7 @@ use crate::name::{Name, has_name_form, same_letters};
 use crate::text::token;
 use std::alloc::Global;
 
-/// The name that a word is, where a name is due and so many bytes are left behind it.
+/// The name that a word is, where a name is due and so many bytes are left after it.
 #[tactic(auto, unfolding(crate::specs::ReadDecls::name_of))]
 fn name_of(word: &[u8], left: usize) -> Result<Name, Fault>
     ensures { Gives (λ name. name) result (name_of word.now left) }
@@ -30,7 +32,7 @@ fn name_of(word: &[u8], left: usize) -> Result<Name, Fault>
     }
 }
 
-/// The declarations up to END_VAR, and what stands behind it.
+/// The declarations up to END_VAR, and what follows it.
 fn decls_from(alloc: Global, text: &[u8]) -> Result<(Decls, &[u8]), ReadFault>
     ensures value { GivesInMemory (λ x. (x.0, x.1.now)) result (decls_from (length text.now + 1) nothing text.now) }
     ensures kept { IfOk result (λ x. AreKept x.0) }
@@ -71,15 +73,15 @@ fn line_of(text: &[u8], left: usize) -> usize
     line
 }
 
-/// The declarations of a program text, and the place right behind END_VAR.
+/// Reads the declarations of a program text, and gives the place right after END_VAR.
 ///
 /// A refusal names a rule and the line where it is broken. V1, V2, V3 and V6 come at the token where
-/// the reading stops, V8 at the line behind the last line end. Once a declaration has ended, V3 of
+/// the reading stops, V8 at the line after the last line end. Once a declaration has ended, V3 of
 /// an instance's length, V4, V5 and V7 follow in this order, at the line of its name. `Memory` comes
-/// where a growth was refused.
+/// where memory runs out.
 pub fn read_decls(alloc: Global, text: &[u8]) -> Result<(Decls, usize), VarFault>
     ensures found { IfOk result (λ x. (x.1 ≤ length text.now) × HasDecls text.now x.0 (drop x.1 text.now)) }
-    // A text is refused for another cause than memory only where it has no declarations.
+    // A text is refused for another reason than memory only where it has no declarations.
     ensures none { IfErr result (λ e. e.rule ≢ VarRule.Memory → HasNoDecls text.now) }
     // The rule of a refusal is broken on its line.
     ensures broken { IfErr result (λ e. BreaksOn e.rule text.now e.line) }

@@ -1,4 +1,6 @@
-ghost use Rattle.std.specs.Prelude.{◌≡◌, ◌≤◌, ◌<◌, length, IfOk};
+//! Cuts a text into tokens.
+
+ghost use Rattle.std.specs.Prelude.{◌≡◌, ◌≤◌, ◌<◌, ◌∷◌, length, Ok, IfOk, IfSome, IfNone};
 ghost use Rattle.std.specs.List.{prefix_len};
 ghost use Rattle.ladder_vars.specs.Text.{begins_with, is_blank, is_word_byte, is_address_byte, token_len};
 ghost use Rattle.ladder_vars.specs.ReadText.{skip_from, no_token, token_at, Gives};
@@ -44,7 +46,27 @@ fn is_address_byte(b: u8) -> bool
     b.is_ascii_alphanumeric() || b == b'.'
 }
 
-/// The text behind the blanks and comments at its front.
+/// Where in a gap the byte after this one is; None where the gap ends before this byte.
+fn next_within(within: Within, b: u8, after: &[u8]) -> Option<Within>
+    ensures some { IfSome result (λ next. skip_from within (b ∷ after.now) ≡ skip_from next after.now) }
+    ensures none { IfNone result (skip_from within (b ∷ after.now) ≡ Ok (b ∷ after.now)) }
+{
+    match within {
+        Within::Blanks if is_blank(b, after) => Some(Within::Blanks),
+        Within::Blanks if b == b'(' && begins_with(b'*', after) => Some(Within::Opening),
+        Within::Blanks if b == b'/' && begins_with(b'/', after) => Some(Within::LineComment),
+        Within::Blanks => None,
+        Within::LineComment if b == b'\n' => Some(Within::Blanks),
+        Within::LineComment => Some(Within::LineComment),
+        // The star of `(*` closes nothing.
+        Within::Opening => Some(Within::Comment),
+        Within::Comment if b == b'*' && begins_with(b')', after) => Some(Within::Closing),
+        Within::Comment => Some(Within::Comment),
+        Within::Closing => Some(Within::Blanks),
+    }
+}
+
+/// The text after the blanks and comments at its start.
 fn skip(text: &[u8]) -> Result<&[u8], Fault>
     ensures shorter { IfOk result (λ rest. length rest.now ≤ length text.now) }
     ensures value { Gives (λ rest. rest.now) result (skip_from Within.Blanks text.now) }
@@ -52,37 +74,10 @@ fn skip(text: &[u8]) -> Result<&[u8], Fault>
     let mut rest = text;
     let mut within = Within::Blanks;
     while let [b, after @ ..] = rest {
-        let next = match within {
-            Within::Blanks => {
-                if is_blank(*b, after) {
-                    Within::Blanks
-                } else if *b == b'(' && begins_with(b'*', after) {
-                    Within::Opening
-                } else if *b == b'/' && begins_with(b'/', after) {
-                    Within::LineComment
-                } else {
-                    return Ok(rest);
-                }
-            }
-            Within::LineComment => {
-                if *b == b'\n' {
-                    Within::Blanks
-                } else {
-                    Within::LineComment
-                }
-            }
-            // The star of `(*` closes nothing.
-            Within::Opening => Within::Comment,
-            Within::Comment => {
-                if *b == b'*' && begins_with(b')', after) {
-                    Within::Closing
-                } else {
-                    Within::Comment
-                }
-            }
-            Within::Closing => Within::Blanks,
-        };
-        within = next;
+        match next_within(within, *b, after) {
+            Some(next) => within = next,
+            None => return Ok(rest),
+        }
         rest = after;
     }
     match within {
@@ -94,35 +89,21 @@ fn skip(text: &[u8]) -> Result<&[u8], Fault>
     }
 }
 
-fn word_len(mut text: &[u8]) -> usize
-    ensures value { result ≡ prefix_len is_word_byte text.entry.now }
-    ensures within { result ≤ length text.entry.now }
+fn word_len(text: &[u8]) -> usize
+    ensures value { result ≡ prefix_len is_word_byte text.now }
+    ensures within { result ≤ length text.now }
 {
-    let whole = text.len();
-    while let [b, rest @ ..] = text {
-        if !is_word_byte(*b) {
-            break;
-        }
-        text = rest;
-    }
-    whole - text.len()
+    text.iter().take_while(|b| is_word_byte(**b)).count()
 }
 
-fn address_len(mut text: &[u8]) -> usize
-    ensures value { result ≡ prefix_len is_address_byte text.entry.now }
-    ensures within { result ≤ length text.entry.now }
+fn address_len(text: &[u8]) -> usize
+    ensures value { result ≡ prefix_len is_address_byte text.now }
+    ensures within { result ≤ length text.now }
 {
-    let whole = text.len();
-    while let [b, rest @ ..] = text {
-        if !is_address_byte(*b) {
-            break;
-        }
-        text = rest;
-    }
-    whole - text.len()
+    text.iter().take_while(|b| is_address_byte(**b)).count()
 }
 
-/// How long the token at the front of a text is: 0 where none stands there.
+/// How long the token at the start of a text is: 0 where there is none.
 fn token_len(text: &[u8]) -> usize
     ensures value { result ≡ token_len text.now }
     ensures within { result ≤ length text.now }
@@ -167,7 +148,7 @@ fn no_token(text: &[u8]) -> Fault
     }
 }
 
-/// The first token of a text, and what stands behind it.
+/// The first token of a text, and what follows it.
 #[tactic(auto, unfolding(crate::specs::ReadText::token_at))]
 pub(crate) fn token(text: &[u8]) -> Result<(&[u8], &[u8]), Fault>
     ensures value { Gives (λ x. (x.0.now, x.1.now)) result (token_at text.now) }

@@ -1,3 +1,5 @@
+//! Duration literals.
+
 ghost use Rattle.std.specs.Prelude.{◌≡◌, ◌≤◌, ◌<◌, ◌+◌, ◌^◌, length, ℕ, IfSome, IfNone};
 ghost use Rattle.std.specs.List.{prefix_len};
 ghost use Rattle.std.specs.Char.{is_ascii_alphabetic};
@@ -62,18 +64,11 @@ fn unit_of(letters: &[u8]) -> Option<Unit>
     }
 }
 
-fn letters_len(mut text: &[u8]) -> usize
-    ensures value { result ≡ prefix_len is_ascii_alphabetic text.entry.now }
-    ensures within { result ≤ length text.entry.now }
+fn letters_len(text: &[u8]) -> usize
+    ensures value { result ≡ prefix_len is_ascii_alphabetic text.now }
+    ensures within { result ≤ length text.now }
 {
-    let whole = text.len();
-    while let [b, rest @ ..] = text {
-        if !b.is_ascii_alphabetic() {
-            break;
-        }
-        text = rest;
-    }
-    whole - text.len()
+    text.iter().take_while(|b| b.is_ascii_alphabetic()).count()
 }
 
 #[tactic(auto, unfolding(crate::specs::ReadWords::part_at))]
@@ -91,7 +86,7 @@ fn part_at(text: &[u8]) -> Option<(u64, Unit, &[u8])>
     Some((number(digits), unit, rest))
 }
 
-/// The text behind the underscore at its front, where there is one.
+/// The text after the underscore at its start, where there is one.
 fn after_underscore(text: &[u8]) -> &[u8]
     ensures value { result.now ≡ after_underscore text.now }
     ensures shorter { length result.now ≤ length text.now }
@@ -119,7 +114,7 @@ fn may_follow(last: Unit, number: u64, unit: Unit) -> bool
     unit.millis() < last.millis() && number < unit.range()
 }
 
-/// The milliseconds of a duration behind its prefix, or 2^32 where they are more.
+/// The milliseconds of a duration after its prefix, or 2^32 where they are more.
 #[tactic(auto, unfolding(crate::specs::ReadWords::total_of))]
 fn total_of(text: &[u8]) -> Option<u64>
     ensures { result ≡ total_of text.now }
@@ -139,7 +134,7 @@ fn total_of(text: &[u8]) -> Option<u64>
     Some(total)
 }
 
-/// What stands behind a word at the front, whatever the case of its letters.
+/// What follows a word at the start, whatever the case of its letters.
 fn after_word<'a>(word: &[u8], text: &'a [u8]) -> Option<&'a [u8]>
     ensures { Gives (λ rest. rest.now) result (after_word word.now text.now) }
 {

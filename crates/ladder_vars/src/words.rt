@@ -1,14 +1,15 @@
+//! What the words of a declaration spell.
+
 ghost use Rattle.std.specs.Prelude.{◌≡◌, ◌≤◌, IfSome};
 ghost use Rattle.ladder_vars.specs.Grammar.{kind_of, bit_of, block_of};
+ghost use Rattle.ladder_vars.specs.declared.limits.TheConstants.{LARGEST_COUNT};
 ghost use Rattle.ladder_vars.specs.ReadWords.{count_of, after_size, second_of, numbers_of, placed_at, address_of};
 
 use crate::decls::{Address, VarKind};
 use crate::digits::{digits_len, short_number};
 use crate::kind::BlockKind;
+use crate::limits::LARGEST_COUNT;
 use crate::name::same_letters;
-
-/// The largest PV of a counter.
-const LARGEST_COUNT: u32 = 32767;
 
 /// The truth value that a word spells.
 pub(crate) fn bit_of(word: &[u8]) -> Option<bool>
@@ -40,7 +41,7 @@ pub(crate) fn block_of(word: &[u8]) -> Option<BlockKind>
 /// The PV that a word spells.
 pub(crate) fn count_of(word: &[u8]) -> Option<u32>
     ensures value { result ≡ count_of word.now }
-    ensures fits { IfSome result (λ n. n ≤ 32767) }
+    ensures fits { IfSome result (λ n. n ≤ LARGEST_COUNT) }
 {
     match short_number(word) {
         Some(n) => if n <= LARGEST_COUNT { Some(n) } else { None },
@@ -60,7 +61,7 @@ fn kind_of(letter: u8) -> Option<VarKind>
     }
 }
 
-/// What stands behind the size `X`, which may be left out.
+/// What follows the size `X`, which may be left out.
 fn after_size(text: &[u8]) -> &[u8]
     ensures { result.now ≡ after_size text.now }
 {

@@ -5,5 +5,5 @@ use Rattle.ladder_grid.specs.Feeding.{enters}
 use Rattle.ladder_grid.specs.Seen.{seen}
 use Rattle.ladder_grid.proofs.feeding.is_fed.Given as goal
 
-abbrev pub invariant-loop-q : goal.invariant-loop-q
-invariant-loop-q l = (j : ℕ) → j < l.q → SameGroup (rung_at (seen l.page) l.k) l.c l.r j → enters (seen l.page) l.k j l.c ≡ true → ⊥
+abbrev pub invariant-loop-other : goal.invariant-loop-other
+invariant-loop-other l = (j : ℕ) → j < l.other → SameGroup (rung_at (seen l.page) l.rung) l.column l.row j → enters (seen l.page) l.rung j l.column ≡ true → ⊥

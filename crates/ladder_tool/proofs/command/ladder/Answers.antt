@@ -7,4 +7,6 @@ abbrev joined : App → App → App
 joined a b = with_subcommand a b.top
 
 pub returns : goal.returns
-returns c = IfOk-weaker c.join.result _ _ (λ r h. h ∙ ap₂ joined c.top.ensures c.in_ok-causes.ensures.0) c.join.ensures
+returns c =
+    let one = c.in_ok-command.ensures ∙ ap₂ joined c.top.ensures c.in_ok-check.ensures.0 in
+    IfOk-weaker c.join-2.result _ _ (λ r h. h ∙ ap₂ joined one c.in_ok-causes.ensures.0) c.join-2.ensures

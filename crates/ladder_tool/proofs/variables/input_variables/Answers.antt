@@ -1,4 +1,4 @@
-use Rattle.std.proofs.Common.{◌≡◌, ◌∙◌, ap, sym, string_bytes, None}
+use Rattle.std.proofs.Common.{◌≡◌, ◌∙◌, string_bytes, None}
 use Rattle.ladder_tool.specs.Variables.{variable_of}
 use Rattle.ladder_tool.proofs.UnknownWords.{unknown_item}
 use Rattle.ladder_tool.proofs.variables.input_variables.Goals as goal

@@ -7,4 +7,4 @@ use Rattle.ladder_vars.proofs.name.Name.new.Goals as goal
 pub invariant_of-result : goal.invariant_of-result
 invariant_of-result c =
     let named : is_name c.args.spelling.now ≡ true = grind (arith, common_steps) in
-    rw c.copy_from_slice.ensures.after (IsStored-written c.args.spelling.now c.if-spelling-le11.true named)
+    rw c.copy_from_slice.ensures.after (IsStored-written c.args.spelling.now c.if-spelling-le-LONGEST_NAME.true named)

@@ -1,0 +1,11 @@
+use Rattle.std.proofs.Common.{refl, inl}
+use Rattle.ladder_tool.specs.declared.fault.ToolFault.TheVariants as fault
+use Rattle.ladder_tool.proofs.checking.check.Goals as goal
+
+pub returns-in-Err-clause-failed : goal.returns-in-Err-clause-failed
+returns-in-Err-clause-failed g c = λ status. inl (record {
+  reason = fault.Grid c.in-Err.fault;
+  has = (c.in-Err.ensures.none, c.in-Err.ensures.broken);
+  unwritten = refl;
+  reported = c.report.ensures.line;
+})

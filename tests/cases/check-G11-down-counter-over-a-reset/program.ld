@@ -1,0 +1,16 @@
+VAR
+  A AT %IX0 : BOOL;
+  B AT %IX1 : BOOL;
+  Y AT %QX0 : BOOL;
+  M : BOOL;
+  T1 : TON := (PT := T#10ms);
+  C1 : CTU := (PV := 2);
+  C2 : CTD := (PV := 2);
+  B1 : SR;
+  B2 : RS;
+END_VAR
+
+|     A           C2
+|----| |------|CD CTD Q|
+|     B
+|----| |------|R       |

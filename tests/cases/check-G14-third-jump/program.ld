@@ -1,0 +1,18 @@
+VAR
+  Skip AT %IX0 : BOOL;
+  A AT %IX1 : BOOL;
+  Y AT %QX0 : BOOL;
+END_VAR
+
+|
+|----->>DONE
+|
+|----->>DONE
+|
+|----->>DONE
+
+|     A           Y
+|----| |---------( )----
+
+DONE:
+|

@@ -1,0 +1,11 @@
+VAR
+  B AT %IX1 : BOOL;
+  A AT %IX0 : BOOL;
+  Y AT %QX0 : BOOL;
+END_VAR
+
+|     A
+|----| |--------->>ONE  -
+
+ONE:
+|

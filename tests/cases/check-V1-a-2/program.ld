@@ -1,0 +1,2 @@
+VAR
+A ÿ ; END_VAR

@@ -1,0 +1,2 @@
+VAR
+ä : BOOL; END_VAR

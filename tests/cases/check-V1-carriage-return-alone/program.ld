@@ -1,0 +1,2 @@
+VAR
+A : BOOL;END_VAR

@@ -1,0 +1,4 @@
+VAR
+A : BOOL;
+
+END_VAR

@@ -1,0 +1,4 @@
+VAR
+Klappe
+ä : BOOL;
+END_VAR

@@ -1,0 +1,2 @@
+VAR
+1A : BOOL; END_VAR

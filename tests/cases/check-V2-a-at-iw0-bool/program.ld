@@ -1,0 +1,2 @@
+VAR
+A AT %IW0 : BOOL; END_VAR

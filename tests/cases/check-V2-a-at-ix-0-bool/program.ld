@@ -1,0 +1,2 @@
+VAR
+A AT %IX.0 : BOOL; END_VAR

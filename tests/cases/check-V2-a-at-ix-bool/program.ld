@@ -1,0 +1,2 @@
+VAR
+A AT %IX : BOOL; END_VAR

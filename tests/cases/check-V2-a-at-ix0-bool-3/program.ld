@@ -1,0 +1,2 @@
+VAR
+A AT IX0 : BOOL; END_VAR

@@ -1,0 +1,2 @@
+VAR
+A AT %IXX0 : BOOL; END_VAR

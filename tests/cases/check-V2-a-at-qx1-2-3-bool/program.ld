@@ -1,0 +1,2 @@
+VAR
+A AT %QX1.2.3 : BOOL; END_VAR

@@ -1,0 +1,2 @@
+VAR
+A, B : BOOL; END_VAR

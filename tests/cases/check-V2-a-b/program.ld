@@ -1,0 +1,2 @@
+VAR (* a (* b *) *)
+END_VAR

@@ -1,0 +1,2 @@
+VAR
+A : BOOL := 01; END_VAR

@@ -1,0 +1,2 @@
+VAR
+A : BOOL = 1; END_VAR

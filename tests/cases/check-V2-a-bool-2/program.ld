@@ -1,0 +1,2 @@
+VAR
+A : BOOL := 2; END_VAR

@@ -1,0 +1,2 @@
+VAR
+A : INT; END_VAR

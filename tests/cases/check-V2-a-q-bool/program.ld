@@ -1,0 +1,2 @@
+VAR
+A.Q : BOOL; END_VAR

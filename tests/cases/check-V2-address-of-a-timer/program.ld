@@ -1,0 +1,3 @@
+VAR
+T1 AT %IX1 : TON;
+END_VAR

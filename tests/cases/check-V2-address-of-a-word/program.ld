@@ -1,0 +1,3 @@
+VAR
+A AT %IW1 : BOOL;
+END_VAR

@@ -1,0 +1,3 @@
+VAR
+A AT %IX1.2.3 : BOOL;
+END_VAR

@@ -1,0 +1,3 @@
+VAR
+A AT %IX : BOOL;
+END_VAR

@@ -1,0 +1,3 @@
+VAR
+A AT IX1 : BOOL;
+END_VAR

@@ -1,0 +1,3 @@
+VAR
+A : BOOL := 2;
+END_VAR

@@ -1,0 +1,3 @@
+VAR
+T1 : TON := (PT := );
+END_VAR

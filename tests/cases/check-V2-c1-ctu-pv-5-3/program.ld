@@ -1,0 +1,2 @@
+VAR
+C1 : CTU := (PV := 5; END_VAR

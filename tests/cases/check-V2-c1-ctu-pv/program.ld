@@ -1,0 +1,2 @@
+VAR
+C1 : CTU := (PV := ); END_VAR

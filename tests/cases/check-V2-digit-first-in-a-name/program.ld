@@ -1,0 +1,3 @@
+VAR
+1A : BOOL;
+END_VAR

@@ -1,0 +1,3 @@
+VAR
+C1 : CTU := (PT := T#5s);
+END_VAR

@@ -1,0 +1,3 @@
+VAR
+A : BOOL = 1;
+END_VAR

@@ -1,0 +1,3 @@
+VARS
+A : BOOL;
+END_VAR

@@ -1,0 +1,3 @@
+VAR
+B1 : SR := (PV := 1);
+END_VAR

@@ -1,0 +1,3 @@
+VAR
+T1 : TON := T#5s;
+END_VAR

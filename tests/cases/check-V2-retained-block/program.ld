@@ -1,0 +1,3 @@
+VAR RETAIN
+A : BOOL;
+END_VAR

@@ -1,0 +1,3 @@
+VAR
+A, B : BOOL;
+END_VAR

@@ -1,0 +1,2 @@
+VAR /* no comment */
+END_VAR

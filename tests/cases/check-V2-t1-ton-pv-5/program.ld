@@ -1,0 +1,2 @@
+VAR
+T1 : TON := (PV := 5); END_VAR

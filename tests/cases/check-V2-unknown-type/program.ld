@@ -1,0 +1,3 @@
+VAR
+A : INT;
+END_VAR

@@ -1,0 +1,2 @@
+VAR
+Abcdefghijkl : BOOL; END_VAR

@@ -1,0 +1,2 @@
+VAR
+AT %IX0 : BOOL; END_VAR

@@ -1,0 +1,3 @@
+VAR
+Sr : BOOL;
+END_VAR

@@ -1,0 +1,3 @@
+VAR
+return : BOOL;
+END_VAR

@@ -1,0 +1,6 @@
+VAR
+TimerNo123
+:
+TON
+;
+END_VAR

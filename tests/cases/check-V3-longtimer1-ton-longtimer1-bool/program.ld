@@ -1,0 +1,2 @@
+VAR
+LongTimer1 : TON; LongTimer1 : BOOL; END_VAR

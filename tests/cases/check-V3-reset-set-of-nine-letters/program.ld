@@ -1,0 +1,3 @@
+VAR
+Bistable9 : RS;
+END_VAR

@@ -1,0 +1,3 @@
+VAR
+Bistable9 : SR;
+END_VAR

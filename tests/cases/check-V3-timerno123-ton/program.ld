@@ -1,0 +1,3 @@
+VAR
+TimerNo123 : TON;
+END_VAR

@@ -1,0 +1,3 @@
+VAR
+Abcdefghijkl : BOOL;
+END_VAR

@@ -1,0 +1,3 @@
+VAR
+A AT %I0 : BOOL;
+A AT %I0 : BOOL; END_VAR

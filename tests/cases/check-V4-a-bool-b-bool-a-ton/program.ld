@@ -1,0 +1,6 @@
+VAR
+A : BOOL;
+B : BOOL; a
+: TON
+;
+END_VAR

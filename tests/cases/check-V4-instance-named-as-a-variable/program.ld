@@ -1,0 +1,4 @@
+VAR
+A : BOOL;
+A : TON;
+END_VAR

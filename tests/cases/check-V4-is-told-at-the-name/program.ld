@@ -1,0 +1,7 @@
+VAR
+A : BOOL; B : BOOL;
+B
+:
+BOOL
+;
+END_VAR

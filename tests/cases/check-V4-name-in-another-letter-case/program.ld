@@ -1,0 +1,4 @@
+VAR
+A AT %IX0 : BOOL;
+a : BOOL;
+END_VAR

@@ -1,0 +1,4 @@
+VAR
+T1 : TON;
+t1 : BOOL;
+END_VAR

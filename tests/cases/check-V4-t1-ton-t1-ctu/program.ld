@@ -1,0 +1,4 @@
+VAR
+T1 : TON;
+T1 : CTU;
+END_VAR

@@ -1,0 +1,4 @@
+VAR
+A AT %MX7 : BOOL;
+B AT %M7 : BOOL;
+END_VAR

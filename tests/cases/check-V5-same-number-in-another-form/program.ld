@@ -1,0 +1,4 @@
+VAR
+A AT %IX1 : BOOL;
+B AT %i00001 : BOOL;
+END_VAR

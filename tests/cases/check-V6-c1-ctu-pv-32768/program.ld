@@ -1,0 +1,3 @@
+VAR
+C1 : CTU := (PV := 32768);
+END_VAR

@@ -1,0 +1,2 @@
+VAR
+C1 : CTU := (PV := T#5s); END_VAR

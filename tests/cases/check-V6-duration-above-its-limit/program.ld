@@ -1,0 +1,3 @@
+VAR
+T1 : TON := (PT := T#4294967296ms);
+END_VAR

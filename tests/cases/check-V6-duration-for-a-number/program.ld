@@ -1,0 +1,3 @@
+VAR
+C1 : CTD := (PV := T#5s);
+END_VAR

@@ -1,0 +1,3 @@
+VAR
+T1 : TON := (PT := T#5m5h);
+END_VAR

@@ -1,0 +1,3 @@
+VAR
+T1 : TON := (PT := T#1s1000ms);
+END_VAR

@@ -1,0 +1,3 @@
+VAR
+T1 : TON := (PT := T#1d24h);
+END_VAR

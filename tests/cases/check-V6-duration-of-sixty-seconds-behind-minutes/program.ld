@@ -1,0 +1,3 @@
+VAR
+T1 : TON := (PT := T#1m60s);
+END_VAR

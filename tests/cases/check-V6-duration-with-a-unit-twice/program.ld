@@ -1,0 +1,3 @@
+VAR
+T1 : TON := (PT := T#5s5s);
+END_VAR

@@ -1,0 +1,3 @@
+VAR
+T1 : TON := (PT := LT#5s);
+END_VAR

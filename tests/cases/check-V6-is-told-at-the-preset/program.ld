@@ -1,0 +1,5 @@
+VAR
+T1 : TON := (PT
+:=
+%IX0);
+END_VAR

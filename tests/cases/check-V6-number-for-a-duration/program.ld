@@ -1,0 +1,3 @@
+VAR
+T1 : TON := (PT := 5);
+END_VAR

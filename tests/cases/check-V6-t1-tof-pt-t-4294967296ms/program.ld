@@ -1,0 +1,2 @@
+VAR
+T1 : TOF := (PT := T#4294967296ms); END_VAR

@@ -1,0 +1,3 @@
+VAR
+T1 : TP := (PT :=
+%IX0); END_VAR

@@ -1,0 +1,3 @@
+VAR
+C1 : CTU := (PV := 1_000);
+END_VAR

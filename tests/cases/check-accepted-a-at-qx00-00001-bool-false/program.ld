@@ -1,0 +1,1 @@
+Var a aT %qx00.00001 : bOoL := false; eNd_vAr

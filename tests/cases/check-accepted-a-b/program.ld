@@ -1,0 +1,1 @@
+VAR (* a (* b *) END_VAR

@@ -1,0 +1,1 @@
+VAR A : BOOL; END_VAR

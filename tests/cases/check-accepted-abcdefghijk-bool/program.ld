@@ -1,0 +1,1 @@
+VAR Abcdefghijk : BOOL; END_VAR

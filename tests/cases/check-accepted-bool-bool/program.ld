@@ -1,0 +1,1 @@
+VAR _ : BOOL; __ : BOOL; END_VAR

@@ -1,0 +1,1 @@
+VAR T1 : TON := ( pt := t#0ms ) ; C1 : CTD := ( pv := 00000 ) ; END_VAR

@@ -1,0 +1,1 @@
+VAR T1:TON:=(PT:=TIME#1h_30m);END_VAR

@@ -1,0 +1,1 @@
+VAR Timer9abc : TON; END_VAR

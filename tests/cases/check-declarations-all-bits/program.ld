@@ -1,0 +1,6 @@
+VAR
+A : BOOL := TRUE;
+B : BOOL := FALSE;
+C : BOOL := 1;
+D : BOOL := 0;
+END_VAR

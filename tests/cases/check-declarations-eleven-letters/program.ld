@@ -1,0 +1,3 @@
+VAR
+Abcdefghijk : BOOL;
+END_VAR

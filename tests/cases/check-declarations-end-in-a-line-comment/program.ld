@@ -1,0 +1,4 @@
+VAR
+// END_VAR
+A : BOOL;
+END_VAR // done

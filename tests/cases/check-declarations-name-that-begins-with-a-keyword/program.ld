@@ -1,0 +1,5 @@
+VAR
+TONS : BOOL;
+VAR_ : BOOL;
+_ : BOOL;
+END_VAR

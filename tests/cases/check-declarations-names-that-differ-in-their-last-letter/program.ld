@@ -1,0 +1,5 @@
+VAR
+Ab : BOOL;
+Ac : BOOL;
+A : BOOL;
+END_VAR

@@ -1,0 +1,3 @@
+VAR
+C1 : CTU := (PV := 00001);
+END_VAR

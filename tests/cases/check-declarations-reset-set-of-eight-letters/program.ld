@@ -1,0 +1,3 @@
+VAR
+Bistabl8 : RS;
+END_VAR

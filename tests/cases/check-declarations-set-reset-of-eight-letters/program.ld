@@ -1,0 +1,3 @@
+VAR
+Bistabl8 : SR;
+END_VAR

@@ -1,0 +1,3 @@
+VAR
+TimerNo12 : TON;
+END_VAR

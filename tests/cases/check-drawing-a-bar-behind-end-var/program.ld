@@ -1,0 +1,3 @@
+VAR
+END_VAR|
+|

@@ -1,0 +1,12 @@
+VAR
+  A AT %IX0 : BOOL;
+  Y AT %QX0 : BOOL;
+END_VAR
+
+|
+|-->>ONE
+
+|
+|-<RETURN>
+|
+|-<RETURN>

@@ -1,0 +1,4 @@
+VAR
+A : BOOL;
+A : BOOL;
+END_VAR 

@@ -1,0 +1,3 @@
+VAR
+A ! ÿ
+END_VAR

@@ -1,0 +1,4 @@
+VAR
+A : BOOL;
+A : INT;
+END_VAR

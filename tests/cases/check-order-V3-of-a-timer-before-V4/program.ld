@@ -1,0 +1,4 @@
+VAR
+TimerNo123 : BOOL;
+TimerNo123 : TON;
+END_VAR

@@ -1,0 +1,4 @@
+VAR
+A AT %I0 : BOOL;
+A AT %I0 : BOOL;
+END_VAR

@@ -1,0 +1,4 @@
+VAR
+A : BOOL;
+A : TON := (PT := 5);
+END_VAR

@@ -1,0 +1,3 @@
+VAR
+A : BOOL;
+A : BOOL

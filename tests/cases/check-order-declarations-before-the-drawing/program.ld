@@ -1,0 +1,5 @@
+VAR
+A : BOOL;
+A : BOOL;
+END_VAR
+|	

@@ -1,0 +1,4 @@
+VAR
+A AT %IX0 : BOOL;
+B AT %I00 : BOOL;
+END_VAR

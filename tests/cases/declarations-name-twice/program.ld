@@ -1,0 +1,4 @@
+VAR
+A AT %IX0 : BOOL;
+a AT %IX1 : BOOL;
+END_VAR

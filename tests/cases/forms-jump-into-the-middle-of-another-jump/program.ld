@@ -1,0 +1,22 @@
+VAR
+  Skip AT %IX0 : BOOL;
+  Hop AT %IX1 : BOOL;
+  A AT %IX2 : BOOL;
+  Y AT %QX0 : BOOL;
+END_VAR
+
+|   Skip
+|----| |--------->>DONE
+
+|    Hop
+|----| |--------->>LAST
+
+|     A           Y
+|----| |---------( )----
+
+DONE:
+|     A           Y
+|----| |---------(S)----
+
+LAST:
+|

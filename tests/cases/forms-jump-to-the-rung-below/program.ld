@@ -1,0 +1,12 @@
+VAR
+  Skip AT %IX0 : BOOL;
+  A AT %IX1 : BOOL;
+  Y AT %QX0 : BOOL;
+END_VAR
+
+|   Skip
+|----| |--------->>NEXT
+
+NEXT:
+|     A           Y
+|----| |---------( )----

@@ -1,0 +1,10 @@
+VAR
+  A AT %IX0 : BOOL;
+  B AT %IX1 : BOOL;
+  Y AT %QX0 : BOOL;
+END_VAR
+
+|     A           Y
+|----| |---------(S)----
+|     B                       Y
+|----| |---------------------(R)----

@@ -1,0 +1,8 @@
+VAR
+  Start AT %IX0 : BOOL;
+  Stop AT %IX1 : BOOL;
+  Motor AT %QX0 : BOOL := TRUE;
+END_VAR
+
+|   Start       Stop        Motor
+|----| |----+----|/|---------( )----

@@ -1,0 +1,10 @@
+VAR
+  Count AT %IX0 : BOOL;
+  Y AT %QX0 : BOOL;
+  C1 : CTU := (PV := 1);
+END_VAR
+
+|   Count         C1          Y
+|----| |----+-|CU CTU Q|-----( )----
+|           |
+|           +-|R       |

@@ -1,0 +1,20 @@
+VAR
+  A AT %IX0 : BOOL;
+  I2 AT %IX1 : BOOL;
+  I3 AT %IX2 : BOOL;
+  I4 AT %IX3 : BOOL;
+  I5 AT %IX4 : BOOL;
+  I6 AT %IX5 : BOOL;
+  I7 AT %IX6 : BOOL;
+  Skip AT %IX7 : BOOL;
+  Y AT %QX0 : BOOL := TRUE;
+END_VAR
+
+|   Skip
+|----| |--------->>DONE
+
+|     A           Y
+|----| |---------( )----
+
+DONE:
+|

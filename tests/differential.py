@@ -1,0 +1,182 @@
+#!/usr/bin/env python3
+"""Compares the built program with the model on random drawings: differential.py PROGRAM [NUMBER] [SEED].
+
+Each drawing has one to five rungs of all forms of cells, joints and vertical links, and breaks no rule; it is asked from the fresh
+state, at any moment. Rows and looks must be the model's. A drawing with a difference is printed whole.
+"""
+import os
+import pathlib
+import random
+import sys
+import tempfile
+
+from end_to_end import differences, run
+from model import COILS, COLUMNS, CONTACTS, ROWS, Program
+
+INPUTS, OUTPUTS, MEMORIES = 9, 2, 2
+UPPER = {
+    "TON": "-|IN TON Q|", "TOF": "-|IN TOF Q|", "TP": "-|IN TP  Q|",
+    "CTU": "-|CU CTU Q|", "CTD": "-|CD CTD Q|", "SR": "-|S1 SR Q1|", "RS": "-|S  RS Q1|",
+}
+LOWER = {"CTU": "|R       |", "CTD": "|LD      |", "SR": "|R       |", "RS": "|R1      |"}
+INSTANCES = {f"B{number}": kind for number, kind in enumerate([*UPPER, *UPPER], 1)}
+EMPTY = (" " * 11, " " * 11, False)
+
+
+def names(letter, count):
+    return [f"{letter}{number}" for number in range(1, count + 1)]
+
+
+READ_BLOCKS = [name + (".Q1" if kind in ("SR", "RS") else ".Q") for name, kind in INSTANCES.items()]
+READ = names("I", INPUTS) * 6 + names("Y", OUTPUTS) + names("M", MEMORIES) + READ_BLOCKS
+WRITTEN = names("Y", OUTPUTS) + names("M", MEMORIES)
+
+
+def preset(chance, kind):
+    if kind in ("TON", "TOF", "TP"):
+        return f" := (PT := T#{chance.choice([0, 0, 1, 5000])}ms)"
+    return f" := (PV := {chance.choice([0, 1, 1, 2])})" if kind in ("CTU", "CTD") else ""
+
+
+def declarations(chance):
+    lines = [f"  {name} AT %IX{place} : BOOL" for place, name in enumerate(names("I", INPUTS))]
+    lines += [f"  {name} AT %QX{place} : BOOL" for place, name in enumerate(names("Y", OUTPUTS))]
+    lines += [f"  {name} : BOOL" for name in names("M", MEMORIES)]
+    lines = [line + chance.choice(["", "", " := TRUE", " := 0"]) for line in lines]
+    lines += [f"  {name} : {kind}{preset(chance, kind)}" for name, kind in INSTANCES.items()]
+    chance.shuffle(lines)
+    return ["VAR", *(line + ";" for line in lines), "END_VAR"]
+
+
+def around(chance, word, fill, end=None):
+    """A word at a random place among fillers; those behind it may be others."""
+    before = chance.randint(1 if end else 0, 11 - len(word))
+    return fill * before + word + (end or fill) * (11 - len(word) - before)
+
+
+class Sheet:
+    """What the cells drawn so far leave free: instances, later labels, one jump a rung."""
+
+    def __init__(self, chance, rungs):
+        self.chance, self.rungs = chance, rungs
+        self.undrawn = chance.sample(list(INSTANCES), len(INSTANCES))
+
+    def begin(self, number):
+        self.number, self.may_jump, self.above = number, True, None
+
+    def cell(self, may_begin, may_have_lower):
+        """The name, the wire and the right link of a cell, which begins with a dash only where power can enter."""
+        above, self.above = self.above, None
+        if above:
+            return " " * 11, (self.chance.choice("--- ") if may_begin else " ") + LOWER[above], False
+        kinds = ["empty", "wire", "contact", "coil", "block", "jump"]
+        kind = self.chance.choices(kinds, [4, 3, 12, 4, 4, 2 * self.may_jump])[0] if may_begin else "empty"
+        return getattr(self, kind)(may_have_lower)
+
+    def empty(self, _):
+        return EMPTY
+
+    def wire(self, _):
+        return " " * 11, "-" * 11, True
+
+    def symbol(self, name, symbol):
+        wire = around(self.chance, symbol, "-", self.chance.choice("---- "))
+        return around(self.chance, self.chance.choice([name, name.lower()]), " "), wire, wire[-1] != " "
+
+    def contact(self, _):
+        return self.symbol(self.chance.choice(READ), self.chance.choice([*CONTACTS, *["| |"] * 5, *["|/|"] * 3]))
+
+    def coil(self, _):
+        return self.symbol(self.chance.choice(WRITTEN), self.chance.choice([*COILS, *["( )", "(S)"] * 3]))
+
+    def block(self, may_have_lower):
+        name = self.undrawn[-1] if self.undrawn else None
+        if name is None or INSTANCES[name] in LOWER and not may_have_lower:
+            return EMPTY
+        kind = INSTANCES[self.undrawn.pop()]
+        self.above = kind if kind in LOWER else None
+        return around(self.chance, name, " "), UPPER[kind], True
+
+    def jump(self, _):
+        self.may_jump = False
+        later = [f">>L{number}" for number in range(self.number + 1, self.rungs + 1)]
+        return " " * 11, around(self.chance, self.chance.choice(["<RETURN>", *later[:3]]), "-", " "), False
+
+
+def joints(chance, leads):
+    """The joints behind a column, the links from each row to the next, and which rows power can enter."""
+    links = [chance.random() < 0.3 for _ in leads[1:]]
+    signs = []
+    for row, leading in enumerate(leads):
+        linked = any(links[max(row - 1, 0):row + 1])
+        signs.append("+" if linked else chance.choice("------+ " if leading else " " * 9 + "+"))
+    enters = [leading and sign in "-+" for leading, sign in zip(leads, signs)]
+    for order in (range(len(links)), reversed(range(len(links)))):
+        for row in order:
+            if links[row]:
+                enters[row] = enters[row + 1] = enters[row] or enters[row + 1]
+    return signs, links, enters
+
+
+def rung(chance, sheet, number):
+    rows, columns = chance.randint(1, ROWS), chance.randint(2, COLUMNS)
+    sheet.begin(number)
+    over, wires, enters = ["|"] * rows, ["|"] * rows, [chance.random() < 0.8 for _ in range(rows)]
+    for column in range(1, columns + 1):
+        cells = [sheet.cell(enter, row + 1 < rows) for row, enter in enumerate(enters)]
+        signs, links, enters = joints(chance, [leads for _, _, leads in cells])
+        last = column == columns
+        for row, (name, wire, _) in enumerate(cells):
+            over[row] += name + ("|" if row and links[row - 1] and not last else " ")
+            wires[row] += wire + (" " if last else signs[row])
+    return [line.rstrip() for pair in zip(over, wires) for line in pair]
+
+
+def drawing(chance):
+    lines, rungs = declarations(chance), chance.randint(1, 5)
+    sheet = Sheet(chance, rungs)
+    for number in range(1, rungs + 1):
+        lines += [f"L{number}:", *rung(chance, sheet, number)]
+    return "\n".join(lines) + "\n"
+
+
+def question(chance, text):
+    """The words behind the file: a coil that is drawn, or None, and some inputs in any order; rather one that they decide."""
+    program, listed = Program(text), chance.sample(names("I", INPUTS), chance.choice([1, 2, 6, 7, 8, 8, 9, 9, 9]))
+    coils = [name for name in WRITTEN if any(rung.has_coil(name) for rung in program.rungs)]
+    values = program.scan(dict.fromkeys(listed))
+    depending = [name for name in coils if values[name] is None]
+    return chance.choice(depending or coils or [None]), listed
+
+
+def compare(program, folder, text, coil, listed, moment):
+    """The differences of one question."""
+    pathlib.Path(folder, "program.ld").write_text(text, "ascii")
+    out, err = Program(text).answer(coil, listed)
+    have = run(program, ["causes", *moment, "program.ld", coil, *listed], folder)
+    return differences(have, (out.encode(), err.encode(), 0))
+
+
+def main():
+    """Compares so many drawings and answers the status."""
+    program = os.path.abspath(sys.argv[1])
+    number, seed = (int(word) for word in (sys.argv[2:] + ["200", "1"][len(sys.argv) - 2:]))
+    chance, different, compared = random.Random(seed), 0, 0
+    with tempfile.TemporaryDirectory() as folder:
+        while compared < number:
+            text = drawing(chance)
+            coil, listed = question(chance, text)
+            moment = chance.choice([[], ["--at", str(chance.randrange(10_000))]])
+            if coil is None:
+                continue
+            compared += 1
+            found = compare(program, folder, text, coil, listed, moment)
+            if found:
+                different += 1
+                print(text, " ".join([*moment, coil, *listed]), *found, sep="\n")
+    print(f"{number - different} of {number} alike")
+    return 1 if different else 0
+
+
+if __name__ == "__main__":
+    sys.exit(main())
