@@ -2,7 +2,7 @@
 
 ghost use Rattle.std.specs.Prelude.{◌≡◌, ◌<◌, All};
 ghost use Rattle.ladder_grid.specs.declared.geometry.TheConstants.{ROWS, COLUMNS};
-ghost use Rattle.ladder_grid.specs.Program.{steps_of};
+ghost use Rattle.ladder_grid.specs.Compiled.{steps_of};
 ghost use Rattle.ladder_scan.specs.Truth.{plain};
 ghost use Rattle.ladder_scan.specs.Cells.{stored_by};
 ghost use Rattle.ladder_scan.specs.Rung.{written, changed, second};

@@ -3,7 +3,7 @@
 ghost use Rattle.std.specs.Prelude.{◌≡◌, ◌<◌, ◌≤◌, ◌+◌, ◌*◌, ◌^◌, length, slice_index_or, false, All};
 ghost use Rattle.ladder_vars.specs.Kind.{largest_preset};
 ghost use Rattle.ladder_grid.specs.declared.geometry.TheConstants.{ROWS, COLUMNS, PLACES};
-ghost use Rattle.ladder_grid.specs.Program.{steps_of};
+ghost use Rattle.ladder_grid.specs.Compiled.{steps_of};
 ghost use Rattle.ladder_scan.specs.Cells.{place_at, closed, contact, q_from, q_after};
 ghost use Rattle.ladder_scan.specs.Rung.{second};
 ghost use Rattle.ladder_scan.specs.Programs.{diagram_of, IsSound};

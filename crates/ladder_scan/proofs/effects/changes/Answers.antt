@@ -1,7 +1,7 @@
 use Rattle.std.proofs.Common.{◌∙◌, ap, arith, get_or, List, ◌<◌, length, ℕ, Bool}
 use Rattle.ladder_grid.specs.declared.cell.Cell.TheVariants.{Empty}
 use Rattle.ladder_grid.specs.declared.program.Step.{Step}
-use Rattle.ladder_grid.specs.Program.{steps_of}
+use Rattle.ladder_grid.specs.Compiled.{steps_of}
 use Rattle.ladder_scan.specs.Truth.{plain}
 use Rattle.ladder_scan.specs.Rung.{changed, second}
 use Rattle.ladder_scan.specs.Programs.{diagram_of}

@@ -1,5 +1,5 @@
 use Rattle.std.proofs.Common.{◌≡◌, drop}
-use Rattle.ladder_grid.specs.Program.{steps_of}
+use Rattle.ladder_grid.specs.Compiled.{steps_of}
 use Rattle.ladder_scan.specs.Truth.{plain}
 use Rattle.ladder_scan.specs.Programs.{diagram_of}
 use Rattle.ladder_scan.specs.Sweeping.{changes_of, among}

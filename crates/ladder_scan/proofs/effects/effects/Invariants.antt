@@ -1,5 +1,5 @@
 use Rattle.std.proofs.Common.{◌≡◌, drop}
-use Rattle.ladder_grid.specs.Program.{steps_of}
+use Rattle.ladder_grid.specs.Compiled.{steps_of}
 use Rattle.ladder_scan.specs.Programs.{diagram_of}
 use Rattle.ladder_scan.specs.Sweeping.{effects_of, among}
 use Rattle.ladder_scan.proofs.effects.effects.Given as goal
