@@ -2,6 +2,7 @@
 
 ghost use Rattle.std.specs.Prelude.{◌≡◌, ◌≤◌};
 ghost use Rattle.ladder_vars.specs.Kind.{largest_preset};
+ghost use Rattle.ladder_vars.specs.declared.limits.TheConstants.{LARGEST_COUNT};
 ghost use Rattle.ladder_scan.specs.Blocks.{step, q_of, new_block, ton_step, tof_step, tp_step, counted_up, counted_down, ctu_step, ctd_step, has_second};
 
 use ladder_vars::BlockKind::{self, Ctd, Ctu, Rs, Sr, Tof, Ton, Tp};
@@ -133,7 +134,7 @@ fn counted_up(last: bool, cv: i16, on: bool, reset: bool) -> i16
 }
 
 fn counted_down(preset: u16, last: bool, cv: i16, on: bool, load: bool) -> i16
-    requires { preset ≤ 32767 }
+    requires { preset ≤ LARGEST_COUNT }
     ensures { result ≡ counted_down preset last cv on load }
 {
     if load {
@@ -157,7 +158,7 @@ fn ctu(preset: u32, last: bool, cv: i16, on: bool, reset: bool) -> Stored
 }
 
 fn ctd(preset: u32, last: bool, cv: i16, on: bool, load: bool) -> Stored
-    requires { preset ≤ 32767 }
+    requires { preset ≤ LARGEST_COUNT }
     ensures { result ≡ ctd_step preset last cv on load }
 {
     let cv = counted_down(preset as u16, last, cv, on, load);
