@@ -5,8 +5,8 @@ use Rattle.std.proofs.lemmas.Grind.{common_steps}
 use Rattle.ladder_grid.specs.declared.cell.Cell.{Cell}
 use Rattle.ladder_grid.specs.declared.cell.Cell.TheVariants.{Empty, Wire, Contact, Coil, Block, Lower, Jump, Return}
 use Rattle.ladder_grid.specs.declared.program.Step.{Step}
-use Rattle.ladder_grid.specs.Program.{Drawing}
 use Rattle.ladder_grid.specs.Compiled.{steps_of}
+use Rattle.ladder_grid.specs.Program.{Drawing}
 use Rattle.ladder_scan.specs.Algebra.{Algebra}
 use Rattle.ladder_scan.specs.Truth.{plain}
 use Rattle.ladder_scan.specs.Routes.{gather}

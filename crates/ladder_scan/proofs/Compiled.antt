@@ -5,8 +5,8 @@ use Rattle.std.proofs.lemmas.Grind.{common_steps}
 use Rattle.ladder_grid.specs.declared.cell.Cell.{Cell}
 use Rattle.ladder_grid.specs.declared.cell.Cell.TheVariants.{Empty}
 use Rattle.ladder_grid.specs.declared.program.Step.{Step}
-use Rattle.ladder_grid.specs.Program.{Drawing, feeds, is_empty, cell_of}
 use Rattle.ladder_grid.specs.Compiled.{mask, step_at, steps_before, steps_of}
+use Rattle.ladder_grid.specs.Program.{Drawing, feeds, is_empty, cell_of}
 use Rattle.ladder_scan.specs.Routes.{gather}
 use Rattle.ladder_scan.specs.Programs.{cell_at, diagram_of, is_filled}
 use Rattle.ladder_scan.specs.Sweeping.{in_mask, steps_below, AreMasks}

@@ -1,5 +1,5 @@
 -- How a number option reads.
-use Rattle.std.proofs.Common.{◌≡◌, ℕ, List, Option, Some, None, Result, Ok, refl, sym, subst, ◌^◌, ◌<◌}
+use Rattle.std.proofs.Common.{◌≡◌, ℕ, List, Option, Some, None, Result, Ok, refl}
 use Rattle.std.specs.Str.Parse.{ParsesUnsigned}
 use Rattle.clap.specs.Words.{Row, Text, TriesOne, one_of}
 use Rattle.ladder_tool.specs.Asking.{HasNumber}

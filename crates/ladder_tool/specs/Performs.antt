@@ -1,5 +1,5 @@
 -- How a request ends: all is written, or a fault stops it.
-use Rattle.std.specs.Prelude.{◌≡◌, ◌⊎◌, ◌++◌, ◌∷◌, ℕ, List, [], Option, None, Some, codes, decimal, length, map, string_bytes, unwrap_or}
+use Rattle.std.specs.Prelude.{◌≡◌, ◌⊎◌, ◌++◌, ◌∷◌, ℕ, List, Option, None, Some, codes, decimal, length, map, string_bytes, unwrap_or}
 use Rattle.clap.specs.Words.{Text}
 use Rattle.ladder_vars.specs.Decls.{Declared}
 use Rattle.ladder_grid.specs.declared.fault.GridFault.{GridFault}

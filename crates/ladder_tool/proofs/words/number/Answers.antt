@@ -1,4 +1,4 @@
-use Rattle.std.proofs.Common.{sym, List, ℕ, Result}
+use Rattle.std.proofs.Common.{sym}
 use Rattle.std.specs.Str.Parse.{ExplainsUnsignedError, HasUnsignedDigitsIfOk}
 use Rattle.clap.specs.Words.{found_of, one_text, rows_of}
 use Rattle.clap.proofs.WalkLemmas.{one_text-rows}
