@@ -2,7 +2,9 @@
 
 ghost use Rattle.std.specs.Prelude.{◌≡◌, ◌≤◌};
 ghost use Rattle.ladder_vars.specs.Kind.{largest_preset};
-ghost use Rattle.ladder_scan.specs.Blocks.{step, q_of, new_block, ton_step, tof_step, tp_step, counted_up, counted_down, ctu_step, ctd_step, has_second};
+ghost use Rattle.ladder_vars.specs.declared.limits.TheConstants.{LARGEST_COUNT};
+ghost use Rattle.ladder_scan.specs.declared.block.Stored.TheVariants.{Bistable};
+ghost use Rattle.ladder_scan.specs.Blocks.{step, q_of, new_block, ton_step, tof_step, tp_step, counted_up, counted_down, ctu_step, ctd_step, sr_q, rs_q, has_second};
 
 use ladder_vars::BlockKind::{self, Ctd, Ctu, Rs, Sr, Tof, Ton, Tp};
 
@@ -57,7 +59,7 @@ impl Stored {
     }
 }
 
-fn ton(preset: u64, running: bool, start: u64, on: bool, now: u64) -> Stored
+fn ton(preset: u32, running: bool, start: u64, on: bool, now: u64) -> Stored
     ensures { result ≡ ton_step preset running start on now }
 {
     if on {
@@ -66,7 +68,7 @@ fn ton(preset: u64, running: bool, start: u64, on: bool, now: u64) -> Stored
             last: true,
             running: true,
             start,
-            q: preset <= now.saturating_sub(start),
+            q: u64::from(preset) <= now.saturating_sub(start),
         }
     } else {
         Stored::Timer {
@@ -78,7 +80,7 @@ fn ton(preset: u64, running: bool, start: u64, on: bool, now: u64) -> Stored
     }
 }
 
-fn tof(preset: u64, last: bool, running: bool, start: u64, on: bool, now: u64) -> Stored
+fn tof(preset: u32, last: bool, running: bool, start: u64, on: bool, now: u64) -> Stored
     ensures { result ≡ tof_step preset last running start on now }
 {
     if on {
@@ -90,7 +92,7 @@ fn tof(preset: u64, last: bool, running: bool, start: u64, on: bool, now: u64) -
         };
     }
     let start = if last { now } else { start };
-    let runs = (last | running) & (now.saturating_sub(start) < preset);
+    let runs = (last | running) & (now.saturating_sub(start) < u64::from(preset));
     Stored::Timer {
         last: false,
         running: runs,
@@ -99,10 +101,10 @@ fn tof(preset: u64, last: bool, running: bool, start: u64, on: bool, now: u64) -
     }
 }
 
-fn tp(preset: u64, last: bool, running: bool, start: u64, on: bool, now: u64) -> Stored
+fn tp(preset: u32, last: bool, running: bool, start: u64, on: bool, now: u64) -> Stored
     ensures { result ≡ tp_step preset last running start on now }
 {
-    let stays = running & (now.saturating_sub(start) < preset);
+    let stays = running & (now.saturating_sub(start) < u64::from(preset));
     let begins = !stays & on & !last & (0 < preset);
     let start = if stays {
         start
@@ -133,7 +135,7 @@ fn counted_up(last: bool, cv: i16, on: bool, reset: bool) -> i16
 }
 
 fn counted_down(preset: u16, last: bool, cv: i16, on: bool, load: bool) -> i16
-    requires { preset ≤ 32767 }
+    requires { preset ≤ LARGEST_COUNT }
     ensures { result ≡ counted_down preset last cv on load }
 {
     if load {
@@ -157,7 +159,7 @@ fn ctu(preset: u32, last: bool, cv: i16, on: bool, reset: bool) -> Stored
 }
 
 fn ctd(preset: u32, last: bool, cv: i16, on: bool, load: bool) -> Stored
-    requires { preset ≤ 32767 }
+    requires { preset ≤ LARGEST_COUNT }
     ensures { result ≡ ctd_step preset last cv on load }
 {
     let cv = counted_down(preset as u16, last, cv, on, load);
@@ -165,6 +167,22 @@ fn ctd(preset: u32, last: bool, cv: i16, on: bool, load: bool) -> Stored
         last: on,
         cv,
         q: cv <= 0,
+    }
+}
+
+fn sr(q: bool, set: bool, reset: bool) -> Stored
+    ensures { result ≡ Bistable (sr_q q set reset) }
+{
+    Stored::Bistable {
+        q: set | (!reset & q),
+    }
+}
+
+fn rs(q: bool, set: bool, reset: bool) -> Stored
+    ensures { result ≡ Bistable (rs_q q set reset) }
+{
+    Stored::Bistable {
+        q: !reset & (set | q),
     }
 }
 
@@ -194,7 +212,6 @@ pub(crate) fn step(
             start,
             ..
         } => {
-            let preset = u64::from(preset);
             match kind {
                 Ton => ton(preset, running, start, first, now),
                 Tof => tof(preset, last, running, start, first, now),
@@ -211,12 +228,8 @@ pub(crate) fn step(
         }
         Stored::Bistable { q } => {
             match kind {
-                Sr => Stored::Bistable {
-                    q: first | (!second & q),
-                },
-                Rs => Stored::Bistable {
-                    q: !second & (first | q),
-                },
+                Sr => sr(q, first, second),
+                Rs => rs(q, first, second),
                 Ton | Tof | Tp | Ctu | Ctd => stored,
             }
         }
