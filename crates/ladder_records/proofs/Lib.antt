@@ -1,0 +1,4 @@
+pub mod Numbers
+pub mod Plain
+pub mod Steps
+pub mod Whole

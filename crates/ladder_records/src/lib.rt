@@ -1,0 +1,10 @@
+//! The records of a csv text, one at a time, and what their fields say.
+#![tactic(auto)]
+
+mod field;
+mod records;
+mod row;
+
+pub use field::{bit_field, read_bit, read_number, read_signed};
+pub use records::{Records, next, read_from};
+pub use row::is_record;
