@@ -2,10 +2,10 @@
 use Rattle.std.proofs.Common.{◌≡◌, ◌≢◌, ◌∙◌, ◌+◌, ◌-◌, ◌≤◌, ℕ, suc, List, ◌∷◌, ◌++◌, Option, Some, None, sym, refl, ap, append_assoc, arith, length}
 use Rattle.std.specs.Prelude.{IfSome}
 use Rattle.ladder_sim.specs.CauseText.{limited, row, rows}
-use Rattle.ladder_sim.specs.Block.{SendsAll}
+use Rattle.ladder_text.specs.Block.{SendsAll}
 use Rattle.ladder_sim.specs.Limit.{limit_left}
-use Rattle.ladder_sim.specs.Log.{PutsFront, WriteLog}
-use Rattle.ladder_sim.proofs.Sending.{sends_front, sends_more}
+use Rattle.ladder_text.specs.Log.{PutsFront, WriteLog}
+use Rattle.ladder_text.proofs.Sending.{sends_front, sends_more}
 
 pub limited_next : (limit : Option ℕ) (count : ℕ) (xs : List ℕ) (n : ℕ) (rest : List ℕ) → xs ≡ n ∷ rest → limit ≢ Some count → IfSome limit (λ m. count ≤ m)
     → limited (limit_left limit count) xs ≡ n ∷ limited (limit_left limit (count + 1)) rest

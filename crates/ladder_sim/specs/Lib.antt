@@ -1,8 +1,2 @@
-pub mod Block
-pub mod Calls
 pub mod CauseText
 pub mod Limit
-pub mod Log
-pub mod Pieces
-pub mod Reading
-pub mod Writing

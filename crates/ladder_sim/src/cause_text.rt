@@ -3,17 +3,15 @@ ghost use Rattle.std.specs.Prelude.{◌≡◌, ◌≢◌, ◌+◌, ◌*◌, ◌<
 ghost use Rattle.ladder_causes.specs.Assignment.{bit_of};
 ghost use Rattle.ladder_causes.specs.Cursor.{Takes, looks_given, looks_of, searched};
 ghost use Rattle.std.specs.List.{slice_range};
-ghost use Rattle.ladder_sim.specs.Block.{Sends};
+ghost use Rattle.ladder_text.specs.Block.{Sends};
 ghost use Rattle.ladder_sim.specs.CauseText.{behind_commas, bit_text, bits, cause_text, header, limited, name_in, row, rows};
-ghost use Rattle.ladder_sim.specs.Log.{Puts};
+ghost use Rattle.ladder_text.specs.Log.{Puts};
 ghost use Rattle.ladder_sim.specs.declared.cause_text.TheConstants.{DIGITS, ROW};
 
-use super::block::Block;
-use super::fault::WriteFault;
-use super::sink::Sink;
 use itoa::write_digits;
 use ladder_causes::Causes;
 use ladder_grid::Program;
+use ladder_text::{Block, Sink, WriteFault};
 use ladder_vars::Decls;
 
 /// How many digits a number has at most.

@@ -1,19 +1,10 @@
-//! Readers and writers that count their calls, and the texts that go through them.
+//! The texts that the tool writes about a program.
 #![tactic(auto)]
 
-mod block;
 mod cause_text;
-mod fault;
-mod pieces;
-mod sink;
-mod source;
-mod tally;
-mod text;
 
 pub use cause_text::{Summary, write_causes};
-pub use fault::{TextFault, WriteFault};
-pub use pieces::{Piece, put_pieces};
-pub use sink::{Sink, WriteFailed, Writing, put};
-pub use source::{ReadFailed, Reading, Source};
-pub use tally::Tally;
-pub use text::read_text;
+pub use ladder_text::{
+    Piece, ReadFailed, Reading, Sink, Source, Tally, TextFault, WriteFailed, WriteFault, Writing,
+    put, put_pieces, read_text,
+};

@@ -13,7 +13,7 @@ use Rattle.ladder_causes.specs.Cursor.{Cursor, searched}
 use Rattle.ladder_causes.specs.Prefixes.{search_of}
 use Rattle.ladder_causes.specs.Refusal.{reason, refusal}
 use Rattle.ladder_sim.specs.CauseText.{cause_text, limited}
-use Rattle.ladder_sim.specs.Log.{PutsAll, PutsFront, WriteLog}
+use Rattle.ladder_text.specs.Log.{PutsAll, PutsFront, WriteLog}
 use Rattle.ladder_tool.specs.declared.fault.ToolFault.{ToolFault}
 use Rattle.ladder_tool.specs.declared.fault.ToolFault.TheVariants as fault
 use Rattle.ladder_tool.specs.Performs.{HasCauseFault, HasFault, HasWordFault, IsAsked, fresh_causes, fresh_looks, rows_line, rows_text}

@@ -9,8 +9,8 @@ use Rattle.ladder_grid.specs.declared.fault.GridRule.{GridRule}
 use Rattle.ladder_grid.specs.declared.fault.GridRule.TheVariants as rule
 use Rattle.ladder_causes.specs.declared.fault.CauseFault.{CauseFault}
 use Rattle.ladder_causes.specs.declared.fault.CauseFault.TheVariants as cause
-use Rattle.ladder_sim.specs.declared.fault.TextFault.{TextFault}
-use Rattle.ladder_sim.specs.declared.fault.TextFault.TheVariants as text
+use Rattle.ladder_text.specs.declared.fault.TextFault.{TextFault}
+use Rattle.ladder_text.specs.declared.fault.TextFault.TheVariants as text
 use Rattle.ladder_tool.specs.declared.fault.TextKind.{TextKind}
 use Rattle.ladder_tool.specs.declared.fault.TextKind.TheVariants as kind
 use Rattle.ladder_tool.specs.declared.fault.ToolFault.{ToolFault}

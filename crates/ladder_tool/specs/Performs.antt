@@ -13,7 +13,7 @@ use Rattle.ladder_causes.specs.Prefixes.{search_of}
 use Rattle.ladder_causes.specs.Refusal.{refusal}
 use Rattle.ladder_search.specs.Looks.{looks_in_all}
 use Rattle.ladder_sim.specs.CauseText.{cause_text}
-use Rattle.ladder_sim.specs.Log.{PutsAll, PutsFront, WriteLog}
+use Rattle.ladder_text.specs.Log.{PutsAll, PutsFront, WriteLog}
 use Rattle.ladder_tool.specs.declared.fault.ToolFault.{ToolFault}
 use Rattle.ladder_tool.specs.declared.fault.ToolFault.TheVariants as fault
 use Rattle.ladder_tool.specs.declared.request.Request.{Request}

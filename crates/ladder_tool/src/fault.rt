@@ -1,6 +1,6 @@
 //! What stops a request, and the line that says so.
 ghost use Rattle.std.specs.Prelude.{◌≡◌};
-ghost use Rattle.ladder_sim.specs.Log.{Puts};
+ghost use Rattle.ladder_text.specs.Log.{Puts};
 ghost use Rattle.ladder_tool.specs.FaultLine.{cause_number, fault_line, grid_number, kind_word, text_line, var_line, var_number};
 
 use ladder_causes::CauseFault;

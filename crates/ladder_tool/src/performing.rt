@@ -1,6 +1,6 @@
 //! What is done for a request.
 ghost use Rattle.std.specs.Prelude.{◌≡◌, ◌≤◌, ◌⊎◌, None, map, string_bytes};
-ghost use Rattle.ladder_sim.specs.Log.{Puts};
+ghost use Rattle.ladder_text.specs.Log.{Puts};
 ghost use Rattle.ladder_tool.specs.Performs.{BreaksOff, IsDone, IsFailed, IsReported, ListsCauses, Refuses, rows_line};
 
 use super::fault::{ToolFault, write_fault};

@@ -1,6 +1,6 @@
 use Rattle.std.proofs.Common.{◌++◌, [], codes, refl, slice_get}
 use Rattle.ladder_sim.specs.CauseText.{name_in}
-use Rattle.ladder_sim.proofs.Sending.{sends_front, sends_last, sends_none}
+use Rattle.ladder_text.proofs.Sending.{sends_front, sends_last, sends_none}
 use Rattle.ladder_sim.proofs.cause_text.add_name.Goals as goal
 
 pub returns-in_default : goal.returns-in_default

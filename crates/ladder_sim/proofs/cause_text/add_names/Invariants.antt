@@ -1,5 +1,5 @@
 use Rattle.std.proofs.Common.{map, take, slice_get}
-use Rattle.ladder_sim.specs.Block.{SendsAll}
+use Rattle.ladder_text.specs.Block.{SendsAll}
 use Rattle.ladder_sim.specs.CauseText.{behind_commas, name_in}
 use Rattle.ladder_sim.proofs.cause_text.add_names.Given as goal
 

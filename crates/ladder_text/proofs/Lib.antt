@@ -1,0 +1,4 @@
+pub mod Bytes
+pub mod PieceLaws
+pub mod Puts
+pub mod Sending

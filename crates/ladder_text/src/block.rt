@@ -1,0 +1,88 @@
+//! Bytes that wait to be written, many at a call.
+ghost use Rattle.std.specs.Prelude.{◌≡◌, ◌+◌, ◌≤◌, ◌++◌, [], length, take};
+ghost use Rattle.ladder_text.specs.Block.{Sends};
+ghost use Rattle.ladder_text.specs.Log.{Puts};
+
+use super::fault::WriteFault;
+use super::sink::{Sink, put};
+use std::marker::Model;
+
+/// How many bytes wait at most.
+const BLOCK: usize = 32768;
+
+/// Bytes that wait to be written, so that a long text takes few calls of its writer. A piece is never cut to fill the block. After a
+/// failed write the block is to be dropped: nothing more may be written.
+#[derive(Drop)]
+pub struct Block {
+    bytes: [u8; BLOCK],
+    used: usize,
+}
+
+impl Model for Block {
+    ghost use Rattle.std.specs.Prelude.{ℕ, List, ◌≤◌, take};
+    ghost use Rattle.ladder_text.specs.declared.block.TheConstants.{BLOCK};
+
+    ghost Value = { List ℕ };
+
+    ghost view = { λ b. take b.used b.bytes };
+
+    ghost invariant = { λ b. b.used ≤ BLOCK };
+}
+
+impl Block {
+    ghost use Rattle.ladder_text.specs.declared.block.TheConstants.{BLOCK};
+
+    pub fn new() -> Block
+        ensures { result ≡ [] }
+    {
+        Block {
+            bytes: [0; BLOCK],
+            used: 0,
+        }
+    }
+
+    /// Writes all that waits.
+    pub fn flush<W: Sink>(&mut self, writer: &mut W) -> Result<(), WriteFault>
+        ensures wrote { Puts (W.log writer.old) (W.log writer.new) result self.old }
+        ensures empty { self.new ≡ [] }
+    {
+        let used = self.used;
+        self.used = 0;
+        put(writer, &self.bytes[..used])
+    }
+
+    /// Takes a piece that there is room for.
+    fn take(&mut self, piece: &[u8])
+        requires { length self.old + length piece.now ≤ BLOCK }
+        ensures { self.new ≡ self.old ++ piece.now }
+    {
+        let end = self.used + piece.len();
+        self.bytes[self.used..end].copy_from_slice(piece);
+        self.used = end;
+    }
+
+    /// Writes what waits and then the piece, for which there is no room.
+    fn write_through<W: Sink>(&mut self, piece: &[u8], writer: &mut W) -> Result<(), WriteFault>
+        ensures { Sends (W.log writer.old) (W.log writer.new) self.old self.new result piece.now }
+    {
+        let Ok(()) = self.flush(writer) else {
+            return Err(WriteFault);
+        };
+        if BLOCK < piece.len() {
+            return put(writer, piece);
+        }
+        self.take(piece);
+        Ok(())
+    }
+
+    /// Takes a piece, and writes where there is no room.
+    pub fn add<W: Sink>(&mut self, piece: &[u8], writer: &mut W) -> Result<(), WriteFault>
+        ensures { Sends (W.log writer.old) (W.log writer.new) self.old self.new result piece.now }
+    {
+        if BLOCK - self.used < piece.len() {
+            return self.write_through(piece, writer);
+        }
+        self.take(piece);
+        Ok(())
+    }
+}

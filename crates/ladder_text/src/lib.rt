@@ -1,0 +1,18 @@
+//! Readers and writers that count their calls, and the texts that go through them.
+#![tactic(auto)]
+
+mod block;
+mod fault;
+mod pieces;
+mod sink;
+mod source;
+mod tally;
+mod text;
+
+pub use block::Block;
+pub use fault::{TextFault, WriteFault};
+pub use pieces::{Piece, put_pieces};
+pub use sink::{Sink, WriteFailed, Writing, put};
+pub use source::{ReadFailed, Reading, Source};
+pub use tally::Tally;
+pub use text::read_text;
