@@ -1,3 +1,5 @@
+pub mod Commas
+pub mod Lines
 pub mod Numbers
 pub mod Plain
 pub mod Steps

@@ -4,3 +4,4 @@ pub mod ItemByItem
 pub mod Items
 pub mod Places
 pub mod Segments
+pub mod Written

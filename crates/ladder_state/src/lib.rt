@@ -1,4 +1,4 @@
-//! The text of a state: its records, and their reading.
+//! The text of a state: its records, their reading and their writing.
 #![tactic(auto)]
 
 mod fault;
@@ -6,7 +6,9 @@ mod parts;
 mod read;
 mod row;
 mod version;
+mod write;
 
 pub use fault::StateFault;
 pub use read::read_state;
 pub use version::Version;
+pub use write::write_state;

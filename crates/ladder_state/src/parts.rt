@@ -78,7 +78,7 @@ fn has_memory(cell: Cell) -> bool
 }
 
 /// Whether an edge contact or edge coil stands at a place. Places go by rung, column and row.
-fn is_memory_place(program: &Program, place: usize) -> bool
+pub(crate) fn is_memory_place(program: &Program, place: usize) -> bool
     requires { place < PLACES * program.now.rungs }
     ensures { result ≡ has_memory (cell_in program.now place) }
 {
