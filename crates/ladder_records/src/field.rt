@@ -1,5 +1,5 @@
 //! What a field says: whole numbers without needless zeros, and bits.
-ghost use Rattle.std.specs.Prelude.{◌≡◌, ◌≢◌, ◌<◌, ◌^◌, ℕ, ℤ, Bool, None, IfSome, FitsSigned, decimal};
+ghost use Rattle.std.specs.Prelude.{◌≡◌, ◌≢◌, ◌<◌, ◌^◌, ℕ, ℤ, None, IfSome, FitsSigned, decimal};
 ghost use Rattle.std.specs.Fmt.{signed_decimal};
 ghost use Rattle.std.specs.Int.{w16};
 ghost use Rattle.ladder_records.specs.Text.{bit_text};
@@ -9,6 +9,7 @@ use itoa::Buffer;
 /// The number that `decimal` writes as this field, if it is one.
 pub fn read_number(field: &[u8]) -> Option<u64>
     ensures some { IfSome result (λ n. field.now ≡ decimal n) }
+    ensures small { IfSome result (λ n. n < 2 ^ 64) }
     ensures none { result ≡ None → (n : ℕ) → n < 2 ^ 64 → field.now ≢ decimal n }
 {
     let Ok(text) = str::from_utf8(field) else {
@@ -50,18 +51,4 @@ pub fn bit_field(value: bool) -> &'static [u8]
     ensures { result.now ≡ bit_text value }
 {
     if value { b"1" } else { b"0" }
-}
-
-/// The bit that stands as this field, if it is one.
-pub fn read_bit(field: &[u8]) -> Option<bool>
-    ensures some { IfSome result (λ b. field.now ≡ bit_text b) }
-    ensures none { result ≡ None → (b : Bool) → field.now ≢ bit_text b }
-{
-    if field == bit_field(true) {
-        return Some(true);
-    }
-    if field == bit_field(false) {
-        return Some(false);
-    }
-    None
 }

@@ -6,7 +6,7 @@ mod line;
 mod records;
 mod row;
 
-pub use field::{bit_field, read_bit, read_number, read_signed};
+pub use field::{bit_field, read_number, read_signed};
 pub use line::{add_field, add_line};
 pub use records::{Records, next, read_from};
 pub use row::is_record;
