@@ -1,0 +1,6 @@
+pub mod Commas
+pub mod Lines
+pub mod Numbers
+pub mod Plain
+pub mod Steps
+pub mod Whole

@@ -1,0 +1,68 @@
+-- The places of memories, in order.
+use Rattle.std.proofs.Common.{◌≡◌, ◌+◌, ◌-◌, ◌<◌, ◌≤◌, ◌∙◌, ◌++◌, ◌∷◌, [], ℕ, suc, zero, Bool, true, false, List, refl, sym, ap, subst, arith, append_assoc, length, length-append, take, take_all, add-one}
+use Rattle.std.specs.List.{count_by}
+use Rattle.std.proofs.lemmas.List.Sums.{count_by_more_no, count_by_more_yes}
+use Rattle.ladder_grid.specs.declared.site.Site.{Site}
+use Rattle.ladder_grid.specs.Program.{Drawing, blank_site, cell_in, has_memory, memories_of}
+use Rattle.ladder_state.specs.StateText.{memory_places, memory_places_before}
+
+abbrev here : Drawing → ℕ → Bool
+here p n = has_memory (cell_in p n)
+
+abbrev remembers : Site → Bool
+remembers s = has_memory s.cell
+
+pub place_there : (p : Drawing) (n : ℕ) → here p n ≡ true → memory_places_before p (suc n) ≡ memory_places_before p n ++ n ∷ []
+unfolding memory_places_before
+place_there p n e = rw e refl
+
+pub place_not : (p : Drawing) (n : ℕ) → here p n ≡ false → memory_places_before p (suc n) ≡ memory_places_before p n
+unfolding memory_places_before
+place_not p n e = rw e refl
+
+-- one place more
+abbrev pub Later : Drawing → ℕ → ℕ → Type 0
+Later p n m = (more : List ℕ) × (memory_places_before p m ≡ memory_places_before p n ++ n ∷ more)
+
+grown : (p : Drawing) (n m : ℕ) (b : Bool) → here p m ≡ b → Later p n m → Later p n (suc m)
+grown p n m true e (more, cut) = (more ++ m ∷ [], place_there p m e ∙ ap (λ l. l ++ m ∷ []) cut ∙ append_assoc (memory_places_before p n) (n ∷ more) (m ∷ []))
+grown p n m false e (more, cut) = (more, place_not p m e ∙ cut)
+
+pub places_cut : (p : Drawing) (n m k : ℕ) → here p n ≡ true → m ≡ suc n + k → Later p n m
+places_cut p n m zero e h = let at : suc n ≡ m = omega (arith, h) in subst (Later p n) at ([], place_there p n e)
+places_cut p n m (suc k) e h =
+    let at : suc (suc n + k) ≡ m = omega (arith, h) in
+    subst (Later p n) at (grown p n (suc n + k) (here p (suc n + k)) refl (places_cut p n (suc n + k) k e refl))
+
+-- there are as many as cells with a memory
+counted : (p : Drawing) (n m : ℕ) (b : Bool) → here p n ≡ b → n < length p.sites → length (memory_places_before p n) ≡ count_by remembers (take n p.sites)
+    → length (memory_places_before p (suc n)) ≡ count_by remembers (take (n + 1) p.sites)
+counted p n m true e h before = omega (arith, ap length (place_there p n e), length-append (memory_places_before p n) (n ∷ []), before, count_by_more_yes remembers p.sites n blank_site h e)
+counted p n m false e h before = ap length (place_not p n e) ∙ before ∙ sym (count_by_more_no remembers p.sites n blank_site h e)
+
+pub places_count : (p : Drawing) (n : ℕ) → n ≤ length p.sites → length (memory_places_before p n) ≡ count_by remembers (take n p.sites)
+unfolding memory_places_before
+places_count p zero h = refl
+places_count p (suc n) h = rw (← add-one n) (counted p n n (here p n) refl (omega (arith, h)) (places_count p n (omega (arith, h))))
+
+pub all_places : (p : Drawing) → length (memory_places p) ≡ memories_of p
+all_places p = places_count p (length p.sites) (omega arith) ∙ ap (count_by remembers) (take_all (length p.sites) p.sites (omega arith))
+
+pub places_none : (p : Drawing) → [] ≡ memory_places_before p 0
+unfolding memory_places_before
+places_none p = refl
+
+-- a place with a memory has a number below the count of memories
+pub place_cut : (p : Drawing) (n : ℕ) → here p n ≡ true → n < length p.sites → Later p n (length p.sites)
+place_cut p n e h = places_cut p n (length p.sites) (length p.sites - suc n) e (omega (arith, h))
+
+pub place_number : (p : Drawing) (n : ℕ) → here p n ≡ true → n < length p.sites → length (memory_places_before p n) < memories_of p
+place_number p n e h =
+    let cut = place_cut p n e h in
+    omega (arith, all_places p, ap length cut.1, length-append (memory_places_before p n) (n ∷ cut.0))
+
+pub one_there : (p : Drawing) (n : ℕ) → here p n ≡ true → memory_places_before p (n + 1) ≡ memory_places_before p n ++ n ∷ []
+one_there p n e = rw (add-one n) (place_there p n e)
+
+pub one_not : (p : Drawing) (n : ℕ) → here p n ≡ false → memory_places_before p (n + 1) ≡ memory_places_before p n
+one_not p n e = rw (add-one n) (place_not p n e)

@@ -1,0 +1,13 @@
+use Rattle.std.specs.Prelude.{◌≡◌, List, length, take}
+use Rattle.ladder_records.specs.Left.{Fields, IsPlain, Left}
+use Rattle.ladder_scan.specs.Standing.{with_values}
+use Rattle.ladder_state.specs.Parts.{IsRead}
+use Rattle.ladder_state.specs.StateText.{var_records}
+use Rattle.ladder_state.proofs.parts.read_values.Given as goal
+
+abbrev pub invariant-loop-number : goal.invariant-loop-number
+invariant-loop-number l =
+    IsPlain l.records
+    × (length l.state.held.values ≡ length l.vars)
+    × (l.state ≡ with_values l.fn.state l.state.held.values)
+    × ((rows : List Fields) → Left l.fn.records rows → IsRead var_records (take l.number l.vars) l.state.held.values rows l.records)

@@ -1,0 +1,25 @@
+use Rattle.std.proofs.Common.{arith, subst, take_all}
+use Rattle.ladder_records.specs.Text.{lines_text}
+use Rattle.ladder_records.proofs.Lines.{line_front, line_more}
+use Rattle.ladder_state.specs.Parts.{block_item}
+use Rattle.ladder_state.specs.StateText.{block_records, each}
+use Rattle.ladder_state.specs.declared.version.Version.TheVariants.{Second}
+use Rattle.ladder_text.specs.Block.{SendsAll}
+use Rattle.ladder_state.proofs.Written.{one_written, written_apart}
+use Rattle.ladder_state.proofs.write.add_blocks.Goals as goal
+
+pub loop-number-preserved : goal.loop-number-preserved
+loop-number-preserved g c =
+    line_more _ _ _ _ _ _ _ _ _ (one_written block_item c.args.instances.now c.args.state.now.held.kept.blocks c.loop-number.number c.index-instances-number.result c.block.result
+    c.loop-number-test.true c.index-instances-number.is c.block.ensures) c.loop-number.invariant (rw (c.bytes-name.ensures.spelling, ← c.index-instances-number.is) at c.in-Ok.ensures)
+
+pub returns-in_default : goal.returns-in_default
+returns-in_default g c =
+    line_front _ _ _ _ _ _ _ _ _ (written_apart block_item c.args.instances.now c.args.state.now.held.kept.blocks c.loop-number.number c.index-instances-number.result c.block.result
+    c.loop-number-test.true c.index-instances-number.is c.block.ensures) c.loop-number.invariant (rw (c.bytes-name.ensures.spelling, ← c.index-instances-number.is) at c.in_default.ensures)
+
+pub returns : goal.returns
+returns g c =
+    let all = take_all c.loop-number.number c.args.instances.now (omega arith) in
+    subst (λ xs. SendsAll (g.W.Sink.log c.args.writer.now) (g.W.Sink.log c.loop-number.writer) c.args.block.now c.loop-number.block (lines_text (each (block_records Second) xs c.args.state.now.held.kept.blocks)))
+    all c.loop-number.invariant

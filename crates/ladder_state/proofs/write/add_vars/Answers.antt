@@ -1,0 +1,23 @@
+use Rattle.std.proofs.Common.{arith, subst, take_all}
+use Rattle.ladder_records.specs.Text.{lines_text}
+use Rattle.ladder_records.proofs.Lines.{line_front, line_more}
+use Rattle.ladder_state.specs.StateText.{each, var_record, var_records}
+use Rattle.ladder_text.specs.Block.{SendsAll}
+use Rattle.ladder_state.proofs.Written.{one_written, written_apart}
+use Rattle.ladder_state.proofs.write.add_vars.Goals as goal
+
+pub loop-number-preserved : goal.loop-number-preserved
+loop-number-preserved g c =
+    line_more _ _ _ _ _ _ _ _ _ (one_written var_record c.args.vars.now c.args.state.now.held.values c.loop-number.number c.index-vars-number.result c.value.result
+    c.loop-number-test.true c.index-vars-number.is c.value.ensures) c.loop-number.invariant c.in-Ok.ensures
+
+pub returns-in_default : goal.returns-in_default
+returns-in_default g c =
+    line_front _ _ _ _ _ _ _ _ _ (written_apart var_record c.args.vars.now c.args.state.now.held.values c.loop-number.number c.index-vars-number.result c.value.result
+    c.loop-number-test.true c.index-vars-number.is c.value.ensures) c.loop-number.invariant c.in_default.ensures
+
+pub returns : goal.returns
+returns g c =
+    let all = take_all c.loop-number.number c.args.vars.now (omega arith) in
+    subst (λ xs. SendsAll (g.W.Sink.log c.args.writer.now) (g.W.Sink.log c.loop-number.writer) c.args.block.now c.loop-number.block (lines_text (each var_records xs c.args.state.now.held.values)))
+    all c.loop-number.invariant

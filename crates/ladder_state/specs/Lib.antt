@@ -1,0 +1,4 @@
+pub mod Item
+pub mod Parts
+pub mod ReadState
+pub mod StateText

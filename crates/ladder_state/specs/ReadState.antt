@@ -1,0 +1,37 @@
+-- What the reading of a state text answers.
+use Rattle.std.specs.Prelude.{◌≡◌, ◌+◌, ⊤, ℕ, List, Result, Ok, Err, take}
+use Rattle.ladder_records.specs.Left.{Fields}
+use Rattle.ladder_grid.specs.Program.{Drawing}
+use Rattle.ladder_scan.specs.Standing.{Standing}
+use Rattle.ladder_state.specs.declared.fault.StateFault.{StateFault}
+use Rattle.ladder_state.specs.declared.fault.StateFault.TheVariants as fault
+use Rattle.ladder_state.specs.declared.version.Version.{Version}
+use Rattle.ladder_state.specs.StateText.{AreTold, HasRecords, IsStateOf, state_records}
+
+-- the first k records are the first of some state
+pub record Begins (p : Drawing) (rows : List Fields) (k : ℕ) : Type 0 where
+  pub state : Standing
+  pub version : Version
+  pub good : IsStateOf p state
+  pub told : AreTold version p.decls.instances state.held.kept.blocks
+  pub same : take k rows ≡ take k (state_records version p state)
+
+-- The record of number n, counted from 1, is the first that isn't of its form: the records before it are the first of some state, and
+-- with it they are those of none. It may be missing.
+pub record IsFirstBad (p : Drawing) (rows : List Fields) (n : ℕ) : Type 0 where
+  pub before : ℕ
+  pub count : n ≡ before + 1
+  pub front : Begins p rows before
+  pub none : Begins p rows n → ⊥
+
+-- A state is answered for the records that are its, and otherwise the first bad one.
+abbrev pub Reads : Drawing → List Fields → Result Standing StateFault → Type 0
+Reads p rows (Ok s) = IsStateOf p s × HasRecords p s rows
+Reads p rows (Err (fault.BadRow n)) = IsFirstBad p rows n
+Reads p rows (Err fault.Memory) = ⊤
+
+-- the same where the state stands beside the answer
+abbrev pub ReadsAll : {T : Type 0} → Drawing → Standing → List Fields → Result T StateFault → Type 0
+ReadsAll p s rows (Ok u) = HasRecords p s rows
+ReadsAll p s rows (Err (fault.BadRow n)) = IsFirstBad p rows n
+ReadsAll p s rows (Err fault.Memory) = ⊤

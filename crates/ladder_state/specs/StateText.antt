@@ -1,0 +1,108 @@
+-- The records of a state (the profile): the version of the text, the moment, and then one for each variable, each memory and each instance.
+-- Version 2 is written; versions 1 and 2 are read.
+use Rattle.std.specs.Prelude.{◌≡◌, ◌++◌, ◌∷◌, ◌+◌, ℕ, zero, suc, List, [], Bool, true, false, Some, if◌then◌else◌, codes, decimal, slice_get, length}
+use Rattle.std.specs.Fmt.{signed_decimal}
+use Rattle.ladder_records.specs.Left.{Fields}
+use Rattle.ladder_records.specs.Text.{bit_text, lines_text}
+use Rattle.ladder_vars.specs.declared.decls.Var.{Var}
+use Rattle.ladder_vars.specs.declared.decls.Instance.{Instance}
+use Rattle.ladder_grid.specs.Geometry.{at_place}
+use Rattle.ladder_grid.specs.Program.{Drawing, cell_in, has_memory}
+use Rattle.ladder_scan.specs.declared.block.Stored.{Stored}
+use Rattle.ladder_scan.specs.declared.block.Stored.TheVariants.{Timer, Counter, Bistable}
+use Rattle.ladder_scan.specs.Blocks.{new_block}
+use Rattle.ladder_scan.specs.Standing.{Fits, IsStanding, Shape, Standing, bistable, counter, shape_of, timer}
+use Rattle.ladder_state.specs.declared.version.Version.{Version}
+use Rattle.ladder_state.specs.declared.version.Version.TheVariants.{First, Second}
+
+-- ---- one record
+
+abbrev pub version_record : Version → Fields
+version_record First = codes "version" ∷ codes "1" ∷ []
+version_record Second = codes "version" ∷ codes "2" ∷ []
+
+abbrev pub moment_record : ℕ → Fields
+moment_record moment = codes "moment" ∷ decimal moment ∷ []
+
+abbrev pub var_record : Var → Bool → Fields
+var_record var value = codes "var" ∷ var.name ∷ bit_text value ∷ []
+
+-- the memory at a place; rungs, rows and columns are counted from 1
+abbrev pub memory_record : ℕ → Bool → Fields
+memory_record place value =
+    at_place (λ rung row column. codes "memory" ∷ decimal (rung + 1) ∷ decimal (row + 1) ∷ decimal (column + 1) ∷ bit_text value ∷ []) place
+
+-- an instance of this name that stores this
+abbrev pub block_record : List ℕ → Stored → Fields
+block_record name (Timer last running start q) =
+    codes "timer" ∷ name ∷ bit_text last ∷ bit_text running ∷ decimal start ∷ bit_text q ∷ []
+block_record name (Counter last cv q) = codes "counter" ∷ name ∷ bit_text last ∷ signed_decimal cv ∷ bit_text q ∷ []
+block_record name (Bistable q) = codes "bistable" ∷ name ∷ bit_text q ∷ []
+
+-- ---- what belongs to one variable, memory or instance
+
+-- Version 1 knows timers and counters alone.
+abbrev pub has_record : Version → Shape → Bool
+has_record First timer = true
+has_record First counter = true
+has_record First bistable = false
+has_record Second s = true
+
+abbrev pub var_records : Var → Bool → List Fields
+var_records var value = var_record var value ∷ []
+
+abbrev pub memory_records : ℕ → Bool → List Fields
+memory_records place value = memory_record place value ∷ []
+
+abbrev pub block_records : Version → Instance → Stored → List Fields
+block_records version i s = if has_record version (shape_of i.kind) then block_record i.name s ∷ [] else []
+
+-- ---- all of them
+
+-- the records of each item with its value, in order
+abbrev pub each : {A B : Type 0} → (A → B → List Fields) → List A → List B → List Fields
+each row [] ys = []
+each row (x ∷ xs) [] = []
+each row (x ∷ xs) (y ∷ ys) = row x y ++ each row xs ys
+
+-- those of the first n places where an edge contact or edge coil stands
+unfoldable pub memory_places_before : Drawing → ℕ → List ℕ
+memory_places_before p zero = []
+memory_places_before p (suc n) =
+    if has_memory (cell_in p n) then memory_places_before p n ++ n ∷ [] else memory_places_before p n
+
+-- The n-th memory is that of the n-th of these places: they go by rung, column and row.
+abbrev pub memory_places : Drawing → List ℕ
+memory_places p = memory_places_before p (length p.sites)
+
+-- variables and instances as they are declared, memories by their places
+abbrev pub item_records : Version → Drawing → Standing → List Fields
+item_records version p s =
+    each var_records p.decls.vars s.held.values
+    ++ (each memory_records (memory_places p) s.held.kept.memories
+    ++ each (block_records version) p.decls.instances s.held.kept.blocks)
+
+abbrev pub state_records : Version → Drawing → Standing → List Fields
+state_records version p s = version_record version ∷ moment_record s.moment ∷ item_records version p s
+
+-- the text that is written
+abbrev pub state_text : Drawing → Standing → List ℕ
+state_text p s = lines_text (state_records Second p s)
+
+-- ---- the states of a program
+
+pub record IsStateOf (p : Drawing) (s : Standing) : Type 0 where
+  pub fits : Fits p s
+  pub standing : IsStanding s
+
+-- An instance without a record in this version stores what it does before the first scan.
+abbrev pub AreTold : Version → List Instance → List Stored → Type 0
+AreTold version instances blocks =
+    (number : ℕ) (i : Instance) → slice_get instances number ≡ Some i → has_record version (shape_of i.kind) ≡ false
+    → slice_get blocks number ≡ Some (new_block i.kind)
+
+-- The version tells all of the state: these are the records of it.
+pub record HasRecords (p : Drawing) (s : Standing) (rows : List Fields) : Type 0 where
+  pub version : Version
+  pub told : AreTold version p.decls.instances s.held.kept.blocks
+  pub same : rows ≡ state_records version p s

@@ -1,0 +1,47 @@
+use Rattle.std.proofs.Common.{arith}
+use Rattle.ladder_trace.proofs.Taking.{going_done, going_many, going_more, going_none, going_stops}
+use Rattle.ladder_trace.proofs.simulation.simulate_rows.Goals as goal
+
+pub loop-number-init : goal.loop-number-init
+loop-number-init g c = (
+  c.requires.plain,
+  c.requires.fits,
+  c.requires.ready,
+  omega arith,
+  λ rows left.
+      going_none c.args.program.now c.args.columns.now c.args.state.now rows (g.W.Sink.log c.args.writer.now) c.args.records.now left,
+)
+
+pub loop-number-preserved : goal.loop-number-preserved
+loop-number-preserved g c =
+    let ok = c.in_default-step.ensures in (
+      c.in-Ok.ensures.plain,
+      ok.fits,
+      ok.ready,
+      omega (arith, c.if-number-eq-MOST.false, c.loop-number.invariant.3),
+      λ rows left.
+          let h = c.loop-number.invariant.4 rows left in
+          going_more c.args.program.now c.args.columns.now c.args.state.now c.loop-number.state c.step.new.state rows c.in-Ok.found _ _ _ _ c.loop-number.number c.loop-number.records c.next.new.records
+          h c.if-not-found.false (c.in-Ok.ensures.takes h.taken.rest h.left) ok.steps.0 ok.steps.1,
+    )
+
+pub returns-in_default-clause-ends : goal.returns-in_default-clause-ends
+returns-in_default-clause-ends g c = λ rows left. (c.loop-number.invariant.4 rows left).taken
+
+pub returns-then-not-found-clause-ends : goal.returns-then-not-found-clause-ends
+returns-then-not-found-clause-ends g c = λ rows left.
+    let h = c.loop-number.invariant.4 rows left in
+    going_done c.args.program.now c.args.columns.now c.args.state.now c.loop-number.state rows c.in-Ok.found _ _ _ c.loop-number.number c.loop-number.records c.next.new.records
+    h c.if-not-found.true (c.in-Ok.ensures.takes h.taken.rest h.left) c.loop-number.invariant.3
+
+pub returns-then-number-eq-MOST-clause-ends : goal.returns-then-number-eq-MOST-clause-ends
+returns-then-number-eq-MOST-clause-ends g c = λ rows left.
+    let h = c.loop-number.invariant.4 rows left in
+    going_many c.args.program.now c.args.columns.now c.args.state.now c.loop-number.state rows c.in-Ok.found _ _ _ c.loop-number.number c.loop-number.records c.next.new.records
+    h c.if-not-found.false (c.in-Ok.ensures.takes h.taken.rest h.left) c.if-number-eq-MOST.true
+
+pub returns-in-Err-clause-ends : goal.returns-in-Err-clause-ends
+returns-in-Err-clause-ends g c = λ rows left.
+    let h = c.loop-number.invariant.4 rows left in
+    going_stops c.args.program.now c.args.columns.now c.args.state.now c.loop-number.state c.step.new.state rows c.in-Ok.found _ c.in-Err.fault _ _ _ c.loop-number.number c.loop-number.records c.next.new.records
+    h c.if-not-found.false (c.in-Ok.ensures.takes h.taken.rest h.left) c.in-Err.ensures.steps

@@ -1,0 +1,41 @@
+use Rattle.std.proofs.Common.{◌∙◌, false, Some, ap, arith, get_or, map, subst, sym, take_all}
+use Rattle.std.proofs.lemmas.List.{length-map}
+use Rattle.ladder_records.specs.Text.{bit_text}
+use Rattle.ladder_text.specs.Block.{SendsAll}
+use Rattle.ladder_trace.specs.Trace.{is_output}
+use Rattle.ladder_trace.proofs.Fields.{field_front, field_more, field_none, fields}
+use Rattle.ladder_trace.proofs.Lists.{mark_at, there_at}
+use Rattle.ladder_trace.proofs.trace.add_bits.Goals as goal
+
+pub loop-number-preserved-then-not-is_output : goal.loop-number-preserved-then-not-is_output
+loop-number-preserved-then-not-is_output g c =
+    let vars = c.args.vars.now in
+    let values = c.args.state.now.held.values in
+    let n = c.loop-number.number in
+    let x = c.index-vars-number.result in
+    let mark = mark_at is_output vars n x c.loop-number-test.true c.index-vars-number.is ∙ ap Some (sym c.is_output.ensures ∙ c.if-not-is_output.true) in
+    field_none bit_text (map is_output vars) values n (get_or values n false) _ _ _ _ mark (there_at values n false (omega (arith, c.requires))) c.loop-number.invariant
+
+pub loop-number-preserved : goal.loop-number-preserved
+loop-number-preserved g c =
+    let vars = c.args.vars.now in
+    let n = c.loop-number.number in
+    let x = c.index-vars-number.result in
+    let mark = mark_at is_output vars n x c.loop-number-test.true c.index-vars-number.is ∙ ap Some (sym c.is_output.ensures ∙ c.if-not-is_output.false) in
+    field_more bit_text (map is_output vars) c.args.state.now.held.values n c.value.result _ _ _ _ _ _ mark c.value.ensures c.loop-number.invariant
+    (rw c.bit_field.ensures at c.in-Ok.ensures)
+
+pub returns-in_default : goal.returns-in_default
+returns-in_default g c =
+    let vars = c.args.vars.now in
+    let n = c.loop-number.number in
+    let x = c.index-vars-number.result in
+    let mark = mark_at is_output vars n x c.loop-number-test.true c.index-vars-number.is ∙ ap Some (sym c.is_output.ensures ∙ c.if-not-is_output.false) in
+    field_front bit_text (map is_output vars) c.args.state.now.held.values n c.value.result _ _ _ _ _ mark c.value.ensures c.loop-number.invariant
+    (rw c.bit_field.ensures at c.in_default.ensures)
+
+pub returns : goal.returns
+returns g c =
+    let vars = c.args.vars.now in
+    let all = take_all c.loop-number.number (map is_output vars) (omega (arith, length-map vars is_output)) in
+    subst (λ marks. SendsAll (g.W.Sink.log c.args.writer.now) (g.W.Sink.log c.loop-number.writer) c.args.block.now c.loop-number.block (fields bit_text marks c.args.state.now.held.values)) all c.loop-number.invariant

@@ -1,0 +1,4 @@
+pub mod Room
+pub mod Simulation
+pub mod Stimulus
+pub mod Trace

@@ -1,0 +1,50 @@
+-- A stimulus (the profile): a header that names inputs, and then a moment and a bit for each of them.
+use Rattle.std.specs.Prelude.{◌≡◌, ◌∷◌, ◌<◌, ◌==◌, ◌^◌, if◌then◌else◌, ℕ, List, [], Bool, Option, Some, None, codes, decimal, length, map, set, slice_get, take}
+use Rattle.std.specs.List.{IsDistinct, count_by}
+use Rattle.ladder_vars.specs.declared.decls.Symbol.{Symbol}
+use Rattle.ladder_vars.specs.declared.decls.Symbol.TheVariants as symbol
+use Rattle.ladder_vars.specs.declared.decls.Var.{Var}
+use Rattle.ladder_vars.specs.Decls.{Declared, find, is_input}
+use Rattle.ladder_vars.specs.Name.{is_name}
+use Rattle.ladder_grid.specs.Operand.{is_input_at}
+use Rattle.ladder_records.specs.Left.{Fields}
+use Rattle.ladder_records.specs.Text.{bit_text}
+
+-- ---- the header
+
+-- The place of a variable among the inputs, in order of declaration, where it is one.
+abbrev pub place_of : List Var → ℕ → Option ℕ
+place_of vars number = if is_input_at (slice_get vars number) then Some (count_by is_input (take number vars)) else None
+
+abbrev pub input_in : List Var → Option Symbol → Option ℕ
+input_in vars (Some (symbol.Var number)) = place_of vars number
+input_in vars (Some (symbol.Instance number)) = None
+input_in vars None = None
+
+-- The input that a word names, in any letter case.
+abbrev pub input_named : Declared → List ℕ → Option ℕ
+input_named d word = if is_name word then input_in d.vars (find d word) else None
+
+-- The words name the inputs at these places, no two the same.
+pub record AreColumns (d : Declared) (words : List (List ℕ)) (columns : List ℕ) : Type 0 where
+  pub named : map (input_named d) words ≡ map Some columns
+  pub distinct : IsDistinct (λ (a b : ℕ). a == b) columns
+
+pub record IsHeader (d : Declared) (fields : Fields) (columns : List ℕ) : Type 0 where
+  pub words : List (List ℕ)
+  pub same : fields ≡ codes "moment" ∷ words
+  pub inputs : AreColumns d words columns
+
+-- ---- the records behind it
+
+-- A moment, and a bit for each column.
+pub record IsRow (columns : List ℕ) (fields : Fields) (moment : ℕ) (bits : List Bool) : Type 0 where
+  pub same : fields ≡ decimal moment ∷ map bit_text bits
+  pub count : length bits ≡ length columns
+  pub small : moment < 2 ^ 64
+
+-- The inputs of the columns have the bits, the others what they had.
+abbrev pub given_by : List ℕ → List Bool → List Bool → List Bool
+given_by [] bits image = image
+given_by (c ∷ columns) [] image = image
+given_by (c ∷ columns) (b ∷ bits) image = given_by columns bits (set image c b)

@@ -1,0 +1,89 @@
+//! A record of a stimulus behind the header, and the input image that it asks for.
+ghost use Rattle.std.specs.Prelude.{◌≡◌, ◌<◌, ◌+◌, All, IfSome, None, count_by, drop, length, map};
+ghost use Rattle.csv.specs.Records.{field_at, fields_of};
+ghost use Rattle.ladder_vars.specs.Decls.{is_input};
+ghost use Rattle.ladder_trace.specs.Room.{are_bits, bits_of, is_bit, is_on};
+ghost use Rattle.ladder_trace.specs.Simulation.{IsNoRow};
+ghost use Rattle.ladder_trace.specs.Stimulus.{given_by, IsRow};
+ghost use Rattle.ladder_trace.specs.Trace.{chosen};
+
+use crate::header::is_input;
+use csv::ByteRecord;
+use ladder_records::read_number;
+use ladder_scan::State;
+use ladder_vars::Var;
+
+fn is_on(row: &ByteRecord, number: usize) -> bool
+    ensures { result ≡ is_on (field_at (fields_of row.now) number) }
+{
+    match row.get(number) {
+        Some(field) => field == b"1".as_slice(),
+        None => false,
+    }
+}
+
+fn is_bit(row: &ByteRecord, number: usize) -> bool
+    ensures { result ≡ is_bit (field_at (fields_of row.now) number) }
+{
+    match row.get(number) {
+        Some(field) => field == b"1".as_slice() || field == b"0".as_slice(),
+        None => false,
+    }
+}
+
+/// Whether all fields behind the first are bits.
+fn are_bits(row: &ByteRecord) -> bool
+    ensures { result ≡ are_bits (drop 1 (fields_of row.now)) }
+{
+    for number in 1..row.len() {
+        if !is_bit(row, number) {
+            return false;
+        }
+    }
+    true
+}
+
+/// The moment of a record, where that is a moment and a bit for each column.
+pub(crate) fn read_row(columns: &[usize], row: &ByteRecord) -> Option<u64>
+    ensures some { IfSome result (λ moment. IsRow columns.now (fields_of row.now) moment (bits_of (fields_of row.now))) }
+    ensures none { result ≡ None → IsNoRow columns.now (fields_of row.now) }
+{
+    if row.len() != columns.len() + 1 {
+        return None;
+    }
+    let Some(field) = row.get(0) else {
+        return None;
+    };
+    if !are_bits(row) {
+        return None;
+    }
+    read_number(field)
+}
+
+/// Gives the image the values that the inputs have.
+pub(crate) fn fill_inputs(vars: &[Var], state: &State, image: &mut [bool])
+    requires values { length state.now.held.values ≡ length vars.now }
+    requires room { length image.old ≡ count_by is_input vars.now }
+    ensures { image.new ≡ chosen (map is_input vars.now) state.now.held.values }
+{
+    let mut place = 0;
+    for number in 0..vars.len() {
+        if !is_input(&vars[number]) {
+            continue;
+        }
+        image[place] = state.value(number);
+        place += 1;
+    }
+}
+
+/// Gives the inputs of the columns the bits of a record.
+pub(crate) fn give_columns(columns: &[usize], row: &ByteRecord, image: &mut [bool])
+    requires count { length (fields_of row.now) ≡ length columns.now + 1 }
+    requires below { All (λ c. c < length image.old) columns.now }
+    ensures { image.new ≡ given_by columns.now (bits_of (fields_of row.now)) image.old }
+{
+    for number in 0..columns.len() {
+        let column = columns[number];
+        image[column] = is_on(row, number + 1);
+    }
+}

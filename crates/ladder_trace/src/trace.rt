@@ -1,0 +1,141 @@
+//! The writing of a trace.
+ghost use Rattle.std.specs.Prelude.{◌≡◌, [], OnOk, decimal, map, length};
+ghost use Rattle.ladder_records.specs.Text.{after_commas, bit_text};
+ghost use Rattle.ladder_scan.specs.Standing.{Fits};
+ghost use Rattle.ladder_text.specs.Block.{Sends};
+ghost use Rattle.ladder_text.specs.Log.{Puts};
+ghost use Rattle.ladder_trace.specs.Trace.{chosen, is_output, outputs_among, trace_header, trace_row};
+
+use itoa::Buffer;
+use ladder_grid::Program;
+use ladder_records::{add_field, bit_field};
+use ladder_scan::State;
+use ladder_text::{Block, Sink, WriteFault};
+use ladder_vars::{Var, VarKind};
+
+fn is_output(var: &Var) -> bool
+    ensures { result ≡ is_output var.now }
+{
+    match var.kind {
+        VarKind::Output => true,
+        VarKind::Input | VarKind::Memory => false,
+    }
+}
+
+/// Adds the names of the outputs, each behind a comma.
+fn add_names<W: Sink>(block: &mut Block, vars: &[Var], writer: &mut W) -> Result<(), WriteFault>
+    ensures { Sends (W.log writer.old) (W.log writer.new) block.old block.new result (after_commas (map (λ v. v.name) (outputs_among vars.now))) }
+{
+    for number in 0..vars.len() {
+        let var = &vars[number];
+        if !is_output(var) {
+            continue;
+        }
+        let Ok(()) = add_field(block, var.name.bytes(), writer) else {
+            return Err(WriteFault);
+        };
+    }
+    Ok(())
+}
+
+fn add_header<W: Sink>(
+    block: &mut Block,
+    program: &Program,
+    writer: &mut W,
+) -> Result<(), WriteFault>
+    ensures { Sends (W.log writer.old) (W.log writer.new) block.old block.new result (trace_header program.now) }
+{
+    let Ok(()) = block.add(b"moment", writer) else {
+        return Err(WriteFault);
+    };
+    let Ok(()) = add_names(block, program.decls().vars(), writer) else {
+        return Err(WriteFault);
+    };
+    block.add(b"\n", writer)
+}
+
+/// Writes the header of the trace, as one piece.
+pub(crate) fn write_header<W: Sink>(
+    program: &Program,
+    block: &mut Block,
+    writer: &mut W,
+) -> Result<(), WriteFault>
+    requires { block.old ≡ [] }
+    ensures wrote { Puts (W.log writer.old) (W.log writer.new) result (trace_header program.now) }
+    ensures empty { OnOk result (block.new ≡ []) }
+{
+    let Ok(()) = add_header(block, program, writer) else {
+        return Err(WriteFault);
+    };
+    let Ok(()) = block.flush(writer) else {
+        return Err(WriteFault);
+    };
+    Ok(())
+}
+
+/// Adds the values of the outputs, each behind a comma.
+fn add_bits<W: Sink>(
+    block: &mut Block,
+    vars: &[Var],
+    state: &State,
+    writer: &mut W,
+) -> Result<(), WriteFault>
+    requires { length state.now.held.values ≡ length vars.now }
+    ensures { Sends (W.log writer.old) (W.log writer.new) block.old block.new result (after_commas (map bit_text (chosen (map is_output vars.now) state.now.held.values))) }
+{
+    for number in 0..vars.len() {
+        if !is_output(&vars[number]) {
+            continue;
+        }
+        let Ok(()) = add_field(block, bit_field(state.value(number)), writer) else {
+            return Err(WriteFault);
+        };
+    }
+    Ok(())
+}
+
+fn add_moment<W: Sink>(block: &mut Block, moment: u64, writer: &mut W) -> Result<(), WriteFault>
+    ensures { Sends (W.log writer.old) (W.log writer.new) block.old block.new result (decimal moment) }
+{
+    let mut buffer = Buffer::new();
+    block.add(buffer.format(moment).as_bytes(), writer)
+}
+
+fn add_row<W: Sink>(
+    block: &mut Block,
+    program: &Program,
+    state: &State,
+    writer: &mut W,
+) -> Result<(), WriteFault>
+    requires { Fits program.now state.now }
+    ensures { Sends (W.log writer.old) (W.log writer.new) block.old block.new result (trace_row program.now state.now) }
+{
+    let Ok(()) = add_moment(block, state.moment(), writer) else {
+        return Err(WriteFault);
+    };
+    let Ok(()) = add_bits(block, program.decls().vars(), state, writer) else {
+        return Err(WriteFault);
+    };
+    block.add(b"\n", writer)
+}
+
+/// Writes the row of a state that a scan has left, as one piece.
+pub(crate) fn write_row<W: Sink>(
+    program: &Program,
+    state: &State,
+    block: &mut Block,
+    writer: &mut W,
+) -> Result<(), WriteFault>
+    requires fits { Fits program.now state.now }
+    requires empty { block.old ≡ [] }
+    ensures wrote { Puts (W.log writer.old) (W.log writer.new) result (trace_row program.now state.now) }
+    ensures empty { OnOk result (block.new ≡ []) }
+{
+    let Ok(()) = add_row(block, program, state, writer) else {
+        return Err(WriteFault);
+    };
+    let Ok(()) = block.flush(writer) else {
+        return Err(WriteFault);
+    };
+    Ok(())
+}
