@@ -28,9 +28,9 @@ all_are : (xs : List Bool) (on : Bool) → common xs ≡ Some on → (i : ℕ) �
 all_are xs on e i less = elim (list_all (λ b. b) xs) as (λ t. list_all (λ b. b) xs ≡ t → cond t (Some true) (cond (list_all not xs) (Some false) None) ≡ Some on → get_or xs i false ≡ on) [
   | true ↦ λ h s. AllPass-from_list_all (λ b. b) xs h i false less ∙ some_same s
   | false ↦ λ h s. elim (list_all not xs) as (λ t. list_all not xs ≡ t → cond t (Some false) None ≡ Some on → get_or xs i false ≡ on) [
-      | true ↦ λ k r. is_off (get_or xs i false) (AllPass-from_list_all not xs k i false less) ∙ some_same r
-      | false ↦ λ k r. cc
-    ] refl s
+    | true ↦ λ k r. is_off (get_or xs i false) (AllPass-from_list_all not xs k i false less) ∙ some_same r
+    | false ↦ λ k r. cc
+  ] refl s
 ] refl e
   where
     some_same : {a b : Bool} → ◌≡◌ {A = Option Bool} (Some a) (Some b) → a ≡ b
@@ -39,13 +39,15 @@ all_are xs on e i less = elim (list_all (λ b. b) xs) as (λ t. list_all (λ b. 
 pub table_tells : (chosen : List Bool) (first height base : ℕ) (r : Option Bool) → r ≡ common (part chosen height base)
     → base + 2 ^ (1 + height) ≤ length chosen → Tells (table_search chosen first) height base r
 table_tells chosen first height base None e h = ap is_some (sym e)
-table_tells chosen first height base (Some on) e h =
-    (ap is_some (sym e), λ n low high.
-    let w = 2 ^ (1 + height) in
-    let size : span (table_search chosen first) height ≡ w = span-is (table_search chosen first) height in
-    let within : n < base + w = omega (arith, high, size) in
-    sym (entry chosen base w n low within)
-    ∙ all_are (take w (drop base chosen)) on (sym e) (n - base) (omega (arith, low, within, part_length chosen base w h)))
+table_tells chosen first height base (Some on) e h = (
+  ap is_some (sym e),
+  λ n low high.
+      let w = 2 ^ (1 + height) in
+      let size : span (table_search chosen first) height ≡ w = span-is (table_search chosen first) height in
+      let within : n < base + w = omega (arith, high, size) in
+      sym (entry chosen base w n low within)
+      ∙ all_are (take w (drop base chosen)) on (sym e) (n - base) (omega (arith, low, within, part_length chosen base w h)),
+)
 
 two_bits : (a b : Bool) (j : ℕ) → j < 2 → bit_at (digit a + 2 * digit b) j ≡ digit (if j == 0 then a else b)
 two_bits true true zero h = refl
