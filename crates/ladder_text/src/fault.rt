@@ -10,6 +10,9 @@ pub enum TextFault {
     /// More bytes came than the limit allows.
     #[error("the text is too long")]
     TooLong,
+    /// The record of this number, counted from 1, is the first that isn't of its form. It may be missing, or one too many.
+    #[error("record {row} is bad")]
+    BadRow { row: u64 },
     #[error("out of memory")]
     Memory,
 }

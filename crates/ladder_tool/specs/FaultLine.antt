@@ -80,6 +80,7 @@ kind_word kind.Stimulus = codes "stimulus"
 abbrev pub text_line : TextKind → TextFault → List ℕ
 text_line k text.Read = codes "fault X1 " ++ (kind_word k ++ codes "\n")
 text_line k text.TooLong = codes "fault X5 " ++ (kind_word k ++ codes "\n")
+text_line k (text.BadRow row) = codes "fault X2 " ++ (kind_word k ++ (codes " row " ++ (decimal row ++ codes "\n")))
 text_line k text.Memory = codes "fault X7\n"
 
 abbrev pub fault_line : ToolFault → List ℕ
