@@ -9,8 +9,8 @@ use Rattle.ladder_records.specs.Left.{Fields, Left}
 use Rattle.ladder_vars.specs.declared.decls.Instance.{Instance}
 use Rattle.ladder_scan.specs.declared.block.Stored.{Stored}
 use Rattle.ladder_scan.specs.Standing.{Standing, fresh}
-use Rattle.ladder_state.specs.declared.fault.StateFault.{StateFault}
-use Rattle.ladder_state.specs.declared.fault.StateFault.TheVariants as fault
+use Rattle.ladder_text.specs.declared.fault.TextFault.{TextFault}
+use Rattle.ladder_text.specs.declared.fault.TextFault.TheVariants as fault
 use Rattle.ladder_state.specs.declared.version.Version.{Version}
 use Rattle.ladder_state.specs.declared.version.Version.TheVariants.{First, Second}
 use Rattle.ladder_state.specs.Parts.{ReadsItems, TakesItem}
@@ -39,7 +39,7 @@ pub taken : {B : Type 0} (item : B → Fields) (can : B → Type 0) (rows : List
     → (after : List Fields) × (rows ≡ item y ∷ after) × Left new after × can y
 taken item can rows new o y is h = subst (TakesItem item can rows new) is h
 
-version_same : (a b : Version) → version_record a ≡ version_record b → a ≡ b
+pub version_same : (a b : Version) → version_record a ≡ version_record b → a ≡ b
 version_same First First e = refl
 version_same First Second e = let bad : 49 ≡ 50 = ap (λ fs. get_or (get_or fs 1 []) 0 0) e in absurd (omega (arith, bad))
 version_same Second First e = let bad : 50 ≡ 49 = ap (λ fs. get_or (get_or fs 1 []) 0 0) e in absurd (omega (arith, bad))
@@ -60,7 +60,7 @@ moment_bad p s v rows rest new o ok told cut is h =
           h b.state.moment b.good.standing.small t;
     }
 
-moment_same : (m n : ℕ) → m < 2 ^ 64 → n < 2 ^ 64 → moment_record m ≡ moment_record n → m ≡ n
+pub moment_same : (m n : ℕ) → m < 2 ^ 64 → n < 2 ^ 64 → moment_record m ≡ moment_record n → m ≡ n
 moment_same m n h k e = let d : decimal m ≡ decimal n = cc in decimal_injective m n h k d
 
 -- what the tail of two lists with two records in front says
@@ -72,11 +72,13 @@ tails k v w m n a b h j e =
     let rest : take k a ≡ take k b = cc in
     (version_same v w first, moment_same m n h j second, rest)
 
-pub items_arm : (p : Drawing) (s : Standing) (v : Version) (rows rest : List Fields) (r : Result ⊤ StateFault) → IsStateOf p s
+pub items_arm : (p : Drawing) (s : Standing) (v : Version) (rows rest : List Fields) (r : Result ⊤ TextFault) → IsStateOf p s
     → AreTold v p.decls.instances s.held.kept.blocks → rows ≡ version_record v ∷ moment_record s.moment ∷ rest
     → ReadsItems {T = ⊤} v p s rest r → ReadsAll {T = ⊤} p s rows r
 items_arm p s v rows rest (Ok u) ok told cut h = record { version = v; told = told; same = cut ∙ ap (λ l. version_record v ∷ moment_record s.moment ∷ l) h }
 items_arm p s v rows rest (Err fault.Memory) ok told cut h = tt
+items_arm p s v rows rest (Err fault.Read) ok told cut h = h
+items_arm p s v rows rest (Err fault.TooLong) ok told cut h = h
 items_arm p s v rows rest (Err (fault.BadRow n)) ok told cut h = record {
   before = suc (suc h.before);
   count = omega (arith, h.count);
@@ -95,6 +97,8 @@ items_arm p s v rows rest (Err (fault.BadRow n)) ok told cut h = record {
       h.none t b.good (sym q.1) (q.2 ∙ ap (λ w. take (suc h.before) (item_records w p t)) (sym q.0));
 }
 
-pub err_arm : (p : Drawing) (s : Standing) (rows : List Fields) (f : StateFault) → ReadsAll {T = ⊤} p s rows (Err f) → Reads p rows (Err f)
+pub err_arm : (p : Drawing) (s : Standing) (rows : List Fields) (f : TextFault) → ReadsAll {T = ⊤} p s rows (Err f) → Reads p rows (Err f)
 err_arm p s rows fault.Memory h = tt
+err_arm p s rows fault.Read h = h
+err_arm p s rows fault.TooLong h = h
 err_arm p s rows (fault.BadRow n) h = h

@@ -1,14 +1,12 @@
 //! The text of a state: its records, their reading and their writing.
 #![tactic(auto)]
 
-mod fault;
 mod parts;
 mod read;
 mod row;
 mod version;
 mod write;
 
-pub use fault::StateFault;
 pub use read::read_state;
 pub use version::Version;
 pub use write::write_state;

@@ -7,7 +7,6 @@ ghost use Rattle.ladder_state.specs.Parts.{TakesItem};
 ghost use Rattle.ladder_state.specs.ReadState.{Reads, ReadsAll};
 ghost use Rattle.ladder_state.specs.StateText.{moment_record, version_record};
 
-use crate::fault::StateFault;
 use crate::parts::read_parts;
 use crate::row::read_moment;
 use crate::version::{Version, read_version};
@@ -15,6 +14,7 @@ use csv::ByteRecord;
 use ladder_grid::Program;
 use ladder_records::{Records, next, read_from};
 use ladder_scan::State;
+use ladder_text::TextFault;
 use std::alloc::{AllocError, Global};
 
 /// The version in the next record, where that tells one.
@@ -56,7 +56,7 @@ fn read_records(
     records: &mut Records<'_>,
     row: &mut ByteRecord,
     state: &mut State,
-) -> Result<(), StateFault>
+) -> Result<(), TextFault>
     requires plain { IsPlain records.old }
     requires fresh { state.old ≡ fresh program.now }
     requires fits { Fits program.now state.old }
@@ -65,27 +65,31 @@ fn read_records(
     ensures reads { (rows : List Fields) → Left records.old rows → IsStanding state.new → ReadsAll program.now state.new rows result }
 {
     let Ok(version) = next_version(records, row) else {
-        return Err(StateFault::Memory);
+        return Err(TextFault::Memory);
     };
     let Some(version) = version else {
-        return Err(StateFault::BadRow { row: 1 });
+        return Err(TextFault::BadRow { row: 1 });
     };
     let Ok(moment) = next_moment(records, row) else {
-        return Err(StateFault::Memory);
+        return Err(TextFault::Memory);
     };
     let Some(moment) = moment else {
-        return Err(StateFault::BadRow { row: 2 });
+        return Err(TextFault::BadRow { row: 2 });
     };
     state.set_moment(moment);
     read_parts(version, program, records, row, state)
 }
 
 /// The state of a text. Records are read as they come: a bad one is answered before the next is read.
-pub fn read_state(alloc: Global, program: &Program, text: &[u8]) -> Result<State, StateFault>
+///
+/// # Errors
+///
+/// The number of the first record that isn't of its form, or want of memory. The text is already read: no other fault occurs.
+pub fn read_state(alloc: Global, program: &Program, text: &[u8]) -> Result<State, TextFault>
     ensures { Reads program.now (records_of text.now) result }
 {
     let Ok(mut state) = State::fresh(alloc, program) else {
-        return Err(StateFault::Memory);
+        return Err(TextFault::Memory);
     };
     state.checked();
     let mut records = read_from(alloc, text);
