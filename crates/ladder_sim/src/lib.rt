@@ -4,7 +4,9 @@
 mod cause_text;
 
 pub use cause_text::{Summary, write_causes};
+pub use ladder_state::{read_state, write_state};
 pub use ladder_text::{
     Piece, ReadFailed, Reading, Sink, Source, Tally, TextFault, WriteFailed, WriteFault, Writing,
     put, put_pieces, read_text,
 };
+pub use ladder_trace::{SimFault, simulate};

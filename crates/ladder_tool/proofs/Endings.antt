@@ -3,95 +3,83 @@ use Rattle.std.proofs.Common.{◌≡◌, ◌∙◌, ap, refl, sym, ℕ, List, �
 use Rattle.std.specs.Prelude.{unwrap_or}
 use Rattle.ladder_vars.specs.Decls.{Declared}
 use Rattle.ladder_grid.specs.Program.{Drawing}
-use Rattle.ladder_grid.specs.Reading.{IsProgram}
-use Rattle.ladder_scan.specs.Standing.{Standing, fresh}
+use Rattle.ladder_scan.specs.Standing.{Standing}
 use Rattle.ladder_search.specs.Looks.{Search}
 use Rattle.ladder_causes.specs.declared.fault.CauseFault.{CauseFault}
 use Rattle.ladder_causes.specs.declared.fault.CauseFault.TheVariants as cause
-use Rattle.ladder_causes.specs.Causes.{causes_after, question}
+use Rattle.ladder_causes.specs.Causes.{causes_after}
 use Rattle.ladder_causes.specs.Cursor.{Cursor, first_number, looks_given, looks_of, searched}
 use Rattle.ladder_causes.specs.Prefixes.{search_of}
-use Rattle.ladder_causes.specs.Refusal.{reason, refusal}
+use Rattle.ladder_causes.specs.Refusal.{reason}
 use Rattle.ladder_sim.specs.CauseText.{cause_text, limited}
 use Rattle.ladder_text.specs.Log.{PutsAll, PutsFront, WriteLog}
 use Rattle.ladder_tool.specs.declared.fault.ToolFault.{ToolFault}
 use Rattle.ladder_tool.specs.declared.fault.ToolFault.TheVariants as fault
-use Rattle.ladder_tool.specs.Performs.{Asking, HasCauseFault, HasListFault, HasWordFault, IsAsked, causes_for, list_text, looks_for, moment_of, question_of, rows_line, rows_text}
+use Rattle.ladder_tool.specs.Performs.{Asking, HasCauseFault, HasListFault, HasWordFault, IsAsked, Subject, causes_for, list_text, looks_for, question_of, refusal_of, rows_line, rows_text}
+use Rattle.ladder_tool.specs.Setting.{Given, HasSettingFault, IsSet}
 use Rattle.ladder_tool.specs.Variables.{AreVariables, variable_of}
 
-pub asked_by : (text : List ℕ) (a : Asking) (p : Drawing) (decls : Declared) (var : ℕ) (listed : List ℕ)
-    → IsProgram text p → decls ≡ p.decls → variable_of decls a.coil ≡ Some var → AreVariables decls a.inputs listed → IsAsked text a p var listed
-asked_by text a p decls var listed drawn same on among = record { drawn = drawn; on = rw same at on; among = rw same at among }
+abbrev pub subject : Drawing → Standing → ℕ → ℕ → List ℕ → Subject
+subject p s now var listed = record { program = p; state = s; moment = now; var = var; listed = listed }
 
-pub word_fault : (text : List ℕ) (a : Asking) (p : Drawing) (decls : Declared) (e : ToolFault)
-    → IsProgram text p → decls ≡ p.decls → HasWordFault decls (a.coil ∷ a.inputs) e → HasListFault text a e
-word_fault text a p decls (fault.Grid f) drawn same h = absurd h
-word_fault text a p decls (fault.Cause f) drawn same h = absurd h
-word_fault text a p decls (fault.Text k f) drawn same h = absurd h
-word_fault text a p decls (fault.Word number) drawn same h = (p, drawn, rw same at h)
-word_fault text a p decls fault.Write drawn same h = absurd h
-word_fault text a p decls fault.Memory drawn same h = tt
-word_fault text a p decls fault.Usage drawn same h = absurd h
+pub asked_by : (g : Given) (a : Asking) (p : Drawing) (s : Standing) (decls : Declared) (now var : ℕ) (listed given : List ℕ)
+    → IsSet g p s → decls ≡ p.decls → given ≡ listed → now ≡ unwrap_or a.moment s.moment → variable_of decls a.coil ≡ Some var → AreVariables decls a.inputs listed
+    → IsAsked g a (subject p s now var given)
+asked_by g a p s decls now var listed given set same as_given at on among =
+    record { set = set; at = at; on = rw same at on; among = rw as_given (rw same at among) }
 
-refused_for : (a : Asking) (p : Drawing) (var : ℕ) (listed : List ℕ) (f : CauseFault) → refusal p 0 (moment_of a) var listed a.after ≡ reason f
-    → HasCauseFault a p var listed f
-refused_for a p var listed cause.MomentBack h = inr h
-refused_for a p var listed cause.NotACoil h = inr h
-refused_for a p var listed cause.TooManyFree h = inr h
-refused_for a p var listed cause.NotAnInput h = inr h
-refused_for a p var listed cause.RepeatedInput h = inr h
-refused_for a p var listed cause.AfterOutOfRange h = inr h
-refused_for a p var listed cause.Memory h = inl refl
+pub setting_fault : (g : Given) (a : Asking) (e : ToolFault) → HasSettingFault g e → HasListFault g a e
+setting_fault g a (fault.Grid f) h = h
+setting_fault g a (fault.Cause f) h = absurd h
+setting_fault g a (fault.Text k f) h = h
+setting_fault g a (fault.Word number) h = absurd h
+setting_fault g a (fault.Sim f) h = absurd h
+setting_fault g a fault.Write h = absurd h
+setting_fault g a fault.Memory h = tt
+setting_fault g a fault.Usage h = absurd h
 
--- A request in the fresh state: what the cursor was made for is what is asked.
-module _ (a : Asking) (p : Drawing) (s : Standing) (var : ℕ) (listed given : List ℕ) (now : ℕ) (is : s ≡ fresh p) (same : given ≡ listed)
-    (at : now ≡ unwrap_or a.moment s.moment) where
-  moment_is : now ≡ moment_of a
-  moment_is = at ∙ ap (λ (t : Standing). unwrap_or a.moment t.moment) is
+pub word_fault : (g : Given) (a : Asking) (p : Drawing) (s : Standing) (decls : Declared) (e : ToolFault)
+    → IsSet g p s → decls ≡ p.decls → HasWordFault decls (a.coil ∷ a.inputs) e → HasListFault g a e
+word_fault g a p s decls (fault.Grid f) set same h = absurd h
+word_fault g a p s decls (fault.Cause f) set same h = absurd h
+word_fault g a p s decls (fault.Text k f) set same h = absurd h
+word_fault g a p s decls (fault.Word number) set same h = (p, s, set, rw same at h)
+word_fault g a p s decls (fault.Sim f) set same h = absurd h
+word_fault g a p s decls fault.Write set same h = absurd h
+word_fault g a p s decls fault.Memory set same h = tt
+word_fault g a p s decls fault.Usage set same h = absurd h
 
-  refusal_is : refusal p s.moment now var given a.after ≡ refusal p 0 (moment_of a) var listed a.after
-  refusal_is =
-      ap (λ (t : Standing). refusal p t.moment now var given a.after) is ∙ ap (λ m. refusal p 0 m var given a.after) moment_is
-      ∙ ap (λ g. refusal p 0 (moment_of a) var g a.after) same
+pub cause_fault : (a : Asking) (q : Subject) (f : CauseFault) → refusal_of a q ≡ reason f → HasCauseFault a q f
+cause_fault a q cause.MomentBack h = inr h
+cause_fault a q cause.NotACoil h = inr h
+cause_fault a q cause.TooManyFree h = inr h
+cause_fault a q cause.NotAnInput h = inr h
+cause_fault a q cause.RepeatedInput h = inr h
+cause_fault a q cause.AfterOutOfRange h = inr h
+cause_fault a q cause.Memory h = inl refl
 
-  question_is : question p s now var given ≡ question_of a p var listed
-  question_is =
-      ap (λ (t : Standing). question p t now var given) is ∙ ap (λ m. question p (fresh p) m var given) moment_is
-      ∙ ap (λ g. question p (fresh p) (moment_of a) var g) same
-
-  pub cause_fault : (f : CauseFault) → refusal p s.moment now var given a.after ≡ reason f → HasCauseFault a p var listed f
-  cause_fault f h = refused_for a p var listed f (sym refusal_is ∙ h)
-
-  pub none_refuses : refusal p s.moment now var given a.after ≡ None → refusal p 0 (moment_of a) var listed a.after ≡ None
-  none_refuses h = sym refusal_is ∙ h
-
-  -- what the cursor has to give
-  rows_are : (xs : List ℕ) → xs ≡ causes_after a.after (question p s now var given) → limited a.limit xs ≡ causes_for a p var listed
-  rows_are xs made = ap (limited a.limit) (made ∙ ap (causes_after a.after) question_is)
-
-  pub text_is : (c : Cursor) → c.program ≡ p → c.listed ≡ given → c.rest ≡ causes_after a.after (question p s now var given)
-      → cause_text c.program c.listed (limited a.limit c.rest) ≡ list_text a p var listed
-  text_is c of_program of_listed made =
+-- What the cursor that was made for a subject has to give is what is asked.
+module _ (a : Asking) (q : Subject) (c : Cursor) (of_program : c.program ≡ q.program) (of_listed : c.listed ≡ q.listed)
+    (made : c.rest ≡ causes_after a.after (question_of q)) where
+  pub text_is : cause_text c.program c.listed (limited a.limit c.rest) ≡ list_text a q
+  text_is =
       ap (λ (d : Drawing). cause_text d c.listed (limited a.limit c.rest)) of_program
-      ∙ ap (λ g. cause_text p g (limited a.limit c.rest)) (of_listed ∙ same)
-      ∙ ap (cause_text p listed) (rows_are c.rest made)
+      ∙ ap (λ g. cause_text q.program g (limited a.limit c.rest)) of_listed
+      ∙ ap (λ xs. cause_text q.program q.listed (limited a.limit xs)) made
 
   -- the looks for them
-  looks_are : (c : Cursor) → c.rest ≡ causes_after a.after (question p s now var given)
-      → searched c ≡ search_of (question p s now var given) (first_number a.after) → looks_of c ≡ 0
-      → looks_given (searched c) (looks_of c) a.limit c.rest ≡ looks_for a p var listed
-  looks_are c made search none =
+  looks_are : searched c ≡ search_of (question_of q) (first_number a.after) → looks_of c ≡ 0
+      → looks_given (searched c) (looks_of c) a.limit c.rest ≡ looks_for a q
+  looks_are search none =
       ap (λ (t : Search). looks_given t (looks_of c) a.limit c.rest) search
-      ∙ ap (λ n. looks_given (search_of (question p s now var given) (first_number a.after)) n a.limit c.rest) none
-      ∙ ap (looks_given (search_of (question p s now var given) (first_number a.after)) 0 a.limit) made
-      ∙ ap (λ q. looks_given (search_of q (first_number a.after)) 0 a.limit (causes_after a.after q)) question_is
+      ∙ ap (λ n. looks_given (search_of (question_of q) (first_number a.after)) n a.limit c.rest) none
+      ∙ ap (looks_given (search_of (question_of q) (first_number a.after)) 0 a.limit) made
 
   -- the line of rows and looks
-  pub line_is : (c : Cursor) (rows looks : ℕ) → c.rest ≡ causes_after a.after (question p s now var given)
-      → searched c ≡ search_of (question p s now var given) (first_number a.after) → looks_of c ≡ 0
-      → rows ≡ length (limited a.limit c.rest) → looks ≡ looks_given (searched c) (looks_of c) a.limit c.rest → rows_line rows looks ≡ rows_text a p var listed
-  line_is c rows looks made search none h l =
-      ap (λ n. rows_line n looks) (h ∙ ap length (rows_are c.rest made)) ∙ ap (rows_line (length (causes_for a p var listed))) (l ∙ looks_are c made search none)
+  pub line_is : (rows looks : ℕ) → searched c ≡ search_of (question_of q) (first_number a.after) → looks_of c ≡ 0
+      → rows ≡ length (limited a.limit c.rest) → looks ≡ looks_given (searched c) (looks_of c) a.limit c.rest → rows_line rows looks ≡ rows_text a q
+  line_is rows looks search none h l =
+      ap (λ n. rows_line n looks) (h ∙ ap (λ xs. length (limited a.limit xs)) made) ∙ ap (rows_line (length (causes_for a q))) (l ∙ looks_are search none)
 
 pub all_same : (a b : WriteLog) (xs ys : List ℕ) → xs ≡ ys → PutsAll a b xs → PutsAll a b ys
 all_same a b xs ys e h = rw e at h

@@ -1,14 +1,18 @@
 -- What a request asks, by the subcommand that the words name and the values of its arguments.
-use Rattle.std.specs.Prelude.{◌≡◌, ◌<◌, ◌^◌, ℕ, List, Option, None, Some, map, codes, string_bytes, unwrap_or, []}
+use Rattle.std.specs.Prelude.{◌≡◌, ◌<◌, ◌^◌, ℕ, List, Option, None, Some, map, codes, string_bytes, unwrap_or, option_map, []}
 use Rattle.std.specs.Str.Parse.{IsNumeral, digits_value, without_leading_plus}
 use Rattle.clap.specs.Words.{App, Row, Text, all_of, first_of, one_of, subcommand_of}
 use Rattle.ladder_tool.specs.declared.request.Request.{Request}
-use Rattle.ladder_tool.specs.declared.request.Request.TheVariants.{Causes, Check}
+use Rattle.ladder_tool.specs.declared.request.Request.TheVariants.{Causes, Check, Sim}
 
 abbrev pub HasText : Text → List Row → List ℕ → Type 0
 HasText id rows text = first_of id rows ≡ Some text
 
--- the value of an option where it was given: a decimal number of 64 bits
+-- the path of an option where it was given
+abbrev pub HasPath : Text → List Row → Option (List ℕ) → Type 0
+HasPath id rows path = first_of id rows ≡ path
+
+-- the number of an option where it was given: a decimal number of 64 bits
 abbrev pub HasNumber : Text → List Row → Option ℕ → Type 0
 HasNumber id rows None = one_of id rows ≡ None
 HasNumber id rows (Some n) = (text : Text) × (one_of id rows ≡ Some text) × IsNumeral 10 (without_leading_plus text)
@@ -17,13 +21,19 @@ HasNumber id rows (Some n) = (text : Text) × (one_of id rows ≡ Some text) × 
 -- the request is what the subcommand's name and values say
 abbrev pub Asks : Text → List Row → Request → Type 0
 Asks name rows (Check file) = (name ≡ codes "check") × HasText (codes "file") rows (string_bytes file)
-Asks name rows (Causes moment after limit file coil inputs) = (name ≡ codes "causes")
+Asks name rows (Causes state moment after limit file coil inputs) = (name ≡ codes "causes")
+    × HasPath (codes "state") rows (option_map string_bytes state)
     × HasNumber (codes "at") rows moment
     × HasNumber (codes "after") rows after
     × HasNumber (codes "limit") rows limit
     × HasText (codes "file") rows (string_bytes file)
     × HasText (codes "coil") rows (string_bytes coil)
     × (unwrap_or (all_of (codes "inputs") rows) [] ≡ map string_bytes inputs.items)
+Asks name rows (Sim state save file stimulus) = (name ≡ codes "sim")
+    × HasPath (codes "state") rows (option_map string_bytes state)
+    × HasPath (codes "save") rows (option_map string_bytes save)
+    × HasText (codes "file") rows (string_bytes file)
+    × HasText (codes "stimulus") rows (string_bytes stimulus)
 
 -- the command takes the words, and they ask this
 abbrev pub AsksBy : App → List Text → Request → Type 0

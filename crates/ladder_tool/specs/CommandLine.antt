@@ -1,5 +1,6 @@
--- The command line, as clap's definitions of a simple command read it: `ladder check FILE` and
--- `ladder causes [--at N] [--after N] [--limit N] FILE COIL [INPUT]...`.
+-- The command line, as clap's definitions of a simple command read it: `ladder check FILE`,
+-- `ladder causes [--state S] [--at N] [--after N] [--limit N] FILE COIL [INPUT]...` and
+-- `ladder sim [--state S] [--save T] FILE STIMULUS`.
 use Rattle.std.specs.Prelude.{◌≡◌, Some, codes, true, false}
 use Rattle.clap.specs.Words.{App, Rule, Text, app_of, new_app, new_rule, with_rule, with_subcommand}
 use Rattle.clap.specs.declared.builder.ArgAction.TheVariants.{Append}
@@ -10,6 +11,10 @@ use Rattle.clap.specs.declared.builder.value_parser.ValueParser.TheVariants.{Uns
 -- a word that must be there
 abbrev pub place_rule : Text → Rule
 place_rule id = record (new_rule id) { required = true }
+
+-- an option with the path of a file
+abbrev pub path_rule : Text → Rule
+path_rule id = record (new_rule id) { long = Some id }
 
 -- an option with a number of 64 bits
 abbrev pub number_rule : Text → Rule
@@ -23,7 +28,8 @@ abbrev pub check_app : App
 check_app = with_rule (new_app (codes "check")) (place_rule (codes "file"))
 
 abbrev pub causes_options : App
-causes_options = with_rule (with_rule (with_rule (new_app (codes "causes"))
+causes_options = with_rule (with_rule (with_rule (with_rule (new_app (codes "causes"))
+    (path_rule (codes "state")))
     (number_rule (codes "at")))
     (number_rule (codes "after")))
     (number_rule (codes "limit"))
@@ -34,11 +40,22 @@ causes_app = with_rule (with_rule (with_rule causes_options
     (place_rule (codes "coil")))
     (list_rule (codes "inputs"))
 
+abbrev pub sim_app : App
+sim_app = with_rule (with_rule (with_rule (with_rule (new_app (codes "sim"))
+    (path_rule (codes "state")))
+    (path_rule (codes "save")))
+    (place_rule (codes "file")))
+    (place_rule (codes "stimulus"))
+
 abbrev pub needs_subcommand : App → App
 needs_subcommand a = record a { top = record a.top { subcommand_required = true } }
 
 abbrev pub ladder_app : App
-ladder_app = with_subcommand (with_subcommand (needs_subcommand (new_app (codes "ladder"))) check_app.top) causes_app.top
+ladder_app =
+    with_subcommand (with_subcommand (with_subcommand (needs_subcommand (new_app (codes "ladder")))
+    check_app.top)
+    causes_app.top)
+    sim_app.top
 
 -- a command with no argument that is common to all subcommands, which clap reads as this
 abbrev pub IsApp : App → Command → Type 0

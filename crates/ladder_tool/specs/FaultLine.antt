@@ -11,6 +11,8 @@ use Rattle.ladder_causes.specs.declared.fault.CauseFault.{CauseFault}
 use Rattle.ladder_causes.specs.declared.fault.CauseFault.TheVariants as cause
 use Rattle.ladder_text.specs.declared.fault.TextFault.{TextFault}
 use Rattle.ladder_text.specs.declared.fault.TextFault.TheVariants as text
+use Rattle.ladder_trace.specs.declared.fault.SimFault.{SimFault}
+use Rattle.ladder_trace.specs.declared.fault.SimFault.TheVariants as sim
 use Rattle.ladder_tool.specs.declared.fault.TextKind.{TextKind}
 use Rattle.ladder_tool.specs.declared.fault.TextKind.TheVariants as kind
 use Rattle.ladder_tool.specs.declared.fault.ToolFault.{ToolFault}
@@ -77,17 +79,34 @@ kind_word kind.Program = codes "program"
 kind_word kind.State = codes "state"
 kind_word kind.Stimulus = codes "stimulus"
 
+-- a record of a state or a stimulus that isn't of its form
+abbrev pub bad_row_line : TextKind → ℕ → List ℕ
+bad_row_line k row = codes "fault X2 " ++ (kind_word k ++ (codes " row " ++ (decimal row ++ codes "\n")))
+
 abbrev pub text_line : TextKind → TextFault → List ℕ
 text_line k text.Read = codes "fault X1 " ++ (kind_word k ++ codes "\n")
 text_line k text.TooLong = codes "fault X5 " ++ (kind_word k ++ codes "\n")
-text_line k (text.BadRow row) = codes "fault X2 " ++ (kind_word k ++ (codes " row " ++ (decimal row ++ codes "\n")))
+text_line k (text.BadRow row) = bad_row_line k row
 text_line k text.Memory = codes "fault X7\n"
+
+abbrev pub row_line : List ℕ → ℕ → List ℕ
+row_line rule row = rule ++ (decimal row ++ codes "\n")
+
+-- what ends a simulation early, X2 to X7, by the number of the record in the stimulus
+abbrev pub sim_line : SimFault → List ℕ
+sim_line (sim.BadRow row) = bad_row_line kind.Stimulus row
+sim_line (sim.UnknownName row) = row_line (codes "fault X3 row ") row
+sim_line (sim.MomentBack row) = row_line (codes "fault X4 row ") row
+sim_line (sim.TooLong row) = row_line (codes "fault X5 row ") row
+sim_line sim.Write = codes "fault X6\n"
+sim_line sim.Memory = codes "fault X7\n"
 
 abbrev pub fault_line : ToolFault → List ℕ
 fault_line (fault.Grid f) = grid_line f
 fault_line (fault.Cause f) = codes "fault C" ++ (decimal (cause_number f) ++ codes "\n")
 fault_line (fault.Text k f) = text_line k f
 fault_line (fault.Word number) = codes "fault X3 word " ++ (decimal number ++ codes "\n")
+fault_line (fault.Sim f) = sim_line f
 fault_line fault.Write = codes "fault X6\n"
 fault_line fault.Memory = codes "fault X7\n"
 fault_line fault.Usage = codes "fault usage\n"

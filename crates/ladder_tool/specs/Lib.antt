@@ -3,4 +3,5 @@ pub mod Asked
 pub mod Asking
 pub mod FaultLine
 pub mod Variables
+pub mod Setting
 pub mod Performs

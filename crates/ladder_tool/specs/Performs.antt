@@ -1,11 +1,10 @@
 -- How a request ends: all is written, or a fault stops it.
-use Rattle.std.specs.Prelude.{◌≡◌, ◌⊎◌, ◌++◌, ◌∷◌, ℕ, List, Option, None, Some, codes, decimal, length, map, string_bytes, unwrap_or}
+use Rattle.std.specs.Prelude.{◌≡◌, ◌⊎◌, ◌++◌, ◌∷◌, ℕ, List, Bool, true, false, Option, None, Some, Ok, Err, codes, decimal, is_some, length, map, string_bytes, unwrap_or}
 use Rattle.clap.specs.Words.{Text}
 use Rattle.ladder_vars.specs.Decls.{Declared}
-use Rattle.ladder_grid.specs.declared.fault.GridFault.{GridFault}
 use Rattle.ladder_grid.specs.Program.{Drawing}
-use Rattle.ladder_grid.specs.Reading.{IsMemory, IsProgram, IsRight}
-use Rattle.ladder_scan.specs.Standing.{fresh}
+use Rattle.ladder_grid.specs.Reading.{IsProgram}
+use Rattle.ladder_scan.specs.Standing.{Standing}
 use Rattle.ladder_causes.specs.declared.fault.CauseFault.{CauseFault}
 use Rattle.ladder_causes.specs.declared.fault.CauseFault.TheVariants as cause
 use Rattle.ladder_causes.specs.Causes.{Question, causes_after, question}
@@ -13,105 +12,27 @@ use Rattle.ladder_causes.specs.Cursor.{first_number, looks_given}
 use Rattle.ladder_causes.specs.Prefixes.{search_of}
 use Rattle.ladder_causes.specs.Refusal.{refusal}
 use Rattle.ladder_sim.specs.CauseText.{cause_text, limited}
+use Rattle.ladder_state.specs.StateText.{state_text}
 use Rattle.ladder_text.specs.Log.{PutsAll, PutsFront, WriteLog}
+use Rattle.ladder_trace.specs.declared.fault.SimFault.{SimFault}
+use Rattle.ladder_trace.specs.Simulation.{Simulates}
 use Rattle.ladder_tool.specs.declared.fault.ToolFault.{ToolFault}
 use Rattle.ladder_tool.specs.declared.fault.ToolFault.TheVariants as fault
 use Rattle.ladder_tool.specs.declared.request.Request.{Request}
-use Rattle.ladder_tool.specs.declared.request.Request.TheVariants.{Causes, Check}
+use Rattle.ladder_tool.specs.declared.request.Request.TheVariants.{Causes, Check, Sim}
 use Rattle.ladder_tool.specs.FaultLine.{fault_line}
+use Rattle.ladder_tool.specs.Setting.{Given, HasProgramFault, HasSettingFault, IsSet, stimulus_records}
 use Rattle.ladder_tool.specs.Variables.{AreVariables, IsUnknownWord, variable_of}
 
--- ---- what is asked
+-- ---- the three writers
 
--- The words and numbers of a request for causes: the moment of the scan, the number to begin after, the limit of rows, the coil and
--- the inputs.
-pub record Asking : Type 0 where
-  pub moment : Option ℕ
-  pub after : Option ℕ
-  pub limit : Option ℕ
-  pub coil : Text
-  pub inputs : List Text
+pub record Logs : Type 0 where
+  pub out : WriteLog
+  pub save : WriteLog
+  pub err : WriteLog
 
--- The words name these variables of the program text.
-pub record IsAsked (text : List ℕ) (a : Asking) (p : Drawing) (var : ℕ) (listed : List ℕ) : Type 0 where
-  pub drawn : IsProgram text p
-  pub on : variable_of p.decls a.coil ≡ Some var
-  pub among : AreVariables p.decls a.inputs listed
-
--- Without a moment the scan is at the stored one, which is 0 in the fresh state.
-abbrev pub moment_of : Asking → ℕ
-moment_of a = unwrap_or a.moment 0
-
-abbrev pub question_of : Asking → Drawing → ℕ → List ℕ → Question
-question_of a p var listed = question p (fresh p) (moment_of a) var listed
-
--- ---- what a request writes
-
--- `rungs R variables V instances I`
-abbrev pub check_line : Drawing → List ℕ
-check_line p =
-    codes "rungs " ++ (decimal p.rungs ++ (codes " variables " ++ (decimal (length p.decls.vars) ++ (codes " instances "
-    ++ (decimal (length p.decls.instances) ++ codes "\n")))))
-
--- the causes that are listed
-abbrev pub causes_for : Asking → Drawing → ℕ → List ℕ → List ℕ
-causes_for a p var listed = limited a.limit (causes_after a.after (question_of a p var listed))
-
--- how many looks the search for them makes
-abbrev pub looks_for : Asking → Drawing → ℕ → List ℕ → ℕ
-looks_for a p var listed =
-    looks_given (search_of (question_of a p var listed) (first_number a.after)) 0 a.limit (causes_after a.after (question_of a p var listed))
-
--- `rows R looks L`
-abbrev pub rows_line : ℕ → ℕ → List ℕ
-rows_line rows looks = codes "rows " ++ (decimal rows ++ (codes " looks " ++ (decimal looks ++ codes "\n")))
-
-abbrev pub list_text : Asking → Drawing → ℕ → List ℕ → List ℕ
-list_text a p var listed = cause_text p listed (causes_for a p var listed)
-
-abbrev pub rows_text : Asking → Drawing → ℕ → List ℕ → List ℕ
-rows_text a p var listed = rows_line (length (causes_for a p var listed)) (looks_for a p var listed)
-
--- ---- faults, looked for in this order: in the program text, in the words, in what is asked
-
--- The text is no program, and breaks the rule that is named; being out of memory has no reason in the text.
-abbrev pub HasTextFault : List ℕ → GridFault → Type 0
-HasTextFault text f = (¬ (IsMemory f) → (p : Drawing) → IsProgram text p → ⊥) × IsRight text f
-
-abbrev pub HasCauseFault : Asking → Drawing → ℕ → List ℕ → CauseFault → Type 0
-HasCauseFault a p var listed f = (f ≡ cause.Memory) ⊎ (refusal p 0 (moment_of a) var listed a.after ≡ Some f)
-
--- The first word that names no variable, or being out of memory.
-abbrev pub HasWordFault : Declared → List Text → ToolFault → Type 0
-HasWordFault decls words (fault.Grid f) = ⊥
-HasWordFault decls words (fault.Cause f) = ⊥
-HasWordFault decls words (fault.Text k f) = ⊥
-HasWordFault decls words (fault.Word number) = IsUnknownWord decls words number
-HasWordFault decls words fault.Write = ⊥
-HasWordFault decls words fault.Memory = Unit {0}
-HasWordFault decls words fault.Usage = ⊥
-
--- a fault of a request for causes
-abbrev pub HasListFault : List ℕ → Asking → ToolFault → Type 0
-HasListFault text a (fault.Grid f) = HasTextFault text f
-HasListFault text a (fault.Cause f) = (p : Drawing) × (var : ℕ) × (listed : List ℕ) × IsAsked text a p var listed × HasCauseFault a p var listed f
-HasListFault text a (fault.Text k f) = ⊥
-HasListFault text a (fault.Word number) = (p : Drawing) × IsProgram text p × IsUnknownWord p.decls (a.coil ∷ a.inputs) number
-HasListFault text a fault.Write = ⊥
-HasListFault text a fault.Memory = Unit {0}
-HasListFault text a fault.Usage = ⊥
-
--- a fault of a request for a check
-abbrev pub HasCheckFault : List ℕ → ToolFault → Type 0
-HasCheckFault text (fault.Grid f) = HasTextFault text f
-HasCheckFault text (fault.Cause f) = ⊥
-HasCheckFault text (fault.Text k f) = ⊥
-HasCheckFault text (fault.Word number) = ⊥
-HasCheckFault text fault.Write = ⊥
-HasCheckFault text fault.Memory = ⊥
-HasCheckFault text fault.Usage = ⊥
-
--- ---- ends
+abbrev pub logs : WriteLog → WriteLog → WriteLog → Logs
+logs out save err = record { out = out; save = save; err = err }
 
 -- The line of the fault was written, or a prefix of it before the writer failed.
 abbrev pub IsReported : WriteLog → WriteLog → ToolFault → Type 0
@@ -123,6 +44,24 @@ pub record Refuses (Has : ToolFault → Type 0) (out out' err err' : WriteLog) :
   pub has : Has reason
   pub unwritten : out' ≡ out
   pub reported : IsReported err err' reason
+
+-- ---- a check
+
+-- `rungs R variables V instances I`
+abbrev pub check_line : Drawing → List ℕ
+check_line p =
+    codes "rungs " ++ (decimal p.rungs ++ (codes " variables " ++ (decimal (length p.decls.vars) ++ (codes " instances "
+    ++ (decimal (length p.decls.instances) ++ codes "\n")))))
+
+abbrev pub HasCheckFault : List ℕ → ToolFault → Type 0
+HasCheckFault text (fault.Grid f) = HasProgramFault text f
+HasCheckFault text (fault.Cause f) = ⊥
+HasCheckFault text (fault.Text k f) = ⊥
+HasCheckFault text (fault.Word number) = ⊥
+HasCheckFault text (fault.Sim f) = ⊥
+HasCheckFault text fault.Write = ⊥
+HasCheckFault text fault.Memory = ⊥
+HasCheckFault text fault.Usage = ⊥
 
 -- Status 0: the line of the check was written.
 pub record IsChecked (text : List ℕ) (out out' err err' : WriteLog) : Type 0 where
@@ -138,39 +77,171 @@ pub record BreaksCheck (text : List ℕ) (out out' err err' : WriteLog) : Type 0
   pub line : PutsFront out out' (check_line program)
   pub reported : IsReported err err' fault.Write
 
--- Status 0: the text of the causes was written, and the line of rows and looks.
-pub record ListsCauses (text : List ℕ) (a : Asking) (out out' err err' : WriteLog) : Type 0 where
-  pub program : Drawing
-  pub var : ℕ
-  pub listed : List ℕ
-  pub asked : IsAsked text a program var listed
-  pub accepted : refusal program 0 (moment_of a) var listed a.after ≡ None
-  pub rows : PutsAll out out' (list_text a program var listed)
-  pub count : PutsAll err err' (rows_text a program var listed)
-
--- Status 1, by a writer that failed: `out`, and then X6 on `err`; or `err`.
-pub record BreaksList (text : List ℕ) (a : Asking) (out out' err err' : WriteLog) : Type 0 where
-  pub program : Drawing
-  pub var : ℕ
-  pub listed : List ℕ
-  pub asked : IsAsked text a program var listed
-  pub accepted : refusal program 0 (moment_of a) var listed a.after ≡ None
-  pub written :
-      (PutsFront out out' (list_text a program var listed) × IsReported err err' fault.Write)
-      ⊎ (PutsAll out out' (list_text a program var listed) × PutsFront err err' (rows_text a program var listed))
-
-abbrev pub IsDone : Request → List ℕ → WriteLog → WriteLog → WriteLog → WriteLog → Type 0
-IsDone (Check file) text out out' err err' = IsChecked text out out' err err'
-IsDone (Causes moment after limit file coil inputs) text out out' err err' =
-    ListsCauses text (record { moment = moment; after = after; limit = limit; coil = string_bytes coil; inputs = map string_bytes inputs.items }) out out' err err'
-
 abbrev pub FailsCheck : List ℕ → WriteLog → WriteLog → WriteLog → WriteLog → Type 0
 FailsCheck text out out' err err' = Refuses (HasCheckFault text) out out' err err' ⊎ BreaksCheck text out out' err err'
 
-abbrev pub FailsList : List ℕ → Asking → WriteLog → WriteLog → WriteLog → WriteLog → Type 0
-FailsList text a out out' err err' = Refuses (HasListFault text a) out out' err err' ⊎ BreaksList text a out out' err err'
+-- ---- a list of causes
 
-abbrev pub IsFailed : Request → List ℕ → WriteLog → WriteLog → WriteLog → WriteLog → Type 0
-IsFailed (Check file) text out out' err err' = FailsCheck text out out' err err'
-IsFailed (Causes moment after limit file coil inputs) text out out' err err' =
-    FailsList text (record { moment = moment; after = after; limit = limit; coil = string_bytes coil; inputs = map string_bytes inputs.items }) out out' err err'
+-- The words and numbers of a request for causes: the moment of the scan, the number to begin after, the limit of rows, the coil and
+-- the inputs.
+pub record Asking : Type 0 where
+  pub moment : Option ℕ
+  pub after : Option ℕ
+  pub limit : Option ℕ
+  pub coil : Text
+  pub inputs : List Text
+
+-- What they ask of which program: the state before the scan, its moment, the coil's variable and the listed inputs.
+pub record Subject : Type 0 where
+  pub program : Drawing
+  pub state : Standing
+  pub moment : ℕ
+  pub var : ℕ
+  pub listed : List ℕ
+
+-- The texts tell the program and the state, and the words name the variables. Without a moment the scan is at the stored one.
+pub record IsAsked (g : Given) (a : Asking) (q : Subject) : Type 0 where
+  pub set : IsSet g q.program q.state
+  pub at : q.moment ≡ unwrap_or a.moment q.state.moment
+  pub on : variable_of q.program.decls a.coil ≡ Some q.var
+  pub among : AreVariables q.program.decls a.inputs q.listed
+
+abbrev pub question_of : Subject → Question
+question_of q = question q.program q.state q.moment q.var q.listed
+
+-- the first rule that the question breaks
+abbrev pub refusal_of : Asking → Subject → Option CauseFault
+refusal_of a q = refusal q.program q.state.moment q.moment q.var q.listed a.after
+
+-- the causes that are listed
+abbrev pub causes_for : Asking → Subject → List ℕ
+causes_for a q = limited a.limit (causes_after a.after (question_of q))
+
+-- how many looks the search for them makes
+abbrev pub looks_for : Asking → Subject → ℕ
+looks_for a q = looks_given (search_of (question_of q) (first_number a.after)) 0 a.limit (causes_after a.after (question_of q))
+
+abbrev pub list_text : Asking → Subject → List ℕ
+list_text a q = cause_text q.program q.listed (causes_for a q)
+
+-- `rows R looks L`
+abbrev pub rows_line : ℕ → ℕ → List ℕ
+rows_line rows looks = codes "rows " ++ (decimal rows ++ (codes " looks " ++ (decimal looks ++ codes "\n")))
+
+abbrev pub rows_text : Asking → Subject → List ℕ
+rows_text a q = rows_line (length (causes_for a q)) (looks_for a q)
+
+-- The question breaks this rule first; being out of memory has no reason in it.
+abbrev pub HasCauseFault : Asking → Subject → CauseFault → Type 0
+HasCauseFault a q f = (f ≡ cause.Memory) ⊎ (refusal_of a q ≡ Some f)
+
+-- The first word that names no variable, or being out of memory.
+abbrev pub HasWordFault : Declared → List Text → ToolFault → Type 0
+HasWordFault decls words (fault.Grid f) = ⊥
+HasWordFault decls words (fault.Cause f) = ⊥
+HasWordFault decls words (fault.Text k f) = ⊥
+HasWordFault decls words (fault.Word number) = IsUnknownWord decls words number
+HasWordFault decls words (fault.Sim f) = ⊥
+HasWordFault decls words fault.Write = ⊥
+HasWordFault decls words fault.Memory = Unit {0}
+HasWordFault decls words fault.Usage = ⊥
+
+-- Faults are looked for in this order: in the program text, in the state text, in the words, in what is asked.
+abbrev pub HasListFault : Given → Asking → ToolFault → Type 0
+HasListFault g a (fault.Grid f) = HasSettingFault g (fault.Grid f)
+HasListFault g a (fault.Cause f) = (q : Subject) × IsAsked g a q × HasCauseFault a q f
+HasListFault g a (fault.Text k f) = HasSettingFault g (fault.Text k f)
+HasListFault g a (fault.Word number) =
+    (p : Drawing) × (s : Standing) × IsSet g p s × IsUnknownWord p.decls (a.coil ∷ a.inputs) number
+HasListFault g a (fault.Sim f) = ⊥
+HasListFault g a fault.Write = ⊥
+HasListFault g a fault.Memory = Unit {0}
+HasListFault g a fault.Usage = ⊥
+
+-- Status 0: the text of the causes was written, and the line of rows and looks.
+pub record ListsCauses (g : Given) (a : Asking) (out out' err err' : WriteLog) : Type 0 where
+  pub subject : Subject
+  pub asked : IsAsked g a subject
+  pub accepted : refusal_of a subject ≡ None
+  pub rows : PutsAll out out' (list_text a subject)
+  pub count : PutsAll err err' (rows_text a subject)
+
+-- Status 1, by a writer that failed: `out`, and then X6 on `err`; or `err`.
+pub record BreaksList (g : Given) (a : Asking) (out out' err err' : WriteLog) : Type 0 where
+  pub subject : Subject
+  pub asked : IsAsked g a subject
+  pub accepted : refusal_of a subject ≡ None
+  pub written :
+      (PutsFront out out' (list_text a subject) × IsReported err err' fault.Write)
+      ⊎ (PutsAll out out' (list_text a subject) × PutsFront err err' (rows_text a subject))
+
+abbrev pub FailsList : Given → Asking → WriteLog → WriteLog → WriteLog → WriteLog → Type 0
+FailsList g a out out' err err' = Refuses (HasListFault g a) out out' err err' ⊎ BreaksList g a out out' err err'
+
+-- ---- a simulation
+
+-- The state is written where it is to be saved.
+abbrev pub IsSaved : Bool → Drawing → Standing → WriteLog → WriteLog → Type 0
+IsSaved true p s save save' = PutsAll save save' (state_text p s)
+IsSaved false p s save save' = save' ≡ save
+
+-- Status 0: the trace of the whole stimulus was written, and the state after its last scan.
+pub record IsTraced (g : Given) (saves : Bool) (old new : Logs) : Type 0 where
+  pub program : Drawing
+  pub before : Standing
+  pub after : Standing
+  pub scans : ℕ
+  pub set : IsSet g program before
+  pub trace : Simulates program before (stimulus_records g) after old.out new.out (Ok scans)
+  pub saved : IsSaved saves program after old.save new.save
+  pub silent : new.err ≡ old.err
+
+-- Status 1, by a fault while running: the trace was written as far as `Simulates` says, and no state.
+pub record StopsTrace (g : Given) (old new : Logs) : Type 0 where
+  pub program : Drawing
+  pub before : Standing
+  pub after : Standing
+  pub reason : SimFault
+  pub set : IsSet g program before
+  pub trace : Simulates program before (stimulus_records g) after old.out new.out (Err reason)
+  pub unsaved : new.save ≡ old.save
+  pub reported : IsReported old.err new.err (fault.Sim reason)
+
+-- Status 1: the trace was written, and then `save` failed.
+pub record BreaksSave (g : Given) (saves : Bool) (old new : Logs) : Type 0 where
+  pub program : Drawing
+  pub before : Standing
+  pub after : Standing
+  pub scans : ℕ
+  pub set : IsSet g program before
+  pub trace : Simulates program before (stimulus_records g) after old.out new.out (Ok scans)
+  pub asked : saves ≡ true
+  pub saved : PutsFront old.save new.save (state_text program after)
+  pub reported : IsReported old.err new.err fault.Write
+
+-- a fault before the first scan: nothing was written but its line
+abbrev pub RefusesTrace : Given → Logs → Logs → Type 0
+RefusesTrace g old new = Refuses (HasSettingFault g) old.out new.out old.err new.err × (new.save ≡ old.save)
+
+abbrev pub FailsTrace : Given → Bool → Logs → Logs → Type 0
+FailsTrace g saves old new = RefusesTrace g old new ⊎ (StopsTrace g old new ⊎ BreaksSave g saves old new)
+
+-- ---- all requests
+
+-- what a request for causes asks
+abbrev pub asking : Option ℕ → Option ℕ → Option ℕ → Text → List Text → Asking
+asking moment after limit coil inputs = record { moment = moment; after = after; limit = limit; coil = coil; inputs = inputs }
+
+-- Status 0. A check and a list of causes write nothing on `save`.
+abbrev pub IsDone : Request → Given → Logs → Logs → Type 0
+IsDone (Check file) g old new = IsChecked g.program old.out new.out old.err new.err × (new.save ≡ old.save)
+IsDone (Causes state moment after limit file coil inputs) g old new =
+    ListsCauses g (asking moment after limit (string_bytes coil) (map string_bytes inputs.items)) old.out new.out old.err new.err × (new.save ≡ old.save)
+IsDone (Sim state save file stimulus) g old new = IsTraced g (is_some save) old new
+
+-- Status 1.
+abbrev pub IsFailed : Request → Given → Logs → Logs → Type 0
+IsFailed (Check file) g old new = FailsCheck g.program old.out new.out old.err new.err × (new.save ≡ old.save)
+IsFailed (Causes state moment after limit file coil inputs) g old new =
+    FailsList g (asking moment after limit (string_bytes coil) (map string_bytes inputs.items)) old.out new.out old.err new.err × (new.save ≡ old.save)
+IsFailed (Sim state save file stimulus) g old new = FailsTrace g (is_some save) old new

@@ -2,7 +2,7 @@
 ghost use Rattle.std.specs.Prelude.{◌≡◌, IfOk, codes, false};
 ghost use Rattle.clap.specs.Words.{app_of, new_app, rule_of, with_rule, with_subcommand};
 ghost use Rattle.clap.specs.declared.builder.Command.TheViews.{out-Command};
-ghost use Rattle.ladder_tool.specs.CommandLine.{IsApp, causes_app, causes_options, check_app, ladder_app, list_rule, needs_subcommand, number_rule, place_rule};
+ghost use Rattle.ladder_tool.specs.CommandLine.{IsApp, causes_app, causes_options, check_app, ladder_app, list_rule, needs_subcommand, number_rule, path_rule, place_rule, sim_app};
 
 use clap::{Arg, ArgAction, Command, value_parser};
 use std::alloc::{AllocError, Global};
@@ -13,6 +13,14 @@ fn place<'a>(alloc: Global, id: &'a str) -> Arg<'a>
     ensures global { result.global ≡ false }
 {
     Arg::new(alloc, id).required(true)
+}
+
+/// An option with the path of a file.
+fn path<'a>(alloc: Global, id: &'a str) -> Arg<'a>
+    ensures rule { rule_of result ≡ path_rule id.entry.now }
+    ensures global { result.global ≡ false }
+{
+    Arg::new(alloc, id).long(id)
 }
 
 /// An option with a number.
@@ -51,6 +59,7 @@ fn causes_options<'a>(alloc: Global) -> Result<Command<'a>, AllocError>
     ensures { IfOk result (IsApp causes_options) }
 {
     let command = Command::new(alloc, "causes");
+    let command = add(command, path(alloc, "state"))?;
     let command = add(command, number(alloc, "at"))?;
     let command = add(command, number(alloc, "after"))?;
     add(command, number(alloc, "limit"))
@@ -63,6 +72,16 @@ fn causes<'a>(alloc: Global) -> Result<Command<'a>, AllocError>
     let command = add(command, place(alloc, "file"))?;
     let command = add(command, place(alloc, "coil"))?;
     add(command, list(alloc, "inputs"))
+}
+
+fn sim<'a>(alloc: Global) -> Result<Command<'a>, AllocError>
+    ensures { IfOk result (IsApp sim_app) }
+{
+    let command = Command::new(alloc, "sim");
+    let command = add(command, path(alloc, "state"))?;
+    let command = add(command, path(alloc, "save"))?;
+    let command = add(command, place(alloc, "file"))?;
+    add(command, place(alloc, "stimulus"))
 }
 
 fn join<'a>(command: Command<'a>, sub: Command<'a>) -> Result<Command<'a>, AllocError>
@@ -83,5 +102,6 @@ pub(crate) fn ladder<'a>(alloc: Global) -> Result<Command<'a>, AllocError>
     ensures { IfOk result (λ c. app_of c ≡ ladder_app) }
 {
     let command = join(top(alloc), check(alloc)?)?;
-    join(command, causes(alloc)?)
+    let command = join(command, causes(alloc)?)?;
+    join(command, sim(alloc)?)
 }

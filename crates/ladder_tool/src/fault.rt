@@ -1,10 +1,11 @@
 //! What stops a request, and the line that says so.
 ghost use Rattle.std.specs.Prelude.{◌≡◌};
 ghost use Rattle.ladder_text.specs.Log.{Puts};
-ghost use Rattle.ladder_tool.specs.FaultLine.{cause_number, fault_line, grid_number, kind_word, text_line, var_line, var_number};
+ghost use Rattle.ladder_tool.specs.FaultLine.{bad_row_line, cause_number, fault_line, grid_number, kind_word, row_line, sim_line, text_line, var_line, var_number};
 
 use ladder_causes::CauseFault;
 use ladder_grid::{GridFault, GridRule};
+use ladder_sim::SimFault;
 use ladder_text::{Piece, Sink, TextFault, WriteFault, put, put_pieces};
 use ladder_vars::{VarFault, VarRule};
 use thiserror::Error;
@@ -26,12 +27,15 @@ pub enum ToolFault {
     /// There is no list of causes.
     #[error("{0}")]
     Cause(CauseFault),
-    /// A text can't be read.
+    /// A text can't be read, or a record of it is bad.
     #[error("{1}")]
     Text(TextKind, TextFault),
     /// A word names no variable; COIL is word 1, the first INPUT word 2.
     #[error("word {number} names no variable")]
     Word { number: usize },
+    /// A simulation ended before the end of its stimulus.
+    #[error("{0}")]
+    Sim(SimFault),
     #[error("the writer failed")]
     Write,
     #[error("out of memory")]
@@ -75,6 +79,7 @@ pub fn write_fault<W: Sink>(fault: &ToolFault, writer: &mut W) -> Result<(), Wri
             ];
             put_pieces(writer, pieces.as_slice())
         }
+        ToolFault::Sim(fault) => write_sim_fault(fault, writer),
         ToolFault::Write => put(writer, b"fault X6\n"),
         ToolFault::Memory => put(writer, b"fault X7\n"),
         ToolFault::Usage => put(writer, b"fault usage\n"),
@@ -107,6 +112,7 @@ fn write_text_fault<W: Sink>(
     let rule: &[u8] = match fault {
         TextFault::Read => b"fault X1 ",
         TextFault::TooLong => b"fault X5 ",
+        TextFault::BadRow { row } => return write_bad_row(kind, row, writer),
         TextFault::Memory => return put(writer, b"fault X7\n"),
     };
     let pieces = [
@@ -114,6 +120,39 @@ fn write_text_fault<W: Sink>(
         Piece::Text(kind_word(kind)),
         Piece::Text(b"\n"),
     ];
+    put_pieces(writer, pieces.as_slice())
+}
+
+fn write_bad_row<W: Sink>(kind: TextKind, row: u64, writer: &mut W) -> Result<(), WriteFault>
+    ensures { Puts (W.log writer.old) (W.log writer.new) result (bad_row_line kind row) }
+{
+    let pieces = [
+        Piece::Text(b"fault X2 "),
+        Piece::Text(kind_word(kind)),
+        Piece::Text(b" row "),
+        Piece::Number(row),
+        Piece::Text(b"\n"),
+    ];
+    put_pieces(writer, pieces.as_slice())
+}
+
+fn write_sim_fault<W: Sink>(fault: SimFault, writer: &mut W) -> Result<(), WriteFault>
+    ensures { Puts (W.log writer.old) (W.log writer.new) result (sim_line fault) }
+{
+    match fault {
+        SimFault::BadRow { row } => write_bad_row(TextKind::Stimulus, row, writer),
+        SimFault::UnknownName { row } => write_row_fault(b"fault X3 row ", row, writer),
+        SimFault::MomentBack { row } => write_row_fault(b"fault X4 row ", row, writer),
+        SimFault::TooLong { row } => write_row_fault(b"fault X5 row ", row, writer),
+        SimFault::Write => put(writer, b"fault X6\n"),
+        SimFault::Memory => put(writer, b"fault X7\n"),
+    }
+}
+
+fn write_row_fault<W: Sink>(rule: &[u8], row: u64, writer: &mut W) -> Result<(), WriteFault>
+    ensures { Puts (W.log writer.old) (W.log writer.new) result (row_line rule.now row) }
+{
+    let pieces = [Piece::Text(rule), Piece::Number(row), Piece::Text(b"\n")];
     put_pieces(writer, pieces.as_slice())
 }
 

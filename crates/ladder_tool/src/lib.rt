@@ -9,6 +9,9 @@ mod performing;
 mod program;
 mod report;
 mod request;
+mod saving;
+mod setting;
+mod tracing;
 mod variables;
 mod words;
 

@@ -3,13 +3,14 @@ ghost use Rattle.std.specs.Prelude.{◌≡◌, ◌≤◌, ◌⊎◌, map, string
 ghost use Rattle.ladder_text.specs.Log.{Puts};
 ghost use Rattle.ladder_tool.specs.Asked.{asking_of};
 ghost use Rattle.ladder_tool.specs.Performs.{FailsList, ListsCauses, rows_line};
+ghost use Rattle.ladder_tool.specs.Setting.{given_by};
 
 use super::fault::ToolFault;
 use super::report::report;
+use super::request::Texts;
+use super::setting::read_setting;
 use super::variables::asked_variables;
 use ladder_causes::Causes;
-use ladder_grid::read_program;
-use ladder_scan::State;
 use ladder_sim::{Summary, write_causes};
 use ladder_text::{Piece, Sink, WriteFault, put_pieces};
 use std::alloc::Global;
@@ -44,35 +45,32 @@ fn moment(asked: Option<u64>, stored: u64) -> u64
     asked.unwrap_or(stored)
 }
 
-/// Lists the causes of the coil in the fresh state.
+/// Lists the causes of the coil in the state of the texts.
 pub(crate) fn list_causes<O: Sink, E: Sink>(
     alloc: Global,
     asking: Asking<'_>,
-    text: &[u8],
+    texts: &Texts,
     out: &mut O,
     err: &mut E,
 ) -> u8
     ensures status { result ≤ 1 }
-    ensures done { result ≡ 0 → ListsCauses text.now (asking_of asking.entry) (O.log out.old) (O.log out.new) (E.log err.old) (E.log err.new) }
-    ensures failed { result ≡ 1 → FailsList text.now (asking_of asking.entry) (O.log out.old) (O.log out.new) (E.log err.old) (E.log err.new) }
+    ensures done { result ≡ 0 → ListsCauses (given_by texts.now) (asking_of asking.entry) (O.log out.old) (O.log out.new) (E.log err.old) (E.log err.new) }
+    ensures failed { result ≡ 1 → FailsList (given_by texts.now) (asking_of asking.entry) (O.log out.old) (O.log out.new) (E.log err.old) (E.log err.new) }
 {
-    let program = match read_program(alloc, text) {
-        Ok(program) => program,
-        Err(fault) => return report(&ToolFault::Grid(fault), err),
+    let setting = match read_setting(alloc, texts) {
+        Ok(setting) => setting,
+        Err(fault) => return report(&fault, err),
     };
-    let asked = match asked_variables(alloc, program.decls(), asking.coil, asking.inputs) {
+    let decls = setting.program.decls();
+    let asked = match asked_variables(alloc, decls, asking.coil, asking.inputs) {
         Ok(asked) => asked,
         Err(fault) => return report(&fault, err),
     };
-    let Ok(state) = State::fresh(alloc, &program) else {
-        return report(&ToolFault::Memory, err);
-    };
-    let now = moment(asking.moment, state.moment());
     let mut cursor = match Causes::new(
         alloc,
-        &program,
-        &state,
-        now,
+        &setting.program,
+        &setting.state,
+        moment(asking.moment, setting.state.moment()),
         asked.coil,
         &asked.inputs,
         asking.after,

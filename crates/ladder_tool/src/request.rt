@@ -11,6 +11,8 @@ pub enum Request {
     },
     /// The causes of a coil: which assignments of the listed inputs switch it on.
     Causes {
+        /// The file of the state in which the scan begins; the fresh one where there is none.
+        state: Option<String>,
         /// The moment of the scan, in ms; the stored one where there is none.
         moment: Option<u64>,
         /// The number to begin after.
@@ -24,15 +26,26 @@ pub enum Request {
         /// The names of the listed inputs, the first one most significant.
         inputs: Vec<String>,
     },
+    /// The trace of a stimulus: one scan for each of its records.
+    Sim {
+        /// The file of the state in which the first scan begins; the fresh one where there is none.
+        state: Option<String>,
+        /// The file that the state after the last scan is written to.
+        save: Option<String>,
+        /// The file of the program text.
+        file: String,
+        /// The file of the stimulus.
+        stimulus: String,
+    },
 }
 
 /// The texts that a request is about.
 #[derive(Drop)]
 pub struct Texts {
     pub program: Vec<u8>,
-    /// Where the request names a state.
+    /// The text of the state, where the request names one.
     pub state: Option<Vec<u8>>,
-    /// Where the request names a stimulus.
+    /// The text of the stimulus, where the request names one; none is a text without records.
     pub stimulus: Option<Vec<u8>>,
 }
 

@@ -1,9 +1,9 @@
 //! From the words of a command line to a request.
-ghost use Rattle.std.specs.Prelude.{◌≡◌, [], codes, IfSome, IsSome, OnOk, IfOk, IfErr, map, string_bytes, unwrap_or, Some};
+ghost use Rattle.std.specs.Prelude.{◌≡◌, [], codes, IfSome, IsSome, OnOk, IfOk, IfErr, map, option_map, string_bytes, unwrap_or, Some};
 ghost use Rattle.clap.specs.Words.{all_of, first_of, found_of, rows_of, subcommand_rows_of};
 ghost use Rattle.clap.specs.Words.{fault_of as clap_fault};
 ghost use Rattle.ladder_tool.specs.CommandLine.{ladder_app};
-ghost use Rattle.ladder_tool.specs.Asking.{Asks, AsksBy, HasNumber};
+ghost use Rattle.ladder_tool.specs.Asking.{Asks, AsksBy, HasNumber, HasPath};
 
 use super::command::ladder;
 use super::request::{Request, WordFault};
@@ -56,6 +56,7 @@ fn request_of(alloc: Global, name: &str, found: &ArgMatches<'_>) -> Result<Reque
             Ok(Request::Check { file })
         }
         "causes" => causes_request(alloc, found),
+        "sim" => sim_request(alloc, found),
         _ => Err(WordFault::Usage),
     }
 }
@@ -63,6 +64,7 @@ fn request_of(alloc: Global, name: &str, found: &ArgMatches<'_>) -> Result<Reque
 fn causes_request(alloc: Global, found: &ArgMatches<'_>) -> Result<Request, WordFault>
     ensures { IfOk result (Asks (codes "causes") (rows_of (found_of found.now))) }
 {
+    let state = path(alloc, found, "state")?;
     let moment = number(found, "at")?;
     let after = number(found, "after")?;
     let limit = number(found, "limit")?;
@@ -70,6 +72,7 @@ fn causes_request(alloc: Global, found: &ArgMatches<'_>) -> Result<Request, Word
     let coil = text(alloc, found, "coil")?;
     let inputs = texts(alloc, found, "inputs")?;
     Ok(Request::Causes {
+        state,
         moment,
         after,
         limit,
@@ -79,7 +82,35 @@ fn causes_request(alloc: Global, found: &ArgMatches<'_>) -> Result<Request, Word
     })
 }
 
-/// The value of an option, where it was given.
+fn sim_request(alloc: Global, found: &ArgMatches<'_>) -> Result<Request, WordFault>
+    ensures { IfOk result (Asks (codes "sim") (rows_of (found_of found.now))) }
+{
+    let state = path(alloc, found, "state")?;
+    let save = path(alloc, found, "save")?;
+    let file = text(alloc, found, "file")?;
+    let stimulus = text(alloc, found, "stimulus")?;
+    Ok(Request::Sim {
+        state,
+        save,
+        file,
+        stimulus,
+    })
+}
+
+/// The path of an option, where it was given.
+fn path(alloc: Global, found: &ArgMatches<'_>, id: &str) -> Result<Option<String>, WordFault>
+    ensures { IfOk result (λ o. HasPath id.now (rows_of (found_of found.now)) (option_map string_bytes o)) }
+{
+    match found.get_str(id) {
+        Some(text) => {
+            let copy = copied(alloc, text)?;
+            Ok(Some(copy))
+        }
+        None => Ok(None),
+    }
+}
+
+/// The number of an option, where it was given.
 fn number(found: &ArgMatches<'_>, id: &str) -> Result<Option<u64>, WordFault>
     ensures { IfOk result (HasNumber id.now (rows_of (found_of found.now))) }
 {

@@ -1,0 +1,17 @@
+-- Faults and simulations of a text that is given by another name.
+use Rattle.std.proofs.Common.{◌≡◌, ℕ, List, Result}
+use Rattle.ladder_grid.specs.declared.fault.GridFault.{GridFault}
+use Rattle.ladder_grid.specs.Program.{Drawing}
+use Rattle.ladder_records.specs.Text.{records_of}
+use Rattle.ladder_scan.specs.Standing.{Standing}
+use Rattle.ladder_text.specs.Log.{WriteLog}
+use Rattle.ladder_trace.specs.declared.fault.SimFault.{SimFault}
+use Rattle.ladder_trace.specs.Simulation.{Simulates}
+use Rattle.ladder_tool.specs.Setting.{HasProgramFault}
+
+pub program_fault : (a b : List ℕ) (f : GridFault) → a ≡ b → HasProgramFault a f → HasProgramFault b f
+program_fault a b f e h = rw e at h
+
+pub same_stimulus : (p : Drawing) (s t : Standing) (a b : List ℕ) (old new : WriteLog) (r : Result ℕ SimFault) → a ≡ b
+    → Simulates p s (records_of a) t old new r → Simulates p s (records_of b) t old new r
+same_stimulus p s t a b old new r e h = rw e at h

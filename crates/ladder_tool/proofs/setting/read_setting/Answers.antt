@@ -1,0 +1,5 @@
+use Rattle.ladder_tool.proofs.Settings.{program_fault}
+use Rattle.ladder_tool.proofs.setting.read_setting.Goals as goal
+
+pub returns-in-Err-clause-fault : goal.returns-in-Err-clause-fault
+returns-in-Err-clause-fault c = program_fault _ _ c.in-Err.fault c.deref.ensures.value (c.in-Err.ensures.none, c.in-Err.ensures.broken)

@@ -1,0 +1,56 @@
+//! The program and the state that the texts of a request tell.
+ghost use Rattle.std.specs.Prelude.{IfErr, IfOk, option_map, vec_items};
+ghost use Rattle.ladder_scan.specs.Standing.{Fits};
+ghost use Rattle.ladder_tool.specs.Setting.{HasSettingFault, HasState, IsNoState, IsSet, given_by};
+
+use super::fault::{TextKind, ToolFault};
+use super::request::Texts;
+use ladder_grid::{Program, read_program};
+use ladder_scan::State;
+use ladder_sim::read_state;
+use std::alloc::Global;
+
+/// A program, and the state in which its first scan begins.
+#[derive(Drop)]
+pub(crate) struct Setting {
+    pub program: Program,
+    pub state: State,
+}
+
+/// The state of a text, or the fresh one where there is no text.
+fn starting_state(
+    alloc: Global,
+    program: &Program,
+    text: &Option<Vec<u8>>,
+) -> Result<State, ToolFault>
+    ensures fits { IfOk result (Fits program.now) }
+    ensures state { IfOk result (HasState program.now (option_map vec_items text.now)) }
+    ensures fault { IfErr result (IsNoState program.now (option_map vec_items text.now)) }
+{
+    match text {
+        Some(text) => match read_state(alloc, program, text) {
+            Ok(state) => Ok(state),
+            Err(fault) => Err(ToolFault::Text(TextKind::State, fault)),
+        },
+        None => match State::fresh(alloc, program) {
+            Ok(state) => Ok(state),
+            Err(_) => Err(ToolFault::Memory),
+        },
+    }
+}
+
+/// Reads the program text, and then the state text where there is one.
+pub(crate) fn read_setting(alloc: Global, texts: &Texts) -> Result<Setting, ToolFault>
+    ensures fits { IfOk result (λ s. Fits s.program s.state) }
+    ensures set { IfOk result (λ s. IsSet (given_by texts.now) s.program s.state) }
+    ensures fault { IfErr result (HasSettingFault (given_by texts.now)) }
+{
+    let program = match read_program(alloc, &texts.program) {
+        Ok(program) => program,
+        Err(fault) => return Err(ToolFault::Grid(fault)),
+    };
+    match starting_state(alloc, &program, &texts.state) {
+        Ok(state) => Ok(Setting { program, state }),
+        Err(fault) => Err(fault),
+    }
+}
