@@ -1,0 +1,1 @@
+-- The rows of a list of items that are written one after the other.
