@@ -1,9 +1,8 @@
 -- The cross-reference of a program (the profile): each name with the places where it is drawn.
-use Rattle.std.specs.Prelude.{◌++◌, ◌∷◌, ◌+◌, ◌==◌, ℕ, List, [], Bool, true, false, if◌then◌else◌, Option, Some, None, codes, decimal, length, map, slice_get}
+use Rattle.std.specs.Prelude.{◌++◌, ◌∷◌, ◌+◌, ◌==◌, ℕ, List, [], Bool, false, if◌then◌else◌, Option, Some, None, codes, decimal, length, map, slice_get}
 use Rattle.std.specs.List.{flat_map, range_with_len}
+use Rattle.std.specs.Option.{option_map_or}
 use Rattle.ladder_vars.specs.Decls.{Declared}
-use Rattle.ladder_vars.specs.declared.decls.Var.{Var}
-use Rattle.ladder_vars.specs.declared.decls.Instance.{Instance}
 use Rattle.ladder_vars.specs.declared.decls.Symbol.{Symbol}
 use Rattle.ladder_vars.specs.declared.decls.Symbol.TheVariants as symbol
 use Rattle.ladder_grid.specs.declared.cell.Cell.{Cell}
@@ -88,24 +87,17 @@ or_unused name (r ∷ rows) = r ∷ rows
 
 -- ---- all names
 
-abbrev pub var_name : Option Var → List ℕ
-var_name None = []
-var_name (Some v) = v.name
-
-abbrev pub instance_name : Option Instance → List ℕ
-instance_name None = []
-instance_name (Some i) = i.name
-
 -- how a symbol is spelled where it is declared
 abbrev pub name_of : Declared → Symbol → List ℕ
-name_of declared (symbol.Var number) = var_name (slice_get declared.vars number)
-name_of declared (symbol.Instance number) = instance_name (slice_get declared.instances number)
+name_of declared (symbol.Var number) = option_map_or (λ v. v.name) (slice_get declared.vars number) []
+name_of declared (symbol.Instance number) = option_map_or (λ i. i.name) (slice_get declared.instances number) []
 
 -- all variables, and then all instances, as they are declared
 abbrev pub symbols_of : Declared → List Symbol
 symbols_of declared =
     map symbol.Var (range_with_len 0 (length declared.vars)) ++ map symbol.Instance (range_with_len 0 (length declared.instances))
 
+-- the rows of a symbol, one at least
 abbrev pub symbol_rows : Drawing → Symbol → List Fields
 symbol_rows p s = or_unused (name_of p.decls s) (place_rows p (name_of p.decls s) s)
 

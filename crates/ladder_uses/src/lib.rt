@@ -4,5 +4,4 @@
 mod usage;
 mod uses;
 
-pub use usage::Use;
 pub use uses::write_uses;

@@ -9,8 +9,8 @@ use ladder_grid::{Cell, CoilMode, Mode, Operand, Program};
 use ladder_vars::Symbol;
 
 /// How a cell uses a variable or an instance.
-#[derive(Clone, Copy, Debug, PartialEq, Eq)]
-pub enum Use {
+#[derive(Clone, Copy)]
+pub(crate) enum Use {
     /// A contact reads it.
     Contact(Mode),
     /// A coil writes it.
@@ -20,10 +20,10 @@ pub enum Use {
 }
 
 /// The word of a use.
-pub(crate) fn use_word(kind: Use) -> &'static [u8]
-    ensures { result.now ≡ use_word kind }
+pub(crate) fn use_word(used: Use) -> &'static [u8]
+    ensures { result.now ≡ use_word used }
 {
-    match kind {
+    match used {
         Use::Contact(Mode::Plain) => b"contact",
         Use::Contact(Mode::Negated) => b"not_contact",
         Use::Contact(Mode::Rising) => b"rise_contact",
@@ -67,7 +67,7 @@ fn use_of(symbol: Symbol, cell: Cell) -> Option<Use>
     ensures { result ≡ use_of symbol cell }
 {
     match use_in(cell) {
-        Some((used, kind)) if same_symbol(symbol, used) => Some(kind),
+        Some((other, used)) if same_symbol(symbol, other) => Some(used),
         _ => None,
     }
 }

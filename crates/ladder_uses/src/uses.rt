@@ -26,31 +26,31 @@ fn row_line<W: Sink>(
     name: &[u8],
     word: &[u8],
     rung: &[u8],
-    line: &[u8],
+    row: &[u8],
     column: &[u8],
     writer: &mut W,
 ) -> Result<(), WriteFault>
-    ensures { Sends (W.log writer.old) (W.log writer.new) block.old block.new result (line_text (name.now ∷ word.now ∷ rung.now ∷ line.now ∷ column.now ∷ [])) }
+    ensures { Sends (W.log writer.old) (W.log writer.new) block.old block.new result (line_text (name.now ∷ word.now ∷ rung.now ∷ row.now ∷ column.now ∷ [])) }
 {
-    add_line(block, name, [word, rung, line, column].as_slice(), writer)
+    add_line(block, name, [word, rung, row, column].as_slice(), writer)
 }
 
 /// Adds the row of a name at a place.
 fn add_row<W: Sink>(
     block: &mut Block,
     name: &[u8],
-    kind: Use,
+    used: Use,
     place: usize,
     writer: &mut W,
 ) -> Result<(), WriteFault>
     requires { place < PLACES * RUNGS }
-    ensures { Sends (W.log writer.old) (W.log writer.new) block.old block.new result (line_text (use_row name.now kind place)) }
+    ensures { Sends (W.log writer.old) (W.log writer.new) block.old block.new result (line_text (use_row name.now used place)) }
 {
     let (mut first, mut second, mut third) = (Buffer::new(), Buffer::new(), Buffer::new());
     let rung = first.format(place / PLACES + 1).as_bytes();
-    let line = second.format(place % PLACES % ROWS + 1).as_bytes();
+    let row = second.format(place % PLACES % ROWS + 1).as_bytes();
     let column = third.format(place % PLACES / ROWS + 1).as_bytes();
-    row_line(block, name, use_word(kind), rung, line, column, writer)
+    row_line(block, name, use_word(used), rung, row, column, writer)
 }
 
 /// Adds the row of a name that is drawn nowhere.
@@ -74,10 +74,10 @@ fn add_places<W: Sink>(
 {
     let mut rows = 0u64;
     for place in 0..PLACES * program.rungs() {
-        let Some(kind) = use_at(program, symbol, place) else {
+        let Some(used) = use_at(program, symbol, place) else {
             continue;
         };
-        let Ok(()) = add_row(block, name, kind, place, writer) else {
+        let Ok(()) = add_row(block, name, used, place, writer) else {
             return Err(WriteFault);
         };
         rows += 1;
@@ -90,11 +90,11 @@ fn name_of(decls: &Decls, symbol: Symbol) -> &[u8]
     ensures { result.now ≡ name_of decls.now symbol }
 {
     match symbol {
-        Symbol::Var(number) => match decls.vars().get(number) {
+        Symbol::Var(var) => match decls.vars().get(var) {
             Some(var) => var.name.bytes(),
             None => b"",
         },
-        Symbol::Instance(number) => match decls.instances().get(number) {
+        Symbol::Instance(inst) => match decls.instances().get(inst) {
             Some(instance) => instance.name.bytes(),
             None => b"",
         },
@@ -148,14 +148,14 @@ fn add_symbols<W: Sink>(
     ensures count { IfOk result (λ n. n ≡ length (use_rows program.now)) }
 {
     let decls = program.decls();
-    let mut rows = 0u64;
+    let mut total = 0u64;
     for number in 0..decls.vars().len() + decls.instances().len() {
-        let Ok(more) = add_symbol(block, program, symbol_at(decls, number), writer) else {
+        let Ok(rows) = add_symbol(block, program, symbol_at(decls, number), writer) else {
             return Err(WriteFault);
         };
-        rows += more;
+        total += rows;
     }
-    Ok(rows)
+    Ok(total)
 }
 
 /// Adds the header and all rows, and answers how many rows.

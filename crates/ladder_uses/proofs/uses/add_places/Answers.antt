@@ -20,7 +20,7 @@ loop-place-preserved-in_default g c =
 pub returns-in_default-add_row-clause-sends : goal.returns-in_default-add_row-clause-sends
 returns-in_default-add_row-clause-sends g c =
     let h : c.loop-place.place < length c.args.program.now.sites = omega (arith, c.loop-place-test.true, c.rungs-place-end.ensures.value, c.rungs-place-end.ensures.whole.size) in
-    let cut = places_apart c.args.program.now c.args.name.now c.args.symbol c.loop-place.place (Some c.in-Some.kind) h (sym c.in-Some.is ∙ c.use_at.ensures) in
+    let cut = places_apart c.args.program.now c.args.name.now c.args.symbol c.loop-place.place (Some c.in-Some.used) h (sym c.in-Some.is ∙ c.use_at.ensures) in
     line_front _ _ _ _ _ _ _ _ _ cut.1 c.loop-place.invariant.0 c.in_default-add_row.ensures
 
 pub loop-place-preserved : goal.loop-place-preserved
@@ -28,9 +28,9 @@ loop-place-preserved g c =
     let inv = c.loop-place.invariant in
     let h : c.loop-place.place < length c.args.program.now.sites = omega (arith, c.loop-place-test.true, c.rungs-place-end.ensures.value, c.rungs-place-end.ensures.whole.size) in
     let before = rows_before c.args.program.now c.args.name.now c.args.symbol c.loop-place.place in
-    let there = places_more c.args.program.now c.args.name.now c.args.symbol c.loop-place.place (Some c.in-Some.kind) h (sym c.in-Some.is ∙ c.use_at.ensures) in (
+    let there = places_more c.args.program.now c.args.name.now c.args.symbol c.loop-place.place (Some c.in-Some.used) h (sym c.in-Some.is ∙ c.use_at.ensures) in (
       line_more _ _ _ _ _ _ _ _ _ there inv.0 c.in-Ok.ensures,
-      omega (arith, ap length there, length-append before (use_row c.args.name.now c.in-Some.kind c.loop-place.place ∷ []), inv.1),
+      omega (arith, ap length there, length-append before (use_row c.args.name.now c.in-Some.used c.loop-place.place ∷ []), inv.1),
       omega (arith, inv.2),
     )
 
@@ -43,4 +43,4 @@ returns-clause-sends g c =
 pub returns-clause-count : goal.returns-clause-count
 returns-clause-count g c =
     let h : c.loop-place.place ≡ length c.args.program.now.sites = omega (arith, c.rungs-place-end.ensures.value, c.rungs-place-end.ensures.whole.size) in
-    c.loop-place.invariant.1 ∙ ap length (places_all c.args.program.now c.args.name.now c.args.symbol c.loop-place.place h)
+    omega (arith, c.loop-place.invariant.1, ap length (places_all c.args.program.now c.args.name.now c.args.symbol c.loop-place.place h))

@@ -1,4 +1,4 @@
-use Rattle.std.proofs.Common.{◌∙◌, [], arith, refl, sym}
+use Rattle.std.proofs.Common.{[], arith}
 use Rattle.ladder_records.proofs.Lines.{line_front, line_more}
 use Rattle.ladder_text.proofs.Sending.{sends_none}
 use Rattle.ladder_uses.specs.Uses.{name_of, place_rows}

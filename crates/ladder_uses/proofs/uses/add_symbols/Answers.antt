@@ -1,4 +1,4 @@
-use Rattle.std.proofs.Common.{◌∙◌, ap, arith, length, length-append, refl, subst, sym, take, take_all}
+use Rattle.std.proofs.Common.{ap, arith, length, length-append, refl, subst, take, take_all}
 use Rattle.std.specs.List.{flat_map}
 use Rattle.ladder_vars.specs.Decls.{Declared}
 use Rattle.ladder_records.specs.Text.{lines_text}
@@ -59,4 +59,4 @@ returns-clause-count g c =
       ap length c.instances.ensures.value,
       ap (λ (d : Declared). length (symbols_of d)) c.decls-decls.ensures,
     )) in
-    c.loop-number.invariant.1 ∙ ap (λ symbols. length (flat_map (symbol_rows p) symbols)) all
+    omega (arith, c.loop-number.invariant.1, ap (λ symbols. length (flat_map (symbol_rows p) symbols)) all)

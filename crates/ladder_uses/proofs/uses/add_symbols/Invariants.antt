@@ -9,5 +9,5 @@ use Rattle.ladder_uses.proofs.uses.add_symbols.Given as goal
 abbrev pub invariant-loop-number : goal.invariant-loop-number
 invariant-loop-number g l =
     SendsAll (g.W.Sink.log l.fn.writer) (g.W.Sink.log l.writer) l.fn.block l.block (lines_text (flat_map (symbol_rows l.program) (take l.number (symbols_of l.program.decls))))
-    × (l.rows ≡ length (flat_map (symbol_rows l.program) (take l.number (symbols_of l.program.decls))))
-    × (l.rows ≤ l.number * (PLACES * RUNGS))
+    × (l.total ≡ length (flat_map (symbol_rows l.program) (take l.number (symbols_of l.program.decls))))
+    × (l.total ≤ l.number * (PLACES * RUNGS))
