@@ -1,0 +1,127 @@
+-- The rows of items, one after the other.
+use Rattle.std.proofs.Common.{◌≡◌, ◌∙◌, ◌+◌, ◌-◌, ◌<◌, ◌≤◌, ◌++◌, ◌∷◌, [], ℕ, suc, List, Some, sym, ap, arith, refl, append-nil, length, length-append, map, get_or, take, take_all, drop, slice_get, add-one, Option}
+use Rattle.std.specs.List.{flat_map, range_with_len}
+use Rattle.std.proofs.Math.Seq.{take-suc, drop-cons}
+use Rattle.std.proofs.lemmas.Grind.{flat_map-append}
+use Rattle.std.proofs.lemmas.List.{get_or-append-add, get_or_append_left, take-append-drop}
+use Rattle.std.proofs.lemmas.List.Concat.{flat_map-cons}
+use Rattle.std.proofs.lemmas.List.FromFn.{get_or-map-range_with_len, get_or-range_with_len, length-map-range_with_len, length-range_with_len}
+use Rattle.std.proofs.lemmas.Option.{get_or_from_slice_get, slice_get_read, slice_get_within}
+use Rattle.ladder_vars.specs.Decls.{Declared}
+use Rattle.ladder_vars.specs.declared.decls.Symbol.{Symbol}
+use Rattle.ladder_vars.specs.declared.decls.Symbol.TheVariants as symbol
+use Rattle.ladder_records.specs.Left.{Fields}
+use Rattle.ladder_grid.specs.Program.{Drawing, cell_in}
+use Rattle.ladder_uses.specs.declared.usage.Use.{Use}
+use Rattle.ladder_records.specs.Text.{lines_text}
+use Rattle.ladder_records.proofs.Commas.{lines_text-append}
+use Rattle.ladder_text.specs.Block.{SendsAll}
+use Rattle.ladder_text.specs.Log.{PutsFront, WriteLog}
+use Rattle.ladder_text.proofs.Sending.{sends_front, sends_more, sends_same}
+use Rattle.ladder_uses.specs.Uses.{or_unused, place_rows, row_of, unused_row, symbols_of, use_of}
+
+-- one item more
+pub rows_more : {A : Type 0} (f : A → List Fields) (xs : List A) (i : ℕ) (x : A) (ys : List Fields) → slice_get xs i ≡ Some x → f x ≡ ys
+    → flat_map f (take (i + 1) xs) ≡ flat_map f (take i xs) ++ ys
+rows_more f xs i x ys here is =
+    let next : take (i + 1) xs ≡ take i xs ++ x ∷ [] =
+    rw (add-one i) (take-suc xs i x (slice_get_within xs i x here) ∙ ap (λ z. take i xs ++ z ∷ []) (get_or_from_slice_get xs i x x here)) in
+    ap (flat_map f) next ∙ flat_map-append f (take i xs) (x ∷ []) ∙ ap (λ t. flat_map f (take i xs) ++ t) (append-nil (f x) ∙ is)
+
+-- all items, cut at one of them
+pub rows_apart : {A : Type 0} (f : A → List Fields) (xs : List A) (i : ℕ) (x : A) (ys : List Fields) → slice_get xs i ≡ Some x → f x ≡ ys
+    → flat_map f xs ≡ flat_map f (take i xs) ++ (ys ++ flat_map f (drop (suc i) xs))
+rows_apart f xs i x ys here is =
+    let behind : drop i xs ≡ x ∷ drop (suc i) xs =
+    drop-cons xs i x (slice_get_within xs i x here) ∙ ap (λ z. z ∷ drop (suc i) xs) (get_or_from_slice_get xs i x x here) in
+    ap (flat_map f) (sym (take-append-drop i xs) ∙ ap (λ t. take i xs ++ t) behind)
+    ∙ flat_map-append f (take i xs) (x ∷ drop (suc i) xs)
+    ∙ ap (λ t. flat_map f (take i xs) ++ t) (flat_map-cons f x (drop (suc i) xs) ∙ ap (λ t. t ++ flat_map f (drop (suc i) xs)) is)
+
+-- the i-th of the numbers from 0 on
+pub number_at : (n i : ℕ) → i < n → slice_get (range_with_len 0 n) i ≡ Some i
+number_at n i h = slice_get_read (range_with_len 0 n) n i i (sym (length-range_with_len 0 n)) h (sym (get_or-range_with_len 0 n i i h ∙ omega arith))
+
+-- ---- all that is declared
+
+pub symbols_count : (d : Declared) → length (symbols_of d) ≡ length d.vars + length d.instances
+symbols_count d =
+    let vars = map symbol.Var (range_with_len 0 (length d.vars)) in
+    let instances = map symbol.Instance (range_with_len 0 (length d.instances)) in
+    omega (
+      arith,
+      length-append vars instances,
+      length-map-range_with_len symbol.Var 0 (length d.vars),
+      length-map-range_with_len symbol.Instance 0 (length d.instances),
+    )
+
+pub var_at : (d : Declared) (n : ℕ) → n < length d.vars → slice_get (symbols_of d) n ≡ Some (symbol.Var n)
+var_at d n h =
+    let vars = map symbol.Var (range_with_len 0 (length d.vars)) in
+    let instances = map symbol.Instance (range_with_len 0 (length d.instances)) in
+    let count = length-map-range_with_len symbol.Var 0 (length d.vars) in
+    slice_get_read (symbols_of d) (length d.vars + length d.instances) n (symbol.Var n) (sym (symbols_count d)) (omega (arith, h))
+    (sym (get_or_append_left vars instances (symbol.Var n) n (omega (arith, h, count)) ∙ get_or-map-range_with_len symbol.Var 0 (length d.vars) n n (symbol.Var n) h (omega arith)))
+
+pub instance_at : (d : Declared) (n : ℕ) → n < length (symbols_of d) → length d.vars ≤ n → slice_get (symbols_of d) n ≡ Some (symbol.Instance (n - length d.vars))
+instance_at d n h past =
+    let vars = map symbol.Var (range_with_len 0 (length d.vars)) in
+    let instances = map symbol.Instance (range_with_len 0 (length d.instances)) in
+    let k = n - length d.vars in
+    let below : n < length d.vars + length d.instances = omega (arith, h, symbols_count d) in
+    let at : length vars + k ≡ n = omega (arith, past, length-map-range_with_len symbol.Var 0 (length d.vars)) in
+    slice_get_read (symbols_of d) (length d.vars + length d.instances) n (symbol.Instance k) (sym (symbols_count d)) below
+    (sym (ap (λ m. get_or (symbols_of d) m (symbol.Instance k)) (sym at)
+    ∙ get_or-append-add vars instances k (symbol.Instance k)
+    ∙ get_or-map-range_with_len symbol.Instance 0 (length d.instances) k k (symbol.Instance k) (omega (arith, below, past)) (omega arith)))
+
+-- ---- the places of a symbol
+
+-- the rows of the first n places
+abbrev pub rows_before : Drawing → List ℕ → Symbol → ℕ → List Fields
+rows_before p name s n = flat_map (λ place. row_of name place (use_of s (cell_in p place))) (take n (range_with_len 0 (length p.sites)))
+
+pub places_more : (p : Drawing) (name : List ℕ) (s : Symbol) (i : ℕ) (o : Option Use) → i < length p.sites → o ≡ use_of s (cell_in p i)
+    → rows_before p name s (i + 1) ≡ rows_before p name s i ++ row_of name i o
+places_more p name s i o h is =
+    rows_more (λ place. row_of name place (use_of s (cell_in p place))) (range_with_len 0 (length p.sites)) i i (row_of name i o)
+    (number_at (length p.sites) i h) (ap (row_of name i) (sym is))
+
+pub places_apart : (p : Drawing) (name : List ℕ) (s : Symbol) (i : ℕ) (o : Option Use) → i < length p.sites → o ≡ use_of s (cell_in p i)
+    → (rest : List Fields) × (place_rows p name s ≡ rows_before p name s i ++ (row_of name i o ++ rest))
+places_apart p name s i o h is = (
+  _,
+  rows_apart (λ place. row_of name place (use_of s (cell_in p place))) (range_with_len 0 (length p.sites)) i i (row_of name i o)
+      (number_at (length p.sites) i h) (ap (row_of name i) (sym is)),
+)
+
+pub places_all : (p : Drawing) (name : List ℕ) (s : Symbol) (n : ℕ) → n ≡ length p.sites → rows_before p name s n ≡ place_rows p name s
+places_all p name s n e =
+    ap (flat_map (λ place. row_of name place (use_of s (cell_in p place))))
+    (take_all n (range_with_len 0 (length p.sites)) (omega (arith, e, length-range_with_len 0 (length p.sites))))
+
+-- ---- rows that are written
+
+-- the rows of one item more
+pub rows_sent : (a b c : WriteLog) (w0 w1 w2 : List ℕ) (rows longer more : List Fields) → longer ≡ rows ++ more → SendsAll a b w0 w1 (lines_text rows)
+    → SendsAll b c w1 w2 (lines_text more) → SendsAll a c w0 w2 (lines_text longer)
+rows_sent a b c w0 w1 w2 rows longer more e p q =
+    sends_same a c w0 w2 (lines_text rows ++ lines_text more) (lines_text longer) (sym (ap lines_text e ∙ lines_text-append rows more))
+    (sends_more a b c w0 w1 w2 (lines_text rows) (lines_text more) p q)
+
+-- rows that are not written to their end
+pub rows_front : (a b c : WriteLog) (w0 w1 : List ℕ) (rows all more rest : List Fields) → all ≡ rows ++ (more ++ rest) → SendsAll a b w0 w1 (lines_text rows)
+    → PutsFront b c (w1 ++ lines_text more) → PutsFront a c (w0 ++ lines_text all)
+rows_front a b c w0 w1 rows all more rest e p q =
+    sends_front a b c w0 w1 (lines_text all) (lines_text rows) (lines_text more) (lines_text rest)
+    (ap lines_text e ∙ lines_text-append rows (more ++ rest) ∙ ap (λ t. lines_text rows ++ t) (lines_text-append more rest)) p q
+
+-- ---- a name without a place
+
+pub unused_there : (name : List ℕ) (rows : List Fields) → length rows ≡ 0 → or_unused name rows ≡ rows ++ unused_row name ∷ []
+unused_there name [] e = refl
+unused_there name (r ∷ rows) e = absurd (omega (arith, e))
+
+pub unused_behind : (name : List ℕ) (rows : List Fields) → (rest : List Fields) × (or_unused name rows ≡ rows ++ rest)
+unused_behind name [] = (unused_row name ∷ [], refl)
+unused_behind name (r ∷ rows) = ([], sym (append-nil (r ∷ rows)))

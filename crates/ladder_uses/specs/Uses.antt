@@ -1,0 +1,113 @@
+-- The cross-reference of a program (the profile): each name with the places where it is drawn.
+use Rattle.std.specs.Prelude.{◌++◌, ◌∷◌, ◌+◌, ◌==◌, ℕ, List, [], Bool, false, if◌then◌else◌, Option, Some, None, codes, decimal, length, map, slice_get}
+use Rattle.std.specs.List.{flat_map, range_with_len}
+use Rattle.std.specs.Option.{option_map_or}
+use Rattle.ladder_vars.specs.Decls.{Declared}
+use Rattle.ladder_vars.specs.declared.decls.Symbol.{Symbol}
+use Rattle.ladder_vars.specs.declared.decls.Symbol.TheVariants as symbol
+use Rattle.ladder_grid.specs.declared.cell.Cell.{Cell}
+use Rattle.ladder_grid.specs.declared.cell.Cell.TheVariants as cell
+use Rattle.ladder_grid.specs.declared.cell.Mode.TheVariants as mode
+use Rattle.ladder_grid.specs.declared.cell.CoilMode.TheVariants as coil
+use Rattle.ladder_grid.specs.declared.cell.Operand.TheVariants as operand
+use Rattle.ladder_grid.specs.Geometry.{at_place}
+use Rattle.ladder_grid.specs.Program.{Drawing, cell_in}
+use Rattle.ladder_records.specs.Left.{Fields}
+use Rattle.ladder_records.specs.Text.{lines_text}
+use Rattle.ladder_uses.specs.declared.usage.Use.{Use}
+use Rattle.ladder_uses.specs.declared.usage.Use.TheVariants.{Contact, Coil, Block}
+
+-- ---- one cell
+
+-- What a cell uses, and how. A contact on an output uses the instance; a lower cell belongs to the block above it.
+abbrev pub use_in : Cell → Option (Symbol × Use)
+use_in cell.Empty = None
+use_in cell.Wire = None
+use_in (cell.Contact m (operand.Var var) memory) = Some (symbol.Var var, Contact m)
+use_in (cell.Contact m (operand.Output inst) memory) = Some (symbol.Instance inst, Contact m)
+use_in (cell.Coil m var memory) = Some (symbol.Var var, Coil m)
+use_in (cell.Block inst) = Some (symbol.Instance inst, Block)
+use_in (cell.Lower inst linked) = None
+use_in (cell.Jump target) = None
+use_in cell.Return = None
+
+-- the word of a use
+abbrev pub use_word : Use → List ℕ
+use_word (Contact mode.Plain) = codes "contact"
+use_word (Contact mode.Negated) = codes "not_contact"
+use_word (Contact mode.Rising) = codes "rise_contact"
+use_word (Contact mode.Falling) = codes "fall_contact"
+use_word (Coil coil.Store) = codes "coil"
+use_word (Coil coil.Inverse) = codes "not_coil"
+use_word (Coil coil.Set) = codes "set_coil"
+use_word (Coil coil.Reset) = codes "reset_coil"
+use_word (Coil coil.Rising) = codes "rise_coil"
+use_word (Coil coil.Falling) = codes "fall_coil"
+use_word Block = codes "block"
+
+-- whether two variables or two instances are the same
+abbrev pub same_symbol : Symbol → Symbol → Bool
+same_symbol (symbol.Var a) (symbol.Var b) = a == b
+same_symbol (symbol.Instance a) (symbol.Instance b) = a == b
+same_symbol (symbol.Var a) (symbol.Instance b) = false
+same_symbol (symbol.Instance a) (symbol.Var b) = false
+
+-- the use where it is one of this symbol
+abbrev pub if_of : Symbol → Option (Symbol × Use) → Option Use
+if_of s None = None
+if_of s (Some used) = if same_symbol s used.0 then Some used.1 else None
+
+-- how a cell uses this symbol, where it does
+abbrev pub use_of : Symbol → Cell → Option Use
+use_of s c = if_of s (use_in c)
+
+-- ---- one name
+
+-- The row of a name at a place. Rungs, rows and columns are counted from 1.
+abbrev pub use_row : List ℕ → Use → ℕ → Fields
+use_row name used = at_place (λ rung row column. name ∷ use_word used ∷ decimal (rung + 1) ∷ decimal (row + 1) ∷ decimal (column + 1) ∷ [])
+
+-- the row of a name that is drawn nowhere
+abbrev pub unused_row : List ℕ → Fields
+unused_row name = name ∷ codes "unused" ∷ codes "0" ∷ codes "0" ∷ codes "0" ∷ []
+
+-- one row where a cell uses the name, and else none
+abbrev pub row_of : List ℕ → ℕ → Option Use → List Fields
+row_of name place None = []
+row_of name place (Some used) = use_row name used place ∷ []
+
+-- a row for each place where the symbol is drawn, by rung, column and row
+abbrev pub place_rows : Drawing → List ℕ → Symbol → List Fields
+place_rows p name s = flat_map (λ place. row_of name place (use_of s (cell_in p place))) (range_with_len 0 (length p.sites))
+
+-- these rows, or the one row of a name that has none
+abbrev pub or_unused : List ℕ → List Fields → List Fields
+or_unused name [] = unused_row name ∷ []
+or_unused name (r ∷ rows) = r ∷ rows
+
+-- ---- all names
+
+-- how a symbol is spelled where it is declared
+abbrev pub name_of : Declared → Symbol → List ℕ
+name_of declared (symbol.Var number) = option_map_or (λ v. v.name) (slice_get declared.vars number) []
+name_of declared (symbol.Instance number) = option_map_or (λ i. i.name) (slice_get declared.instances number) []
+
+-- all variables, and then all instances, as they are declared
+abbrev pub symbols_of : Declared → List Symbol
+symbols_of declared =
+    map symbol.Var (range_with_len 0 (length declared.vars)) ++ map symbol.Instance (range_with_len 0 (length declared.instances))
+
+-- the rows of a symbol, one at least
+abbrev pub symbol_rows : Drawing → Symbol → List Fields
+symbol_rows p s = or_unused (name_of p.decls s) (place_rows p (name_of p.decls s) s)
+
+-- the rows behind the header
+abbrev pub use_rows : Drawing → List Fields
+use_rows p = flat_map (symbol_rows p) (symbols_of p.decls)
+
+abbrev pub header : Fields
+header = codes "name" ∷ codes "use" ∷ codes "rung" ∷ codes "row" ∷ codes "column" ∷ []
+
+-- the text that is written
+abbrev pub uses_text : Drawing → List ℕ
+uses_text p = lines_text (header ∷ use_rows p)

@@ -1,0 +1,7 @@
+//! The cross-reference of a program: each name with the places where it is drawn.
+#![tactic(auto)]
+
+mod usage;
+mod uses;
+
+pub use uses::write_uses;

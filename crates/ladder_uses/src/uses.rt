@@ -1,0 +1,194 @@
+//! The writing of a cross-reference.
+ghost use Rattle.std.specs.Prelude.{◌≡◌, ◌*◌, ◌+◌, ◌<◌, ◌≤◌, ◌∷◌, [], IfOk, Some, codes, length, slice_get};
+ghost use Rattle.ladder_grid.specs.declared.geometry.TheConstants.{PLACES, RUNGS};
+ghost use Rattle.ladder_records.specs.Text.{line_text, lines_text};
+ghost use Rattle.ladder_text.specs.Block.{Sends};
+ghost use Rattle.ladder_text.specs.Log.{Puts};
+ghost use Rattle.ladder_uses.specs.Uses.{header, name_of, place_rows, symbol_rows, symbols_of, unused_row, use_row, use_rows, uses_text};
+
+use crate::usage::{Use, use_at, use_word};
+use itoa::Buffer;
+use ladder_grid::Program;
+use ladder_grid::geometry::{PLACES, ROWS};
+use ladder_records::add_line;
+use ladder_text::{Block, Sink, WriteFault};
+use ladder_vars::{Decls, Symbol};
+
+fn add_header<W: Sink>(block: &mut Block, writer: &mut W) -> Result<(), WriteFault>
+    ensures { Sends (W.log writer.old) (W.log writer.new) block.old block.new result (line_text header) }
+{
+    let others = [b"use".as_slice(), b"rung", b"row", b"column"];
+    add_line(block, b"name", others.as_slice(), writer)
+}
+
+fn row_line<W: Sink>(
+    block: &mut Block,
+    name: &[u8],
+    word: &[u8],
+    rung: &[u8],
+    row: &[u8],
+    column: &[u8],
+    writer: &mut W,
+) -> Result<(), WriteFault>
+    ensures { Sends (W.log writer.old) (W.log writer.new) block.old block.new result (line_text (name.now ∷ word.now ∷ rung.now ∷ row.now ∷ column.now ∷ [])) }
+{
+    add_line(block, name, [word, rung, row, column].as_slice(), writer)
+}
+
+/// Adds the row of a name at a place.
+fn add_row<W: Sink>(
+    block: &mut Block,
+    name: &[u8],
+    used: Use,
+    place: usize,
+    writer: &mut W,
+) -> Result<(), WriteFault>
+    requires { place < PLACES * RUNGS }
+    ensures { Sends (W.log writer.old) (W.log writer.new) block.old block.new result (line_text (use_row name.now used place)) }
+{
+    let (mut first, mut second, mut third) = (Buffer::new(), Buffer::new(), Buffer::new());
+    let rung = first.format(place / PLACES + 1).as_bytes();
+    let row = second.format(place % PLACES % ROWS + 1).as_bytes();
+    let column = third.format(place % PLACES / ROWS + 1).as_bytes();
+    row_line(block, name, use_word(used), rung, row, column, writer)
+}
+
+/// Adds the row of a name that is drawn nowhere.
+fn add_unused<W: Sink>(block: &mut Block, name: &[u8], writer: &mut W) -> Result<(), WriteFault>
+    ensures { Sends (W.log writer.old) (W.log writer.new) block.old block.new result (line_text (unused_row name.now)) }
+{
+    row_line(block, name, b"unused", b"0", b"0", b"0", writer)
+}
+
+/// Adds a row for each place where the symbol is drawn, and answers how many.
+fn add_places<W: Sink>(
+    block: &mut Block,
+    program: &Program,
+    name: &[u8],
+    symbol: Symbol,
+    writer: &mut W,
+) -> Result<u64, WriteFault>
+    ensures sends { Sends (W.log writer.old) (W.log writer.new) block.old block.new result (lines_text (place_rows program.now name.now symbol)) }
+    ensures count { IfOk result (λ n. n ≡ length (place_rows program.now name.now symbol)) }
+    ensures few { IfOk result (λ n. n ≤ PLACES * RUNGS) }
+{
+    let mut rows = 0u64;
+    for place in 0..PLACES * program.rungs() {
+        let Some(used) = use_at(program, symbol, place) else {
+            continue;
+        };
+        let Ok(()) = add_row(block, name, used, place, writer) else {
+            return Err(WriteFault);
+        };
+        rows += 1;
+    }
+    Ok(rows)
+}
+
+/// How the symbol is spelled where it is declared.
+fn name_of(decls: &Decls, symbol: Symbol) -> &[u8]
+    ensures { result.now ≡ name_of decls.now symbol }
+{
+    match symbol {
+        Symbol::Var(var) => match decls.vars().get(var) {
+            Some(var) => var.name.bytes(),
+            None => b"",
+        },
+        Symbol::Instance(inst) => match decls.instances().get(inst) {
+            Some(instance) => instance.name.bytes(),
+            None => b"",
+        },
+    }
+}
+
+/// Adds the rows of a symbol, one at least, and answers how many.
+fn add_symbol<W: Sink>(
+    block: &mut Block,
+    program: &Program,
+    symbol: Symbol,
+    writer: &mut W,
+) -> Result<u64, WriteFault>
+    ensures sends { Sends (W.log writer.old) (W.log writer.new) block.old block.new result (lines_text (symbol_rows program.now symbol)) }
+    ensures count { IfOk result (λ n. n ≡ length (symbol_rows program.now symbol)) }
+    ensures few { IfOk result (λ n. n ≤ PLACES * RUNGS) }
+{
+    let name = name_of(program.decls(), symbol);
+    let Ok(rows) = add_places(block, program, name, symbol, writer) else {
+        return Err(WriteFault);
+    };
+    if 0 < rows {
+        return Ok(rows);
+    }
+    let Ok(()) = add_unused(block, name, writer) else {
+        return Err(WriteFault);
+    };
+    Ok(1)
+}
+
+/// What is declared with a number, where the instances are counted behind the variables.
+fn symbol_at(decls: &Decls, number: usize) -> Symbol
+    requires { number < length (symbols_of decls.now) }
+    ensures { slice_get (symbols_of decls.now) number ≡ Some result }
+{
+    let vars = decls.vars().len();
+    if number < vars {
+        Symbol::Var(number)
+    } else {
+        Symbol::Instance(number - vars)
+    }
+}
+
+/// Adds the rows of all that is declared, and answers how many.
+fn add_symbols<W: Sink>(
+    block: &mut Block,
+    program: &Program,
+    writer: &mut W,
+) -> Result<u64, WriteFault>
+    ensures sends { Sends (W.log writer.old) (W.log writer.new) block.old block.new result (lines_text (use_rows program.now)) }
+    ensures count { IfOk result (λ n. n ≡ length (use_rows program.now)) }
+{
+    let decls = program.decls();
+    let mut total = 0u64;
+    for number in 0..decls.vars().len() + decls.instances().len() {
+        let Ok(rows) = add_symbol(block, program, symbol_at(decls, number), writer) else {
+            return Err(WriteFault);
+        };
+        total += rows;
+    }
+    Ok(total)
+}
+
+/// Adds the header and all rows, and answers how many rows.
+fn add_uses<W: Sink>(
+    block: &mut Block,
+    program: &Program,
+    writer: &mut W,
+) -> Result<u64, WriteFault>
+    ensures sends { Sends (W.log writer.old) (W.log writer.new) block.old block.new result (uses_text program.now) }
+    ensures count { IfOk result (λ n. n ≡ length (use_rows program.now)) }
+{
+    let Ok(()) = add_header(block, writer) else {
+        return Err(WriteFault);
+    };
+    add_symbols(block, program, writer)
+}
+
+/// Writes the cross-reference of a program: a header, and for each variable and then each instance a row for each place where it is
+/// drawn, or one row where there is none. It answers the number of rows behind the header, and allocates nothing.
+///
+/// # Errors
+///
+/// X6: the writer failed. What was written is a prefix of the text.
+pub fn write_uses<W: Sink>(program: &Program, writer: &mut W) -> Result<u64, WriteFault>
+    ensures wrote { Puts (W.log writer.old) (W.log writer.new) result (uses_text program.now) }
+    ensures rows { IfOk result (λ n. n ≡ length (use_rows program.now)) }
+{
+    let mut block = Block::new();
+    let Ok(rows) = add_uses(&mut block, program, writer) else {
+        return Err(WriteFault);
+    };
+    let Ok(()) = block.flush(writer) else {
+        return Err(WriteFault);
+    };
+    Ok(rows)
+}
