@@ -10,3 +10,4 @@ pub use ladder_text::{
     put, put_pieces, read_text,
 };
 pub use ladder_trace::{SimFault, simulate};
+pub use ladder_uses::write_uses;

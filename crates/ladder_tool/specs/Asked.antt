@@ -1,7 +1,15 @@
--- Private to the tool: what a request for causes asks, by its words.
-use Rattle.std.specs.Prelude.{map, string_bytes}
+-- Private to the tool: which text is asked for, and what a request for causes asks.
+use Rattle.std.specs.Prelude.{ℕ, List, map, string_bytes}
+use Rattle.ladder_grid.specs.Program.{Drawing}
+use Rattle.ladder_uses.specs.Uses.{uses_text}
 use Rattle.ladder_tool.specs.declared.listing.Asking.{Asking}
+use Rattle.ladder_tool.specs.declared.printing.About.{About}
+use Rattle.ladder_tool.specs.declared.printing.About.TheVariants.{Counts, Uses}
 use Rattle.ladder_tool.specs.Performs as performs
+
+abbrev pub about_text : About → Drawing → List ℕ
+about_text Counts = performs.check_line
+about_text Uses = uses_text
 
 abbrev pub asking_of : Asking → performs.Asking
 asking_of a = record { moment = a.moment; after = a.after; limit = a.limit; coil = a.coil.now; inputs = map string_bytes a.inputs.now }

@@ -3,7 +3,7 @@ use Rattle.std.specs.Prelude.{◌≡◌, ◌<◌, ◌^◌, ℕ, List, Option, No
 use Rattle.std.specs.Str.Parse.{IsNumeral, digits_value, without_leading_plus}
 use Rattle.clap.specs.Words.{App, Row, Text, all_of, first_of, one_of, subcommand_of}
 use Rattle.ladder_tool.specs.declared.request.Request.{Request}
-use Rattle.ladder_tool.specs.declared.request.Request.TheVariants.{Causes, Check, Sim}
+use Rattle.ladder_tool.specs.declared.request.Request.TheVariants.{Causes, Check, Sim, Uses}
 
 abbrev pub HasText : Text → List Row → List ℕ → Type 0
 HasText id rows text = first_of id rows ≡ Some text
@@ -34,6 +34,7 @@ Asks name rows (Sim state save file stimulus) = (name ≡ codes "sim")
     × HasPath (codes "save") rows (option_map string_bytes save)
     × HasText (codes "file") rows (string_bytes file)
     × HasText (codes "stimulus") rows (string_bytes stimulus)
+Asks name rows (Uses file) = (name ≡ codes "uses") × HasText (codes "file") rows (string_bytes file)
 
 -- the command takes the words, and they ask this
 abbrev pub AsksBy : App → List Text → Request → Type 0

@@ -1,6 +1,6 @@
 -- The command line, as clap's definitions of a simple command read it: `ladder check FILE`,
--- `ladder causes [--state S] [--at N] [--after N] [--limit N] FILE COIL [INPUT]...` and
--- `ladder sim [--state S] [--save T] FILE STIMULUS`.
+-- `ladder causes [--state STATE] [--at MS] [--after N] [--limit N] FILE COIL [INPUT]...`,
+-- `ladder sim [--state STATE] [--save STATE] FILE STIMULUS` and `ladder uses FILE`.
 use Rattle.std.specs.Prelude.{◌≡◌, Some, codes, true, false}
 use Rattle.clap.specs.Words.{App, Rule, Text, app_of, new_app, new_rule, with_rule, with_subcommand}
 use Rattle.clap.specs.declared.builder.ArgAction.TheVariants.{Append}
@@ -10,22 +10,23 @@ use Rattle.clap.specs.declared.builder.value_parser.ValueParser.TheVariants.{Uns
 
 -- a word that must be there
 abbrev pub place_rule : Text → Rule
-place_rule id = record (new_rule id) { required = true }
+place_rule id = record (new_rule id) { required = true; value_names = 1 }
 
 -- an option with the path of a file
 abbrev pub path_rule : Text → Rule
-path_rule id = record (new_rule id) { long = Some id }
+path_rule id = record (new_rule id) { long = Some id; value_names = 1 }
 
 -- an option with a number of 64 bits
 abbrev pub number_rule : Text → Rule
-number_rule id = record (new_rule id) { long = Some id; parser = Some (Unsigned 0 18446744073709551615) }
+number_rule id = record (new_rule id) { long = Some id; value_names = 1; parser = Some (Unsigned 0 18446744073709551615) }
 
 -- the words that are left
 abbrev pub list_rule : Text → Rule
-list_rule id = record (new_rule id) { action = Some Append }
+list_rule id = record (new_rule id) { action = Some Append; value_names = 1 }
 
-abbrev pub check_app : App
-check_app = with_rule (new_app (codes "check")) (place_rule (codes "file"))
+-- a subcommand with the file of a program alone
+abbrev pub file_app : Text → App
+file_app name = with_rule (new_app name) (place_rule (codes "file"))
 
 abbrev pub causes_options : App
 causes_options = with_rule (with_rule (with_rule (with_rule (new_app (codes "causes"))
@@ -52,10 +53,11 @@ needs_subcommand a = record a { top = record a.top { subcommand_required = true 
 
 abbrev pub ladder_app : App
 ladder_app =
-    with_subcommand (with_subcommand (with_subcommand (needs_subcommand (new_app (codes "ladder")))
-    check_app.top)
+    with_subcommand (with_subcommand (with_subcommand (with_subcommand (needs_subcommand (new_app (codes "ladder")))
+    (file_app (codes "check")).top)
     causes_app.top)
-    sim_app.top
+    sim_app.top)
+    (file_app (codes "uses")).top
 
 -- a command with no argument that is common to all subcommands, which clap reads as this
 abbrev pub IsApp : App → Command → Type 0

@@ -16,10 +16,11 @@ use Rattle.ladder_state.specs.StateText.{state_text}
 use Rattle.ladder_text.specs.Log.{PutsAll, PutsFront, WriteLog}
 use Rattle.ladder_trace.specs.declared.fault.SimFault.{SimFault}
 use Rattle.ladder_trace.specs.Simulation.{Simulates}
+use Rattle.ladder_uses.specs.Uses.{uses_text}
 use Rattle.ladder_tool.specs.declared.fault.ToolFault.{ToolFault}
 use Rattle.ladder_tool.specs.declared.fault.ToolFault.TheVariants as fault
 use Rattle.ladder_tool.specs.declared.request.Request.{Request}
-use Rattle.ladder_tool.specs.declared.request.Request.TheVariants.{Causes, Check, Sim}
+use Rattle.ladder_tool.specs.declared.request.Request.TheVariants.{Causes, Check, Sim, Uses}
 use Rattle.ladder_tool.specs.FaultLine.{fault_line}
 use Rattle.ladder_tool.specs.Setting.{Given, HasProgramFault, HasSettingFault, IsSet, stimulus_records}
 use Rattle.ladder_tool.specs.Variables.{AreVariables, IsUnknownWord, variable_of}
@@ -45,7 +46,7 @@ pub record Refuses (Has : ToolFault → Type 0) (out out' err err' : WriteLog) :
   pub unwritten : out' ≡ out
   pub reported : IsReported err err' reason
 
--- ---- a check
+-- ---- a text about the program alone
 
 -- `rungs R variables V instances I`
 abbrev pub check_line : Drawing → List ℕ
@@ -53,32 +54,33 @@ check_line p =
     codes "rungs " ++ (decimal p.rungs ++ (codes " variables " ++ (decimal (length p.decls.vars) ++ (codes " instances "
     ++ (decimal (length p.decls.instances) ++ codes "\n")))))
 
-abbrev pub HasCheckFault : List ℕ → ToolFault → Type 0
-HasCheckFault text (fault.Grid f) = HasProgramFault text f
-HasCheckFault text (fault.Cause f) = ⊥
-HasCheckFault text (fault.Text k f) = ⊥
-HasCheckFault text (fault.Word number) = ⊥
-HasCheckFault text (fault.Sim f) = ⊥
-HasCheckFault text fault.Write = ⊥
-HasCheckFault text fault.Memory = ⊥
-HasCheckFault text fault.Usage = ⊥
+-- a fault of the program text
+abbrev pub IsNoProgram : List ℕ → ToolFault → Type 0
+IsNoProgram text (fault.Grid f) = HasProgramFault text f
+IsNoProgram text (fault.Cause f) = ⊥
+IsNoProgram text (fault.Text k f) = ⊥
+IsNoProgram text (fault.Word number) = ⊥
+IsNoProgram text (fault.Sim f) = ⊥
+IsNoProgram text fault.Write = ⊥
+IsNoProgram text fault.Memory = ⊥
+IsNoProgram text fault.Usage = ⊥
 
--- Status 0: the line of the check was written.
-pub record IsChecked (text : List ℕ) (out out' err err' : WriteLog) : Type 0 where
+-- Status 0: the text about the program was written.
+pub record Prints (about : Drawing → List ℕ) (text : List ℕ) (out out' err err' : WriteLog) : Type 0 where
   pub program : Drawing
   pub drawn : IsProgram text program
-  pub line : PutsAll out out' (check_line program)
+  pub wrote : PutsAll out out' (about program)
   pub silent : err' ≡ err
 
--- Status 1: `out` failed at that line.
-pub record BreaksCheck (text : List ℕ) (out out' err err' : WriteLog) : Type 0 where
+-- Status 1: `out` failed at that text.
+pub record BreaksPrint (about : Drawing → List ℕ) (text : List ℕ) (out out' err err' : WriteLog) : Type 0 where
   pub program : Drawing
   pub drawn : IsProgram text program
-  pub line : PutsFront out out' (check_line program)
+  pub wrote : PutsFront out out' (about program)
   pub reported : IsReported err err' fault.Write
 
-abbrev pub FailsCheck : List ℕ → WriteLog → WriteLog → WriteLog → WriteLog → Type 0
-FailsCheck text out out' err err' = Refuses (HasCheckFault text) out out' err err' ⊎ BreaksCheck text out out' err err'
+abbrev pub FailsPrint : (Drawing → List ℕ) → List ℕ → WriteLog → WriteLog → WriteLog → WriteLog → Type 0
+FailsPrint about text out out' err err' = Refuses (IsNoProgram text) out out' err err' ⊎ BreaksPrint about text out out' err err'
 
 -- ---- a list of causes
 
@@ -232,16 +234,18 @@ FailsTrace g saves old new = RefusesTrace g old new ⊎ (StopsTrace g old new �
 abbrev pub asking : Option ℕ → Option ℕ → Option ℕ → Text → List Text → Asking
 asking moment after limit coil inputs = record { moment = moment; after = after; limit = limit; coil = coil; inputs = inputs }
 
--- Status 0. A check and a list of causes write nothing on `save`.
+-- Status 0. Only a simulation writes on `save`.
 abbrev pub IsDone : Request → Given → Logs → Logs → Type 0
-IsDone (Check file) g old new = IsChecked g.program old.out new.out old.err new.err × (new.save ≡ old.save)
+IsDone (Check file) g old new = Prints check_line g.program old.out new.out old.err new.err × (new.save ≡ old.save)
 IsDone (Causes state moment after limit file coil inputs) g old new =
     ListsCauses g (asking moment after limit (string_bytes coil) (map string_bytes inputs.items)) old.out new.out old.err new.err × (new.save ≡ old.save)
 IsDone (Sim state save file stimulus) g old new = IsTraced g (is_some save) old new
+IsDone (Uses file) g old new = Prints uses_text g.program old.out new.out old.err new.err × (new.save ≡ old.save)
 
 -- Status 1.
 abbrev pub IsFailed : Request → Given → Logs → Logs → Type 0
-IsFailed (Check file) g old new = FailsCheck g.program old.out new.out old.err new.err × (new.save ≡ old.save)
+IsFailed (Check file) g old new = FailsPrint check_line g.program old.out new.out old.err new.err × (new.save ≡ old.save)
 IsFailed (Causes state moment after limit file coil inputs) g old new =
     FailsList g (asking moment after limit (string_bytes coil) (map string_bytes inputs.items)) old.out new.out old.err new.err × (new.save ≡ old.save)
 IsFailed (Sim state save file stimulus) g old new = FailsTrace g (is_some save) old new
+IsFailed (Uses file) g old new = FailsPrint uses_text g.program old.out new.out old.err new.err × (new.save ≡ old.save)

@@ -2,43 +2,69 @@
 ghost use Rattle.std.specs.Prelude.{◌≡◌, IfOk, codes, false};
 ghost use Rattle.clap.specs.Words.{app_of, new_app, rule_of, with_rule, with_subcommand};
 ghost use Rattle.clap.specs.declared.builder.Command.TheViews.{out-Command};
-ghost use Rattle.ladder_tool.specs.CommandLine.{IsApp, causes_app, causes_options, check_app, ladder_app, list_rule, needs_subcommand, number_rule, path_rule, place_rule, sim_app};
+ghost use Rattle.ladder_tool.specs.CommandLine.{IsApp, causes_app, causes_options, file_app, ladder_app, list_rule, needs_subcommand, number_rule, path_rule, place_rule, sim_app};
 
+use super::help::{
+    AFTER_HELP, AT_HELP, CAUSES_ABOUT, CHECK_ABOUT, COIL_HELP, FAULTS, FILE_HELP, INPUTS_HELP,
+    LADDER_ABOUT, LIMIT_HELP, SAVE_HELP, SIM_ABOUT, STATE_HELP, STIMULUS_HELP, USES_ABOUT,
+};
 use clap::{Arg, ArgAction, Command, value_parser};
 use std::alloc::{AllocError, Global};
 
+/// How help shows a word or the value of an option.
+#[derive(Clone, Copy)]
+struct Shown<'a> {
+    name: &'a str,
+    help: &'a str,
+}
+
+fn shown<'a>(name: &'a str, help: &'a str) -> Shown<'a> {
+    Shown { name, help }
+}
+
 /// A word that must be there, by its place.
-fn place<'a>(alloc: Global, id: &'a str) -> Arg<'a>
+fn place<'a>(alloc: Global, id: &'a str, shown: Shown<'a>) -> Arg<'a>
     ensures rule { rule_of result ≡ place_rule id.entry.now }
     ensures global { result.global ≡ false }
 {
-    Arg::new(alloc, id).required(true)
+    Arg::new(alloc, id)
+        .required(true)
+        .value_name(shown.name)
+        .help(shown.help)
 }
 
 /// An option with the path of a file.
-fn path<'a>(alloc: Global, id: &'a str) -> Arg<'a>
+fn path<'a>(alloc: Global, id: &'a str, shown: Shown<'a>) -> Arg<'a>
     ensures rule { rule_of result ≡ path_rule id.entry.now }
     ensures global { result.global ≡ false }
 {
-    Arg::new(alloc, id).long(id)
+    Arg::new(alloc, id)
+        .long(id)
+        .value_name(shown.name)
+        .help(shown.help)
 }
 
 /// An option with a number.
-fn number<'a>(alloc: Global, id: &'a str) -> Arg<'a>
+fn number<'a>(alloc: Global, id: &'a str, shown: Shown<'a>) -> Arg<'a>
     ensures rule { rule_of result ≡ number_rule id.entry.now }
     ensures global { result.global ≡ false }
 {
     Arg::new(alloc, id)
         .long(id)
         .value_parser(value_parser!(u64))
+        .value_name(shown.name)
+        .help(shown.help)
 }
 
 /// The words that are left.
-fn list<'a>(alloc: Global, id: &'a str) -> Arg<'a>
+fn list<'a>(alloc: Global, id: &'a str, shown: Shown<'a>) -> Arg<'a>
     ensures rule { rule_of result ≡ list_rule id.entry.now }
     ensures global { result.global ≡ false }
 {
-    Arg::new(alloc, id).action(ArgAction::Append)
+    Arg::new(alloc, id)
+        .action(ArgAction::Append)
+        .value_name(shown.name)
+        .help(shown.help)
 }
 
 fn add<'a>(command: Command<'a>, arg: Arg<'a>) -> Result<Command<'a>, AllocError>
@@ -49,39 +75,53 @@ fn add<'a>(command: Command<'a>, arg: Arg<'a>) -> Result<Command<'a>, AllocError
     command.arg(arg)
 }
 
-fn check<'a>(alloc: Global) -> Result<Command<'a>, AllocError>
-    ensures { IfOk result (IsApp check_app) }
+/// A subcommand, of which help says what it does.
+fn new<'a>(alloc: Global, name: &'a str, about: &'a str) -> Command<'a>
+    ensures app { app_of result ≡ new_app name.entry.now }
+    ensures globals { (out-Command result).has_globals ≡ false }
 {
-    add(Command::new(alloc, "check"), place(alloc, "file"))
+    Command::new(alloc, name).about(about)
+}
+
+/// A subcommand with the file of a program alone.
+fn of_file<'a>(
+    alloc: Global,
+    name: &'a str,
+    about: &'a str,
+) -> Result<Command<'a>, AllocError>
+    ensures { IfOk result (IsApp (file_app name.entry.now)) }
+{
+    let file = place(alloc, "file", shown("FILE", FILE_HELP));
+    add(new(alloc, name, about), file)
 }
 
 fn causes_options<'a>(alloc: Global) -> Result<Command<'a>, AllocError>
     ensures { IfOk result (IsApp causes_options) }
 {
-    let command = Command::new(alloc, "causes");
-    let command = add(command, path(alloc, "state"))?;
-    let command = add(command, number(alloc, "at"))?;
-    let command = add(command, number(alloc, "after"))?;
-    add(command, number(alloc, "limit"))
+    let command = new(alloc, "causes", CAUSES_ABOUT);
+    let command = add(command, path(alloc, "state", shown("STATE", STATE_HELP)))?;
+    let command = add(command, number(alloc, "at", shown("MS", AT_HELP)))?;
+    let command = add(command, number(alloc, "after", shown("N", AFTER_HELP)))?;
+    add(command, number(alloc, "limit", shown("N", LIMIT_HELP)))
 }
 
 fn causes<'a>(alloc: Global) -> Result<Command<'a>, AllocError>
     ensures { IfOk result (IsApp causes_app) }
 {
     let command = causes_options(alloc)?;
-    let command = add(command, place(alloc, "file"))?;
-    let command = add(command, place(alloc, "coil"))?;
-    add(command, list(alloc, "inputs"))
+    let command = add(command, place(alloc, "file", shown("FILE", FILE_HELP)))?;
+    let command = add(command, place(alloc, "coil", shown("COIL", COIL_HELP)))?;
+    add(command, list(alloc, "inputs", shown("INPUT", INPUTS_HELP)))
 }
 
 fn sim<'a>(alloc: Global) -> Result<Command<'a>, AllocError>
     ensures { IfOk result (IsApp sim_app) }
 {
-    let command = Command::new(alloc, "sim");
-    let command = add(command, path(alloc, "state"))?;
-    let command = add(command, path(alloc, "save"))?;
-    let command = add(command, place(alloc, "file"))?;
-    add(command, place(alloc, "stimulus"))
+    let command = new(alloc, "sim", SIM_ABOUT);
+    let command = add(command, path(alloc, "state", shown("STATE", STATE_HELP)))?;
+    let command = add(command, path(alloc, "save", shown("STATE", SAVE_HELP)))?;
+    let command = add(command, place(alloc, "file", shown("FILE", FILE_HELP)))?;
+    add(command, place(alloc, "stimulus", shown("STIMULUS", STIMULUS_HELP)))
 }
 
 fn join<'a>(command: Command<'a>, sub: Command<'a>) -> Result<Command<'a>, AllocError>
@@ -94,14 +134,18 @@ fn join<'a>(command: Command<'a>, sub: Command<'a>) -> Result<Command<'a>, Alloc
 fn top<'a>(alloc: Global) -> Command<'a>
     ensures { app_of result ≡ needs_subcommand (new_app (codes "ladder")) }
 {
-    Command::new(alloc, "ladder").subcommand_required(true)
+    Command::new(alloc, "ladder")
+        .subcommand_required(true)
+        .about(LADDER_ABOUT)
+        .after_help(FAULTS)
 }
 
 /// The whole command line.
 pub(crate) fn ladder<'a>(alloc: Global) -> Result<Command<'a>, AllocError>
     ensures { IfOk result (λ c. app_of c ≡ ladder_app) }
 {
-    let command = join(top(alloc), check(alloc)?)?;
+    let command = join(top(alloc), of_file(alloc, "check", CHECK_ABOUT)?)?;
     let command = join(command, causes(alloc)?)?;
-    join(command, sim(alloc)?)
+    let command = join(command, sim(alloc)?)?;
+    join(command, of_file(alloc, "uses", USES_ABOUT)?)
 }

@@ -1,11 +1,12 @@
 //! The command line of the program `ladder`, and what it performs.
 #![tactic(auto)]
 
-mod checking;
 mod command;
 mod fault;
+mod help;
 mod listing;
 mod performing;
+mod printing;
 mod program;
 mod report;
 mod request;

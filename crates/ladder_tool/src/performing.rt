@@ -3,8 +3,8 @@ ghost use Rattle.std.specs.Prelude.{◌≡◌, ◌≤◌};
 ghost use Rattle.ladder_tool.specs.Performs.{IsDone, IsFailed, logs};
 ghost use Rattle.ladder_tool.specs.Setting.{given_by};
 
-use super::checking::check;
 use super::listing::{Asking, list_causes};
+use super::printing::{About, print};
 use super::request::{Request, Texts};
 use super::tracing::trace;
 use ladder_text::Sink;
@@ -25,7 +25,8 @@ pub fn perform<O: Sink, S: Sink, E: Sink>(
     ensures failed { result ≡ 1 → IsFailed request.now (given_by texts.now) (logs (O.log out.old) (S.log save.old) (E.log err.old)) (logs (O.log out.new) (S.log save.new) (E.log err.new)) }
 {
     match request {
-        Request::Check { .. } => check(alloc, &texts.program, out, err),
+        Request::Check { .. } => print(alloc, About::Counts, &texts.program, out, err),
+        Request::Uses { .. } => print(alloc, About::Uses, &texts.program, out, err),
         Request::Causes {
             moment,
             after,

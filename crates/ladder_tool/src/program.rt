@@ -96,7 +96,7 @@ fn path(option: &Option<String>) -> Option<&str> {
 
 fn paths_of(request: &Request) -> Paths<'_> {
     match request {
-        Request::Check { file } => Paths {
+        Request::Check { file } | Request::Uses { file } => Paths {
             program: file.as_str(),
             state: None,
             stimulus: None,

@@ -37,6 +37,11 @@ pub enum Request {
         /// The file of the stimulus.
         stimulus: String,
     },
+    /// The cross-reference: where each variable and each instance is drawn.
+    Uses {
+        /// The file of the program text.
+        file: String,
+    },
 }
 
 /// The texts that a request is about.

@@ -55,6 +55,10 @@ fn request_of(alloc: Global, name: &str, found: &ArgMatches<'_>) -> Result<Reque
             let file = text(alloc, found, "file")?;
             Ok(Request::Check { file })
         }
+        "uses" => {
+            let file = text(alloc, found, "file")?;
+            Ok(Request::Uses { file })
+        }
         "causes" => causes_request(alloc, found),
         "sim" => sim_request(alloc, found),
         _ => Err(WordFault::Usage),

@@ -1,6 +1,6 @@
 use Rattle.std.proofs.Common.{refl, inl}
 use Rattle.ladder_tool.specs.declared.fault.ToolFault.TheVariants as fault
-use Rattle.ladder_tool.proofs.checking.check.Goals as goal
+use Rattle.ladder_tool.proofs.printing.print.Goals as goal
 
 pub returns-in-Err-clause-failed : goal.returns-in-Err-clause-failed
 returns-in-Err-clause-failed g c = λ status. inl (record {

@@ -1,0 +1,49 @@
+//! The texts of help.
+
+pub(crate) const LADDER_ABOUT: &str =
+    "Checks ladder diagrams, lists what switches a coil on, and simulates (IEC 61131-3 drawn in characters)";
+
+pub(crate) const FAULTS: &str = "A line `fault CODE ..` on standard error says what is wrong, and where:
+  V1 to V9    the declarations break a rule on that line
+  G1 to G15   the drawing breaks a rule in that rung, on that line
+  C1 to C7    there is no list of causes for this question
+  X1 to X7    a file can't be read, or a word or record of it is bad; X6: a write failed; X7: out of memory
+  usage       the words are not those of a request
+Status: 0 all was written, 1 a fault stopped it, 2 wrong words.
+Documents: README.md and docs/ of the repository.";
+
+pub(crate) const CHECK_ABOUT: &str =
+    "Checks a program, and prints how many rungs, variables and instances it has";
+
+pub(crate) const CAUSES_ABOUT: &str = "Lists each assignment of the inputs after which one scan leaves the coil ON, \
+     with the first input most significant";
+
+pub(crate) const SIM_ABOUT: &str =
+    "Scans a stimulus record by record, and prints the outputs after each scan";
+
+pub(crate) const USES_ABOUT: &str =
+    "Prints where each variable and each instance is drawn: rung, row and column";
+
+pub(crate) const FILE_HELP: &str =
+    "The program: declarations and rungs; at most 1048576 bytes";
+
+pub(crate) const COIL_HELP: &str = "The variable of a coil, in any letter case";
+
+pub(crate) const INPUTS_HELP: &str =
+    "Inputs to list, at most 32; the others keep what the state stores";
+
+pub(crate) const STIMULUS_HELP: &str =
+    "The stimulus, CSV: `moment,INPUT,..`, then a moment in ms and a 0 or 1 for each input; at most 16777216 bytes";
+
+pub(crate) const STATE_HELP: &str =
+    "The state to begin in, as --save writes it; without it the fresh state";
+
+pub(crate) const SAVE_HELP: &str = "The file that gets the state after the last scan";
+
+pub(crate) const AT_HELP: &str =
+    "The moment of the scan in ms, not before the stored one; without it the stored one";
+
+pub(crate) const AFTER_HELP: &str =
+    "Lists the causes with a greater number than N only";
+
+pub(crate) const LIMIT_HELP: &str = "Lists at most N causes";
