@@ -1,5 +1,5 @@
 -- The records of a state stand in a text as they are: their fields hold no comma, quote or line end.
-use Rattle.std.proofs.Common.{◌≡◌, ◌<◌, ◌≤◌, ◌+◌, ◌*◌, ◌==◌, ◌&&◌, ◌∙◌, ◌^◌, ◌∷◌, ◌++◌, [], if◌then◌else◌, ℕ, ℤ, pos, negsuc, suc, zero, Bool, true, false, List, Some, refl, sym, ap, arith, decimal, length, slice_get}
+use Rattle.std.proofs.Common.{◌≡◌, ◌<◌, ◌≤◌, ◌==◌, ◌&&◌, ◌∙◌, ◌^◌, ◌∷◌, ◌++◌, [], if◌then◌else◌, ℕ, ℤ, pos, negsuc, suc, Bool, true, false, List, Some, refl, sym, ap, arith, decimal, length, slice_get}
 use Rattle.std.specs.List.{list_all}
 use Rattle.std.specs.Fmt.{signed_decimal}
 use Rattle.std.specs.Int.{w16}
@@ -115,11 +115,12 @@ state_plain p s whole vars instances ok =
     let memories = each_plain every memory_record (memory_places p) s.held.kept.memories
     (λ i place b e f. memory_plain place b (omega (arith, whole.few, whole.size, place_below p (length p.sites) i place e))) in
     let blocks = each_plain (tells Second) block_item p.decls.instances s.held.kept.blocks
-    (λ i x z e f. block_plain x.name s.moment z (instances i x e) ok.standing.small (can_hold p s s.moment ok refl i x z e f).possible) in
-    (
+    (λ i x z e f. block_plain x.name s.moment z (instances i x e) ok.standing.small (can_hold p s s.moment ok refl i x z e f).possible) in (
       (omega arith, refl, (refl, tt)),
-      ((omega arith, refl, (decimal_plain s.moment ok.standing.small, tt)),
-      append_plain (values_of p s) (memories_in p s ++ blocks_in Second p s) values (append_plain (memories_in p s) (blocks_in Second p s) memories blocks)),
+      (
+        (omega arith, refl, (decimal_plain s.moment ok.standing.small, tt)),
+        append_plain (values_of p s) (memories_in p s ++ blocks_in Second p s) values (append_plain (memories_in p s) (blocks_in Second p s) memories blocks),
+      ),
     )
 
 -- the records of the text of a state are its records

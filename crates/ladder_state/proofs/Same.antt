@@ -1,23 +1,18 @@
 -- Records tell the state: two states with the same records are one.
-use Rattle.std.proofs.Common.{◌≡◌, ◌<◌, ◌+◌, ◌∙◌, ◌^◌, ◌∷◌, ◌++◌, ◌⊎◌, inl, inr, [], if◌then◌else◌, ℕ, ℤ, suc, zero, Bool, true, false, List, Result, Ok, Err, Some, refl, sym, ap, ap₂, subst, arith, codes, decimal, drop, get_or, length, slice_get, take}
-use Rattle.std.specs.Fmt.{signed_decimal}
-use Rattle.std.specs.Int.{w16}
-use Rattle.std.specs.Prelude.{FitsSigned}
+use Rattle.std.proofs.Common.{◌≡◌, ◌<◌, ◌∙◌, ◌^◌, ◌∷◌, ◌++◌, inl, inr, [], if◌then◌else◌, ℕ, suc, Bool, true, false, List, Ok, Err, Some, refl, sym, ap, ap₂, subst, arith, drop, get_or, length, slice_get, take}
 use Rattle.std.proofs.lemmas.Fmt.{decimal_injective, signed_decimal_injective}
 use Rattle.ladder_records.specs.Left.{Fields}
 use Rattle.ladder_records.specs.Text.{bit_text, records_of}
-use Rattle.ladder_text.specs.declared.fault.TextFault.{TextFault}
 use Rattle.ladder_text.specs.declared.fault.TextFault.TheVariants as fault
 use Rattle.ladder_vars.specs.declared.decls.Instance.{Instance}
 use Rattle.ladder_vars.specs.declared.decls.Var.{Var}
 use Rattle.ladder_grid.specs.Program.{Drawing}
 use Rattle.ladder_scan.specs.declared.block.Stored.{Stored}
 use Rattle.ladder_scan.specs.declared.block.Stored.TheVariants.{Timer, Counter, Bistable}
-use Rattle.ladder_scan.specs.Standing.{CanStore, IsPossible, Standing, shape, shape_of}
+use Rattle.ladder_scan.specs.Standing.{IsPossible, Standing, shape}
 use Rattle.ladder_state.specs.Laws.{ReadsBack, TellsOneState}
-use Rattle.ladder_state.specs.Parts.{CanHold, block_item, every, some, tells}
-use Rattle.ladder_state.specs.ReadState.{Reads}
-use Rattle.ladder_state.specs.StateText.{AreTold, HasRecords, IsStateOf, block_record, each, has_record, item_records, memory_places, memory_record, moment_record, state_records, state_text, var_record}
+use Rattle.ladder_state.specs.Parts.{block_item, every, some, tells}
+use Rattle.ladder_state.specs.StateText.{AreTold, IsStateOf, block_record, each, memory_places, memory_record, state_records, state_text, var_record}
 use Rattle.ladder_state.specs.declared.version.Version.{Version}
 use Rattle.ladder_state.specs.declared.version.Version.TheVariants.{Second}
 use Rattle.ladder_state.proofs.Heads.{moment_same, told_second, version_same}
@@ -123,9 +118,10 @@ values_same v p s t ok fine e =
 memories_same : (v : Version) (p : Drawing) (s t : Standing) → IsStateOf p s → IsStateOf p t → memories_in p s ++ blocks_in v p s ≡ memories_in p t ++ blocks_in v p t
     → (s.held.kept.memories ≡ t.held.kept.memories) × (blocks_in v p s ≡ blocks_in v p t)
 memories_same v p s t ok fine e =
-    let parts = same_front (memories_in p s) (memories_in p t) (blocks_in v p s) (blocks_in v p t) (memories_count p s ok ∙ sym (memories_count p t fine)) e in
-    (each_same every memory_record (memory_places p) s.held.kept.memories t.held.kept.memories (memory_count p s ok) (memory_count p t fine) (λ i x y z a b c same. memory_same x y z (same refl)) parts.0,
-    parts.1)
+    let parts = same_front (memories_in p s) (memories_in p t) (blocks_in v p s) (blocks_in v p t) (memories_count p s ok ∙ sym (memories_count p t fine)) e in (
+      each_same every memory_record (memory_places p) s.held.kept.memories t.held.kept.memories (memory_count p s ok) (memory_count p t fine) (λ i x y z a b c same. memory_same x y z (same refl)) parts.0,
+      parts.1,
+    )
 
 state_same : (v : Version) (p : Drawing) (s t : Standing) → IsStateOf p s → IsStateOf p t → AreTold v p.decls.instances s.held.kept.blocks
     → AreTold v p.decls.instances t.held.kept.blocks → RecordsTell v p s t → s ≡ t

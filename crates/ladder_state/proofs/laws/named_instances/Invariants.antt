@@ -1,5 +1,4 @@
-use Rattle.std.specs.Prelude.{◌≡◌, ◌<◌, ℕ, Some, true, slice_get}
-use Rattle.ladder_vars.specs.Name.{is_name}
+use Rattle.std.specs.Prelude.{◌<◌, ℕ}
 use Rattle.ladder_state.specs.Named.{IsNamed}
 use Rattle.ladder_state.proofs.laws.named_instances.Given as goal
 
