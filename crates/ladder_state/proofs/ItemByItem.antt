@@ -199,7 +199,7 @@ set_other (b ∷ ys) zero (suc k) y h = refl
 set_other (b ∷ ys) (suc i) zero y h = refl
 set_other (b ∷ ys) (suc i) (suc k) y h = set_other ys i k y (λ e. h (ap suc e))
 
-get_some : {A : Type 0} (xs : List A) (i : ℕ) (x d : A) → slice_get xs i ≡ Some x → get_or xs i d ≡ x
+pub get_some : {A : Type 0} (xs : List A) (i : ℕ) (x d : A) → slice_get xs i ≡ Some x → get_or xs i d ≡ x
 get_some [] i x d e = cc
 get_some (a ∷ xs) zero x d e = cc
 get_some (a ∷ xs) (suc i) x d e = get_some xs i x d e

@@ -2,6 +2,9 @@ pub mod Arms
 pub mod Heads
 pub mod ItemByItem
 pub mod Items
+pub mod Naming
 pub mod Places
+pub mod Plain
+pub mod Same
 pub mod Segments
 pub mod Written

@@ -1,10 +1,11 @@
 -- The places of memories, in order.
-use Rattle.std.proofs.Common.{◌≡◌, ◌+◌, ◌-◌, ◌<◌, ◌≤◌, ◌∙◌, ◌++◌, ◌∷◌, [], ℕ, suc, zero, Bool, true, false, List, refl, sym, ap, subst, arith, append_assoc, length, length-append, take, take_all, add-one}
+use Rattle.std.proofs.Common.{◌≡◌, ◌+◌, ◌-◌, ◌<◌, ◌≤◌, ◌∙◌, ◌++◌, ◌∷◌, ◌⊎◌, inl, inr, [], ℕ, suc, zero, Bool, true, false, List, Some, refl, sym, ap, subst, arith, append_assoc, length, length-append, slice_get, take, take_all, add-one}
 use Rattle.std.specs.List.{count_by}
 use Rattle.std.proofs.lemmas.List.Sums.{count_by_more_no, count_by_more_yes}
 use Rattle.ladder_grid.specs.declared.site.Site.{Site}
 use Rattle.ladder_grid.specs.Program.{Drawing, blank_site, cell_in, has_memory, memories_of}
 use Rattle.ladder_state.specs.StateText.{memory_places, memory_places_before}
+use Rattle.ladder_state.proofs.Items.{some_same}
 
 abbrev here : Drawing → ℕ → Bool
 here p n = has_memory (cell_in p n)
@@ -66,3 +67,24 @@ one_there p n e = rw (add-one n) (place_there p n e)
 
 pub one_not : (p : Drawing) (n : ℕ) → here p n ≡ false → memory_places_before p (n + 1) ≡ memory_places_before p n
 one_not p n e = rw (add-one n) (place_not p n e)
+
+-- ---- each of these places is before the bound
+
+get_push : (xs : List ℕ) (n i x : ℕ) → slice_get (xs ++ n ∷ []) i ≡ Some x → (slice_get xs i ≡ Some x) ⊎ (n ≡ x)
+get_push [] n zero x e = inr (some_same e)
+get_push [] n (suc i) x e = cc
+get_push (a ∷ xs) n zero x e = inl e
+get_push (a ∷ xs) n (suc i) x e = get_push xs n i x e
+
+below_step : (p : Drawing) (n i place : ℕ) (b : Bool) → here p n ≡ b → ((k : ℕ) → slice_get (memory_places_before p n) k ≡ Some place → place < n)
+    → slice_get (memory_places_before p (suc n)) i ≡ Some place → place < suc n
+below_step p n i place true e before h = elim (get_push (memory_places_before p n) n i place (sym (ap (λ l. slice_get l i) (place_there p n e)) ∙ h)) [
+  | inl there ↦ omega (arith, before i there)
+  | inr last ↦ omega (arith, last)
+]
+below_step p n i place false e before h = omega (arith, before i (sym (ap (λ l. slice_get l i) (place_not p n e)) ∙ h))
+
+pub place_below : (p : Drawing) (n i place : ℕ) → slice_get (memory_places_before p n) i ≡ Some place → place < n
+unfolding memory_places_before
+place_below p zero i place e = cc
+place_below p (suc n) i place e = below_step p n i place (here p n) refl (λ k there. place_below p n k place there) e

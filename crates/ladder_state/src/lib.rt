@@ -1,6 +1,7 @@
 //! The text of a state: its records, their reading and their writing.
 #![tactic(auto)]
 
+pub mod laws;
 mod parts;
 mod read;
 mod row;

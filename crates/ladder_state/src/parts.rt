@@ -238,8 +238,9 @@ pub(crate) fn read_parts(
     let Ok(found) = next(records, row) else {
         return Err(TextFault::Memory);
     };
+    let beyond = last + 1;
     if found {
-        return Err(TextFault::BadRow { row: last + 1 });
+        return Err(TextFault::BadRow { row: beyond });
     }
     Ok(())
 }

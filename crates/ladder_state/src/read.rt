@@ -13,7 +13,7 @@ use crate::version::{Version, read_version};
 use csv::ByteRecord;
 use ladder_grid::Program;
 use ladder_records::{Records, next, read_from};
-use ladder_scan::State;
+use ladder_scan::{Memory, State};
 use ladder_text::TextFault;
 use std::alloc::{AllocError, Global};
 
@@ -88,8 +88,9 @@ fn read_records(
 pub fn read_state(alloc: Global, program: &Program, text: &[u8]) -> Result<State, TextFault>
     ensures { Reads program.now (records_of text.now) result }
 {
-    let Ok(mut state) = State::fresh(alloc, program) else {
-        return Err(TextFault::Memory);
+    let mut state = match State::fresh(alloc, program) {
+        Ok(state) => state,
+        Err(Memory) => return Err(TextFault::Memory),
     };
     state.checked();
     let mut records = read_from(alloc, text);

@@ -1,0 +1,20 @@
+-- Laws of the texts of states, each the contract of a function in module `laws`.
+use Rattle.std.specs.Prelude.{◌≡◌, List, Result, Ok, Err}
+use Rattle.std.proofs.Common.{◌⊎◌}
+use Rattle.ladder_records.specs.Left.{Fields}
+use Rattle.ladder_records.specs.Text.{records_of}
+use Rattle.ladder_text.specs.declared.fault.TextFault.{TextFault}
+use Rattle.ladder_text.specs.declared.fault.TextFault.TheVariants as fault
+use Rattle.ladder_grid.specs.Program.{Drawing}
+use Rattle.ladder_scan.specs.Standing.{Standing}
+use Rattle.ladder_state.specs.ReadState.{Reads}
+use Rattle.ladder_state.specs.StateText.{HasRecords, IsStateOf, state_text}
+
+-- What is written is read back: what the reading of the text of a state answers is that state, or want of memory.
+abbrev pub ReadsBack : Drawing → Type 0
+ReadsBack p = (s : Standing) (r : Result Standing TextFault) → IsStateOf p s → Reads p (records_of (state_text p s)) r
+    → (r ≡ Ok s) ⊎ (r ≡ Err fault.Memory)
+
+-- Records are those of one state at most, whatever their version.
+abbrev pub TellsOneState : Drawing → Type 0
+TellsOneState p = (s t : Standing) (rows : List Fields) → IsStateOf p s → IsStateOf p t → HasRecords p s rows → HasRecords p t rows → s ≡ t
