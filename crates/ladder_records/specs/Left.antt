@@ -1,7 +1,7 @@
 -- The records that a csv reader over a text in memory has left.
 use Rattle.std.specs.Prelude.{◌≡◌, ℕ, List, [], ◌∷◌, Some, Bool, true, false}
 use Rattle.std.specs.Borrow.{Bor}
-use Rattle.csv.specs.Reading.{AreRecords, Ready, default_config, reader_config, reader_state, reader_trim, source_of, strip_bom}
+use Rattle.csv.specs.Reading.{AreRecords, Ready, default_config, is_flexible, reader_config, reader_state, reader_trim, source_of, strip_bom}
 use Rattle.csv.specs.declared.reader.Reader.{Reader}
 use Rattle.csv.specs.declared.reader.Trim.TheVariants as trim
 use Rattle.csv.specs.declared.parser.State.TheVariants as st
@@ -9,9 +9,9 @@ use Rattle.csv.specs.declared.parser.State.TheVariants as st
 abbrev pub Fields : Type 0
 Fields = List (List ℕ)
 
--- a reader that gives the records as they stand
+-- a reader that gives the records as they stand, with any number of fields
 abbrev pub IsPlain : Reader (Bor (List ℕ)) → Type 0
-IsPlain r = (reader_trim r ≡ trim.None) × Ready r × (reader_config r ≡ default_config)
+IsPlain r = (reader_trim r ≡ trim.None) × Ready r × (reader_config r ≡ default_config) × (is_flexible r ≡ true)
 
 -- these records are left
 abbrev pub Left : Reader (Bor (List ℕ)) → List Fields → Type 0

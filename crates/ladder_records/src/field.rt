@@ -35,12 +35,12 @@ pub fn read_signed(field: &[u8]) -> Option<i16>
     let Ok(text) = str::from_utf8(field) else {
         return None;
     };
-    let Ok(number) = text.parse::<i16>() else {
+    let Ok(value) = text.parse::<i16>() else {
         return None;
     };
     let mut buffer = Buffer::new();
-    if buffer.format(number).as_bytes() == field {
-        Some(number)
+    if buffer.format(value).as_bytes() == field {
+        Some(value)
     } else {
         None
     }

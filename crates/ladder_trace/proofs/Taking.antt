@@ -10,7 +10,8 @@ use Rattle.ladder_text.specs.Log.{PutsAll, WriteLog}
 use Rattle.ladder_text.proofs.Puts.{puts_more, puts_none}
 use Rattle.ladder_trace.specs.declared.fault.SimFault.{SimFault}
 use Rattle.ladder_trace.specs.declared.fault.SimFault.TheVariants as fault
-use Rattle.ladder_trace.specs.Simulation.{EndsRows, FirstOf, IsTaken, StepsTo, most}
+use Rattle.ladder_trace.specs.Simulation.{EndsRows, FirstOf, IsTaken, most}
+use Rattle.ladder_trace.specs.Steps.{StepsTo}
 use Rattle.ladder_trace.specs.Trace.{IsStep, Runs, trace_row}
 
 pub none_left : (rest : List Fields) (found : Bool) (fields : Fields) (new : Reader (Bor (List ℕ))) → found ≡ false → TakesFirst rest found fields new → rest ≡ []
@@ -61,17 +62,17 @@ first_of P [] after r e h = cc
 first_of P (q ∷ rest) after r e h = let same : r ≡ q = cc in subst P same h
 
 pub stops : (p : Drawing) (columns : List ℕ) (s t u : Standing) (rows after : List Fields) (fields : Fields) (number : ℕ) (f : SimFault) (a b c : WriteLog) → (h : IsTaken p columns s rows t a b)
-    → h.rest ≡ fields ∷ after → number ≡ length h.taken + 2 → StepsTo {T = ⊤} p columns number t fields u b c (Err f) → EndsRows p columns s rows u a c (Err f)
+    → h.rest ≡ fields ∷ after → length h.taken < most → number ≡ length h.taken + 2 → StepsTo {T = ⊤} p columns number t fields u b c (Err f) → EndsRows p columns s rows u a c (Err f)
 unfolding taken_same
-stops p columns s t u rows after fields number (fault.BadRow n) a b c h e count (same, bad, (ks, kl)) =
-    (taken_same p columns s t u rows a b c ks kl h, first_of _ h.rest after fields e bad, same ∙ count)
-stops p columns s t u rows after fields number (fault.UnknownName n) a b c h e count k = k
-stops p columns s t u rows after fields number (fault.MomentBack n) a b c h e count (same, (m, bits, row, less), (ks, kl)) =
-    (taken_same p columns s t u rows a b c ks kl h, first_of _ h.rest after fields e (m, bits, row, subst (λ (x : Standing). m < x.moment) (sym ks) less), same ∙ count)
-stops p columns s t u rows after fields number (fault.TooLong n) a b c h e count k = absurd k
-stops p columns s t u rows after fields number fault.Write a b c h e count (step, wrote) =
-    record { state = t; log = b; taken = h; step = first_of _ h.rest after fields e step; wrote = wrote }
-stops p columns s t u rows after fields number fault.Memory a b c h e count k = absurd k
+stops p columns s t u rows after fields number (fault.BadRow n) a b c h e few count (same, bad, (ks, kl)) =
+    (taken_same p columns s t u rows a b c ks kl h, first_of _ h.rest after fields e bad, few, same ∙ count)
+stops p columns s t u rows after fields number (fault.UnknownName n) a b c h e few count k = k
+stops p columns s t u rows after fields number (fault.MomentBack n) a b c h e few count (same, (m, bits, row, less), (ks, kl)) =
+    (taken_same p columns s t u rows a b c ks kl h, first_of _ h.rest after fields e (m, bits, row, subst (λ (x : Standing). m < x.moment) (sym ks) less), few, same ∙ count)
+stops p columns s t u rows after fields number (fault.TooLong n) a b c h e few count k = absurd k
+stops p columns s t u rows after fields number fault.Write a b c h e few count (step, wrote) =
+    record { state = t; log = b; taken = h; few = few; step = first_of _ h.rest after fields e step; wrote = wrote }
+stops p columns s t u rows after fields number fault.Memory a b c h e few count k = absurd k
 
 pub one_too_many : (p : Drawing) (columns : List ℕ) (s t : Standing) (rows after : List Fields) (fields : Fields) (a b : WriteLog) → (h : IsTaken p columns s rows t a b)
     → h.rest ≡ fields ∷ after → length h.taken ≡ most → EndsRows p columns s rows t a b (Err (fault.TooLong 1000002))
@@ -106,14 +107,18 @@ pub going_done : (p : Drawing) (columns : List ℕ) (s t : Standing) (rows : Lis
 going_done p columns s t rows found fields a b number old new h f first few = (h.taken, none_left h.taken.rest found fields new f first, h.count, few)
 
 pub going_stops : (p : Drawing) (columns : List ℕ) (s t u : Standing) (rows : List Fields) (found : Bool) (fields : Fields) (f : SimFault) (a b c : WriteLog) (number : ℕ) (old new : Reader (Bor (List ℕ)))
-    → (h : IsGoing p columns s rows t a b number old) → found ≡ true → TakesFirst h.taken.rest found fields new → StepsTo {T = ⊤} p columns (number + 2) t fields u b c (Err f)
+    → (h : IsGoing p columns s rows t a b number old) → number < most → found ≡ true → TakesFirst h.taken.rest found fields new → StepsTo {T = ⊤} p columns (number + 2) t fields u b c (Err f)
     → EndsRows p columns s rows u a c (Err f)
-going_stops p columns s t u rows found fields f a b c number old new h e first step =
+going_stops p columns s t u rows found fields f a b c number old new h few e first step =
     let next = one_left h.taken.rest found fields new e first in
-    stops p columns s t u rows next.0 fields (number + 2) f a b c h.taken next.1 (omega (arith, h.count)) step
+    stops p columns s t u rows next.0 fields (number + 2) f a b c h.taken next.1 (omega (arith, h.count, few)) (omega (arith, h.count)) step
 
 pub going_many : (p : Drawing) (columns : List ℕ) (s t : Standing) (rows : List Fields) (found : Bool) (fields : Fields) (a b : WriteLog) (number : ℕ) (old new : Reader (Bor (List ℕ)))
     → (h : IsGoing p columns s rows t a b number old) → found ≡ true → TakesFirst h.taken.rest found fields new → number ≡ 1000000 → EndsRows p columns s rows t a b (Err (fault.TooLong 1000002))
 going_many p columns s t rows found fields a b number old new h e first count =
     let next = one_left h.taken.rest found fields new e first in
     one_too_many p columns s t rows next.0 fields a b h.taken next.1 (sym h.count ∙ count)
+
+pub going_starved : (p : Drawing) (columns : List ℕ) (s t : Standing) (rows : List Fields) (a b : WriteLog) (number : ℕ) (old : Reader (Bor (List ℕ))) → IsGoing p columns s rows t a b number old
+    → number ≤ most → EndsRows p columns s rows t a b (Err fault.Memory)
+going_starved p columns s t rows a b number old h few = (h.taken, omega (arith, h.count, few))

@@ -1,4 +1,5 @@
 pub mod Room
 pub mod Simulation
+pub mod Steps
 pub mod Stimulus
 pub mod Trace

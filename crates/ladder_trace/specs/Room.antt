@@ -1,4 +1,4 @@
--- Private to the simulation: what is made for it before its first write.
+-- Private to the simulation: what its inner functions make before a first write, and how they read a field.
 use Rattle.std.specs.Prelude.{◌≡◌, ℕ, List, [], Bool, false, ◌||◌, Option, Some, None, codes, bytes_eq, drop, length, map}
 use Rattle.std.specs.List.{count_by, list_all}
 use Rattle.ladder_vars.specs.Decls.{is_input}
@@ -10,21 +10,25 @@ pub record IsReady (p : Drawing) (image : List Bool) (waits : List ℕ) : Type 0
   pub room : length image ≡ count_by is_input p.decls.vars
   pub empty : waits ≡ []
 
+-- The field is the word for the moment.
 abbrev pub is_moment : Option (List ℕ) → Bool
 is_moment (Some field) = bytes_eq field (codes "moment")
 is_moment None = false
 
+-- The field is the bit of ON.
 abbrev pub is_on : Option (List ℕ) → Bool
 is_on (Some field) = bytes_eq field (codes "1")
 is_on None = false
 
+-- The field is a bit.
 abbrev pub is_bit : Option (List ℕ) → Bool
 is_bit (Some field) = bytes_eq field (codes "1") || bytes_eq field (codes "0")
 is_bit None = false
 
+-- All fields are bits.
 abbrev pub are_bits : Fields → Bool
 are_bits fields = list_all (λ f. is_bit (Some f)) fields
 
--- the bits behind the moment
+-- These are the bits of a record, behind its moment.
 abbrev pub bits_of : Fields → List Bool
 bits_of fields = map (λ f. is_on (Some f)) (drop 1 fields)

@@ -16,6 +16,7 @@ use Rattle.ladder_records.specs.Text.{bit_text}
 abbrev pub place_of : List Var → ℕ → Option ℕ
 place_of vars number = if is_input_at (slice_get vars number) then Some (count_by is_input (take number vars)) else None
 
+-- The place of the input that a declared symbol is, where it is one.
 abbrev pub input_in : List Var → Option Symbol → Option ℕ
 input_in vars (Some (symbol.Var number)) = place_of vars number
 input_in vars (Some (symbol.Instance number)) = None
@@ -30,6 +31,7 @@ pub record AreColumns (d : Declared) (words : List (List ℕ)) (columns : List �
   pub named : map (input_named d) words ≡ map Some columns
   pub distinct : IsDistinct (λ (a b : ℕ). a == b) columns
 
+-- The header is the word for the moment, and then words that name the inputs at these places.
 pub record IsHeader (d : Declared) (fields : Fields) (columns : List ℕ) : Type 0 where
   pub words : List (List ℕ)
   pub same : fields ≡ codes "moment" ∷ words
@@ -37,7 +39,7 @@ pub record IsHeader (d : Declared) (fields : Fields) (columns : List ℕ) : Type
 
 -- ---- the records behind it
 
--- A moment, and a bit for each column.
+-- The record is a moment, and a bit for each column.
 pub record IsRow (columns : List ℕ) (fields : Fields) (moment : ℕ) (bits : List Bool) : Type 0 where
   pub same : fields ≡ decimal moment ∷ map bit_text bits
   pub count : length bits ≡ length columns

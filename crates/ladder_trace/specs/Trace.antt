@@ -11,40 +11,46 @@ use Rattle.ladder_scan.specs.Scan.{after_scan}
 use Rattle.ladder_scan.specs.Standing.{Standing}
 use Rattle.ladder_trace.specs.Stimulus.{IsRow, given_by}
 
+-- Of the three kinds of variables one is that of the outputs.
 abbrev pub is_output_kind : kind.the_data → Bool
 is_output_kind kind.Input = false
 is_output_kind kind.Output = true
 is_output_kind kind.Memory = false
 
+-- The variable is an output.
 abbrev pub is_output : Var → Bool
 is_output v = is_output_kind v.kind
 
--- those of a list that are marked
+-- These are the elements of a list that are marked.
 abbrev pub chosen : {A : Type 0} → List Bool → List A → List A
 chosen [] xs = []
 chosen (b ∷ marks) [] = []
 chosen (true ∷ marks) (x ∷ xs) = x ∷ chosen marks xs
 chosen (false ∷ marks) (x ∷ xs) = chosen marks xs
 
--- the values of the inputs, in order of declaration
+-- These are the values of the inputs, in order of declaration.
 abbrev pub inputs_of : Drawing → Standing → List Bool
 inputs_of p s = chosen (map is_input p.decls.vars) s.held.values
 
--- the output image
+-- The output image: these are the values of the outputs, in order of declaration.
 abbrev pub outputs_of : Drawing → Standing → List Bool
 outputs_of p s = chosen (map is_output p.decls.vars) s.held.values
 
+-- These are the outputs among variables, in order.
 abbrev pub outputs_among : List Var → List Var
 outputs_among vars = chosen (map is_output vars) vars
 
+-- The first line of a trace is the word for the moment and the names of the outputs, as they are declared.
 abbrev pub trace_header : Drawing → List ℕ
 trace_header p = line_text (codes "moment" ∷ map (λ v. v.name) (outputs_among p.decls.vars))
 
+-- The line of a state is its moment and its output image.
 abbrev pub trace_row : Drawing → Standing → List ℕ
 trace_row p s = line_text (decimal s.moment ∷ map bit_text (outputs_of p s))
 
 -- ---- the scans
 
+-- This is the state after a scan at a moment, with these inputs.
 abbrev pub scanned : Drawing → Standing → ℕ → List Bool → Standing
 scanned p s moment inputs = record { held = after_scan (diagram_of p) moment inputs s.held; kinds = s.kinds; moment = moment }
 

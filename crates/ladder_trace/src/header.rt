@@ -5,7 +5,7 @@ ghost use Rattle.csv.specs.Records.{field_at, fields_of};
 ghost use Rattle.ladder_records.specs.Left.{Fields};
 ghost use Rattle.ladder_vars.specs.Decls.{is_input};
 ghost use Rattle.ladder_trace.specs.Room.{is_moment};
-ghost use Rattle.ladder_trace.specs.Simulation.{NoColumns};
+ghost use Rattle.ladder_trace.specs.Steps.{NoColumns};
 ghost use Rattle.ladder_trace.specs.Stimulus.{input_named, place_of, IsHeader};
 
 use crate::fault::SimFault;

@@ -6,7 +6,8 @@ ghost use Rattle.ladder_records.specs.Text.{records_of};
 ghost use Rattle.ladder_scan.specs.Standing.{Fits};
 ghost use Rattle.ladder_vars.specs.Decls.{is_input};
 ghost use Rattle.ladder_trace.specs.Room.{IsReady};
-ghost use Rattle.ladder_trace.specs.Simulation.{EndsRows, Simulates, StepsTo};
+ghost use Rattle.ladder_trace.specs.Simulation.{EndsRows, Simulates};
+ghost use Rattle.ladder_trace.specs.Steps.{StepsTo};
 
 use crate::fault::SimFault;
 use crate::header::columns;

@@ -22,5 +22,5 @@ pub returns-else-eq-clause-none : goal.returns-else-eq-clause-none
 returns-else-eq-clause-none c = λ _ z h e.
     let ok = parse-signed_decimal w16 z _ c.parse.result h (omega (arith, h.sfits)) (c.in-Ok.ensures.cases.0 ∙ e) c.parse.ensures.value.0 in
     let same = same_ok (sym c.in-Ok-parse.is ∙ ok) in
-    let range : FitsSigned w16 c.in-Ok-parse.number = subst (FitsSigned w16) (sym same) h in
+    let range : FitsSigned w16 c.in-Ok-parse.value = subst (FitsSigned w16) (sym same) h in
     other_text _ _ c.if-eq.ensures (c.as_bytes.ensures.value ∙ c.format.ensures.text ∙ ap signed_decimal (to_z-of_z w16 _ range ∙ same) ∙ sym e)

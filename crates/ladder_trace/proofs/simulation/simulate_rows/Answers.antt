@@ -1,5 +1,5 @@
 use Rattle.std.proofs.Common.{arith}
-use Rattle.ladder_trace.proofs.Taking.{going_done, going_many, going_more, going_none, going_stops}
+use Rattle.ladder_trace.proofs.Taking.{going_done, going_many, going_more, going_none, going_starved, going_stops}
 use Rattle.ladder_trace.proofs.simulation.simulate_rows.Goals as goal
 
 pub loop-number-init : goal.loop-number-init
@@ -26,7 +26,8 @@ loop-number-preserved g c =
     )
 
 pub returns-in_default-clause-ends : goal.returns-in_default-clause-ends
-returns-in_default-clause-ends g c = λ rows left. (c.loop-number.invariant.4 rows left).taken
+returns-in_default-clause-ends g c = λ rows left.
+    going_starved c.args.program.now c.args.columns.now c.args.state.now c.loop-number.state rows _ _ c.loop-number.number c.loop-number.records (c.loop-number.invariant.4 rows left) c.loop-number.invariant.3
 
 pub returns-then-not-found-clause-ends : goal.returns-then-not-found-clause-ends
 returns-then-not-found-clause-ends g c = λ rows left.
@@ -44,4 +45,4 @@ pub returns-in-Err-clause-ends : goal.returns-in-Err-clause-ends
 returns-in-Err-clause-ends g c = λ rows left.
     let h = c.loop-number.invariant.4 rows left in
     going_stops c.args.program.now c.args.columns.now c.args.state.now c.loop-number.state c.step.new.state rows c.in-Ok.found _ c.in-Err.fault _ _ _ c.loop-number.number c.loop-number.records c.next.new.records
-    h c.if-not-found.false (c.in-Ok.ensures.takes h.taken.rest h.left) c.in-Err.ensures.steps
+    h (omega (arith, c.if-number-eq-MOST.false, c.loop-number.invariant.3)) c.if-not-found.false (c.in-Ok.ensures.takes h.taken.rest h.left) c.in-Err.ensures.steps
