@@ -11,60 +11,46 @@ use super::help::{
 use clap::{Arg, ArgAction, Command, value_parser};
 use std::alloc::{AllocError, Global};
 
-/// How help shows a word or the value of an option.
-#[derive(Clone, Copy)]
-struct Shown<'a> {
-    name: &'a str,
-    help: &'a str,
-}
-
-fn shown<'a>(name: &'a str, help: &'a str) -> Shown<'a> {
-    Shown { name, help }
-}
-
 /// A word that must be there, by its place.
-fn place<'a>(alloc: Global, id: &'a str, shown: Shown<'a>) -> Arg<'a>
+fn place<'a>(alloc: Global, id: &'a str, name: &'a str, help: &'a str) -> Arg<'a>
     ensures rule { rule_of result ≡ place_rule id.entry.now }
     ensures global { result.global ≡ false }
 {
     Arg::new(alloc, id)
         .required(true)
-        .value_name(shown.name)
-        .help(shown.help)
+        .value_name(name)
+        .help(help)
 }
 
 /// An option with the path of a file.
-fn path<'a>(alloc: Global, id: &'a str, shown: Shown<'a>) -> Arg<'a>
+fn path<'a>(alloc: Global, id: &'a str, name: &'a str, help: &'a str) -> Arg<'a>
     ensures rule { rule_of result ≡ path_rule id.entry.now }
     ensures global { result.global ≡ false }
 {
-    Arg::new(alloc, id)
-        .long(id)
-        .value_name(shown.name)
-        .help(shown.help)
+    Arg::new(alloc, id).long(id).value_name(name).help(help)
 }
 
 /// An option with a number.
-fn number<'a>(alloc: Global, id: &'a str, shown: Shown<'a>) -> Arg<'a>
+fn number<'a>(alloc: Global, id: &'a str, name: &'a str, help: &'a str) -> Arg<'a>
     ensures rule { rule_of result ≡ number_rule id.entry.now }
     ensures global { result.global ≡ false }
 {
     Arg::new(alloc, id)
         .long(id)
         .value_parser(value_parser!(u64))
-        .value_name(shown.name)
-        .help(shown.help)
+        .value_name(name)
+        .help(help)
 }
 
 /// The words that are left.
-fn list<'a>(alloc: Global, id: &'a str, shown: Shown<'a>) -> Arg<'a>
+fn list<'a>(alloc: Global, id: &'a str, name: &'a str, help: &'a str) -> Arg<'a>
     ensures rule { rule_of result ≡ list_rule id.entry.now }
     ensures global { result.global ≡ false }
 {
     Arg::new(alloc, id)
         .action(ArgAction::Append)
-        .value_name(shown.name)
-        .help(shown.help)
+        .value_name(name)
+        .help(help)
 }
 
 fn add<'a>(command: Command<'a>, arg: Arg<'a>) -> Result<Command<'a>, AllocError>
@@ -84,14 +70,10 @@ fn new<'a>(alloc: Global, name: &'a str, about: &'a str) -> Command<'a>
 }
 
 /// A subcommand with the file of a program alone.
-fn of_file<'a>(
-    alloc: Global,
-    name: &'a str,
-    about: &'a str,
-) -> Result<Command<'a>, AllocError>
+fn of_file<'a>(alloc: Global, name: &'a str, about: &'a str) -> Result<Command<'a>, AllocError>
     ensures { IfOk result (IsApp (file_app name.entry.now)) }
 {
-    let file = place(alloc, "file", shown("FILE", FILE_HELP));
+    let file = place(alloc, "file", "FILE", FILE_HELP);
     add(new(alloc, name, about), file)
 }
 
@@ -99,29 +81,29 @@ fn causes_options<'a>(alloc: Global) -> Result<Command<'a>, AllocError>
     ensures { IfOk result (IsApp causes_options) }
 {
     let command = new(alloc, "causes", CAUSES_ABOUT);
-    let command = add(command, path(alloc, "state", shown("STATE", STATE_HELP)))?;
-    let command = add(command, number(alloc, "at", shown("MS", AT_HELP)))?;
-    let command = add(command, number(alloc, "after", shown("N", AFTER_HELP)))?;
-    add(command, number(alloc, "limit", shown("N", LIMIT_HELP)))
+    let command = add(command, path(alloc, "state", "STATE", STATE_HELP))?;
+    let command = add(command, number(alloc, "at", "MS", AT_HELP))?;
+    let command = add(command, number(alloc, "after", "N", AFTER_HELP))?;
+    add(command, number(alloc, "limit", "N", LIMIT_HELP))
 }
 
 fn causes<'a>(alloc: Global) -> Result<Command<'a>, AllocError>
     ensures { IfOk result (IsApp causes_app) }
 {
     let command = causes_options(alloc)?;
-    let command = add(command, place(alloc, "file", shown("FILE", FILE_HELP)))?;
-    let command = add(command, place(alloc, "coil", shown("COIL", COIL_HELP)))?;
-    add(command, list(alloc, "inputs", shown("INPUT", INPUTS_HELP)))
+    let command = add(command, place(alloc, "file", "FILE", FILE_HELP))?;
+    let command = add(command, place(alloc, "coil", "COIL", COIL_HELP))?;
+    add(command, list(alloc, "inputs", "INPUT", INPUTS_HELP))
 }
 
 fn sim<'a>(alloc: Global) -> Result<Command<'a>, AllocError>
     ensures { IfOk result (IsApp sim_app) }
 {
     let command = new(alloc, "sim", SIM_ABOUT);
-    let command = add(command, path(alloc, "state", shown("STATE", STATE_HELP)))?;
-    let command = add(command, path(alloc, "save", shown("STATE", SAVE_HELP)))?;
-    let command = add(command, place(alloc, "file", shown("FILE", FILE_HELP)))?;
-    add(command, place(alloc, "stimulus", shown("STIMULUS", STIMULUS_HELP)))
+    let command = add(command, path(alloc, "state", "STATE", STATE_HELP))?;
+    let command = add(command, path(alloc, "save", "STATE", SAVE_HELP))?;
+    let command = add(command, place(alloc, "file", "FILE", FILE_HELP))?;
+    add(command, place(alloc, "stimulus", "STIMULUS", STIMULUS_HELP))
 }
 
 fn join<'a>(command: Command<'a>, sub: Command<'a>) -> Result<Command<'a>, AllocError>

@@ -3,7 +3,8 @@
 pub(crate) const LADDER_ABOUT: &str =
     "Checks ladder diagrams, lists what switches a coil on, and simulates (IEC 61131-3 drawn in characters)";
 
-pub(crate) const FAULTS: &str = "A line `fault CODE ..` on standard error says what is wrong, and where:
+pub(crate) const FAULTS: &str =
+    "A line `fault CODE ..` on standard error says what is wrong, and where:
   V1 to V9    the declarations break a rule on that line
   G1 to G15   the drawing breaks a rule in that rung, on that line
   C1 to C7    there is no list of causes for this question
@@ -15,7 +16,8 @@ Documents: README.md and docs/ of the repository.";
 pub(crate) const CHECK_ABOUT: &str =
     "Checks a program, and prints how many rungs, variables and instances it has";
 
-pub(crate) const CAUSES_ABOUT: &str = "Lists each assignment of the inputs after which one scan leaves the coil ON, \
+pub(crate) const CAUSES_ABOUT: &str =
+    "Lists each assignment of the inputs after which one scan leaves the coil ON, \
      with the first input most significant";
 
 pub(crate) const SIM_ABOUT: &str =
@@ -24,8 +26,7 @@ pub(crate) const SIM_ABOUT: &str =
 pub(crate) const USES_ABOUT: &str =
     "Prints where each variable and each instance is drawn: rung, row and column";
 
-pub(crate) const FILE_HELP: &str =
-    "The program: declarations and rungs; at most 1048576 bytes";
+pub(crate) const FILE_HELP: &str = "The program: declarations and rungs; at most 1048576 bytes";
 
 pub(crate) const COIL_HELP: &str = "The variable of a coil, in any letter case";
 
@@ -43,7 +44,6 @@ pub(crate) const SAVE_HELP: &str = "The file that gets the state after the last 
 pub(crate) const AT_HELP: &str =
     "The moment of the scan in ms, not before the stored one; without it the stored one";
 
-pub(crate) const AFTER_HELP: &str =
-    "Lists the causes with a greater number than N only";
+pub(crate) const AFTER_HELP: &str = "Lists the causes with a greater number than N only";
 
 pub(crate) const LIMIT_HELP: &str = "Lists at most N causes";

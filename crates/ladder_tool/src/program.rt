@@ -51,8 +51,15 @@ fn run_request(rt: &HostRuntime, alloc: Global, request: &Request) -> u8
     };
     match request {
         Request::Sim {
-            save: Some(path), ..
-        } => perform_saving(rt, alloc, request, &texts, SavedFile::new(rt, path.as_str())),
+            save: Some(path),
+            ..
+        } => perform_saving(
+            rt,
+            alloc,
+            request,
+            &texts,
+            SavedFile::new(rt, path.as_str()),
+        ),
         _ => perform_saving(rt, alloc, request, &texts, io::sink()),
     }
 }

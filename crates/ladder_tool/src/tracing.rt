@@ -61,7 +61,13 @@ pub(crate) fn trace<O: Sink, S: Sink, E: Sink>(
         Ok(setting) => setting,
         Err(fault) => return report(&fault, err),
     };
-    let run = simulate(alloc, &setting.program, &mut setting.state, stimulus(texts), out);
+    let run = simulate(
+        alloc,
+        &setting.program,
+        &mut setting.state,
+        stimulus(texts),
+        out,
+    );
     if let Err(fault) = run {
         return report(&ToolFault::Sim(fault), err);
     }
