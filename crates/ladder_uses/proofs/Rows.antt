@@ -10,14 +10,14 @@ use Rattle.std.proofs.lemmas.Option.{get_or_from_slice_get, slice_get_read, slic
 use Rattle.ladder_vars.specs.Decls.{Declared}
 use Rattle.ladder_vars.specs.declared.decls.Symbol.{Symbol}
 use Rattle.ladder_vars.specs.declared.decls.Symbol.TheVariants as symbol
-use Rattle.ladder_records.specs.Left.{Fields}
 use Rattle.ladder_grid.specs.Program.{Drawing, cell_in}
-use Rattle.ladder_uses.specs.declared.usage.Use.{Use}
-use Rattle.ladder_records.specs.Text.{lines_text}
-use Rattle.ladder_records.proofs.Commas.{lines_text-append}
 use Rattle.ladder_text.specs.Block.{SendsAll}
 use Rattle.ladder_text.specs.Log.{PutsFront, WriteLog}
 use Rattle.ladder_text.proofs.Sending.{sends_front, sends_more, sends_same}
+use Rattle.ladder_records.specs.Left.{Fields}
+use Rattle.ladder_records.specs.Text.{lines_text}
+use Rattle.ladder_records.proofs.Commas.{lines_text-append}
+use Rattle.ladder_uses.specs.declared.usage.Use.{Use}
 use Rattle.ladder_uses.specs.Uses.{or_unused, place_rows, row_of, unused_row, symbols_of, use_of}
 
 -- one item more

@@ -105,6 +105,7 @@ symbol_rows p s = or_unused (name_of p.decls s) (place_rows p (name_of p.decls s
 abbrev pub use_rows : Drawing → List Fields
 use_rows p = flat_map (symbol_rows p) (symbols_of p.decls)
 
+-- what stands above them
 abbrev pub header : Fields
 header = codes "name" ∷ codes "use" ∷ codes "rung" ∷ codes "row" ∷ codes "column" ∷ []
 

@@ -1,5 +1,6 @@
 //! The writing of a cross-reference.
 ghost use Rattle.std.specs.Prelude.{◌≡◌, ◌*◌, ◌+◌, ◌<◌, ◌≤◌, ◌∷◌, [], IfOk, Some, codes, length, slice_get};
+ghost use Rattle.ladder_vars.specs.declared.limits.TheConstants.{MOST_INSTANCES, MOST_VARS};
 ghost use Rattle.ladder_grid.specs.declared.geometry.TheConstants.{PLACES, RUNGS};
 ghost use Rattle.ladder_records.specs.Text.{line_text, lines_text};
 ghost use Rattle.ladder_text.specs.Block.{Sends};
@@ -125,6 +126,13 @@ fn add_symbol<W: Sink>(
     Ok(1)
 }
 
+fn symbol_count(decls: &Decls) -> usize
+    ensures value { result ≡ length (symbols_of decls.now) }
+    ensures few { result ≤ MOST_VARS + MOST_INSTANCES }
+{
+    decls.vars().len() + decls.instances().len()
+}
+
 /// What is declared with a number, where the instances are counted behind the variables.
 fn symbol_at(decls: &Decls, number: usize) -> Symbol
     requires { number < length (symbols_of decls.now) }
@@ -149,7 +157,7 @@ fn add_symbols<W: Sink>(
 {
     let decls = program.decls();
     let mut total = 0u64;
-    for number in 0..decls.vars().len() + decls.instances().len() {
+    for number in 0..symbol_count(decls) {
         let Ok(rows) = add_symbol(block, program, symbol_at(decls, number), writer) else {
             return Err(WriteFault);
         };

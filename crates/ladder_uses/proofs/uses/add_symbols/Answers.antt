@@ -1,15 +1,10 @@
 use Rattle.std.proofs.Common.{ap, arith, length, length-append, refl, subst, take, take_all}
 use Rattle.std.specs.List.{flat_map}
-use Rattle.ladder_vars.specs.Decls.{Declared}
 use Rattle.ladder_records.specs.Text.{lines_text}
 use Rattle.ladder_text.specs.Block.{SendsAll}
 use Rattle.ladder_uses.specs.Uses.{symbol_rows, symbols_of}
-use Rattle.ladder_uses.proofs.Rows.{rows_apart, rows_front, rows_more, rows_sent, symbols_count}
+use Rattle.ladder_uses.proofs.Rows.{rows_apart, rows_front, rows_more, rows_sent}
 use Rattle.ladder_uses.proofs.uses.add_symbols.Goals as goal
-
-pub symbol_at-requires : goal.symbol_at-requires
-symbol_at-requires g c =
-    omega (arith, c.loop-number-test.true, symbols_count c.decls-decls.result.now, ap length c.vars.ensures.value, ap length c.instances.ensures.value)
 
 pub returns-in_default-clause-sends : goal.returns-in_default-clause-sends
 returns-in_default-clause-sends g c =
@@ -37,26 +32,6 @@ loop-number-preserved g c =
 pub returns-clause-sends : goal.returns-clause-sends
 returns-clause-sends g c =
     let p = c.args.program.now in
-    let all = take_all c.loop-number.number (symbols_of p.decls)
-    (omega (
-      arith,
-      symbols_count c.decls-decls.result.now,
-      ap length c.vars.ensures.value,
-      ap length c.instances.ensures.value,
-      ap (λ (d : Declared). length (symbols_of d)) c.decls-decls.ensures,
-    )) in
+    let all = take_all c.loop-number.number (symbols_of p.decls) (omega (arith, rw c.decls-decls.ensures at c.symbol_count-number-end.ensures.value)) in
     subst (λ symbols. SendsAll (g.W.Sink.log c.args.writer.now) (g.W.Sink.log c.loop-number.writer) c.args.block.now c.loop-number.block (lines_text (flat_map (symbol_rows p) symbols)))
     all c.loop-number.invariant.0
-
-pub returns-clause-count : goal.returns-clause-count
-returns-clause-count g c =
-    let p = c.args.program.now in
-    let all = take_all c.loop-number.number (symbols_of p.decls)
-    (omega (
-      arith,
-      symbols_count c.decls-decls.result.now,
-      ap length c.vars.ensures.value,
-      ap length c.instances.ensures.value,
-      ap (λ (d : Declared). length (symbols_of d)) c.decls-decls.ensures,
-    )) in
-    omega (arith, c.loop-number.invariant.1, ap (λ symbols. length (flat_map (symbol_rows p) symbols)) all)
