@@ -6,6 +6,8 @@ Each folder of tests/cases is a case, run in a temporary folder of its own:
     words           the words behind the program's name, one a line
     stdout, stderr  the exact bytes that are expected (absent: none)
     status          the expected status (absent: 0)
+    after           a folder: the files that must be there afterwards, with their exact bytes
+    absent          the names of files that must not be there afterwards, one a line
     files           lines `NAME FROM`: a copy of a file, named from the root of the repository
     made            lines `NAME GENERATOR [WORDS]`: a text that a generator below makes, several lines of one name one behind the other
 
@@ -21,7 +23,7 @@ import tempfile
 
 HERE = pathlib.Path(__file__).resolve().parent
 ROOT = HERE.parent
-NO_INPUT = ("words", "stdout", "stderr", "status", "files", "made")
+NO_INPUT = ("words", "stdout", "stderr", "status", "after", "absent", "files", "made")
 
 
 def spaces(length):
@@ -99,7 +101,7 @@ def run(program, words, folder, **streams):
 
 def differences(have, want):
     """A line for each part that differs; a part that is wanted as ... may be anything but empty."""
-    parts = zip(("stdout", "stderr", "status"), have, want)
+    parts = zip(("stdout", "stderr", "status", "saved"), have, want)
     return [f"  {part}: want {shown(due)}\n  {' ' * len(part)}  have {shown(found)}"
             for part, found, due in parts if (not found if due is ... else found != due)]
 
@@ -113,7 +115,15 @@ def run_case(program, case, folder):
     fill(case, folder)
     words = content(case / "words").splitlines()
     want = content(case / "stdout"), content(case / "stderr"), int(content(case / "status") or 0)
-    return differences(run(program, words, folder), want)
+    return differences(run(program, words, folder), want) + left(case, folder)
+
+
+def left(case, folder):
+    """A line for each file that should have been left otherwise."""
+    files = sorted((case / "after").iterdir()) if (case / "after").exists() else []
+    found = [f"  {path.name}: want {shown(content(path))}\n  {' ' * len(path.name)}  have {shown(content(folder / path.name))}"
+             for path in files if content(path) != content(folder / path.name)]
+    return found + [f"  {name}: want no such file" for name in lines(case / "absent") if (folder / name).exists()]
 
 
 def help_is_printed(*words):
@@ -148,8 +158,54 @@ def rows_on_a_closed_output(program, folder):
     return differences(have, (None, b"fault X6\n", 1))
 
 
+def long_texts(words, name, text, want):
+    """A case on the motor with a file that is too large to be kept."""
+
+    def job(program, folder):
+        shutil.copy(HERE / "programs" / "motor.ld", folder)
+        (folder / name).write_bytes(text)
+        return differences(run(program, words, folder), want)
+
+    return job
+
+
+def sim_with_closed_streams(closed, want, saved):
+    """A simulation that saves, with these streams closed at its start: no file may take their place."""
+
+    def close():
+        for stream in closed:
+            os.close(stream)
+
+    def job(program, folder):
+        shutil.copy(HERE / "programs" / "motor.ld", folder)
+        (folder / "stimulus.csv").write_bytes(b"moment,Start,Stop\n0,1,0\n")
+        have = run(program, ["sim", "--save", "saved.csv", "motor.ld", "stimulus.csv"], folder, preexec_fn=close)
+        return differences((*have, content(folder / "saved.csv")), (*want, saved))
+
+    return job
+
+
 CAUSES = ["causes", "motor.ld", "Motor", "Start", "Stop"]
+SIM = ["sim", "motor.ld", "stimulus.csv"]
+STATE = ["causes", "--state", "state.csv", "motor.ld", "Motor"]
+SAVED = b"version,2\nmoment,0\nvar,Start,1\nvar,Stop,0\nvar,Motor,1\n"
+TRACE = b"moment,Motor\n0,1\n"
+ONE = b"moment,Start,Stop\n0,1,0\n"
 SPECIAL = {
+    "sim-most-records": long_texts(SIM, "stimulus.csv", b"moment\n" + b"0\n" * 1000000, (b"moment,Motor\n" + b"0,0\n" * 1000000, b"", 0)),
+    "sim-a-record-too-many": long_texts(SIM, "stimulus.csv", b"moment\n" + b"0\n" * 1000001, (b"moment,Motor\n" + b"0,0\n" * 1000000, b"fault X5 row 1000002\n", 1)),
+    "sim-longest-stimulus": long_texts(SIM, "stimulus.csv", b"moment\n".ljust(16777216, b"\n"), (b"moment,Motor\n", b"", 0)),
+    "sim-stimulus-too-long": long_texts(SIM, "stimulus.csv", b"moment\n".ljust(16777217, b"\n"), (b"", b"fault X5 stimulus\n", 1)),
+    "state-of-the-most-bytes": long_texts(STATE, "state.csv", SAVED.ljust(1048576, b"\n"), (b"number\n0\n", b"rows 1 looks 1\n", 0)),
+    "state-too-long": long_texts(STATE, "state.csv", SAVED.ljust(1048577, b"\n"), (b"", b"fault X5 state\n", 1)),
+    "streams-saved-state-on-a-full-device": long_texts(["sim", "--save", "/dev/full", *SIM[1:]], "stimulus.csv", ONE, (TRACE, b"fault X6\n", 1)),
+    "streams-saved-state-in-a-folder": long_texts(["sim", "--save", ".", *SIM[1:]], "stimulus.csv", ONE, (TRACE, b"fault X6\n", 1)),
+    "streams-sim-without-input": sim_with_closed_streams([0], (TRACE, b"", 0), SAVED),
+    "streams-sim-without-output": sim_with_closed_streams([1], (b"", b"fault X6\n", 1), b""),
+    "streams-sim-without-error": sim_with_closed_streams([2], (TRACE, b"", 0), SAVED),
+    "streams-sim-without-streams": sim_with_closed_streams([0, 1, 2], (b"", b"", 1), b""),
+    "words-help-of-sim": help_is_printed("sim", "-h"),
+    "words-help-of-uses": help_is_printed("uses", "--help"),
     "words-help": help_is_printed("--help"),
     "words-help-as-a-subcommand": help_is_printed("help"),
     "words-help-of-causes": help_is_printed("causes", "--help"),
