@@ -2,8 +2,10 @@
 """Times the built program on the circuits beside this file: bench.py PROGRAM [RUNS].
 
 Each time is the least of several runs, of the whole process, with the rows on /dev/null.
-Rows and looks that aren't those that must come out are said loudly; no time fails anything.
+Counts and texts that aren't those that must come out are said loudly; no time fails anything.
 """
+import collections
+import itertools
 import os
 import pathlib
 import random
@@ -20,20 +22,27 @@ def inputs(first, last):
     return [f"I{number}" for number in range(first, last + 1)]
 
 
-# name, circuit, listed inputs, rows and looks that must come out
+STATIONS = """EStop Guard Start Stop Auto Manual Clear Air Part1 Done1 Ovl1 Req1 Part2 Done2 Ovl2 Req2 Part3 Done3 Ovl3 Req3""".split()
+STORED = ["--state", str(HERE / "circuits" / "three_stations.state.csv"), "--at", "1600"]
+Case = collections.namedtuple("Case", "name circuit listed rows looks coil options", defaults=("Y", []))
+
+# what must come out of each: rows and looks
 CASES = [
-    ("start-up, one look", "one_contact", [], 0, 1),
-    ("one contact, 20 inputs", "one_contact", inputs(1, 20), 524_288, 3),
-    ("one contact, 24 inputs", "one_contact", inputs(1, 24), 8_388_608, 3),
-    ("the last of 24 decides", "one_contact", inputs(2, 24) + ["I1"], 8_388_608, 524_287),
-    ("8 contacts, 20 inputs", "eight_contacts", inputs(1, 20), 4_096, 17),
-    ("3 rows of 8, 20 inputs", "three_rows_of_eight", inputs(1, 20), 8_176, 3_571),
-    ("3 rows of 8, 24 inputs", "three_rows_of_eight", inputs(1, 24), 195_841, 390_661),
-    ("chain of 24 inputs", "chain24", inputs(1, 24), 1, 37),
-    ("chain of 32 inputs", "chain32", inputs(1, 32), 1, 53),
-    ("6 pairs, 12 inputs", "six_pairs", inputs(1, 12), 3_367, 79),
-    ("12 pairs, 24 inputs", "twelve_pairs", inputs(1, 24), 16_245_775, 59_047),
-    ("parity of 20 inputs", "parity20", inputs(1, 20), 524_288, 32_767),
+    Case("start-up, one look", "one_contact", [], 0, 1),
+    Case("one contact, 20 inputs", "one_contact", inputs(1, 20), 524_288, 3),
+    Case("one contact, 24 inputs", "one_contact", inputs(1, 24), 8_388_608, 3),
+    Case("the last of 24 decides", "one_contact", inputs(2, 24) + ["I1"], 8_388_608, 524_287),
+    Case("8 contacts, 20 inputs", "eight_contacts", inputs(1, 20), 4_096, 17),
+    Case("3 rows of 8, 20 inputs", "three_rows_of_eight", inputs(1, 20), 8_176, 3_571),
+    Case("3 rows of 8, 24 inputs", "three_rows_of_eight", inputs(1, 24), 195_841, 390_661),
+    Case("chain of 24 inputs", "chain24", inputs(1, 24), 1, 37),
+    Case("chain of 32 inputs", "chain32", inputs(1, 32), 1, 53),
+    Case("6 pairs, 12 inputs", "six_pairs", inputs(1, 12), 3_367, 79),
+    Case("12 pairs, 24 inputs", "twelve_pairs", inputs(1, 24), 16_245_775, 59_047),
+    Case("parity of 20 inputs", "parity20", inputs(1, 20), 524_288, 32_767),
+    Case("three stations: feed", "three_stations", STATIONS, 46_336, 1_503, "Feed", STORED),
+    Case("three stations: second", "three_stations", STATIONS, 8_192, 1_055, "Run2", STORED),
+    Case("three stations: horn", "three_stations", STATIONS, 0, 1_071, "Horn", STORED),
 ]
 
 
@@ -107,6 +116,55 @@ def bars():
     return (declared(0).encode() + b"|----| |----+" * MOST)[:MOST]
 
 
+def fifty_rungs():
+    """50 rungs of one full row: nine contacts and a coil."""
+    rows = "\n".join(full_row(True, list(itertools.islice(itertools.cycle(["A", "B", "C"]), 9)) + ["Y"]) for _ in range(50))
+    return f"VAR\n  A AT %IX0 : BOOL;\n  B AT %IX1 : BOOL;\n  C AT %IX2 : BOOL;\n  Y AT %QX0 : BOOL;\nEND_VAR\n\n{rows}"
+
+
+def stimulus(records):
+    """So many records for three inputs, of which one changes in each."""
+    bits = ("0,0,0", "1,0,0", "1,1,0", "1,1,1", "0,1,1", "0,0,1")
+    return "moment,A,B,C\n" + "".join(f"{number},{bits[number % 6]}\n" for number in range(records))
+
+
+def peak_of(pid):
+    """The most memory that a process had so far, in KiB; None where it has ended."""
+    try:
+        status = pathlib.Path(f"/proc/{pid}/status").read_text("ascii")
+    except OSError:
+        return None
+    return next((int(line.split()[1]) for line in status.splitlines() if line.startswith("VmHWM")), None)
+
+
+def simulation(program):
+    """A million records on 50 rungs: how long a record and a cell take, and the peak of memory."""
+    records, cells = 1_000_000, 500
+    with tempfile.TemporaryDirectory() as folder:
+        circuit, texts = os.path.join(folder, "fifty.ld"), os.path.join(folder, "stimulus.csv")
+        pathlib.Path(circuit).write_text(fifty_rungs(), "ascii")
+        pathlib.Path(texts).write_text(stimulus(records), "ascii")
+        size = os.path.getsize(texts)
+        peak, start = 0, time.perf_counter()
+        with subprocess.Popen([program, "sim", circuit, texts], stdin=subprocess.DEVNULL, stdout=subprocess.DEVNULL) as process:
+            while process.poll() is None:
+                peak = peak_of(process.pid) or peak
+                time.sleep(0.01)
+        seconds, status = time.perf_counter() - start, process.returncode
+    print(f"1,000,000 records, 50 rungs {seconds * 1e3:9.2f}  status {status}: {records / seconds:,.0f} records a second, {seconds * 1e9 / records / cells:.2f} ns a cell, "
+          f"{peak / 1024:.1f} MiB at most, of which the stimulus {size / 2**20:.1f}")
+
+
+def warm(program):
+    """The stimulus of the three stations leaves the state that is stored beside it."""
+    circuit = HERE / "circuits" / "three_stations"
+    with tempfile.NamedTemporaryFile() as saved:
+        seconds, _, _ = least([program, "sim", "--save", saved.name, f"{circuit}.ld", f"{circuit}.stimulus.csv"], 9)
+        if saved.read() != pathlib.Path(f"{circuit}.state.csv").read_bytes():
+            print("!!!!!!!!!! WRONG: the stimulus of the three stations leaves another state")
+    print(f"{'three stations: warm up':26}{seconds * 1e3:10.2f}")
+
+
 # name and text: programs that are read and checked
 TEXTS = [
     ("1 MiB of declarations", declarations),
@@ -120,16 +178,19 @@ TEXTS = [
 def main():
     program, runs = os.path.abspath(sys.argv[1]), int((sys.argv[2:] or ["9"])[0])
     print(f"{'case':26}{'ms':>10}{'rows':>12}{'looks':>10}{'ns a look':>12}{'ns a row':>12}")
-    for name, circuit, listed, rows, looks in CASES:
-        command = [program, "causes", str(HERE / "circuits" / f"{circuit}.ld"), "Y", *listed]
+    for case in CASES:
+        command = [program, "causes", *case.options, str(HERE / "circuits" / f"{case.circuit}.ld"), case.coil, *case.listed]
         seconds, _, said = least(command, runs)
-        report(name, seconds, said, (rows, looks))
+        report(case.name, seconds, said, (case.rows, case.looks))
     for name, text in TEXTS:
         with tempfile.NamedTemporaryFile() as file:
             file.write(text())
             file.flush()
-            seconds, status, said = least([program, "check", file.name], runs)
-        print(f"{name:26}{seconds * 1e3:10.2f}  check: status {status} {said.strip()}")
+            for word in ("check", "uses"):
+                seconds, status, said = least([program, word, file.name], runs)
+                print(f"{name:26}{seconds * 1e3:10.2f}  {word}: status {status} {said.strip()}")
+    warm(program)
+    simulation(program)
 
 
 if __name__ == "__main__":
