@@ -31,11 +31,3 @@ Reads p rows (Err (fault.BadRow n)) = IsFirstBad p rows n
 Reads p rows (Err fault.Memory) = ⊤
 Reads p rows (Err fault.Read) = ⊥
 Reads p rows (Err fault.TooLong) = ⊥
-
--- the same where the state stands beside the answer
-abbrev pub ReadsAll : {T : Type 0} → Drawing → Standing → List Fields → Result T TextFault → Type 0
-ReadsAll p s rows (Ok u) = HasRecords p s rows
-ReadsAll p s rows (Err (fault.BadRow n)) = IsFirstBad p rows n
-ReadsAll p s rows (Err fault.Memory) = ⊤
-ReadsAll p s rows (Err fault.Read) = ⊥
-ReadsAll p s rows (Err fault.TooLong) = ⊥

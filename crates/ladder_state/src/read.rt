@@ -3,8 +3,8 @@ ghost use Rattle.std.specs.Prelude.{◌≡◌, ◌<◌, ◌^◌, List, ⊤, IfOk
 ghost use Rattle.ladder_records.specs.Left.{Fields, IsPlain, Left};
 ghost use Rattle.ladder_records.specs.Text.{records_of};
 ghost use Rattle.ladder_scan.specs.Standing.{fresh, Fits, IsStanding};
-ghost use Rattle.ladder_state.specs.Parts.{TakesItem};
-ghost use Rattle.ladder_state.specs.ReadState.{Reads, ReadsAll};
+ghost use Rattle.ladder_state.specs.Parts.{ReadsAll, TakesItem};
+ghost use Rattle.ladder_state.specs.ReadState.{Reads};
 ghost use Rattle.ladder_state.specs.StateText.{moment_record, version_record};
 
 use crate::parts::read_parts;
