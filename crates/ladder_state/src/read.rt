@@ -84,7 +84,8 @@ fn read_records(
 ///
 /// # Errors
 ///
-/// The number of the first record that isn't of its form, or want of memory. The text is already read: no other fault occurs.
+/// `BadRow` with the number of the first record that isn't of its form, `Memory` when out of memory. The bytes are at hand, so no
+/// other fault occurs.
 pub fn read_state(alloc: Global, program: &Program, text: &[u8]) -> Result<State, TextFault>
     ensures { Reads program.now (records_of text.now) result }
 {
