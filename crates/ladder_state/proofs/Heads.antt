@@ -13,8 +13,8 @@ use Rattle.ladder_text.specs.declared.fault.TextFault.{TextFault}
 use Rattle.ladder_text.specs.declared.fault.TextFault.TheVariants as fault
 use Rattle.ladder_state.specs.declared.version.Version.{Version}
 use Rattle.ladder_state.specs.declared.version.Version.TheVariants.{First, Second}
-use Rattle.ladder_state.specs.Parts.{ReadsItems, TakesItem}
-use Rattle.ladder_state.specs.ReadState.{IsFirstBad, Reads, ReadsAll}
+use Rattle.ladder_state.specs.Parts.{ReadsAll, ReadsItems, TakesItem}
+use Rattle.ladder_state.specs.ReadState.{IsFirstBad, Reads}
 use Rattle.ladder_state.proofs.ItemByItem.{told_fresh}
 use Rattle.ladder_state.specs.StateText.{AreTold, IsStateOf, item_records, moment_record, version_record}
 

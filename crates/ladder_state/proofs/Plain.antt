@@ -1,5 +1,5 @@
 -- The records of a state stand in a text as they are: their fields hold no comma, quote or line end.
-use Rattle.std.proofs.Common.{◌≡◌, ◌<◌, ◌≤◌, ◌==◌, ◌&&◌, ◌∙◌, ◌^◌, ◌∷◌, ◌++◌, [], if◌then◌else◌, ℕ, ℤ, pos, negsuc, suc, Bool, true, false, List, Some, refl, sym, ap, arith, decimal, length, slice_get}
+use Rattle.std.proofs.Common.{◌≡◌, ◌<◌, ◌≤◌, ◌*◌, ◌==◌, ◌&&◌, ◌∙◌, ◌^◌, ◌∷◌, ◌++◌, [], if◌then◌else◌, ℕ, ℤ, pos, negsuc, suc, Bool, true, false, List, Some, refl, sym, ap, arith, decimal, length, slice_get}
 use Rattle.std.specs.List.{list_all}
 use Rattle.std.specs.Fmt.{signed_decimal}
 use Rattle.std.specs.Int.{w16}
@@ -15,6 +15,7 @@ use Rattle.ladder_records.specs.Text.{ArePlainFields, ArePlainRecords, IsPlainFi
 use Rattle.ladder_records.proofs.Plain.{records_of_lines}
 use Rattle.ladder_vars.specs.Name.{is_name, is_name_byte, is_name_start}
 use Rattle.ladder_vars.specs.declared.decls.Var.{Var}
+use Rattle.ladder_grid.specs.declared.geometry.TheConstants.{PLACES, RUNGS}
 use Rattle.ladder_grid.specs.Program.{Drawing, IsWhole}
 use Rattle.ladder_scan.specs.declared.block.Stored.{Stored}
 use Rattle.ladder_scan.specs.declared.block.Stored.TheVariants.{Timer, Counter, Bistable}
@@ -77,7 +78,7 @@ var_plain : (v : Var) (b : Bool) → is_name v.name ≡ true → IsPlainRecord (
 unfolding ArePlainFields
 var_plain v b h = (omega arith, refl, (name_plain v.name h, (bit_plain b, tt)))
 
-memory_plain : (place : ℕ) (b : Bool) → place < 6000 → IsPlainRecord (memory_record place b)
+memory_plain : (place : ℕ) (b : Bool) → place < PLACES * RUNGS → IsPlainRecord (memory_record place b)
 unfolding ArePlainFields
 memory_plain place b h = (omega arith, refl, (decimal_plain _ (omega arith), (decimal_plain _ (omega arith), (decimal_plain _ (omega arith), (bit_plain b, tt)))))
 

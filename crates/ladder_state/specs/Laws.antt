@@ -1,6 +1,5 @@
 -- Laws of the texts of states, each the contract of a function in module `laws`.
-use Rattle.std.specs.Prelude.{◌≡◌, List, Result, Ok, Err}
-use Rattle.std.proofs.Common.{◌⊎◌}
+use Rattle.std.specs.Prelude.{◌≡◌, ◌⊎◌, List, Result, Ok, Err}
 use Rattle.ladder_records.specs.Left.{Fields}
 use Rattle.ladder_records.specs.Text.{records_of}
 use Rattle.ladder_text.specs.declared.fault.TextFault.{TextFault}

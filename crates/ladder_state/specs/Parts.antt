@@ -9,7 +9,8 @@ use Rattle.ladder_scan.specs.Standing.{CanStore, Standing, shape_of}
 use Rattle.ladder_grid.specs.Program.{Drawing}
 use Rattle.ladder_text.specs.declared.fault.TextFault.{TextFault}
 use Rattle.ladder_text.specs.declared.fault.TextFault.TheVariants as fault
-use Rattle.ladder_state.specs.StateText.{IsStateOf, block_record, each, has_record, item_records}
+use Rattle.ladder_state.specs.ReadState.{IsFirstBad}
+use Rattle.ladder_state.specs.StateText.{HasRecords, IsStateOf, block_record, each, has_record, item_records}
 use Rattle.ladder_state.specs.declared.version.Version.{Version}
 
 abbrev pub CanHold : ℕ → Instance → Stored → Type 0
@@ -72,3 +73,13 @@ ReadsItems version p s rows (Err (fault.BadRow n)) = IsItemsBad version p s rows
 ReadsItems version p s rows (Err fault.Memory) = ⊤
 ReadsItems version p s rows (Err fault.Read) = ⊥
 ReadsItems version p s rows (Err fault.TooLong) = ⊥
+
+-- ---- all records
+
+-- what the reading of a state answers, where the state stands beside the answer
+abbrev pub ReadsAll : {T : Type 0} → Drawing → Standing → List Fields → Result T TextFault → Type 0
+ReadsAll p s rows (Ok u) = HasRecords p s rows
+ReadsAll p s rows (Err (fault.BadRow n)) = IsFirstBad p rows n
+ReadsAll p s rows (Err fault.Memory) = ⊤
+ReadsAll p s rows (Err fault.Read) = ⊥
+ReadsAll p s rows (Err fault.TooLong) = ⊥

@@ -24,18 +24,10 @@ pub record IsFirstBad (p : Drawing) (rows : List Fields) (n : ℕ) : Type 0 wher
   pub front : Begins p rows before
   pub none : Begins p rows n → ⊥
 
--- A state is answered for the records that are its, and otherwise the first bad one. The text is there already: its reading can't fail.
+-- A state is answered for the records that are its, and otherwise the first bad one. The bytes are at hand: no reader can fail.
 abbrev pub Reads : Drawing → List Fields → Result Standing TextFault → Type 0
 Reads p rows (Ok s) = IsStateOf p s × HasRecords p s rows
 Reads p rows (Err (fault.BadRow n)) = IsFirstBad p rows n
 Reads p rows (Err fault.Memory) = ⊤
 Reads p rows (Err fault.Read) = ⊥
 Reads p rows (Err fault.TooLong) = ⊥
-
--- the same where the state stands beside the answer
-abbrev pub ReadsAll : {T : Type 0} → Drawing → Standing → List Fields → Result T TextFault → Type 0
-ReadsAll p s rows (Ok u) = HasRecords p s rows
-ReadsAll p s rows (Err (fault.BadRow n)) = IsFirstBad p rows n
-ReadsAll p s rows (Err fault.Memory) = ⊤
-ReadsAll p s rows (Err fault.Read) = ⊥
-ReadsAll p s rows (Err fault.TooLong) = ⊥

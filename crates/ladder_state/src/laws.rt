@@ -6,7 +6,7 @@ ghost use Rattle.ladder_state.specs.Named.{AreNamed};
 use ladder_grid::Program;
 use ladder_vars::{Instance, Var};
 
-// The contract of a name tells of its letters: that no comma, quote or line end is among them.
+// Looks at each name for its contract: letters, digits and underscores need no quotes in a text.
 fn named_vars(vars: &[Var])
     ensures { AreNamed (λ v. v.name) vars.now }
 {

@@ -225,11 +225,10 @@ pub(crate) fn read_parts(
     if let Err(fault) = read_values(vars, records, row, 2, state) {
         return Err(fault);
     }
-    let before = 2 + vars.len() as u64;
-    if let Err(fault) = read_memories(program, records, row, before, state) {
+    if let Err(fault) = read_memories(program, records, row, 2 + vars.len() as u64, state) {
         return Err(fault);
     }
-    let before = before + program.memories() as u64;
+    let before = 2 + (vars.len() + program.memories()) as u64;
     state.checked();
     let last = match read_blocks(version, instances, records, row, before, state) {
         Ok(last) => last,

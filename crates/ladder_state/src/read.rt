@@ -3,8 +3,8 @@ ghost use Rattle.std.specs.Prelude.{◌≡◌, ◌<◌, ◌^◌, List, ⊤, IfOk
 ghost use Rattle.ladder_records.specs.Left.{Fields, IsPlain, Left};
 ghost use Rattle.ladder_records.specs.Text.{records_of};
 ghost use Rattle.ladder_scan.specs.Standing.{fresh, Fits, IsStanding};
-ghost use Rattle.ladder_state.specs.Parts.{TakesItem};
-ghost use Rattle.ladder_state.specs.ReadState.{Reads, ReadsAll};
+ghost use Rattle.ladder_state.specs.Parts.{ReadsAll, TakesItem};
+ghost use Rattle.ladder_state.specs.ReadState.{Reads};
 ghost use Rattle.ladder_state.specs.StateText.{moment_record, version_record};
 
 use crate::parts::read_parts;
@@ -84,7 +84,8 @@ fn read_records(
 ///
 /// # Errors
 ///
-/// The number of the first record that isn't of its form, or want of memory. The text is already read: no other fault occurs.
+/// `BadRow` with the number of the first record that isn't of its form, `Memory` when out of memory. The bytes are at hand, so no
+/// other fault occurs.
 pub fn read_state(alloc: Global, program: &Program, text: &[u8]) -> Result<State, TextFault>
     ensures { Reads program.now (records_of text.now) result }
 {
