@@ -2,6 +2,11 @@
 use crate::scans::{MOTOR, program};
 use ladder_causes::{CauseFault, Causes};
 use ladder_scan::{Memory, State, scan};
+use std::alloc::Global;
+
+/// Both coils stand in one rung, and the second one behind a contact on the first one's variable.
+const BEHIND_ITS_COIL: &[u8] =
+    b"VAR\n  A AT %IX0 : BOOL;\n  Y AT %QX0 : BOOL;\n  M : BOOL;\nEND_VAR\n\n|     A           M           M           Y\n|----| |---------( )---------| |---------( )----\n";
 
 /// The numbers of the variables of the motor.
 const START: usize = 0;
@@ -83,5 +88,31 @@ fn a_cursor_does_not_look_back(rt: HostRuntime) -> Result<(), Memory> {
         return Err(Memory);
     };
     assert_eq!(rt; fault, CauseFault::MomentBack);
+    Ok(())
+}
+
+/// The causes of Y with the input A, where the variable M is stored as this: the first two.
+fn causes_behind_a_coil(alloc: Global, stored: bool) -> Result<(Option<u64>, Option<u64>), Memory> {
+    let program = program(alloc, BEHIND_ITS_COIL)?;
+    let mut state = State::fresh(alloc, &program)?;
+    if program.decls().vars().len() != 3 {
+        return Err(Memory);
+    }
+    state.set_value(2, stored);
+    if !state.fits(&program) {
+        return Err(Memory);
+    }
+    let listed = [0];
+    let Ok(mut causes) = Causes::new(alloc, &program, &state, 0, 1, listed.as_slice(), None) else {
+        return Err(Memory);
+    };
+    let first = causes.next();
+    Ok((first, causes.next()))
+}
+
+#[test]
+fn a_contact_behind_its_coil_reads_the_stored_value(rt: HostRuntime) -> Result<(), Memory> {
+    assert_eq!(rt; causes_behind_a_coil(rt.alloc(), false)?, (None, None));
+    assert_eq!(rt; causes_behind_a_coil(rt.alloc(), true)?, (Some(1), None));
     Ok(())
 }

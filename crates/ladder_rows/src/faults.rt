@@ -1,12 +1,12 @@
 //! The lines of faults, over writers that fail.
-use crate::memory::{ENDS, Narrow};
+use crate::memory::{ENDS, with_room};
 use ladder_causes::CauseFault;
 use ladder_grid::{GridFault, GridRule};
-use ladder_sim::{TextFault, WriteFault, Writing};
+use ladder_sim::{SimFault, TextFault, WriteFault};
 use ladder_tool::{TextKind, ToolFault, write_fault};
 use ladder_vars::{VarFault, VarRule};
 
-fn lines() -> [(ToolFault, &'static [u8]); 12] {
+fn lines() -> [(ToolFault, &'static [u8]); 17] {
     let duplicate = VarFault {
         rule: VarRule::Duplicate,
         line: 7,
@@ -44,6 +44,26 @@ fn lines() -> [(ToolFault, &'static [u8]); 12] {
             ToolFault::Text(TextKind::State, TextFault::Memory),
             b"fault X7\n",
         ),
+        (
+            ToolFault::Text(TextKind::State, TextFault::BadRow { row: 3 }),
+            b"fault X2 state row 3\n",
+        ),
+        (
+            ToolFault::Sim(SimFault::BadRow { row: 4 }),
+            b"fault X2 stimulus row 4\n",
+        ),
+        (
+            ToolFault::Sim(SimFault::UnknownName { row: 1 }),
+            b"fault X3 row 1\n",
+        ),
+        (
+            ToolFault::Sim(SimFault::MomentBack { row: 12 }),
+            b"fault X4 row 12\n",
+        ),
+        (
+            ToolFault::Sim(SimFault::TooLong { row: 1_000_002 }),
+            b"fault X5 row 1000002\n",
+        ),
         (ToolFault::Word { number: 10 }, b"fault X3 word 10\n"),
         (ToolFault::Write, b"fault X6\n"),
         (ToolFault::Memory, b"fault X7\n"),
@@ -58,21 +78,15 @@ fn leaves_a_front_where_the_writer_fails(rt: HostRuntime) {
             // No line is longer.
             for room in 0..27 {
                 for step in [1, 1000] {
-                    let mut writer = Writing::new(Narrow {
-                        bytes: Vec::new(rt.alloc()),
-                        room,
-                        step,
-                        end,
-                    });
+                    let mut writer = with_room(rt.alloc(), room, step, end);
                     let wrote = write_fault(&fault, &mut writer);
                     assert_eq!(rt;
                         wrote == Err(WriteFault),
                         room < line.len(),
                         "{fault:?} at {room}"
                     );
-                    let narrow = writer.into_inner();
                     assert!(rt;
-                        narrow.bytes.as_slice() == &line[..room.min(line.len())],
+                        writer.into_inner().bytes.as_slice() == &line[..room.min(line.len())],
                         "{fault:?} at {room}"
                     );
                 }

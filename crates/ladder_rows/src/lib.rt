@@ -18,8 +18,14 @@ mod runs;
 #[cfg(test)]
 mod scans;
 #[cfg(test)]
+mod simulations;
+#[cfg(test)]
+mod states;
+#[cfg(test)]
 mod table;
 #[cfg(test)]
 mod texts;
+#[cfg(test)]
+mod uses;
 #[cfg(test)]
 mod words;

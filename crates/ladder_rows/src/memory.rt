@@ -1,6 +1,8 @@
 //! Readers and writers over memory, with a chosen failure.
 ghost use Rattle.std.specs.Prelude.{Some};
 
+use ladder_sim::Writing;
+use std::alloc::Global;
 use std::io::{self, ErrorKind, Read, Write};
 
 /// What a writer does once it has no room.
@@ -26,12 +28,30 @@ pub(crate) struct Narrow {
     pub room: usize,
     pub step: usize,
     pub end: End,
+    pub calls: usize,
+}
+
+/// A writer that has room for so many bytes.
+pub(crate) fn with_room(alloc: Global, room: usize, step: usize, end: End) -> Writing<Narrow> {
+    Writing::new(Narrow {
+        bytes: Vec::new(alloc),
+        room,
+        step,
+        end,
+        calls: 0,
+    })
+}
+
+/// A writer that takes all bytes, each piece at one call.
+pub(crate) fn without_end(alloc: Global) -> Writing<Narrow> {
+    with_room(alloc, usize::MAX, usize::MAX, End::Fails)
 }
 
 impl Write for Narrow {
     ghost contents = { λ w. Some w.bytes.items };
 
     fn write(&mut self, buf: &[u8]) -> io::Result<usize> {
+        self.calls = self.calls.wrapping_add(1);
         let count = buf.len().min(self.room).min(self.step);
         if count == 0 && !buf.is_empty() {
             match self.end {

@@ -22,29 +22,89 @@ fn are(words: &[String], wanted: &[&str]) -> bool {
     true
 }
 
+fn is_path(path: &Option<String>, wanted: &str) -> bool {
+    match path {
+        Some(path) => path.as_str() == wanted,
+        None => false,
+    }
+}
+
 fn asks_for_the_motor(request: &Request) -> bool {
     match request {
         Request::Causes {
+            state,
             moment,
             after,
             limit,
             file,
             coil,
             inputs,
-        } => *moment == Some(5)
+        } => state.is_none()
+            && *moment == Some(5)
             && *after == None
             && *limit == Some(u64::MAX)
             && file.as_str() == "motor.ld"
             && coil.as_str() == "Motor"
             && are(inputs, &["Start", "Stop"]),
-        Request::Check { .. } => false,
+        _ => false,
+    }
+}
+
+fn asks_from_a_state(request: &Request) -> bool {
+    match request {
+        Request::Causes {
+            state,
+            moment,
+            after,
+            limit,
+            file,
+            coil,
+            inputs,
+        } => is_path(state, "S")
+            && *moment == None
+            && *after == Some(3)
+            && *limit == None
+            && file.as_str() == "motor.ld"
+            && coil.as_str() == "Motor"
+            && are(inputs, &[]),
+        _ => false,
+    }
+}
+
+fn asks_for_a_trace(request: &Request) -> bool {
+    match request {
+        Request::Sim {
+            state,
+            save,
+            file,
+            stimulus,
+        } => is_path(state, "S")
+            && is_path(save, "T")
+            && file.as_str() == "motor.ld"
+            && stimulus.as_str() == "st.csv",
+        _ => false,
+    }
+}
+
+fn asks_for_uses(request: &Request) -> bool {
+    match request {
+        Request::Uses { file } => file.as_str() == "motor.ld",
+        _ => false,
     }
 }
 
 fn asks_for_a_check(request: &Request) -> bool {
     match request {
         Request::Check { file } => file.as_str() == "motor.ld",
-        Request::Causes { .. } => false,
+        _ => false,
+    }
+}
+
+/// The request of the words, if they are one.
+fn asked(alloc: Global, words: &[&str]) -> Result<Option<Request>, AllocError> {
+    match read_words(alloc, strings(alloc, words)?) {
+        Ok(request) => Ok(Some(request)),
+        Err(_) => Ok(None),
     }
 }
 
@@ -57,38 +117,43 @@ fn is_help(fault: &WordFault) -> bool {
 
 #[test]
 fn a_request_has_its_words(rt: HostRuntime) -> Result<(), AllocError> {
-    let words = strings(
-        rt.alloc(),
-        &[
-            "ladder",
-            "causes",
-            "--at",
-            "5",
-            "--limit=18446744073709551615",
-            "motor.ld",
-            "Motor",
-            "Start",
-            "Stop",
-        ],
-    )?;
-    let asks = match &read_words(rt.alloc(), words) {
-        Ok(request) => asks_for_the_motor(request),
-        Err(_) => false,
-    };
-    assert!(rt; asks);
-    let words = strings(rt.alloc(), &["ladder", "check", "motor.ld"])?;
-    let asks = match &read_words(rt.alloc(), words) {
-        Ok(request) => asks_for_a_check(request),
-        Err(_) => false,
-    };
-    assert!(rt; asks);
+    let words = [
+        "ladder",
+        "causes",
+        "--at",
+        "5",
+        "--limit=18446744073709551615",
+        "motor.ld",
+        "Motor",
+        "Start",
+        "Stop",
+    ];
+    let request = asked(rt.alloc(), words.as_slice())?;
+    assert!(rt; request.as_ref().is_some_and(asks_for_the_motor));
+    let words = [
+        "ladder", "causes", "--state", "S", "--after", "3", "motor.ld", "Motor",
+    ];
+    let request = asked(rt.alloc(), words.as_slice())?;
+    assert!(rt; request.as_ref().is_some_and(asks_from_a_state));
+    let words = [
+        "ladder", "sim", "--state", "S", "--save", "T", "motor.ld", "st.csv",
+    ];
+    let request = asked(rt.alloc(), words.as_slice())?;
+    assert!(rt; request.as_ref().is_some_and(asks_for_a_trace));
+    let request = asked(rt.alloc(), ["ladder", "uses", "motor.ld"].as_slice())?;
+    assert!(rt; request.as_ref().is_some_and(asks_for_uses));
+    let request = asked(rt.alloc(), ["ladder", "check", "motor.ld"].as_slice())?;
+    assert!(rt; request.as_ref().is_some_and(asks_for_a_check));
     Ok(())
 }
 
 #[test]
 fn wrong_words_are_refused(rt: HostRuntime) -> Result<(), AllocError> {
-    let table: [&[&str]; 6] = [
+    let table: [&[&str]; 9] = [
         &["ladder"],
+        &["ladder", "sim", "motor.ld"],
+        &["ladder", "sim", "--save", "motor.ld", "st.csv"],
+        &["ladder", "uses", "motor.ld", "motor.ld"],
         &["ladder", "causes"],
         &["ladder", "causes", "motor.ld"],
         &["ladder", "causes", "--at", "-5", "motor.ld", "Motor"],
