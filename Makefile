@@ -3,7 +3,7 @@ PREFIX ?= /usr/local
 PROGRAM := crates/ladder/out/ladder
 SOURCES := crates.txt $(shell find crates -path '*/out' -prune -o -type f -print)
 
-.PHONY: all run test bench install clean
+.PHONY: all run test stress bench install clean
 
 all: bin/ladder
 
@@ -21,6 +21,11 @@ run: bin/ladder
 test:
 	rt ci
 	python3 tests/end_to_end.py $(PROGRAM)
+	python3 tests/stress.py $(PROGRAM) --sample 1000
+
+# Some 30,000 broken texts, each answered as it must be; a minute or two.
+stress: bin/ladder
+	python3 tests/stress.py bin/ladder
 
 # Timings; they prove nothing and fail nothing.
 bench: bin/ladder
