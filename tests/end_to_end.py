@@ -126,6 +126,17 @@ def left(case, folder):
     return found + [f"  {name}: want no such file" for name in lines(case / "absent") if (folder / name).exists()]
 
 
+def pipe_closed_after_a_line(program, folder):
+    """Somebody reads the header of a long list, and no more."""
+    shutil.copy(ROOT / "bench" / "circuits" / "one_contact.ld", folder)
+    words = ["causes", "one_contact.ld", "Y", *(f"I{number}" for number in range(1, 21))]
+    with subprocess.Popen([program, *words], cwd=folder, stdin=subprocess.DEVNULL, stdout=subprocess.PIPE, stderr=subprocess.PIPE) as process:
+        header = process.stdout.readline()
+        process.stdout.close()
+        said = process.stderr.read()
+    return differences((header, said, process.returncode), ((",".join(["number", *words[3:]]) + "\n").encode(), b"fault X6\n", 1))
+
+
 def help_is_printed(*words):
     return lambda program, folder: differences(run(program, words, folder), (..., b"", 0))
 
@@ -200,6 +211,8 @@ SPECIAL = {
     "state-too-long": long_texts(STATE, "state.csv", SAVED.ljust(1048577, b"\n"), (b"", b"fault X5 state\n", 1)),
     "streams-saved-state-on-a-full-device": long_texts(["sim", "--save", "/dev/full", *SIM[1:]], "stimulus.csv", ONE, (TRACE, b"fault X6\n", 1)),
     "streams-saved-state-in-a-folder": long_texts(["sim", "--save", ".", *SIM[1:]], "stimulus.csv", ONE, (TRACE, b"fault X6\n", 1)),
+    "streams-rows-on-a-pipe-closed-after-a-line": pipe_closed_after_a_line,
+    "streams-saved-state-over-the-program": long_texts(["sim", "--save", "motor.ld", *SIM[1:]], "stimulus.csv", ONE, (TRACE, b"", 0)),
     "streams-sim-without-input": sim_with_closed_streams([0], (TRACE, b"", 0), SAVED),
     "streams-sim-without-output": sim_with_closed_streams([1], (b"", b"fault X6\n", 1), b""),
     "streams-sim-without-error": sim_with_closed_streams([2], (TRACE, b"", 0), SAVED),

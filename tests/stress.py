@@ -4,7 +4,8 @@
 Each program text of tests/programs is cut at each byte, has each byte replaced, and each rung line widened; so are state texts and
 stimuli, but for the widening. What must come out isn't a table: a second reading says which programs are accepted and which rules
 the others break (picture.py), and which record of a state or a stimulus is the first bad one. A digest of all outcomes guards
-against silent change; with --sample N only that many variants are tried, chosen by a fixed seed, and the digest isn't looked at.
+against silent change. Then requests are run in less and less memory: each is answered whole or refused by name, with nothing written.
+With --sample N only that many broken texts are tried, chosen by a fixed seed.
 """
 import collections
 import hashlib
@@ -12,6 +13,7 @@ import os
 import pathlib
 import random
 import re
+import resource
 import subprocess
 import sys
 import tempfile
@@ -221,6 +223,56 @@ def text_jobs(program, folder):
             yield run, lambda run, variant, inputs=inputs: check_stimulus(run, variant, inputs), "sim", Variant(f"stimulus of {name} {change}", "stimulus", text)
 
 
+# ---- less and less memory
+
+STATIONS = HERE.parent / "bench" / "circuits" / "three_stations"
+REQUESTS = (
+    ["check", f"{STATIONS}.ld"],
+    ["uses", f"{STATIONS}.ld"],
+    ["causes", f"{STATIONS}.ld", "Feed", "EStop", "Guard", "Start", "Stop", "Auto", "Manual", "Clear", "Air"],
+    ["causes", "--state", f"{STATIONS}.state.csv", "--at", "1600", f"{STATIONS}.ld", "Run2", "EStop", "Guard", "Start"],
+    ["sim", "--save", "saved.csv", f"{STATIONS}.ld", f"{STATIONS}.stimulus.csv"],
+)
+REFUSED = (b"fault V9\n", b"fault C7\n", b"fault X7\n")
+
+
+def starved(program, words, folder, size):
+    """Standard output, standard error and status with so many KiB of address space, and what was saved."""
+    limit = lambda: resource.setrlimit(resource.RLIMIT_AS, (size * 1024, size * 1024))
+    done = subprocess.run([program, *words], cwd=folder, stdin=subprocess.DEVNULL, capture_output=True, preexec_fn=limit, check=False, timeout=60)
+    saved = pathlib.Path(folder) / "saved.csv"
+    return done.stdout, done.stderr, done.returncode, saved.read_bytes() if saved.exists() else b""
+
+
+def with_less_memory(program, words):
+    """How often the request was refused before it was answered whole, and what is wrong."""
+    refused = 0
+    with tempfile.TemporaryDirectory() as folder:
+        whole = starved(program, words, folder, 1 << 20)
+        for size in range(1024, 1 << 16, 4):
+            (pathlib.Path(folder) / "saved.csv").unlink(missing_ok=True)
+            out, err, status, saved = starved(program, words, folder, size)
+            if status == 127:
+                continue  # the system could not load the program
+            if (out, err, status, saved) == whole:
+                return refused, ""
+            is_prefix = whole[0].startswith(out) if words[0] == "sim" else not out
+            if status != 1 or err not in REFUSED or not is_prefix or saved:
+                return refused, f"{words[0]} in {size} KiB: status {status}, {out[:80]!r}, {err!r}, saved {saved[:40]!r}"
+            refused += 1
+    return refused, f"{words[0]} is never answered"
+
+
+def memory(program):
+    """What is wrong with requests in less and less memory."""
+    wrong = []
+    for words in REQUESTS:
+        refused, fault = with_less_memory(program, words)
+        print(f"{'memory':10}{words[0]:24}{refused:8}  refused, then whole")
+        wrong += [fault] if fault else []
+    return wrong
+
+
 def tried(jobs):
     """The lines of the digest in order, how often each outcome came, and what is wrong."""
     lines, counts, wrong = [], collections.Counter(), []
@@ -246,7 +298,8 @@ def main():
         digest = hashlib.sha256("\n".join(lines).encode()).hexdigest()
         kept = DIGEST.read_text("ascii").strip() if DIGEST.exists() else "none"
         wrong += [] if digest == kept else [f"the digest of all outcomes is {digest}, and {kept} is kept in {DIGEST.name}"]
-        print(*wrong[-1:], sep="\n", end="\n" if wrong else "")
+        wrong += memory(program)
+        print(*wrong[-5:], sep="\n", end="\n" if wrong else "")
     print(f"{len(jobs) - len(wrong)} of {len(jobs)} broken texts are answered as they must be")
     return 1 if wrong else 0
 
