@@ -6,6 +6,16 @@ use ladder_sim::Writing;
 use ladder_tool::{Request, Texts, perform};
 use std::alloc::{AllocError, Global};
 
+/// A state text of which the first record is bad.
+const BAD: &[u8] = b"version,3\n";
+
+const STIMULUS: &[u8] = b"moment,Start,Stop\n0,1,0\n";
+
+const TRACE: &[u8] = b"moment,Motor\n0,1\n";
+
+/// The state after the last scan.
+const SAVED: &[u8] = b"version,2\nmoment,0\nvar,Start,1\nvar,Stop,0\nvar,Motor,1\n";
+
 fn request(alloc: Global, words: &[&str]) -> Result<Request, AllocError> {
     let mut inputs = Vec::new(alloc);
     for word in words.iter().skip(1) {
@@ -19,6 +29,23 @@ fn request(alloc: Global, words: &[&str]) -> Result<Request, AllocError> {
         file: String::from_str(alloc, "program")?,
         coil: String::from_str(alloc, words.first().copied().unwrap_or(""))?,
         inputs,
+    })
+}
+
+fn texts(
+    alloc: Global,
+    program: &[u8],
+    state: Option<&[u8]>,
+    stimulus: &[u8],
+) -> Result<Texts, AllocError> {
+    let state = match state {
+        Some(text) => Some(Vec::from_slice(alloc, text)?),
+        None => None,
+    };
+    Ok(Texts {
+        program: Vec::from_slice(alloc, program)?,
+        state,
+        stimulus: Some(Vec::from_slice(alloc, stimulus)?),
     })
 }
 
@@ -83,16 +110,6 @@ fn a_prefix_of_the_rows_is_left_where_the_writer_fails(rt: HostRuntime) -> Resul
     Ok(())
 }
 
-/// A state text of which the first record is bad.
-const BAD: &[u8] = b"version,3\n";
-
-const STIMULUS: &[u8] = b"moment,Start,Stop\n0,1,0\n";
-
-const TRACE: &[u8] = b"moment,Motor\n0,1\n";
-
-/// The state after the last scan.
-const SAVED: &[u8] = b"version,2\nmoment,0\nvar,Start,1\nvar,Stop,0\nvar,Motor,1\n";
-
 /// What a request for a trace leaves: the status, how often the state's writer was called, and the bytes of the three writers.
 #[derive(Drop)]
 struct Done {
@@ -126,23 +143,6 @@ fn traced(
         out: out.into_inner().bytes,
         saved: save.bytes,
         err: err.into_inner().bytes,
-    })
-}
-
-fn texts(
-    alloc: Global,
-    program: &[u8],
-    state: Option<&[u8]>,
-    stimulus: &[u8],
-) -> Result<Texts, AllocError> {
-    let state = match state {
-        Some(text) => Some(Vec::from_slice(alloc, text)?),
-        None => None,
-    };
-    Ok(Texts {
-        program: Vec::from_slice(alloc, program)?,
-        state,
-        stimulus: Some(Vec::from_slice(alloc, stimulus)?),
     })
 }
 
