@@ -6,74 +6,75 @@ use ladder_sim::{SimFault, TextFault, WriteFault};
 use ladder_tool::{TextKind, ToolFault, write_fault};
 use ladder_vars::{VarFault, VarRule};
 
-fn lines() -> [(ToolFault, &'static [u8]); 17] {
-    let duplicate = VarFault {
-        rule: VarRule::Duplicate,
-        line: 7,
-    };
-    let memory = VarFault {
-        rule: VarRule::Memory,
-        line: 0,
-    };
-    let label = GridFault::Grid {
-        rule: GridRule::LabelFault,
-        rung: 2,
-        line: 14,
-    };
-    [
-        (
-            ToolFault::Grid(GridFault::Vars(duplicate)),
-            b"fault V4 line 7\n",
-        ),
-        (ToolFault::Grid(GridFault::Vars(memory)), b"fault V9\n"),
-        (ToolFault::Grid(label), b"fault G13 rung 2 line 14\n"),
-        (ToolFault::Cause(CauseFault::NotACoil), b"fault C2\n"),
-        (
-            ToolFault::Text(TextKind::Program, TextFault::Read),
-            b"fault X1 program\n",
-        ),
-        (
-            ToolFault::Text(TextKind::State, TextFault::TooLong),
-            b"fault X5 state\n",
-        ),
-        (
-            ToolFault::Text(TextKind::Stimulus, TextFault::Read),
-            b"fault X1 stimulus\n",
-        ),
-        (
-            ToolFault::Text(TextKind::State, TextFault::Memory),
-            b"fault X7\n",
-        ),
-        (
-            ToolFault::Text(TextKind::State, TextFault::BadRow { row: 3 }),
-            b"fault X2 state row 3\n",
-        ),
-        (
-            ToolFault::Sim(SimFault::BadRow { row: 4 }),
-            b"fault X2 stimulus row 4\n",
-        ),
-        (
-            ToolFault::Sim(SimFault::UnknownName { row: 1 }),
-            b"fault X3 row 1\n",
-        ),
-        (
-            ToolFault::Sim(SimFault::MomentBack { row: 12 }),
-            b"fault X4 row 12\n",
-        ),
-        (
-            ToolFault::Sim(SimFault::TooLong { row: 1_000_002 }),
-            b"fault X5 row 1000002\n",
-        ),
-        (ToolFault::Word { number: 10 }, b"fault X3 word 10\n"),
-        (ToolFault::Write, b"fault X6\n"),
-        (ToolFault::Memory, b"fault X7\n"),
-        (ToolFault::Usage, b"fault usage\n"),
-    ]
-}
+const DUPLICATE: VarFault = VarFault {
+    rule: VarRule::Duplicate,
+    line: 7,
+};
+
+const NO_MEMORY: VarFault = VarFault {
+    rule: VarRule::Memory,
+    line: 0,
+};
+
+const LABEL: GridFault = GridFault::Grid {
+    rule: GridRule::LabelFault,
+    rung: 2,
+    line: 14,
+};
+
+const LINES: [(ToolFault, &[u8]); 17] = [
+    (
+        ToolFault::Grid(GridFault::Vars(DUPLICATE)),
+        b"fault V4 line 7\n",
+    ),
+    (ToolFault::Grid(GridFault::Vars(NO_MEMORY)), b"fault V9\n"),
+    (ToolFault::Grid(LABEL), b"fault G13 rung 2 line 14\n"),
+    (ToolFault::Cause(CauseFault::NotACoil), b"fault C2\n"),
+    (
+        ToolFault::Text(TextKind::Program, TextFault::Read),
+        b"fault X1 program\n",
+    ),
+    (
+        ToolFault::Text(TextKind::State, TextFault::TooLong),
+        b"fault X5 state\n",
+    ),
+    (
+        ToolFault::Text(TextKind::Stimulus, TextFault::Read),
+        b"fault X1 stimulus\n",
+    ),
+    (
+        ToolFault::Text(TextKind::State, TextFault::Memory),
+        b"fault X7\n",
+    ),
+    (
+        ToolFault::Text(TextKind::State, TextFault::BadRow { row: 3 }),
+        b"fault X2 state row 3\n",
+    ),
+    (
+        ToolFault::Sim(SimFault::BadRow { row: 4 }),
+        b"fault X2 stimulus row 4\n",
+    ),
+    (
+        ToolFault::Sim(SimFault::UnknownName { row: 1 }),
+        b"fault X3 row 1\n",
+    ),
+    (
+        ToolFault::Sim(SimFault::MomentBack { row: 12 }),
+        b"fault X4 row 12\n",
+    ),
+    (
+        ToolFault::Sim(SimFault::TooLong { row: 1_000_002 }),
+        b"fault X5 row 1000002\n",
+    ),
+    (ToolFault::Word { number: 10 }, b"fault X3 word 10\n"),
+    (ToolFault::Write, b"fault X6\n"),
+    (ToolFault::Memory, b"fault X7\n"),
+    (ToolFault::Usage, b"fault usage\n"),
+];
 
 #[test]
 fn leaves_a_front_where_the_writer_fails(rt: HostRuntime) {
-    for (fault, line) in lines() {
+    for (fault, line) in LINES {
         for end in ENDS {
             // No line is longer.
             for room in 0..27 {

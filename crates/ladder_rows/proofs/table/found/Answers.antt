@@ -1,4 +1,4 @@
-use Rattle.std.proofs.Common.{◌≡◌, ℕ, ap, arith, rules, length, subst, sym, refl, lit<}
+use Rattle.std.proofs.Common.{ℕ, arith, rules, subst, sym, refl}
 use Rattle.ladder_search.specs.Path.{IsWalking}
 use Rattle.ladder_search.specs.Trees.{IsPlan}
 use Rattle.ladder_search.proofs.WalkLaws.{span-is}
