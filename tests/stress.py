@@ -1,7 +1,7 @@
 #!/usr/bin/env python3
 """Breaks texts in many ways and asks the built program: stress.py PROGRAM [--sample N].
 
-Each program text of tests/programs is cut at each byte, has each byte replaced, and each rung line widened; so are state texts and
+Each program text of tests/programs, and two chains of bench/circuits, is cut at each byte, has each byte replaced, and each rung line widened; so are state texts and
 stimuli, but for the widening. What must come out isn't a table: a second reading says which programs are accepted and which rules
 the others break (picture.py), and which record of a state or a stimulus is the first bad one. A digest of all outcomes guards
 against silent change. Then requests are run in less and less memory: each is answered whole or refused by name, with nothing written.
@@ -189,9 +189,12 @@ def outcome(run, check, subcommand, variant):
     return f"{variant.name}: {status} {out!r} {err!r}", (err.split(" line")[0].split(" row")[0].strip() or "done"), wrong
 
 
+CHAINS = [HERE.parent / "bench" / "circuits" / name for name in ("chain24.ld", "chain32.ld")]
+
+
 def program_jobs(program, folder):
     run = Runner(program, folder).runner([None])
-    for path in sorted((HERE / "programs").iterdir()):
+    for path in sorted((HERE / "programs").iterdir()) + CHAINS:
         text = path.read_bytes()
         for name, changed in cut(text) + replaced(text) + widened(text):
             yield run, check_program, "check", Variant(f"{path.name} {name}", "program", changed)
@@ -201,7 +204,10 @@ def program_jobs(program, folder):
 SCANNED = {
     "motor.ld": ("Motor", b"moment,Start,Stop\n0,1,0\n10,0,0\n12,0,1\n"),
     "on_delay.ld": ("Y", b"moment,A\n0,1\n40,1\n6000,1\n"),
-    "counter.ld": ("Y", b"moment,Count,Zero\n0,1,0\n1,0,0\n2,1,0\n"),
+    "off_delay.ld": ("Y", b"moment,A\n0,1\n40,0\n45,0\n"),
+    "pulse.ld": ("Y", b"moment,A\n3,1\n5,0\n"),
+    "up_counter.ld": ("Y", b"moment,Count,Zero\n0,1,0\n1,0,0\n2,1,0\n"),
+    "loaded_counter.ld": ("Y", b"moment,Down,Load\n0,0,1\n1,1,0\n2,0,0\n3,1,0\n4,0,0\n5,1,0\n"),
     "set_dominant.ld": ("Y", b"moment,Set,Clear\n0,1,0\n1,0,0\n"),
     "rising.ld": ("Y", b"moment,A\n5,1\n"),
 }
