@@ -6,15 +6,20 @@ use Rattle.ladder_text.specs.Calls.{AllPass, LastFails, Passes}
 use Rattle.ladder_text.specs.Log.{PutsAll, PutsFront, WriteLog}
 use Rattle.ladder_text.proofs.Bytes.{appends_more, appends_none}
 
+-- calls that passed, after calls that did
+pub passes_more : (a b c : Tally) → AllPass a b → AllPass b c → AllPass a c
+passes_more a b c p (same, inl q) = (same ∙ p.0, rw q p.1)
+passes_more a b c p (same, inr q) = (same ∙ p.0, inr q)
+
 -- before the first call nothing is written
 pub puts_none : (a : WriteLog) → PutsAll a a []
-puts_none a = record { bytes = appends_none a.contents; calls = refl }
+puts_none a = record { bytes = appends_none a.contents; calls = (refl, inl refl) }
 
 -- two texts that were written make one
 pub puts_more : (a b c : WriteLog) (xs ys : List ℕ) → PutsAll a b xs → PutsAll b c ys → PutsAll a c (xs ++ ys)
 puts_more a b c xs ys p q = record {
   bytes = appends_more a.contents b.contents c.contents xs ys p.bytes q.bytes;
-  calls = q.calls ∙ p.calls;
+  calls = passes_more a.tally b.tally c.tally p.calls q.calls;
 }
 
 -- the same of a text that is spelled in another way
@@ -23,8 +28,8 @@ puts_same a b xs ys e p = record { bytes = rw (← e) p.bytes; calls = p.calls }
 
 -- a call that failed after calls that did not
 pub fails_after : (a b c : Tally) → AllPass a b → LastFails b c → LastFails a c
-fails_after a b c p (inl q, last) = (inl (omega arith), last)
-fails_after a b c p (inr q, last) = (inr (q.0, q.1 ∙ p), last)
+fails_after a b c (same, p) (inl q, last) = (inl (omega (arith, same, q)), last)
+fails_after a b c (same, p) (inr q, last) = (inr (q.0, q.1 ∙ same), last)
 
 -- a front of the next part is a front of the whole
 pub front_after : (a b c : WriteLog) (text before next rest : List ℕ) → text ≡ (before ++ next) ++ rest
@@ -41,4 +46,4 @@ front_after a b c text before next rest e p q =
 
 -- a call that took the front of a piece wrote that front
 pub call_puts : (a b : WriteLog) (xs : List ℕ) → Appends a.contents b.contents xs → Passes a.tally b.tally → PutsAll a b xs
-call_puts a b xs bytes passes = record { bytes = bytes; calls = passes.1 }
+call_puts a b xs bytes passes = record { bytes = bytes; calls = (passes.1, inr passes.2) }

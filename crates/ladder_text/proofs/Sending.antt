@@ -55,3 +55,8 @@ sends_through a b c w0 text (Err x) p q = front_after a b c (w0 ++ text) w0 text
 -- what waits is written to its end
 pub flush_all : (a b c : WriteLog) (w1 whole : List ℕ) → SendsAll a b [] w1 whole → PutsAll b c w1 → PutsAll a c whole
 flush_all a b c w1 whole p q = subst (λ text. PutsAll a c text) (sym p.cut) (puts_more a b c p.sent w1 p.wrote q)
+
+-- the end of a text that went through a block
+pub flush_last : {T E : Type 0} (a b c : WriteLog) (w1 whole : List ℕ) (r : Result T E) → SendsAll a b [] w1 whole → Puts b c r w1 → Puts a c r whole
+flush_last a b c w1 whole (Ok x) p q = flush_all a b c w1 whole p q
+flush_last a b c w1 whole (Err x) p q = flush_front a b c w1 whole p q

@@ -13,9 +13,9 @@ Fails old new =
     ⊎ ((old.calls + 1 ≡ 2 ^ 64) × (new.calls ≡ old.calls) × (new.failures ≡ old.failures)))
     × (new.failed ≡ true)
 
--- calls of which none failed
+-- no call, or calls of which none failed
 abbrev pub AllPass : Tally → Tally → Type 0
-AllPass old new = new.failures ≡ old.failures
+AllPass old new = (new.failures ≡ old.failures) × ((new ≡ old) ⊎ (new.failed ≡ false))
 
 -- calls of which the last one failed, and no other: so none came after the failure
 abbrev pub LastFails : Tally → Tally → Type 0

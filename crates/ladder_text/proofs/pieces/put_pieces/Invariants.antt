@@ -1,7 +1,0 @@
-use Rattle.std.proofs.Common.{take}
-use Rattle.ladder_text.specs.Log.{PutsAll}
-use Rattle.ladder_text.specs.Pieces.{pieces_text}
-use Rattle.ladder_text.proofs.pieces.put_pieces.Given as goal
-
-abbrev pub invariant-loop-piece : goal.invariant-loop-piece
-invariant-loop-piece g l = PutsAll (g.W.Sink.log l.fn.writer) (g.W.Sink.log l.writer) (pieces_text (take l.piece-index l.pieces))
