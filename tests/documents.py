@@ -6,7 +6,7 @@ PATTERN, as 'examples/*', chooses some by name. Each is followed in a temporary 
 `<!-- files: FOLDER -->` puts the files of a folder there; an example has its own files.
 
     ```console              a session: commands behind `$ `, each with all that a terminal then shows, byte for byte
-    ```console if TOOL      the same, passed over where TOOL isn't installed
+    ```console if TOOL      the same, passed over where TOOL isn't installed (parallel is GNU parallel)
     ```console not run      commands that are never run
     ```ladder               a program that is accepted, or rungs, which stand behind the last program's declarations
 
@@ -141,8 +141,15 @@ def put_files(source, folder):
     return given
 
 
+def is_there(tool):
+    """Whether a tool is installed; there are two programs named parallel."""
+    if not shutil.which(tool):
+        return False
+    return tool != "parallel" or b"GNU parallel" in subprocess.run([tool, "--version"], stdout=subprocess.PIPE, stderr=subprocess.STDOUT, check=False).stdout
+
+
 def session(name, start, words, lines, folder, tools, tally, status):
-    missing = words[1:2] == ["not"] or words[1:2] == ["if"] and not shutil.which(words[2])
+    missing = words[1:2] == ["not"] or words[1:2] == ["if"] and not is_there(words[2])
     for number, command, shown in commands(start, lines):
         file = re.fullmatch(r"cat ([\w.-]+)", command)
         if missing:
