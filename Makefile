@@ -17,10 +17,11 @@ bin/ladder: $(SOURCES)
 run: bin/ladder
 	cd crates/ladder/data && ../../../bin/ladder causes motor.ld Motor Start Stop
 
-# The gate, from nothing, and then the program that it built as a user runs it.
+# The gate, from nothing, and then the program that it built as a user runs it, and all that the documents show.
 test:
 	rt ci
 	python3 tests/end_to_end.py $(PROGRAM)
+	python3 tests/documents.py $(PROGRAM)
 
 # Timings; they prove nothing and fail nothing.
 bench: bin/ladder
@@ -28,6 +29,7 @@ bench: bin/ladder
 
 install: bin/ladder
 	install -D -m 755 bin/ladder $(DESTDIR)$(PREFIX)/bin/ladder
+	install -D -m 644 man/ladder.1 $(DESTDIR)$(PREFIX)/share/man/man1/ladder.1
 
 clean:
 	rm -rf bin crates/*/out
