@@ -195,7 +195,7 @@ def manual_entries(text):
         if line.startswith(".SS "):
             section = found.setdefault(roff_words(line), set())
         elif due:
-            section.add(roff_words(line).replace("...", "").strip())
+            section.add(" ".join(roff_words(line).replace("...", "").split()))
         due = line == ".TP"
     return found
 
