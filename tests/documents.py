@@ -5,7 +5,7 @@ The documents are README.md, docs/TUTORIAL.md, docs/DRAWING.md, docs/FAULTS.md, 
 PATTERN, as 'examples/*', chooses some by name. Each is followed in a temporary folder of its own. A line
 `<!-- files: FOLDER -->` puts the files of a folder there; an example has its own files.
 
-    ```console              a session: commands behind `$ `, each with all that a terminal then shows, byte for byte
+    ```console              commands behind `$ `, each with all that a terminal then shows, byte for byte
     ```console if TOOL      the same, passed over where TOOL isn't installed (parallel is GNU parallel)
     ```console not run      commands that are never run
     ```ladder               a program that is accepted, or rungs, which stand behind the last program's declarations
@@ -71,7 +71,7 @@ def roff_words(line):
 
 
 def roff_examples(text):
-    """The examples of a manual page as sessions."""
+    """The examples of a manual page as transcripts."""
     found, lines, start = [], None, 0
     for number, line in enumerate(text.splitlines(), 1):
         if line == ".EX":
@@ -85,7 +85,7 @@ def roff_examples(text):
 
 
 def commands(start, lines):
-    """The commands of a session: the number of the line, the command, and what it shows."""
+    """The commands of a transcript: the number of the line, the command, and what it shows."""
     found = []
     for number, line in enumerate(lines, start + 1):
         if line.startswith("$ "):
@@ -126,7 +126,7 @@ def follow(name, blocks, folder, tools, tally):
             shown, _ = run("ladder check drawing.ld", folder, tools, 0)
             tally.compare(f"{name}:{start}: this drawing isn't accepted", shown.split(" ")[0], "rungs")
         elif words[:1] == ["console"]:
-            status = session(name, start, words, lines, folder, tools, tally, status)
+            status = transcript(name, start, words, lines, folder, tools, tally, status)
     for path, content in given.items():
         tally.compare(f"{name}: {path.name}", path.read_bytes(), content)
 
@@ -148,7 +148,7 @@ def is_there(tool):
     return tool != "parallel" or b"GNU parallel" in subprocess.run([tool, "--version"], stdout=subprocess.PIPE, stderr=subprocess.STDOUT, check=False).stdout
 
 
-def session(name, start, words, lines, folder, tools, tally, status):
+def transcript(name, start, words, lines, folder, tools, tally, status):
     missing = words[1:2] == ["not"] or words[1:2] == ["if"] and not is_there(words[2])
     for number, command, shown in commands(start, lines):
         file = re.fullmatch(r"cat ([\w.-]+)", command)
