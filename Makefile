@@ -17,15 +17,17 @@ bin/ladder: $(SOURCES)
 run: bin/ladder
 	cd crates/ladder/data && ../../../bin/ladder causes motor.ld Motor Start Stop
 
-# The gate, from nothing, and then the program that it built as a user runs it.
+# The gate, from nothing, and then the program that it built as a user runs it, and all that the documents show.
 test:
 	rt ci
 	python3 tests/end_to_end.py $(PROGRAM)
+	python3 tests/documents.py $(PROGRAM)
 	python3 tests/stress.py $(PROGRAM) --sample 1000
 
-# Some 30,000 broken texts, each answered as it must be; a minute or two.
+# Some 56,000 broken texts and requests in less and less memory, each answered as it must be; and bodies that the prover can't refuse.
 stress: bin/ladder
 	python3 tests/stress.py bin/ladder
+	python3 tests/wrong_bodies.py bin/ladder
 
 # Timings; they prove nothing and fail nothing.
 bench: bin/ladder
@@ -33,6 +35,7 @@ bench: bin/ladder
 
 install: bin/ladder
 	install -D -m 755 bin/ladder $(DESTDIR)$(PREFIX)/bin/ladder
+	install -D -m 644 man/ladder.1 $(DESTDIR)$(PREFIX)/share/man/man1/ladder.1
 
 clean:
 	rm -rf bin crates/*/out
