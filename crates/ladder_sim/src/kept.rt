@@ -7,7 +7,11 @@ ghost use Rattle.ladder_sim.specs.declared.cause_text.TheConstants.{DIGITS, ROW}
 
 use super::cause_text::{DIGITS, ROW, fill_end, write_row};
 
-/// The row of `first`. The numbers from `first` up to `end` share its hundreds and its sixty-fours.
+/// How many bytes of a row are copied, whatever its length: a copy of a fixed length needs no test. A longer row is near no other.
+const COPIED: usize = 80;
+
+/// The row of `first`. The numbers from `first` up to `end` share its hundreds and its sixty-fours, so their rows differ from it in
+/// the last two digits and the last six bits alone.
 #[derive(Drop)]
 pub(crate) struct Kept {
     text: [u8; ROW],
@@ -15,11 +19,11 @@ pub(crate) struct Kept {
     start: usize,
     pub first: u64,
     pub end: u64,
-    /// `first` without its last two digits.
+    /// `first` with 0 for its last two digits.
     hundreds: u64,
     /// The numbers below 100, in two digits each.
     pairs: [u8; 200],
-    /// The end of the row for each of the last six bits, in 16 bytes each.
+    /// The end of a row for each value of the last six bits, in 16 bytes each.
     tails: [u8; 1024],
 }
 
@@ -42,12 +46,13 @@ fn fill_pairs(pairs: &mut [u8])
     }
 }
 
-/// Up to where the numbers from `number` on have rows near its own, if its row begins at `start`.
+/// Up to where the numbers from `number` on have rows near its own, if its row begins at `start`: nowhere, where a row has fewer than
+/// three digits or six bits, or is too long.
 fn near_end(listed: usize, start: usize, number: u64) -> u64
     requires { (start ≤ DIGITS) × (listed ≤ 64) }
     ensures { (n : ℕ) → number ≤ n → n < result → IsNear listed start number n }
 {
-    if number < 100 || listed < 6 || 80 + start < DIGITS + 2 * listed + 1 {
+    if number < 100 || listed < 6 || COPIED + start < DIGITS + 2 * listed + 1 {
         return 0;
     }
     let count = (100 - number % 100).min(64 - number % 64);
@@ -100,6 +105,9 @@ impl Kept {
     }
 
     /// Writes the row of a number near the kept one on the front of a text, and answers how long it is.
+    ///
+    /// The copy is patched and never the kept row: a byte that was just written is slow to read again among its neighbours, and each
+    /// row would wait for the one before it.
     #[inline(always)]
     pub(crate) fn write_near(&self, text: &mut [u8], listed: usize, number: u64) -> usize
         requires few { listed ≤ 64 }
@@ -113,9 +121,13 @@ impl Kept {
         let pair = 2 * (number - self.hundreds) as usize;
         let tail = 16 * (number % 64) as usize;
         let digits = 18 - self.start;
-        text[0..80].copy_from_slice(&self.text[self.start..self.start + 80]);
+        text[0..COPIED].copy_from_slice(&self.text[self.start..self.start + COPIED]);
+
+        // byte by byte: two bytes as one piece would be tested for an overlap first
         text[digits] = self.pairs[pair];
         text[digits + 1] = self.pairs[pair + 1];
+
+        // of the 16 bytes, 13 are the row's: the room and the tails have three more
         text[long - 13..long + 3].copy_from_slice(&self.tails[tail..tail + 16]);
         long
     }
