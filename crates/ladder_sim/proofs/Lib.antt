@@ -1,3 +1,4 @@
 pub mod Limits
+pub mod NearLaws
 pub mod RowLaws
 pub mod Taking

@@ -1,11 +1,11 @@
 -- One cause more of a limited list.
-use Rattle.std.proofs.Common.{◌≡◌, ◌≢◌, ◌∙◌, ◌+◌, ◌-◌, ◌≤◌, ℕ, suc, List, ◌∷◌, ◌++◌, Option, Some, None, sym, refl, ap, append_assoc, arith, length}
+use Rattle.std.proofs.Common.{◌≡◌, ◌≢◌, ◌∙◌, ◌+◌, ◌-◌, ◌≤◌, ℕ, suc, List, [], ◌∷◌, ◌++◌, Option, Some, None, sym, refl, ap, append_assoc, arith, length, take}
 use Rattle.std.specs.Prelude.{IfSome}
 use Rattle.ladder_sim.specs.CauseText.{limited, row, rows}
 use Rattle.ladder_text.specs.Block.{SendsAll}
 use Rattle.ladder_sim.specs.Limit.{limit_left}
 use Rattle.ladder_text.specs.Log.{PutsFront, WriteLog}
-use Rattle.ladder_text.proofs.Sending.{sends_front, sends_more}
+use Rattle.ladder_text.proofs.Sending.{sends_front, sends_more, sends_none}
 
 pub limited_next : (limit : Option ℕ) (count : ℕ) (xs : List ℕ) (n : ℕ) (rest : List ℕ) → xs ≡ n ∷ rest → limit ≢ Some count → IfSome limit (λ m. count ≤ m)
     → limited (limit_left limit count) xs ≡ n ∷ limited (limit_left limit (count + 1)) rest
@@ -26,6 +26,20 @@ pub record Added (a b : WriteLog) (waited waits : List ℕ) (k count : ℕ) (lim
   pub sent : SendsAll a b waited waits done
   pub counted : count + length left ≡ length whole
   pub within : IfSome limit (λ m. count ≤ m)
+
+-- before the first row
+pub added_none : (a : WriteLog) (w : List ℕ) (k : ℕ) (limit : Option ℕ) (xs : List ℕ)
+    → Added a a w w k 0 limit (limited limit xs) (limited (limit_left limit 0) xs)
+added_none a w k None xs = record { done = []; split = refl; sent = sends_none a w; counted = omega arith; within = tt }
+added_none a w k (Some m) xs =
+    let same : m - 0 ≡ m = omega arith in
+    record {
+      done = [];
+      split = ap (λ j. rows k (take j xs)) (sym same);
+      sent = sends_none a w;
+      counted = omega (arith, ap (λ j. length (take j xs)) same);
+      within = omega arith;
+    }
 
 -- one row more
 pub added_more : (a b c : WriteLog) (w0 w1 w2 : List ℕ) (k count : ℕ) (limit : Option ℕ) (whole xs : List ℕ) (n : ℕ) (rest : List ℕ)

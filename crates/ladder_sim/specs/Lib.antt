@@ -1,2 +1,3 @@
 pub mod CauseText
+pub mod Kept
 pub mod Limit

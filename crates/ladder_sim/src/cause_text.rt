@@ -1,13 +1,16 @@
 //! The text of a list of causes.
-ghost use Rattle.std.specs.Prelude.{◌≡◌, ◌≢◌, ◌+◌, ◌*◌, ◌<◌, ◌≤◌, ◌++◌, ◌∷◌, ◌^◌, [], ℕ, IfOk, MatchResult, Some, codes, false, length, map, slice_get, take, true};
+ghost use Rattle.std.specs.Prelude.{◌≡◌, ◌≢◌, ◌+◌, ◌*◌, ◌<◌, ◌≤◌, ◌++◌, ◌∷◌, ◌^◌, [], ℕ, IfOk, MatchResult, Some, codes, decimal, false, length, map, slice_get, take, true};
 ghost use Rattle.ladder_causes.specs.Assignment.{bit_of};
 ghost use Rattle.ladder_causes.specs.Cursor.{Takes, looks_given, looks_of, searched};
 ghost use Rattle.std.specs.List.{slice_range};
 ghost use Rattle.ladder_text.specs.Block.{Sends};
 ghost use Rattle.ladder_sim.specs.CauseText.{behind_commas, bit_text, bits, cause_text, header, limited, name_in, row, rows};
+ghost use Rattle.ladder_sim.specs.Kept.{IsKept};
 ghost use Rattle.ladder_text.specs.Log.{Puts};
 ghost use Rattle.ladder_sim.specs.declared.cause_text.TheConstants.{DIGITS, ROW};
 
+use super::kept::Kept;
+use super::near::Near;
 use itoa::write_digits;
 use ladder_causes::Causes;
 use ladder_grid::Program;
@@ -15,10 +18,10 @@ use ladder_text::{Block, Sink, WriteFault};
 use ladder_vars::Decls;
 
 /// How many digits a number has at most.
-const DIGITS: usize = 20;
+pub(crate) const DIGITS: usize = 20;
 
 /// How many bytes a row has at most: a number, 64 bits, each behind a comma, and a line feed.
-const ROW: usize = 149;
+pub(crate) const ROW: usize = 149;
 
 /// How a variable is spelled where it is declared.
 fn name_bytes(decls: &Decls, var: usize) -> &[u8]
@@ -93,7 +96,7 @@ fn bit_of(listed: usize, place: usize, number: u64) -> bool
 }
 
 /// Writes the end of a number's row on the front of a text: its bits, each behind a comma, and a line feed.
-fn fill_end(text: &mut [u8], listed: usize, number: u64)
+pub(crate) fn fill_end(text: &mut [u8], listed: usize, number: u64)
     requires few { listed ≤ 64 }
     requires room { 2 * listed < length text.old }
     ensures { take (2 * listed + 1) text.new ≡ behind_commas (bits listed number listed) ++ codes "\n" }
@@ -106,29 +109,34 @@ fn fill_end(text: &mut [u8], listed: usize, number: u64)
 }
 
 /// Writes the row of a number into a text, and answers where it begins: its digits end at `DIGITS`, and the rest follows.
-fn write_row(text: &mut [u8], listed: usize, number: u64) -> usize
+pub(crate) fn write_row(text: &mut [u8], listed: usize, number: u64) -> usize
     requires few { listed ≤ 64 }
     requires room { length text.old ≡ ROW }
-    ensures start { result ≤ DIGITS }
+    ensures start { result + length (decimal number) ≡ DIGITS }
     ensures row { slice_range text.new result (DIGITS + 2 * listed + 1) ≡ row listed number }
 {
     fill_end(&mut text[DIGITS..], listed, number);
     write_digits(number, text, DIGITS)
 }
 
-/// Adds the row of a number, as one piece.
+/// Adds the row of a number. One row is kept: that of the last number that was not near it.
 fn add_row<W: Sink>(
     block: &mut Block,
+    kept: &mut Kept,
     listed: usize,
     number: u64,
     writer: &mut W,
 ) -> Result<(), WriteFault>
-    requires { listed ≤ 64 }
-    ensures { Sends (W.log writer.old) (W.log writer.new) block.old block.new result (row listed number) }
+    requires few { listed ≤ 64 }
+    requires kept { IsKept listed kept.old }
+    ensures sends { Sends (W.log writer.old) (W.log writer.new) block.old block.new result (row listed number) }
+    ensures kept { IsKept listed kept.new }
 {
-    let mut text = [0; ROW];
-    let start = write_row(&mut text, listed, number);
-    block.add(&text[start..DIGITS + 2 * listed + 1], writer)
+    if kept.first <= number && number < kept.end {
+        return block.add_short(&Near::new(kept, listed, number), writer);
+    }
+    kept.keep(listed, number);
+    block.add(kept.row(listed), writer)
 }
 
 /// How much of a list was written, and what it took.
@@ -165,6 +173,7 @@ fn add_rows<W: Sink>(
     ensures taken { MatchResult result (λ n. Takes causes.old causes.new n) (λ _. (n : ℕ) × Takes causes.old causes.new n) }
     ensures looks { IfOk result (λ _. looks_of causes.new ≡ looks_given (searched causes.old) (looks_of causes.old) limit causes.old.rest) }
 {
+    let mut kept = Kept::new(listed);
     let mut count = 0u64;
     loop {
         if is_reached(limit, count) {
@@ -173,7 +182,7 @@ fn add_rows<W: Sink>(
         let Some(number) = causes.next() else {
             return Ok(count);
         };
-        let Ok(()) = add_row(block, listed, number, writer) else {
+        let Ok(()) = add_row(block, &mut kept, listed, number, writer) else {
             return Err(WriteFault);
         };
         count += 1;

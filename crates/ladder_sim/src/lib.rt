@@ -2,6 +2,8 @@
 #![tactic(auto)]
 
 mod cause_text;
+mod kept;
+mod near;
 
 pub use cause_text::{Summary, write_causes};
 pub use ladder_state::{read_state, write_state};

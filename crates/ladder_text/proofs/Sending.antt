@@ -1,5 +1,5 @@
 -- Texts that are written through a buffer, one after the other.
-use Rattle.std.proofs.Common.{◌≡◌, ◌∙◌, ℕ, List, [], ◌++◌, sym, subst, ap, append_assoc, append-nil, Result, Ok, Err}
+use Rattle.std.proofs.Common.{◌≡◌, ◌∙◌, ℕ, List, [], ◌++◌, refl, sym, subst, ap, append_assoc, append-nil, Result, Ok, Err}
 use Rattle.ladder_text.specs.Block.{Sends, SendsAll}
 use Rattle.ladder_text.specs.Log.{Puts, PutsAll, PutsFront, WriteLog}
 use Rattle.ladder_text.proofs.Puts.{front_after, puts_more, puts_none}
@@ -60,3 +60,20 @@ flush_all a b c w1 whole p q = subst (λ text. PutsAll a c text) (sym p.cut) (pu
 pub flush_last : {T E : Type 0} (a b c : WriteLog) (w1 whole : List ℕ) (r : Result T E) → SendsAll a b [] w1 whole → Puts b c r w1 → Puts a c r whole
 flush_last a b c w1 whole (Ok x) p q = flush_all a b c w1 whole p q
 flush_last a b c w1 whole (Err x) p q = flush_front a b c w1 whole p q
+
+-- all that waited is written, and no text more
+pub sends_flush : {T E : Type 0} (a b : WriteLog) (w0 : List ℕ) (r : Result T E) → Puts a b r w0 → Sends a b w0 [] r []
+sends_flush a b w0 (Ok x) p = record { sent = w0; cut = refl; wrote = p }
+sends_flush a b w0 (Err x) p = rw (append-nil w0) p
+
+-- room is made, and then a text is taken
+pub sends_room : (a b : WriteLog) (w0 w1 w2 text : List ℕ) → SendsAll a b w0 w1 [] → w2 ≡ w1 ++ text → SendsAll a b w0 w2 text
+sends_room a b w0 w1 w2 text p e = record {
+  sent = p.sent;
+  cut = ap (λ xs. xs ++ text) (sym (append-nil w0) ∙ p.cut) ∙ append_assoc p.sent w1 text ∙ ap (λ xs. p.sent ++ xs) (sym e);
+  wrote = p.wrote;
+}
+
+-- no room could be made
+pub front_room : (a b : WriteLog) (w0 text : List ℕ) → PutsFront a b (w0 ++ []) → PutsFront a b (w0 ++ text)
+front_room a b w0 text p = front_after a a b (w0 ++ text) [] (w0 ++ []) text (ap (λ xs. xs ++ text) (sym (append-nil w0))) (puts_none a) p

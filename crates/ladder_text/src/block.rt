@@ -1,9 +1,11 @@
 //! Bytes that wait to be written, many at a call.
-ghost use Rattle.std.specs.Prelude.{◌≡◌, ◌+◌, ◌≤◌, ◌++◌, [], length, take};
+ghost use Rattle.std.specs.Prelude.{◌≡◌, ◌+◌, ◌≤◌, ◌++◌, [], IfOk, length, take};
 ghost use Rattle.ladder_text.specs.Block.{Sends};
 ghost use Rattle.ladder_text.specs.Log.{Puts};
+ghost use Rattle.ladder_text.specs.declared.short.TheConstants.{SHORT};
 
 use super::fault::WriteFault;
+use super::short::{SHORT, Short};
 use super::sink::{Sink, put};
 use std::marker::Model;
 
@@ -83,6 +85,42 @@ impl Block {
             return self.write_through(piece, writer);
         }
         self.take(piece);
+        Ok(())
+    }
+
+    /// Sees to it that there is room for a short text.
+    fn make_room<W: Sink>(&mut self, writer: &mut W) -> Result<(), WriteFault>
+        ensures sends { Sends (W.log writer.old) (W.log writer.new) self.old self.new result [] }
+        ensures room { IfOk result (λ _. length self.new + SHORT ≤ BLOCK) }
+    {
+        if BLOCK - self.used < SHORT {
+            return self.flush(writer);
+        }
+        Ok(())
+    }
+
+    /// Takes a short text, for which there is room.
+    fn take_short<P: Short>(&mut self, piece: &P)
+        requires { length self.old + SHORT ≤ BLOCK }
+        ensures { self.new ≡ self.old ++ P.text piece.now }
+    {
+        let used = self.used;
+        let long = piece.write(&mut self.bytes[used..used + SHORT]);
+        self.used = used + long;
+    }
+
+    /// Takes a text that writes itself, and writes where there is no room.
+    pub fn add_short<P: Short, W: Sink>(
+        &mut self,
+        piece: &P,
+        writer: &mut W,
+    ) -> Result<(), WriteFault>
+        ensures { Sends (W.log writer.old) (W.log writer.new) self.old self.new result (P.text piece.now) }
+    {
+        let Ok(()) = self.make_room(writer) else {
+            return Err(WriteFault);
+        };
+        self.take_short(piece);
         Ok(())
     }
 }

@@ -4,6 +4,7 @@
 mod block;
 mod fault;
 mod pieces;
+mod short;
 mod sink;
 mod source;
 mod tally;
@@ -12,6 +13,7 @@ mod text;
 pub use block::Block;
 pub use fault::{TextFault, WriteFault};
 pub use pieces::{Piece, put_pieces};
+pub use short::{SHORT, Short};
 pub use sink::{Sink, WriteFailed, Writing, put};
 pub use source::{ReadFailed, Reading, Source};
 pub use tally::Tally;

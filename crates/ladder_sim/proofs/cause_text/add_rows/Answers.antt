@@ -1,21 +1,29 @@
 use Rattle.std.proofs.Common.{◌+◌, refl}
-use Rattle.ladder_sim.proofs.Limits.{added_front, added_more}
-use Rattle.ladder_sim.proofs.Taking.{going_on}
+use Rattle.ladder_sim.proofs.Limits.{added_front, added_more, added_none}
+use Rattle.ladder_sim.proofs.Taking.{going_none, going_on}
 use Rattle.ladder_sim.proofs.cause_text.add_rows.Goals as goal
+
+pub loop-limit-init : goal.loop-limit-init
+loop-limit-init g c = record {
+  added = added_none _ c.args.block.now c.args.listed c.args.limit c.args.causes.now.rest;
+  going = going_none c.args.causes.now;
+  kept = c.new-kept.ensures;
+}
 
 pub loop-limit-preserved : goal.loop-limit-preserved
 loop-limit-preserved g c =
     let steps = c.in-Some.ensures.steps in
     record {
       added = added_more _ _ _ _ _ _ _ _ _ _ c.loop-limit.causes.rest c.in-Some.number _ c.loop-limit.invariant.added steps.0
-          (c.if-is_reached.ensures.no refl) c.in-Ok.ensures;
+          (c.if-is_reached.ensures.no refl) c.in-Ok.ensures.sends;
       going = going_on c.args.causes.now c.loop-limit.causes _ c.loop-limit.count c.in-Some.number c.loop-limit.invariant.going steps.0 steps.1 steps.2 steps.3 steps.4;
+      kept = c.in-Ok.ensures.kept;
     }
 
 pub returns-in_default-add_row-clause-sends : goal.returns-in_default-add_row-clause-sends
 returns-in_default-add_row-clause-sends g c =
     added_front _ _ _ _ _ _ _ _ _ c.loop-limit.causes.rest c.in-Some.number _ c.loop-limit.invariant.added c.in-Some.ensures.steps.0
-    (c.if-is_reached.ensures.no refl) c.in_default-add_row.ensures
+    (c.if-is_reached.ensures.no refl) c.in_default-add_row.ensures.sends
 
 pub returns-in_default-add_row-clause-taken : goal.returns-in_default-add_row-clause-taken
 returns-in_default-add_row-clause-taken g c =

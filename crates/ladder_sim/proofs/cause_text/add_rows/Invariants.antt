@@ -1,5 +1,6 @@
 use Rattle.std.proofs.Common.{length}
 use Rattle.ladder_sim.specs.CauseText.{limited}
+use Rattle.ladder_sim.specs.Kept.{IsKept}
 use Rattle.ladder_sim.specs.Limit.{limit_left}
 use Rattle.ladder_sim.proofs.Limits.{Added}
 use Rattle.ladder_sim.proofs.Taking.{Going}
@@ -10,6 +11,7 @@ invariant-loop-limit g l = record {
   added : Added (g.W.Sink.log l.fn.writer) (g.W.Sink.log l.writer) l.fn.block l.block l.listed l.count l.limit
       (limited l.limit l.fn.causes.rest) (limited (limit_left l.limit l.count) l.causes.rest);
   going : Going l.fn.causes l.causes l.count;
+  kept : IsKept l.listed l.kept;
 }
 
 abbrev pub decreases-loop-limit : goal.decreases-loop-limit
