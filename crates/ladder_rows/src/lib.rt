@@ -20,6 +20,8 @@ mod scans;
 #[cfg(test)]
 mod simulations;
 #[cfg(test)]
+mod starving;
+#[cfg(test)]
 mod states;
 #[cfg(test)]
 mod table;

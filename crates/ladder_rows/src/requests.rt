@@ -16,7 +16,7 @@ const TRACE: &[u8] = b"moment,Motor\n0,1\n";
 /// The state after the last scan.
 const SAVED: &[u8] = b"version,2\nmoment,0\nvar,Start,1\nvar,Stop,0\nvar,Motor,1\n";
 
-fn request(alloc: Global, words: &[&str]) -> Result<Request, AllocError> {
+pub(crate) fn request(alloc: Global, words: &[&str]) -> Result<Request, AllocError> {
     let mut inputs = Vec::new(alloc);
     for word in words.iter().skip(1) {
         inputs.push(String::from_str(alloc, word)?)?;
@@ -32,7 +32,7 @@ fn request(alloc: Global, words: &[&str]) -> Result<Request, AllocError> {
     })
 }
 
-fn texts(
+pub(crate) fn texts(
     alloc: Global,
     program: &[u8],
     state: Option<&[u8]>,

@@ -15,7 +15,7 @@ const MOTOR_FRESH: &[u8] = b"version,2\nmoment,0\nvar,Start,0\nvar,Stop,0\nvar,M
 const EDGES_ITEMS: &[u8] =
     b"var,A,0\nvar,Lamp,1\nmemory,1,1,1,0\nmemory,1,2,1,0\nmemory,1,1,2,0\nmemory,2,1,1,0\n";
 
-const EDGES_FRESH: &[u8] =
+pub(crate) const EDGES_FRESH: &[u8] =
     b"version,2\nmoment,0\nvar,A,0\nvar,Lamp,1\nmemory,1,1,1,0\nmemory,1,2,1,0\nmemory,1,1,2,0\nmemory,2,1,1,0\ncounter,C1,0,0,0\ntimer,Wait,0,0,0,0\nbistable,B1,0\n";
 
 /// The text before the first scan in version 1, which has no record of the bistable.
@@ -23,7 +23,7 @@ const EDGES_FRESH_BEFORE: &[u8] =
     b"version,1\nmoment,0\nvar,A,0\nvar,Lamp,1\nmemory,1,1,1,0\nmemory,1,2,1,0\nmemory,1,1,2,0\nmemory,2,1,1,0\ncounter,C1,0,0,0\ntimer,Wait,0,0,0,0\n";
 
 /// A text in which most differs from what it is before the first scan.
-const EDGES_LATER: &[u8] =
+pub(crate) const EDGES_LATER: &[u8] =
     b"version,2\nmoment,18446744073709551615\nvar,A,1\nvar,Lamp,0\nmemory,1,1,1,1\nmemory,1,2,1,0\nmemory,1,1,2,1\nmemory,2,1,1,1\ncounter,C1,1,-32768,1\ntimer,Wait,1,1,18446744073709551615,0\nbistable,B1,1\n";
 
 /// The text of a state, as it is written.
@@ -62,7 +62,7 @@ fn a_state_is_written_as_it_is_read(rt: HostRuntime) -> Result<(), TextFault> {
     Ok(())
 }
 
-fn joined(alloc: Global, pieces: &[&[u8]]) -> Result<Vec<u8>, AllocError> {
+pub(crate) fn joined(alloc: Global, pieces: &[&[u8]]) -> Result<Vec<u8>, AllocError> {
     let mut text = Vec::new(alloc);
     for piece in pieces {
         text.extend_from_slice(piece)?;

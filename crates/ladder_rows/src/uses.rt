@@ -8,7 +8,7 @@ use ladder_sim::{WriteFault, write_uses};
 const MOTOR_USES: &[u8] =
     b"name,use,rung,row,column\nStart,contact,1,1,1\nStop,not_contact,1,1,2\nMotor,contact,1,2,1\nMotor,coil,1,1,3\n";
 
-const EDGES_USES: &[u8] =
+pub(crate) const EDGES_USES: &[u8] =
     b"name,use,rung,row,column\nA,rise_contact,1,1,1\nA,fall_contact,1,2,1\nA,rise_contact,2,1,1\nLamp,rise_coil,1,1,2\nC1,unused,0,0,0\nWait,block,2,1,2\nB1,unused,0,0,0\n";
 
 #[test]

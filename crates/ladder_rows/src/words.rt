@@ -2,7 +2,7 @@
 use ladder_tool::{Request, WordFault, read_words};
 use std::alloc::{AllocError, Global};
 
-fn strings(alloc: Global, words: &[&str]) -> Result<Vec<String>, AllocError> {
+pub(crate) fn strings(alloc: Global, words: &[&str]) -> Result<Vec<String>, AllocError> {
     let mut all = Vec::new(alloc);
     for word in words {
         all.push(String::from_str(alloc, word)?)?;
@@ -29,7 +29,7 @@ fn is_path(path: &Option<String>, wanted: &str) -> bool {
     }
 }
 
-fn asks_for_the_motor(request: &Request) -> bool {
+pub(crate) fn asks_for_the_motor(request: &Request) -> bool {
     match request {
         Request::Causes {
             state,
@@ -108,7 +108,7 @@ fn asked(alloc: Global, words: &[&str]) -> Result<Option<Request>, AllocError> {
     }
 }
 
-fn is_help(fault: &WordFault) -> bool {
+pub(crate) fn is_help(fault: &WordFault) -> bool {
     match fault {
         WordFault::Help(text) => !text.is_empty(),
         _ => false,
