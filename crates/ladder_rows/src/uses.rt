@@ -18,7 +18,7 @@ fn uses_are_counted_and_a_front_is_left(rt: HostRuntime) -> Result<(), Memory> {
         let mut writer = without_end(rt.alloc());
         assert_eq!(rt; write_uses(&program, &mut writer), Ok(rows));
         assert!(rt; writer.into_inner().bytes.as_slice() == text);
-        for room in [0, 1, 24, 25, 50, 100] {
+        for room in 0..text.len() {
             let mut writer = with_room(rt.alloc(), room, 7, End::FailsOnce);
             assert_eq!(rt;
                 write_uses(&program, &mut writer),
@@ -26,7 +26,7 @@ fn uses_are_counted_and_a_front_is_left(rt: HostRuntime) -> Result<(), Memory> {
                 "at {room}"
             );
             assert!(rt;
-                writer.into_inner().bytes.as_slice() == &text[..room.min(text.len())],
+                writer.into_inner().bytes.as_slice() == &text[..room],
                 "at {room}"
             );
         }
