@@ -16,7 +16,9 @@ Every other file of the folder is copied. PATTERN, as 'causes-*', chooses cases 
 import fnmatch
 import os
 import pathlib
+import resource
 import shutil
+import signal
 import subprocess
 import sys
 import tempfile
@@ -137,6 +139,17 @@ def pipe_closed_after_a_line(program, folder):
     return differences((header, said, process.returncode), ((",".join(["number", *words[3:]]) + "\n").encode(), b"fault X6\n", 1))
 
 
+def rows_in_a_file_of_limited_size(program, folder):
+    """The system ends the program by a signal at the limit; what was written is a prefix of the rows."""
+    shutil.copy(ROOT / "bench" / "circuits" / "one_contact.ld", folder)
+    words = ["causes", "one_contact.ld", "Y", *(f"I{number}" for number in range(1, 17))]
+    whole, _, _ = run(program, words, folder)
+    with open(folder / "rows.csv", "wb") as rows:
+        _, said, status = run(program, words, folder, stdout=rows, preexec_fn=lambda: resource.setrlimit(resource.RLIMIT_FSIZE, (100000, 100000)))
+    written = content(folder / "rows.csv")
+    return differences((written, said, status), (whole[:100000], b"", -signal.SIGXFSZ))
+
+
 def help_is_printed(*words):
     return lambda program, folder: differences(run(program, words, folder), (..., b"", 0))
 
@@ -211,6 +224,7 @@ SPECIAL = {
     "state-too-long": long_texts(STATE, "state.csv", SAVED.ljust(1048577, b"\n"), (b"", b"fault X5 state\n", 1)),
     "streams-saved-state-on-a-full-device": long_texts(["sim", "--save", "/dev/full", *SIM[1:]], "stimulus.csv", ONE, (TRACE, b"fault X6\n", 1)),
     "streams-saved-state-in-a-folder": long_texts(["sim", "--save", ".", *SIM[1:]], "stimulus.csv", ONE, (TRACE, b"fault X6\n", 1)),
+    "streams-rows-in-a-file-of-limited-size": rows_in_a_file_of_limited_size,
     "streams-rows-on-a-pipe-closed-after-a-line": pipe_closed_after_a_line,
     "streams-saved-state-over-the-program": long_texts(["sim", "--save", "motor.ld", *SIM[1:]], "stimulus.csv", ONE, (TRACE, b"", 0)),
     "streams-sim-without-input": sim_with_closed_streams([0], (TRACE, b"", 0), SAVED),
