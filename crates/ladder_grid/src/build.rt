@@ -17,8 +17,8 @@ use crate::lines::{blanked, lines, parts, unclosed_line};
 use crate::page::{PageView, forms};
 use crate::page_check::check;
 use crate::program::Program;
+use crate::sheet::has_memory;
 use crate::site::{Site, cell_drawn, site_with};
-use crate::steps::has_memory;
 use ladder_vars::{Decls, Name};
 use std::alloc::{AllocError, Global};
 

@@ -1,0 +1,25 @@
+-- Where the jump of a rung is.
+use Rattle.std.proofs.Common.{◌≡◌, ℕ, ◌/◌, ◌%◌, ◌<◌, ◌≤◌, Option, Some, None, zero, suc, arith}
+use Rattle.ladder_grid.specs.Program.{Drawing, cell_of, goes_to, jump_in, jump_before, jump_of}
+
+some_row : (a b : ℕ × ℕ × ℕ) → Some a ≡ Some b → (a.0 ≡ b.0) × (a.1 ≡ b.1)
+some_row a b h = (cc, cc)
+
+found : (target : Option ℕ) (n : ℕ) (other : Option (ℕ × ℕ × ℕ)) (j : ℕ × ℕ × ℕ) → jump_in target n other ≡ Some j
+    → ((k : ℕ × ℕ × ℕ) → other ≡ Some k → (k.0 < 6) × (k.1 < 10)) → n < 60 → (j.0 < 6) × (j.1 < 10)
+found None n other j h before lt = before j h
+found (Some target) n other j h before lt =
+    let w = some_row (n % 6, n / 6, target) j h in
+    let row : n % 6 < 6 = omega arith in
+    let column : n / 6 < 10 = omega arith in
+    (omega (arith, w.0, row), omega (arith, w.1, column))
+
+placed_before : (d : Drawing) (rung n : ℕ) → n ≤ 60 → (j : ℕ × ℕ × ℕ) → jump_before d rung n ≡ Some j → (j.0 < 6) × (j.1 < 10)
+unfolding jump_before
+placed_before d rung zero h j e = cc
+placed_before d rung (suc n) h j e =
+    found (goes_to d.rungs (cell_of d rung n)) n (jump_before d rung n) j e (λ k f. placed_before d rung n (omega arith) k f) (omega arith)
+
+pub jump_placed : (d : Drawing) (rung : ℕ) (j : ℕ × ℕ × ℕ) → jump_of d rung ≡ Some j → (j.0 < 6) × (j.1 < 10)
+unfolding jump_of
+jump_placed d rung j e = placed_before d rung 60 (omega arith) j e

@@ -1,0 +1,359 @@
+//! A rung as gates, which a scan evaluates, and as the actions of its coils, blocks and edges.
+//!
+//! The links of a rung are kept in one list, by the places of the cells: what a gate gives is at the place of its cell, and what a
+//! cell by itself lets through `OWN` further on.
+
+ghost use Rattle.std.specs.Prelude.{◌≡◌, ◌<◌, ◌≤◌, ◌+◌, ◌*◌, ◌-◌, ◌/◌, length, map, nat_lt, ◌&&◌, ◌||◌, IfOk, if◌then◌else◌};
+ghost use Rattle.ladder_grid.specs.declared.geometry.TheConstants.{RUNGS, ROWS, COLUMNS, PLACES};
+ghost use Rattle.ladder_grid.specs.Program.{cell_of, jump_of};
+ghost use Rattle.ladder_grid.specs.Gates.{last_feeder, left_of, other_of, is_linked, below_of, literal_on, literal_of, gate_at, is_block, feeds_on, has_gate, gates_of, acts, action_at, actions_of, exit_by, leap_by, leaps_below};
+ghost use Rattle.ladder_grid.specs.Sheet.{drawing_of, HasGates, HasActions, HasJumps, HasExits};
+
+use crate::cell::{Cell, Mode, Operand};
+use crate::geometry::{COLUMNS, PLACES, ROWS};
+use crate::sheet::{Jump, Sheet, feeds, site_in};
+use std::alloc::{AllocError, Global};
+
+/// Where ON is among the links of a rung.
+pub const ON: usize = PLACES;
+
+/// Where OFF is among them.
+pub const OFF: usize = PLACES + 1;
+
+/// From here on is what each cell by itself lets through.
+pub const OWN: usize = PLACES + 2;
+
+/// So many links a rung has.
+pub const LINKS: usize = OWN + PLACES;
+
+/// The numbers of variables below this one go into a literal.
+pub const VARIABLES: usize = 65_536;
+
+/// What a gate lets through.
+#[derive(Clone, Copy, Debug, PartialEq, Eq)]
+pub enum Literal {
+    /// Everything.
+    On,
+    /// The value of a variable.
+    Is(u16),
+    /// The inverse of the value of a variable.
+    Not(u16),
+    /// What its cell says: an edge contact, an output or a block.
+    Other,
+}
+
+/// A gate gives, at `place`, the link at `left` AND the literal, OR the link at `other`.
+///
+/// `below` is where the second input of a block is.
+#[derive(Clone, Copy, Debug, PartialEq, Eq)]
+pub struct Gate {
+    pub place: u8,
+    pub left: u8,
+    pub below: u8,
+    pub other: u8,
+    pub literal: Literal,
+}
+
+/// A cell that writes a variable, a memory or an instance, and where its left link and its second input are.
+#[derive(Clone, Copy, Debug, PartialEq, Eq)]
+pub struct Action {
+    pub cell: Cell,
+    pub place: u8,
+    pub left: u8,
+    pub below: u8,
+}
+
+/// A jump or return: where its left link is, and the rung that it goes to, past the last one by a return.
+#[derive(Clone, Copy, Debug, PartialEq, Eq)]
+pub struct Exit {
+    pub left: u8,
+    pub target: usize,
+}
+
+/// A rung that has a jump or return, and the rung that this goes to.
+#[derive(Clone, Copy, Debug, PartialEq, Eq)]
+pub struct Leap {
+    pub rung: usize,
+    pub target: usize,
+}
+
+fn cell_of(sheet: Sheet<'_>, rung: usize, at: usize) -> Cell
+    requires rungs { rung < RUNGS }
+    requires places { at ≤ PLACES }
+    ensures { result ≡ cell_of (drawing_of sheet.entry) rung at }
+{
+    site_in(sheet, PLACES * rung + at).cell
+}
+
+fn later(is_fed: bool, place: u8, last: u8) -> u8
+    ensures { result ≡ (if is_fed then place else last) }
+{
+    if is_fed { place } else { last }
+}
+
+/// The place of the last row below `count` in the column before that feeds a cell; OFF where none does.
+fn last_feeder(sheet: Sheet<'_>, rung: usize, row: usize, column: usize, count: usize) -> u8
+    requires rungs { rung < RUNGS }
+    requires columns { (1 ≤ column) × (column < COLUMNS) }
+    requires rows { (row < ROWS) × (count ≤ ROWS) }
+    ensures { result ≡ last_feeder (drawing_of sheet.entry) rung row column count }
+{
+    let mut last: u8 = OFF as u8;
+    for from in 0..count {
+        last = later(
+            feeds(sheet, rung, row, column, from),
+            (ROWS * (column - 1) + from) as u8,
+            last,
+        );
+    }
+    last
+}
+
+fn left_of(sheet: Sheet<'_>, rung: usize, at: usize) -> u8
+    requires rungs { rung < RUNGS }
+    requires places { at < PLACES }
+    ensures { result ≡ left_of (drawing_of sheet.entry) rung at }
+{
+    if at / ROWS == 0 {
+        ON as u8
+    } else {
+        last_feeder(sheet, rung, at % ROWS, at / ROWS, ROWS)
+    }
+}
+
+fn other_of(sheet: Sheet<'_>, rung: usize, at: usize) -> u8
+    requires rungs { rung < RUNGS }
+    requires places { at < PLACES }
+    ensures { result ≡ other_of (drawing_of sheet.entry) rung at }
+{
+    if at / ROWS + 1 < COLUMNS {
+        last_feeder(sheet, rung, at % ROWS, at / ROWS + 1, at % ROWS)
+    } else {
+        OFF as u8
+    }
+}
+
+fn is_linked(cell: Cell) -> bool
+    ensures { result ≡ is_linked cell }
+{
+    match cell {
+        Cell::Lower { linked, .. } => linked,
+        Cell::Empty
+        | Cell::Wire
+        | Cell::Contact { .. }
+        | Cell::Coil { .. }
+        | Cell::Block { .. }
+        | Cell::Jump { .. }
+        | Cell::Return => false,
+    }
+}
+
+fn below_of(sheet: Sheet<'_>, rung: usize, at: usize) -> u8
+    requires rungs { rung < RUNGS }
+    requires places { at < PLACES }
+    ensures { result ≡ below_of (drawing_of sheet.entry) rung at }
+{
+    if at % ROWS + 1 < ROWS && is_linked(cell_of(sheet, rung, at + 1)) {
+        left_of(sheet, rung, at + 1)
+    } else {
+        OFF as u8
+    }
+}
+
+fn literal_on(mode: Mode, operand: Operand) -> Literal
+    ensures { result ≡ literal_on mode operand }
+{
+    match (mode, operand) {
+        (Mode::Plain, Operand::Var(var)) if var < VARIABLES => Literal::Is(var as u16),
+        (Mode::Negated, Operand::Var(var)) if var < VARIABLES => Literal::Not(var as u16),
+        (Mode::Plain | Mode::Negated | Mode::Rising | Mode::Falling, _) => Literal::Other,
+    }
+}
+
+fn literal_of(cell: Cell) -> Literal
+    ensures { result ≡ literal_of cell }
+{
+    match cell {
+        Cell::Contact { mode, operand, .. } => literal_on(mode, operand),
+        Cell::Wire | Cell::Coil { .. } => Literal::On,
+        Cell::Empty | Cell::Block { .. } | Cell::Lower { .. } | Cell::Jump { .. } | Cell::Return =>
+            Literal::Other,
+    }
+}
+
+fn gate_at(sheet: Sheet<'_>, rung: usize, at: usize) -> Gate
+    requires rungs { rung < RUNGS }
+    requires places { at < PLACES }
+    ensures { result ≡ gate_at (drawing_of sheet.entry) rung at }
+{
+    Gate {
+        place: at as u8,
+        left: left_of(sheet, rung, at),
+        below: below_of(sheet, rung, at),
+        other: other_of(sheet, rung, at),
+        literal: literal_of(cell_of(sheet, rung, at)),
+    }
+}
+
+fn is_block(cell: Cell) -> bool
+    ensures { result ≡ is_block cell }
+{
+    match cell {
+        Cell::Block { .. } => true,
+        Cell::Empty
+        | Cell::Wire
+        | Cell::Contact { .. }
+        | Cell::Coil { .. }
+        | Cell::Lower { .. }
+        | Cell::Jump { .. }
+        | Cell::Return => false,
+    }
+}
+
+fn feeds_on(sheet: Sheet<'_>, rung: usize, at: usize) -> bool
+    requires rungs { rung < RUNGS }
+    requires places { at < PLACES }
+    ensures { result ≡ feeds_on (drawing_of sheet.entry) rung at }
+{
+    at / ROWS + 1 < COLUMNS && feeds(sheet, rung, at % ROWS, at / ROWS + 1, at % ROWS)
+}
+
+fn has_gate(sheet: Sheet<'_>, rung: usize, at: usize) -> bool
+    requires rungs { rung < RUNGS }
+    requires places { at < PLACES }
+    ensures { result ≡ has_gate (drawing_of sheet.entry) rung at }
+{
+    is_block(cell_of(sheet, rung, at)) || feeds_on(sheet, rung, at)
+}
+
+#[tactic(auto, unfolding(crate::specs::Gates::gates_of))]
+fn rung_gates(alloc: Global, sheet: Sheet<'_>, rung: usize) -> Result<Vec<Gate>, AllocError>
+    requires rungs { rung < RUNGS }
+    ensures { IfOk result (λ v. v.items ≡ gates_of (drawing_of sheet.entry) rung) }
+{
+    let mut gates: Vec<Gate> = Vec::new(alloc);
+    for at in 0..PLACES {
+        if has_gate(sheet, rung, at) {
+            gates.push(gate_at(sheet, rung, at))?;
+        }
+    }
+    Ok(gates)
+}
+
+/// The gates of each rung.
+pub(crate) fn gates(alloc: Global, sheet: Sheet<'_>) -> Result<Vec<Vec<Gate>>, AllocError>
+    requires rungs { sheet.rungs ≤ RUNGS }
+    ensures count { IfOk result (λ v. length v.items ≡ sheet.entry.rungs) }
+    ensures gates { IfOk result (λ v. HasGates sheet.entry (map (λ x. x.items) v.items)) }
+{
+    let mut gates: Vec<Vec<Gate>> = Vec::new(alloc);
+    for rung in 0..sheet.rungs {
+        let of_rung = rung_gates(alloc, sheet, rung)?;
+        gates.push(of_rung)?;
+    }
+    Ok(gates)
+}
+
+fn acts(cell: Cell) -> bool
+    ensures { result ≡ acts cell }
+{
+    match cell {
+        Cell::Contact { memory, .. } => memory.is_some(),
+        Cell::Coil { .. } | Cell::Block { .. } => true,
+        Cell::Empty | Cell::Wire | Cell::Lower { .. } | Cell::Jump { .. } | Cell::Return => false,
+    }
+}
+
+fn action_at(sheet: Sheet<'_>, rung: usize, at: usize) -> Action
+    requires rungs { rung < RUNGS }
+    requires places { at < PLACES }
+    ensures { result ≡ action_at (drawing_of sheet.entry) rung at }
+{
+    Action {
+        cell: cell_of(sheet, rung, at),
+        place: at as u8,
+        left: left_of(sheet, rung, at),
+        below: below_of(sheet, rung, at),
+    }
+}
+
+#[tactic(auto, unfolding(crate::specs::Gates::actions_of))]
+fn rung_actions(alloc: Global, sheet: Sheet<'_>, rung: usize) -> Result<Vec<Action>, AllocError>
+    requires rungs { rung < RUNGS }
+    ensures { IfOk result (λ v. v.items ≡ actions_of (drawing_of sheet.entry) rung) }
+{
+    let mut actions: Vec<Action> = Vec::new(alloc);
+    for at in 0..PLACES {
+        if acts(cell_of(sheet, rung, at)) {
+            actions.push(action_at(sheet, rung, at))?;
+        }
+    }
+    Ok(actions)
+}
+
+/// The actions of each rung.
+pub(crate) fn actions(alloc: Global, sheet: Sheet<'_>) -> Result<Vec<Vec<Action>>, AllocError>
+    requires rungs { sheet.rungs ≤ RUNGS }
+    ensures count { IfOk result (λ v. length v.items ≡ sheet.entry.rungs) }
+    ensures actions { IfOk result (λ v. HasActions sheet.entry (map (λ x. x.items) v.items)) }
+{
+    let mut actions: Vec<Vec<Action>> = Vec::new(alloc);
+    for rung in 0..sheet.rungs {
+        let of_rung = rung_actions(alloc, sheet, rung)?;
+        actions.push(of_rung)?;
+    }
+    Ok(actions)
+}
+
+/// The exit of a rung that has this jump, from a row and a column to a rung.
+fn exit_by(sheet: Sheet<'_>, rung: usize, jump: Option<Jump>) -> Option<Exit>
+    requires rungs { rung < RUNGS }
+    requires jump { jump ≡ jump_of (drawing_of sheet) rung }
+    ensures { result ≡ exit_by (drawing_of sheet.entry) rung jump }
+{
+    match jump {
+        Some((row, column, target)) => Some(Exit {
+            left: left_of(sheet, rung, ROWS * column + row),
+            target,
+        }),
+        None => None,
+    }
+}
+
+/// The exit of each rung, by its jump.
+pub(crate) fn exits(
+    alloc: Global,
+    sheet: Sheet<'_>,
+    jumps: &[Option<Jump>],
+) -> Result<Vec<Option<Exit>>, AllocError>
+    requires rungs { sheet.rungs ≤ RUNGS }
+    requires count { length jumps.now ≡ sheet.rungs }
+    requires jumps { HasJumps sheet jumps.now }
+    ensures count { IfOk result (λ v. length v.items ≡ sheet.entry.rungs) }
+    ensures exits { IfOk result (λ v. HasExits sheet.entry v.items) }
+{
+    let mut exits: Vec<Option<Exit>> = Vec::new(alloc);
+    for rung in 0..sheet.rungs {
+        exits.push(exit_by(sheet, rung, jumps[rung]))?;
+    }
+    Ok(exits)
+}
+
+/// The rungs that have a jump.
+pub(crate) fn leaps(
+    alloc: Global,
+    sheet: Sheet<'_>,
+    jumps: &[Option<Jump>],
+) -> Result<Vec<Leap>, AllocError>
+    requires count { length jumps.now ≡ sheet.rungs }
+    requires jumps { HasJumps sheet jumps.now }
+    ensures { IfOk result (λ v. v.items ≡ leaps_below (drawing_of sheet.entry) sheet.entry.rungs) }
+{
+    let mut leaps: Vec<Leap> = Vec::new(alloc);
+    for rung in 0..sheet.rungs {
+        if let Some((_, _, target)) = jumps[rung] {
+            leaps.push(Leap { rung, target })?;
+        }
+    }
+    Ok(leaps)
+}
