@@ -81,11 +81,11 @@ module _ {A B : Type 0} (a : Algebra A) (b : Algebra B) (R : A → B → Type 0)
     ends_kept zero row column = k.known false
     ends_kept (suc n) row column =
         either (nat_eq column n) _ _ _ _
-        (q_kept row column _ _ _ _ (joins_kept _ _ (route_kept _ _ (ends_kept n)) (routes fe bl n row)) (joins_kept _ _ (route_kept _ _ (ends_kept n)) (routes fe bl n (row + 1))))
+        (q_kept row column _ _ _ _ (joins_kept _ _ (route_kept _ _ (ends_kept n)) (routes fe bl row n)) (joins_kept _ _ (route_kept _ _ (ends_kept n)) (routes fe bl (row + 1) n)))
         (ends_kept n row column)
 
-    pub left_link_kept : (column row : ℕ) → R (left_link a (record { feeds = fe; is_block = bl; closed = ca; q = qa }) column row) (left_link b (record { feeds = fe; is_block = bl; closed = cb; q = qb }) column row)
-    left_link_kept column row = joins_kept _ _ (route_kept _ _ (ends_kept column)) (routes fe bl column row)
+    pub left_link_kept : (row column : ℕ) → R (left_link a (record { feeds = fe; is_block = bl; closed = ca; q = qa }) row column) (left_link b (record { feeds = fe; is_block = bl; closed = cb; q = qb }) row column)
+    left_link_kept row column = joins_kept _ _ (route_kept _ _ (ends_kept column)) (routes fe bl row column)
 
   -- ---- cells
   operand_kept : (f : Frame A) (g : Frame B) → BothFrames R f g → (x : Operand) → R (operand_value a f x) (operand_value b g x)
@@ -152,7 +152,7 @@ module _ {A B : Type 0} (a : Algebra A) (b : Algebra B) (R : A → B → Type 0)
       left_link_kept (d.feeds j) (λ row column. is_block (d.cell j (6 * column + row))) _ _ _ _
       (λ row column. cell_kept f g r _ _ (known_same _ _ (al (6 * column + row)).0) (d.cell j (6 * column + row)))
       (λ row column x y u v s t. q_kept d p h now (d.cell j (6 * column + row)) (al (6 * column + row)) x _ u _ s (either (d.linked j (6 * column + row)) _ _ _ _ t (k.known false)))
-      (e / 6) (e % 6)
+      (e % 6) (e / 6)
 
   written_kept : (d : Diagram) (p h : Kept) (now : ℕ) (c : Cell) → AlikeCell p h c → (m : A) (n : B) → R m n → (x y : A) (u v : B) → R x u → R y v →
       (f : Frame A) (g : Frame B) → BothFrames R f g → BothFrames R (written a d p now m c x y f) (written b d h now n c u v g)

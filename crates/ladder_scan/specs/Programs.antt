@@ -47,7 +47,7 @@ unfoldable pub diagram_of : Drawing → Diagram
 diagram_of p = record {
   rungs = p.rungs;
   cell = cell_at p;
-  feeds = λ rung column row from. feeds p rung row (column + 1) from;
+  feeds = feeds p;
   linked = λ rung place. nat_lt (place % ROWS + 1) ROWS && is_linked (cell_at p rung (place + 1));
   kind = λ i. kind_in (slice_get p.decls.instances i);
   preset = λ i. preset_in (slice_get p.decls.instances i);
