@@ -32,9 +32,8 @@ pub record Diagram : Type 0 where
   -- of an instance
   pub kind : ℕ → BlockKind
   pub preset : ℕ → ℕ
-  -- the place of a rung's jump or return and the rung that it goes to, for a return the number of rungs; `target` is 0 where there is none
-  pub leap : ℕ → ℕ
-  pub target : ℕ → ℕ
+  -- the place of a rung's jump or return, and the rung that it goes to, for a return the number of rungs
+  pub jump : ℕ → Option (ℕ × ℕ)
   -- for each variable, whether it is an input
   pub inputs : List Bool
 
