@@ -1,9 +1,9 @@
 -- The scan rung by rung goes along the list of evaluated rungs.
-use Rattle.std.proofs.Common.{◌≡◌, ℕ, ◌+◌, ◌<◌, ◌≤◌, max, Bool, true, false, cond, List, [], ◌∷◌, zero, suc, nat_lt, refl, sym, ap, subst, ◌∙◌, arith, ◌&&◌}
+use Rattle.std.proofs.Common.{◌≡◌, ℕ, ◌+◌, ◌<◌, ◌≤◌, max, Bool, true, false, cond, List, [], ◌∷◌, zero, suc, nat_lt, refl, sym, ap, subst, ◌∙◌, arith, Option, Some, None}
 use Rattle.std.proofs.lemmas.Bool.Decides.{nat_tests}
 use Rattle.ladder_scan.specs.Cells.{Diagram}
 use Rattle.ladder_scan.specs.Rung.{Held, link_at, evaluated}
-use Rattle.ladder_scan.specs.Scan.{Evaluates, none_left, one_more, evaluated_from, next_rung, given}
+use Rattle.ladder_scan.specs.Scan.{Evaluates, none_left, one_more, evaluated_from, rung_after, next_rung, given}
 use Rattle.ladder_scan.specs.RungByRung.{Scanned, scanned}
 use Rattle.ladder_scan.specs.Laws.{Forward, FollowsJumps}
 
@@ -16,9 +16,18 @@ skip_max n r h = grind (arith, nat_tests)
 take_max : (n r : ℕ) → nat_lt n r ≡ false → max n r ≡ n
 take_max n r h = grind (arith, nat_tests)
 
-goes_on : (n t : ℕ) (x : Bool) → (0 < t → n < t) → max (suc n) (cond (nat_lt 0 t && x) t (n + 1)) ≡ cond (nat_lt 0 t && x) t (n + 1)
-goes_on n t true h = grind (arith, nat_tests)
-goes_on n t false h = grind (arith, nat_tests)
+either_after : (n target : ℕ) (b : Bool) → n < target → n < cond b target (n + 1)
+either_after n target true h = h
+either_after n target false h = omega arith
+
+-- the next rung is a later one
+next_after : (n : ℕ) (leap : Option (ℕ × ℕ)) (links : ℕ → Bool) → ((place target : ℕ) → leap ≡ Some (place, target) → n < target)
+    → n < rung_after n leap links
+next_after n None links h = omega arith
+next_after n (Some (place, target)) links h = either_after n target (links place) (h place target refl)
+
+goes_on : (n next : ℕ) → n < next → max (suc n) next ≡ next
+goes_on n next h = grind (arith, nat_tests)
 
 back : (d : Diagram) → Forward d → (now n : ℕ) (s : Scanned) (last : Held) (b : Bool) → nat_lt n s.resume ≡ b → n < d.rungs →
     From d now (suc n) (cond b s (record { held = evaluated d now n s.held; resume = next_rung d now n s.held })) last → From d now n s last
@@ -28,7 +37,7 @@ back d forward now n s last false e h w = (
   n ∷ w.0,
   subst (λ (x : ℕ). Evaluates d now x s.held (n ∷ w.0) last) (sym (take_max n s.resume e))
       (one_more n s.held w.0 last h
-      (subst (λ (x : ℕ). Evaluates d now x (evaluated d now n s.held) w.0 last) (goes_on n (d.target n) (link_at d now n s.held (d.leap n)) (forward n)) w.1)),
+      (subst (λ (x : ℕ). Evaluates d now x (evaluated d now n s.held) w.0 last) (goes_on n (next_rung d now n s.held) (next_after n (d.jump n) (link_at d now n s.held) (forward n))) w.1)),
 )
 
 from : (d : Diagram) → Forward d → (now : ℕ) (h : Held) (left n : ℕ) → n + left ≡ d.rungs → From d now n (scanned d now h n) (scanned d now h d.rungs).held
@@ -53,10 +62,6 @@ is_less a b h = grind (arith, nat_tests)
 is_not_less : (a b : ℕ) → b ≤ a → nat_lt a b ≡ false
 is_not_less a b h = grind (arith, nat_tests)
 
-next_after : (n t : ℕ) (x : Bool) → (0 < t → n < t) → n < cond (nat_lt 0 t && x) t (n + 1)
-next_after n t true h = grind (arith, nat_tests)
-next_after n t false h = grind (arith, nat_tests)
-
 evaluated_is : (d : Diagram) → Forward d → (now j : ℕ) (h : Held) (js : List ℕ) (last : Held) → Evaluates d now j h js last → (most : ℕ) → d.rungs ≤ j + most → last ≡ evaluated_from d now most j h
 unfolding evaluated_from
 evaluated_is d forward now _ _ _ _ (none_left j h end) zero e = refl
@@ -64,7 +69,7 @@ evaluated_is d forward now _ _ _ _ (none_left j h end) (suc most) e =
     ap (λ b. cond b (evaluated_from d now most (next_rung d now j h) (evaluated d now j h)) h) (sym (is_not_less j d.rungs end))
 evaluated_is d forward now _ _ _ _ (one_more j h more last lt rest) zero e = absurd (omega arith)
 evaluated_is d forward now _ _ _ _ (one_more j h more last lt rest) (suc most) e =
-    let after : j < next_rung d now j h = next_after j (d.target j) (link_at d now j h (d.leap j)) (forward j) in
+    let after : j < next_rung d now j h = next_after j (d.jump j) (link_at d now j h) (forward j) in
     evaluated_is d forward now (next_rung d now j h) (evaluated d now j h) more last rest most (omega arith)
     ∙ ap (λ b. cond b (evaluated_from d now most (next_rung d now j h) (evaluated d now j h)) h) (sym (is_less j d.rungs lt))
 

@@ -85,17 +85,17 @@ mask_bit f (suc (suc (suc (suc (suc (suc n)))))) h = absurd (omega arith)
 abbrev pub masks_of : Drawing → ℕ → ℕ → ℕ
 masks_of p rung place = mask (feeds p rung (place % 6) (place / 6)) 6
 
-the_column : (column row : ℕ) → row < 6 → (6 * column + row) / 6 ≡ column
-the_column column row h = omega arith
+the_column : (row column : ℕ) → row < 6 → (6 * column + row) / 6 ≡ column
+the_column row column h = omega arith
 
-the_row : (column row : ℕ) → row < 6 → (6 * column + row) % 6 ≡ row
-the_row column row h = omega arith
+the_row : (row column : ℕ) → row < 6 → (6 * column + row) % 6 ≡ row
+the_row row column h = omega arith
 
 pub masks_are : (p : Drawing) (rung : ℕ) → AreMasks (diagram_of p) rung (masks_of p rung)
 unfolding diagram_of
-masks_are p rung column row from c r h =
-    mask_bit (feeds p rung ((6 * (column + 1) + row) % 6) ((6 * (column + 1) + row) / 6)) from h
-    ∙ ap₂ (λ a b. feeds p rung a b from) (the_row (column + 1) row r) (the_column (column + 1) row r)
+masks_are p rung row column from r h =
+    mask_bit (feeds p rung ((6 * column + row) % 6) ((6 * column + row) / 6)) from h
+    ∙ ap₂ (λ a b. feeds p rung a b from) (the_row row column r) (the_column row column r)
 
 in_rung : (place : ℕ) → place < 60 → nat_lt place 60 ≡ true
 in_rung place h = grind (arith, nat_tests)

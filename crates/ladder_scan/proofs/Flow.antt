@@ -41,7 +41,7 @@ module _ {S : Type 0} (o : Algebra S) (V : S → Type 0) (l : LatticeLaws S V o)
     ends-value : (n row column : ℕ) → V (ends_below o g n row column)
     unfolding ends_below
     ends-value zero row column = l.known_value false
-    ends-value (suc n) row column = either (nat_eq column n) _ _ (q_value row column _ _ (join_all-value o V l _ (route-value _ (ends-value n)) (routes g.feeds g.is_block n row)) (join_all-value o V l _ (route-value _ (ends-value n)) (routes g.feeds g.is_block n (row + 1)))) (ends-value n row column)
+    ends-value (suc n) row column = either (nat_eq column n) _ _ (q_value row column _ _ (join_all-value o V l _ (route-value _ (ends-value n)) (routes g.feeds g.is_block row n)) (join_all-value o V l _ (route-value _ (ends-value n)) (routes g.feeds g.is_block (row + 1) n))) (ends-value n row column)
 
     map_gather : (v : Route → S) (f : ℕ → List Route) (n : ℕ) → map v (gather f n) ≡ gather (λ q. map v (f q)) n
     unfolding gather
@@ -65,35 +65,35 @@ module _ {S : Type 0} (o : Algebra S) (V : S → Type 0) (l : LatticeLaws S V o)
     onto_same true false e d row column ws h k = map_through e row column ws ∙ ap (map (λ x. o.meet x (g.closed row column))) k ∙ sym (map_through d row column ws)
     onto_same false c e d row column ws h k = refl
 
-    routes_same : (e d : ℕ → ℕ → S) (n : ℕ) → ((row column : ℕ) → column < n → e row column ≡ d row column) → (row : ℕ) → map (route_value o g e) (routes g.feeds g.is_block n row) ≡ map (route_value o g d) (routes g.feeds g.is_block n row)
+    routes_same : (e d : ℕ → ℕ → S) (n : ℕ) → ((row column : ℕ) → column < n → e row column ≡ d row column) → (row : ℕ) → map (route_value o g e) (routes g.feeds g.is_block row n) ≡ map (route_value o g d) (routes g.feeds g.is_block row n)
     unfolding routes route_value
     routes_same e d zero h row = refl
     routes_same e d (suc n) h row =
         map_gather (route_value o g e) _ 6
-        ∙ gather_same _ _ (λ q. onto_same (g.feeds n row q) (g.is_block q n) e d q n (routes g.feeds g.is_block n q) (h q n (omega arith)) (routes_same e d n (λ r c k. h r c (omega arith)) q)) 6
+        ∙ gather_same _ _ (λ q. onto_same (g.feeds row (suc n) q) (g.is_block q n) e d q n (routes g.feeds g.is_block q n) (h q n (omega arith)) (routes_same e d n (λ r c k. h r c (omega arith)) q)) 6
         ∙ sym (map_gather (route_value o g d) _ 6)
 
     ends_kept : (n row column : ℕ) → column < n → ends_below o g (suc n) row column ≡ ends_below o g n row column
     unfolding ends_below
     ends_kept n row column h =
         let apart : nat_eq column n ≡ false = grind (arith, nat_tests) in
-        ap (λ b. cond b (g.q row column (link_with o g (ends_below o g n) n row) (link_with o g (ends_below o g n) n (row + 1))) (ends_below o g n row column)) apart
+        ap (λ b. cond b (g.q row column (link_with o g (ends_below o g n) row n) (link_with o g (ends_below o g n) (row + 1) n)) (ends_below o g n row column)) apart
 
-    ends_here : (n row : ℕ) → ends_below o g (suc n) row n ≡ g.q row n (left_link o g n row) (left_link o g n (row + 1))
+    ends_here : (n row : ℕ) → ends_below o g (suc n) row n ≡ g.q row n (left_link o g row n) (left_link o g (row + 1) n)
     unfolding ends_below
     ends_here n row =
         let same : nat_eq n n ≡ true = grind (arith, nat_tests) in
-        ap (λ b. cond b (g.q row n (link_with o g (ends_below o g n) n row) (link_with o g (ends_below o g n) n (row + 1))) (ends_below o g n row n)) same
+        ap (λ b. cond b (g.q row n (link_with o g (ends_below o g n) row n) (link_with o g (ends_below o g n) (row + 1) n)) (ends_below o g n row n)) same
 
-    given : (b : Bool) (n row : ℕ) → join_all o (map (route_value o g (ends_below o g (suc n))) (cond b (block_end row n ∷ []) (map (λ w. through w row n) (routes g.feeds g.is_block n row)))) ≡
-        cond b (g.q row n (left_link o g n row) (left_link o g n (row + 1))) (o.meet (left_link o g n row) (g.closed row n))
+    given : (b : Bool) (n row : ℕ) → join_all o (map (route_value o g (ends_below o g (suc n))) (cond b (block_end row n ∷ []) (map (λ w. through w row n) (routes g.feeds g.is_block row n)))) ≡
+        cond b (g.q row n (left_link o g row n) (left_link o g (row + 1) n)) (o.meet (left_link o g row n) (g.closed row n))
     unfolding join_all route_value
     given true n row = off_right _ (ends-value (suc n) row n) ∙ ends_here n row
     given false n row =
-        join_all-meet o V l (route_value o g (ends_below o g (suc n))) (route-value _ (ends-value (suc n))) (λ w. through w row n) (g.closed row n) (closed_value row n) (λ w. refl) (routes g.feeds g.is_block n row)
+        join_all-meet o V l (route_value o g (ends_below o g (suc n))) (route-value _ (ends-value (suc n))) (λ w. through w row n) (g.closed row n) (closed_value row n) (λ w. refl) (routes g.feeds g.is_block row n)
         ∙ ap (λ xs. o.meet (join_all o xs) (g.closed row n)) (routes_same (ends_below o g (suc n)) (ends_below o g n) n (λ r c h. ends_kept n r c h) row)
 
     -- what the code computes, one column after the other
-    pub left_link-next : (n row : ℕ) → left_link o g (suc n) row ≡ join_where o (g.feeds n row) (λ q. cond (g.is_block q n) (g.q q n (left_link o g n q) (left_link o g n (q + 1))) (o.meet (left_link o g n q) (g.closed q n))) 6
+    pub left_link-next : (row n : ℕ) → left_link o g row (suc n) ≡ join_where o (g.feeds row (suc n)) (λ q. cond (g.is_block q n) (g.q q n (left_link o g q n) (left_link o g (q + 1) n)) (o.meet (left_link o g q n) (g.closed q n))) 6
     unfolding routes
-    left_link-next n row = gathered (route_value o g (ends_below o g (suc n))) (route-value _ (ends-value (suc n))) (g.feeds n row) (λ q. onto g.is_block q n (routes g.feeds g.is_block n q)) _ (λ q. given (g.is_block q n) n q) 6
+    left_link-next row n = gathered (route_value o g (ends_below o g (suc n))) (route-value _ (ends-value (suc n))) (g.feeds row (suc n)) (λ q. onto g.is_block q n (routes g.feeds g.is_block q n)) _ (λ q. given (g.is_block q n) n q) 6

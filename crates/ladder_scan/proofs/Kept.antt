@@ -1,5 +1,5 @@
 -- The relational law, definition by definition; memories and blocks may differ where no cell of the rung reads them.
-use Rattle.std.proofs.Common.{◌≡◌, ℕ, ◌+◌, ◌*◌, ◌/◌, ◌%◌, ◌<◌, Bool, true, false, cond, List, [], ◌∷◌, ◌++◌, map, get_or, set, zero, suc, nat_eq, nat_lt, Option, Some, None, refl, subst, arith}
+use Rattle.std.proofs.Common.{◌≡◌, ℕ, ◌+◌, ◌*◌, ◌/◌, ◌%◌, ◌<◌, Bool, true, false, cond, List, [], ◌∷◌, ◌++◌, map, get_or, set, zero, suc, nat_eq, Option, Some, None, refl, subst, arith}
 use Rattle.ladder_scan.specs.Algebra.{Algebra}
 use Rattle.ladder_scan.specs.Relations.{IsKept, Both, BothFrames}
 use Rattle.ladder_scan.specs.Routes.{join_all, Route, rail, block_end, through, routes, route_value, ends_below, left_link}
@@ -18,7 +18,7 @@ use Rattle.ladder_scan.specs.Cells.{Diagram, Frame, Kept, at, put_in, var_in, is
 use Rattle.ladder_scan.specs.Rung.{link, second, written, effects, after_rung}
 use Rattle.ladder_scan.specs.Blocks.{has_second, q_of}
 use Rattle.ladder_scan.specs.Scan.{given}
-use Rattle.ladder_scan.specs.SignalScan.{meet_where, guard_of, looked, look_frame}
+use Rattle.ladder_scan.specs.SignalScan.{meet_where, passes_over, guard_of, taken_by, looked, look_frame}
 use Rattle.ladder_scan.specs.Laws.{LookKeeps}
 
 -- a cell finds the same memory and the same stored block in both
@@ -81,11 +81,11 @@ module _ {A B : Type 0} (a : Algebra A) (b : Algebra B) (R : A → B → Type 0)
     ends_kept zero row column = k.known false
     ends_kept (suc n) row column =
         either (nat_eq column n) _ _ _ _
-        (q_kept row column _ _ _ _ (joins_kept _ _ (route_kept _ _ (ends_kept n)) (routes fe bl n row)) (joins_kept _ _ (route_kept _ _ (ends_kept n)) (routes fe bl n (row + 1))))
+        (q_kept row column _ _ _ _ (joins_kept _ _ (route_kept _ _ (ends_kept n)) (routes fe bl row n)) (joins_kept _ _ (route_kept _ _ (ends_kept n)) (routes fe bl (row + 1) n)))
         (ends_kept n row column)
 
-    pub left_link_kept : (column row : ℕ) → R (left_link a (record { feeds = fe; is_block = bl; closed = ca; q = qa }) column row) (left_link b (record { feeds = fe; is_block = bl; closed = cb; q = qb }) column row)
-    left_link_kept column row = joins_kept _ _ (route_kept _ _ (ends_kept column)) (routes fe bl column row)
+    pub left_link_kept : (row column : ℕ) → R (left_link a (record { feeds = fe; is_block = bl; closed = ca; q = qa }) row column) (left_link b (record { feeds = fe; is_block = bl; closed = cb; q = qb }) row column)
+    left_link_kept row column = joins_kept _ _ (route_kept _ _ (ends_kept column)) (routes fe bl row column)
 
   -- ---- cells
   operand_kept : (f : Frame A) (g : Frame B) → BothFrames R f g → (x : Operand) → R (operand_value a f x) (operand_value b g x)
@@ -152,7 +152,7 @@ module _ {A B : Type 0} (a : Algebra A) (b : Algebra B) (R : A → B → Type 0)
       left_link_kept (d.feeds j) (λ row column. is_block (d.cell j (6 * column + row))) _ _ _ _
       (λ row column. cell_kept f g r _ _ (known_same _ _ (al (6 * column + row)).0) (d.cell j (6 * column + row)))
       (λ row column x y u v s t. q_kept d p h now (d.cell j (6 * column + row)) (al (6 * column + row)) x _ u _ s (either (d.linked j (6 * column + row)) _ _ _ _ t (k.known false)))
-      (e / 6) (e % 6)
+      (e % 6) (e / 6)
 
   written_kept : (d : Diagram) (p h : Kept) (now : ℕ) (c : Cell) → AlikeCell p h c → (m : A) (n : B) → R m n → (x y : A) (u v : B) → R x u → R y v →
       (f : Frame A) (g : Frame B) → BothFrames R f g → BothFrames R (written a d p now m c x y f) (written b d h now n c u v g)
@@ -184,7 +184,11 @@ module _ {A B : Type 0} (a : Algebra A) (b : Algebra B) (R : A → B → Type 0)
   meet_kept p f g h (suc n) = either (p n) _ _ _ _ (k.meet _ _ _ _ (meet_kept p f g h n) (h n)) (meet_kept p f g h n)
 
   guard_kept : (d : Diagram) (xs : List A) (vs : List B) → Both R xs vs → (j : ℕ) → R (guard_of a d xs j) (guard_of b d vs j)
-  guard_kept d xs vs h j = meet_kept (λ i. nat_lt j (d.target i)) _ _ (λ i. k.inverse _ _ (get_kept xs vs h (a.known false) (b.known false) (k.known false) i)) j
+  guard_kept d xs vs h j = meet_kept (λ i. passes_over (d.jump i) j) _ _ (λ i. k.inverse _ _ (get_kept xs vs h (a.known false) (b.known false) (k.known false) i)) j
+
+  taken_kept : (leap : Option (ℕ × ℕ)) (m : A) (n : B) → R m n → (l : ℕ → A) (u : ℕ → B) → ((e : ℕ) → R (l e) (u e)) → R (taken_by a leap m l) (taken_by b leap n u)
+  taken_kept None m n r l u links = k.known false
+  taken_kept (Some (place, target)) m n r l u links = k.meet _ _ _ _ r (links place)
 
   looked_kept : (d : Diagram) (p : Kept) (now : ℕ) (f : Frame A) (g : Frame B) → BothFrames R f g → (n : ℕ) →
       BothFrames R (looked a d p now f n).frame (looked b d p now g n).frame × Both R (looked a d p now f n).taken (looked b d p now g n).taken
@@ -194,7 +198,7 @@ module _ {A B : Type 0} (a : Algebra A) (b : Algebra B) (R : A → B → Type 0)
       let e = looked_kept d p now f g h n in
       let r : R (guard_of a d (looked a d p now f n).taken n) (guard_of b d (looked b d p now g n).taken n) = guard_kept d _ _ e.1 n in
       let al : Alike d n p p = λ i. (refl, refl) in
-      (rung_kept d p p now n al _ _ r _ _ e.0, push_kept _ _ e.1 _ _ (either (nat_lt 0 (d.target n)) _ _ _ _ (k.meet _ _ _ _ r (link_kept d p p now n al _ _ e.0 (d.leap n))) (k.known false)))
+      (rung_kept d p p now n al _ _ r _ _ e.0, push_kept _ _ e.1 _ _ (taken_kept (d.jump n) _ _ r _ _ (link_kept d p p now n al _ _ e.0)))
 
   pub frames_kept : (d : Diagram) (p : Kept) (now : ℕ) (f : Frame A) (g : Frame B) → BothFrames R f g → (n : ℕ) → BothFrames R (looked a d p now f n).frame (looked b d p now g n).frame
   frames_kept d p now f g h n = (looked_kept d p now f g h n).0

@@ -21,20 +21,17 @@ use Rattle.ladder_scan.specs.Sweeping.{join_where, among, in_mask, place_of, rig
 use Rattle.ladder_scan.proofs.Flow.{left_link-next}
 use Rattle.ladder_scan.proofs.Values.{link_value}
 
-add_one : (n : ℕ) → n + 1 ≡ suc n
-add_one n = omega arith
+the_column : (row column : ℕ) → row < 6 → (6 * column + row) / 6 ≡ column
+the_column row column h = omega arith
 
-the_column : (column row : ℕ) → row < 6 → (6 * column + row) / 6 ≡ column
-the_column column row h = omega arith
+the_row : (row column : ℕ) → row < 6 → (6 * column + row) % 6 ≡ row
+the_row row column h = omega arith
 
-the_row : (column row : ℕ) → row < 6 → (6 * column + row) % 6 ≡ row
-the_row column row h = omega arith
+small : (q column : ℕ) → q < 6 → (6 * column + q) % 6 + 1 < 6 → q < 5
+small q column h k = omega arith
 
-small : (column q : ℕ) → q < 6 → (6 * column + q) % 6 + 1 < 6 → q < 5
-small column q h k = omega arith
-
-assoc : (column q : ℕ) → 6 * column + q + 1 ≡ 6 * column + (q + 1)
-assoc column q = omega arith
+assoc : (q column : ℕ) → 6 * column + q + 1 ≡ 6 * column + (q + 1)
+assoc q column = omega arith
 
 no_column : (e : ℕ) → e < 6 → e / 6 ≡ 0
 no_column e h = omega arith
@@ -48,10 +45,10 @@ below_six e h = let k : e / 6 ≡ 0 = grind (arith, nat_tests) in omega arith
 from_six : (e : ℕ) → nat_eq (e / 6) 0 ≡ false → 1 ≤ e / 6
 from_six e h = grind (arith, nat_tests)
 
-the_place : (e : ℕ) → 1 ≤ e / 6 → 6 * (e / 6 - 1 + 1) + e % 6 ≡ e
+the_place : (e : ℕ) → 1 ≤ e / 6 → 6 * suc (e / 6 - 1) + e % 6 ≡ e
 the_place e h = omega arith
 
-next_column : (e : ℕ) → 1 ≤ e / 6 → e / 6 - 1 + 1 ≡ e / 6
+next_column : (e : ℕ) → 1 ≤ e / 6 → suc (e / 6 - 1) ≡ e / 6
 next_column e h = omega arith
 
 row_small : (e : ℕ) → e % 6 < 6
@@ -131,25 +128,22 @@ module _ {S : Type 0} (o : Algebra S) (V : S → Type 0) (l : LatticeLaws S V o)
 
   module _ (d : Diagram) (k : Kept) (now j : ℕ) (f : Frame S) (vs : AreValues o V f) (sound : IsSound d) (masks : ℕ → ℕ) (are : AreMasks d j masks) where
     -- one column, by the links of the column before
-    column_next : (column row : ℕ) → left_link o (circuit o d k now j f) (column + 1) row ≡
-        join_where o (d.feeds j column row) (λ q. cond (is_block (d.cell j (6 * column + q)))
-        (q_here o d k now (d.cell j (6 * column + q)) (left_link o (circuit o d k now j f) column q) (lower o (d.linked j (6 * column + q)) (left_link o (circuit o d k now j f) column (q + 1))))
-        (o.meet (left_link o (circuit o d k now j f) column q) (closed o f (o.known (memory_of k (d.cell j (6 * column + q)))) (d.cell j (6 * column + q))))) 6
-    column_next column row =
-        ap (λ n. left_link o (circuit o d k now j f) n row) (add_one column)
-        ∙ left_link-next o V l (circuit o d k now j f)
+    column_next : (row column : ℕ) → left_link o (circuit o d k now j f) row (suc column) ≡
+        join_where o (d.feeds j row (suc column)) (λ q. cond (is_block (d.cell j (6 * column + q)))
+        (q_here o d k now (d.cell j (6 * column + q)) (left_link o (circuit o d k now j f) q column) (lower o (d.linked j (6 * column + q)) (left_link o (circuit o d k now j f) (q + 1) column)))
+        (o.meet (left_link o (circuit o d k now j f) q column) (closed o f (o.known (memory_of k (d.cell j (6 * column + q)))) (d.cell j (6 * column + q))))) 6
+    column_next row column =
+        left_link-next o V l (circuit o d k now j f)
         (λ r c. closed-value f vs _ (l.known_value _) (d.cell j (6 * c + r)))
         (λ r c x y vx vy. q-value d k now (d.cell j (6 * c + r)) x _ vx (either_value (d.linked j (6 * c + r)) _ _ vy (l.known_value false)))
-        column row
+        row column
 
     -- the links of the filled places below n are right
     unfoldable pub Right : ℕ → List S → Type 0
     Right n links = (e : ℕ) → e < n → is_filled (d.cell j e) ≡ true → get_or links e (o.known false) ≡ link o d k now j f e
 
-    link_is : (column row : ℕ) → row < 6 → link o d k now j f (6 * column + row) ≡ left_link o (circuit o d k now j f) column row
-    link_is column row h =
-        ap (λ c. left_link o (circuit o d k now j f) c ((6 * column + row) % 6)) (the_column column row h)
-        ∙ ap (λ r. left_link o (circuit o d k now j f) column r) (the_row column row h)
+    link_is : (row column : ℕ) → row < 6 → link o d k now j f (6 * column + row) ≡ left_link o (circuit o d k now j f) row column
+    link_is row column h = ap₂ (λ r c. left_link o (circuit o d k now j f) r c) (the_row row column h) (the_column row column h)
 
     same_lower : (b : Bool) (x y : S) → (b ≡ true → x ≡ y) → lower o b x ≡ lower o b y
     same_lower true x y h = h refl
@@ -172,25 +166,25 @@ module _ {S : Type 0} (o : Algebra S) (V : S → Type 0) (l : LatticeLaws S V o)
     empty_right (Jump target) q r link m x h vx = cc
     empty_right Return q r link m x h vx = cc
 
-    left_value : (column row : ℕ) → row < 6 → V (left_link o (circuit o d k now j f) column row)
-    left_value column row h = subst (λ (x : S). V x) (link_is column row h) (link_value o V l d k now j f vs (6 * column + row))
+    left_value : (row column : ℕ) → row < 6 → V (left_link o (circuit o d k now j f) row column)
+    left_value row column h = subst (λ (x : S). V x) (link_is row column h) (link_value o V l d k now j f vs (6 * column + row))
 
-    right_is : (column q : ℕ) (links : List S) → q < 6 → Right (6 * column + 6) links → (b : Bool) → is_filled (d.cell j (6 * column + q)) ≡ b →
+    right_is : (q column : ℕ) (links : List S) → q < 6 → Right (6 * column + 6) links → (b : Bool) → is_filled (d.cell j (6 * column + q)) ≡ b →
         right_at o d k now j f (among o links) (6 * column + q) ≡
         cond (is_block (d.cell j (6 * column + q)))
-        (q_here o d k now (d.cell j (6 * column + q)) (left_link o (circuit o d k now j f) column q) (lower o (d.linked j (6 * column + q)) (left_link o (circuit o d k now j f) column (q + 1))))
-        (o.meet (left_link o (circuit o d k now j f) column q) (closed o f (o.known (memory_of k (d.cell j (6 * column + q)))) (d.cell j (6 * column + q))))
+        (q_here o d k now (d.cell j (6 * column + q)) (left_link o (circuit o d k now j f) q column) (lower o (d.linked j (6 * column + q)) (left_link o (circuit o d k now j f) (q + 1) column)))
+        (o.meet (left_link o (circuit o d k now j f) q column) (closed o f (o.known (memory_of k (d.cell j (6 * column + q)))) (d.cell j (6 * column + q))))
     unfolding Right
-    right_is column q links h right false filled = empty_right (d.cell j (6 * column + q)) _ _ _ _ _ filled (left_value column q h)
-    right_is column q links h right true filled =
+    right_is q column links h right false filled = empty_right (d.cell j (6 * column + q)) _ _ _ _ _ filled (left_value q column h)
+    right_is q column links h right true filled =
         let e = 6 * column + q in
         let c = d.cell j e in
-        let x : get_or links e (o.known false) ≡ left_link o (circuit o d k now j f) column q = right e (omega arith) filled ∙ link_is column q h in
-        let y : lower o (d.linked j e) (get_or links (e + 1) (o.known false)) ≡ lower o (d.linked j e) (left_link o (circuit o d k now j f) column (q + 1)) =
+        let x : get_or links e (o.known false) ≡ left_link o (circuit o d k now j f) q column = right e (omega arith) filled ∙ link_is q column h in
+        let y : lower o (d.linked j e) (get_or links (e + 1) (o.known false)) ≡ lower o (d.linked j e) (left_link o (circuit o d k now j f) (q + 1) column) =
         same_lower (d.linked j e) _ _ (λ b.
         let w : (e % 6 + 1 < 6) × (is_filled (d.cell j (e + 1)) ≡ true) = sound.linked j e b in
-        let q5 : q < 5 = small column q h w.0 in
-        right (e + 1) (omega arith) w.1 ∙ ap (λ n. link o d k now j f n) (assoc column q) ∙ link_is column (q + 1) (omega arith)) in
+        let q5 : q < 5 = small q column h w.0 in
+        right (e + 1) (omega arith) w.1 ∙ ap (λ n. link o d k now j f n) (assoc q column) ∙ link_is (q + 1) column (omega arith)) in
         ap (λ t. cond (is_block c) (q_here o d k now c (among o links e) (second o d j (among o links) e))
         (cond t (o.meet (among o links e) (closed o f (o.known (memory_of k c)) c)) (o.known false))) filled
         ∙ ap₂ (λ a b. cond (is_block c) (q_here o d k now c a b) (o.meet a (closed o f (o.known (memory_of k c)) c))) x y
@@ -198,7 +192,7 @@ module _ {S : Type 0} (o : Algebra S) (V : S → Type 0) (l : LatticeLaws S V o)
     first_column : (e : ℕ) → e < 6 → link o d k now j f e ≡ o.known true
     unfolding routes route_value join_all
     first_column e h =
-        ap (λ c. left_link o (circuit o d k now j f) c (e % 6)) (no_column e h)
+        ap (λ c. left_link o (circuit o d k now j f) (e % 6) c) (no_column e h)
         ∙ l.join_comm (o.known true) (o.known false) (l.known_value true) (l.known_value false) ∙ l.join_off (o.known true) (l.known_value true)
 
     reached_is : (e : ℕ) → e < 60 → (links : List S) (b : Bool) → nat_eq (e / 6) 0 ≡ b → Right e links → reached o d k now j f links (step_for d j masks e) ≡ link o d k now j f e
@@ -210,15 +204,14 @@ module _ {S : Type 0} (o : Algebra S) (V : S → Type 0) (l : LatticeLaws S V o)
         let column = e / 6 - 1 in
         let row = e % 6 in
         let some : 1 ≤ e / 6 = from_six e b in
-        let place : 6 * (column + 1) + row ≡ e = the_place e some in
-        let here : column + 1 ≡ e / 6 = next_column e some in
-        let c9 : column + 1 < 10 = omega arith in
+        let place : 6 * suc column + row ≡ e = the_place e some in
+        let here : suc column ≡ e / 6 = next_column e some in
         ap (λ t. cond t (o.known true) (join_where o (in_mask (masks e)) (λ from. right_at o d k now j f (among o links) (6 * (e / 6 - 1) + from)) 6)) b
-        ∙ fed_same (in_mask (masks e)) (d.feeds j column row) _ _ 6
-        (λ q h. ap (λ n. in_mask (masks n) q) (sym place) ∙ are column row q c9 (row_small e) h)
-        (λ q h fed. right_is column q links h (λ i lt filled. right i (omega arith) filled) (is_filled (d.cell j (6 * column + q))) refl)
-        ∙ sym (column_next column row)
-        ∙ ap (λ c. left_link o (circuit o d k now j f) c row) here
+        ∙ fed_same (in_mask (masks e)) (d.feeds j row (suc column)) _ _ 6
+        (λ q h. ap (λ n. in_mask (masks n) q) (sym place) ∙ are row (suc column) q (row_small e) h)
+        (λ q h fed. right_is q column links h (λ i lt filled. right i (omega arith) filled) (is_filled (d.cell j (6 * column + q))) refl)
+        ∙ sym (column_next row column)
+        ∙ ap (λ c. left_link o (circuit o d k now j f) row c) here
 
     -- one cell more
     right_more : (n : ℕ) (links : List S) → n < 60 → n < length links → Right n links → (b : Bool) → is_filled (d.cell j n) ≡ b →

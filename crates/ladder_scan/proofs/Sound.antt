@@ -9,7 +9,7 @@ use Rattle.ladder_grid.specs.declared.cell.Cell.{Cell}
 use Rattle.ladder_grid.specs.declared.cell.Cell.TheVariants.{Empty, Wire, Contact, Coil, Block, Lower, Jump, Return}
 use Rattle.ladder_grid.specs.Program.{Drawing, cell_of, goes_to, jump_in, jump_before, jump_of, memory_in, block_in, IsWellFormed}
 use Rattle.ladder_scan.specs.Laws.{Once, Forward}
-use Rattle.ladder_scan.specs.Programs.{cell_at, is_linked, kind_in, preset_in, leap_in, target_in, diagram_of, is_filled, IsSound}
+use Rattle.ladder_scan.specs.Programs.{cell_at, is_linked, kind_in, preset_in, placed, diagram_of, is_filled, IsSound}
 use Rattle.ladder_scan.proofs.Compiled.{cell_is}
 
 both_true : (a b : Bool) → (a && b) ≡ true → (a ≡ true) × (b ≡ true)
@@ -72,30 +72,32 @@ linked p j e h =
     (row_is e w.0, linked_filled (cell_at p j (e + 1)) w.1)
 
 -- ---- jumps
-record JumpsAt (p : Drawing) (j n : ℕ) (found : Option (ℕ × ℕ × ℕ)) : Type 0 where
-  below : 0 < target_in found → leap_in found < n
-  there : 0 < target_in found → goes_to p.rungs (cell_of p j (leap_in found)) ≡ Some (target_in found)
+-- the jump, if any, is at a place below n whose cell leads to its target
+abbrev LeadsAt : Drawing → ℕ → ℕ → Option (ℕ × ℕ) → Type 0
+LeadsAt p j n None = Unit {0}
+LeadsAt p j n (Some (place, target)) = (place < n) × (goes_to p.rungs (cell_of p j place) ≡ Some target)
 
 place_is : (e : ℕ) → 6 * (e / 6) + e % 6 ≡ e
 place_is e = omega arith
 
-later_jump : (p : Drawing) (j n : ℕ) (found : Option (ℕ × ℕ × ℕ)) → JumpsAt p j n found → JumpsAt p j (n + 1) found
-later_jump p j n found h = record { below = λ t. let b = h.below t in omega (arith, b); there = h.there }
+later_jump : (p : Drawing) (j n : ℕ) (found : Option (ℕ × ℕ)) → LeadsAt p j n found → LeadsAt p j (suc n) found
+later_jump p j n None h = tt
+later_jump p j n (Some (place, target)) h = (omega (arith, h.0), h.1)
 
 jump_more : (p : Drawing) (j n : ℕ) (goal : Option ℕ) (found : Option (ℕ × ℕ × ℕ)) → goes_to p.rungs (cell_of p j n) ≡ goal
-    → JumpsAt p j n found → JumpsAt p j (n + 1) (jump_in goal n found)
-jump_more p j n None found e h = later_jump p j n found h
-jump_more p j n (Some target) found e h = record {
-  below = λ t. omega arith;
-  there = λ t. ap (λ m. goes_to p.rungs (cell_of p j m)) (place_is n) ∙ e;
-}
+    → LeadsAt p j n (placed found) → LeadsAt p j (suc n) (placed (jump_in goal n found))
+jump_more p j n None found e h = later_jump p j n (placed found) h
+jump_more p j n (Some target) found e h = (omega arith, ap (λ m. goes_to p.rungs (cell_of p j m)) (place_is n) ∙ e)
 
-jump_found : (p : Drawing) (j n : ℕ) → JumpsAt p j n (jump_before p j n)
+jump_found : (p : Drawing) (j n : ℕ) → LeadsAt p j n (placed (jump_before p j n))
 unfolding jump_before
-jump_found p j zero = record { below = λ t. absurd (omega arith); there = λ t. absurd (omega arith) }
-jump_found p j (suc n) =
-    let next : n + 1 ≡ suc n = omega arith in
-    subst (λ (m : ℕ). JumpsAt p j m (jump_in (goes_to p.rungs (cell_of p j n)) n (jump_before p j n))) next (jump_more p j n (goes_to p.rungs (cell_of p j n)) (jump_before p j n) refl (jump_found p j n))
+jump_found p j zero = tt
+jump_found p j (suc n) = jump_more p j n (goes_to p.rungs (cell_of p j n)) (jump_before p j n) refl (jump_found p j n)
+
+jump_at : (p : Drawing) (j place target : ℕ) → (diagram_of p).jump j ≡ Some (place, target)
+    → (place < 60) × (goes_to p.rungs (cell_of p j place) ≡ Some target)
+unfolding diagram_of jump_of
+jump_at p j place target e = subst (λ (x : Option (ℕ × ℕ)). LeadsAt p j 60 x) e (jump_found p j 60)
 
 abbrev IsSmall : Option (ℕ × ℕ × ℕ) → Type 0
 IsSmall None = Unit {0}
@@ -116,10 +118,9 @@ unfolding jump_of
 jump_place p j row column target e = subst (λ (x : Option (ℕ × ℕ × ℕ)). IsSmall x) e (jump_small p j 60 (omega arith))
 
 forward : (p : Drawing) → IsWellFormed p → Forward (diagram_of p)
-unfolding diagram_of jump_of
-forward p w j t =
-    let h = jump_found p j 60 in
-    (w.jumps_down j (leap_in (jump_before p j 60)) (target_in (jump_before p j 60)) (h.below t) (h.there t)).0
+forward p w j place target e =
+    let at = jump_at p j place target e in
+    (w.jumps_down j place target at.0 at.1).0
 
 leads_filled : (rungs target : ℕ) (c : Cell) → goes_to rungs c ≡ Some target → is_filled c ≡ true
 leads_filled rungs target Empty h = absurd (none_some h)
@@ -131,11 +132,12 @@ leads_filled rungs target (Lower inst linked) h = refl
 leads_filled rungs target (Jump to) h = refl
 leads_filled rungs target Return h = refl
 
-leaps : (p : Drawing) (j : ℕ) → 0 < (diagram_of p).target j → ((diagram_of p).leap j < 60) × (is_filled ((diagram_of p).cell j ((diagram_of p).leap j)) ≡ true)
-unfolding diagram_of jump_of
-leaps p j t =
-    let h = jump_found p j 60 in
-    (h.below t, ap is_filled (cell_is p j (leap_in (jump_before p j 60)) (h.below t)) ∙ leads_filled p.rungs _ _ (h.there t))
+jumps : (p : Drawing) (j place target : ℕ) → (diagram_of p).jump j ≡ Some (place, target)
+    → (place < 60) × (is_filled ((diagram_of p).cell j place) ≡ true)
+unfolding diagram_of
+jumps p j place target e =
+    let at = jump_at p j place target e in
+    (at.0, ap is_filled (cell_is p j place at.0) ∙ leads_filled p.rungs target (cell_of p j place) at.1)
 
 -- ---- presets
 presets : (p : Drawing) → AreKept p.decls → (i : ℕ) (found : Option Instance) → slice_get p.decls.instances i ≡ found → preset_in found ≤ largest_preset (kind_in found)
@@ -151,5 +153,5 @@ sound p w kept = record {
   once = once p w;
   linked = linked p;
   forward = forward p w;
-  leaps = leaps p;
+  jumps = jumps p;
 }

@@ -25,16 +25,15 @@ place_at row column = ROWS * column + row
 pub record Diagram : Type 0 where
   pub rungs : ℕ
   pub cell : ℕ → ℕ → Cell
-  -- rung, column, row, from: the right link of the cell at (from, column) meets the joint group on the left of (row, column + 1)
+  -- rung, row, column, from: the right link of the cell at (from, column - 1) enters the group of the joint on the left of (row, column)
   pub feeds : ℕ → ℕ → ℕ → ℕ → Bool
   -- rung, place: the cell below is the lower cell of a block and has a left link
   pub linked : ℕ → ℕ → Bool
   -- of an instance
   pub kind : ℕ → BlockKind
   pub preset : ℕ → ℕ
-  -- the place of a rung's jump or return and the rung that it goes to, for a return the number of rungs; `target` is 0 where there is none
-  pub leap : ℕ → ℕ
-  pub target : ℕ → ℕ
+  -- the place of a rung's jump or return, and the rung that it goes to, for a return the number of rungs
+  pub jump : ℕ → Option (ℕ × ℕ)
   -- for each variable, whether it is an input
   pub inputs : List Bool
 

@@ -27,7 +27,7 @@ pub record Once (d : Diagram) : Type 0 where
 
 -- Jumps go to later rungs.
 abbrev pub Forward : Diagram → Type 0
-Forward d = (j : ℕ) → 0 < d.target j → j < d.target j
+Forward d = (j place target : ℕ) → d.jump j ≡ Some (place, target) → j < target
 
 -- Over truth values the scan over signals leaves the values of the scan.
 abbrev pub LookIsScan : Diagram → Type 0

@@ -34,25 +34,20 @@ abbrev pub preset_in : Option Instance → ℕ
 preset_in None = 0
 preset_in (Some i) = i.preset
 
--- The place of a rung's jump or return, and the rung that it goes to, past the last one by a return; 0 where there is none.
-abbrev pub leap_in : Option (ℕ × ℕ × ℕ) → ℕ
-leap_in None = 0
-leap_in (Some jump) = place_at jump.0 jump.1
-
-abbrev pub target_in : Option (ℕ × ℕ × ℕ) → ℕ
-target_in None = 0
-target_in (Some jump) = jump.2
+-- A rung's jump, with the place of its cell for the cell's row and column.
+abbrev pub placed : Option (ℕ × ℕ × ℕ) → Option (ℕ × ℕ)
+placed None = None
+placed (Some (row, column, target)) = Some (place_at row column, target)
 
 unfoldable pub diagram_of : Drawing → Diagram
 diagram_of p = record {
   rungs = p.rungs;
   cell = cell_at p;
-  feeds = λ rung column row from. feeds p rung row (column + 1) from;
+  feeds = feeds p;
   linked = λ rung place. nat_lt (place % ROWS + 1) ROWS && is_linked (cell_at p rung (place + 1));
   kind = λ i. kind_in (slice_get p.decls.instances i);
   preset = λ i. preset_in (slice_get p.decls.instances i);
-  leap = λ rung. leap_in (jump_of p rung);
-  target = λ rung. target_in (jump_of p rung);
+  jump = λ rung. placed (jump_of p rung);
   inputs = map is_input p.decls.vars;
 }
 
@@ -66,4 +61,4 @@ pub record IsSound (d : Diagram) : Type 0 where
   pub once : Once d
   pub linked : (j place : ℕ) → d.linked j place ≡ true → (place % ROWS + 1 < ROWS) × (is_filled (d.cell j (place + 1)) ≡ true)
   pub forward : Forward d
-  pub leaps : (j : ℕ) → 0 < d.target j → (d.leap j < PLACES) × (is_filled (d.cell j (d.leap j)) ≡ true)
+  pub jumps : (j place target : ℕ) → d.jump j ≡ Some (place, target) → (place < PLACES) × (is_filled (d.cell j place) ≡ true)

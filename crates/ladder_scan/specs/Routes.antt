@@ -10,9 +10,9 @@ pub data Route : Type 0 where
   block_end : ℕ → ℕ → Route
   through : Route → ℕ → ℕ → Route
 
--- What a rung is to the power. `feeds column row from`: the right link of the cell at (from, column) meets the joint group on the left
--- of the cell at (row, column + 1). `is_block row column`: whether a block is there. `closed row column`: how far that cell lets power
--- through. `q row column left lower`: the Q of the block there, from its left link and that of the cell below it.
+-- What a rung is to the power. `feeds row column from`: the right link of the cell at (from, column - 1) enters the group of the joint
+-- on the left of the cell at (row, column). `is_block row column`: whether a block is there. `closed row column`: how far that cell lets
+-- power through. `q row column left lower`: the Q of the block there, from its left link and that of the cell below it.
 pub record Circuit (S : Type 0) : Type 0 where
   pub feeds : ℕ → ℕ → ℕ → Bool
   pub is_block : ℕ → ℕ → Bool
@@ -30,12 +30,12 @@ abbrev pub onto : (ℕ → ℕ → Bool) → ℕ → ℕ → List Route → List
 onto is_block row column before =
     if is_block row column then block_end row column ∷ [] else map (λ r. through r row column) before
 
--- All routes to the left link of the cell at a column and row: the rail in the first column, and otherwise those up to each right link
+-- All routes to the left link of the cell at a row and column: the rail in the first column, and otherwise those up to each right link
 -- of the column before that feeds it.
 unfoldable pub routes : (ℕ → ℕ → ℕ → Bool) → (ℕ → ℕ → Bool) → ℕ → ℕ → List Route
-routes feeds is_block zero row = rail ∷ []
-routes feeds is_block (suc column) row =
-    gather (λ from. if feeds column row from then onto is_block from column (routes feeds is_block column from) else []) ROWS
+routes feeds is_block row zero = rail ∷ []
+routes feeds is_block row (suc column) =
+    gather (λ from. if feeds row (suc column) from then onto is_block from column (routes feeds is_block from column) else []) ROWS
 
 -- The OR of a list.
 unfoldable pub join_all : {S : Type 0} → Algebra S → List S → S
@@ -50,15 +50,15 @@ route_value o g ends (through r row column) = o.meet (route_value o g ends r) (g
 
 -- The left link of a cell is the OR, over all routes to it, of what they carry.
 abbrev pub link_with : {S : Type 0} → Algebra S → Circuit S → (ℕ → ℕ → S) → ℕ → ℕ → S
-link_with o g ends column row = join_all o (map (route_value o g ends) (routes g.feeds g.is_block column row))
+link_with o g ends row column = join_all o (map (route_value o g ends) (routes g.feeds g.is_block row column))
 
 -- The Qs of the blocks in the columns below n: each by its own two left links, and these by blocks of earlier columns.
 unfoldable pub ends_below : {S : Type 0} → Algebra S → Circuit S → ℕ → ℕ → ℕ → S
 ends_below o g zero row column = o.known false
 ends_below o g (suc n) row column =
     if column == n
-    then g.q row column (link_with o g (ends_below o g n) n row) (link_with o g (ends_below o g n) n (row + 1))
+    then g.q row column (link_with o g (ends_below o g n) row n) (link_with o g (ends_below o g n) (row + 1) n)
     else ends_below o g n row column
 
 abbrev pub left_link : {S : Type 0} → Algebra S → Circuit S → ℕ → ℕ → S
-left_link o g column row = link_with o g (ends_below o g column) column row
+left_link o g row column = link_with o g (ends_below o g column) row column

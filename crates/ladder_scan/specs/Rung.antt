@@ -30,7 +30,7 @@ circuit o d k now j f =
 
 -- The left link of the cell at a place of rung j.
 abbrev pub link : {S : Type 0} → Algebra S → Diagram → Kept → ℕ → ℕ → Frame S → ℕ → S
-link o d k now j f place = left_link o (circuit o d k now j f) (place / ROWS) (place % ROWS)
+link o d k now j f place = left_link o (circuit o d k now j f) (place % ROWS) (place / ROWS)
 
 -- The second input of the block at a place, where these are the left links of the rung.
 abbrev pub second : {S : Type 0} → Algebra S → Diagram → ℕ → (ℕ → S) → ℕ → S

@@ -1,6 +1,6 @@
 -- One scan (IEC 61131-3): the input variables take the given values, then the rungs are evaluated from top to bottom. A jump whose left
 -- link is ON is taken after its rung's effects: the rungs between it and its target are passed over, and these change nothing.
-use Rattle.std.specs.Prelude.{ℕ, ◌+◌, ◌<◌, ◌≤◌, Bool, true, false, if◌then◌else◌, ◌&&◌, List, [], ◌∷◌, nat_lt}
+use Rattle.std.specs.Prelude.{ℕ, ◌+◌, ◌<◌, ◌≤◌, Bool, true, false, if◌then◌else◌, List, [], ◌∷◌, nat_lt, Option, Some, None}
 use Rattle.std.proofs.Common.{zero, suc}
 use Rattle.ladder_scan.specs.Cells.{Diagram}
 use Rattle.ladder_scan.specs.Rung.{Held, link_at, evaluated}
@@ -15,9 +15,15 @@ given (true ∷ more) (x ∷ xs) (v ∷ values) = x ∷ given more xs values
 given (false ∷ more) xs [] = []
 given (false ∷ more) xs (v ∷ values) = v ∷ given more xs values
 
--- The rung after an evaluated one: the target of its jump, where the jump's left link was ON, and otherwise the rung below.
+-- The rung after rung j, by its jump and its left links: the target of the jump, where the jump's left link is ON, and otherwise
+-- the rung below.
+abbrev pub rung_after : ℕ → Option (ℕ × ℕ) → (ℕ → Bool) → ℕ
+rung_after j None links = j + 1
+rung_after j (Some (place, target)) links = if links place then target else j + 1
+
+-- The rung after an evaluated one, by the left links that it had.
 abbrev pub next_rung : Diagram → ℕ → ℕ → Held → ℕ
-next_rung d now j h = if nat_lt 0 (d.target j) && link_at d now j h (d.leap j) then d.target j else j + 1
+next_rung d now j h = rung_after j (d.jump j) (link_at d now j h)
 
 -- From rung j on, with this state, the rungs of the list are evaluated one after the other until none is left, and leave `last`.
 pub data Evaluates (d : Diagram) (now : ℕ) : ℕ → Held → List ℕ → Held → Type 0 where

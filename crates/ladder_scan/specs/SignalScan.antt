@@ -1,6 +1,6 @@
 -- The scan over any signal. A jump may be taken at one place of a signal and not at another, so every rung is evaluated, each under a
 -- guard: where the guard allows ON, the rung may be evaluated, and where it allows OFF, passed over.
-use Rattle.std.specs.Prelude.{ℕ, Bool, true, false, if◌then◌else◌, List, [], ◌∷◌, ◌++◌, map, nat_lt}
+use Rattle.std.specs.Prelude.{ℕ, Bool, true, false, if◌then◌else◌, List, [], ◌∷◌, ◌++◌, map, nat_lt, Option, Some, None}
 use Rattle.std.proofs.Common.{get_or, zero, suc}
 use Rattle.ladder_scan.specs.Algebra.{Algebra}
 use Rattle.ladder_scan.specs.Blocks.{q_of}
@@ -18,13 +18,22 @@ pub record Looked (S : Type 0) : Type 0 where
   pub frame : Frame S
   pub taken : List S
 
+-- A jump passes over the rungs before its target.
+abbrev pub passes_over : Option (ℕ × ℕ) → ℕ → Bool
+passes_over None j = false
+passes_over (Some (place, target)) j = nat_lt j target
+
 -- The guard of rung j: the AND, over the earlier rungs with a jump that passes over j, of NOT that this jump is taken.
 abbrev pub guard_of : {S : Type 0} → Algebra S → Diagram → List S → ℕ → S
-guard_of o d taken j = meet_where o (λ i. nat_lt j (d.target i)) (λ i. o.inverse (get_or taken i (o.known false))) j
+guard_of o d taken j = meet_where o (λ i. passes_over (d.jump i) j) (λ i. o.inverse (get_or taken i (o.known false))) j
 
 -- A jump is taken where its rung is evaluated and its left link is ON.
+abbrev pub taken_by : {S : Type 0} → Algebra S → Option (ℕ × ℕ) → S → (ℕ → S) → S
+taken_by o None guard links = o.known false
+taken_by o (Some (place, target)) guard links = o.meet guard (links place)
+
 abbrev pub taken_at : {S : Type 0} → Algebra S → Diagram → Kept → ℕ → S → ℕ → Frame S → S
-taken_at o d k now guard j f = if nat_lt 0 (d.target j) then o.meet guard (link o d k now j f (d.leap j)) else o.known false
+taken_at o d k now guard j f = taken_by o (d.jump j) guard (link o d k now j f)
 
 abbrev pub looked_more : {S : Type 0} → Algebra S → Diagram → Kept → ℕ → ℕ → Looked S → Looked S
 looked_more o d k now j s =

@@ -1,5 +1,5 @@
 -- Private: the sweep and the effects as the code does them, over the cells of a rung that are not empty, by column, then row.
-use Rattle.std.specs.Prelude.{◌≡◌, ℕ, ◌+◌, ◌-◌, ◌/◌, ◌%◌, ◌^◌, ◌<◌, Bool, true, false, if◌then◌else◌, List, [], ◌∷◌, ◌==◌}
+use Rattle.std.specs.Prelude.{◌≡◌, ℕ, ◌-◌, ◌/◌, ◌%◌, ◌^◌, ◌<◌, Bool, true, false, if◌then◌else◌, List, [], ◌∷◌, ◌==◌}
 use Rattle.std.proofs.Common.{get_or, set, zero, suc}
 use Rattle.ladder_grid.specs.declared.geometry.TheConstants.{ROWS, COLUMNS, PLACES}
 use Rattle.ladder_grid.specs.declared.program.Step.{Step}
@@ -72,10 +72,10 @@ step_for d j masks place = record { row = place % ROWS; column = place / ROWS; c
 abbrev pub steps_below : Diagram → ℕ → (ℕ → ℕ) → ℕ → List Step
 steps_below d j masks n = gather (λ place. if is_filled (d.cell j place) then step_for d j masks place ∷ [] else []) n
 
--- The masks of a rung have the rows that feed each cell, from the second column on.
+-- The masks of a rung have the rows that feed each cell.
 abbrev pub AreMasks : Diagram → ℕ → (ℕ → ℕ) → Type 0
-AreMasks d j masks = (column row from : ℕ) → column + 1 < COLUMNS → row < ROWS → from < ROWS
-    → in_mask (masks (place_at row (column + 1))) from ≡ d.feeds j column row from
+AreMasks d j masks = (row column from : ℕ) → row < ROWS → from < ROWS
+    → in_mask (masks (place_at row column)) from ≡ d.feeds j row column from
 
 -- All values and all Qs are values of the signal.
 pub record AreValues {S : Type 0} (o : Algebra S) (V : S → Type 0) (f : Frame S) : Type 0 where

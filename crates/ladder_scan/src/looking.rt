@@ -1,8 +1,8 @@
 //! One scan of a program over a signal, which leaves the state as it is.
 
-ghost use Rattle.std.specs.Prelude.{◌≡◌, ◌+◌, ◌-◌, ◌^◌, ◌<◌, ◌≤◌, ◌↔◌, ℕ, min, length, map, All, IfOk, IsTrue, slice_get, Some, slice_index_or, false, if◌then◌else◌, nat_lt};
+ghost use Rattle.std.specs.Prelude.{◌≡◌, ◌+◌, ◌-◌, ◌^◌, ◌<◌, ◌≤◌, ◌↔◌, ℕ, min, length, map, All, IfOk, IsTrue, slice_get, Some, slice_index_or, false};
 ghost use Rattle.ladder_grid.specs.declared.geometry.TheConstants.{PLACES};
-ghost use Rattle.ladder_scan.specs.SignalScan.{guard_of, look_frame, looked, after_look};
+ghost use Rattle.ladder_scan.specs.SignalScan.{passes_over, guard_of, taken_by, look_frame, looked, after_look};
 ghost use Rattle.ladder_scan.specs.Rung.{SameSizes};
 ghost use Rattle.ladder_scan.specs.Programs.{diagram_of, IsSound};
 ghost use Rattle.ladder_scan.specs.Standing.{Fits};
@@ -93,11 +93,22 @@ impl<S: Signal> Work<S> {
     }
 }
 
-/// The guard of a rung, by the earlier jumps that pass over it; none goes past the rung `reach`.
+/// Whether the jump of an earlier rung passes over a rung.
+fn passes_over(program: &Program, earlier: usize, rung: usize) -> bool
+    requires { earlier < program.now.rungs }
+    ensures { result ≡ passes_over ((diagram_of program.now).jump earlier) rung }
+{
+    match jump(program, earlier) {
+        Some((_, target)) => rung < target,
+        None => false,
+    }
+}
+
+/// The guard of a rung, by the earlier jumps that pass over it; none passes over the rung `reach` or a later one.
 #[tactic(auto, using(crate::proofs::Looks::meet_step))]
 fn guard<S: Signal>(program: &Program, taken: &[S], rung: usize, reach: usize) -> S
     requires rung { rung < program.now.rungs }
-    requires reach { (i : ℕ) → i < rung → (diagram_of program.now).target i ≤ reach }
+    requires reach { (i k : ℕ) → i < rung → reach ≤ k → passes_over ((diagram_of program.now).jump i) k ≡ false }
     ensures { result ≡ guard_of S.algebra (diagram_of program.now) taken.now rung }
 {
     if reach <= rung {
@@ -105,8 +116,7 @@ fn guard<S: Signal>(program: &Program, taken: &[S], rung: usize, reach: usize) -
     }
     let mut all = S::known(true);
     for earlier in 0..rung {
-        let (_, target) = jump(program, earlier);
-        if rung < target {
+        if passes_over(program, earlier, rung) {
             all = all.and(link_at(taken, earlier).not());
         }
     }
@@ -116,15 +126,23 @@ fn guard<S: Signal>(program: &Program, taken: &[S], rung: usize, reach: usize) -
 /// Whether the jump of a rung is taken, by the left links.
 fn taken_by<S: Signal>(program: &Program, rung: usize, guard: S, links: &[S]) -> S
     requires { rung < program.now.rungs }
-    ensures { result ≡ (if nat_lt 0 ((diagram_of program.now).target rung)
-        then S.algebra.meet guard (among S.algebra links.now ((diagram_of program.now).leap rung))
-        else S.algebra.known false) }
+    ensures { result ≡ taken_by S.algebra ((diagram_of program.now).jump rung) guard (among S.algebra links.now) }
 {
-    let (leap, target) = jump(program, rung);
-    if 0 < target {
-        guard.and(link_at(links, leap))
-    } else {
-        S::known(false)
+    match jump(program, rung) {
+        Some((place, _)) => guard.and(link_at(links, place)),
+        None => S::known(false),
+    }
+}
+
+/// How far the jumps reach with that of a further rung: it passes over no rung from there on.
+fn further(program: &Program, rung: usize, reach: usize) -> usize
+    requires { rung < program.now.rungs }
+    ensures at_least { reach ≤ result }
+    ensures over { (k : ℕ) → result ≤ k → passes_over ((diagram_of program.now).jump rung) k ≡ false }
+{
+    match jump(program, rung) {
+        Some((_, target)) => reach.max(target),
+        None => reach,
     }
 }
 
@@ -152,7 +170,7 @@ fn look_rungs<S: Signal>(
     requires links { length links.old ≡ PLACES }
     ensures { seen.new ≡ (looked S.algebra (diagram_of program.now) storage.now.kept now seen.old program.now.rungs).frame }
 {
-    // the furthest target of the jumps so far: with none past a rung, its guard is ON
+    // the furthest target of the jumps so far: from there on no rung is passed over, and its guard is ON
     let mut reach = 0;
     for rung in 0..program.rungs() {
         let scene = Scene { program, now, rung };
@@ -160,8 +178,7 @@ fn look_rungs<S: Signal>(
         find_links(scene, storage, seen, links);
         taken[rung] = taken_by(program, rung, guard, links);
         effects(scene, storage, guard, links, seen);
-        let (_, target) = jump(program, rung);
-        reach = reach.max(target);
+        reach = further(program, rung, reach);
     }
 }
 

@@ -3,10 +3,12 @@
 ghost use Rattle.std.specs.Prelude.{◌≡◌, ◌<◌, ◌≤◌, ◌↔◌, map, IfOk, OnErr, IsErr};
 ghost use Rattle.ladder_grid.specs.declared.geometry.TheConstants.{RUNGS};
 ghost use Rattle.ladder_scan.specs.Rung.{evaluated, SameSizes, SameLengths};
-ghost use Rattle.ladder_scan.specs.Scan.{next_rung, after_scan};
+ghost use Rattle.ladder_scan.specs.Scan.{rung_after, next_rung, after_scan};
 ghost use Rattle.ladder_scan.specs.Programs.{diagram_of, IsSound};
 ghost use Rattle.ladder_scan.specs.Standing.{Fits, ArePossible, shape};
 ghost use Rattle.ladder_scan.specs.RungByRung.{scanned};
+ghost use Rattle.ladder_scan.specs.Sweeping.{among};
+ghost use Rattle.ladder_scan.specs.Truth.{plain};
 
 use crate::effects::changes;
 use crate::scene::{Scene, checked, jump};
@@ -20,6 +22,18 @@ use ladder_grid::geometry::PLACES;
 /// The moment of a scan is before that of the state.
 #[derive(Clone, Copy, Debug, PartialEq, Eq)]
 pub struct MomentBack;
+
+/// The rung after an evaluated one, by the left links that it had.
+fn rung_after(program: &Program, rung: usize, links: &[bool]) -> usize
+    requires rung { rung < program.now.rungs }
+    requires few { rung < RUNGS }
+    ensures { result ≡ rung_after rung ((diagram_of program.now).jump rung) (among plain links.now) }
+{
+    match jump(program, rung) {
+        Some((place, target)) if link_at(links, place) => target,
+        Some(_) | None => rung + 1,
+    }
+}
 
 /// Evaluates a rung, and returns the rung after it.
 #[tactic(auto, using(crate::proofs::Along::by_steps, crate::proofs::Sizes::rung_sizes))]
@@ -36,12 +50,7 @@ fn evaluate(scene: Scene<'_>, storage: &mut Storage, start: &mut Signals<bool>) 
     let mut links = [false; PLACES];
     find_links(scene, storage, start, &mut links);
     changes(scene, start, &links, storage);
-    let (leap, target) = jump(scene.program, scene.rung);
-    if 0 < target && link_at(&links, leap) {
-        target
-    } else {
-        scene.rung + 1
-    }
+    rung_after(scene.program, scene.rung, &links)
 }
 
 /// Goes from rung to rung, past those that a jump passes over.

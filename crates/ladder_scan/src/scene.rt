@@ -46,16 +46,15 @@ pub(crate) fn instance(program: &Program, inst: usize) -> (BlockKind, u32)
     }
 }
 
-/// The place of the jump or return of a rung, and the rung that it goes to; 0 where there is none.
+/// The place of the jump or return of a rung, and the rung that it goes to, past the last one by a return.
 #[tactic(auto, unfolding(crate::specs::Programs::diagram_of))]
-pub(crate) fn jump(program: &Program, rung: usize) -> (usize, usize)
+pub(crate) fn jump(program: &Program, rung: usize) -> Option<(usize, usize)>
     requires { rung < program.now.rungs }
-    ensures leap { result.0 ≡ (diagram_of program.now).leap rung }
-    ensures target { result.1 ≡ (diagram_of program.now).target rung }
+    ensures { result ≡ (diagram_of program.now).jump rung }
 {
     match program.jump(rung) {
-        Some((row, column, target)) => (place_at(row, column), target),
-        None => (0, 0),
+        Some((row, column, target)) => Some((place_at(row, column), target)),
+        None => None,
     }
 }
 

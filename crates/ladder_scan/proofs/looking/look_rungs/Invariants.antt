@@ -1,5 +1,5 @@
-use Rattle.std.proofs.Common.{◌≡◌, ◌<◌, ◌≤◌, ℕ, take}
-use Rattle.ladder_scan.specs.SignalScan.{looked}
+use Rattle.std.proofs.Common.{◌≡◌, ◌<◌, ◌≤◌, ℕ, take, false}
+use Rattle.ladder_scan.specs.SignalScan.{looked, passes_over}
 use Rattle.ladder_scan.specs.Programs.{diagram_of}
 use Rattle.ladder_scan.proofs.looking.look_rungs.Given as goal
 
@@ -9,5 +9,5 @@ invariant-loop-rung g l =
     record {
       here : l.seen ≡ (looked o (diagram_of l.program) l.storage.kept l.now l.fn.seen l.rung).frame;
       taken : take l.rung l.taken ≡ (looked o (diagram_of l.program) l.storage.kept l.now l.fn.seen l.rung).taken;
-      reach : (i : ℕ) → i < l.rung → (diagram_of l.program).target i ≤ l.reach;
+      reach : (i k : ℕ) → i < l.rung → l.reach ≤ k → passes_over ((diagram_of l.program).jump i) k ≡ false;
     }

@@ -1,25 +1,33 @@
+use Rattle.std.proofs.Common.{◌∙◌, ap, Bool}
+use Rattle.ladder_scan.specs.Truth.{plain}
+use Rattle.ladder_scan.specs.Cells.{Frame}
+use Rattle.ladder_scan.specs.Rung.{link, link_at}
 use Rattle.ladder_scan.specs.Programs.{diagram_of}
+use Rattle.ladder_scan.specs.Sweeping.{among}
 use Rattle.ladder_scan.proofs.Along.{places, by_steps}
+use Rattle.ladder_scan.proofs.Looks.{after_same}
 use Rattle.ladder_scan.proofs.Sizes.{rung_sizes}
 use Rattle.ladder_scan.proofs.scanning.evaluate.Goals as goal
 
 pub changes-requires-clause-places : goal.changes-requires-clause-places
 changes-requires-clause-places c = places c.args.scene.program.now c.args.scene.rung
 
-pub returns-then-link_at-clause-held : goal.returns-then-link_at-clause-held
-returns-then-link_at-clause-held c =
+pub returns-clause-held : goal.returns-clause-held
+returns-clause-held c =
     by_steps c.args.scene.program.now c.requires.program c.args.scene.now c.args.scene.rung c.args.storage.now _ _ c.find_links.new.links c.copy_start.ensures c.find_links.ensures c.changes.ensures
 
-pub returns-then-link_at-clause-sizes : goal.returns-then-link_at-clause-sizes
-returns-then-link_at-clause-sizes c =
-    rung_sizes (diagram_of c.args.scene.program.now) c.args.scene.now c.args.scene.rung c.args.storage.now _ _ c.copy_start.ensures
-    (by_steps c.args.scene.program.now c.requires.program c.args.scene.now c.args.scene.rung c.args.storage.now _ _ c.find_links.new.links c.copy_start.ensures c.find_links.ensures c.changes.ensures)
+pub returns-clause-next : goal.returns-clause-next
+returns-clause-next c =
+    let d = diagram_of c.args.scene.program.now in
+    let j = c.args.scene.rung in
+    let h = c.args.storage.now in
+    let now = c.args.scene.now in
+    c.rung_after.ensures
+    ∙ after_same j (d.jump j) (among plain c.find_links.new.links) (link_at d now j h) (λ place target e.
+    let at = c.requires.program.jumps j place target e in
+    c.find_links.ensures place at.0 at.1 ∙ ap (λ (f : Frame Bool). link plain d h.kept now j f place) c.copy_start.ensures)
 
-pub returns-else-target-gt0-clause-held : goal.returns-else-target-gt0-clause-held
-returns-else-target-gt0-clause-held c =
-    by_steps c.args.scene.program.now c.requires.program c.args.scene.now c.args.scene.rung c.args.storage.now _ _ c.find_links.new.links c.copy_start.ensures c.find_links.ensures c.changes.ensures
-
-pub returns-else-target-gt0-clause-sizes : goal.returns-else-target-gt0-clause-sizes
-returns-else-target-gt0-clause-sizes c =
+pub returns-clause-sizes : goal.returns-clause-sizes
+returns-clause-sizes c =
     rung_sizes (diagram_of c.args.scene.program.now) c.args.scene.now c.args.scene.rung c.args.storage.now _ _ c.copy_start.ensures
     (by_steps c.args.scene.program.now c.requires.program c.args.scene.now c.args.scene.rung c.args.storage.now _ _ c.find_links.new.links c.copy_start.ensures c.find_links.ensures c.changes.ensures)
