@@ -16,7 +16,7 @@ use Rattle.ladder_grid.specs.declared.gates.Exit.{Exit}
 use Rattle.ladder_grid.specs.declared.gates.Leap.{Leap}
 use Rattle.ladder_grid.specs.declared.gates.Literal.{Literal}
 use Rattle.ladder_grid.specs.declared.gates.Literal.TheVariants as literal
-use Rattle.ladder_grid.specs.Program.{Drawing, IsWhole, cell_of, feeds, jump_of, memories_of, is_there}
+use Rattle.ladder_grid.specs.Program.{Drawing, IsWhole, cell_of, feeds, jump_of, memories_of, is_there, is_linked, is_block}
 
 -- ---- where links are
 
@@ -36,16 +36,6 @@ left_of d rung at = if at / ROWS == 0 then ON else last_feeder d rung (at % ROWS
 -- where the OR is of what comes from the rows above into the group on the right of a cell
 abbrev pub other_of : Drawing → ℕ → ℕ → ℕ
 other_of d rung at = if nat_lt (at / ROWS + 1) COLUMNS then last_feeder d rung (at % ROWS) (at / ROWS + 1) (at % ROWS) else OFF
-
-abbrev pub is_linked : Cell → Bool
-is_linked cell.Empty = false
-is_linked cell.Wire = false
-is_linked (cell.Contact mode operand memory) = false
-is_linked (cell.Coil mode var memory) = false
-is_linked (cell.Block inst) = false
-is_linked (cell.Lower inst linked) = linked
-is_linked (cell.Jump target) = false
-is_linked cell.Return = false
 
 -- where the left link of the lower cell below is, where it has one
 abbrev pub below_of : Drawing → ℕ → ℕ → ℕ
@@ -79,16 +69,6 @@ gate_at d rung at = record {
   other = other_of d rung at;
   literal = literal_of (cell_of d rung at);
 }
-
-abbrev pub is_block : Cell → Bool
-is_block cell.Empty = false
-is_block cell.Wire = false
-is_block (cell.Contact mode operand memory) = false
-is_block (cell.Coil mode var memory) = false
-is_block (cell.Block inst) = true
-is_block (cell.Lower inst linked) = false
-is_block (cell.Jump target) = false
-is_block cell.Return = false
 
 -- The right link of the cell enters the group on its right.
 abbrev pub feeds_on : Drawing → ℕ → ℕ → Bool

@@ -146,6 +146,27 @@ block_in (cell.Lower inst linked) = None
 block_in (cell.Jump target) = None
 block_in cell.Return = None
 
+abbrev pub is_block : Cell → Bool
+is_block cell.Empty = false
+is_block cell.Wire = false
+is_block (cell.Contact mode operand memory) = false
+is_block (cell.Coil mode var memory) = false
+is_block (cell.Block inst) = true
+is_block (cell.Lower inst linked) = false
+is_block (cell.Jump target) = false
+is_block cell.Return = false
+
+-- a lower cell that has a left link
+abbrev pub is_linked : Cell → Bool
+is_linked cell.Empty = false
+is_linked cell.Wire = false
+is_linked (cell.Contact mode operand memory) = false
+is_linked (cell.Coil mode var memory) = false
+is_linked (cell.Block inst) = false
+is_linked (cell.Lower inst linked) = linked
+is_linked (cell.Jump target) = false
+is_linked cell.Return = false
+
 abbrev pub OperandFits : Declared → Operand → Type 0
 OperandFits decls (operand.Var number) = number < length decls.vars
 OperandFits decls (operand.Output number) = number < length decls.instances

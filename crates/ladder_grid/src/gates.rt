@@ -5,8 +5,8 @@
 
 ghost use Rattle.std.specs.Prelude.{◌≡◌, ◌<◌, ◌≤◌, ◌+◌, ◌*◌, ◌-◌, ◌/◌, length, map, nat_lt, ◌&&◌, ◌||◌, IfOk, if◌then◌else◌};
 ghost use Rattle.ladder_grid.specs.declared.geometry.TheConstants.{RUNGS, ROWS, COLUMNS, PLACES};
-ghost use Rattle.ladder_grid.specs.Program.{cell_of, jump_of};
-ghost use Rattle.ladder_grid.specs.Gates.{last_feeder, left_of, other_of, is_linked, below_of, literal_on, literal_of, gate_at, is_block, feeds_on, has_gate, gates_of, acts, action_at, actions_of, exit_by, leap_by, leaps_below};
+ghost use Rattle.ladder_grid.specs.Program.{cell_of, is_linked, is_block, jump_of};
+ghost use Rattle.ladder_grid.specs.Gates.{last_feeder, left_of, other_of, below_of, literal_on, literal_of, gate_at, feeds_on, has_gate, gates_of, acts, action_at, actions_of, exit_by, leap_by, leaps_below};
 ghost use Rattle.ladder_grid.specs.Sheet.{drawing_of, HasGates, HasActions, HasJumps, HasExits};
 
 use crate::cell::{Cell, Mode, Operand};

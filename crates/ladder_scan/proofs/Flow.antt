@@ -3,7 +3,7 @@ use Rattle.std.proofs.Common.{◌≡◌, ℕ, ◌+◌, ◌<◌, Bool, true, fals
 use Rattle.std.proofs.lemmas.List.{map-append}
 use Rattle.std.proofs.lemmas.Bool.Decides.{nat_tests}
 use Rattle.ladder_scan.specs.Algebra.{Algebra, LatticeLaws}
-use Rattle.ladder_scan.specs.Sweeping.{join_where}
+use Rattle.ladder_scan.specs.Gating.{join_where}
 use Rattle.ladder_scan.specs.Routes.{gather, join_all, Route, rail, block_end, through, Circuit, onto, routes, route_value, link_with, ends_below, left_link}
 use Rattle.ladder_scan.proofs.Joins.{join_all-value, join_all-append, join_all-meet}
 

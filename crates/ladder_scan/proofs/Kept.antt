@@ -13,9 +13,9 @@ use Rattle.ladder_grid.specs.declared.cell.Operand.{Operand}
 use Rattle.ladder_grid.specs.declared.cell.Operand.TheVariants.{Var, Output}
 use Rattle.ladder_grid.specs.declared.cell.Cell.{Cell}
 use Rattle.ladder_grid.specs.declared.cell.Cell.TheVariants.{Empty, Wire, Contact, Coil, Block, Lower, Jump, Return}
-use Rattle.ladder_grid.specs.Program.{block_in}
-use Rattle.ladder_scan.specs.Cells.{Diagram, Frame, Kept, at, put_in, var_in, is_block, memory_of, stored_of, operand_value, closed, contact, q_here, q_from, coil_value, stored_by}
-use Rattle.ladder_scan.specs.Rung.{link, second, written, effects, after_rung}
+use Rattle.ladder_grid.specs.Program.{block_in, is_block}
+use Rattle.ladder_scan.specs.Cells.{Diagram, Frame, Kept, at, put_in, var_in, memory_of, stored_of, operand_value, closed, contact, q_here, q_from, coil_value, stored_by}
+use Rattle.ladder_scan.specs.Rung.{circuit, link, second, written, effects, after_rung}
 use Rattle.ladder_scan.specs.Blocks.{has_second, q_of}
 use Rattle.ladder_scan.specs.Scan.{given}
 use Rattle.ladder_scan.specs.SignalScan.{meet_where, passes_over, guard_of, taken_by, looked, look_frame}
@@ -147,12 +147,16 @@ module _ {A B : Type 0} (a : Algebra A) (b : Algebra B) (R : A → B → Type 0)
   coil_kept Return l m x u n v r s t = t
 
   -- ---- one rung
-  pub link_kept : (d : Diagram) (p h : Kept) (now j : ℕ) → Alike d j p h → (f : Frame A) (g : Frame B) → BothFrames R f g → (e : ℕ) → R (link a d p now j f e) (link b d h now j g e)
-  link_kept d p h now j al f g r e =
+  pub left_kept : (d : Diagram) (p h : Kept) (now j : ℕ) → Alike d j p h → (f : Frame A) (g : Frame B) → BothFrames R f g → (row column : ℕ) →
+      R (left_link a (circuit a d p now j f) row column) (left_link b (circuit b d h now j g) row column)
+  left_kept d p h now j al f g r row column =
       left_link_kept (d.feeds j) (λ row column. is_block (d.cell j (6 * column + row))) _ _ _ _
       (λ row column. cell_kept f g r _ _ (known_same _ _ (al (6 * column + row)).0) (d.cell j (6 * column + row)))
       (λ row column x y u v s t. q_kept d p h now (d.cell j (6 * column + row)) (al (6 * column + row)) x _ u _ s (either (d.linked j (6 * column + row)) _ _ _ _ t (k.known false)))
-      (e % 6) (e / 6)
+      row column
+
+  pub link_kept : (d : Diagram) (p h : Kept) (now j : ℕ) → Alike d j p h → (f : Frame A) (g : Frame B) → BothFrames R f g → (e : ℕ) → R (link a d p now j f e) (link b d h now j g e)
+  link_kept d p h now j al f g r e = left_kept d p h now j al f g r (e % 6) (e / 6)
 
   written_kept : (d : Diagram) (p h : Kept) (now : ℕ) (c : Cell) → AlikeCell p h c → (m : A) (n : B) → R m n → (x y : A) (u v : B) → R x u → R y v →
       (f : Frame A) (g : Frame B) → BothFrames R f g → BothFrames R (written a d p now m c x y f) (written b d h now n c u v g)

@@ -10,9 +10,11 @@ pub mod LookAtBool
 pub mod ByList
 pub mod Turns
 pub mod Links
-pub mod Compiled
 pub mod Sound
-pub mod Along
+pub mod Groups
+pub mod GateLaws
+pub mod Acting
+pub mod Exits
 pub mod Possible
 pub mod Giving
 pub mod Rungs

@@ -7,10 +7,10 @@ use Rattle.ladder_vars.specs.Kind.{largest_preset}
 use Rattle.std.proofs.lemmas.Option.{get_or_from_slice_get, slice_get_within}
 use Rattle.ladder_grid.specs.declared.cell.Cell.{Cell}
 use Rattle.ladder_grid.specs.declared.cell.Cell.TheVariants.{Empty, Wire, Contact, Coil, Block, Lower, Jump, Return}
-use Rattle.ladder_grid.specs.Program.{Drawing, cell_of, goes_to, jump_in, jump_before, jump_of, memory_in, block_in, IsWellFormed}
+use Rattle.ladder_grid.specs.Program.{Drawing, cell_of, goes_to, jump_in, jump_before, jump_of, memory_in, block_in, IsWellFormed, is_linked}
 use Rattle.ladder_scan.specs.Laws.{Once, Forward}
-use Rattle.ladder_scan.specs.Programs.{cell_at, is_linked, kind_in, preset_in, placed, diagram_of, is_filled, IsSound}
-use Rattle.ladder_scan.proofs.Compiled.{cell_is}
+use Rattle.ladder_scan.specs.Programs.{cell_at, kind_in, preset_in, placed, diagram_of, is_filled, IsSound}
+use Rattle.ladder_scan.proofs.GateLaws.{cell_is}
 
 both_true : (a b : Bool) → (a && b) ≡ true → (a ≡ true) × (b ≡ true)
 both_true true true h = (refl, refl)

@@ -9,7 +9,7 @@ use Rattle.ladder_scan.specs.Scan.{given}
 use Rattle.ladder_scan.specs.SignalScan.{looked, look_frame, after_look}
 use Rattle.ladder_scan.specs.Programs.{diagram_of}
 use Rattle.ladder_scan.specs.Rung.{Held}
-use Rattle.ladder_scan.specs.Sweeping.{AreValues}
+use Rattle.ladder_scan.specs.Gating.{AreValues}
 use Rattle.ladder_scan.proofs.Scanned.{rungs_back, inputs_back}
 
 module _ {S : Type 0} (o : Algebra S) (V : S → Type 0) (l : LatticeLaws S V o) where

@@ -2,12 +2,13 @@
 use Rattle.std.proofs.Common.{ℕ, Bool, true, false, List, [], ◌∷◌, map, get_or, zero, suc, refl}
 use Rattle.ladder_scan.specs.Algebra.{Algebra, LatticeLaws}
 use Rattle.ladder_scan.specs.Truth.{plain}
+use Rattle.ladder_scan.specs.Routes.{left_link}
 use Rattle.ladder_scan.specs.Relations.{IsKept, Both, BothFrames}
 use Rattle.ladder_scan.specs.Cells.{Diagram, Frame, Kept}
-use Rattle.ladder_scan.specs.Rung.{link, after_rung}
+use Rattle.ladder_scan.specs.Rung.{circuit, link, after_rung}
 use Rattle.ladder_scan.specs.SignalScan.{looked}
-use Rattle.ladder_scan.specs.Sweeping.{AreValues}
-use Rattle.ladder_scan.proofs.Kept.{link_kept, rung_kept, frames_kept}
+use Rattle.ladder_scan.specs.Gating.{AreValues}
+use Rattle.ladder_scan.proofs.Kept.{left_kept, link_kept, rung_kept, frames_kept}
 
 module _ {S : Type 0} (o : Algebra S) (V : S → Type 0) (l : LatticeLaws S V o) where
   abbrev Valued : S → Bool → Type 0
@@ -37,6 +38,9 @@ module _ {S : Type 0} (o : Algebra S) (V : S → Type 0) (l : LatticeLaws S V o)
 
   shadowed : (f : Frame S) → AreValues o V f → BothFrames (λ (x : S) (u : Bool). V x) f (shadow f)
   shadowed f h = (both_of (o.known false) f.values h.values, both_of (o.known false) f.ends h.ends)
+
+  pub left_value : (d : Diagram) (k : Kept) (now j : ℕ) (f : Frame S) → AreValues o V f → (row column : ℕ) → V (left_link o (circuit o d k now j f) row column)
+  left_value d k now j f h row column = left_kept o plain (λ x u. V x) values_kept d k k now j (λ i. (refl, refl)) f (shadow f) (shadowed f h) row column
 
   pub link_value : (d : Diagram) (k : Kept) (now j : ℕ) (f : Frame S) → AreValues o V f → (e : ℕ) → V (link o d k now j f e)
   link_value d k now j f h e = link_kept o plain (λ x u. V x) values_kept d k k now j (λ i. (refl, refl)) f (shadow f) (shadowed f h) e

@@ -73,16 +73,6 @@ var_in (Lower inst linked) = None
 var_in (Jump target) = None
 var_in Return = None
 
-abbrev pub is_block : Cell → Bool
-is_block Empty = false
-is_block Wire = false
-is_block (Contact mode operand memory) = false
-is_block (Coil mode var memory) = false
-is_block (Block inst) = true
-is_block (Lower inst linked) = false
-is_block (Jump target) = false
-is_block Return = false
-
 -- What is read past the last instance.
 abbrev pub no_block : Stored
 no_block = Timer false false 0 false

@@ -13,4 +13,4 @@ pub mod Programs
 pub mod Standing
 pub mod Sheets
 pub mod RungByRung
-pub mod Sweeping
+pub mod Gating

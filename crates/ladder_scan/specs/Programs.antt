@@ -1,5 +1,5 @@
 -- A program as the scan sees it, and what reading it has made sure of.
-use Rattle.std.specs.Prelude.{◌≡◌, ℕ, ◌+◌, ◌%◌, ◌<◌, ◌≤◌, Bool, true, false, not, if◌then◌else◌, ◌&&◌, map, nat_lt, Option, Some, None, slice_get}
+use Rattle.std.specs.Prelude.{◌≡◌, ℕ, ◌+◌, ◌%◌, ◌<◌, ◌≤◌, Bool, true, not, if◌then◌else◌, ◌&&◌, map, nat_lt, Option, Some, None, slice_get}
 use Rattle.ladder_vars.specs.declared.kind.BlockKind.{BlockKind}
 use Rattle.ladder_vars.specs.declared.kind.BlockKind.TheVariants.{Ton}
 use Rattle.ladder_vars.specs.declared.decls.Instance.{Instance}
@@ -7,23 +7,13 @@ use Rattle.ladder_vars.specs.Decls.{is_input}
 use Rattle.ladder_vars.specs.Kind.{largest_preset}
 use Rattle.ladder_grid.specs.declared.geometry.TheConstants.{ROWS, PLACES}
 use Rattle.ladder_grid.specs.declared.cell.Cell.{Cell}
-use Rattle.ladder_grid.specs.declared.cell.Cell.TheVariants.{Empty, Wire, Contact, Coil, Block, Lower, Jump, Return}
-use Rattle.ladder_grid.specs.Program.{Drawing, cell_of, is_empty, feeds, jump_of}
+use Rattle.ladder_grid.specs.declared.cell.Cell.TheVariants.{Empty}
+use Rattle.ladder_grid.specs.Program.{Drawing, cell_of, is_empty, feeds, jump_of, is_linked}
 use Rattle.ladder_scan.specs.Cells.{Diagram, place_at}
 use Rattle.ladder_scan.specs.Laws.{Once, Forward}
 
 abbrev pub cell_at : Drawing → ℕ → ℕ → Cell
 cell_at p rung place = if nat_lt place PLACES then cell_of p rung place else Empty
-
-abbrev pub is_linked : Cell → Bool
-is_linked Empty = false
-is_linked Wire = false
-is_linked (Contact mode operand memory) = false
-is_linked (Coil mode var memory) = false
-is_linked (Block inst) = false
-is_linked (Lower inst linked) = linked
-is_linked (Jump target) = false
-is_linked Return = false
 
 -- The kind and the preset of an instance; past the last one, which no cell names, TON and 0.
 abbrev pub kind_in : Option Instance → BlockKind

@@ -10,8 +10,8 @@ use Rattle.ladder_scan.specs.Algebra.{Algebra}
 use Rattle.ladder_scan.specs.Truth.{plain}
 use Rattle.ladder_scan.specs.Routes.{Circuit, left_link}
 use Rattle.ladder_scan.specs.Blocks.{step, q_of}
-use Rattle.ladder_grid.specs.Program.{memory_in, block_in}
-use Rattle.ladder_scan.specs.Cells.{place_at, Diagram, Frame, frame, Kept, kept, at, put_in, var_in, is_block, memory_of, stored_of, operand_value, closed, q_here, coil_value}
+use Rattle.ladder_grid.specs.Program.{memory_in, block_in, is_block}
+use Rattle.ladder_scan.specs.Cells.{place_at, Diagram, Frame, frame, Kept, kept, at, put_in, var_in, memory_of, stored_of, operand_value, closed, q_here, coil_value}
 
 -- A lower cell without a link has OFF.
 abbrev pub lower : {S : Type 0} → Algebra S → Bool → S → S

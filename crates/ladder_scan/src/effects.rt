@@ -1,21 +1,21 @@
 //! The effects of a rung, once its power flow is known: what its coils, blocks and edge contacts write.
 
-ghost use Rattle.std.specs.Prelude.{◌≡◌, ◌<◌, All};
-ghost use Rattle.ladder_grid.specs.declared.geometry.TheConstants.{ROWS, COLUMNS};
-ghost use Rattle.ladder_grid.specs.Compiled.{steps_of};
+ghost use Rattle.std.specs.Prelude.{◌≡◌, ◌<◌, ◌+◌, length, All};
+ghost use Rattle.ladder_grid.specs.declared.gates.TheConstants.{OWN, LINKS};
+ghost use Rattle.ladder_grid.specs.Gates.{actions_of};
 ghost use Rattle.ladder_scan.specs.Truth.{plain};
 ghost use Rattle.ladder_scan.specs.Cells.{stored_by};
-ghost use Rattle.ladder_scan.specs.Rung.{written, changed, second};
+ghost use Rattle.ladder_scan.specs.Rung.{changed};
 ghost use Rattle.ladder_scan.specs.Programs.{diagram_of, IsSound};
-ghost use Rattle.ladder_scan.specs.Sweeping.{IsPlaced, among, place_of, effects_of, changes_of};
+ghost use Rattle.ladder_scan.specs.Gating.{IsPlaced, among, acted, effects_of, changes_of};
 
 use crate::block;
-use crate::scene::{Scene, instance, place_at};
+use crate::scene::{Scene, instance};
 use crate::signal::Signal;
 use crate::signals::Signals;
 use crate::storage::Storage;
-use crate::sweep::{link_at, q_here, second};
-use ladder_grid::{Cell, CoilMode, Step};
+use ladder_grid::gates::{Action, OWN};
+use ladder_grid::{Cell, CoilMode};
 
 fn stored_by<S: Signal>(mode: CoilMode, link: S, memory: S, old: S) -> S
     ensures { result ≡ stored_by S.algebra mode link memory old }
@@ -30,34 +30,28 @@ fn stored_by<S: Signal>(mode: CoilMode, link: S, memory: S, old: S) -> S
     }
 }
 
-/// What one cell writes, over any signal, under the guard of its rung.
+/// What one action writes, over any signal, under the guard of its rung.
 fn effect<S: Signal>(
-    scene: Scene<'_>,
     storage: &Storage,
     guard: S,
     links: &[S],
-    step: Step,
+    action: Action,
     seen: &mut Signals<S>,
 )
-    requires rung { scene.rung < scene.program.now.rungs }
-    requires row { step.row < ROWS }
-    requires column { step.column < COLUMNS }
-    requires program { IsSound (diagram_of scene.program.now) }
-    ensures { seen.new ≡ written S.algebra (diagram_of scene.entry.program.now) storage.now.kept scene.entry.now guard
-        step.cell (among S.algebra links.now (place_of step))
-        (second S.algebra (diagram_of scene.entry.program.now) scene.entry.rung (among S.algebra links.now) (place_of step))
-        seen.old }
+    requires action { IsPlaced action }
+    requires links { length links.now ≡ LINKS }
+    ensures { seen.new ≡ acted S.algebra storage.now.kept guard links.now action seen.old }
 {
-    match step.cell {
+    match action.cell {
         Cell::Coil { mode, var, .. } => {
-            let link = link_at(links, place_at(step.row, step.column));
+            let link = links[action.left as usize];
             let old = seen.value(var);
-            let new = stored_by(mode, link, S::known(storage.memory(step.cell)), old);
+            let new = stored_by(mode, link, S::known(storage.memory(action.cell)), old);
             seen.put_value(var, S::choose(guard, new, old));
         }
         Cell::Block { inst } => {
             let old = seen.end(inst);
-            let new = q_here(scene, storage, links, step.row, step.column, inst);
+            let new = links[OWN + action.place as usize];
             seen.put_end(inst, S::choose(guard, new, old));
         }
         Cell::Empty
@@ -69,39 +63,37 @@ fn effect<S: Signal>(
     }
 }
 
-/// What one cell changes, over truth values; `start` is what contacts see, from the rung's start on.
+/// What one action changes, over truth values; `start` is what contacts see, from the rung's start on.
 fn change(
     scene: Scene<'_>,
     start: &Signals<bool>,
     links: &[bool],
-    step: Step,
+    action: Action,
     storage: &mut Storage,
 )
-    requires rung { scene.rung < scene.program.now.rungs }
-    requires row { step.row < ROWS }
-    requires column { step.column < COLUMNS }
+    requires action { IsPlaced action }
+    requires links { length links.now ≡ LINKS }
     requires program { IsSound (diagram_of scene.program.now) }
-    ensures { storage.new ≡ changed (diagram_of scene.entry.program.now) scene.entry.now start.now step.cell
-        (among plain links.now (place_of step))
-        (second plain (diagram_of scene.entry.program.now) scene.entry.rung (among plain links.now) (place_of step))
-        storage.old }
+    ensures { storage.new ≡ changed (diagram_of scene.entry.program.now) scene.entry.now start.now action.cell
+        (among plain links.now action.left) (among plain links.now action.below) storage.old }
 {
-    let link = link_at(links, place_at(step.row, step.column));
-    match step.cell {
+    match action.cell {
         Cell::Contact {
             operand,
             memory,
             ..
         } => storage.remember(memory, start.operand(operand)),
         Cell::Coil { mode, var, memory } => {
-            let before = storage.memory(step.cell);
+            let link = links[action.left as usize];
+            let before = storage.memory(action.cell);
             let new = stored_by(mode, link, before, storage.value(var));
             storage.put_value(var, new);
             storage.remember(memory, link);
         }
         Cell::Block { inst } => {
             let (kind, preset) = instance(scene.program, inst);
-            let below = second(scene, links, step.row, step.column);
+            let link = links[action.left as usize];
+            let below = links[action.below as usize];
             let stored = storage.stored(inst);
             storage.put_block(
                 inst,
@@ -122,13 +114,13 @@ pub(crate) fn effects<S: Signal>(
     seen: &mut Signals<S>,
 )
     requires rung { scene.rung < scene.program.now.rungs }
-    requires places { All IsPlaced (steps_of scene.program.now scene.rung) }
-    requires program { IsSound (diagram_of scene.program.now) }
-    ensures { seen.new ≡ effects_of S.algebra (diagram_of scene.entry.program.now) storage.now.kept scene.entry.now
-        scene.entry.rung guard (among S.algebra links.now) (steps_of scene.entry.program.now scene.entry.rung) seen.old }
+    requires places { All IsPlaced (actions_of scene.program.now scene.rung) }
+    requires links { length links.now ≡ LINKS }
+    ensures { seen.new ≡ effects_of S.algebra storage.now.kept guard links.now
+        (actions_of scene.entry.program.now scene.entry.rung) seen.old }
 {
-    for step in scene.program.steps(scene.rung) {
-        effect(scene, storage, guard, links, *step, seen);
+    for action in scene.program.actions(scene.rung) {
+        effect(storage, guard, links, *action, seen);
     }
 }
 
@@ -141,12 +133,13 @@ pub(crate) fn changes(
     storage: &mut Storage,
 )
     requires rung { scene.rung < scene.program.now.rungs }
-    requires places { All IsPlaced (steps_of scene.program.now scene.rung) }
+    requires places { All IsPlaced (actions_of scene.program.now scene.rung) }
+    requires links { length links.now ≡ LINKS }
     requires program { IsSound (diagram_of scene.program.now) }
-    ensures { storage.new ≡ changes_of (diagram_of scene.entry.program.now) scene.entry.now scene.entry.rung start.now
-        (among plain links.now) (steps_of scene.entry.program.now scene.entry.rung) storage.old }
+    ensures { storage.new ≡ changes_of (diagram_of scene.entry.program.now) scene.entry.now start.now
+        links.now (actions_of scene.entry.program.now scene.entry.rung) storage.old }
 {
-    for step in scene.program.steps(scene.rung) {
-        change(scene, start, links, *step, storage);
+    for action in scene.program.actions(scene.rung) {
+        change(scene, start, links, *action, storage);
     }
 }

@@ -3,6 +3,7 @@
 
 mod block;
 mod effects;
+mod gates;
 mod inputs;
 pub mod laws;
 mod looking;
@@ -13,7 +14,6 @@ mod signal;
 mod signals;
 mod state;
 mod storage;
-mod sweep;
 
 pub use block::Stored;
 pub use laws::Relation;

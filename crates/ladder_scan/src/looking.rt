@@ -1,24 +1,25 @@
 //! One scan of a program over a signal, which leaves the state as it is.
 
-ghost use Rattle.std.specs.Prelude.{◌≡◌, ◌+◌, ◌-◌, ◌^◌, ◌<◌, ◌≤◌, ◌↔◌, ℕ, min, length, map, All, IfOk, IsTrue, slice_get, Some, slice_index_or, false};
-ghost use Rattle.ladder_grid.specs.declared.geometry.TheConstants.{PLACES};
+ghost use Rattle.std.specs.Prelude.{◌≡◌, ◌+◌, ◌-◌, ◌^◌, ◌<◌, ◌≤◌, ◌↔◌, ℕ, min, length, map, All, IfOk, IsTrue, slice_get, Some, slice_index_or, false, true, nat_lt, ◌&&◌, if◌then◌else◌};
+ghost use Rattle.ladder_grid.specs.declared.gates.TheConstants.{LINKS};
+ghost use Rattle.ladder_grid.specs.Gates.{left_of};
 ghost use Rattle.ladder_scan.specs.SignalScan.{passes_over, guard_of, taken_by, look_frame, looked, after_look};
 ghost use Rattle.ladder_scan.specs.Rung.{SameSizes};
 ghost use Rattle.ladder_scan.specs.Programs.{diagram_of, IsSound};
 ghost use Rattle.ladder_scan.specs.Standing.{Fits};
 ghost use Rattle.ladder_scan.specs.Sheets.{HasRoom};
-ghost use Rattle.ladder_scan.specs.Sweeping.{among, AreValues};
+ghost use Rattle.ladder_scan.specs.Gating.{among, guard_by, AreValues};
 
 use crate::effects::effects;
+use crate::gates::{find_links, link_at};
 use crate::memory::Memory;
-use crate::scene::{Scene, checked, jump};
+use crate::scene::{Scene, checked};
 use crate::signal::Signal;
 use crate::signals::Signals;
 use crate::state::State;
 use crate::storage::Storage;
-use crate::sweep::{find_links, link_at};
 use ladder_grid::Program;
-use ladder_grid::geometry::PLACES;
+use ladder_grid::gates::{LINKS, Leap};
 use std::alloc::Global;
 use std::marker::Model;
 
@@ -33,7 +34,7 @@ pub struct Work<S> {
 
 impl<S> Model for Work<S> {
     ghost use Rattle.std.specs.Prelude.{◌≡◌, length};
-    ghost use Rattle.ladder_grid.specs.declared.geometry.TheConstants.{PLACES};
+    ghost use Rattle.ladder_grid.specs.declared.gates.TheConstants.{LINKS};
     ghost use Rattle.ladder_scan.specs.Sheets.{Sheet};
 
     ghost Value = { Sheet S };
@@ -45,7 +46,7 @@ impl<S> Model for Work<S> {
       looks = w.looks;
     } };
 
-    ghost invariant = { λ w. length w.links.items ≡ PLACES };
+    ghost invariant = { λ w. length w.links.items ≡ LINKS };
 }
 
 impl<S: Signal> Work<S> {
@@ -61,7 +62,7 @@ impl<S: Signal> Work<S> {
         let decls = program.decls();
         Ok(Work {
             seen: Signals::new(alloc, decls.vars().len(), decls.instances().len())?,
-            links: vec![in alloc; S::known(false); PLACES]?,
+            links: vec![in alloc; S::known(false); LINKS]?,
             taken: vec![in alloc; S::known(false); program.rungs()]?,
             looks: 0,
         })
@@ -93,19 +94,31 @@ impl<S: Signal> Work<S> {
     }
 }
 
-/// Whether the jump of an earlier rung passes over a rung.
-fn passes_over(program: &Program, earlier: usize, rung: usize) -> bool
-    requires { earlier < program.now.rungs }
-    ensures { result ≡ passes_over ((diagram_of program.now).jump earlier) rung }
+/// The guard so far, AND NOT that the jump is taken, where it passes over the rung.
+fn under<S: Signal>(leap: Leap, taken: &[S], rung: usize, all: S) -> S
+    ensures { result ≡ (if nat_lt leap.rung rung && nat_lt rung leap.target
+        then S.algebra.meet all (S.algebra.inverse (among S.algebra taken.now leap.rung)) else all) }
 {
-    match jump(program, earlier) {
-        Some((_, target)) => rung < target,
-        None => false,
+    if leap.rung < rung && rung < leap.target {
+        all.and(link_at(taken, leap.rung).not())
+    } else {
+        all
     }
 }
 
+/// The AND, over the earlier rungs with a jump past the rung, of NOT that this jump is taken.
+#[tactic(auto, using(crate::proofs::Exits::guard_step))]
+fn guard_by<S: Signal>(leaps: &[Leap], taken: &[S], rung: usize) -> S
+    ensures { result ≡ guard_by S.algebra taken.now rung leaps.now (S.algebra.known true) }
+{
+    let mut all = S::known(true);
+    for leap in leaps {
+        all = under(*leap, taken, rung, all);
+    }
+    all
+}
+
 /// The guard of a rung, by the earlier jumps that pass over it; none passes over the rung `reach` or a later one.
-#[tactic(auto, using(crate::proofs::Looks::meet_step))]
 fn guard<S: Signal>(program: &Program, taken: &[S], rung: usize, reach: usize) -> S
     requires rung { rung < program.now.rungs }
     requires reach { (i k : ℕ) → i < rung → reach ≤ k → passes_over ((diagram_of program.now).jump i) k ≡ false }
@@ -114,22 +127,16 @@ fn guard<S: Signal>(program: &Program, taken: &[S], rung: usize, reach: usize) -
     if reach <= rung {
         return S::known(true);
     }
-    let mut all = S::known(true);
-    for earlier in 0..rung {
-        if passes_over(program, earlier, rung) {
-            all = all.and(link_at(taken, earlier).not());
-        }
-    }
-    all
+    guard_by(program.leaps(), taken, rung)
 }
 
-/// Whether the jump of a rung is taken, by the left links.
+/// Whether the jump of a rung is taken, by the links of its gates.
 fn taken_by<S: Signal>(program: &Program, rung: usize, guard: S, links: &[S]) -> S
     requires { rung < program.now.rungs }
-    ensures { result ≡ taken_by S.algebra ((diagram_of program.now).jump rung) guard (among S.algebra links.now) }
+    ensures { result ≡ taken_by S.algebra ((diagram_of program.now).jump rung) guard (λ place. among S.algebra links.now (left_of program.now rung place)) }
 {
-    match jump(program, rung) {
-        Some((place, _)) => guard.and(link_at(links, place)),
+    match program.exit(rung) {
+        Some(exit) => guard.and(link_at(links, exit.left as usize)),
         None => S::known(false),
     }
 }
@@ -140,8 +147,8 @@ fn further(program: &Program, rung: usize, reach: usize) -> usize
     ensures at_least { reach ≤ result }
     ensures over { (k : ℕ) → result ≤ k → passes_over ((diagram_of program.now).jump rung) k ≡ false }
 {
-    match jump(program, rung) {
-        Some((_, target)) => reach.max(target),
+    match program.exit(rung) {
+        Some(exit) => reach.max(exit.target),
         None => reach,
     }
 }
@@ -167,7 +174,7 @@ fn look_rungs<S: Signal>(
     requires program { IsSound (diagram_of program.now) }
     requires values { AreValues S.algebra S.value seen.old }
     requires taken { length taken.old ≡ program.now.rungs }
-    requires links { length links.old ≡ PLACES }
+    requires links { length links.old ≡ LINKS }
     ensures { seen.new ≡ (looked S.algebra (diagram_of program.now) storage.now.kept now seen.old program.now.rungs).frame }
 {
     // the furthest target of the jumps so far: from there on no rung is passed over, and its guard is ON

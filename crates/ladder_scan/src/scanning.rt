@@ -2,22 +2,23 @@
 
 ghost use Rattle.std.specs.Prelude.{◌≡◌, ◌<◌, ◌≤◌, ◌↔◌, map, IfOk, OnErr, IsErr};
 ghost use Rattle.ladder_grid.specs.declared.geometry.TheConstants.{RUNGS};
+ghost use Rattle.ladder_grid.specs.Gates.{left_of};
 ghost use Rattle.ladder_scan.specs.Rung.{evaluated, SameSizes, SameLengths};
 ghost use Rattle.ladder_scan.specs.Scan.{rung_after, next_rung, after_scan};
 ghost use Rattle.ladder_scan.specs.Programs.{diagram_of, IsSound};
 ghost use Rattle.ladder_scan.specs.Standing.{Fits, ArePossible, shape};
 ghost use Rattle.ladder_scan.specs.RungByRung.{scanned};
-ghost use Rattle.ladder_scan.specs.Sweeping.{among};
+ghost use Rattle.ladder_scan.specs.Gating.{among};
 ghost use Rattle.ladder_scan.specs.Truth.{plain};
 
 use crate::effects::changes;
-use crate::scene::{Scene, checked, jump};
+use crate::gates::{find_links, link_at};
+use crate::scene::{Scene, checked};
 use crate::signals::{Signals, copy_start};
 use crate::state::State;
 use crate::storage::Storage;
-use crate::sweep::{find_links, link_at};
 use ladder_grid::Program;
-use ladder_grid::geometry::PLACES;
+use ladder_grid::gates::LINKS;
 
 /// The moment of a scan is before that of the state.
 #[derive(Clone, Copy, Debug, PartialEq, Eq)]
@@ -27,16 +28,22 @@ pub struct MomentBack;
 fn rung_after(program: &Program, rung: usize, links: &[bool]) -> usize
     requires rung { rung < program.now.rungs }
     requires few { rung < RUNGS }
-    ensures { result ≡ rung_after rung ((diagram_of program.now).jump rung) (among plain links.now) }
+    ensures { result ≡ rung_after rung ((diagram_of program.now).jump rung) (λ place. among plain links.now (left_of program.now rung place)) }
 {
-    match jump(program, rung) {
-        Some((place, target)) if link_at(links, place) => target,
-        Some(_) | None => rung + 1,
+    match program.exit(rung) {
+        Some(exit) => {
+            if link_at(links, exit.left as usize) {
+                exit.target
+            } else {
+                rung + 1
+            }
+        }
+        None => rung + 1,
     }
 }
 
 /// Evaluates a rung, and returns the rung after it.
-#[tactic(auto, using(crate::proofs::Along::by_steps, crate::proofs::Sizes::rung_sizes))]
+#[tactic(auto, using(crate::proofs::Acting::by_actions, crate::proofs::Sizes::rung_sizes))]
 fn evaluate(scene: Scene<'_>, storage: &mut Storage, start: &mut Signals<bool>) -> usize
     requires rung { scene.rung < scene.program.now.rungs }
     requires few { scene.rung < RUNGS }
@@ -47,7 +54,7 @@ fn evaluate(scene: Scene<'_>, storage: &mut Storage, start: &mut Signals<bool>) 
     ensures sizes { SameSizes start.new storage.new }
 {
     copy_start(storage, start);
-    let mut links = [false; PLACES];
+    let mut links = [false; LINKS];
     find_links(scene, storage, start, &mut links);
     changes(scene, start, &links, storage);
     rung_after(scene.program, scene.rung, &links)

@@ -1,8 +1,7 @@
 //! A rung of a program that is evaluated at a moment, and what the scan reads of the program.
 
-ghost use Rattle.std.specs.Prelude.{◌≡◌, ◌<◌, ◌+◌, ◌*◌};
-ghost use Rattle.ladder_grid.specs.declared.geometry.TheConstants.{ROWS, COLUMNS};
-ghost use Rattle.ladder_scan.specs.Cells.{place_at};
+ghost use Rattle.std.specs.Prelude.{◌≡◌, ◌<◌};
+ghost use Rattle.ladder_grid.specs.declared.geometry.TheConstants.{PLACES};
 ghost use Rattle.ladder_scan.specs.Programs.{diagram_of, IsSound};
 
 use ladder_grid::geometry::ROWS;
@@ -25,15 +24,6 @@ pub(crate) fn checked(program: &Program)
     let _instances = program.decls().instances();
 }
 
-/// The place of a cell in its rung.
-pub(crate) fn place_at(row: usize, column: usize) -> usize
-    requires row { row < ROWS }
-    requires column { column < COLUMNS }
-    ensures { result ≡ place_at row column }
-{
-    ROWS * column + row
-}
-
 /// The kind and the preset of an instance.
 #[tactic(auto, unfolding(crate::specs::Programs::diagram_of))]
 pub(crate) fn instance(program: &Program, inst: usize) -> (BlockKind, u32)
@@ -46,47 +36,12 @@ pub(crate) fn instance(program: &Program, inst: usize) -> (BlockKind, u32)
     }
 }
 
-/// The place of the jump or return of a rung, and the rung that it goes to, past the last one by a return.
+/// The cell at a place of a rung, by column and row.
 #[tactic(auto, unfolding(crate::specs::Programs::diagram_of))]
-pub(crate) fn jump(program: &Program, rung: usize) -> Option<(usize, usize)>
-    requires { rung < program.now.rungs }
-    ensures { result ≡ (diagram_of program.now).jump rung }
-{
-    match program.jump(rung) {
-        Some((row, column, target)) => Some((place_at(row, column), target)),
-        None => None,
-    }
-}
-
-#[tactic(auto, unfolding(crate::specs::Programs::diagram_of))]
-pub(crate) fn cell(program: &Program, rung: usize, row: usize, column: usize) -> Cell
+pub(crate) fn cell(program: &Program, rung: usize, place: usize) -> Cell
     requires rung { rung < program.now.rungs }
-    requires row { row < ROWS }
-    requires column { column < COLUMNS }
-    ensures { result ≡ (diagram_of program.now).cell rung (place_at row column) }
+    requires place { place < PLACES }
+    ensures { result ≡ (diagram_of program.now).cell rung place }
 {
-    program.cell(rung, row, column)
-}
-
-/// Whether the cell below is the lower cell of a block and has a left link.
-#[tactic(auto, unfolding(crate::specs::Programs::diagram_of))]
-pub(crate) fn linked(program: &Program, rung: usize, row: usize, column: usize) -> bool
-    requires rung { rung < program.now.rungs }
-    requires row { row < ROWS }
-    requires column { column < COLUMNS }
-    ensures { result ≡ (diagram_of program.now).linked rung (place_at row column) }
-{
-    if row + 1 == ROWS {
-        return false;
-    }
-    match cell(program, rung, row + 1, column) {
-        Cell::Lower { linked, .. } => linked,
-        Cell::Empty
-        | Cell::Wire
-        | Cell::Contact { .. }
-        | Cell::Coil { .. }
-        | Cell::Block { .. }
-        | Cell::Jump { .. }
-        | Cell::Return => false,
-    }
+    program.cell(rung, place % ROWS, place / ROWS)
 }

@@ -2,8 +2,8 @@ use Rattle.std.proofs.Common.{◌≡◌, ◌∙◌, sym, subst, arith, refl, tak
 use Rattle.ladder_scan.specs.Cells.{Frame}
 use Rattle.ladder_scan.specs.SignalScan.{looked, guard_of}
 use Rattle.ladder_scan.specs.Programs.{diagram_of}
-use Rattle.ladder_scan.specs.Sweeping.{AreValues}
-use Rattle.ladder_scan.proofs.Along.{places, rung_along}
+use Rattle.ladder_scan.specs.Gating.{AreValues}
+use Rattle.ladder_scan.proofs.Acting.{places, rung_along}
 use Rattle.ladder_scan.proofs.Values.{looked_values}
 use Rattle.ladder_scan.proofs.Looks.{looked_frame, looked_taken, taken_same, reach_more}
 use Rattle.ladder_scan.proofs.looking.look_rungs.Goals as goal
@@ -33,14 +33,14 @@ loop-rung-preserved g c =
     let on : c.guard-guard.result ≡ guard_of o d (take j all) j = c.guard-guard.ensures in
     record {
       here = looked_frame o d k now f j here c.effects.new.seen (take j all) c.guard-guard.result c.loop-rung.invariant.here c.loop-rung.invariant.taken on
-          (c.effects.ensures ∙ rung_along o p c.requires.program k now j c.guard-guard.result here c.find_links.new.links c.find_links.ensures);
+          (c.effects.ensures ∙ rung_along o p k now j c.guard-guard.result here c.find_links.new.links c.find_links.ensures.links);
+      length = c.find_links.ensures.length;
       taken = looked_taken o d k now f j here all c.guard-guard.result c.taken_by.result (omega arith) c.loop-rung.invariant.here c.loop-rung.invariant.taken on
           (c.taken_by.ensures ∙ taken_same o (d.jump j) c.guard-guard.result _ _ (λ place target h.
-          let at = c.requires.program.jumps j place target h in
-          c.find_links.ensures place at.0 at.1));
+          c.find_links.ensures.links.left place (c.requires.program.jumps j place target h).0));
       reach = reach_more d j c.loop-rung.reach _ c.loop-rung.invariant.reach c.further-reach.ensures.at_least c.further-reach.ensures.over;
     }
 
 pub loop-rung-init : goal.loop-rung-init
 unfolding looked
-loop-rung-init g c = record { here = refl; taken = refl; reach = λ i k lt le. absurd (omega arith) }
+loop-rung-init g c = record { here = refl; length = c.requires.links; taken = refl; reach = λ i k lt le. absurd (omega arith) }

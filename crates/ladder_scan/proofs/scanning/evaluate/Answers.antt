@@ -1,10 +1,11 @@
-use Rattle.std.proofs.Common.{◌∙◌, ap, Bool}
+use Rattle.std.proofs.Common.{◌∙◌, ap, Bool, ℕ}
+use Rattle.ladder_grid.specs.Gates.{left_of}
 use Rattle.ladder_scan.specs.Truth.{plain}
 use Rattle.ladder_scan.specs.Cells.{Frame}
 use Rattle.ladder_scan.specs.Rung.{link, link_at}
 use Rattle.ladder_scan.specs.Programs.{diagram_of}
-use Rattle.ladder_scan.specs.Sweeping.{among}
-use Rattle.ladder_scan.proofs.Along.{places, by_steps}
+use Rattle.ladder_scan.specs.Gating.{among}
+use Rattle.ladder_scan.proofs.Acting.{places, by_actions}
 use Rattle.ladder_scan.proofs.Looks.{after_same}
 use Rattle.ladder_scan.proofs.Sizes.{rung_sizes}
 use Rattle.ladder_scan.proofs.scanning.evaluate.Goals as goal
@@ -14,20 +15,20 @@ changes-requires-clause-places c = places c.args.scene.program.now c.args.scene.
 
 pub returns-clause-held : goal.returns-clause-held
 returns-clause-held c =
-    by_steps c.args.scene.program.now c.requires.program c.args.scene.now c.args.scene.rung c.args.storage.now _ _ c.find_links.new.links c.copy_start.ensures c.find_links.ensures c.changes.ensures
+    by_actions c.args.scene.program.now c.args.scene.now c.args.scene.rung c.args.storage.now _ _ c.find_links.new.links c.copy_start.ensures c.find_links.ensures.links c.changes.ensures
 
 pub returns-clause-next : goal.returns-clause-next
 returns-clause-next c =
-    let d = diagram_of c.args.scene.program.now in
+    let p = c.args.scene.program.now in
+    let d = diagram_of p in
     let j = c.args.scene.rung in
     let h = c.args.storage.now in
     let now = c.args.scene.now in
     c.rung_after.ensures
-    ∙ after_same j (d.jump j) (among plain c.find_links.new.links) (link_at d now j h) (λ place target e.
-    let at = c.requires.program.jumps j place target e in
-    c.find_links.ensures place at.0 at.1 ∙ ap (λ (f : Frame Bool). link plain d h.kept now j f place) c.copy_start.ensures)
+    ∙ after_same j (d.jump j) (λ (place : ℕ). among plain c.find_links.new.links (left_of p j place)) (link_at d now j h) (λ place target e.
+    c.find_links.ensures.links.left place (c.requires.program.jumps j place target e).0 ∙ ap (λ (f : Frame Bool). link plain d h.kept now j f place) c.copy_start.ensures)
 
 pub returns-clause-sizes : goal.returns-clause-sizes
 returns-clause-sizes c =
     rung_sizes (diagram_of c.args.scene.program.now) c.args.scene.now c.args.scene.rung c.args.storage.now _ _ c.copy_start.ensures
-    (by_steps c.args.scene.program.now c.requires.program c.args.scene.now c.args.scene.rung c.args.storage.now _ _ c.find_links.new.links c.copy_start.ensures c.find_links.ensures c.changes.ensures)
+    (by_actions c.args.scene.program.now c.args.scene.now c.args.scene.rung c.args.storage.now _ _ c.find_links.new.links c.copy_start.ensures c.find_links.ensures.links c.changes.ensures)

@@ -1,0 +1,112 @@
+-- Private: a rung as the code evaluates it, by its gates and then by its actions.
+use Rattle.std.specs.Prelude.{◌≡◌, ℕ, ◌+◌, ◌<◌, Bool, true, false, if◌then◌else◌, List, [], ◌∷◌, nat_lt, ◌&&◌}
+use Rattle.std.proofs.Common.{get_or, set, zero, suc}
+use Rattle.ladder_grid.specs.declared.geometry.TheConstants.{PLACES}
+use Rattle.ladder_grid.specs.declared.gates.TheConstants.{OWN}
+use Rattle.ladder_grid.specs.declared.cell.Cell.{Cell}
+use Rattle.ladder_grid.specs.declared.gates.Gate.{Gate}
+use Rattle.ladder_grid.specs.declared.gates.Action.{Action}
+use Rattle.ladder_grid.specs.declared.gates.Leap.{Leap}
+use Rattle.ladder_grid.specs.declared.gates.Literal.{Literal}
+use Rattle.ladder_grid.specs.declared.gates.Literal.TheVariants.{On, Is, Not, Other}
+use Rattle.ladder_grid.specs.Program.{Drawing, block_in, is_block}
+use Rattle.ladder_grid.specs.Gates.{left_of, below_of}
+use Rattle.ladder_scan.specs.Algebra.{Algebra}
+use Rattle.ladder_scan.specs.Truth.{plain}
+use Rattle.ladder_scan.specs.Cells.{Diagram, Frame, Kept, at, put_in, var_in, memory_of, closed, q_here, coil_value}
+use Rattle.ladder_scan.specs.Rung.{second, changed, Held, link}
+use Rattle.ladder_scan.specs.Programs.{diagram_of}
+
+-- The OR of f i over the numbers i below n that pass the test; OFF where none does.
+unfoldable pub join_where : {S : Type 0} → Algebra S → (ℕ → Bool) → (ℕ → S) → ℕ → S
+join_where o passes f zero = o.known false
+join_where o passes f (suc n) = if passes n then o.join (join_where o passes f n) (f n) else join_where o passes f n
+
+-- The signal at a number of a list, OFF past its end.
+abbrev pub among : {S : Type 0} → Algebra S → List S → ℕ → S
+among o xs i = get_or xs i (o.known false)
+
+-- ---- gates
+
+-- What a cell lets through by itself: its left link x as far as it is closed, and a block its Q, y being its second input.
+abbrev pub own : {S : Type 0} → Algebra S → Diagram → Kept → ℕ → Frame S → Cell → S → S → S
+own o d k now f c x y = if is_block c then q_here o d k now c x y else o.meet x (closed o f (o.known (memory_of k c)) c)
+
+-- The same by the literal of its gate.
+abbrev pub through : {S : Type 0} → Algebra S → Diagram → Kept → ℕ → Frame S → Literal → Cell → S → S → S
+through o d k now f On c x y = x
+through o d k now f (Is var) c x y = o.meet x (get_or f.values var (o.known false))
+through o d k now f (Not var) c x y = o.meet x (o.inverse (get_or f.values var (o.known false)))
+through o d k now f Other c x y = own o d k now f c x y
+
+abbrev pub is_other : Literal → Bool
+is_other On = false
+is_other (Is var) = false
+is_other (Not var) = false
+is_other Other = true
+
+-- What a gate lets through, by the links before it.
+abbrev pub let_through : {S : Type 0} → Algebra S → Diagram → Kept → ℕ → ℕ → Frame S → List S → Gate → S
+let_through o d k now j f links g = through o d k now f g.literal (d.cell j g.place) (among o links g.left) (among o links g.below)
+
+-- The links after a gate that lets x through.
+abbrev pub kept_by : {S : Type 0} → Algebra S → List S → Gate → S → List S
+kept_by o links g x = set (if is_other g.literal then set links (OWN + g.place) x else links) g.place (o.join x (among o links g.other))
+
+-- The links after a gate of rung j.
+abbrev pub passed : {S : Type 0} → Algebra S → Diagram → Kept → ℕ → ℕ → Frame S → List S → Gate → List S
+passed o d k now j f links g = kept_by o links g (let_through o d k now j f links g)
+
+-- The links after these gates.
+unfoldable pub ran : {S : Type 0} → Algebra S → Diagram → Kept → ℕ → ℕ → Frame S → List Gate → List S → List S
+ran o d k now j f [] links = links
+ran o d k now j f (g ∷ gs) links = ran o d k now j f gs (passed o d k now j f links g)
+
+abbrev pub IsInside : Gate → Type 0
+IsInside g = (g.place < PLACES) × (g.left < OWN) × (g.below < OWN) × (g.other < OWN)
+
+-- The links of a rung are where its gates and actions look for them.
+pub record AreLinks {S : Type 0} (o : Algebra S) (p : Drawing) (k : Kept) (now j : ℕ) (f : Frame S) (links : List S) : Type 0 where
+  pub left : (e : ℕ) → e < PLACES → among o links (left_of p j e) ≡ link o (diagram_of p) k now j f e
+  pub below : (e : ℕ) → e < PLACES → among o links (below_of p j e) ≡ second o (diagram_of p) j (link o (diagram_of p) k now j f) e
+  pub own : (e : ℕ) → e < PLACES → is_block ((diagram_of p).cell j e) ≡ true
+      → among o links (OWN + e) ≡ q_here o (diagram_of p) k now ((diagram_of p).cell j e) (link o (diagram_of p) k now j f e)
+      (second o (diagram_of p) j (link o (diagram_of p) k now j f) e)
+
+-- ---- actions
+
+-- What an action leaves, over any signal.
+abbrev pub acted : {S : Type 0} → Algebra S → Kept → S → List S → Action → Frame S → Frame S
+acted o k guard links a f =
+    let value = at f.values (var_in a.cell) (o.known false) in
+    let end = at f.ends (block_in a.cell) (o.known false) in
+    record {
+      values = put_in f.values (var_in a.cell) (o.choice guard (coil_value o a.cell (among o links a.left) (o.known (memory_of k a.cell)) value) value);
+      ends = put_in f.ends (block_in a.cell) (o.choice guard (among o links (OWN + a.place)) end);
+    }
+
+-- What these actions leave, over any signal and over truth values.
+unfoldable pub effects_of : {S : Type 0} → Algebra S → Kept → S → List S → List Action → Frame S → Frame S
+effects_of o k guard links [] f = f
+effects_of o k guard links (a ∷ more) f = effects_of o k guard links more (acted o k guard links a f)
+
+unfoldable pub changes_of : Diagram → ℕ → Frame Bool → List Bool → List Action → Held → Held
+changes_of d now start links [] h = h
+changes_of d now start links (a ∷ more) h =
+    changes_of d now start links more (changed d now start a.cell (among plain links a.left) (among plain links a.below) h)
+
+abbrev pub IsPlaced : Action → Type 0
+IsPlaced a = (a.place < PLACES) × (a.left < OWN) × (a.below < OWN)
+
+-- ---- guards
+
+-- The AND, over the rungs before rung j with a jump past it, of NOT that this jump is taken.
+unfoldable pub guard_by : {S : Type 0} → Algebra S → List S → ℕ → List Leap → S → S
+guard_by o taken j [] all = all
+guard_by o taken j (l ∷ ls) all =
+    guard_by o taken j ls (if nat_lt l.rung j && nat_lt j l.target then o.meet all (o.inverse (among o taken l.rung)) else all)
+
+-- All values and all Qs are values of the signal.
+pub record AreValues {S : Type 0} (o : Algebra S) (V : S → Type 0) (f : Frame S) : Type 0 where
+  pub values : (i : ℕ) → V (get_or f.values i (o.known false))
+  pub ends : (i : ℕ) → V (get_or f.ends i (o.known false))

@@ -1,0 +1,225 @@
+//! Power flow in a rung: its gates give the links, one after the other.
+
+ghost use Rattle.std.specs.Prelude.{◌≡◌, ◌<◌, ◌≤◌, ◌+◌, length, slice_index_or, false, true, All};
+ghost use Rattle.ladder_vars.specs.Kind.{largest_preset};
+ghost use Rattle.ladder_grid.specs.declared.geometry.TheConstants.{PLACES};
+ghost use Rattle.ladder_grid.specs.declared.gates.TheConstants.{ON, OFF, OWN, LINKS};
+ghost use Rattle.ladder_grid.specs.Gates.{gates_of};
+ghost use Rattle.ladder_scan.specs.Cells.{closed, contact, q_from, q_after};
+ghost use Rattle.ladder_scan.specs.Programs.{diagram_of, IsSound};
+ghost use Rattle.ladder_scan.specs.Gating.{among, own, let_through, kept_by, passed, ran, IsInside, AreLinks, AreValues};
+
+use crate::block::{Stored, has_second, step};
+use crate::scene::{Scene, cell, instance};
+use crate::signal::Signal;
+use crate::signals::Signals;
+use crate::storage::Storage;
+use ladder_grid::gates::{Gate, LINKS, Literal, OFF, ON, OWN};
+use ladder_grid::{Cell, Mode};
+use ladder_vars::BlockKind;
+
+/// The signal at a place, and OFF past the last one.
+pub(crate) fn link_at<S: Signal>(links: &[S], place: usize) -> S
+    ensures { result ≡ slice_index_or links.now place (S.algebra.known false) }
+{
+    match links.get(place) {
+        Some(link) => *link,
+        None => S::known(false),
+    }
+}
+
+fn contact<S: Signal>(mode: Mode, operand: S, memory: S) -> S
+    ensures { result ≡ contact S.algebra mode operand memory }
+{
+    match mode {
+        Mode::Plain => operand,
+        Mode::Negated => operand.not(),
+        Mode::Rising => operand.and(memory.not()),
+        Mode::Falling => operand.not().and(memory),
+    }
+}
+
+fn closed<S: Signal>(cell: Cell, seen: &Signals<S>, memory: S) -> S
+    ensures { result ≡ closed S.algebra seen.now memory cell }
+{
+    match cell {
+        Cell::Wire | Cell::Coil { .. } => S::known(true),
+        Cell::Contact { mode, operand, .. } => contact(mode, seen.operand(operand), memory),
+        Cell::Empty | Cell::Block { .. } | Cell::Lower { .. } | Cell::Jump { .. } | Cell::Return =>
+            S::known(false),
+    }
+}
+
+fn q_after(
+    kind: BlockKind,
+    preset: u32,
+    stored: Stored,
+    now: u64,
+    first: bool,
+    second: bool,
+) -> bool
+    requires { preset ≤ largest_preset kind }
+    ensures { result ≡ q_after kind preset stored now first second }
+{
+    step(kind, preset, stored, first, second, now).q()
+}
+
+fn q_from<S: Signal>(
+    kind: BlockKind,
+    preset: u32,
+    stored: Stored,
+    now: u64,
+    first: S,
+    second: S,
+) -> S
+    requires { preset ≤ largest_preset kind }
+    ensures { result ≡ q_from S.algebra kind preset stored now first second }
+{
+    let off = q_after(kind, preset, stored, now, false, false);
+    let on = q_after(kind, preset, stored, now, true, false);
+    if has_second(kind) {
+        let both = q_after(kind, preset, stored, now, true, true);
+        let other = q_after(kind, preset, stored, now, false, true);
+        S::choose(
+            first,
+            S::choose(second, S::known(both), S::known(on)),
+            S::choose(second, S::known(other), S::known(off)),
+        )
+    } else {
+        S::choose(first, S::known(on), S::known(off))
+    }
+}
+
+/// What the cell of a gate lets through by itself.
+#[inline(never)]
+fn own<S: Signal>(
+    scene: Scene<'_>,
+    storage: &Storage,
+    seen: &Signals<S>,
+    links: &[S],
+    gate: Gate,
+) -> S
+    requires rung { scene.rung < scene.program.now.rungs }
+    requires gate { IsInside gate }
+    requires links { length links.now ≡ LINKS }
+    requires program { IsSound (diagram_of scene.program.now) }
+    ensures { result ≡ own S.algebra (diagram_of scene.entry.program.now) storage.now.kept scene.entry.now seen.now
+        ((diagram_of scene.entry.program.now).cell scene.entry.rung gate.place) (among S.algebra links.now gate.left) (among S.algebra links.now gate.below) }
+{
+    let cell = cell(scene.program, scene.rung, gate.place as usize);
+    let left = links[gate.left as usize];
+    match cell {
+        Cell::Block { inst } => {
+            let (kind, preset) = instance(scene.program, inst);
+            let below = links[gate.below as usize];
+            q_from(kind, preset, storage.stored(inst), scene.now, left, below)
+        }
+        Cell::Empty
+        | Cell::Wire
+        | Cell::Contact { .. }
+        | Cell::Coil { .. }
+        | Cell::Lower { .. }
+        | Cell::Jump { .. }
+        | Cell::Return => left.and(closed(cell, seen, S::known(storage.memory(cell)))),
+    }
+}
+
+/// What a gate lets through, by the links before it.
+fn let_through<S: Signal>(
+    scene: Scene<'_>,
+    storage: &Storage,
+    seen: &Signals<S>,
+    links: &[S],
+    gate: Gate,
+) -> S
+    requires rung { scene.rung < scene.program.now.rungs }
+    requires gate { IsInside gate }
+    requires links { length links.now ≡ LINKS }
+    requires program { IsSound (diagram_of scene.program.now) }
+    ensures { result ≡ let_through S.algebra (diagram_of scene.entry.program.now) storage.now.kept scene.entry.now scene.entry.rung
+        seen.now links.now gate }
+{
+    match gate.literal {
+        Literal::On => links[gate.left as usize],
+        Literal::Is(var) => links[gate.left as usize].and(seen.value(var as usize)),
+        Literal::Not(var) => links[gate.left as usize].and(seen.value(var as usize).not()),
+        Literal::Other => own(scene, storage, seen, links, gate),
+    }
+}
+
+/// What a cell lets through by itself is kept where the gate does not give it, as the Q of a block is read again.
+fn keep<S: Signal>(links: &mut [S], gate: Gate, through: S)
+    requires gate { IsInside gate }
+    requires links { length links.old ≡ LINKS }
+    ensures { links.new ≡ kept_by S.algebra links.old gate through }
+{
+    let other = links[gate.other as usize];
+    match gate.literal {
+        Literal::Other => links[OWN + gate.place as usize] = through,
+        Literal::On | Literal::Is(_) | Literal::Not(_) => {}
+    }
+    links[gate.place as usize] = through.or(other);
+}
+
+/// The links after one gate.
+fn pass<S: Signal>(
+    scene: Scene<'_>,
+    storage: &Storage,
+    seen: &Signals<S>,
+    gate: Gate,
+    links: &mut [S],
+)
+    requires rung { scene.rung < scene.program.now.rungs }
+    requires gate { IsInside gate }
+    requires links { length links.old ≡ LINKS }
+    requires program { IsSound (diagram_of scene.program.now) }
+    ensures { links.new ≡ passed S.algebra (diagram_of scene.entry.program.now) storage.now.kept scene.entry.now scene.entry.rung
+        seen.now links.old gate }
+{
+    let through = let_through(scene, storage, seen, links, gate);
+    keep(links, gate, through);
+}
+
+/// The links after the gates of a rung.
+#[tactic(auto, using(crate::proofs::GateLaws::run_step))]
+fn run<S: Signal>(scene: Scene<'_>, storage: &Storage, seen: &Signals<S>, links: &mut [S])
+    requires rung { scene.rung < scene.program.now.rungs }
+    requires gates { All IsInside (gates_of scene.program.now scene.rung) }
+    requires links { length links.old ≡ LINKS }
+    requires program { IsSound (diagram_of scene.program.now) }
+    ensures { links.new ≡ ran S.algebra (diagram_of scene.entry.program.now) storage.now.kept scene.entry.now scene.entry.rung
+        seen.now (gates_of scene.entry.program.now scene.entry.rung) links.old }
+{
+    for gate in scene.program.gates(scene.rung) {
+        pass(scene, storage, seen, *gate, links);
+    }
+}
+
+/// Puts ON and OFF where the gates look for them.
+fn set_rails<S: Signal>(links: &mut [S])
+    requires { length links.old ≡ LINKS }
+    ensures length { length links.new ≡ LINKS }
+    ensures on { slice_index_or links.new ON (S.algebra.known false) ≡ S.algebra.known true }
+    ensures off { slice_index_or links.new OFF (S.algebra.known false) ≡ S.algebra.known false }
+{
+    links[ON] = S::known(true);
+    links[OFF] = S::known(false);
+}
+
+/// Finds the links of a rung.
+pub(crate) fn find_links<S: Signal>(
+    scene: Scene<'_>,
+    storage: &Storage,
+    seen: &Signals<S>,
+    links: &mut [S],
+)
+    requires rung { scene.rung < scene.program.now.rungs }
+    requires links { length links.old ≡ LINKS }
+    requires values { AreValues S.algebra S.value seen.now }
+    requires program { IsSound (diagram_of scene.program.now) }
+    ensures length { length links.new ≡ LINKS }
+    ensures links { AreLinks S.algebra scene.entry.program.now storage.now.kept scene.entry.now scene.entry.rung seen.now links.new }
+{
+    set_rails(links);
+    run(scene, storage, seen, links);
+}
