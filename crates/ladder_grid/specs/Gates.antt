@@ -53,9 +53,9 @@ literal_on mode.Falling x = literal.Other
 
 abbrev pub literal_of : Cell → Literal
 literal_of cell.Empty = literal.Other
-literal_of cell.Wire = literal.On
+literal_of cell.Wire = literal.Other
 literal_of (cell.Contact mode operand memory) = literal_on mode operand
-literal_of (cell.Coil mode var memory) = literal.On
+literal_of (cell.Coil mode var memory) = literal.Other
 literal_of (cell.Block inst) = literal.Other
 literal_of (cell.Lower inst linked) = literal.Other
 literal_of (cell.Jump target) = literal.Other

@@ -32,13 +32,11 @@ pub const VARIABLES: usize = 65_536;
 /// What a gate lets through.
 #[derive(Clone, Copy, Debug, PartialEq, Eq)]
 pub enum Literal {
-    /// Everything.
-    On,
     /// The value of a variable.
     Is(u16),
     /// The inverse of the value of a variable.
     Not(u16),
-    /// What its cell says: an edge contact, an output or a block.
+    /// What its cell says: a wire, an edge, an output or a block.
     Other,
 }
 
@@ -175,9 +173,13 @@ fn literal_of(cell: Cell) -> Literal
 {
     match cell {
         Cell::Contact { mode, operand, .. } => literal_on(mode, operand),
-        Cell::Wire | Cell::Coil { .. } => Literal::On,
-        Cell::Empty | Cell::Block { .. } | Cell::Lower { .. } | Cell::Jump { .. } | Cell::Return =>
-            Literal::Other,
+        Cell::Empty
+        | Cell::Wire
+        | Cell::Coil { .. }
+        | Cell::Block { .. }
+        | Cell::Lower { .. }
+        | Cell::Jump { .. }
+        | Cell::Return => Literal::Other,
     }
 }
 

@@ -143,3 +143,8 @@ module _ {S : Type 0} (o : Algebra S) (p : Drawing) (taken : List S) (j : ℕ) w
   guard_is h =
       let all : j + (p.rungs - j) ≡ p.rungs = omega arith in
       ap (λ n. guard_by o taken j (leaps_below p n) (o.known true)) (sym all) ∙ behind (p.rungs - j)
+
+-- In a program without jumps each guard is ON.
+pub straight_guard : {S : Type 0} (o : Algebra S) (p : Drawing) (taken : List S) (j : ℕ) → j < p.rungs → leaps_below p p.rungs ≡ [] → guard_of o (diagram_of p) taken j ≡ o.known true
+unfolding guard_by
+straight_guard o p taken j h none = sym (guard_is o p taken j h) ∙ ap (λ ls. guard_by o taken j ls (o.known true)) none

@@ -188,9 +188,6 @@ module _ {S : Type 0} (o : Algebra S) (V : S → Type 0) (l : LatticeLaws S V o)
   joined_value t g (suc n) h = either_value o V l (t n) _ _ (l.join_value _ _ (joined_value t g n h) (h n)) (joined_value t g n h)
 
   -- ---- what a gate lets through is what its cell does
-  meet_on : (x : S) → V x → x ≡ o.meet x (o.known true)
-  meet_on x vx = sym (l.meet_comm x (o.known true) vx (l.known_value true) ∙ l.meet_on x vx)
-
   contact_through : (mode : Mode) (operand : Operand) (memory : _) (x y : S) → through o (diagram_of p) k now f (literal_on mode operand) (Contact mode operand memory) x y ≡ own o (diagram_of p) k now f (Contact mode operand memory) x y
   contact_through Plain (Var var) memory x y = elim (cases_Bool (nat_lt var 65536)) [
     | inl t ↦ ap (λ (b : Bool). through o (diagram_of p) k now f (cond b (Is var) Other) (Contact Plain (Var var) memory) x y) t
@@ -205,15 +202,15 @@ module _ {S : Type 0} (o : Algebra S) (V : S → Type 0) (l : LatticeLaws S V o)
   contact_through Rising operand memory x y = refl
   contact_through Falling operand memory x y = refl
 
-  cell_through : (c : Cell) (x y : S) → V x → through o (diagram_of p) k now f (literal_of c) c x y ≡ own o (diagram_of p) k now f c x y
-  cell_through Empty x y vx = refl
-  cell_through Wire x y vx = meet_on x vx
-  cell_through (Contact mode operand memory) x y vx = contact_through mode operand memory x y
-  cell_through (Coil mode var memory) x y vx = meet_on x vx
-  cell_through (Block inst) x y vx = refl
-  cell_through (Lower inst linked) x y vx = refl
-  cell_through (Jump target) x y vx = refl
-  cell_through Return x y vx = refl
+  cell_through : (c : Cell) (x y : S) → through o (diagram_of p) k now f (literal_of c) c x y ≡ own o (diagram_of p) k now f c x y
+  cell_through Empty x y = refl
+  cell_through Wire x y = refl
+  cell_through (Contact mode operand memory) x y = contact_through mode operand memory x y
+  cell_through (Coil mode var memory) x y = refl
+  cell_through (Block inst) x y = refl
+  cell_through (Lower inst linked) x y = refl
+  cell_through (Jump target) x y = refl
+  cell_through Return x y = refl
 
   -- the gate of a block keeps its Q by itself
   block_other : (c : Cell) → is_block c ≡ true → is_other (literal_of c) ≡ true
@@ -323,7 +320,7 @@ module _ {S : Type 0} (o : Algebra S) (V : S → Type 0) (l : LatticeLaws S V o)
   gate_is e h R good =
       ap (λ c. through o (diagram_of p) k now f (literal_of c) (cl e) (get_or R (left_of p j e) (o.known false)) (get_or R (below_of p j e) (o.known false))) (sym (cell_is p j e h))
       ∙ ap₂ (λ x y. through o (diagram_of p) k now f (literal_of (cl e)) (cl e) x y) (left_is e h e (omega arith) R good) (below_is e h e (omega arith) R good)
-      ∙ cell_through (cl e) (lk (e % 6) (e / 6)) (lower o ((diagram_of p).linked j e) (lk (e % 6 + 1) (e / 6))) (lk_value (e % 6) (e / 6))
+      ∙ cell_through (cl e) (lk (e % 6) (e / 6)) (lower o ((diagram_of p).linked j e) (lk (e % 6 + 1) (e / 6)))
       ∙ sym (same_place e (λ i. own o (diagram_of p) k now f (cl i) (lk (e % 6) (e / 6)) (lower o ((diagram_of p).linked j i) (lk (e % 6 + 1) (e / 6)))))
 
   first_other : (b : Bool) (R : List S) (e i : ℕ) (x : S) → (i ≡ 62 + e → ⊥) → get_or (cond b (set R (62 + e) x) R) i (o.known false) ≡ get_or R i (o.known false)

@@ -8,7 +8,7 @@ use Rattle.ladder_grid.specs.declared.gates.Gate.{Gate}
 use Rattle.ladder_grid.specs.declared.gates.Action.{Action}
 use Rattle.ladder_grid.specs.declared.gates.Leap.{Leap}
 use Rattle.ladder_grid.specs.declared.gates.Literal.{Literal}
-use Rattle.ladder_grid.specs.declared.gates.Literal.TheVariants.{On, Is, Not, Other}
+use Rattle.ladder_grid.specs.declared.gates.Literal.TheVariants.{Is, Not, Other}
 use Rattle.ladder_grid.specs.Program.{Drawing, block_in, is_block}
 use Rattle.ladder_grid.specs.Gates.{left_of, below_of}
 use Rattle.ladder_scan.specs.Algebra.{Algebra}
@@ -34,13 +34,11 @@ own o d k now f c x y = if is_block c then q_here o d k now c x y else o.meet x 
 
 -- The same by the literal of its gate.
 abbrev pub through : {S : Type 0} → Algebra S → Diagram → Kept → ℕ → Frame S → Literal → Cell → S → S → S
-through o d k now f On c x y = x
 through o d k now f (Is var) c x y = o.meet x (get_or f.values var (o.known false))
 through o d k now f (Not var) c x y = o.meet x (o.inverse (get_or f.values var (o.known false)))
 through o d k now f Other c x y = own o d k now f c x y
 
 abbrev pub is_other : Literal → Bool
-is_other On = false
 is_other (Is var) = false
 is_other (Not var) = false
 is_other Other = true

@@ -30,17 +30,18 @@ fn stored_by<S: Signal>(mode: CoilMode, link: S, memory: S, old: S) -> S
     }
 }
 
-/// What one action writes, over any signal, under the guard of its rung.
-fn effect<S: Signal>(
+/// What one action writes, over any signal, under the guard of its rung. Out of line; see `effect`.
+#[inline(never)]
+fn any_effect<S: Signal>(
     storage: &Storage,
     guard: S,
     links: &[S],
-    action: Action,
+    action: &Action,
     seen: &mut Signals<S>,
 )
-    requires action { IsPlaced action }
+    requires action { IsPlaced action.now }
     requires links { length links.now ≡ LINKS }
-    ensures { seen.new ≡ acted S.algebra storage.now.kept guard links.now action seen.old }
+    ensures { seen.new ≡ acted S.algebra storage.now.kept guard links.now action.now seen.old }
 {
     match action.cell {
         Cell::Coil { mode, var, .. } => {
@@ -60,6 +61,38 @@ fn effect<S: Signal>(
         | Cell::Lower { .. }
         | Cell::Jump { .. }
         | Cell::Return => {}
+    }
+}
+
+/// What one action writes: most are plain coils.
+fn effect<S: Signal>(
+    storage: &Storage,
+    guard: S,
+    links: &[S],
+    action: &Action,
+    seen: &mut Signals<S>,
+)
+    requires action { IsPlaced action.now }
+    requires links { length links.now ≡ LINKS }
+    ensures { seen.new ≡ acted S.algebra storage.now.kept guard links.now action.now seen.old }
+{
+    match action.cell {
+        Cell::Coil {
+            mode: CoilMode::Store,
+            var,
+            ..
+        } => {
+            let old = seen.value(var);
+            seen.put_value(var, S::choose(guard, links[action.left as usize], old));
+        }
+        Cell::Coil { .. }
+        | Cell::Block { .. }
+        | Cell::Empty
+        | Cell::Wire
+        | Cell::Contact { .. }
+        | Cell::Lower { .. }
+        | Cell::Jump { .. }
+        | Cell::Return => any_effect(storage, guard, links, action, seen),
     }
 }
 
@@ -120,7 +153,7 @@ pub(crate) fn effects<S: Signal>(
         (actions_of scene.entry.program.now scene.entry.rung) seen.old }
 {
     for action in scene.program.actions(scene.rung) {
-        effect(storage, guard, links, *action, seen);
+        effect(storage, guard, links, action, seen);
     }
 }
 

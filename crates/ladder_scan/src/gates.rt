@@ -1,13 +1,13 @@
 //! Power flow in a rung: its gates give the links, one after the other.
 
-ghost use Rattle.std.specs.Prelude.{◌≡◌, ◌<◌, ◌≤◌, ◌+◌, length, slice_index_or, false, true, All};
+ghost use Rattle.std.specs.Prelude.{◌≡◌, ◌<◌, ◌≤◌, ◌+◌, length, slice_index_or, slice_set, false, true, All};
 ghost use Rattle.ladder_vars.specs.Kind.{largest_preset};
 ghost use Rattle.ladder_grid.specs.declared.geometry.TheConstants.{PLACES};
 ghost use Rattle.ladder_grid.specs.declared.gates.TheConstants.{ON, OFF, OWN, LINKS};
 ghost use Rattle.ladder_grid.specs.Gates.{gates_of};
 ghost use Rattle.ladder_scan.specs.Cells.{closed, contact, q_from, q_after};
 ghost use Rattle.ladder_scan.specs.Programs.{diagram_of, IsSound};
-ghost use Rattle.ladder_scan.specs.Gating.{among, own, let_through, kept_by, passed, ran, IsInside, AreLinks, AreValues};
+ghost use Rattle.ladder_scan.specs.Gating.{among, own, passed, ran, IsInside, AreLinks, AreValues};
 
 use crate::block::{Stored, has_second, step};
 use crate::scene::{Scene, cell, instance};
@@ -90,28 +90,21 @@ fn q_from<S: Signal>(
     }
 }
 
-/// What the cell of a gate lets through by itself.
-#[inline(never)]
-fn own<S: Signal>(
+/// What a cell lets through by itself, by its left link and its second input.
+fn through_cell<S: Signal>(
     scene: Scene<'_>,
     storage: &Storage,
     seen: &Signals<S>,
-    links: &[S],
-    gate: Gate,
+    cell: Cell,
+    left: S,
+    below: S,
 ) -> S
-    requires rung { scene.rung < scene.program.now.rungs }
-    requires gate { IsInside gate }
-    requires links { length links.now ≡ LINKS }
     requires program { IsSound (diagram_of scene.program.now) }
-    ensures { result ≡ own S.algebra (diagram_of scene.entry.program.now) storage.now.kept scene.entry.now seen.now
-        ((diagram_of scene.entry.program.now).cell scene.entry.rung gate.place) (among S.algebra links.now gate.left) (among S.algebra links.now gate.below) }
+    ensures { result ≡ own S.algebra (diagram_of scene.entry.program.now) storage.now.kept scene.entry.now seen.now cell left below }
 {
-    let cell = cell(scene.program, scene.rung, gate.place as usize);
-    let left = links[gate.left as usize];
     match cell {
         Cell::Block { inst } => {
             let (kind, preset) = instance(scene.program, inst);
-            let below = links[gate.below as usize];
             q_from(kind, preset, storage.stored(inst), scene.now, left, below)
         }
         Cell::Empty
@@ -124,41 +117,29 @@ fn own<S: Signal>(
     }
 }
 
-/// What a gate lets through, by the links before it.
-fn let_through<S: Signal>(
+/// What a gate lets through as its cell says; it is kept, since the Q of a block is read again. Out of line, for it is rare.
+#[inline(never)]
+fn own<S: Signal>(
     scene: Scene<'_>,
     storage: &Storage,
     seen: &Signals<S>,
-    links: &[S],
-    gate: Gate,
+    gate: &Gate,
+    links: &mut [S],
 ) -> S
     requires rung { scene.rung < scene.program.now.rungs }
-    requires gate { IsInside gate }
-    requires links { length links.now ≡ LINKS }
-    requires program { IsSound (diagram_of scene.program.now) }
-    ensures { result ≡ let_through S.algebra (diagram_of scene.entry.program.now) storage.now.kept scene.entry.now scene.entry.rung
-        seen.now links.now gate }
-{
-    match gate.literal {
-        Literal::On => links[gate.left as usize],
-        Literal::Is(var) => links[gate.left as usize].and(seen.value(var as usize)),
-        Literal::Not(var) => links[gate.left as usize].and(seen.value(var as usize).not()),
-        Literal::Other => own(scene, storage, seen, links, gate),
-    }
-}
-
-/// What a cell lets through by itself is kept where the gate does not give it, as the Q of a block is read again.
-fn keep<S: Signal>(links: &mut [S], gate: Gate, through: S)
-    requires gate { IsInside gate }
+    requires gate { IsInside gate.now }
     requires links { length links.old ≡ LINKS }
-    ensures { links.new ≡ kept_by S.algebra links.old gate through }
+    requires program { IsSound (diagram_of scene.program.now) }
+    ensures through { result ≡ own S.algebra (diagram_of scene.entry.program.now) storage.now.kept scene.entry.now seen.now
+        ((diagram_of scene.entry.program.now).cell scene.entry.rung gate.now.place) (among S.algebra links.old gate.now.left) (among S.algebra links.old gate.now.below) }
+    ensures kept { links.new ≡ slice_set links.old (OWN + gate.now.place) result }
 {
-    let other = links[gate.other as usize];
-    match gate.literal {
-        Literal::Other => links[OWN + gate.place as usize] = through,
-        Literal::On | Literal::Is(_) | Literal::Not(_) => {}
-    }
-    links[gate.place as usize] = through.or(other);
+    let cell = cell(scene.program, scene.rung, gate.place as usize);
+    let left = links[gate.left as usize];
+    let below = links[gate.below as usize];
+    let through = through_cell(scene, storage, seen, cell, left, below);
+    links[OWN + gate.place as usize] = through;
+    through
 }
 
 /// The links after one gate.
@@ -166,18 +147,23 @@ fn pass<S: Signal>(
     scene: Scene<'_>,
     storage: &Storage,
     seen: &Signals<S>,
-    gate: Gate,
+    gate: &Gate,
     links: &mut [S],
 )
     requires rung { scene.rung < scene.program.now.rungs }
-    requires gate { IsInside gate }
+    requires gate { IsInside gate.now }
     requires links { length links.old ≡ LINKS }
     requires program { IsSound (diagram_of scene.program.now) }
     ensures { links.new ≡ passed S.algebra (diagram_of scene.entry.program.now) storage.now.kept scene.entry.now scene.entry.rung
-        seen.now links.old gate }
+        seen.now links.old gate.now }
 {
-    let through = let_through(scene, storage, seen, links, gate);
-    keep(links, gate, through);
+    let other = links[gate.other as usize];
+    let through = match gate.literal {
+        Literal::Is(var) => links[gate.left as usize].and(seen.value(var as usize)),
+        Literal::Not(var) => links[gate.left as usize].and(seen.value(var as usize).not()),
+        Literal::Other => own(scene, storage, seen, gate, links),
+    };
+    links[gate.place as usize] = through.or(other);
 }
 
 /// The links after the gates of a rung.
@@ -191,7 +177,7 @@ fn run<S: Signal>(scene: Scene<'_>, storage: &Storage, seen: &Signals<S>, links:
         seen.now (gates_of scene.entry.program.now scene.entry.rung) links.old }
 {
     for gate in scene.program.gates(scene.rung) {
-        pass(scene, storage, seen, *gate, links);
+        pass(scene, storage, seen, gate, links);
     }
 }
 

@@ -1,8 +1,8 @@
 //! One scan of a program over a signal, which leaves the state as it is.
 
-ghost use Rattle.std.specs.Prelude.{◌≡◌, ◌+◌, ◌-◌, ◌^◌, ◌<◌, ◌≤◌, ◌↔◌, ℕ, min, length, map, All, IfOk, IsTrue, slice_get, Some, slice_index_or, false, true, nat_lt, ◌&&◌, if◌then◌else◌};
+ghost use Rattle.std.specs.Prelude.{◌≡◌, ◌+◌, ◌-◌, ◌^◌, ◌<◌, ◌≤◌, ◌↔◌, ℕ, min, length, map, All, IfOk, IsTrue, slice_get, Some, slice_index_or, false, true, [], nat_lt, ◌&&◌, if◌then◌else◌};
 ghost use Rattle.ladder_grid.specs.declared.gates.TheConstants.{LINKS};
-ghost use Rattle.ladder_grid.specs.Gates.{left_of};
+ghost use Rattle.ladder_grid.specs.Gates.{left_of, leaps_below};
 ghost use Rattle.ladder_scan.specs.SignalScan.{passes_over, guard_of, taken_by, look_frame, looked, after_look};
 ghost use Rattle.ladder_scan.specs.Rung.{SameSizes};
 ghost use Rattle.ladder_scan.specs.Programs.{diagram_of, IsSound};
@@ -162,7 +162,59 @@ fn begin<S: Signal>(program: &Program, storage: &Storage, inputs: &[S], seen: &m
     seen.give(program.decls(), inputs);
 }
 
+/// Evaluates each rung of a program that has no jumps.
+#[inline(never)]
+fn look_straight<S: Signal>(
+    program: &Program,
+    storage: &Storage,
+    now: u64,
+    seen: &mut Signals<S>,
+    links: &mut [S],
+)
+    requires program { IsSound (diagram_of program.now) }
+    requires straight { leaps_below program.now program.now.rungs ≡ [] }
+    requires values { AreValues S.algebra S.value seen.old }
+    requires links { length links.old ≡ LINKS }
+    ensures frame { seen.new ≡ (looked S.algebra (diagram_of program.now) storage.now.kept now seen.old program.now.rungs).frame }
+    ensures links { length links.new ≡ LINKS }
+{
+    for rung in 0..program.rungs() {
+        let scene = Scene { program, now, rung };
+        find_links(scene, storage, seen, links);
+        effects(scene, storage, S::known(true), links, seen);
+    }
+}
+
 /// Evaluates each rung under its guard.
+#[inline(never)]
+fn look_jumping<S: Signal>(
+    program: &Program,
+    storage: &Storage,
+    now: u64,
+    seen: &mut Signals<S>,
+    taken: &mut [S],
+    links: &mut [S],
+)
+    requires program { IsSound (diagram_of program.now) }
+    requires values { AreValues S.algebra S.value seen.old }
+    requires taken { length taken.old ≡ program.now.rungs }
+    requires links { length links.old ≡ LINKS }
+    ensures frame { seen.new ≡ (looked S.algebra (diagram_of program.now) storage.now.kept now seen.old program.now.rungs).frame }
+    ensures links { length links.new ≡ LINKS }
+{
+    // the furthest target of the jumps so far: from there on no rung is passed over, and its guard is ON
+    let mut reach = 0;
+    for rung in 0..program.rungs() {
+        let scene = Scene { program, now, rung };
+        let guard = guard(program, &taken[..rung], rung, reach);
+        find_links(scene, storage, seen, links);
+        taken[rung] = taken_by(program, rung, guard, links);
+        effects(scene, storage, guard, links, seen);
+        reach = further(program, rung, reach);
+    }
+}
+
+/// Evaluates each rung.
 fn look_rungs<S: Signal>(
     program: &Program,
     storage: &Storage,
@@ -177,15 +229,10 @@ fn look_rungs<S: Signal>(
     requires links { length links.old ≡ LINKS }
     ensures { seen.new ≡ (looked S.algebra (diagram_of program.now) storage.now.kept now seen.old program.now.rungs).frame }
 {
-    // the furthest target of the jumps so far: from there on no rung is passed over, and its guard is ON
-    let mut reach = 0;
-    for rung in 0..program.rungs() {
-        let scene = Scene { program, now, rung };
-        let guard = guard(program, &taken[..rung], rung, reach);
-        find_links(scene, storage, seen, links);
-        taken[rung] = taken_by(program, rung, guard, links);
-        effects(scene, storage, guard, links, seen);
-        reach = further(program, rung, reach);
+    if program.leaps().is_empty() {
+        look_straight(program, storage, now, seen, links);
+    } else {
+        look_jumping(program, storage, now, seen, taken, links);
     }
 }
 

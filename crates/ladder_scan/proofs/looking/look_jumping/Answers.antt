@@ -6,7 +6,7 @@ use Rattle.ladder_scan.specs.Gating.{AreValues}
 use Rattle.ladder_scan.proofs.Acting.{places, rung_along}
 use Rattle.ladder_scan.proofs.Values.{looked_values}
 use Rattle.ladder_scan.proofs.Looks.{looked_frame, looked_taken, taken_same, reach_more}
-use Rattle.ladder_scan.proofs.looking.look_rungs.Goals as goal
+use Rattle.ladder_scan.proofs.looking.look_jumping.Goals as goal
 
 pub find_links-requires-clause-values : goal.find_links-requires-clause-values
 find_links-requires-clause-values g c =

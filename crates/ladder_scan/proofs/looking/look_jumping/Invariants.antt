@@ -1,7 +1,7 @@
 use Rattle.std.proofs.Common.{◌≡◌, length, ◌<◌, ◌≤◌, ℕ, take, false}
 use Rattle.ladder_scan.specs.SignalScan.{looked, passes_over}
 use Rattle.ladder_scan.specs.Programs.{diagram_of}
-use Rattle.ladder_scan.proofs.looking.look_rungs.Given as goal
+use Rattle.ladder_scan.proofs.looking.look_jumping.Given as goal
 
 abbrev pub invariant-loop-rung : goal.invariant-loop-rung
 invariant-loop-rung g l =
