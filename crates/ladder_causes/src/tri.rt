@@ -7,12 +7,14 @@ ghost use Rattle.ladder_causes.specs.ThreeLaws.{three_allowed, three_lattice};
 use ladder_scan::Signal;
 
 /// What is known of a truth value. An input whose bit a prefix leaves open is `Unsure`, and so is what may come out either way.
+///
+/// In this order AND is the lesser and OR the greater, found without a branch.
 #[derive(Clone, Copy, Debug, PartialEq, Eq)]
 pub enum Tri {
     Off,
-    On,
     /// OPEN: it allows both.
     Unsure,
+    On,
 }
 
 impl Signal for Tri {
@@ -33,18 +35,18 @@ impl Signal for Tri {
     }
 
     fn or(self, other: Tri) -> Tri {
-        match (self, other) {
-            (Tri::On, _) | (_, Tri::On) => Tri::On,
-            (Tri::Off, Tri::Off) => Tri::Off,
-            (Tri::Unsure, Tri::Off | Tri::Unsure) | (Tri::Off, Tri::Unsure) => Tri::Unsure,
+        if (self as u8) < (other as u8) {
+            other
+        } else {
+            self
         }
     }
 
     fn and(self, other: Tri) -> Tri {
-        match (self, other) {
-            (Tri::Off, _) | (_, Tri::Off) => Tri::Off,
-            (Tri::On, Tri::On) => Tri::On,
-            (Tri::Unsure, Tri::On | Tri::Unsure) | (Tri::On, Tri::Unsure) => Tri::Unsure,
+        if (other as u8) < (self as u8) {
+            other
+        } else {
+            self
         }
     }
 
@@ -73,9 +75,5 @@ impl Signal for Tri {
 fn agree(on: Tri, off: Tri) -> Tri
     ensures { result ≡ three_agree on off }
 {
-    match (on, off) {
-        (Tri::On, Tri::On) => Tri::On,
-        (Tri::Off, Tri::Off) => Tri::Off,
-        (Tri::On | Tri::Off | Tri::Unsure, _) => Tri::Unsure,
-    }
+    if on == off { on } else { Tri::Unsure }
 }

@@ -4,44 +4,41 @@ use crate::scans::{MOTOR, program};
 use ladder_grid::{Cell, CoilMode, Joint, Mode, Operand};
 use ladder_scan::Memory;
 
+/// A contact on a variable that keeps no memory.
+fn contact(mode: Mode, var: usize) -> Cell {
+    Cell::Contact {
+        mode,
+        operand: Operand::Var(var),
+        memory: None,
+    }
+}
+
 #[test]
-fn the_program_is_the_drawing(rt: HostRuntime) -> Result<(), Memory> {
+fn cells_and_coils(rt: HostRuntime) -> Result<(), Memory> {
     let program = program(rt.alloc(), MOTOR)?;
     assert_eq!(rt; program.rungs(), 1);
     if program.rungs() == 1 {
-        assert_eq!(rt;
-            program.cell(0, 0, 0),
-            Cell::Contact {
-                mode: Mode::Plain,
-                operand: Operand::Var(0),
-                memory: None
-            }
-        );
-        assert_eq!(rt;
-            program.cell(0, 0, 1),
-            Cell::Contact {
-                mode: Mode::Negated,
-                operand: Operand::Var(1),
-                memory: None
-            }
-        );
-        assert_eq!(rt;
-            program.cell(0, 0, 2),
-            Cell::Coil {
-                mode: CoilMode::Store,
-                var: 2,
-                memory: None
-            }
-        );
-        assert_eq!(rt;
-            program.cell(0, 1, 0),
-            Cell::Contact {
-                mode: Mode::Plain,
-                operand: Operand::Var(2),
-                memory: None
-            }
-        );
+        assert_eq!(rt; program.cell(0, 0, 0), contact(Mode::Plain, 0));
+        assert_eq!(rt; program.cell(0, 0, 1), contact(Mode::Negated, 1));
+        let coil = Cell::Coil {
+            mode: CoilMode::Store,
+            var: 2,
+            memory: None,
+        };
+        assert_eq!(rt; program.cell(0, 0, 2), coil);
+        assert_eq!(rt; program.cell(0, 1, 0), contact(Mode::Plain, 2));
         assert_eq!(rt; program.cell(0, 1, 1), Cell::Empty);
+    }
+    assert_eq!(rt; program.memories(), 0);
+    assert_eq!(rt; program.has_coil(2), true);
+    assert_eq!(rt; program.has_coil(0), false);
+    Ok(())
+}
+
+#[test]
+fn joints_links_and_steps(rt: HostRuntime) -> Result<(), Memory> {
+    let program = program(rt.alloc(), MOTOR)?;
+    if program.rungs() == 1 {
         assert_eq!(rt; program.joint(0, 0, 1), Joint::Plus);
         assert_eq!(rt; program.joint(0, 0, 2), Joint::Dash);
         assert_eq!(rt; program.joint(0, 1, 2), Joint::Blank);
@@ -49,9 +46,6 @@ fn the_program_is_the_drawing(rt: HostRuntime) -> Result<(), Memory> {
         assert_eq!(rt; program.vertical(0, 1, 1), false);
         assert_eq!(rt; program.right_link(0, 1, 0), true);
         assert_eq!(rt; program.jump(0), None);
-        assert_eq!(rt; program.memories(), 0);
-        assert_eq!(rt; program.has_coil(2), true);
-        assert_eq!(rt; program.has_coil(0), false);
         let steps = program.steps(0);
         assert_eq!(rt; steps.len(), 4);
         let places: [(usize, usize, u8); 4] = [(0, 0, 0), (1, 0, 0), (0, 1, 3), (0, 2, 1)];

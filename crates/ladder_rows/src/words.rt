@@ -148,43 +148,21 @@ fn a_request_has_its_words(rt: HostRuntime) -> Result<(), AllocError> {
 }
 
 #[test]
-fn wrong_words_are_refused(rt: HostRuntime) -> Result<(), AllocError> {
-    let table: [&[&str]; 9] = [
-        &["ladder"],
-        &["ladder", "sim", "motor.ld"],
-        &["ladder", "sim", "--save", "motor.ld", "st.csv"],
-        &["ladder", "uses", "motor.ld", "motor.ld"],
-        &["ladder", "causes"],
-        &["ladder", "causes", "motor.ld"],
-        &["ladder", "causes", "--at", "-5", "motor.ld", "Motor"],
-        &["ladder", "Causes", "motor.ld", "Motor"],
-        &["ladder", "causes", "--", "motor.ld"],
+fn words_that_are_no_request(rt: HostRuntime) -> Result<(), AllocError> {
+    // with each, whether the answer is a text of help
+    let table: [(&[&str], bool); 4] = [
+        (&["ladder"], false),
+        (&["ladder", "causes", "--", "motor.ld"], false),
+        (&["ladder", "help"], true),
+        (&["ladder", "causes", "-h"], true),
     ];
-    for words in table {
-        let read = read_words(rt.alloc(), strings(rt.alloc(), words)?);
-        assert!(rt;
-            matches!(read, Err(WordFault::Usage)),
-            "{} words",
-            words.len()
-        );
-    }
-    Ok(())
-}
-
-#[test]
-fn help_is_a_text(rt: HostRuntime) -> Result<(), AllocError> {
-    let table: [&[&str]; 3] = [
-        &["ladder", "--help"],
-        &["ladder", "help"],
-        &["ladder", "causes", "-h"],
-    ];
-    for words in table {
-        let read = read_words(rt.alloc(), strings(rt.alloc(), words)?);
-        let helps = match &read {
+    for (number, (words, helps)) in table.iter().enumerate() {
+        let fits = match &read_words(rt.alloc(), strings(rt.alloc(), words)?) {
             Ok(_) => false,
-            Err(fault) => is_help(fault),
+            Err(WordFault::Usage) => !*helps,
+            Err(fault) => *helps && is_help(fault),
         };
-        assert!(rt; helps, "{} words", words.len());
+        assert!(rt; fits, "in row {number}");
     }
     Ok(())
 }

@@ -119,19 +119,8 @@ refusal_of a q = refusal q.program q.state.moment q.moment q.var q.listed a.afte
 abbrev pub causes_for : Asking → Subject → List ℕ
 causes_for a q = limited a.limit (causes_after a.after (question_of q))
 
--- how many looks the search for them makes
-abbrev pub looks_for : Asking → Subject → ℕ
-looks_for a q = looks_given (search_of (question_of q) (first_number a.after)) 0 a.limit (causes_after a.after (question_of q))
-
 abbrev pub list_text : Asking → Subject → List ℕ
 list_text a q = cause_text q.program q.listed (causes_for a q)
-
--- `rows R looks L`
-abbrev pub rows_line : ℕ → ℕ → List ℕ
-rows_line rows looks = codes "rows " ++ (decimal rows ++ (codes " looks " ++ (decimal looks ++ codes "\n")))
-
-abbrev pub rows_text : Asking → Subject → List ℕ
-rows_text a q = rows_line (length (causes_for a q)) (looks_for a q)
 
 -- The question breaks this rule first; being out of memory has no reason in it.
 abbrev pub HasCauseFault : Asking → Subject → CauseFault → Type 0
@@ -160,25 +149,47 @@ HasListFault g a fault.Write = ⊥
 HasListFault g a fault.Memory = Unit {0}
 HasListFault g a fault.Usage = ⊥
 
--- Status 0: the text of the causes was written, and the line of rows and looks.
-pub record ListsCauses (g : Given) (a : Asking) (out out' err err' : WriteLog) : Type 0 where
+-- The text of the causes was written: all rows that are asked for, and no other.
+pub record ListsCauses (g : Given) (a : Asking) (out out' : WriteLog) : Type 0 where
   pub subject : Subject
   pub asked : IsAsked g a subject
   pub accepted : refusal_of a subject ≡ None
   pub rows : PutsAll out out' (list_text a subject)
-  pub count : PutsAll err err' (rows_text a subject)
 
--- Status 1, by a writer that failed: `out`, and then X6 on `err`; or `err`.
+-- Status 1: `out` failed at that text, and X6 is on `err`.
 pub record BreaksList (g : Given) (a : Asking) (out out' err err' : WriteLog) : Type 0 where
   pub subject : Subject
   pub asked : IsAsked g a subject
   pub accepted : refusal_of a subject ≡ None
-  pub written :
-      (PutsFront out out' (list_text a subject) × IsReported err err' fault.Write)
-      ⊎ (PutsAll out out' (list_text a subject) × PutsFront err err' (rows_text a subject))
+  pub rows : PutsFront out out' (list_text a subject)
+  pub reported : IsReported err err' fault.Write
+
+-- ---- the count of a list's rows and of the looks for them
+
+-- how many looks the search for the listed causes makes
+abbrev pub looks_for : Asking → Subject → ℕ
+looks_for a q = looks_given (search_of (question_of q) (first_number a.after)) 0 a.limit (causes_after a.after (question_of q))
+
+-- `rows R looks L`
+abbrev pub rows_line : ℕ → ℕ → List ℕ
+rows_line rows looks = codes "rows " ++ (decimal rows ++ (codes " looks " ++ (decimal looks ++ codes "\n")))
+
+abbrev pub rows_text : Asking → Subject → List ℕ
+rows_text a q = rows_line (length (causes_for a q)) (looks_for a q)
+
+-- Status 0: the rows were listed, and then counted with the looks for them.
+pub record CountsList (g : Given) (a : Asking) (out out' err err' : WriteLog) : Type 0 where
+  pub list : ListsCauses g a out out'
+  pub count : PutsAll err err' (rows_text a list.subject)
+
+-- Status 1: the rows were listed, and then `err` failed.
+pub record BreaksCount (g : Given) (a : Asking) (out out' err err' : WriteLog) : Type 0 where
+  pub list : ListsCauses g a out out'
+  pub count : PutsFront err err' (rows_text a list.subject)
 
 abbrev pub FailsList : Given → Asking → WriteLog → WriteLog → WriteLog → WriteLog → Type 0
-FailsList g a out out' err err' = Refuses (HasListFault g a) out out' err err' ⊎ BreaksList g a out out' err err'
+FailsList g a out out' err err' =
+    Refuses (HasListFault g a) out out' err err' ⊎ (BreaksList g a out out' err err' ⊎ BreaksCount g a out out' err err')
 
 -- ---- a simulation
 
@@ -238,7 +249,7 @@ asking moment after limit coil inputs = record { moment = moment; after = after;
 abbrev pub IsDone : Request → Given → Logs → Logs → Type 0
 IsDone (Check file) g old new = Prints check_line g.program old.out new.out old.err new.err × (new.save ≡ old.save)
 IsDone (Causes state moment after limit file coil inputs) g old new =
-    ListsCauses g (asking moment after limit (string_bytes coil) (map string_bytes inputs.items)) old.out new.out old.err new.err × (new.save ≡ old.save)
+    CountsList g (asking moment after limit (string_bytes coil) (map string_bytes inputs.items)) old.out new.out old.err new.err × (new.save ≡ old.save)
 IsDone (Sim state save file stimulus) g old new = IsTraced g (is_some save) old new
 IsDone (Uses file) g old new = Prints uses_text g.program old.out new.out old.err new.err × (new.save ≡ old.save)
 

@@ -2,7 +2,7 @@
 ghost use Rattle.std.specs.Prelude.{◌≡◌, ◌≤◌, ◌⊎◌, map, string_bytes, unwrap_or};
 ghost use Rattle.ladder_text.specs.Log.{Puts};
 ghost use Rattle.ladder_tool.specs.Asked.{asking_of};
-ghost use Rattle.ladder_tool.specs.Performs.{FailsList, ListsCauses, rows_line};
+ghost use Rattle.ladder_tool.specs.Performs.{CountsList, FailsList, rows_line};
 ghost use Rattle.ladder_tool.specs.Setting.{given_by};
 
 use super::fault::ToolFault;
@@ -54,7 +54,7 @@ pub(crate) fn list_causes<O: Sink, E: Sink>(
     err: &mut E,
 ) -> u8
     ensures status { result ≤ 1 }
-    ensures done { result ≡ 0 → ListsCauses (given_by texts.now) (asking_of asking.entry) (O.log out.old) (O.log out.new) (E.log err.old) (E.log err.new) }
+    ensures done { result ≡ 0 → CountsList (given_by texts.now) (asking_of asking.entry) (O.log out.old) (O.log out.new) (E.log err.old) (E.log err.new) }
     ensures failed { result ≡ 1 → FailsList (given_by texts.now) (asking_of asking.entry) (O.log out.old) (O.log out.new) (E.log err.old) (E.log err.new) }
 {
     let setting = match read_setting(alloc, texts) {

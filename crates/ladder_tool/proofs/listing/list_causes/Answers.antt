@@ -50,12 +50,13 @@ returns-in_default-clause-failed g c = λ status.
     let at = c.moment-2.ensures ∙ ap (unwrap_or a.moment) c.moment.ensures in
     let q = subject s.program s.state c.moment-2.result asked.asked.coil c.deref.result.now in
     let made = c.in-Ok-new.ensures in
-    inr (record {
+    inr (inl (record {
       subject = q;
       asked = asked_by (given_by c.args.texts.now) a s.program s.state c.decls-decls.result.now c.moment-2.result asked.asked.coil asked.asked.inputs.items c.deref.result.now c.in-Ok.ensures.set c.decls-decls.ensures c.deref.ensures.value at asked.ensures.coil asked.ensures.inputs;
       accepted = made.accepted;
-      written = inl (front_same _ _ _ _ (text_is a q c.in-Ok-new.cursor made.program made.listed made.rest) c.in_default.ensures.bytes, c.report-in_default.ensures.line);
-    })
+      rows = front_same _ _ _ _ (text_is a q c.in-Ok-new.cursor made.program made.listed made.rest) c.in_default.ensures.bytes;
+      reported = c.report-in_default.ensures.line;
+    }))
 
 pub returns-in_default-put_rows-clause-failed : goal.returns-in_default-put_rows-clause-failed
 returns-in_default-put_rows-clause-failed g c = λ status.
@@ -66,15 +67,15 @@ returns-in_default-put_rows-clause-failed g c = λ status.
     let q = subject s.program s.state c.moment-2.result asked.asked.coil c.deref.result.now in
     let made = c.in-Ok-new.ensures in
     let w = c.in-Ok-write_causes in
-    inr (record {
-      subject = q;
-      asked = asked_by (given_by c.args.texts.now) a s.program s.state c.decls-decls.result.now c.moment-2.result asked.asked.coil asked.asked.inputs.items c.deref.result.now c.in-Ok.ensures.set c.decls-decls.ensures c.deref.ensures.value at asked.ensures.coil asked.ensures.inputs;
-      accepted = made.accepted;
-      written = inr (
-        all_same _ _ _ _ (text_is a q c.in-Ok-new.cursor made.program made.listed made.rest) w.ensures.bytes,
-        front_same _ _ _ _ (line_is a q c.in-Ok-new.cursor made.program made.listed made.rest w.summary.rows w.summary.looks made.search made.looks w.ensures.rows (w.ensures.looks ∙ w.ensures.counted)) c.in_default-put_rows.ensures,
-      );
-    })
+    inr (inr (record {
+      list = record {
+        subject = q;
+        asked = asked_by (given_by c.args.texts.now) a s.program s.state c.decls-decls.result.now c.moment-2.result asked.asked.coil asked.asked.inputs.items c.deref.result.now c.in-Ok.ensures.set c.decls-decls.ensures c.deref.ensures.value at asked.ensures.coil asked.ensures.inputs;
+        accepted = made.accepted;
+        rows = all_same _ _ _ _ (text_is a q c.in-Ok-new.cursor made.program made.listed made.rest) w.ensures.bytes;
+      };
+      count = front_same _ _ _ _ (line_is a q c.in-Ok-new.cursor made.program made.listed made.rest w.summary.rows w.summary.looks made.search made.looks w.ensures.rows (w.ensures.looks ∙ w.ensures.counted)) c.in_default-put_rows.ensures;
+    }))
 
 pub returns-clause-done : goal.returns-clause-done
 returns-clause-done g c = λ status.
@@ -86,9 +87,11 @@ returns-clause-done g c = λ status.
     let made = c.in-Ok-new.ensures in
     let w = c.in-Ok-write_causes in
     record {
-      subject = q;
-      asked = asked_by (given_by c.args.texts.now) a s.program s.state c.decls-decls.result.now c.moment-2.result asked.asked.coil asked.asked.inputs.items c.deref.result.now c.in-Ok.ensures.set c.decls-decls.ensures c.deref.ensures.value at asked.ensures.coil asked.ensures.inputs;
-      accepted = made.accepted;
-      rows = all_same _ _ _ _ (text_is a q c.in-Ok-new.cursor made.program made.listed made.rest) w.ensures.bytes;
+      list = record {
+        subject = q;
+        asked = asked_by (given_by c.args.texts.now) a s.program s.state c.decls-decls.result.now c.moment-2.result asked.asked.coil asked.asked.inputs.items c.deref.result.now c.in-Ok.ensures.set c.decls-decls.ensures c.deref.ensures.value at asked.ensures.coil asked.ensures.inputs;
+        accepted = made.accepted;
+        rows = all_same _ _ _ _ (text_is a q c.in-Ok-new.cursor made.program made.listed made.rest) w.ensures.bytes;
+      };
       count = all_same _ _ _ _ (line_is a q c.in-Ok-new.cursor made.program made.listed made.rest w.summary.rows w.summary.looks made.search made.looks w.ensures.rows (w.ensures.looks ∙ w.ensures.counted)) c.in-Ok-put_rows.ensures;
     }
