@@ -10,21 +10,21 @@ use Rattle.ladder_scan.specs.Algebra.{Algebra}
 use Rattle.ladder_scan.specs.Scan.{rung_after}
 use Rattle.ladder_scan.specs.SignalScan.{meet_where, passes_over, guard_of, taken_by}
 use Rattle.ladder_scan.specs.Programs.{placed, diagram_of}
-use Rattle.ladder_scan.specs.Gating.{among, guard_by}
+use Rattle.ladder_scan.specs.Gating.{among, guard_by, taken_by_exit}
 
 -- ---- the jump of a rung
 some_same : {A : Type 0} (a b : A) → Some a ≡ Some b → a ≡ b
 some_same a b h = cc
 
-taken_by_exit : {S : Type 0} (o : Algebra S) (p : Drawing) (j : ℕ) (guard : S) (links : ℕ → S) (jump : Option (ℕ × ℕ × ℕ)) (exit : Exit) → exit_by p j jump ≡ Some exit
+by_exit : {S : Type 0} (o : Algebra S) (p : Drawing) (j : ℕ) (guard : S) (links : ℕ → S) (jump : Option (ℕ × ℕ × ℕ)) (exit : Exit) → exit_by p j jump ≡ Some exit
     → o.meet guard (links exit.left) ≡ taken_by o (placed jump) guard (λ place. links (left_of p j place))
-taken_by_exit o p j guard links None exit h = cc
-taken_by_exit o p j guard links (Some (row, column, target)) exit h = ap (λ (e : Exit). o.meet guard (links e.left)) (sym (some_same _ exit h))
+by_exit o p j guard links None exit h = cc
+by_exit o p j guard links (Some (row, column, target)) exit h = ap (λ (e : Exit). o.meet guard (links e.left)) (sym (some_same _ exit h))
 
-taken_by_none : {S : Type 0} (o : Algebra S) (p : Drawing) (j : ℕ) (guard : S) (links : ℕ → S) (jump : Option (ℕ × ℕ × ℕ)) → exit_by p j jump ≡ None
+by_none : {S : Type 0} (o : Algebra S) (p : Drawing) (j : ℕ) (guard : S) (links : ℕ → S) (jump : Option (ℕ × ℕ × ℕ)) → exit_by p j jump ≡ None
     → o.known false ≡ taken_by o (placed jump) guard (λ place. links (left_of p j place))
-taken_by_none o p j guard links None h = refl
-taken_by_none o p j guard links (Some (row, column, target)) h = cc
+by_none o p j guard links None h = refl
+by_none o p j guard links (Some (row, column, target)) h = cc
 
 after_by_exit : (p : Drawing) (j : ℕ) (links : ℕ → Bool) (jump : Option (ℕ × ℕ × ℕ)) (exit : Exit) → exit_by p j jump ≡ Some exit
     → cond (links exit.left) exit.target (j + 1) ≡ rung_after j (placed jump) (λ place. links (left_of p j place))
@@ -53,12 +53,12 @@ module _ (p : Drawing) (j : ℕ) where
   pub taken_exit : {S : Type 0} (o : Algebra S) (guard : S) (links : ℕ → S) (exit : Exit) → exit_of p j ≡ Some exit
       → o.meet guard (links exit.left) ≡ taken_by o ((diagram_of p).jump j) guard (λ place. links (left_of p j place))
   unfolding diagram_of
-  taken_exit o guard links exit h = taken_by_exit o p j guard links (jump_of p j) exit h
+  taken_exit o guard links exit h = by_exit o p j guard links (jump_of p j) exit h
 
   pub taken_none : {S : Type 0} (o : Algebra S) (guard : S) (links : ℕ → S) → exit_of p j ≡ None
       → o.known false ≡ taken_by o ((diagram_of p).jump j) guard (λ place. links (left_of p j place))
   unfolding diagram_of
-  taken_none o guard links h = taken_by_none o p j guard links (jump_of p j) h
+  taken_none o guard links h = by_none o p j guard links (jump_of p j) h
 
   pub after_exit : (links : ℕ → Bool) (exit : Exit) → exit_of p j ≡ Some exit
       → cond (links exit.left) exit.target (j + 1) ≡ rung_after j ((diagram_of p).jump j) (λ place. links (left_of p j place))
@@ -76,6 +76,17 @@ module _ (p : Drawing) (j : ℕ) where
   pub over_none : exit_of p j ≡ None → (k : ℕ) → passes_over ((diagram_of p).jump j) k ≡ false
   unfolding diagram_of
   over_none h k = over_by_none p j (jump_of p j) h k
+
+module _ (p : Drawing) (j : ℕ) where
+  pub taken_of : {S : Type 0} (o : Algebra S) (guard : S) (links : List S) (exit : Option Exit) → exit ≡ exit_of p j
+      → taken_by_exit o exit guard links ≡ taken_by o ((diagram_of p).jump j) guard (λ place. among o links (left_of p j place))
+  taken_of o guard links None h = taken_none p j o guard (among o links) (sym h)
+  taken_of o guard links (Some exit) h = taken_exit p j o guard (among o links) exit (sym h)
+
+  pub over_of : (exit : Option Exit) → exit ≡ exit_of p j → (next : ℕ) → ((e : Exit) → exit ≡ Some e → e.target ≤ next)
+      → (k : ℕ) → next ≤ k → passes_over ((diagram_of p).jump j) k ≡ false
+  over_of None h next far k le = over_none p j (sym h) k
+  over_of (Some exit) h next far k le = let t = far exit refl in over_exit p j exit (sym h) k (omega (arith, t, le))
 
 -- ---- guards
 pub guard_more : {S : Type 0} (o : Algebra S) (taken : List S) (j : ℕ) (all next : S) (ls : List Leap) (i : ℕ) (l : Leap) → i < length ls

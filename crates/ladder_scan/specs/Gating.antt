@@ -1,11 +1,12 @@
 -- Private: a rung as the code evaluates it, by its gates and then by its actions.
-use Rattle.std.specs.Prelude.{◌≡◌, ℕ, ◌+◌, ◌<◌, Bool, true, false, if◌then◌else◌, List, [], ◌∷◌, nat_lt, ◌&&◌}
+use Rattle.std.specs.Prelude.{◌≡◌, ℕ, ◌+◌, ◌<◌, Bool, true, false, if◌then◌else◌, List, [], ◌∷◌, nat_lt, ◌&&◌, Option, Some, None}
 use Rattle.std.proofs.Common.{get_or, set, zero, suc}
 use Rattle.ladder_grid.specs.declared.geometry.TheConstants.{PLACES}
 use Rattle.ladder_grid.specs.declared.gates.TheConstants.{OWN}
 use Rattle.ladder_grid.specs.declared.cell.Cell.{Cell}
 use Rattle.ladder_grid.specs.declared.gates.Gate.{Gate}
 use Rattle.ladder_grid.specs.declared.gates.Action.{Action}
+use Rattle.ladder_grid.specs.declared.gates.Exit.{Exit}
 use Rattle.ladder_grid.specs.declared.gates.Leap.{Leap}
 use Rattle.ladder_grid.specs.declared.gates.Literal.{Literal}
 use Rattle.ladder_grid.specs.declared.gates.Literal.TheVariants.{Is, Not, Other}
@@ -96,7 +97,12 @@ changes_of d now start links (a ∷ more) h =
 abbrev pub IsPlaced : Action → Type 0
 IsPlaced a = (a.place < PLACES) × (a.left < OWN) × (a.below < OWN)
 
--- ---- guards
+-- ---- jumps and guards
+
+-- Whether a rung's jump is taken, under the rung's guard.
+abbrev pub taken_by_exit : {S : Type 0} → Algebra S → Option Exit → S → List S → S
+taken_by_exit o None guard links = o.known false
+taken_by_exit o (Some exit) guard links = o.meet guard (among o links exit.left)
 
 -- The AND, over the rungs before rung j with a jump past it, of NOT that this jump is taken.
 unfoldable pub guard_by : {S : Type 0} → Algebra S → List S → ℕ → List Leap → S → S

@@ -142,14 +142,16 @@ fn own<S: Signal>(
     through
 }
 
-/// The links after one gate.
+/// The links after one gate; `values` are those of what contacts see.
 fn pass<S: Signal>(
     scene: Scene<'_>,
     storage: &Storage,
     seen: &Signals<S>,
+    values: &[S],
     gate: &Gate,
     links: &mut [S],
 )
+    requires values { values.now ≡ seen.now.values }
     requires rung { scene.rung < scene.program.now.rungs }
     requires gate { IsInside gate.now }
     requires links { length links.old ≡ LINKS }
@@ -159,14 +161,15 @@ fn pass<S: Signal>(
 {
     let other = links[gate.other as usize];
     let through = match gate.literal {
-        Literal::Is(var) => links[gate.left as usize].and(seen.value(var as usize)),
-        Literal::Not(var) => links[gate.left as usize].and(seen.value(var as usize).not()),
+        Literal::Is(var) => links[gate.left as usize].and(link_at(values, var as usize)),
+        Literal::Not(var) => links[gate.left as usize].and(link_at(values, var as usize).not()),
         Literal::Other => own(scene, storage, seen, gate, links),
     };
     links[gate.place as usize] = through.or(other);
 }
 
 /// The links after the gates of a rung.
+#[inline(always)]
 #[tactic(auto, using(crate::proofs::GateLaws::run_step))]
 fn run<S: Signal>(scene: Scene<'_>, storage: &Storage, seen: &Signals<S>, links: &mut [S])
     requires rung { scene.rung < scene.program.now.rungs }
@@ -176,8 +179,9 @@ fn run<S: Signal>(scene: Scene<'_>, storage: &Storage, seen: &Signals<S>, links:
     ensures { links.new ≡ ran S.algebra (diagram_of scene.entry.program.now) storage.now.kept scene.entry.now scene.entry.rung
         seen.now (gates_of scene.entry.program.now scene.entry.rung) links.old }
 {
+    let values = &seen.values[..];
     for gate in scene.program.gates(scene.rung) {
-        pass(scene, storage, seen, gate, links);
+        pass(scene, storage, seen, values, gate, links);
     }
 }
 
@@ -193,6 +197,7 @@ fn set_rails<S: Signal>(links: &mut [S])
 }
 
 /// Finds the links of a rung.
+#[inline(always)]
 pub(crate) fn find_links<S: Signal>(
     scene: Scene<'_>,
     storage: &Storage,

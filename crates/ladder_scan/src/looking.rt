@@ -2,13 +2,14 @@
 
 ghost use Rattle.std.specs.Prelude.{◌≡◌, ◌+◌, ◌-◌, ◌^◌, ◌<◌, ◌≤◌, ◌↔◌, ℕ, min, length, map, All, IfOk, IsTrue, slice_get, Some, slice_index_or, false, true, [], nat_lt, ◌&&◌, if◌then◌else◌};
 ghost use Rattle.ladder_grid.specs.declared.gates.TheConstants.{LINKS};
-ghost use Rattle.ladder_grid.specs.Gates.{left_of, leaps_below};
-ghost use Rattle.ladder_scan.specs.SignalScan.{passes_over, guard_of, taken_by, look_frame, looked, after_look};
+ghost use Rattle.ladder_grid.specs.Gates.{leaps_below};
+ghost use Rattle.ladder_grid.specs.declared.gates.Exit.{Exit};
+ghost use Rattle.ladder_scan.specs.SignalScan.{passes_over, guard_of, look_frame, looked, after_look};
 ghost use Rattle.ladder_scan.specs.Rung.{SameSizes};
 ghost use Rattle.ladder_scan.specs.Programs.{diagram_of, IsSound};
 ghost use Rattle.ladder_scan.specs.Standing.{Fits};
 ghost use Rattle.ladder_scan.specs.Sheets.{HasRoom};
-ghost use Rattle.ladder_scan.specs.Gating.{among, guard_by, AreValues};
+ghost use Rattle.ladder_scan.specs.Gating.{among, guard_by, taken_by_exit, AreValues};
 
 use crate::effects::effects;
 use crate::gates::{find_links, link_at};
@@ -19,7 +20,7 @@ use crate::signals::Signals;
 use crate::state::State;
 use crate::storage::Storage;
 use ladder_grid::Program;
-use ladder_grid::gates::{LINKS, Leap};
+use ladder_grid::gates::{Exit, LINKS, Leap};
 use std::alloc::Global;
 use std::marker::Model;
 
@@ -130,24 +131,22 @@ fn guard<S: Signal>(program: &Program, taken: &[S], rung: usize, reach: usize) -
     guard_by(program.leaps(), taken, rung)
 }
 
-/// Whether the jump of a rung is taken, by the links of its gates.
-fn taken_by<S: Signal>(program: &Program, rung: usize, guard: S, links: &[S]) -> S
-    requires { rung < program.now.rungs }
-    ensures { result ≡ taken_by S.algebra ((diagram_of program.now).jump rung) guard (λ place. among S.algebra links.now (left_of program.now rung place)) }
+/// Whether a rung's jump is taken, by the links of its gates.
+fn taken_by<S: Signal>(exit: Option<Exit>, guard: S, links: &[S]) -> S
+    ensures { result ≡ taken_by_exit S.algebra exit guard links.now }
 {
-    match program.exit(rung) {
+    match exit {
         Some(exit) => guard.and(link_at(links, exit.left as usize)),
         None => S::known(false),
     }
 }
 
-/// How far the jumps reach with that of a further rung: it passes over no rung from there on.
-fn further(program: &Program, rung: usize, reach: usize) -> usize
-    requires { rung < program.now.rungs }
+/// How far the jumps reach with that of a further rung.
+fn further(exit: Option<Exit>, reach: usize) -> usize
     ensures at_least { reach ≤ result }
-    ensures over { (k : ℕ) → result ≤ k → passes_over ((diagram_of program.now).jump rung) k ≡ false }
+    ensures target { (e : Exit) → exit ≡ Some e → e.target ≤ result }
 {
-    match program.exit(rung) {
+    match exit {
         Some(exit) => reach.max(exit.target),
         None => reach,
     }
@@ -208,9 +207,10 @@ fn look_jumping<S: Signal>(
         let scene = Scene { program, now, rung };
         let guard = guard(program, &taken[..rung], rung, reach);
         find_links(scene, storage, seen, links);
-        taken[rung] = taken_by(program, rung, guard, links);
+        let exit = program.exit(rung);
+        taken[rung] = taken_by(exit, guard, links);
         effects(scene, storage, guard, links, seen);
-        reach = further(program, rung, reach);
+        reach = further(exit, reach);
     }
 }
 

@@ -1,7 +1,8 @@
 //! One scan of a program over its state.
 
-ghost use Rattle.std.specs.Prelude.{◌≡◌, ◌<◌, ◌≤◌, ◌↔◌, map, IfOk, OnErr, IsErr};
+ghost use Rattle.std.specs.Prelude.{◌≡◌, ◌<◌, ◌≤◌, ◌↔◌, length, map, IfOk, OnErr, IsErr};
 ghost use Rattle.ladder_grid.specs.declared.geometry.TheConstants.{RUNGS};
+ghost use Rattle.ladder_grid.specs.declared.gates.TheConstants.{LINKS};
 ghost use Rattle.ladder_grid.specs.Gates.{left_of};
 ghost use Rattle.ladder_scan.specs.Rung.{evaluated, SameSizes, SameLengths};
 ghost use Rattle.ladder_scan.specs.Scan.{rung_after, next_rung, after_scan};
@@ -44,7 +45,13 @@ fn rung_after(program: &Program, rung: usize, links: &[bool]) -> usize
 
 /// Evaluates a rung, and returns the rung after it.
 #[tactic(auto, using(crate::proofs::Acting::by_actions, crate::proofs::Sizes::rung_sizes))]
-fn evaluate(scene: Scene<'_>, storage: &mut Storage, start: &mut Signals<bool>) -> usize
+fn evaluate(
+    scene: Scene<'_>,
+    storage: &mut Storage,
+    start: &mut Signals<bool>,
+    links: &mut [bool],
+) -> usize
+    requires links { length links.old ≡ LINKS }
     requires rung { scene.rung < scene.program.now.rungs }
     requires few { scene.rung < RUNGS }
     requires program { IsSound (diagram_of scene.program.now) }
@@ -52,12 +59,12 @@ fn evaluate(scene: Scene<'_>, storage: &mut Storage, start: &mut Signals<bool>) 
     ensures held { storage.new ≡ evaluated (diagram_of scene.entry.program.now) scene.entry.now scene.entry.rung storage.old }
     ensures next { result ≡ next_rung (diagram_of scene.entry.program.now) scene.entry.now scene.entry.rung storage.old }
     ensures sizes { SameSizes start.new storage.new }
+    ensures links { length links.new ≡ LINKS }
 {
     copy_start(storage, start);
-    let mut links = [false; LINKS];
-    find_links(scene, storage, start, &mut links);
-    changes(scene, start, &links, storage);
-    rung_after(scene.program, scene.rung, &links)
+    find_links(scene, storage, start, links);
+    changes(scene, start, links, storage);
+    rung_after(scene.program, scene.rung, links)
 }
 
 /// Goes from rung to rung, past those that a jump passes over.
@@ -67,11 +74,12 @@ fn scan_rungs(program: &Program, now: u64, storage: &mut Storage, start: &mut Si
     ensures held { storage.new ≡ (scanned (diagram_of program.now) now storage.old program.now.rungs).held }
     ensures sizes { SameSizes start.new storage.new }
 {
+    let mut links = [false; LINKS];
     let mut resume = 0;
     for rung in 0..program.rungs() {
         if resume <= rung {
             let scene = Scene { program, now, rung };
-            resume = evaluate(scene, storage, start);
+            resume = evaluate(scene, storage, start, &mut links);
         }
     }
 }

@@ -4,6 +4,7 @@ use Rattle.ladder_scan.specs.SignalScan.{looked, guard_of}
 use Rattle.ladder_scan.specs.Programs.{diagram_of}
 use Rattle.ladder_scan.specs.Gating.{AreValues}
 use Rattle.ladder_scan.proofs.Acting.{places, rung_along}
+use Rattle.ladder_scan.proofs.Exits.{taken_of, over_of}
 use Rattle.ladder_scan.proofs.Values.{looked_values}
 use Rattle.ladder_scan.proofs.Looks.{looked_frame, looked_taken, taken_same, reach_more}
 use Rattle.ladder_scan.proofs.looking.look_jumping.Goals as goal
@@ -36,9 +37,10 @@ loop-rung-preserved g c =
           (c.effects.ensures ∙ rung_along o p k now j c.guard-guard.result here c.find_links.new.links c.find_links.ensures.links);
       length = c.find_links.ensures.length;
       taken = looked_taken o d k now f j here all c.guard-guard.result c.taken_by.result (omega arith) c.loop-rung.invariant.here c.loop-rung.invariant.taken on
-          (c.taken_by.ensures ∙ taken_same o (d.jump j) c.guard-guard.result _ _ (λ place target h.
+          (c.taken_by.ensures ∙ taken_of p j o c.guard-guard.result c.find_links.new.links c.exit-exit.result c.exit-exit.ensures ∙ taken_same o (d.jump j) c.guard-guard.result _ _ (λ place target h.
           c.find_links.ensures.links.left place (c.requires.program.jumps j place target h).0));
-      reach = reach_more d j c.loop-rung.reach _ c.loop-rung.invariant.reach c.further-reach.ensures.at_least c.further-reach.ensures.over;
+      reach = reach_more d j c.loop-rung.reach _ c.loop-rung.invariant.reach c.further-reach.ensures.at_least
+          (over_of p j c.exit-exit.result c.exit-exit.ensures c.further-reach.result c.further-reach.ensures.target);
     }
 
 pub loop-rung-init : goal.loop-rung-init
