@@ -1,7 +1,8 @@
 -- Where declarations are not read, the rule of the fault is broken at its place.
-use Rattle.std.proofs.Common.{◌≡◌, ℕ, inl, inr, Bool, true, nat_le, nat_lt, List, [], ◌∷◌, length, map, Option, Some, None, Err, refl, sym, ap, subst, ◌∙◌, arith}
+use Rattle.std.proofs.Common.{◌≡◌, ℕ, inl, inr, Bool, true, if◌then◌else◌, codes, nat_le, nat_lt, List, [], ◌∷◌, length, map, Option, Some, None, Err, refl, sym, ap, subst, ◌∙◌, arith}
 use Rattle.std.specs.List.{list_any}
 use Rattle.std.proofs.lemmas.Bool.{leb-true, ltb-true}
+use Rattle.std.proofs.lemmas.List.{append-nil}
 use Rattle.std.proofs.lemmas.List.Folds.{list_any-append}
 use Rattle.ladder_vars.specs.declared.fault.Fault.{Fault}
 use Rattle.ladder_vars.specs.declared.fault.VarRule.{VarRule}
@@ -17,18 +18,15 @@ use Rattle.ladder_vars.specs.Text.{AreTokens}
 use Rattle.ladder_vars.specs.Kind.{traits_of}
 use Rattle.ladder_vars.specs.Grammar.{Decl, declared_by}
 use Rattle.ladder_vars.specs.ReadDecls.{name_of, is_declared, is_taken, refusal, with_decl, refused, added}
-use Rattle.ladder_vars.specs.Rules.{WordDue, DeclDue, Breaks}
+use Rattle.ladder_vars.specs.ReadWords as word
+use Rattle.ladder_vars.specs.Rules.{NameDue, WordDue, DeclDue, Breaks}
 use Rattle.ladder_vars.proofs.Steps.{chosen}
 use Rattle.ladder_vars.proofs.Lists.{list_any-map}
 use Rattle.ladder_vars.proofs.Keeping.{used-addresses, AreFew}
 use Rattle.ladder_vars.proofs.TextTakes.{AreTokens-append}
-use Rattle.ladder_vars.proofs.TextFaults.{Meets}
+use Rattle.ladder_vars.proofs.States.{NeedVar, NeedName, AfterName, Ended, on, next, run, decls_run}
+use Rattle.ladder_vars.proofs.Meeting.{Meets, meets_breaks, misplaced, meets_later}
 use Rattle.ladder_vars.proofs.PresetFaults.{NoPresetBody}
-
-pub meets_breaks : (text : List ℕ) (f : Fault) → Meets f text → Breaks f.rule text f.left
-meets_breaks text f (inl bad) = subst (λ r. Breaks r text f.left) (sym bad) tt
-meets_breaks text f (inr (at, r, inl (is, bad, left))) = subst (λ x. Breaks x text f.left) (sym is) (at, r, bad, left)
-meets_breaks text f (inr (at, r, inr (is, unended, left))) = subst (λ x. Breaks x text f.left) (sym is) (at, r, unended, left)
 
 -- ---- a whole declaration that is refused
 
@@ -100,7 +98,15 @@ added_breaks text ds a name b after f same few due h =
 
 -- ---- a word that is no name, and a body that is not read
 
-pub name_breaks : (text : List ℕ) (ds : List Decl) (w after : List ℕ) (f : Fault) → WordDue text ds w after → name_of w (length after) ≡ Err f → Breaks f.rule text f.left
+-- a fault that is met where a name is due
+pub later_breaks : (text : List ℕ) (ds : List Decl) (due : List ℕ) (f : Fault) → NameDue text ds due → Meets f NeedName due → Breaks f.rule text f.left
+later_breaks text ds due f h m =
+    let leads : run NeedVar (h.opening ∷ h.tokens) ≡ Some NeedName
+    = ap (λ o. word.◌>>=◌ o (λ n. run n h.tokens)) (ap (λ b. on b NeedName) h.is_var) ∙ ap (run NeedName) (sym (append-nil h.tokens)) ∙ decls_run ds h.tokens [] h.derived in
+    meets_breaks f text (meets_later (h.opening ∷ h.tokens) NeedVar NeedName text due f leads h.read m)
+
+pub name_breaks : (text : List ℕ) (ds : List Decl) (w after : List ℕ) (f : Fault) → WordDue text ds w after → name_of w (length after) ≡ Err f
+    → Breaks f.rule text f.left
 unfolding name_of
 name_breaks text ds w after f due h =
     elim (chosen (is_name w) _ _ _ h) [
@@ -110,8 +116,8 @@ name_breaks text ds w after f due h =
             let e : record { rule = rule.BadName; left = length after } ≡ f = cc in
             subst (λ g. Breaks g.rule text g.left) e (inl (ds, w, after, due, form.0, other.0, refl))
         | inr wrong ↦
-            let e : record { rule = rule.BadToken; left = length after } ≡ f = cc in
-            subst (λ g. Breaks g.rule text g.left) e tt
+            let none : next NeedName w ≡ None = ap (λ b. if same_letters w (codes "END_VAR") then Some Ended else on b AfterName) other.0 ∙ rw due.no_end refl in
+            later_breaks text ds due.due f due.name_due (misplaced NeedName due.due w after f (λ z. cc) due.read none cc)
       ]
     ]
 

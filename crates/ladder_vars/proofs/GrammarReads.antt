@@ -158,7 +158,7 @@ var_reads ts us kind (Some a) value text rest b h =
     b.is_colon b.is_bool b.is_initial b.is_semicolon tokens
 
 -- a block's name isn't BOOL
-block_of-other : (word : List ℕ) (kind : BlockKind) → block_of word ≡ Some kind → same_letters word (codes "BOOL") ≡ false
+pub block_of-other : (word : List ℕ) (kind : BlockKind) → block_of word ≡ Some kind → same_letters word (codes "BOOL") ≡ false
 block_of-other word kind h =
     elim (same_letters word (codes "BOOL")) as (λ t. same_letters word (codes "BOOL") ≡ t → t ≡ false) [
       | false ↦ λ e. refl

@@ -16,7 +16,8 @@ mod PresetFaults
 mod Accepting
 mod DeclReads
 mod DeclTakes
-mod BodyEnds
+mod States
+mod Meeting
 mod DeclFaults
 mod LoopFaults
 mod Runs

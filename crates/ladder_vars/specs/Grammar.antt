@@ -171,19 +171,29 @@ declared_by ds = record {
   instances = filter_map (λ d. instance_of d.name d.body) ds;
 }
 
--- VAR, the declarations and END_VAR, right after which the rest of the text begins. Names, addresses and limits are kept.
-pub record HasDecls (text : List ℕ) (declared : Declared) (rest : List ℕ) : Type 0 where
+-- VAR, declarations and END_VAR
+pub record IsBlock (ts : List (List ℕ)) (ds : List Decl) : Type 0 where
   pub opening : List ℕ
-  pub tokens : List (List ℕ)
+  pub between : List (List ℕ)
   pub closing : List ℕ
-  pub decls : List Decl
+  pub tokens : ts ≡ opening ∷ (between ++ closing ∷ [])
   pub is_var : Is (codes "VAR") opening
   pub is_end : Is (codes "END_VAR") closing
-  pub derived : AreDecls tokens decls
+  pub derived : AreDecls between ds
+
+-- The text begins with such a block, right after which the rest begins. Names, addresses and limits are kept.
+pub record HasDecls (text : List ℕ) (declared : Declared) (rest : List ℕ) : Type 0 where
+  pub tokens : List (List ℕ)
+  pub decls : List Decl
+  pub block : IsBlock tokens decls
   pub declared_is : declared ≡ declared_by decls
   pub kept : AreKept declared
-  pub read : AreTokens (opening ∷ (tokens ++ closing ∷ [])) text rest
+  pub read : AreTokens tokens text rest
 
 -- The text has no declarations.
 abbrev pub HasNoDecls : List ℕ → Type 0
 HasNoDecls text = (declared : Declared) (rest : List ℕ) → HasDecls text declared rest → ⊥
+
+-- Some block begins with these tokens and then this one. The grammar alone says so: its names, addresses and limits need not be kept.
+abbrev pub CanFollow : List (List ℕ) → List ℕ → Type 0
+CanFollow ts token = (more : List (List ℕ)) × (ds : List Decl) × IsBlock (ts ++ token ∷ more) ds

@@ -1,7 +1,8 @@
 -- Where a rule V1 to V8 of a block of declarations is broken: the rule, and how many bytes of the text are left where it shows.
--- V2 says no more than that no other token fits, so it is not stated here; V9 (out of memory) is no rule of the text.
+-- A token is due where what was read before can be continued to a block: V1 and V8 show there, and V2 where the token that stands there can't follow.
+-- V9 (out of memory) is no rule of the text.
 use Rattle.std.specs.Prelude.{◌≡◌, ℕ, ◌+◌, ◌-◌, ◌<◌, ◌⊎◌, ◌||◌, ◌==◌, Bool, true, false, List, [], ◌∷◌, length, take, count_by, codes, Some}
-use Rattle.std.specs.List.{list_any, AllByRecursion}
+use Rattle.std.specs.List.{list_any}
 use Rattle.ladder_vars.specs.declared.limits.TheConstants.{MOST_VARS, MOST_INSTANCES}
 use Rattle.ladder_vars.specs.declared.fault.VarRule.{VarRule}
 use Rattle.ladder_vars.specs.declared.fault.VarRule.TheVariants as rule
@@ -14,24 +15,19 @@ use Rattle.ladder_vars.specs.declared.decls.Body.TheVariants as body
 use Rattle.ladder_vars.specs.Name.{same_letters, has_name_form, is_name}
 use Rattle.ladder_vars.specs.Kind.{traits_of, parameter_word}
 use Rattle.ladder_vars.specs.Decls.{names_of, addresses_of, same_address}
-use Rattle.ladder_vars.specs.Text.{begins, is_word_byte, Gap, AreTokens, IsUnfinished, IsBadByte}
-use Rattle.ladder_vars.specs.Grammar.{Is, Decl, AreDecls, IsBody, declared_by, block_of, IsValue}
+use Rattle.ladder_vars.specs.Text.{begins, is_word_byte, Gap, AreTokens, IsUnfinished, IsBadByte, IsStray}
+use Rattle.ladder_vars.specs.Grammar.{Is, Decl, AreDecls, CanFollow, IsBody, declared_by, block_of, IsValue}
 
 -- The line, counted from 1, of what stands so many bytes before the end; 10 is LF.
 abbrev pub line_of : List ℕ → ℕ → ℕ
 line_of text left = 1 + count_by (λ b. b == 10) (take (length text - left) text)
 
--- None of the tokens ends the block.
-abbrev pub NoEnd : List (List ℕ) → Type 0
-NoEnd ts = AllByRecursion (λ t. same_letters t (codes "END_VAR") ≡ false) ts
-
--- Tokens of the block lead from the start of the text to here, and then a gap.
-pub record Reaches (text at : List ℕ) : Type 0 where
+-- These tokens lead from the start of the text to here, and some token can follow them.
+pub record TokenDue (text due : List ℕ) : Type 0 where
   pub tokens : List (List ℕ)
-  pub before : List ℕ
-  pub no_end : NoEnd tokens
-  pub read : AreTokens tokens text before
-  pub gap : Gap before at
+  pub next : List ℕ
+  pub follows : CanFollow tokens next
+  pub read : AreTokens tokens text due
 
 -- VAR and whole declarations lead from the start of the text to where a name is due.
 pub record NameDue (text : List ℕ) (ds : List Decl) (due : List ℕ) : Type 0 where
@@ -39,7 +35,6 @@ pub record NameDue (text : List ℕ) (ds : List Decl) (due : List ℕ) : Type 0 
   pub tokens : List (List ℕ)
   pub is_var : Is (codes "VAR") opening
   pub derived : AreDecls tokens ds
-  pub no_end : NoEnd (opening ∷ tokens)
   pub read : AreTokens (opening ∷ tokens) text due
 
 -- This word, which does not end the block, stands where a name is due.
@@ -98,10 +93,16 @@ abbrev pub IsFull : List Decl → Body → Type 0
 IsFull ds (body.Var kind address initial) = length (declared_by ds).vars ≡ MOST_VARS
 IsFull ds (body.Instance kind preset) = length (declared_by ds).instances ≡ MOST_INSTANCES
 
+-- What stands behind these tokens can't follow them: no token begins there, or this one, behind which so many bytes are left.
+abbrev pub IsMisfit : List (List ℕ) → List ℕ → ℕ → Type 0
+IsMisfit tokens due left =
+    ((at : List ℕ) × Gap due at × IsStray at × (left ≡ length at))
+    ⊎ ((token after : List ℕ) × AreTokens (token ∷ []) due after × (CanFollow tokens token → ⊥) × (left ≡ length after))
+
 -- The rule is broken, and so many bytes are left where it shows.
 abbrev pub Breaks : VarRule → List ℕ → ℕ → Type 0
-Breaks rule.BadByte text left = (at : List ℕ) × Reaches text at × IsBadByte at × (left ≡ length at)
-Breaks rule.BadToken text left = Unit {0}
+Breaks rule.BadByte text left = (due at : List ℕ) × TokenDue text due × Gap due at × IsBadByte at × (left ≡ length at)
+Breaks rule.BadToken text left = (due : List ℕ) × (d : TokenDue text due) × IsMisfit d.tokens due left
 Breaks rule.BadName text left = HasBadName text left ⊎ HasLongInstance text left
 Breaks rule.Duplicate text left =
     (ds : List Decl) × (name after : List ℕ) × (b : Body) × DeclDue text ds name b after
@@ -115,7 +116,7 @@ Breaks rule.BadPreset text left =
     × ((n : ℕ) → IsValue form word n → ⊥) × (left ≡ length after)
 Breaks rule.TooMany text left =
     (ds : List Decl) × (name after : List ℕ) × (b : Body) × DeclDue text ds name b after × IsFull ds b × (left ≡ length after)
-Breaks rule.Unfinished text left = (at : List ℕ) × Reaches text at × IsUnfinished at × (left ≡ 0)
+Breaks rule.Unfinished text left = (due at : List ℕ) × TokenDue text due × Gap due at × IsUnfinished at × (left ≡ 0)
 Breaks rule.Memory text left = ⊥
 
 -- The rule is broken on the line; V9 has line 0, which is none.
