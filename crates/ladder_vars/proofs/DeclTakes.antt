@@ -61,7 +61,7 @@ declared_by-push ds d =
       | body.Instance kind preset ↦ λ e. rw (vars-push ds d, instances-push ds d, e, append-nil (declared_by ds).vars) refl
     ] refl
 
-next_due : (text : List ℕ) (ds : List Decl) (due name after rest : List ℕ) (b : Body) → ReadsTo text ds due → AreTokens (name ∷ []) due after → is_name name ≡ true
+pub next_due : (text : List ℕ) (ds : List Decl) (due name after rest : List ℕ) (b : Body) → ReadsTo text ds due → AreTokens (name ∷ []) due after → is_name name ≡ true
     → TakesBody b after rest → ReadsTo text (ds ++ record { name = name; body = b } ∷ []) rest
 next_due text ds due name after rest b h word named taken =
     let d : Decl = record { name = name; body = b } in
@@ -80,8 +80,7 @@ ends_take : (text : List ℕ) (ds : List Decl) (a : Declared) (due w after : Lis
     → AreKept all → AreTokens (w ∷ []) due after → Is (codes "END_VAR") w → a ≡ all → after ≡ rest → HasDecls text all rest
 ends_take text ds a due w after all rest h same kept word is_end whole left =
     let read : AreTokens (h.opening ∷ (h.tokens ++ w ∷ [])) text after = AreTokens-append (h.opening ∷ h.tokens) (w ∷ []) text due after h.read word in
-    let block : IsBlock (h.opening ∷ (h.tokens ++ w ∷ [])) ds
-    = record { opening = h.opening; between = h.tokens; closing = w; tokens = refl; is_var = h.is_var; is_end = is_end; derived = h.derived } in
+    let block : IsBlock (h.opening ∷ (h.tokens ++ w ∷ [])) ds = (h.opening ∷ h.tokens, w, refl, (h.opening, h.tokens, refl, h.is_var, h.derived), is_end) in
     record {
       tokens = h.opening ∷ (h.tokens ++ w ∷ []);
       decls = ds;

@@ -30,11 +30,11 @@ given_bit_meets text f h =
           elim (bind_err (some_or (at rule.BadToken x.1) (bit_of x.0)) _ f then) [
             | inl none ↦
                 let e = some_or-err (at rule.BadToken x.1) f (bit_of x.0) none in
-                misplaced NeedBit text x.0 x.1 f (λ z. cc) read (rw e.0 refl) e.1
+                misplaced NeedBit text x.0 x.1 f (λ z. cc) read (rw e.0 refl) refl e.1
             | inr (v, is, rest) ↦
                 let is_bit : bit_of x.0 ≡ Some v = some_or-ok _ (bit_of x.0) v is in
                 behind x.0 NeedBit NeedSemicolon text x.1 f (rw is_bit refl) read
-                (then_expect NeedSemicolon NeedName (codes ";") x.1 _ f (λ z. cc) (λ t. refl) (λ r e. absurd cc) rest)
+                (then_expect NeedSemicolon NeedName (codes ";") x.1 _ f (λ z. cc) (λ t. (refl, refl)) (λ r e. absurd cc) rest)
           ]
     ]
 
@@ -49,7 +49,7 @@ initial_meets text f h =
             | inl end ↦ absurd cc
             | inr other ↦ elim (chosen (same_letters x.0 (codes ":=")) _ _ _ other.1) [
               | inl assign ↦ behind x.0 AfterBool NeedBit text x.1 f (rw (other.0, assign.0) refl) read (given_bit_meets x.1 f assign.1)
-              | inr wrong ↦ misplaced AfterBool text x.0 x.1 f (λ z. cc) read (rw (other.0, wrong.0) refl) cc
+              | inr wrong ↦ misplaced AfterBool text x.0 x.1 f (λ z. cc) read (rw (other.0, wrong.0) refl) refl cc
             ]
           ]
     ]
@@ -69,11 +69,11 @@ placed_meets text f h =
           elim (bind_err (some_or (at rule.BadToken x.1) (address_of x.0)) _ f then) [
             | inl none ↦
                 let e = some_or-err (at rule.BadToken x.1) f (address_of x.0) none in
-                misplaced AfterAt text x.0 x.1 f (λ z. cc) read (rw e.0 refl) e.1
+                misplaced AfterAt text x.0 x.1 f (λ z. cc) read (rw e.0 refl) refl e.1
             | inr (p, is, rest) ↦
                 let is_address : address_of x.0 ≡ Some p = some_or-ok _ (address_of x.0) p is in
                 behind x.0 AfterAt AfterAddress text x.1 f (rw is_address refl) read
-                (then_expect AfterAddress NeedBool (codes ":") x.1 _ f (λ z. cc) (λ t. refl)
-                (λ a more. then_expect NeedBool AfterBool (codes "BOOL") a _ f (λ z. cc) (λ t. refl) (λ b e. bool_meets p.0 (Some p.1) b f e) more) rest)
+                (then_expect AfterAddress NeedBool (codes ":") x.1 _ f (λ z. cc) (λ t. (refl, refl))
+                (λ a more. then_expect NeedBool AfterBool (codes "BOOL") a _ f (λ z. cc) (λ t. (refl, refl)) (λ b e. bool_meets p.0 (Some p.1) b f e) more) rest)
           ]
     ]

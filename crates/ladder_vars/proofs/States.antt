@@ -1,5 +1,10 @@
 -- The states in which a block is read: which tokens can follow, as the grammar says.
-use Rattle.std.proofs.Common.{◌≡◌, ◌≢◌, ◌⊎◌, inl, inr, ℕ, Bool, true, false, cond, if◌then◌else◌, List, [], ◌∷◌, ◌++◌, codes, Option, Some, None, refl, sym, ap, subst, ◌∙◌, append_assoc}
+use Rattle.std.proofs.Common.{◌≡◌, ◌≢◌, ◌⊎◌, inl, inr, ℕ, Bool, true, false, cond, if◌then◌else◌, List, [], ◌∷◌, ◌++◌, codes, Option, Some, None, refl, sym, ap, subst, ◌∙◌, append_assoc, nat_lt, arith}
+use Rattle.std.specs.Char.{to_ascii_lowercase}
+use Rattle.std.specs.Str.{str_to_ascii_lowercase}
+use Rattle.std.proofs.lemmas.Bool.{ltb-false}
+use Rattle.ladder_vars.specs.declared.fault.VarRule.{VarRule}
+use Rattle.ladder_vars.specs.declared.fault.VarRule.TheVariants as rule
 use Rattle.ladder_vars.specs.declared.decls.VarKind.{VarKind}
 use Rattle.ladder_vars.specs.declared.decls.VarKind.TheVariants as var_kind
 use Rattle.ladder_vars.specs.declared.kind.BlockKind.{BlockKind}
@@ -8,10 +13,13 @@ use Rattle.ladder_vars.specs.declared.kind.Parameter.TheVariants as parameter
 use Rattle.ladder_vars.specs.declared.decls.Address.{Address}
 use Rattle.ladder_vars.specs.declared.decls.Body.{Body}
 use Rattle.ladder_vars.specs.declared.decls.Body.TheVariants as body
-use Rattle.ladder_vars.specs.Name.{same_letters, is_name}
+use Rattle.ladder_vars.specs.Name.{same_letters, is_name, has_name_form}
 use Rattle.ladder_vars.specs.Kind.{traits_of, parameter_word}
-use Rattle.ladder_vars.specs.Grammar.{Is, IsAddress, IsInitial, IsValue, IsPreset, IsVarBody, IsBody, Decl, IsDecl, AreDecls, IsBlock, CanFollow, bit_of, block_of}
+use Rattle.ladder_vars.specs.Grammar.{Is, IsAddress, IsInitial, IsValue, IsPreset, IsVarBody, IsBody, Decl, IsDecl, AreDecls, IsHead, IsBlock, CanFollow, bit_of, block_of}
 use Rattle.ladder_vars.specs.ReadWords.{◌>>=◌, numbers_of, address_of, part_at, total_from, total_of, time_of, value_of}
+use Rattle.ladder_vars.specs.ReadDecls.{preset_fault}
+use Rattle.ladder_vars.proofs.Steps.{chosen}
+use Rattle.ladder_vars.proofs.PartLaws.{same_bytes}
 use Rattle.ladder_vars.proofs.DeclReads.{no_keyword}
 use Rattle.ladder_vars.proofs.GrammarReads.{alike, block_of-other}
 use Rattle.ladder_vars.proofs.WordLaws.{address_takes, address_reads, value_takes, value_reads}
@@ -59,6 +67,26 @@ next (NeedValue form) t = value_of form t >>= λ _. Some NeedClosing
 next NeedClosing t = on (same_letters t (codes ")")) NeedSemicolon
 next NeedSemicolon t = on (same_letters t (codes ";")) NeedName
 next Ended t = None
+
+-- the rule that a token breaks which can't follow
+abbrev pub broken_by : State → List ℕ → VarRule
+broken_by NeedVar t = rule.BadToken
+broken_by NeedName t = if has_name_form t then rule.BadName else rule.BadToken
+broken_by AfterName t = rule.BadToken
+broken_by AfterAt t = rule.BadToken
+broken_by AfterAddress t = rule.BadToken
+broken_by NeedBool t = rule.BadToken
+broken_by AfterColon t = rule.BadToken
+broken_by AfterBool t = rule.BadToken
+broken_by NeedBit t = rule.BadToken
+broken_by (AfterBlock kind) t = rule.BadToken
+broken_by (NeedOpening form) t = rule.BadToken
+broken_by (NeedParameter form) t = rule.BadToken
+broken_by (NeedGiven form) t = rule.BadToken
+broken_by (NeedValue form) t = preset_fault t
+broken_by NeedClosing t = rule.BadToken
+broken_by NeedSemicolon t = rule.BadToken
+broken_by Ended t = rule.BadToken
 
 abbrev pub run : State → List (List ℕ) → Option State
 run s [] = Some s
@@ -141,8 +169,14 @@ decls_run (d ∷ ds) ts us (front, back, parts, decl, others) =
     ∙ body_runs decl.behind (back ++ us) d.body decl.is_body
     ∙ decls_run ds back us others
 
+pub head_runs : (ts us : List (List ℕ)) (ds : List Decl) → IsHead ts ds → run NeedVar (ts ++ us) ≡ run NeedName us
+head_runs ts us ds (opening, between, parts, is_var, derived) =
+    ap (λ z. run NeedVar (z ++ us)) parts
+    ∙ ap (λ o. o >>= λ n. run n (between ++ us)) (ap (λ b. on b NeedName) is_var)
+    ∙ decls_run ds between us derived
+
 block_runs : (ts : List (List ℕ)) (ds : List Decl) → IsBlock ts ds → run NeedVar ts ≡ Some Ended
-block_runs ts ds b = rw (b.tokens, b.is_var) (decls_run ds b.between (b.closing ∷ []) b.derived ∙ rw b.is_end refl)
+block_runs ts ds (head, closing, parts, is_head, is_end) = ap (run NeedVar) parts ∙ head_runs head (closing ∷ []) ds is_head ∙ rw is_end refl
 
 -- ---- what is read to an end is a block
 
@@ -243,18 +277,8 @@ either false x y ts h = inr (refl, h)
 -- ---- one token more
 
 var_before : (t : List ℕ) (ts : List (List ℕ)) → Is (codes "VAR") t → HasEnd ts → (ds : List Decl) × IsBlock (t ∷ ts) ds
-var_before t ts is_var (tokens, closing, ds, parts, is_end, derived) = (
-  ds,
-  record {
-    opening = t;
-    between = tokens;
-    closing = closing;
-    tokens = ap (λ z. t ∷ z) parts;
-    is_var = is_var;
-    is_end = is_end;
-    derived = derived;
-  },
-)
+var_before t ts is_var (tokens, closing, ds, parts, is_end, derived) =
+    (ds, (t ∷ tokens, closing, ap (λ z. t ∷ z) parts, (t, tokens, refl, is_var, derived), is_end))
 
 name_before : (t : List ℕ) (ts : List (List ℕ)) → is_name t ≡ true → Later BodyPart ts → HasEnd (t ∷ ts)
 name_before t ts named (front, back, parts, (b, is_body), (tokens, closing, ds, split, is_end, derived)) =
@@ -472,3 +496,65 @@ none_follows ts t s h none (more, ds, block) =
     let read : run s (t ∷ more) ≡ Some Ended
     = ap (λ o. o >>= λ n. run n (t ∷ more)) (sym h) ∙ sym (run-append ts (t ∷ more) NeedVar) ∙ block_runs (ts ++ t ∷ more) ds block in
     cc
+
+-- ---- the state behind a parenthesis
+
+one_byte : (b : ℕ) → to_ascii_lowercase b ≡ 40 → b ≡ 40
+one_byte b h =
+    elim (chosen (nat_lt b 65) _ _ _ h) [
+      | inl small ↦ small.1
+      | inr large ↦ elim (chosen (nat_lt b 91) _ _ _ large.1) [ inl capital ↦ absurd (omega (arith, capital.1, ltb-false b 65 large.0)) | inr same ↦ same.1 ]
+    ]
+
+opening_is : (t : List ℕ) → Is (codes "(") t → t ≡ codes "("
+opening_is [] h = absurd cc
+opening_is (b ∷ []) h =
+    let same : str_to_ascii_lowercase (b ∷ []) ≡ codes "(" = same_bytes (str_to_ascii_lowercase (b ∷ [])) (codes "(") h in
+    let first : to_ascii_lowercase b ≡ 40 = cc in
+    ap (λ z. z ∷ []) (one_byte b first)
+opening_is (b ∷ c ∷ bs) h = absurd (let e = same_bytes (str_to_ascii_lowercase (b ∷ c ∷ bs)) (codes "(") h in cc)
+
+-- only one state takes it
+opens : (s n : State) → next s (codes "(") ≡ Some n → (form : Parameter) × (s ≡ NeedOpening form) × (n ≡ NeedParameter form)
+unfolding time_of
+opens NeedVar n h = absurd cc
+opens NeedName n h = absurd cc
+opens AfterName n h = absurd cc
+opens AfterAt n h = absurd cc
+opens AfterAddress n h = absurd cc
+opens NeedBool n h = absurd cc
+opens AfterColon n h = absurd cc
+opens AfterBool n h = absurd cc
+opens NeedBit n h = absurd cc
+opens (AfterBlock kind) n h = absurd cc
+opens (NeedOpening form) n h = (form, refl, cc)
+opens (NeedParameter parameter.Time) n h = absurd cc
+opens (NeedParameter parameter.Count) n h = absurd cc
+opens (NeedGiven form) n h = absurd cc
+opens (NeedValue parameter.Time) n h = absurd cc
+opens (NeedValue parameter.Count) n h = absurd cc
+opens NeedClosing n h = absurd cc
+opens NeedSemicolon n h = absurd cc
+opens Ended n h = absurd cc
+
+-- the first of some steps
+step_of : (o : Option State) (ts : List (List ℕ)) (last : State) → (o >>= λ n. run n ts) ≡ Some last → (n : State) × (o ≡ Some n) × (run n ts ≡ Some last)
+step_of (Some n) ts last h = (n, refl, h)
+step_of None ts last h = absurd cc
+
+takes : (b : Bool) (s n : State) → on b s ≡ Some n → s ≡ n
+takes true s n h = cc
+takes false s n h = absurd cc
+
+same_state : (s n : State) → run s [] ≡ Some n → s ≡ n
+same_state s n h = cc
+
+pub value_due : (before : List (List ℕ)) (opening word assign : List ℕ) (last : State) → Is (codes "(") opening
+    → run NeedVar (before ++ opening ∷ word ∷ assign ∷ []) ≡ Some last → (form : Parameter) × (last ≡ NeedValue form)
+value_due before opening word assign last is_opening h =
+    let a = step_of (run NeedVar before) (opening ∷ word ∷ assign ∷ []) last (sym (run-append before (opening ∷ word ∷ assign ∷ []) NeedVar) ∙ h) in
+    let b = step_of (next a.0 opening) (word ∷ assign ∷ []) last a.2 in
+    let form = opens a.0 b.0 (ap (next a.0) (sym (opening_is opening is_opening)) ∙ b.1) in
+    let c = step_of (next (NeedParameter form.0) word) (assign ∷ []) last (ap (λ s. run s (word ∷ assign ∷ [])) (sym form.2) ∙ b.2) in
+    let d = step_of (next (NeedGiven form.0) assign) [] last (ap (λ s. run s (assign ∷ [])) (takes _ (NeedGiven form.0) c.0 c.1) ∙ c.2) in
+    (form.0, sym (takes _ (NeedValue form.0) d.0 d.1 ∙ same_state d.0 last d.2))

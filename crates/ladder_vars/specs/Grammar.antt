@@ -171,15 +171,12 @@ declared_by ds = record {
   instances = filter_map (λ d. instance_of d.name d.body) ds;
 }
 
--- VAR, declarations and END_VAR
-pub record IsBlock (ts : List (List ℕ)) (ds : List Decl) : Type 0 where
-  pub opening : List ℕ
-  pub between : List (List ℕ)
-  pub closing : List ℕ
-  pub tokens : ts ≡ opening ∷ (between ++ closing ∷ [])
-  pub is_var : Is (codes "VAR") opening
-  pub is_end : Is (codes "END_VAR") closing
-  pub derived : AreDecls between ds
+-- VAR and declarations; and these with END_VAR
+abbrev pub IsHead : List (List ℕ) → List Decl → Type 0
+IsHead ts ds = (opening : List ℕ) × (between : List (List ℕ)) × (ts ≡ opening ∷ between) × Is (codes "VAR") opening × AreDecls between ds
+
+abbrev pub IsBlock : List (List ℕ) → List Decl → Type 0
+IsBlock ts ds = (head : List (List ℕ)) × (closing : List ℕ) × (ts ≡ head ++ closing ∷ []) × IsHead head ds × Is (codes "END_VAR") closing
 
 -- The text begins with such a block, right after which the rest begins. Names, addresses and limits are kept.
 pub record HasDecls (text : List ℕ) (declared : Declared) (rest : List ℕ) : Type 0 where
