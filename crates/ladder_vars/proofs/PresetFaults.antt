@@ -1,12 +1,12 @@
 -- Where a preset is not read, a rule is broken at a token, or the preset is none; and the bodies that have one.
-use Rattle.std.proofs.Common.{◌≡◌, ℕ, ◌⊎◌, inl, inr, true, false, ◌||◌, ◌==◌, List, [], ◌∷◌, length, codes, Option, Some, None, Err, refl, sym, ap, ◌∙◌}
+use Rattle.std.proofs.Common.{◌≡◌, ℕ, ◌⊎◌, inl, inr, true, false, List, [], ◌∷◌, length, codes, Option, Some, None, Err, refl, sym, ap, ◌∙◌}
 use Rattle.ladder_vars.specs.declared.fault.Fault.{Fault}
 use Rattle.ladder_vars.specs.declared.fault.VarRule.TheVariants as rule
 use Rattle.ladder_vars.specs.declared.decls.VarKind.TheVariants as var_kind
 use Rattle.ladder_vars.specs.declared.kind.BlockKind.{BlockKind}
 use Rattle.ladder_vars.specs.declared.kind.Parameter.{Parameter}
 use Rattle.ladder_vars.specs.Name.{same_letters}
-use Rattle.ladder_vars.specs.Text.{begins, is_word_byte, AreTokens}
+use Rattle.ladder_vars.specs.Text.{begins_word, AreTokens}
 use Rattle.ladder_vars.specs.Grammar.{Is, block_of}
 use Rattle.ladder_vars.specs.Kind.{traits_of, parameter_word}
 use Rattle.ladder_vars.specs.ReadText.{token_at}
@@ -26,7 +26,7 @@ record NoPreset (form : Parameter) (f : Fault) (text : List ℕ) : Type 0 where
   after : List ℕ
   read : AreTokens (word ∷ []) text after
   none : next (NeedValue form) word ≡ None
-  is_word : begins (λ b. is_word_byte b || b == 37) word ≡ true
+  is_word : begins_word word ≡ true
   rule_is : f.rule ≡ rule.BadPreset
   left_is : f.left ≡ length after
 
@@ -40,7 +40,7 @@ preset_word_meets form text f h =
         | inl none ↦
             let e = some_or-err (at (preset_fault x.0) x.1) f (value_of form x.0) none in
             let read : AreTokens (x.0 ∷ []) text x.1 = token_takes text x.0 x.1 found in
-            elim (begins (λ b. is_word_byte b || b == 37) x.0) as (λ t. begins (λ b. is_word_byte b || b == 37) x.0 ≡ t → Meets f (NeedValue form) text ⊎ NoPreset form f text) [
+            elim (begins_word x.0) as (λ t. begins_word x.0 ≡ t → Meets f (NeedValue form) text ⊎ NoPreset form f text) [
               | false ↦ λ mark.
                   let is : at rule.BadToken x.1 ≡ f = rw mark at e.1 in
                   inl (misplaced (NeedValue form) text x.0 x.1 f (λ z. cc) read (rw e.0 refl) (rw mark refl) is)

@@ -80,12 +80,9 @@ block_of word = find (λ k. same_letters word (traits_of k).word) all_kinds
 abbrev pub IsTime : List ℕ → ℕ → Type 0
 IsTime word n = IsDuration word n × (n ≤ largest_value parameter.Time)
 
-abbrev pub IsCount : List ℕ → ℕ → Type 0
-IsCount word n = IsNumber word n × (n ≤ largest_value parameter.Count)
-
 abbrev pub IsValue : Parameter → List ℕ → ℕ → Type 0
 IsValue parameter.Time word n = IsTime word n
-IsValue parameter.Count word n = IsCount word n
+IsValue parameter.Count word n = IsNumber word n × (n ≤ largest_value parameter.Count)
 
 -- `:= ( PT := duration )` of a timer, or `:= ( PV := number )` of a counter; a bistable has no preset
 pub record HasPreset (ts : List (List ℕ)) (kind : BlockKind) (n : ℕ) : Type 0 where

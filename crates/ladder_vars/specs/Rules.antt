@@ -2,7 +2,7 @@
 -- A token is due where what was read before can be continued to a block. V1 and V8 show there, and V2, V3 and V6 at a token that can't follow:
 -- it is V3 of a word of a name's form where a name is due, V6 of a word where a value is due, and otherwise V2.
 -- V9 (out of memory) is no rule of the text.
-use Rattle.std.specs.Prelude.{◌≡◌, ℕ, ◌+◌, ◌-◌, ◌<◌, ◌⊎◌, ◌||◌, ◌==◌, Bool, true, List, [], ◌∷◌, ◌++◌, length, take, count_by, codes, Some}
+use Rattle.std.specs.Prelude.{◌≡◌, ℕ, ◌+◌, ◌-◌, ◌<◌, ◌⊎◌, ◌==◌, Bool, true, List, [], ◌∷◌, ◌++◌, length, take, count_by, codes, Some}
 use Rattle.std.specs.List.{list_any}
 use Rattle.ladder_vars.specs.declared.limits.TheConstants.{MOST_VARS, MOST_INSTANCES}
 use Rattle.ladder_vars.specs.declared.fault.VarRule.{VarRule}
@@ -15,7 +15,7 @@ use Rattle.ladder_vars.specs.declared.decls.Body.TheVariants as body
 use Rattle.ladder_vars.specs.Name.{same_letters, has_name_form, is_name}
 use Rattle.ladder_vars.specs.Kind.{traits_of}
 use Rattle.ladder_vars.specs.Decls.{names_of, addresses_of, same_address}
-use Rattle.ladder_vars.specs.Text.{begins, is_word_byte, Gap, AreTokens, IsUnfinished, IsBadByte, IsStray}
+use Rattle.ladder_vars.specs.Text.{begins_word, Gap, AreTokens, IsUnfinished, IsBadByte, IsStray}
 use Rattle.ladder_vars.specs.Grammar.{Is, Decl, IsBody, declared_by, IsHead, CanFollow}
 
 -- The line, counted from 1, of what stands so many bytes before the end; 10 is LF.
@@ -41,11 +41,11 @@ pub record IsMisplaced (text : List ℕ) (tokens : List (List ℕ)) (token : Lis
 abbrev pub IsForName : List (List ℕ) → List ℕ → Type 0
 IsForName tokens token = (ds : List Decl) × IsHead tokens ds × (has_name_form token ≡ true)
 
--- Where a value is due, behind `( PT :=` or `( PV :=`, the token is a word, or begins with the percent sign (37).
+-- Where a value is due, behind `( PT :=` or `( PV :=`, the token is a word or begins with `%`.
 abbrev pub IsForValue : List (List ℕ) → List ℕ → Type 0
 IsForValue tokens token =
     (before : List (List ℕ)) × (opening parameter assign : List ℕ) × (tokens ≡ before ++ opening ∷ parameter ∷ assign ∷ [])
-    × Is (codes "(") opening × (begins (λ b. is_word_byte b || b == 37) token ≡ true)
+    × Is (codes "(") opening × (begins_word token ≡ true)
 
 -- One more whole declaration stands where a name is due.
 pub record DeclDue (text : List ℕ) (ds : List Decl) (name : List ℕ) (b : Body) (after : List ℕ) : Type 0 where

@@ -18,6 +18,10 @@ is_blank b after = b == 32 || (b == 9 || (b == 10 || (b == 13 && begins_with 10 
 abbrev pub is_word_byte : ℕ → Bool
 is_word_byte b = is_ascii_alphanumeric b || (b == 95 || (b == 35 || b == 46))
 
+-- The token is a word, or begins with the percent sign (37).
+abbrev pub begins_word : List ℕ → Bool
+begins_word = begins (λ b. is_word_byte b || b == 37)
+
 abbrev pub is_address_byte : ℕ → Bool
 is_address_byte b = is_ascii_alphanumeric b || b == 46
 
