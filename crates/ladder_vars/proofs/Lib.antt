@@ -9,6 +9,7 @@ mod Leading
 mod Lists
 mod DeclLoop
 mod WordLaws
+mod Presets
 mod GrammarReads
 mod GrammarTakes
 mod GrammarFaults

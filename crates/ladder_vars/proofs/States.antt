@@ -18,6 +18,7 @@ use Rattle.ladder_vars.specs.Kind.{traits_of, parameter_word}
 use Rattle.ladder_vars.specs.Grammar.{Is, IsAddress, IsInitial, IsValue, IsPreset, IsVarBody, IsBody, Decl, IsDecl, AreDecls, IsHead, IsBlock, CanFollow, bit_of, block_of}
 use Rattle.ladder_vars.specs.ReadWords.{◌>>=◌, numbers_of, address_of, part_at, total_from, total_of, time_of, value_of}
 use Rattle.ladder_vars.specs.ReadDecls.{preset_fault}
+use Rattle.ladder_vars.proofs.Presets.{HasPreset, has_preset}
 use Rattle.ladder_vars.proofs.Steps.{chosen}
 use Rattle.ladder_vars.proofs.PartLaws.{same_bytes}
 use Rattle.ladder_vars.proofs.DeclReads.{no_keyword}
@@ -108,7 +109,8 @@ initial_runs ts us value semicolon (inr (assign, bit, tokens, is_assign, is_bit)
 preset_runs : (ts us : List (List ℕ)) (kind : BlockKind) (n : ℕ) (semicolon : List ℕ) → IsPreset ts kind n → Is (codes ";") semicolon
     → run (AfterBlock kind) (ts ++ (semicolon ∷ us)) ≡ run NeedName us
 preset_runs ts us kind n semicolon (inl (none, zero_)) end = rw (none, end) refl
-preset_runs ts us kind n semicolon (inr p) end =
+preset_runs ts us kind n semicolon (inr (form, takes, parts)) end =
+    let p : HasPreset ts kind n = has_preset ts kind n form takes parts in
     rw (
       p.tokens,
       alike (codes ":=") (codes ";") p.assign p.is_assign,
@@ -372,23 +374,35 @@ preset_before kind form t ts takes is_assign h = push (OpeningPart form) (Preset
       n,
       semicolon,
       whole,
-      inr (record {
-        form = form;
-        takes = takes;
-        assign = t;
-        opening = opening;
-        parameter = word;
-        given = given;
-        word = value;
-        closing = closing;
-        tokens = refl;
-        is_assign = is_assign;
-        is_opening = is_opening;
-        is_parameter = is_parameter;
-        is_given = is_given;
-        is_word = is_value;
-        is_closing = is_closing;
-      }),
+      inr (
+        form,
+        takes,
+        (
+          t,
+          _,
+          refl,
+          is_assign,
+          (
+            opening,
+            _,
+            refl,
+            is_opening,
+            (
+              word,
+              _,
+              refl,
+              is_parameter,
+              (
+                given,
+                _,
+                refl,
+                is_given,
+                (value, _, refl, is_value, (closing, [], refl, is_closing, refl)),
+              ),
+            ),
+          ),
+        ),
+      ),
       is_semicolon,
     )) h
 

@@ -24,6 +24,11 @@ use Rattle.ladder_vars.specs.Duration.{IsNumber, IsDuration}
 abbrev pub Is : List ℕ → List ℕ → Type 0
 Is word token = same_letters token word ≡ true
 
+-- The tokens are of these sorts, one of each in this order.
+abbrev pub AreOf : List (List ℕ → Type 0) → List (List ℕ) → Type 0
+AreOf [] ts = ts ≡ []
+AreOf (Sort ∷ sorts) ts = (t : List ℕ) × (others : List (List ℕ)) × (ts ≡ t ∷ others) × Sort t × AreOf sorts others
+
 -- ---- addresses: % I 1 . 0
 
 -- which variables stand at an address with this letter; 73, 81 and 77 are I, Q and M
@@ -84,27 +89,12 @@ abbrev pub IsValue : Parameter → List ℕ → ℕ → Type 0
 IsValue parameter.Time word n = IsTime word n
 IsValue parameter.Count word n = IsNumber word n × (n ≤ largest_value parameter.Count)
 
--- `:= ( PT := duration )` of a timer, or `:= ( PV := number )` of a counter; a bistable has no preset
-pub record HasPreset (ts : List (List ℕ)) (kind : BlockKind) (n : ℕ) : Type 0 where
-  pub form : Parameter
-  pub takes : (traits_of kind).parameter ≡ Some form
-  pub assign : List ℕ
-  pub opening : List ℕ
-  pub parameter : List ℕ
-  pub given : List ℕ
-  pub word : List ℕ
-  pub closing : List ℕ
-  pub tokens : ts ≡ assign ∷ opening ∷ parameter ∷ given ∷ word ∷ closing ∷ []
-  pub is_assign : Is (codes ":=") assign
-  pub is_opening : Is (codes "(") opening
-  pub is_parameter : Is (parameter_word form) parameter
-  pub is_given : Is (codes ":=") given
-  pub is_word : IsValue form word n
-  pub is_closing : Is (codes ")") closing
-
--- a preset, or nothing, which is 0
+-- Nothing, which is 0, or `:= ( PT := duration )` of a timer, `:= ( PV := number )` of a counter; a bistable has no preset.
 abbrev pub IsPreset : List (List ℕ) → BlockKind → ℕ → Type 0
-IsPreset ts kind n = ((ts ≡ []) × (n ≡ 0)) ⊎ HasPreset ts kind n
+IsPreset ts kind n =
+    ((ts ≡ []) × (n ≡ 0))
+    ⊎ ((form : Parameter) × ((traits_of kind).parameter ≡ Some form)
+    × AreOf (Is (codes ":=") ∷ Is (codes "(") ∷ Is (parameter_word form) ∷ Is (codes ":=") ∷ (λ word. IsValue form word n) ∷ Is (codes ")") ∷ []) ts)
 
 -- ---- declarations
 
