@@ -1,13 +1,13 @@
 -- Where declarations are not read, the rule of the fault is broken at its place.
-use Rattle.std.proofs.Common.{◌≡◌, ℕ, inl, inr, Bool, true, nat_le, nat_lt, List, [], ◌∷◌, length, map, Option, Some, None, Err, refl, sym, ap, subst, ◌∙◌, arith}
+use Rattle.std.proofs.Common.{◌≡◌, ℕ, inl, inr, Bool, true, false, if◌then◌else◌, codes, nat_le, nat_lt, List, [], ◌∷◌, length, map, Option, Some, None, Err, refl, sym, ap, subst, ◌∙◌, arith}
 use Rattle.std.specs.List.{list_any}
 use Rattle.std.proofs.lemmas.Bool.{leb-true, ltb-true}
+use Rattle.std.proofs.lemmas.List.{append-nil}
 use Rattle.std.proofs.lemmas.List.Folds.{list_any-append}
 use Rattle.ladder_vars.specs.declared.fault.Fault.{Fault}
 use Rattle.ladder_vars.specs.declared.fault.VarRule.{VarRule}
 use Rattle.ladder_vars.specs.declared.fault.VarRule.TheVariants as rule
 use Rattle.ladder_vars.specs.declared.decls.VarKind.{VarKind}
-use Rattle.ladder_vars.specs.declared.kind.BlockKind.{BlockKind}
 use Rattle.ladder_vars.specs.declared.decls.Address.{Address}
 use Rattle.ladder_vars.specs.declared.decls.Body.{Body}
 use Rattle.ladder_vars.specs.declared.decls.Body.TheVariants as body
@@ -15,20 +15,15 @@ use Rattle.ladder_vars.specs.Name.{same_letters, is_name, has_name_form}
 use Rattle.ladder_vars.specs.Decls.{Declared, names_of}
 use Rattle.ladder_vars.specs.Text.{AreTokens}
 use Rattle.ladder_vars.specs.Kind.{traits_of}
-use Rattle.ladder_vars.specs.Grammar.{Decl, declared_by}
+use Rattle.ladder_vars.specs.Grammar.{Decl, IsHead, declared_by}
 use Rattle.ladder_vars.specs.ReadDecls.{name_of, is_declared, is_taken, refusal, with_decl, refused, added}
-use Rattle.ladder_vars.specs.Rules.{WordDue, DeclDue, Breaks}
+use Rattle.ladder_vars.specs.Rules.{IsMisplaced, DeclDue, Breaks}
 use Rattle.ladder_vars.proofs.Steps.{chosen}
 use Rattle.ladder_vars.proofs.Lists.{list_any-map}
 use Rattle.ladder_vars.proofs.Keeping.{used-addresses, AreFew}
-use Rattle.ladder_vars.proofs.TextTakes.{AreTokens-append}
-use Rattle.ladder_vars.proofs.TextFaults.{Meets}
-use Rattle.ladder_vars.proofs.PresetFaults.{NoPresetBody}
-
-pub meets_breaks : (text : List ℕ) (f : Fault) → Meets f text → Breaks f.rule text f.left
-meets_breaks text f (inl bad) = subst (λ r. Breaks r text f.left) (sym bad) tt
-meets_breaks text f (inr (at, r, inl (is, bad, left))) = subst (λ x. Breaks x text f.left) (sym is) (at, r, bad, left)
-meets_breaks text f (inr (at, r, inr (is, unended, left))) = subst (λ x. Breaks x text f.left) (sym is) (at, r, unended, left)
+use Rattle.ladder_vars.proofs.DeclTakes.{ReadsTo}
+use Rattle.ladder_vars.proofs.States.{NeedVar, NeedName, AfterName, Ended, on, next, run, head_runs, none_follows}
+use Rattle.ladder_vars.proofs.Meeting.{Meets, is_due, meets_breaks, misplaced, meets_later}
 
 -- ---- a whole declaration that is refused
 
@@ -98,55 +93,41 @@ added_breaks text ds a name b after f same few due h =
     let broken : refusal (declared_by ds) name b ≡ Some f.rule = ap (λ d. refusal d name b) (sym same) ∙ e.0 in
     subst (λ n. Breaks f.rule text n) e.1 (refusal_breaks text ds name b after f.rule (subst AreFew same few) due broken)
 
--- ---- a word that is no name, and a body that is not read
+-- ---- where a name is due
 
-pub name_breaks : (text : List ℕ) (ds : List Decl) (w after : List ℕ) (f : Fault) → WordDue text ds w after → name_of w (length after) ≡ Err f → Breaks f.rule text f.left
+pub head_is : (text : List ℕ) (ds : List Decl) (due : List ℕ) (h : ReadsTo text ds due) → IsHead (h.opening ∷ h.tokens) ds
+head_is text ds due h = (h.opening, h.tokens, refl, h.is_var, h.derived)
+
+head_leads : (text : List ℕ) (ds : List Decl) (due : List ℕ) (h : ReadsTo text ds due) → run NeedVar (h.opening ∷ h.tokens) ≡ Some NeedName
+head_leads text ds due h = ap (run NeedVar) (sym (append-nil (h.opening ∷ h.tokens))) ∙ head_runs (h.opening ∷ h.tokens) [] ds (head_is text ds due h)
+
+-- a fault that is met there
+pub later_breaks : (text : List ℕ) (ds : List Decl) (due : List ℕ) (f : Fault) → ReadsTo text ds due → Meets f NeedName due → Breaks f.rule text f.left
+later_breaks text ds due f h m =
+    meets_breaks f text (meets_later (h.opening ∷ h.tokens) NeedVar NeedName text due f (head_leads text ds due h) h.read m)
+
+-- a word that is no name
+pub name_breaks : (text : List ℕ) (ds : List Decl) (due w after : List ℕ) (f : Fault) → ReadsTo text ds due → AreTokens (w ∷ []) due after
+    → same_letters w (codes "END_VAR") ≡ false → name_of w (length after) ≡ Err f → Breaks f.rule text f.left
 unfolding name_of
-name_breaks text ds w after f due h =
-    elim (chosen (is_name w) _ _ _ h) [
+name_breaks text ds due w after f h word no_end e =
+    elim (chosen (is_name w) _ _ _ e) [
       | inl named ↦ absurd cc
-      | inr other ↦ elim (chosen (has_name_form w) _ _ _ other.1) [
-        | inl form ↦
-            let e : record { rule = rule.BadName; left = length after } ≡ f = cc in
-            subst (λ g. Breaks g.rule text g.left) e (inl (ds, w, after, due, form.0, other.0, refl))
-        | inr wrong ↦
-            let e : record { rule = rule.BadToken; left = length after } ≡ f = cc in
-            subst (λ g. Breaks g.rule text g.left) e tt
-      ]
+      | inr other ↦
+          let none : next NeedName w ≡ None = ap (λ b. if same_letters w (codes "END_VAR") then Some Ended else on b AfterName) other.0 ∙ rw no_end refl in
+          elim (chosen (has_name_form w) _ _ _ other.1) [
+            | inl form ↦
+                let leads : run NeedVar (h.opening ∷ h.tokens) ≡ Some NeedName = head_leads text ds due h in
+                let misplaced_ : IsMisplaced text (h.opening ∷ h.tokens) w (length after) = record {
+                  due = due;
+                  after = after;
+                  token_due = is_due text due (h.opening ∷ h.tokens) NeedName h.read leads (λ z. cc);
+                  read = word;
+                  misfit = none_follows (h.opening ∷ h.tokens) w NeedName leads none;
+                  left_is = refl;
+                } in
+                let same : record { rule = rule.BadName; left = length after } ≡ f = cc in
+                subst (λ g. Breaks g.rule text g.left) same (inl (h.opening ∷ h.tokens, w, misplaced_, (ds, head_is text ds due h, form.0)))
+            | inr wrong ↦ later_breaks text ds due f h (misplaced NeedName due w after f (λ z. cc) word none (rw wrong.0 refl) cc)
+          ]
     ]
-
-pub preset_breaks : (text : List ℕ) (ds : List Decl) (name after : List ℕ) (kind : BlockKind) (f : Fault) → WordDue text ds name after → is_name name ≡ true
-    → NoPresetBody kind f after → Breaks f.rule text f.left
-preset_breaks text ds name after kind f due named p =
-    let read : AreTokens (p.colon ∷ p.block ∷ p.assign ∷ p.opening ∷ p.parameter ∷ p.given ∷ p.bad.word ∷ []) after p.bad.after
-    = AreTokens-append (p.colon ∷ p.block ∷ p.assign ∷ p.opening ∷ p.parameter ∷ p.given ∷ []) (p.bad.word ∷ []) after p.before p.bad.after p.read p.bad.read in
-    subst (λ r. Breaks r text f.left) (sym p.bad.rule_is) (
-      p.form,
-      p.bad.word,
-      p.bad.after,
-      record {
-        kind = kind;
-        takes = p.takes;
-        ds = ds;
-        name = name;
-        behind = after;
-        word_due = due;
-        named = named;
-        colon = p.colon;
-        block = p.block;
-        assign = p.assign;
-        opening = p.opening;
-        parameter = p.parameter;
-        given = p.given;
-        is_colon = p.is_colon;
-        is_block = p.is_block;
-        is_assign = p.is_assign;
-        is_opening = p.is_opening;
-        is_parameter = p.is_parameter;
-        is_given = p.is_given;
-        read = read;
-      },
-      p.bad.is_word,
-      p.bad.none,
-      p.bad.left_is,
-    )

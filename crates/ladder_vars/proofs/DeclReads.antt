@@ -45,11 +45,11 @@ tokens-shorter ts text rest h =
 
 pub place_after : (text : List ℕ) (declared : Declared) (rest : List ℕ) → HasDecls text declared rest → rest ≡ drop (length text - length rest) text
 place_after text declared rest h =
-    let end = tokens-end (h.opening ∷ (h.tokens ++ h.closing ∷ [])) text rest h.read in
+    let end = tokens-end h.tokens text rest h.read in
     rw end.1 (sym (drop_end end.0 rest))
 
 pub rest-le : (text : List ℕ) (declared : Declared) (rest : List ℕ) → HasDecls text declared rest → length rest ≤ length text
-rest-le text declared rest h = tokens-shorter (h.opening ∷ (h.tokens ++ h.closing ∷ [])) text rest h.read
+rest-le text declared rest h = tokens-shorter h.tokens text rest h.read
 
 -- ---- what the text declares is read
 
@@ -116,9 +116,12 @@ decls_read (d ∷ ds) a ts closing text rest (suc n) enough is_end derived kept 
 pub all_reads : (text : List ℕ) (declared : Declared) (rest : List ℕ) → HasDecls text declared rest → all_of text ≡ Ok (declared, rest)
 unfolding all_of
 all_reads text declared rest h =
-    let first = expect_reads (codes "VAR") h.opening (h.tokens ++ h.closing ∷ []) text rest h.is_var h.read in
+    let (head, closing, parts, (opening, between, split, is_var, derived), is_end) = h.block in
+    let whole : h.tokens ≡ opening ∷ (between ++ closing ∷ []) = parts ∙ ap (λ z. z ++ closing ∷ []) split in
+    let tokens : AreTokens (opening ∷ (between ++ closing ∷ [])) text rest = subst (λ ts. AreTokens ts text rest) whole h.read in
+    let first = expect_reads (codes "VAR") opening (between ++ closing ∷ []) text rest is_var tokens in
     let enough : length first.0 < length first.0 + 1 = omega arith in
     let kept : AreKept (joined nothing h.decls) = subst AreKept h.declared_is h.kept in
     let read : decls_from (length first.0 + 1) nothing first.0 ≡ Ok (joined nothing h.decls, rest)
-    = decls_read h.decls nothing h.tokens h.closing first.0 rest (length first.0 + 1) enough h.is_end h.derived kept first.2 in
+    = decls_read h.decls nothing between closing first.0 rest (length first.0 + 1) enough is_end derived kept first.2 in
     rw first.1 (subst (λ d. decls_from (length first.0 + 1) nothing first.0 ≡ Ok (d, rest)) (sym h.declared_is) read)

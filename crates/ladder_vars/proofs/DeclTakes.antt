@@ -8,7 +8,7 @@ use Rattle.ladder_vars.specs.declared.decls.Body.TheVariants as body
 use Rattle.ladder_vars.specs.Name.{same_letters, is_name, has_name_form}
 use Rattle.ladder_vars.specs.Decls.{Declared, AreKept}
 use Rattle.ladder_vars.specs.Text.{AreTokens}
-use Rattle.ladder_vars.specs.Grammar.{Is, Decl, IsDecl, AreDecls, var_of, instance_of, declared_by, HasDecls}
+use Rattle.ladder_vars.specs.Grammar.{Is, Decl, IsDecl, AreDecls, var_of, instance_of, declared_by, IsBlock, HasDecls}
 use Rattle.ladder_vars.specs.ReadText.{token_at}
 use Rattle.ladder_vars.specs.ReadDecls.{expect, name_of, refusal, with_decl, refused, added, body_at, nothing, decls_from, all_of}
 use Rattle.ladder_vars.proofs.Steps.{bind_ok, chosen}
@@ -61,7 +61,7 @@ declared_by-push ds d =
       | body.Instance kind preset ↦ λ e. rw (vars-push ds d, instances-push ds d, e, append-nil (declared_by ds).vars) refl
     ] refl
 
-next_due : (text : List ℕ) (ds : List Decl) (due name after rest : List ℕ) (b : Body) → ReadsTo text ds due → AreTokens (name ∷ []) due after → is_name name ≡ true
+pub next_due : (text : List ℕ) (ds : List Decl) (due name after rest : List ℕ) (b : Body) → ReadsTo text ds due → AreTokens (name ∷ []) due after → is_name name ≡ true
     → TakesBody b after rest → ReadsTo text (ds ++ record { name = name; body = b } ∷ []) rest
 next_due text ds due name after rest b h word named taken =
     let d : Decl = record { name = name; body = b } in
@@ -80,14 +80,11 @@ ends_take : (text : List ℕ) (ds : List Decl) (a : Declared) (due w after : Lis
     → AreKept all → AreTokens (w ∷ []) due after → Is (codes "END_VAR") w → a ≡ all → after ≡ rest → HasDecls text all rest
 ends_take text ds a due w after all rest h same kept word is_end whole left =
     let read : AreTokens (h.opening ∷ (h.tokens ++ w ∷ [])) text after = AreTokens-append (h.opening ∷ h.tokens) (w ∷ []) text due after h.read word in
+    let block : IsBlock (h.opening ∷ (h.tokens ++ w ∷ [])) ds = (h.opening ∷ h.tokens, w, refl, (h.opening, h.tokens, refl, h.is_var, h.derived), is_end) in
     record {
-      opening = h.opening;
-      tokens = h.tokens;
-      closing = w;
+      tokens = h.opening ∷ (h.tokens ++ w ∷ []);
       decls = ds;
-      is_var = h.is_var;
-      is_end = is_end;
-      derived = h.derived;
+      block = block;
       declared_is = sym whole ∙ same;
       kept = kept;
       read = subst (λ r. AreTokens (h.opening ∷ (h.tokens ++ w ∷ [])) text r) left read;

@@ -12,10 +12,11 @@ use Rattle.ladder_vars.specs.declared.decls.Body.{Body}
 use Rattle.ladder_vars.specs.declared.decls.Body.TheVariants as body
 use Rattle.ladder_vars.specs.Name.{same_letters}
 use Rattle.ladder_vars.specs.Text.{AreTokens}
-use Rattle.ladder_vars.specs.Grammar.{Is, IsInitial, HasPreset, IsPreset, IsVarBody, IsInstanceBody, IsBody, bit_of, block_of}
+use Rattle.ladder_vars.specs.Grammar.{Is, IsInitial, IsPreset, IsVarBody, IsInstanceBody, IsBody, bit_of, block_of}
 use Rattle.ladder_vars.specs.Kind.{parameter_word}
 use Rattle.ladder_vars.specs.ReadWords.{address_of, value_of}
 use Rattle.ladder_vars.specs.ReadDecls.{expect, given_bit, initial_at, preset_word, given_preset, preset_at, bool_at, placed, block_at, typed, body_at}
+use Rattle.ladder_vars.proofs.Presets.{HasPreset, has_preset}
 use Rattle.ladder_vars.proofs.TextReads.{first_token}
 use Rattle.ladder_vars.proofs.WordLaws.{address_reads, value_reads}
 
@@ -86,7 +87,8 @@ preset_at_reads ts kind n semicolon us text rest (inl (none, zero_)) is_semicolo
     let tokens : AreTokens (semicolon ∷ us) text rest = subst (λ z. AreTokens (z ++ (semicolon ∷ us)) text rest) none h in
     let first = first_token semicolon us text rest tokens in
     record { after = first.0; value = rw (first.1, is_semicolon, zero_) refl; others = first.2 }
-preset_at_reads ts kind n semicolon us text rest (inr p) is_semicolon h =
+preset_at_reads ts kind n semicolon us text rest (inr (form, takes, parts)) is_semicolon h =
+    let p : HasPreset ts kind n = has_preset ts kind n form takes parts in
     let later : List (List ℕ) = p.opening ∷ p.parameter ∷ p.given ∷ p.word ∷ p.closing ∷ semicolon ∷ us in
     let tokens : AreTokens (p.assign ∷ later) text rest = subst (λ z. AreTokens (z ++ (semicolon ∷ us)) text rest) p.tokens h in
     let first = first_token p.assign later text rest tokens in
@@ -158,7 +160,7 @@ var_reads ts us kind (Some a) value text rest b h =
     b.is_colon b.is_bool b.is_initial b.is_semicolon tokens
 
 -- a block's name isn't BOOL
-block_of-other : (word : List ℕ) (kind : BlockKind) → block_of word ≡ Some kind → same_letters word (codes "BOOL") ≡ false
+pub block_of-other : (word : List ℕ) (kind : BlockKind) → block_of word ≡ Some kind → same_letters word (codes "BOOL") ≡ false
 block_of-other word kind h =
     elim (same_letters word (codes "BOOL")) as (λ t. same_letters word (codes "BOOL") ≡ t → t ≡ false) [
       | false ↦ λ e. refl

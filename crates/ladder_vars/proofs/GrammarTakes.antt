@@ -10,11 +10,12 @@ use Rattle.ladder_vars.specs.declared.decls.Body.{Body}
 use Rattle.ladder_vars.specs.declared.decls.Body.TheVariants as body
 use Rattle.ladder_vars.specs.Name.{same_letters}
 use Rattle.ladder_vars.specs.Text.{AreTokens}
-use Rattle.ladder_vars.specs.Grammar.{Is, IsPlace, IsInitial, HasPreset, IsPreset, IsVarBody, IsInstanceBody, IsBody, bit_of, block_of}
+use Rattle.ladder_vars.specs.Grammar.{Is, IsPlace, IsInitial, IsPreset, IsVarBody, IsInstanceBody, IsBody, bit_of, block_of}
 use Rattle.ladder_vars.specs.Kind.{traits_of, parameter_word}
 use Rattle.ladder_vars.specs.ReadText.{token_at}
 use Rattle.ladder_vars.specs.ReadWords.{address_of, value_of}
 use Rattle.ladder_vars.specs.ReadDecls.{some_or, expect, given_bit, initial_at, preset_word, given_preset, given_to, preset_at, bool_at, placed, block_at, typed, body_at}
+use Rattle.ladder_vars.proofs.Presets.{HasPreset, is_preset}
 use Rattle.ladder_vars.proofs.Steps.{bind_ok, chosen}
 use Rattle.ladder_vars.proofs.TextTakes.{token_takes, AreTokens-append}
 use Rattle.ladder_vars.proofs.WordLaws.{address_takes, value_takes}
@@ -157,7 +158,7 @@ given_preset_takes kind form n m text start rest takes is_assign first h =
     record {
       preset = m ∷ ta.0 ∷ tb.0 ∷ tc.0 ∷ tx.0 ∷ td.0 ∷ [];
       semicolon = te.0;
-      is_preset = inr has;
+      is_preset = is_preset _ kind n has;
       is_semicolon = te.1;
       tokens = subst (λ r. AreTokens (m ∷ ta.0 ∷ tb.0 ∷ tc.0 ∷ tx.0 ∷ td.0 ∷ te.0 ∷ []) start r) parts.1 p7;
     }

@@ -9,6 +9,7 @@ mod Leading
 mod Lists
 mod DeclLoop
 mod WordLaws
+mod Presets
 mod GrammarReads
 mod GrammarTakes
 mod GrammarFaults
@@ -16,7 +17,8 @@ mod PresetFaults
 mod Accepting
 mod DeclReads
 mod DeclTakes
-mod BodyEnds
+mod States
+mod Meeting
 mod DeclFaults
 mod LoopFaults
 mod Runs

@@ -1,94 +1,68 @@
 -- Where a text is not read, the rule of the fault is broken at its place.
-use Rattle.std.proofs.Common.{◌≡◌, ℕ, zero, suc, ◌+◌, ◌<◌, inl, inr, true, false, List, [], ◌∷◌, ◌++◌, length, codes, Err, refl, sym, ap, subst, ◌∙◌, arith}
+use Rattle.std.proofs.Common.{◌≡◌, ℕ, zero, suc, ◌+◌, ◌<◌, inl, inr, List, [], ◌∷◌, ◌++◌, length, codes, Err, refl, sym, ap, subst, ◌∙◌, arith}
 use Rattle.ladder_vars.specs.declared.fault.Fault.{Fault}
 use Rattle.ladder_vars.specs.declared.fault.VarRule.{VarRule}
 use Rattle.ladder_vars.specs.declared.fault.VarRule.TheVariants as rule
 use Rattle.ladder_vars.specs.declared.decls.Body.{Body}
-use Rattle.ladder_vars.specs.Name.{same_letters, is_name}
+use Rattle.ladder_vars.specs.Name.{same_letters}
 use Rattle.ladder_vars.specs.Decls.{Declared}
 use Rattle.ladder_vars.specs.Text.{AreTokens}
-use Rattle.ladder_vars.specs.Grammar.{Decl, IsDecl, declared_by}
+use Rattle.ladder_vars.specs.Grammar.{Decl, declared_by}
 use Rattle.ladder_vars.specs.ReadText.{token_at}
 use Rattle.ladder_vars.specs.ReadDecls.{expect, name_of, with_decl, added, body_at, nothing, decls_from, all_of}
-use Rattle.ladder_vars.specs.Rules.{NameDue, WordDue, DeclDue, Breaks, BreaksOn, line_of}
+use Rattle.ladder_vars.specs.Rules.{DeclDue, Breaks, BreaksOn, line_of}
 use Rattle.ladder_vars.proofs.Keeping.{AreFew, AreFew-decl}
 use Rattle.ladder_vars.proofs.Steps.{bind_err, chosen}
 use Rattle.ladder_vars.proofs.TextReads.{first_token}
 use Rattle.ladder_vars.proofs.TextTakes.{token_takes, AreTokens-append}
-use Rattle.ladder_vars.proofs.TextFaults.{Meets, token_meets, meets_later, NoEnd-append}
-use Rattle.ladder_vars.proofs.GrammarReads.{alike}
 use Rattle.ladder_vars.proofs.GrammarTakes.{expect_takes, TakesBody, body_takes}
-use Rattle.ladder_vars.proofs.GrammarFaults.{expect_meets}
 use Rattle.ladder_vars.proofs.PresetFaults.{body_meets}
-use Rattle.ladder_vars.proofs.BodyEnds.{body_no_end}
 use Rattle.ladder_vars.proofs.DeclReads.{tokens-shorter}
-use Rattle.ladder_vars.proofs.DeclTakes.{AreDecls-push, named_is, added_is, accepted_is, declared_by-push}
-use Rattle.ladder_vars.proofs.DeclFaults.{meets_breaks, added_breaks, name_breaks, preset_breaks}
-
-next_due : (text : List ℕ) (ds : List Decl) (due name after rest : List ℕ) (b : Body) → NameDue text ds due → AreTokens (name ∷ []) due after
-    → same_letters name (codes "END_VAR") ≡ false → is_name name ≡ true → TakesBody b after rest → NameDue text (ds ++ record { name = name; body = b } ∷ []) rest
-next_due text ds due name after rest b h word other named taken =
-    let d : Decl = record { name = name; body = b } in
-    let front : List (List ℕ) = name ∷ taken.behind in
-    let decl : IsDecl front d = record { behind = taken.behind; tokens = refl; named = named; is_body = taken.is_body } in
-    let read : AreTokens front due rest = AreTokens-append (name ∷ []) taken.behind due after rest word taken.tokens in
-    record {
-      opening = h.opening;
-      tokens = h.tokens ++ front;
-      is_var = h.is_var;
-      derived = AreDecls-push ds h.tokens front d h.derived decl;
-      no_end = NoEnd-append (h.opening ∷ h.tokens) front h.no_end (other, body_no_end taken.behind b taken.is_body);
-      read = AreTokens-append (h.opening ∷ h.tokens) front text due rest h.read read;
-    }
-
--- a fault that reading on from a name meets
-later_breaks : (text : List ℕ) (ds : List Decl) (due w after : List ℕ) (f : Fault) → NameDue text ds due → AreTokens (w ∷ []) due after
-    → same_letters w (codes "END_VAR") ≡ false → Meets f after → Breaks f.rule text f.left
-later_breaks text ds due w after f h word other m =
-    meets_breaks text f (meets_later (h.opening ∷ h.tokens) text due f h.no_end h.read (meets_later (w ∷ []) due after f (other, tt) word m))
+use Rattle.ladder_vars.proofs.DeclTakes.{ReadsTo, next_due, named_is, added_is, accepted_is, declared_by-push}
+use Rattle.ladder_vars.proofs.States.{NeedVar, NeedName, AfterName, name_next}
+use Rattle.ladder_vars.proofs.Meeting.{token_meets, behind, expect_meets, meets_breaks}
+use Rattle.ladder_vars.proofs.DeclFaults.{head_is, later_breaks, added_breaks, name_breaks}
 
 shorter_rest : (n : ℕ) (due w after rest : List ℕ) (b : Body) → length due < suc n → AreTokens (w ∷ []) due after → TakesBody b after rest → length rest < n
 shorter_rest n due w after rest b enough word taken =
     let first = first_token w [] due after word in
     omega (arith, first.3, ap length first.2, tokens-shorter taken.behind after rest taken.tokens)
 
-decls_break : (n : ℕ) (text : List ℕ) (ds : List Decl) (a : Declared) (due : List ℕ) (f : Fault) → length due < n → NameDue text ds due → a ≡ declared_by ds
+decls_break : (n : ℕ) (text : List ℕ) (ds : List Decl) (a : Declared) (due : List ℕ) (f : Fault) → length due < n → ReadsTo text ds due → a ≡ declared_by ds
     → AreFew a → decls_from n a due ≡ Err f → Breaks f.rule text f.left
 unfolding decls_from
 decls_break zero text ds a due f enough h same few e = absurd (omega arith)
 decls_break (suc n) text ds a due f enough h same few e =
     elim (bind_err (token_at due) _ f e) [
-      | inl none ↦ meets_breaks text f (meets_later (h.opening ∷ h.tokens) text due f h.no_end h.read (token_meets due f none))
+      | inl none ↦ later_breaks text ds due f h (token_meets NeedName due f (λ z. cc) none)
       | inr ((w, after), found, then) ↦
           let word : AreTokens (w ∷ []) due after = token_takes due w after found in
           elim (chosen (same_letters w (codes "END_VAR")) _ _ _ then) [
             | inl end ↦ absurd cc
             | inr other ↦
-                let word_due : WordDue text ds w after = record { due = due; name_due = h; read = word; no_end = other.0 } in
                 elim (bind_err (name_of w (length after)) _ f other.1) [
-                  | inl none ↦ name_breaks text ds w after f word_due none
+                  | inl none ↦ name_breaks text ds due w after f h word other.0 none
                   | inr (name, is, body) ↦
                       let named = named_is w (length after) name is in
                       elim (bind_err (body_at after) _ f body) [
-                        | inl none ↦ elim (body_meets after f none) [
-                          | inl m ↦ later_breaks text ds due w after f h word other.0 m
-                          | inr (kind, p) ↦ preset_breaks text ds w after kind f word_due named.1 p
-                        ]
+                        | inl none ↦ later_breaks text ds due f h (behind w NeedName AfterName due after f (name_next w named.1) word (body_meets after f none))
                         | inr ((b, rest), read, more) ↦
                             let taken : TakesBody b after rest = body_takes b after rest read in
                             let decl_due : DeclDue text ds w b after = record {
-                              word_due = word_due;
+                              head = h.opening ∷ h.tokens;
                               behind = taken.behind;
                               rest = rest;
+                              is_head = head_is text ds due h;
                               named = named.1;
                               is_body = taken.is_body;
+                              before = AreTokens-append (h.opening ∷ h.tokens) (w ∷ []) text due after h.read word;
                               read = taken.tokens;
                             } in
                             elim (bind_err (added a name b (length after)) _ f more) [
                               | inl refused_ ↦ added_breaks text ds a w b after f same few decl_due (ap (λ x. added a x b (length after)) named.0 ∙ refused_)
                               | inr (next, made, others) ↦
                                   let d : Decl = record { name = w; body = b } in
-                                  let due_then : NameDue text (ds ++ d ∷ []) rest = next_due text ds due w after rest b h word other.0 named.1 taken in
+                                  let due_then : ReadsTo text (ds ++ d ∷ []) rest = next_due text ds due w after rest b h word named.1 taken in
                                   let pushed : next ≡ declared_by (ds ++ d ∷ [])
                                   = sym (added_is a name b (length after) next made) ∙ ap (λ x. with_decl a x b) (sym named.0) ∙ ap (λ x. with_decl x w b) same
                                   ∙ sym (declared_by-push ds d) in
@@ -109,15 +83,14 @@ pub all_breaks : (text : List ℕ) (f : Fault) → all_of text ≡ Err f → Bre
 unfolding all_of
 all_breaks text f h =
     elim (bind_err (expect (codes "VAR") text) _ f h) [
-      | inl none ↦ meets_breaks text f (expect_meets (codes "VAR") text f none)
+      | inl none ↦ meets_breaks f text (expect_meets NeedVar NeedName (codes "VAR") text f (λ z. cc) (λ t. (refl, refl)) none)
       | inr (start, found, then) ↦
           let opening = expect_takes (codes "VAR") text start found in
-          let due : NameDue text [] start = record {
+          let due : ReadsTo text [] start = record {
             opening = opening.0;
             tokens = [];
             is_var = opening.1;
             derived = refl;
-            no_end = (alike (codes "VAR") (codes "END_VAR") opening.0 opening.1, tt);
             read = opening.2;
           } in
           decls_break (length start + 1) text [] nothing start f (omega arith) due refl few_first then

@@ -1,18 +1,15 @@
 -- Where no token is found, a byte that may not stand there does, or the text ends.
-use Rattle.std.proofs.Common.{◌≡◌, ℕ, ◌⊎◌, inl, inr, true, false, ◌==◌, ◌&&◌, nat_le, List, [], ◌∷◌, ◌++◌, length, Ok, Err, refl, sym, ap, subst, ◌∙◌, append_assoc, codes}
-use Rattle.std.specs.List.{AllByRecursion}
+use Rattle.std.proofs.Common.{◌≡◌, ℕ, ◌⊎◌, inl, inr, true, false, ◌==◌, ◌&&◌, List, [], ◌∷◌, length, Ok, Err, refl, sym, ap, subst, ◌∙◌, append_assoc}
 use Rattle.std.proofs.lemmas.Bool.{eqb-true, and_parts}
 use Rattle.ladder_vars.specs.declared.fault.Fault.{Fault}
 use Rattle.ladder_vars.specs.declared.fault.VarRule.TheVariants as rule
 use Rattle.ladder_vars.specs.declared.text.Within.{Within}
 use Rattle.ladder_vars.specs.declared.text.Within.TheVariants as state
-use Rattle.ladder_vars.specs.Text.{begins_with, is_blank, token_len, closes, Gap, AreTokens, IsUnfinished, IsBadByte}
+use Rattle.ladder_vars.specs.Text.{begins_with, is_blank, is_printed, begins_comment, token_len, closes, Gap, IsUnfinished, IsBadByte, IsStray}
 use Rattle.ladder_vars.specs.ReadText.{skip_from, unfinished, no_token, token_at}
-use Rattle.ladder_vars.specs.Name.{same_letters}
-use Rattle.ladder_vars.specs.Rules.{NoEnd, Reaches}
 use Rattle.ladder_vars.proofs.TextReads.{begins_with-append}
 use Rattle.ladder_vars.proofs.Steps.{bind_err, chosen}
-use Rattle.ladder_vars.proofs.TextTakes.{GapFrom, EndsComment, EndsLine, begins_cons, head_same, skipped, gap_blank, gap_none, gap_block, gap_line, AreTokens-append}
+use Rattle.ladder_vars.proofs.TextTakes.{GapFrom, EndsComment, EndsLine, begins_cons, head_same, skipped, gap_blank, gap_none, gap_block, gap_line}
 
 pub fault_is : (s : Within) (text : List ℕ) (f : Fault) → skip_from s text ≡ Err f → f ≡ unfinished
 fault_is state.Blanks [] f h = absurd cc
@@ -38,35 +35,37 @@ fault_is state.Comment (b ∷ bs) f h =
 fault_is state.LineComment (b ∷ bs) f h =
     elim (chosen (b == 10) _ _ _ h) [ inl e ↦ fault_is state.Blanks bs f e.1 | inr e ↦ fault_is state.LineComment bs f e.1 ]
 
--- where the skipping ends there is no blank
-stops : (s : Within) (text rest : List ℕ) → skip_from s text ≡ Ok rest → (b : ℕ) (bs : List ℕ) → rest ≡ b ∷ bs → is_blank b bs ≡ false
-stops state.Blanks [] rest h c cs e = absurd (let none : [] ≡ rest = cc in cc)
-stops state.LineComment [] rest h c cs e = absurd (let none : [] ≡ rest = cc in cc)
-stops state.Opening [] rest h c cs e = absurd cc
-stops state.Comment [] rest h c cs e = absurd cc
-stops state.Closing [] rest h c cs e = absurd cc
-stops state.Blanks (b ∷ bs) rest h c cs e =
+-- where the skipping ends there is neither a blank nor a comment
+abbrev pub NoGap : List ℕ → Type 0
+NoGap [] = Unit {0}
+NoGap (b ∷ bs) = (is_blank b bs ≡ false) × (begins_comment (b ∷ bs) ≡ false)
+
+pub stops : (s : Within) (text rest : List ℕ) → skip_from s text ≡ Ok rest → NoGap rest
+stops state.Blanks [] rest h = let none : [] ≡ rest = cc in subst NoGap none tt
+stops state.LineComment [] rest h = let none : [] ≡ rest = cc in subst NoGap none tt
+stops state.Opening [] rest h = absurd cc
+stops state.Comment [] rest h = absurd cc
+stops state.Closing [] rest h = absurd cc
+stops state.Blanks (b ∷ bs) rest h =
     elim (chosen (is_blank b bs) _ _ _ h) [
-      | inl blank ↦ stops state.Blanks bs rest blank.1 c cs e
+      | inl blank ↦ stops state.Blanks bs rest blank.1
       | inr other ↦ elim (chosen (b == 40 && begins_with 42 bs) _ _ _ other.1) [
-        | inl block ↦ stops state.Opening bs rest block.1 c cs e
+        | inl block ↦ stops state.Opening bs rest block.1
         | inr rest_of ↦ elim (chosen (b == 47 && begins_with 47 bs) _ _ _ rest_of.1) [
-          | inl line ↦ stops state.LineComment bs rest line.1 c cs e
+          | inl line ↦ stops state.LineComment bs rest line.1
           | inr end ↦
               let same : b ∷ bs ≡ rest = cc in
-              let both : b ∷ bs ≡ c ∷ cs = same ∙ e in
-              let first : b ≡ c = cc in
-              let others : bs ≡ cs = cc in
-              subst (λ z. is_blank z cs ≡ false) first (subst (λ zs. is_blank b zs ≡ false) others other.0)
+              let comment : begins_comment (b ∷ bs) ≡ false = rw (rest_of.0, end.0) refl in
+              subst NoGap same (other.0, comment)
         ]
       ]
     ]
-stops state.Opening (b ∷ bs) rest h c cs e = stops state.Comment bs rest h c cs e
-stops state.Closing (b ∷ bs) rest h c cs e = stops state.Blanks bs rest h c cs e
-stops state.Comment (b ∷ bs) rest h c cs e =
-    elim (chosen (b == 42 && begins_with 41 bs) _ _ _ h) [ inl x ↦ stops state.Closing bs rest x.1 c cs e | inr x ↦ stops state.Comment bs rest x.1 c cs e ]
-stops state.LineComment (b ∷ bs) rest h c cs e =
-    elim (chosen (b == 10) _ _ _ h) [ inl x ↦ stops state.Blanks bs rest x.1 c cs e | inr x ↦ stops state.LineComment bs rest x.1 c cs e ]
+stops state.Opening (b ∷ bs) rest h = stops state.Comment bs rest h
+stops state.Closing (b ∷ bs) rest h = stops state.Blanks bs rest h
+stops state.Comment (b ∷ bs) rest h =
+    elim (chosen (b == 42 && begins_with 41 bs) _ _ _ h) [ inl x ↦ stops state.Closing bs rest x.1 | inr x ↦ stops state.Comment bs rest x.1 ]
+stops state.LineComment (b ∷ bs) rest h =
+    elim (chosen (b == 10) _ _ _ h) [ inl x ↦ stops state.Blanks bs rest x.1 | inr x ↦ stops state.LineComment bs rest x.1 ]
 
 -- ---- open comments
 
@@ -156,65 +155,36 @@ open_from state.LineComment (b ∷ bs) f h =
       | inr more ↦ elim (open_from state.LineComment bs f more.1) [ inl never ↦ absurd never | inr (at, g, u) ↦ inr (at, line_more b bs at more.0 g, u) ]
     ]
 
--- ---- faults at a token
+-- ---- no token
 
--- the fault shows here
-abbrev pub Shows : Fault → List ℕ → Type 0
-Shows f at =
-    ((f.rule ≡ rule.BadByte) × IsBadByte at × (f.left ≡ length at)) ⊎ ((f.rule ≡ rule.Unfinished) × IsUnfinished at × (f.left ≡ 0))
+-- a text that goes on with a gap and then no token shows the fault
+abbrev pub HasNoToken : Fault → List ℕ → Type 0
+HasNoToken f due =
+    (at : List ℕ) × Gap due at × (((f.rule ≡ rule.BadByte) × IsBadByte at × (f.left ≡ length at))
+    ⊎ (((f.rule ≡ rule.BadToken) × IsStray at × (f.left ≡ length at)) ⊎ ((f.rule ≡ rule.Unfinished) × IsUnfinished at × (f.left ≡ 0))))
 
--- reading on from here meets the fault
-abbrev pub Meets : Fault → List ℕ → Type 0
-Meets f text = (f.rule ≡ rule.BadToken) ⊎ ((at : List ℕ) × Reaches text at × Shows f at)
-
-here : (text at : List ℕ) → Gap text at → Reaches text at
-here text at g = record { tokens = []; before = text; no_end = tt; read = refl; gap = g }
-
-no_token-meets : (text rest : List ℕ) (f : Fault) → skip_from state.Blanks text ≡ Ok rest → no_token rest ≡ f → Meets f text
-no_token-meets text [] f skip e = inr ([], here text [] (skipped state.Blanks text [] skip), inr (ap (λ g. g.rule) (sym e), tt, ap (λ g. g.left) (sym e)))
-no_token-meets text (b ∷ bs) f skip e =
-    elim (nat_le 33 b && nat_le b 126) as (λ t. (nat_le 33 b && nat_le b 126) ≡ t → Meets f text) [
-      | true ↦ λ range. inl (ap (λ g. g.rule) (sym e) ∙ rw range refl)
-      | false ↦ λ range.
-          let no_blank : is_blank b bs ≡ false = stops state.Blanks text (b ∷ bs) skip b bs refl in
-          inr (
-            b ∷ bs,
-            here text (b ∷ bs) (skipped state.Blanks text (b ∷ bs) skip),
-            inl (ap (λ g. g.rule) (sym e) ∙ rw range refl, (no_blank, range), ap (λ g. g.left) (sym e)),
-          )
+no_token-shows : (due at : List ℕ) (f : Fault) → Gap due at → NoGap at → token_len at ≡ 0 → no_token at ≡ f → HasNoToken f due
+no_token-shows due [] f gap stop none e = ([], gap, inr (inr (ap (λ g. g.rule) (sym e), tt, ap (λ g. g.left) (sym e))))
+no_token-shows due (b ∷ bs) f gap stop none e =
+    elim (is_printed b) as (λ t. is_printed b ≡ t → HasNoToken f due) [
+      | true ↦ λ printed. (b ∷ bs, gap, inr (inl (ap (λ g. g.rule) (sym e) ∙ rw printed refl, (printed, none, stop.1), ap (λ g. g.left) (sym e))))
+      | false ↦ λ other. (b ∷ bs, gap, inl (ap (λ g. g.rule) (sym e) ∙ rw other refl, (stop.0, other), ap (λ g. g.left) (sym e)))
     ] refl
 
-pub token_meets : (text : List ℕ) (f : Fault) → token_at text ≡ Err f → Meets f text
+pub no_token-found : (due : List ℕ) (f : Fault) → token_at due ≡ Err f → HasNoToken f due
 unfolding token_at
-token_meets text f h =
-    elim (bind_err (skip_from state.Blanks text) _ f h) [
+no_token-found due f h =
+    elim (bind_err (skip_from state.Blanks due) _ f h) [
       | inl skip ↦
-          let unf : f ≡ unfinished = fault_is state.Blanks text f skip in
-          elim (open_from state.Blanks text f skip) [
+          let unf : f ≡ unfinished = fault_is state.Blanks due f skip in
+          elim (open_from state.Blanks due f skip) [
             | inl never ↦ absurd never
-            | inr (at, g, u) ↦ inr (at, here text at g, inr (ap (λ x. x.rule) unf, u, ap (λ x. x.left) unf))
+            | inr (at, gap, u) ↦ (at, gap, inr (inr (ap (λ x. x.rule) unf, u, ap (λ x. x.left) unf)))
           ]
       | inr (rest, skip, then) ↦ elim (chosen (token_len rest == 0) _ _ _ then) [
-        | inl none ↦ let e : no_token rest ≡ f = cc in no_token-meets text rest f skip e
+        | inl none ↦
+            let e : no_token rest ≡ f = cc in
+            no_token-shows due rest f (skipped state.Blanks due rest skip) (stops state.Blanks due rest skip) (eqb-true (token_len rest) 0 none.0) e
         | inr some ↦ absurd cc
       ]
     ]
-
-AllByRecursion-append : (P : List ℕ → Type 0) (xs ys : List (List ℕ)) → AllByRecursion P xs → AllByRecursion P ys → AllByRecursion P (xs ++ ys)
-AllByRecursion-append P [] ys p q = q
-AllByRecursion-append P (x ∷ xs) ys p q = (p.0, AllByRecursion-append P xs ys p.1 q)
-
-pub NoEnd-append : (xs ys : List (List ℕ)) → NoEnd xs → NoEnd ys → NoEnd (xs ++ ys)
-NoEnd-append xs ys p q = AllByRecursion-append (λ t. same_letters t (codes "END_VAR") ≡ false) xs ys p q
-
-pub meets_later : (ts : List (List ℕ)) (a b : List ℕ) (f : Fault) → NoEnd ts → AreTokens ts a b → Meets f b → Meets f a
-meets_later ts a b f no_end read (inl bad) = inl bad
-meets_later ts a b f no_end read (inr (at, r, shows)) =
-    let reaches : Reaches a at = record {
-      tokens = ts ++ r.tokens;
-      before = r.before;
-      no_end = NoEnd-append ts r.tokens no_end r.no_end;
-      read = AreTokens-append ts r.tokens a b r.before read r.read;
-      gap = r.gap;
-    } in
-    inr (at, reaches, shows)

@@ -13,7 +13,7 @@ use Rattle.ladder_vars.specs.declared.kind.Parameter.TheVariants as parameter
 use Rattle.ladder_vars.specs.declared.decls.Address.{Address}
 use Rattle.ladder_vars.specs.Text.{begins}
 use Rattle.ladder_vars.specs.Duration.{IsNumber, number_of}
-use Rattle.ladder_vars.specs.Grammar.{Is, IsSecond, IsAddress, IsCount, IsValue, kind_of}
+use Rattle.ladder_vars.specs.Grammar.{Is, IsSecond, IsAddress, IsValue, kind_of}
 use Rattle.ladder_vars.specs.ReadWords.{short_number, count_of, after_size, second_of, numbers_of, placed_at, address_of, value_of}
 use Rattle.ladder_vars.proofs.Steps.{chosen}
 use Rattle.ladder_vars.proofs.Runs.{bind_some, prefix_len-run}
@@ -35,10 +35,10 @@ number_takes word n h =
       | inr other ↦ absurd cc
     ]
 
-count_reads : (word : List ℕ) (n : ℕ) → IsCount word n → count_of word ≡ Some n
+count_reads : (word : List ℕ) (n : ℕ) → IsValue parameter.Count word n → count_of word ≡ Some n
 count_reads word n h = rw (number_reads word n h.0, le-leb n 32767 h.1) refl
 
-count_takes : (word : List ℕ) (n : ℕ) → count_of word ≡ Some n → IsCount word n
+count_takes : (word : List ℕ) (n : ℕ) → count_of word ≡ Some n → IsValue parameter.Count word n
 count_takes word n h =
     let m = bind_some (short_number word) _ n h in
     elim (chosen (nat_le m.0 32767) _ _ _ m.2) [

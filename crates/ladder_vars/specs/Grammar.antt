@@ -24,6 +24,11 @@ use Rattle.ladder_vars.specs.Duration.{IsNumber, IsDuration}
 abbrev pub Is : List ℕ → List ℕ → Type 0
 Is word token = same_letters token word ≡ true
 
+-- The tokens are of these sorts, one of each in this order.
+abbrev pub AreOf : List (List ℕ → Type 0) → List (List ℕ) → Type 0
+AreOf [] ts = ts ≡ []
+AreOf (Sort ∷ sorts) ts = (t : List ℕ) × (others : List (List ℕ)) × (ts ≡ t ∷ others) × Sort t × AreOf sorts others
+
 -- ---- addresses: % I 1 . 0
 
 -- which variables stand at an address with this letter; 73, 81 and 77 are I, Q and M
@@ -80,34 +85,16 @@ block_of word = find (λ k. same_letters word (traits_of k).word) all_kinds
 abbrev pub IsTime : List ℕ → ℕ → Type 0
 IsTime word n = IsDuration word n × (n ≤ largest_value parameter.Time)
 
-abbrev pub IsCount : List ℕ → ℕ → Type 0
-IsCount word n = IsNumber word n × (n ≤ largest_value parameter.Count)
-
 abbrev pub IsValue : Parameter → List ℕ → ℕ → Type 0
 IsValue parameter.Time word n = IsTime word n
-IsValue parameter.Count word n = IsCount word n
+IsValue parameter.Count word n = IsNumber word n × (n ≤ largest_value parameter.Count)
 
--- `:= ( PT := duration )` of a timer, or `:= ( PV := number )` of a counter; a bistable has no preset
-pub record HasPreset (ts : List (List ℕ)) (kind : BlockKind) (n : ℕ) : Type 0 where
-  pub form : Parameter
-  pub takes : (traits_of kind).parameter ≡ Some form
-  pub assign : List ℕ
-  pub opening : List ℕ
-  pub parameter : List ℕ
-  pub given : List ℕ
-  pub word : List ℕ
-  pub closing : List ℕ
-  pub tokens : ts ≡ assign ∷ opening ∷ parameter ∷ given ∷ word ∷ closing ∷ []
-  pub is_assign : Is (codes ":=") assign
-  pub is_opening : Is (codes "(") opening
-  pub is_parameter : Is (parameter_word form) parameter
-  pub is_given : Is (codes ":=") given
-  pub is_word : IsValue form word n
-  pub is_closing : Is (codes ")") closing
-
--- a preset, or nothing, which is 0
+-- Nothing, which is 0, or `:= ( PT := duration )` of a timer, `:= ( PV := number )` of a counter; a bistable has no preset.
 abbrev pub IsPreset : List (List ℕ) → BlockKind → ℕ → Type 0
-IsPreset ts kind n = ((ts ≡ []) × (n ≡ 0)) ⊎ HasPreset ts kind n
+IsPreset ts kind n =
+    ((ts ≡ []) × (n ≡ 0))
+    ⊎ ((form : Parameter) × ((traits_of kind).parameter ≡ Some form)
+    × AreOf (Is (codes ":=") ∷ Is (codes "(") ∷ Is (parameter_word form) ∷ Is (codes ":=") ∷ (λ word. IsValue form word n) ∷ Is (codes ")") ∷ []) ts)
 
 -- ---- declarations
 
@@ -171,19 +158,26 @@ declared_by ds = record {
   instances = filter_map (λ d. instance_of d.name d.body) ds;
 }
 
--- VAR, the declarations and END_VAR, right after which the rest of the text begins. Names, addresses and limits are kept.
+-- VAR and declarations; and these with END_VAR
+abbrev pub IsHead : List (List ℕ) → List Decl → Type 0
+IsHead ts ds = (opening : List ℕ) × (between : List (List ℕ)) × (ts ≡ opening ∷ between) × Is (codes "VAR") opening × AreDecls between ds
+
+abbrev pub IsBlock : List (List ℕ) → List Decl → Type 0
+IsBlock ts ds = (head : List (List ℕ)) × (closing : List ℕ) × (ts ≡ head ++ closing ∷ []) × IsHead head ds × Is (codes "END_VAR") closing
+
+-- The text begins with such a block, right after which the rest begins. Names, addresses and limits are kept.
 pub record HasDecls (text : List ℕ) (declared : Declared) (rest : List ℕ) : Type 0 where
-  pub opening : List ℕ
   pub tokens : List (List ℕ)
-  pub closing : List ℕ
   pub decls : List Decl
-  pub is_var : Is (codes "VAR") opening
-  pub is_end : Is (codes "END_VAR") closing
-  pub derived : AreDecls tokens decls
+  pub block : IsBlock tokens decls
   pub declared_is : declared ≡ declared_by decls
   pub kept : AreKept declared
-  pub read : AreTokens (opening ∷ (tokens ++ closing ∷ [])) text rest
+  pub read : AreTokens tokens text rest
 
 -- The text has no declarations.
 abbrev pub HasNoDecls : List ℕ → Type 0
 HasNoDecls text = (declared : Declared) (rest : List ℕ) → HasDecls text declared rest → ⊥
+
+-- Some block begins with these tokens and then this one. The grammar alone says so: its names, addresses and limits need not be kept.
+abbrev pub CanFollow : List (List ℕ) → List ℕ → Type 0
+CanFollow ts token = (more : List (List ℕ)) × (ds : List Decl) × IsBlock (ts ++ token ∷ more) ds

@@ -18,7 +18,7 @@ use Rattle.ladder_vars.specs.declared.decls.Body.TheVariants as body
 use Rattle.ladder_vars.specs.Name.{same_letters, is_name, has_name_form}
 use Rattle.ladder_vars.specs.Kind.{traits_of, parameter_word, largest_preset}
 use Rattle.ladder_vars.specs.Decls.{Declared, is_input_kind, same_address}
-use Rattle.ladder_vars.specs.Text.{begins, is_word_byte}
+use Rattle.ladder_vars.specs.Text.{begins_word}
 use Rattle.ladder_vars.specs.Grammar.{bit_of, block_of}
 use Rattle.ladder_vars.specs.ReadText.{◌>>=◌, token_at, unfinished}
 use Rattle.ladder_vars.specs.ReadWords.{address_of, value_of}
@@ -61,9 +61,9 @@ initial_at text = do
 
 -- ---- [:= ( PT := duration )] ;
 
--- a mark where the preset is due is no word; 37 begins an address
+-- a mark where the preset is due is no word
 abbrev pub preset_fault : List ℕ → VarRule
-preset_fault token = if begins (λ b. is_word_byte b || b == 37) token then rule.BadPreset else rule.BadToken
+preset_fault token = if begins_word token then rule.BadPreset else rule.BadToken
 
 unfoldable pub preset_word : Parameter → List ℕ → Result (ℕ × List ℕ) Fault
 preset_word form text = do

@@ -1,91 +1,62 @@
 -- Where a rule V1 to V8 of a block of declarations is broken: the rule, and how many bytes of the text are left where it shows.
--- V2 says no more than that no other token fits, so it is not stated here; V9 (out of memory) is no rule of the text.
-use Rattle.std.specs.Prelude.{◌≡◌, ℕ, ◌+◌, ◌-◌, ◌<◌, ◌⊎◌, ◌||◌, ◌==◌, Bool, true, false, List, [], ◌∷◌, length, take, count_by, codes, Some}
-use Rattle.std.specs.List.{list_any, AllByRecursion}
+-- A token is due where what was read before can be continued to a block. V1 and V8 show there, and V2, V3 and V6 at a token that can't follow:
+-- it is V3 of a word of a name's form where a name is due, V6 of a word where a value is due, and otherwise V2.
+-- V9 (out of memory) is no rule of the text.
+use Rattle.std.specs.Prelude.{◌≡◌, ℕ, ◌+◌, ◌-◌, ◌<◌, ◌⊎◌, ◌==◌, Bool, true, List, [], ◌∷◌, ◌++◌, length, take, count_by, codes, Some}
+use Rattle.std.specs.List.{list_any}
 use Rattle.ladder_vars.specs.declared.limits.TheConstants.{MOST_VARS, MOST_INSTANCES}
 use Rattle.ladder_vars.specs.declared.fault.VarRule.{VarRule}
 use Rattle.ladder_vars.specs.declared.fault.VarRule.TheVariants as rule
 use Rattle.ladder_vars.specs.declared.decls.VarKind.{VarKind}
 use Rattle.ladder_vars.specs.declared.kind.BlockKind.{BlockKind}
-use Rattle.ladder_vars.specs.declared.kind.Parameter.{Parameter}
 use Rattle.ladder_vars.specs.declared.decls.Address.{Address}
 use Rattle.ladder_vars.specs.declared.decls.Body.{Body}
 use Rattle.ladder_vars.specs.declared.decls.Body.TheVariants as body
 use Rattle.ladder_vars.specs.Name.{same_letters, has_name_form, is_name}
-use Rattle.ladder_vars.specs.Kind.{traits_of, parameter_word}
+use Rattle.ladder_vars.specs.Kind.{traits_of}
 use Rattle.ladder_vars.specs.Decls.{names_of, addresses_of, same_address}
-use Rattle.ladder_vars.specs.Text.{begins, is_word_byte, Gap, AreTokens, IsUnfinished, IsBadByte}
-use Rattle.ladder_vars.specs.Grammar.{Is, Decl, AreDecls, IsBody, declared_by, block_of, IsValue}
+use Rattle.ladder_vars.specs.Text.{begins_word, Gap, AreTokens, IsUnfinished, IsBadByte, IsStray}
+use Rattle.ladder_vars.specs.Grammar.{Is, Decl, IsBody, declared_by, IsHead, CanFollow}
 
 -- The line, counted from 1, of what stands so many bytes before the end; 10 is LF.
 abbrev pub line_of : List ℕ → ℕ → ℕ
 line_of text left = 1 + count_by (λ b. b == 10) (take (length text - left) text)
 
--- None of the tokens ends the block.
-abbrev pub NoEnd : List (List ℕ) → Type 0
-NoEnd ts = AllByRecursion (λ t. same_letters t (codes "END_VAR") ≡ false) ts
+-- These tokens lead from the start of the text to here, and some token can follow them.
+pub record TokenDue (text : List ℕ) (tokens : List (List ℕ)) (due : List ℕ) : Type 0 where
+  pub next : List ℕ
+  pub follows : CanFollow tokens next
+  pub read : AreTokens tokens text due
 
--- Tokens of the block lead from the start of the text to here, and then a gap.
-pub record Reaches (text at : List ℕ) : Type 0 where
-  pub tokens : List (List ℕ)
-  pub before : List ℕ
-  pub no_end : NoEnd tokens
-  pub read : AreTokens tokens text before
-  pub gap : Gap before at
-
--- VAR and whole declarations lead from the start of the text to where a name is due.
-pub record NameDue (text : List ℕ) (ds : List Decl) (due : List ℕ) : Type 0 where
-  pub opening : List ℕ
-  pub tokens : List (List ℕ)
-  pub is_var : Is (codes "VAR") opening
-  pub derived : AreDecls tokens ds
-  pub no_end : NoEnd (opening ∷ tokens)
-  pub read : AreTokens (opening ∷ tokens) text due
-
--- This word, which does not end the block, stands where a name is due.
-pub record WordDue (text : List ℕ) (ds : List Decl) (word after : List ℕ) : Type 0 where
+-- This token stands there, with so many bytes behind it, and can't follow them.
+pub record IsMisplaced (text : List ℕ) (tokens : List (List ℕ)) (token : List ℕ) (left : ℕ) : Type 0 where
   pub due : List ℕ
-  pub name_due : NameDue text ds due
-  pub read : AreTokens (word ∷ []) due after
-  pub no_end : same_letters word (codes "END_VAR") ≡ false
+  pub after : List ℕ
+  pub token_due : TokenDue text tokens due
+  pub read : AreTokens (token ∷ []) due after
+  pub misfit : CanFollow tokens token → ⊥
+  pub left_is : left ≡ length after
 
--- One more whole declaration stands there.
+-- Where a name is due, behind VAR and whole declarations, the token has a name's form.
+abbrev pub IsForName : List (List ℕ) → List ℕ → Type 0
+IsForName tokens token = (ds : List Decl) × IsHead tokens ds × (has_name_form token ≡ true)
+
+-- Where a value is due, behind `( PT :=` or `( PV :=`, the token is a word or begins with `%`.
+abbrev pub IsForValue : List (List ℕ) → List ℕ → Type 0
+IsForValue tokens token =
+    (before : List (List ℕ)) × (opening parameter assign : List ℕ) × (tokens ≡ before ++ opening ∷ parameter ∷ assign ∷ [])
+    × Is (codes "(") opening × (begins_word token ≡ true)
+
+-- One more whole declaration stands where a name is due.
 pub record DeclDue (text : List ℕ) (ds : List Decl) (name : List ℕ) (b : Body) (after : List ℕ) : Type 0 where
-  pub word_due : WordDue text ds name after
+  pub head : List (List ℕ)
   pub behind : List (List ℕ)
   pub rest : List ℕ
+  pub is_head : IsHead head ds
   pub named : is_name name ≡ true
   pub is_body : IsBody behind b
+  pub before : AreTokens (head ++ name ∷ []) text after
   pub read : AreTokens behind after rest
-
--- A value of this parameter is due, and this token stands there.
-pub record PresetDue (text : List ℕ) (form : Parameter) (word after : List ℕ) : Type 0 where
-  pub kind : BlockKind
-  pub takes : (traits_of kind).parameter ≡ Some form
-  pub ds : List Decl
-  pub name : List ℕ
-  pub behind : List ℕ
-  pub word_due : WordDue text ds name behind
-  pub named : is_name name ≡ true
-  pub colon : List ℕ
-  pub block : List ℕ
-  pub assign : List ℕ
-  pub opening : List ℕ
-  pub parameter : List ℕ
-  pub given : List ℕ
-  pub is_colon : Is (codes ":") colon
-  pub is_block : block_of block ≡ Some kind
-  pub is_assign : Is (codes ":=") assign
-  pub is_opening : Is (codes "(") opening
-  pub is_parameter : Is (parameter_word form) parameter
-  pub is_given : Is (codes ":=") given
-  pub read : AreTokens (colon ∷ block ∷ assign ∷ opening ∷ parameter ∷ given ∷ word ∷ []) behind after
-
--- A word of a name's form is none, where a name is due.
-abbrev pub HasBadName : List ℕ → ℕ → Type 0
-HasBadName text left =
-    (ds : List Decl) × (word after : List ℕ) × WordDue text ds word after
-    × (has_name_form word ≡ true) × (is_name word ≡ false) × (left ≡ length after)
 
 -- An instance has a longer name than its kind allows.
 abbrev pub HasLongInstance : List ℕ → ℕ → Type 0
@@ -100,9 +71,12 @@ IsFull ds (body.Instance kind preset) = length (declared_by ds).instances ≡ MO
 
 -- The rule is broken, and so many bytes are left where it shows.
 abbrev pub Breaks : VarRule → List ℕ → ℕ → Type 0
-Breaks rule.BadByte text left = (at : List ℕ) × Reaches text at × IsBadByte at × (left ≡ length at)
-Breaks rule.BadToken text left = Unit {0}
-Breaks rule.BadName text left = HasBadName text left ⊎ HasLongInstance text left
+Breaks rule.BadByte text left = (tokens : List (List ℕ)) × (due at : List ℕ) × TokenDue text tokens due × Gap due at × IsBadByte at × (left ≡ length at)
+Breaks rule.BadToken text left =
+    ((tokens : List (List ℕ)) × (due at : List ℕ) × TokenDue text tokens due × Gap due at × IsStray at × (left ≡ length at))
+    ⊎ ((tokens : List (List ℕ)) × (token : List ℕ) × IsMisplaced text tokens token left × (IsForName tokens token → ⊥) × (IsForValue tokens token → ⊥))
+Breaks rule.BadName text left =
+    ((tokens : List (List ℕ)) × (token : List ℕ) × IsMisplaced text tokens token left × IsForName tokens token) ⊎ HasLongInstance text left
 Breaks rule.Duplicate text left =
     (ds : List Decl) × (name after : List ℕ) × (b : Body) × DeclDue text ds name b after
     × (list_any (same_letters name) (names_of (declared_by ds)) ≡ true) × (left ≡ length after)
@@ -110,12 +84,10 @@ Breaks rule.DuplicateAddress text left =
     (ds : List Decl) × (name after : List ℕ) × (kind : VarKind) × (a : Address) × (initial : Bool)
     × DeclDue text ds name (body.Var kind (Some a) initial) after
     × (list_any (same_address a) (addresses_of (declared_by ds).vars) ≡ true) × (left ≡ length after)
-Breaks rule.BadPreset text left =
-    (form : Parameter) × (word after : List ℕ) × PresetDue text form word after × (begins (λ b. is_word_byte b || b == 37) word ≡ true)
-    × ((n : ℕ) → IsValue form word n → ⊥) × (left ≡ length after)
+Breaks rule.BadPreset text left = (tokens : List (List ℕ)) × (token : List ℕ) × IsMisplaced text tokens token left × IsForValue tokens token
 Breaks rule.TooMany text left =
     (ds : List Decl) × (name after : List ℕ) × (b : Body) × DeclDue text ds name b after × IsFull ds b × (left ≡ length after)
-Breaks rule.Unfinished text left = (at : List ℕ) × Reaches text at × IsUnfinished at × (left ≡ 0)
+Breaks rule.Unfinished text left = (tokens : List (List ℕ)) × (due at : List ℕ) × TokenDue text tokens due × Gap due at × IsUnfinished at × (left ≡ 0)
 Breaks rule.Memory text left = ⊥
 
 -- The rule is broken on the line; V9 has line 0, which is none.

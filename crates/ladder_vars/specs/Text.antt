@@ -18,6 +18,10 @@ is_blank b after = b == 32 || (b == 9 || (b == 10 || (b == 13 && begins_with 10 
 abbrev pub is_word_byte : ℕ → Bool
 is_word_byte b = is_ascii_alphanumeric b || (b == 95 || (b == 35 || b == 46))
 
+-- The token is a word, or begins with the percent sign (37).
+abbrev pub begins_word : List ℕ → Bool
+begins_word = begins (λ b. is_word_byte b || b == 37)
+
 abbrev pub is_address_byte : ℕ → Bool
 is_address_byte b = is_ascii_alphanumeric b || b == 46
 
@@ -79,7 +83,21 @@ IsUnfinished [] = Unit {0}
 IsUnfinished (a ∷ []) = ⊥
 IsUnfinished (a ∷ b ∷ inside) = (a ≡ 40) × (b ≡ 42) × (closes inside ≡ false)
 
--- Neither a blank nor a byte from 0x21 to 0x7E stands at the start.
+-- a byte from 0x21 to 0x7E
+abbrev pub is_printed : ℕ → Bool
+is_printed b = nat_le 33 b && nat_le b 126
+
+-- Neither a blank nor such a byte stands at the start.
 abbrev pub IsBadByte : List ℕ → Type 0
 IsBadByte [] = ⊥
-IsBadByte (b ∷ after) = (is_blank b after ≡ false) × ((nat_le 33 b && nat_le b 126) ≡ false)
+IsBadByte (b ∷ after) = (is_blank b after ≡ false) × (is_printed b ≡ false)
+
+-- `(*` or `//` stands at the start.
+abbrev pub begins_comment : List ℕ → Bool
+begins_comment [] = false
+begins_comment (b ∷ after) = (b == 40 && begins_with 42 after) || (b == 47 && begins_with 47 after)
+
+-- A printed byte stands at the start, and begins neither a token nor a comment.
+abbrev pub IsStray : List ℕ → Type 0
+IsStray [] = ⊥
+IsStray (b ∷ after) = (is_printed b ≡ true) × (token_len (b ∷ after) ≡ 0) × (begins_comment (b ∷ after) ≡ false)

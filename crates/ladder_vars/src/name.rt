@@ -1,8 +1,8 @@
 //! Names, and words without regard to letter case.
 
-ghost use Rattle.std.specs.Prelude.{◌≡◌, map, true, false, IfSome, IfNone};
-ghost use Rattle.std.specs.List.{list_all};
-ghost use Rattle.ladder_vars.specs.Name.{is_keyword, is_one_of, is_name_byte, has_name_form, is_name, same_letters};
+ghost use Rattle.std.specs.Prelude.{◌≡◌, true, false, IfSome, IfNone};
+ghost use Rattle.std.specs.List.{list_all, list_any};
+ghost use Rattle.ladder_vars.specs.Name.{is_keyword, is_name_byte, has_name_form, is_name, same_letters};
 
 use crate::limits::LONGEST_NAME;
 use std::marker::Model;
@@ -20,16 +20,10 @@ pub(crate) fn same_letters(a: &[u8], b: &[u8]) -> bool
     a.eq_ignore_ascii_case(b)
 }
 
-fn is_one_of(mut words: &[&[u8]], word: &[u8]) -> bool
-    ensures { result ≡ is_one_of (map (λ w. w.now) words.entry.now) word.now }
+fn is_one_of(words: &[&[u8]], word: &[u8]) -> bool
+    ensures { result ≡ list_any (λ w. same_letters word.now w.now) words.now }
 {
-    while let [first, rest @ ..] = words {
-        if same_letters(word, first) {
-            return true;
-        }
-        words = rest;
-    }
-    false
+    words.iter().any(|w| same_letters(word, w))
 }
 
 fn is_keyword(word: &[u8]) -> bool
