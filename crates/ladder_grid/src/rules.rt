@@ -14,8 +14,9 @@ use crate::feeding::{is_unfed, right_link};
 use crate::form::Form;
 use crate::geometry::{COLUMNS, PITCH, PLACES, RAIL, ROWS};
 use crate::operand::{Reference, is_odd};
-use crate::page::{PageView, form_at, instance_at, name_over, rung_at};
+use crate::page::{form_at, instance_at, name_over, rung_at};
 use crate::picture::{Half, ch, joint, line_of, text_over};
+use crate::view::PageView;
 use ladder_vars::Pin;
 
 fn is_form(form: Option<Form>) -> bool
@@ -26,7 +27,6 @@ fn is_form(form: Option<Form>) -> bool
 
 fn bad_cell(page: PageView<'_, '_>, rung: usize, row: usize, half: Half, column: usize) -> bool
     requires rungs { rung < length page.parts.now }
-    requires within { All (IsWithin (length page.lines.now)) page.parts.now }
     requires rows { row < ROWS }
     ensures { result ≡ bad_cell (seen page.entry) rung row half column }
 {
@@ -58,7 +58,6 @@ fn bad_rail(b: u8) -> bool
 
 fn bad_at_joint(page: PageView<'_, '_>, rung: usize, row: usize, half: Half, column: usize) -> bool
     requires rungs { rung < length page.parts.now }
-    requires within { All (IsWithin (length page.lines.now)) page.parts.now }
     requires rows { row < ROWS }
     requires columns { column < COLUMNS }
     ensures { result ≡ bad_at_joint (seen page.entry) rung row half column }
@@ -76,7 +75,6 @@ fn bad_at_joint(page: PageView<'_, '_>, rung: usize, row: usize, half: Half, col
 
 fn bad_joint(page: PageView<'_, '_>, rung: usize, row: usize, half: Half, column: usize) -> bool
     requires rungs { rung < length page.parts.now }
-    requires within { All (IsWithin (length page.lines.now)) page.parts.now }
     requires rows { row < ROWS }
     requires columns { column ≤ COLUMNS }
     ensures { result ≡ bad_joint (seen page.entry) rung row half column }
@@ -131,7 +129,6 @@ pub(crate) fn has_text(chars: &[u8]) -> bool
 
 fn name_missing(page: PageView<'_, '_>, rung: usize, row: usize, half: Half, column: usize) -> bool
     requires rungs { rung < length page.parts.now }
-    requires within { All (IsWithin (length page.lines.now)) page.parts.now }
     requires rows { row < ROWS }
     ensures { result ≡ name_missing (seen page.entry) rung row half column }
 {
@@ -147,7 +144,6 @@ fn name_missing(page: PageView<'_, '_>, rung: usize, row: usize, half: Half, col
 
 fn name_without(page: PageView<'_, '_>, rung: usize, row: usize, half: Half, column: usize) -> bool
     requires rungs { rung < length page.parts.now }
-    requires within { All (IsWithin (length page.lines.now)) page.parts.now }
     requires rows { row < ROWS }
     ensures { result ≡ name_without (seen page.entry) rung row half column }
 {
@@ -169,7 +165,6 @@ fn is_known(name: Option<Reference>) -> bool
 
 fn undeclared(page: PageView<'_, '_>, rung: usize, row: usize, half: Half, column: usize) -> bool
     requires rungs { rung < length page.parts.now }
-    requires within { All (IsWithin (length page.lines.now)) page.parts.now }
     requires rows { row < ROWS }
     ensures { result ≡ undeclared (seen page.entry) rung row half column }
 {
@@ -185,7 +180,6 @@ fn undeclared(page: PageView<'_, '_>, rung: usize, row: usize, half: Half, colum
 
 fn wrong_kind(page: PageView<'_, '_>, rung: usize, row: usize, half: Half, column: usize) -> bool
     requires rungs { rung < length page.parts.now }
-    requires within { All (IsWithin (length page.lines.now)) page.parts.now }
     requires rows { row < ROWS }
     ensures { result ≡ wrong_kind (seen page.entry) rung row half column }
 {
@@ -282,7 +276,6 @@ fn is_apart(above: Option<Form>, form: Option<Form>, below: Option<Form>) -> boo
 
 fn form_above(page: PageView<'_, '_>, rung: usize, row: usize, column: usize) -> Option<Form>
     requires rungs { rung < length page.parts.now }
-    requires within { All (IsWithin (length page.lines.now)) page.parts.now }
     requires rows { row < ROWS }
     requires columns { column < COLUMNS }
     ensures { result ≡ form_above (seen page.entry) rung row column }
@@ -296,7 +289,6 @@ fn form_above(page: PageView<'_, '_>, rung: usize, row: usize, column: usize) ->
 
 fn form_below(page: PageView<'_, '_>, rung: usize, row: usize, column: usize) -> Option<Form>
     requires rungs { rung < length page.parts.now }
-    requires within { All (IsWithin (length page.lines.now)) page.parts.now }
     requires rows { row < ROWS }
     requires columns { column < COLUMNS }
     ensures { result ≡ form_below (seen page.entry) rung row column }
@@ -310,7 +302,6 @@ fn form_below(page: PageView<'_, '_>, rung: usize, row: usize, column: usize) ->
 
 fn bad_block(page: PageView<'_, '_>, rung: usize, row: usize, half: Half, column: usize) -> bool
     requires rungs { rung < length page.parts.now }
-    requires within { All (IsWithin (length page.lines.now)) page.parts.now }
     requires rows { row < ROWS }
     ensures { result ≡ bad_block (seen page.entry) rung row half column }
 {
@@ -345,7 +336,6 @@ fn is_drawn_before(
     column: usize,
 ) -> bool
     requires rungs { rung < length page.parts.now }
-    requires within { All (IsWithin (length page.lines.now)) page.parts.now }
     requires rows { row < ROWS }
     requires columns { column < COLUMNS }
     requires few { rung ≤ RUNGS }
@@ -364,7 +354,6 @@ fn is_drawn_before(
 
 fn is_drawn_twice(page: PageView<'_, '_>, rung: usize, row: usize, column: usize) -> bool
     requires rungs { rung < length page.parts.now }
-    requires within { All (IsWithin (length page.lines.now)) page.parts.now }
     requires rows { row < ROWS }
     requires columns { column < COLUMNS }
     requires few { rung ≤ RUNGS }
@@ -395,7 +384,6 @@ fn leaps(form: Option<Form>) -> bool
 
 fn is_second_jump(page: PageView<'_, '_>, rung: usize, row: usize, column: usize) -> bool
     requires rungs { rung < length page.parts.now }
-    requires within { All (IsWithin (length page.lines.now)) page.parts.now }
     requires rows { row < ROWS }
     requires columns { column < COLUMNS }
     ensures { IsTrue result ↔ IsSecondJump (seen page.entry) rung row column }
@@ -431,7 +419,6 @@ fn breaks(
     column: usize,
 ) -> bool
     requires rungs { rung < length page.parts.now }
-    requires within { All (IsWithin (length page.lines.now)) page.parts.now }
     requires rows { row < ROWS }
     requires columns { column ≤ COLUMNS }
     requires few { rung ≤ RUNGS }
@@ -468,7 +455,6 @@ fn is_broken_along(
     half: Half,
 ) -> bool
     requires rungs { rung < length page.parts.now }
-    requires within { All (IsWithin (length page.lines.now)) page.parts.now }
     requires rows { row < ROWS }
     requires few { rung ≤ RUNGS }
     ensures { IsTrue result ↔ IsBrokenAlong rule (seen page.entry) rung row half }
@@ -484,7 +470,6 @@ fn is_broken_along(
 /// The first line of the rung on which the rule is broken.
 fn broken_line(rule: GridRule, page: PageView<'_, '_>, rung: usize) -> Option<usize>
     requires rungs { rung < length page.parts.now }
-    requires within { All (IsWithin (length page.lines.now)) page.parts.now }
     requires few { rung ≤ RUNGS }
     ensures some { IfSome result (λ line. IsBrokenOn rule (seen page.entry) rung line) }
     ensures near { IfSome result (λ line. line < LINES) }
@@ -522,7 +507,6 @@ fn first_broken(
     rung: usize,
 ) -> Option<(GridRule, usize)>
     requires rungs { rung < length page.parts.now }
-    requires within { All (IsWithin (length page.lines.now)) page.parts.now }
     requires few { rung ≤ RUNGS }
     ensures some { IfSome result (λ x. IsBrokenOn x.0 (seen page.entry) rung x.1) }
     ensures near { IfSome result (λ x. x.1 < LINES) }
@@ -540,7 +524,6 @@ fn first_broken(
 /// The first rule of places that the rung breaks, and its line.
 pub(crate) fn broken_place(page: PageView<'_, '_>, rung: usize) -> Option<(GridRule, usize)>
     requires rungs { rung < length page.parts.now }
-    requires within { All (IsWithin (length page.lines.now)) page.parts.now }
     requires few { rung ≤ RUNGS }
     ensures some { IfSome result (λ x. IsBrokenOn x.0 (seen page.entry) rung x.1) }
     ensures near { IfSome result (λ x. x.1 < LINES) }

@@ -1,0 +1,20 @@
+//! The page that a drawing is read from, as the code holds it.
+
+ghost use Rattle.std.specs.Prelude.{length, All};
+ghost use Rattle.ladder_grid.specs.ReadLines.{IsWithin};
+
+use crate::form::Form;
+use crate::lines::Part;
+use ladder_vars::Decls;
+
+/// What a drawing is read from: the lines after END_VAR, the rungs among them, each with its gap, the line where a comment
+/// begins that never ends, and what the cells are.
+#[derive(Clone, Copy)]
+pub(crate) struct PageView<'a, 'b> {
+    pub decls: &'a Decls,
+    pub lines: &'a [&'b [u8]],
+    pub unclosed: Option<usize>,
+    pub parts: &'a [Part],
+    pub forms: &'a [Option<Form>],
+    ghost within: { All (IsWithin (length lines.now)) parts.now },
+}
