@@ -14,7 +14,7 @@ use crate::cell::Cell;
 use crate::fault::Stop;
 use crate::geometry::{PLACES, ROWS};
 use crate::lines::{blanked, lines, parts, unclosed_line};
-use crate::page::forms;
+use crate::page::{forms, overs};
 use crate::page_check::check;
 use crate::program::Program;
 use crate::site::{Site, cell_drawn, site_with};
@@ -86,6 +86,7 @@ fn read_sites(alloc: Global, decls: &Decls, text: &[u8]) -> Result<(usize, Vec<S
     let lines = lines(alloc, &shown)?;
     let parts = parts(alloc, &lines)?;
     let forms = forms(alloc, &lines, &parts)?;
+    let overs = overs(alloc, decls, &lines, &parts)?;
     checked_sites(
         alloc,
         PageView {
@@ -94,6 +95,7 @@ fn read_sites(alloc: Global, decls: &Decls, text: &[u8]) -> Result<(usize, Vec<S
             unclosed,
             parts: &parts,
             forms: &forms,
+            overs: &overs,
         },
     )
 }

@@ -14,6 +14,13 @@ pub(crate) struct Reference {
     pub output: Option<Output>,
 }
 
+/// What stands over a cell: whether there is text, and the declared name that it is.
+#[derive(Clone, Copy, Debug, PartialEq, Eq)]
+pub(crate) struct NameOver {
+    pub written: bool,
+    pub name: Option<Reference>,
+}
+
 fn after_spaces(mut chars: &[u8]) -> &[u8]
     ensures { result.now ≡ after_spaces chars.entry.now }
 {

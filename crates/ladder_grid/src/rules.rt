@@ -14,8 +14,8 @@ use crate::feeding::{is_unfed, right_link};
 use crate::form::Form;
 use crate::geometry::{COLUMNS, PITCH, PLACES, RAIL, ROWS};
 use crate::operand::{Reference, is_odd};
-use crate::page::{form_at, instance_at, name_over, rung_at};
-use crate::picture::{Half, ch, joint, line_of, text_over};
+use crate::page::{form_at, instance_at, is_written_over, name_over, rung_at};
+use crate::picture::{Half, ch, joint, line_of};
 use crate::view::PageView;
 use ladder_vars::Pin;
 
@@ -129,6 +129,7 @@ pub(crate) fn has_text(chars: &[u8]) -> bool
 
 fn name_missing(page: PageView<'_, '_>, rung: usize, row: usize, half: Half, column: usize) -> bool
     requires rungs { rung < length page.parts.now }
+    requires few { rung < RUNGS }
     requires rows { row < ROWS }
     ensures { result ≡ name_missing (seen page.entry) rung row half column }
 {
@@ -136,7 +137,7 @@ fn name_missing(page: PageView<'_, '_>, rung: usize, row: usize, half: Half, col
         Half::Name => {
             column < COLUMNS
                 && wants_name(form_at(page, rung, row, column))
-                && !has_text(&text_over(rung_at(page, rung), row, column))
+                && !is_written_over(page, rung, row, column)
         },
         Half::Wire => false,
     }
@@ -144,6 +145,7 @@ fn name_missing(page: PageView<'_, '_>, rung: usize, row: usize, half: Half, col
 
 fn name_without(page: PageView<'_, '_>, rung: usize, row: usize, half: Half, column: usize) -> bool
     requires rungs { rung < length page.parts.now }
+    requires few { rung < RUNGS }
     requires rows { row < ROWS }
     ensures { result ≡ name_without (seen page.entry) rung row half column }
 {
@@ -151,7 +153,7 @@ fn name_without(page: PageView<'_, '_>, rung: usize, row: usize, half: Half, col
         Half::Name => {
             column < COLUMNS
                 && !wants_name(form_at(page, rung, row, column))
-                && has_text(&text_over(rung_at(page, rung), row, column))
+                && is_written_over(page, rung, row, column)
         },
         Half::Wire => false,
     }
@@ -165,6 +167,7 @@ fn is_known(name: Option<Reference>) -> bool
 
 fn undeclared(page: PageView<'_, '_>, rung: usize, row: usize, half: Half, column: usize) -> bool
     requires rungs { rung < length page.parts.now }
+    requires few { rung < RUNGS }
     requires rows { row < ROWS }
     ensures { result ≡ undeclared (seen page.entry) rung row half column }
 {
@@ -180,6 +183,7 @@ fn undeclared(page: PageView<'_, '_>, rung: usize, row: usize, half: Half, colum
 
 fn wrong_kind(page: PageView<'_, '_>, rung: usize, row: usize, half: Half, column: usize) -> bool
     requires rungs { rung < length page.parts.now }
+    requires few { rung < RUNGS }
     requires rows { row < ROWS }
     ensures { result ≡ wrong_kind (seen page.entry) rung row half column }
 {
@@ -338,7 +342,7 @@ fn is_drawn_before(
     requires rungs { rung < length page.parts.now }
     requires rows { row < ROWS }
     requires columns { column < COLUMNS }
-    requires few { rung ≤ RUNGS }
+    requires few { rung < RUNGS }
     ensures { IsTrue result ↔ IsDrawnBefore (seen page.entry) inst rung row column }
 {
     for n in 0..PLACES * rung + (COLUMNS * row + column) {
@@ -356,7 +360,7 @@ fn is_drawn_twice(page: PageView<'_, '_>, rung: usize, row: usize, column: usize
     requires rungs { rung < length page.parts.now }
     requires rows { row < ROWS }
     requires columns { column < COLUMNS }
-    requires few { rung ≤ RUNGS }
+    requires few { rung < RUNGS }
     ensures { IsTrue result ↔ IsDrawnTwice (seen page.entry) rung row column }
 {
     match instance_at(page, rung, row, column) {
@@ -421,7 +425,7 @@ fn breaks(
     requires rungs { rung < length page.parts.now }
     requires rows { row < ROWS }
     requires columns { column ≤ COLUMNS }
-    requires few { rung ≤ RUNGS }
+    requires few { rung < RUNGS }
     ensures { IsTrue result ↔ BreaksAt rule (seen page.entry) rung row half column }
 {
     match rule {
@@ -456,7 +460,7 @@ fn is_broken_along(
 ) -> bool
     requires rungs { rung < length page.parts.now }
     requires rows { row < ROWS }
-    requires few { rung ≤ RUNGS }
+    requires few { rung < RUNGS }
     ensures { IsTrue result ↔ IsBrokenAlong rule (seen page.entry) rung row half }
 {
     for column in 0..COLUMNS + 1 {
@@ -470,7 +474,7 @@ fn is_broken_along(
 /// The first line of the rung on which the rule is broken.
 fn broken_line(rule: GridRule, page: PageView<'_, '_>, rung: usize) -> Option<usize>
     requires rungs { rung < length page.parts.now }
-    requires few { rung ≤ RUNGS }
+    requires few { rung < RUNGS }
     ensures some { IfSome result (λ line. IsBrokenOn rule (seen page.entry) rung line) }
     ensures near { IfSome result (λ line. line < LINES) }
     ensures none { IfNone result (IsKept (seen page.entry) rung rule) }
@@ -507,7 +511,7 @@ fn first_broken(
     rung: usize,
 ) -> Option<(GridRule, usize)>
     requires rungs { rung < length page.parts.now }
-    requires few { rung ≤ RUNGS }
+    requires few { rung < RUNGS }
     ensures some { IfSome result (λ x. IsBrokenOn x.0 (seen page.entry) rung x.1) }
     ensures near { IfSome result (λ x. x.1 < LINES) }
     ensures none { IfNone result (AllByRecursion (IsKept (seen page.entry) rung) rules.entry.now) }
@@ -524,7 +528,7 @@ fn first_broken(
 /// The first rule of places that the rung breaks, and its line.
 pub(crate) fn broken_place(page: PageView<'_, '_>, rung: usize) -> Option<(GridRule, usize)>
     requires rungs { rung < length page.parts.now }
-    requires few { rung ≤ RUNGS }
+    requires few { rung < RUNGS }
     ensures some { IfSome result (λ x. IsBrokenOn x.0 (seen page.entry) rung x.1) }
     ensures near { IfSome result (λ x. x.1 < LINES) }
     ensures none { IfNone result ((rule : GridRule) → IsKept (seen page.entry) rung rule) }

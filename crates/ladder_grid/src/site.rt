@@ -1,7 +1,7 @@
 //! What a page has at a place of a rung.
 
 ghost use Rattle.std.specs.Prelude.{◌≡◌, ◌<◌, map, length, All};
-ghost use Rattle.ladder_grid.specs.declared.geometry.TheConstants.{ROWS, COLUMNS};
+ghost use Rattle.ladder_grid.specs.declared.geometry.TheConstants.{RUNGS, ROWS, COLUMNS};
 ghost use Rattle.ladder_grid.specs.ReadLines.{IsWithin};
 ghost use Rattle.ladder_grid.specs.Seen.{seen};
 ghost use Rattle.ladder_grid.specs.Page.{labels_of};
@@ -132,6 +132,7 @@ pub(crate) fn cell_drawn(
     column: usize,
 ) -> Cell
     requires rungs { rung < length page.parts.now }
+    requires few { rung < RUNGS }
     requires known { labels.now ≡ labels_of (map (λ l. l.now) page.lines.now) page.parts.now }
     requires rows { row < ROWS }
     requires columns { column < COLUMNS }

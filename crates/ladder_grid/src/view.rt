@@ -1,14 +1,16 @@
 //! The page that a drawing is read from, as the code holds it.
 
-ghost use Rattle.std.specs.Prelude.{length, All};
+ghost use Rattle.std.specs.Prelude.{◌≡◌, length, map, All};
 ghost use Rattle.ladder_grid.specs.ReadLines.{IsWithin};
+ghost use Rattle.ladder_grid.specs.Tables.{overs_of};
 
 use crate::form::Form;
 use crate::lines::Part;
+use crate::operand::NameOver;
 use ladder_vars::Decls;
 
 /// What a drawing is read from: the lines after END_VAR, the rungs among them, each with its gap, the line where a comment
-/// begins that never ends, and what the cells are.
+/// begins that never ends, what the cells are, and what stands over them.
 #[derive(Clone, Copy)]
 pub(crate) struct PageView<'a, 'b> {
     pub decls: &'a Decls,
@@ -16,5 +18,7 @@ pub(crate) struct PageView<'a, 'b> {
     pub unclosed: Option<usize>,
     pub parts: &'a [Part],
     pub forms: &'a [Option<Form>],
+    pub overs: &'a [NameOver],
     ghost within: { All (IsWithin (length lines.now)) parts.now },
+    ghost told: { overs.now ≡ overs_of decls.now (map (λ l. l.now) lines.now) parts.now },
 }
