@@ -12,7 +12,8 @@ ghost use Rattle.ladder_grid.specs.Reading.{IsDrawn};
 
 use crate::cell::Cell;
 use crate::fault::Stop;
-use crate::geometry::{PLACES, ROWS};
+use crate::firsts::firsts;
+use crate::geometry::{PLACES, ROWS, RUNGS};
 use crate::lines::{blanked, lines, parts, unclosed_line};
 use crate::page::{forms, overs};
 use crate::page_check::check;
@@ -87,6 +88,8 @@ fn read_sites(alloc: Global, decls: &Decls, text: &[u8]) -> Result<(usize, Vec<S
     let parts = parts(alloc, &lines)?;
     let forms = forms(alloc, &lines, &parts)?;
     let overs = overs(alloc, decls, &lines, &parts)?;
+    let rungs = parts.len().min(RUNGS);
+    let firsts = firsts(alloc, decls.instances().len(), rungs, &forms, &overs)?;
     checked_sites(
         alloc,
         PageView {
@@ -96,6 +99,7 @@ fn read_sites(alloc: Global, decls: &Decls, text: &[u8]) -> Result<(usize, Vec<S
             parts: &parts,
             forms: &forms,
             overs: &overs,
+            firsts: &firsts,
         },
     )
 }

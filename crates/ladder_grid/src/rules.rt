@@ -11,8 +11,9 @@ ghost use Rattle.ladder_grid.specs.declared.fault.GridRule.{GridRule};
 
 use crate::fault::GridRule;
 use crate::feeding::{is_unfed, right_link};
+use crate::firsts::{first_of, is_before};
 use crate::form::Form;
-use crate::geometry::{COLUMNS, PITCH, PLACES, RAIL, ROWS};
+use crate::geometry::{COLUMNS, PITCH, RAIL, ROWS, reading_place};
 use crate::operand::{Reference, is_odd};
 use crate::page::{form_at, instance_at, is_written_over, name_over, rung_at};
 use crate::picture::{Half, ch, joint, line_of};
@@ -322,15 +323,6 @@ fn bad_block(page: PageView<'_, '_>, rung: usize, row: usize, half: Half, column
     }
 }
 
-fn same_number(a: Option<usize>, b: usize) -> bool
-    ensures { IsTrue result ↔ (a ≡ Some b) }
-{
-    match a {
-        Some(a) => a == b,
-        None => false,
-    }
-}
-
 /// Whether a block before the place is the instance.
 fn is_drawn_before(
     page: PageView<'_, '_>,
@@ -345,15 +337,10 @@ fn is_drawn_before(
     requires few { rung < RUNGS }
     ensures { IsTrue result ↔ IsDrawnBefore (seen page.entry) inst rung row column }
 {
-    for n in 0..PLACES * rung + (COLUMNS * row + column) {
-        if same_number(
-            instance_at(page, n / PLACES, n % PLACES / COLUMNS, n % PLACES % COLUMNS),
-            inst,
-        ) {
-            return true;
-        }
-    }
-    false
+    is_before(
+        first_of(page.firsts, inst),
+        reading_place(rung, row, column),
+    )
 }
 
 fn is_drawn_twice(page: PageView<'_, '_>, rung: usize, row: usize, column: usize) -> bool
