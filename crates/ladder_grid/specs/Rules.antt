@@ -11,7 +11,6 @@ use Rattle.ladder_grid.specs.declared.form.Form.{Form}
 use Rattle.ladder_grid.specs.declared.form.Form.TheVariants.{Contact, Coil, Block, Lower, Jump, Return}
 use Rattle.ladder_grid.specs.declared.fault.GridRule.{GridRule}
 use Rattle.ladder_grid.specs.declared.fault.GridRule.TheVariants as rule
-use Rattle.ladder_grid.specs.declared.operand.Reference.{Reference}
 use Rattle.ladder_grid.specs.Operand.{is_odd}
 use Rattle.ladder_grid.specs.Picture.{Lines, line_of, ch, text_over, joint}
 use Rattle.ladder_grid.specs.declared.picture.Half.{Half}
@@ -19,15 +18,6 @@ use Rattle.ladder_grid.specs.declared.picture.Half.TheVariants as half
 use Rattle.ladder_grid.specs.Feeding.{right_link, IsUnfed}
 use Rattle.ladder_grid.specs.Page.{Page, rung_at, form_at, name_over, instance_at}
 use Rattle.ladder_grid.specs.Geometry.{reading_place}
-
-abbrev pub is_form : Option Form → Bool
-is_form None = false
-is_form (Some form) = true
-
--- G3: the cell has none of the forms.
-abbrev pub bad_cell : Page → ℕ → ℕ → Half → ℕ → Bool
-bad_cell page k r half.Name c = false
-bad_cell page k r half.Wire c = nat_lt c COLUMNS && not (is_form (form_at page k r c))
 
 -- on a name line a joint's place has a space or a bar
 abbrev pub bad_name_joint : ℕ → Bool
@@ -72,30 +62,6 @@ wants_name form = false
 abbrev pub has_text : List ℕ → Bool
 has_text chars = list_any (λ b. not (b == space)) chars
 
--- G7: no name over a contact, a coil or a block.
-abbrev pub name_missing : Page → ℕ → ℕ → Half → ℕ → Bool
-name_missing page k r half.Name c = nat_lt c COLUMNS && (wants_name (form_at page k r c) && not (has_text (text_over (rung_at page k) r c)))
-name_missing page k r half.Wire c = false
-
--- G8: a text over another cell.
-abbrev pub name_without : Page → ℕ → ℕ → Half → ℕ → Bool
-name_without page k r half.Name c = nat_lt c COLUMNS && (not (wants_name (form_at page k r c)) && has_text (text_over (rung_at page k) r c))
-name_without page k r half.Wire c = false
-
-abbrev pub is_known : Option Reference → Bool
-is_known None = false
-is_known (Some name) = true
-
--- G9: the text over the cell is no declared name.
-abbrev pub undeclared : Page → ℕ → ℕ → Half → ℕ → Bool
-undeclared page k r half.Name c = nat_lt c COLUMNS && (wants_name (form_at page k r c) && not (is_known (name_over page k r c)))
-undeclared page k r half.Wire c = false
-
--- G10: the name is none that the symbol may have.
-abbrev pub wrong_kind : Page → ℕ → ℕ → Half → ℕ → Bool
-wrong_kind page k r half.Name c = nat_lt c COLUMNS && is_odd page.decls (form_at page k r c) (name_over page k r c)
-wrong_kind page k r half.Wire c = false
-
 abbrev pub same_pin : Pin → Pin → Bool
 same_pin pin.Reset pin.Reset = true
 same_pin pin.Load pin.Load = true
@@ -131,11 +97,6 @@ form_above page k r c = if r == 0 then None else form_at page k (r - 1) c
 abbrev pub form_below : Page → ℕ → ℕ → ℕ → Option Form
 form_below page k r c = if r + 1 == ROWS then None else form_at page k (r + 1) c
 
--- G11: a block with a second input lacks its lower cell in the next row, or a lower cell its block above.
-abbrev pub bad_block : Page → ℕ → ℕ → Half → ℕ → Bool
-bad_block page k r half.Wire c = nat_lt c COLUMNS && is_apart (form_above page k r c) (form_at page k r c) (form_below page k r c)
-bad_block page k r half.Name c = false
-
 -- G12: the block's instance was drawn at an earlier place, of this rung or of one before.
 pub record IsDrawnBefore (page : Page) (inst k r c : ℕ) : Type 0 where
   pub rung : ℕ
@@ -166,15 +127,25 @@ pub record IsSecondJump (page : Page) (k r c : ℕ) : Type 0 where
 
 -- The rule is broken at the place. Only these rules speak of places.
 abbrev pub BreaksAt : GridRule → Page → ℕ → ℕ → Half → ℕ → Type 0
-BreaksAt rule.BadCell page k r h c = bad_cell page k r h c ≡ true
+-- G3: the cell has none of the forms.
+BreaksAt rule.BadCell page k r h c = (h ≡ half.Wire) × (c < COLUMNS) × (form_at page k r c ≡ None)
 BreaksAt rule.BadJoint page k r h c = bad_joint page k r h c ≡ true
 BreaksAt rule.BrokenVertical page k r h c = bad_vertical (rung_at page k) r h c ≡ true
 BreaksAt rule.Unfed page k r h c = (h ≡ half.Wire) × (c < COLUMNS) × IsUnfed page k r c
-BreaksAt rule.NameMissing page k r h c = name_missing page k r h c ≡ true
-BreaksAt rule.NameWithoutSymbol page k r h c = name_without page k r h c ≡ true
-BreaksAt rule.Undeclared page k r h c = undeclared page k r h c ≡ true
-BreaksAt rule.WrongKind page k r h c = wrong_kind page k r h c ≡ true
-BreaksAt rule.BlockShape page k r h c = bad_block page k r h c ≡ true
+-- G7: no name over a contact, a coil or a block.
+BreaksAt rule.NameMissing page k r h c =
+    (h ≡ half.Name) × (c < COLUMNS) × ((wants_name (form_at page k r c) ≡ true) × (has_text (text_over (rung_at page k) r c) ≡ false))
+-- G8: a text over another cell.
+BreaksAt rule.NameWithoutSymbol page k r h c =
+    (h ≡ half.Name) × (c < COLUMNS) × ((wants_name (form_at page k r c) ≡ false) × (has_text (text_over (rung_at page k) r c) ≡ true))
+-- G9: the text over the cell is no declared name.
+BreaksAt rule.Undeclared page k r h c =
+    (h ≡ half.Name) × (c < COLUMNS) × ((wants_name (form_at page k r c) ≡ true) × (name_over page k r c ≡ None))
+-- G10: the name is none that the symbol may have.
+BreaksAt rule.WrongKind page k r h c = (h ≡ half.Name) × (c < COLUMNS) × (is_odd page.decls (form_at page k r c) (name_over page k r c) ≡ true)
+-- G11: a block with a second input lacks its lower cell in the next row, or a lower cell its block above.
+BreaksAt rule.BlockShape page k r h c =
+    (h ≡ half.Wire) × (c < COLUMNS) × (is_apart (form_above page k r c) (form_at page k r c) (form_below page k r c) ≡ true)
 BreaksAt rule.DrawnTwice page k r h c = (h ≡ half.Name) × (c < COLUMNS) × IsDrawnTwice page k r c
 BreaksAt rule.TwoJumps page k r h c = (h ≡ half.Wire) × (c < COLUMNS) × IsSecondJump page k r c
 BreaksAt other page k r h c = ⊥

@@ -1,12 +1,15 @@
 //! The rules of cells, joints and names.
 
-ghost use Rattle.std.specs.Prelude.{◌≡◌, ◌≤◌, ◌<◌, ◌↔◌, length, map, All, Some, false, IsTrue, IfSome, IfNone};
+ghost use Rattle.std.specs.Prelude.{◌≡◌, ◌≤◌, ◌<◌, ◌↔◌, length, map, None, true, false, IsTrue, IfSome, IfNone};
 ghost use Rattle.ladder_grid.specs.declared.geometry.TheConstants.{RUNGS, ROWS, COLUMNS, LINES};
 ghost use Rattle.std.specs.List.{AllByRecursion};
 ghost use Rattle.ladder_grid.specs.ReadLines.{IsWithin};
 ghost use Rattle.ladder_grid.specs.Seen.{seen};
 ghost use Rattle.ladder_grid.specs.Geometry.{reading_place};
-ghost use Rattle.ladder_grid.specs.Rules.{is_form, bad_cell, bad_name_joint, bad_wire_joint, bad_rail, bad_at_joint, bad_joint, is_branch, bad_vertical, wants_name, has_text, name_missing, name_without, is_known, undeclared, wrong_kind, same_pin, is_lower_for, takes_second, is_block_for, lacks_lower, is_apart, form_above, form_below, bad_block, IsDrawnBefore, IsDrawnTwice, leaps, IsSecondJump, BreaksAt, IsBrokenAlong, IsBrokenOn, IsKept};
+ghost use Rattle.ladder_grid.specs.Rules.{bad_name_joint, bad_wire_joint, bad_rail, bad_at_joint, bad_joint, is_branch, bad_vertical, wants_name, has_text, same_pin, is_lower_for, takes_second, is_block_for, lacks_lower, is_apart, form_above, form_below, IsDrawnBefore, IsDrawnTwice, leaps, IsSecondJump, BreaksAt, IsBrokenAlong, IsBrokenOn, IsKept};
+ghost use Rattle.ladder_grid.specs.Operand.{is_odd};
+ghost use Rattle.ladder_grid.specs.Page.{rung_at, form_at, name_over};
+ghost use Rattle.ladder_grid.specs.Picture.{text_over};
 ghost use Rattle.ladder_grid.specs.declared.fault.GridRule.{GridRule};
 
 use crate::fault::GridRule;
@@ -19,23 +22,6 @@ use crate::page::{form_at, instance_at, is_written_over, name_over, rung_at};
 use crate::picture::{Half, ch, joint, line_of};
 use crate::view::PageView;
 use ladder_vars::Pin;
-
-fn is_form(form: Option<Form>) -> bool
-    ensures { result ≡ is_form form }
-{
-    form.is_some()
-}
-
-fn bad_cell(page: PageView<'_, '_>, rung: usize, row: usize, half: Half, column: usize) -> bool
-    requires rungs { rung < length page.parts.now }
-    requires rows { row < ROWS }
-    ensures { result ≡ bad_cell (seen page.entry) rung row half column }
-{
-    match half {
-        Half::Name => false,
-        Half::Wire => column < COLUMNS && !is_form(form_at(page, rung, row, column)),
-    }
-}
 
 fn bad_name_joint(b: u8) -> bool
     ensures { result ≡ bad_name_joint b }
@@ -128,77 +114,66 @@ pub(crate) fn has_text(chars: &[u8]) -> bool
     chars.iter().any(|b| *b != b' ')
 }
 
-fn name_missing(page: PageView<'_, '_>, rung: usize, row: usize, half: Half, column: usize) -> bool
-    requires rungs { rung < length page.parts.now }
-    requires few { rung < RUNGS }
-    requires rows { row < ROWS }
-    ensures { result ≡ name_missing (seen page.entry) rung row half column }
+fn has_no_form(form: Option<Form>) -> bool
+    ensures { IsTrue result ↔ (form ≡ None) }
 {
-    match half {
-        Half::Name => {
-            column < COLUMNS
-                && wants_name(form_at(page, rung, row, column))
-                && !is_written_over(page, rung, row, column)
-        },
-        Half::Wire => false,
+    match form {
+        None => true,
+        Some(_) => false,
     }
 }
 
-fn name_without(page: PageView<'_, '_>, rung: usize, row: usize, half: Half, column: usize) -> bool
+fn lacks_name(page: PageView<'_, '_>, rung: usize, row: usize, column: usize) -> bool
     requires rungs { rung < length page.parts.now }
     requires few { rung < RUNGS }
     requires rows { row < ROWS }
-    ensures { result ≡ name_without (seen page.entry) rung row half column }
+    requires columns { column < COLUMNS }
+    ensures { IsTrue result ↔ ((wants_name (form_at (seen page.entry) rung row column) ≡ true) × (has_text (text_over (rung_at (seen page.entry) rung) row column) ≡ false)) }
 {
-    match half {
-        Half::Name => {
-            column < COLUMNS
-                && !wants_name(form_at(page, rung, row, column))
-                && is_written_over(page, rung, row, column)
-        },
-        Half::Wire => false,
-    }
+    wants_name(form_at(page, rung, row, column)) && !is_written_over(page, rung, row, column)
 }
 
-fn is_known(name: Option<Reference>) -> bool
-    ensures { result ≡ is_known name }
-{
-    name.is_some()
-}
-
-fn undeclared(page: PageView<'_, '_>, rung: usize, row: usize, half: Half, column: usize) -> bool
+fn has_idle_text(page: PageView<'_, '_>, rung: usize, row: usize, column: usize) -> bool
     requires rungs { rung < length page.parts.now }
     requires few { rung < RUNGS }
     requires rows { row < ROWS }
-    ensures { result ≡ undeclared (seen page.entry) rung row half column }
+    requires columns { column < COLUMNS }
+    ensures { IsTrue result ↔ ((wants_name (form_at (seen page.entry) rung row column) ≡ false) × (has_text (text_over (rung_at (seen page.entry) rung) row column) ≡ true)) }
 {
-    match half {
-        Half::Name => {
-            column < COLUMNS
-                && wants_name(form_at(page, rung, row, column))
-                && !is_known(name_over(page, rung, row, column))
-        },
-        Half::Wire => false,
+    !wants_name(form_at(page, rung, row, column)) && is_written_over(page, rung, row, column)
+}
+
+fn is_unknown(name: Option<Reference>) -> bool
+    ensures { IsTrue result ↔ (name ≡ None) }
+{
+    match name {
+        None => true,
+        Some(_) => false,
     }
 }
 
-fn wrong_kind(page: PageView<'_, '_>, rung: usize, row: usize, half: Half, column: usize) -> bool
+fn is_undeclared(page: PageView<'_, '_>, rung: usize, row: usize, column: usize) -> bool
     requires rungs { rung < length page.parts.now }
     requires few { rung < RUNGS }
     requires rows { row < ROWS }
-    ensures { result ≡ wrong_kind (seen page.entry) rung row half column }
+    requires columns { column < COLUMNS }
+    ensures { IsTrue result ↔ ((wants_name (form_at (seen page.entry) rung row column) ≡ true) × (name_over (seen page.entry) rung row column ≡ None)) }
 {
-    match half {
-        Half::Name => {
-            column < COLUMNS
-                && is_odd(
-                    page.decls,
-                    form_at(page, rung, row, column),
-                    name_over(page, rung, row, column),
-                )
-        },
-        Half::Wire => false,
-    }
+    wants_name(form_at(page, rung, row, column)) && is_unknown(name_over(page, rung, row, column))
+}
+
+fn has_odd_name(page: PageView<'_, '_>, rung: usize, row: usize, column: usize) -> bool
+    requires rungs { rung < length page.parts.now }
+    requires few { rung < RUNGS }
+    requires rows { row < ROWS }
+    requires columns { column < COLUMNS }
+    ensures { result ≡ is_odd page.entry.decls.now (form_at (seen page.entry) rung row column) (name_over (seen page.entry) rung row column) }
+{
+    is_odd(
+        page.decls,
+        form_at(page, rung, row, column),
+        name_over(page, rung, row, column),
+    )
 }
 
 fn same_pin(a: Pin, b: Pin) -> bool
@@ -305,22 +280,17 @@ fn form_below(page: PageView<'_, '_>, rung: usize, row: usize, column: usize) ->
     }
 }
 
-fn bad_block(page: PageView<'_, '_>, rung: usize, row: usize, half: Half, column: usize) -> bool
+fn is_torn(page: PageView<'_, '_>, rung: usize, row: usize, column: usize) -> bool
     requires rungs { rung < length page.parts.now }
     requires rows { row < ROWS }
-    ensures { result ≡ bad_block (seen page.entry) rung row half column }
+    requires columns { column < COLUMNS }
+    ensures { result ≡ is_apart (form_above (seen page.entry) rung row column) (form_at (seen page.entry) rung row column) (form_below (seen page.entry) rung row column) }
 {
-    match half {
-        Half::Name => false,
-        Half::Wire => {
-            column < COLUMNS
-                && is_apart(
-                    form_above(page, rung, row, column),
-                    form_at(page, rung, row, column),
-                    form_below(page, rung, row, column),
-                )
-        },
-    }
+    is_apart(
+        form_above(page, rung, row, column),
+        form_at(page, rung, row, column),
+        form_below(page, rung, row, column),
+    )
 }
 
 /// Whether a block before the place is the instance.
@@ -416,15 +386,27 @@ fn breaks(
     ensures { IsTrue result ↔ BreaksAt rule (seen page.entry) rung row half column }
 {
     match rule {
-        GridRule::BadCell => bad_cell(page, rung, row, half, column),
+        GridRule::BadCell => is_wire(half)
+            && column < COLUMNS
+            && has_no_form(form_at(page, rung, row, column)),
         GridRule::BadJoint => bad_joint(page, rung, row, half, column),
         GridRule::BrokenVertical => bad_vertical(rung_at(page, rung), row, half, column),
         GridRule::Unfed => is_wire(half) && column < COLUMNS && is_unfed(page, rung, row, column),
-        GridRule::NameMissing => name_missing(page, rung, row, half, column),
-        GridRule::NameWithoutSymbol => name_without(page, rung, row, half, column),
-        GridRule::Undeclared => undeclared(page, rung, row, half, column),
-        GridRule::WrongKind => wrong_kind(page, rung, row, half, column),
-        GridRule::BlockShape => bad_block(page, rung, row, half, column),
+        GridRule::NameMissing => !is_wire(half)
+            && column < COLUMNS
+            && lacks_name(page, rung, row, column),
+        GridRule::NameWithoutSymbol => !is_wire(half)
+            && column < COLUMNS
+            && has_idle_text(page, rung, row, column),
+        GridRule::Undeclared => !is_wire(half)
+            && column < COLUMNS
+            && is_undeclared(page, rung, row, column),
+        GridRule::WrongKind => !is_wire(half)
+            && column < COLUMNS
+            && has_odd_name(page, rung, row, column),
+        GridRule::BlockShape => is_wire(half)
+            && column < COLUMNS
+            && is_torn(page, rung, row, column),
         GridRule::DrawnTwice => !is_wire(half)
             && column < COLUMNS
             && is_drawn_twice(page, rung, row, column),
