@@ -13,7 +13,7 @@ use Rattle.ladder_vars.specs.declared.kind.Output.{Output}
 use Rattle.ladder_grid.specs.declared.operand.Reference.{Reference}
 use Rattle.ladder_vars.specs.Kind.{traits_of}
 use Rattle.ladder_grid.specs.Operand.{same_kind, is_of_kind, is_given, is_odd_on_block, is_odd, instance_of, instance_on}
-use Rattle.ladder_grid.specs.Rules.{lacks_lower}
+use Rattle.ladder_grid.specs.Shapes.{lacks_lower}
 use Rattle.ladder_grid.specs.Program.{is_pin, has_second}
 
 none_some : {A : Type 0} {x : A} → None ≡ Some x → ⊥

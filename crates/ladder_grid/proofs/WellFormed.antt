@@ -22,7 +22,9 @@ use Rattle.ladder_grid.specs.Operand.{instance_of, instance_on, is_odd}
 use Rattle.ladder_grid.specs.Page.{Page, part_at, label_of, labels_of, form_at, name_over, instance_at, instance_above}
 use Rattle.ladder_grid.specs.Geometry.{reading_place}
 use Rattle.ladder_vars.specs.Kind.{traits_of}
-use Rattle.ladder_grid.specs.Rules.{leaps, lacks_lower, is_apart, form_above, form_below}
+use Rattle.ladder_grid.specs.Rules.{leaps, form_above, form_below}
+use Rattle.ladder_grid.specs.Shapes.{lacks_lower, is_apart}
+use Rattle.ladder_grid.proofs.ShapeLaws.{torn}
 use Rattle.ladder_grid.specs.PageRules.{later, target_to, jump_label, PartBreaks, IsSoundPage, target_of}
 use Rattle.ladder_grid.specs.Program.{drawing, blank_site, memory_in, block_in, goes_to, has_memory, Fits, has_second, IsWellFormed}
 use Rattle.ladder_grid.specs.Geometry.{place}
@@ -622,7 +624,7 @@ module _ (page : Page) (rungs : ℕ) (sites : List Site)
                   half = half.Wire;
                   in_rung = rows;
                   on = refl;
-                  along = (c, high, (refl, columns, apart_here));
+                  along = (c, high, (refl, columns, (torn _ _ _).0 apart_here));
                 },
               )),
             )))

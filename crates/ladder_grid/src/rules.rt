@@ -6,7 +6,8 @@ ghost use Rattle.std.specs.List.{AllByRecursion};
 ghost use Rattle.ladder_grid.specs.ReadLines.{IsWithin};
 ghost use Rattle.ladder_grid.specs.Seen.{seen};
 ghost use Rattle.ladder_grid.specs.Geometry.{reading_place};
-ghost use Rattle.ladder_grid.specs.Rules.{bad_name_joint, bad_wire_joint, bad_rail, bad_at_joint, bad_joint, is_branch, bad_vertical, wants_name, has_text, same_pin, is_lower_for, takes_second, is_block_for, lacks_lower, is_apart, form_above, form_below, IsDrawnBefore, IsDrawnTwice, leaps, IsSecondJump, BreaksAt, IsBrokenAlong, IsBrokenOn, IsKept};
+ghost use Rattle.ladder_grid.specs.Rules.{bad_name_joint, bad_wire_joint, bad_rail, bad_at_joint, bad_joint, is_branch, bad_vertical, wants_name, has_text, form_above, form_below, IsTorn, IsDrawnBefore, IsDrawnTwice, leaps, IsSecondJump, BreaksAt, IsBrokenAlong, IsBrokenOn, IsKept};
+ghost use Rattle.ladder_grid.specs.Shapes.{same_pin, is_lower_for, takes_second, is_block_for, lacks_lower, is_apart};
 ghost use Rattle.ladder_grid.specs.Operand.{is_odd};
 ghost use Rattle.ladder_grid.specs.Page.{rung_at, form_at, name_over};
 ghost use Rattle.ladder_grid.specs.Picture.{text_over};
@@ -284,7 +285,7 @@ fn is_torn(page: PageView<'_, '_>, rung: usize, row: usize, column: usize) -> bo
     requires rungs { rung < length page.parts.now }
     requires rows { row < ROWS }
     requires columns { column < COLUMNS }
-    ensures { result ≡ is_apart (form_above (seen page.entry) rung row column) (form_at (seen page.entry) rung row column) (form_below (seen page.entry) rung row column) }
+    ensures { IsTrue result ↔ IsTorn (seen page.entry) rung row column }
 {
     is_apart(
         form_above(page, rung, row, column),
