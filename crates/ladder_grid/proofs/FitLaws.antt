@@ -1,5 +1,5 @@
 -- The numbers that a drawn cell has are those of declarations, and no coil writes an input.
-use Rattle.std.proofs.Common.{◌≡◌, ℕ, ◌<◌, Bool, true, false, ◌||◌, cond, List, length, slice_get, codes, nat_lt, position, Option, Some, None, refl, ap, subst}
+use Rattle.std.proofs.Common.{◌≡◌, ℕ, ◌<◌, Bool, true, false, ◌||◌, cond, List, length, slice_get, codes, nat_lt, position, is_some, Option, Some, None, refl, ap, subst}
 use Rattle.std.specs.List.{position_or_len}
 use Rattle.std.proofs.lemmas.Bool.{ltb-true}
 use Rattle.ladder_vars.specs.Decls.{Declared, find, either_symbol}
@@ -15,7 +15,7 @@ use Rattle.ladder_grid.specs.declared.form.Form.TheVariants.{Empty, Wire, Contac
 use Rattle.ladder_vars.specs.declared.kind.Output.{Output}
 use Rattle.ladder_vars.specs.declared.kind.Output.TheVariants as output
 use Rattle.ladder_grid.specs.declared.operand.Reference.{Reference}
-use Rattle.ladder_grid.specs.Operand.{named, referred, refer_to, ends_in, without_end, is_given, is_input_at, is_odd_on_coil, is_odd, instance_of, instance_on}
+use Rattle.ladder_grid.specs.Operand.{named, referred, refer_to, ends_in, without_end, is_input_at, is_odd_on_coil, is_odd, instance_of, instance_on}
 use Rattle.ladder_grid.specs.Program.{Fits}
 use Rattle.ladder_grid.specs.Reading.{numbered, contact_on, coil_on, block_on, lower_of, jump_on, cell_with}
 
@@ -108,7 +108,7 @@ contact_fits decls m (Var i) fits = fits
 contact_fits decls m (Instance i) fits = fits
 
 coil_fits : (decls : Declared) (m : CoilMode) (s : Symbol) (o : Option Output) → SymbolFits decls s → is_odd_on_coil decls s o ≡ false → Fits decls (coil_on m s)
-coil_fits decls m (Var i) o fits even = (fits, or_false (is_given o) (is_input_at (slice_get decls.vars i)) even)
+coil_fits decls m (Var i) o fits even = (fits, or_false (is_some o) (is_input_at (slice_get decls.vars i)) even)
 coil_fits decls m (Instance i) o fits even = tt
 
 block_fits : (decls : Declared) (o : Option ℕ) → ((n : ℕ) → o ≡ Some n → n < length decls.instances) → Fits decls (block_on o)

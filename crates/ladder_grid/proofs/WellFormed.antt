@@ -1,6 +1,6 @@
 -- The cells that a sound page is read as are well formed.
 use Rattle.std.proofs.Common.{◌≡◌, ℕ, ◌+◌, ◌-◌, ◌*◌, ◌/◌, ◌%◌, ◌<◌, ◌≤◌, ◌⊎◌, inl, inr, Bool, true, false, ◌==◌, cond, List, length, get_or, count_by, nat_lt, position, suc, Option, Some, None, refl, sym, ap, subst, ◌∙◌, arith, slice_get}
-use Rattle.std.proofs.lemmas.Bool.{cases_lt, ltb-true, lt-ltb, eqb-false, ne_eqb}
+use Rattle.std.proofs.lemmas.Bool.{cases_lt, ltb-true, eqb-false, ne_eqb}
 use Rattle.std.proofs.lemmas.List.Quantifiers.{position-Some}
 use Rattle.std.proofs.lemmas.List.{get_or_past, length-map}
 use Rattle.ladder_vars.specs.declared.decls.Symbol.{Symbol}
@@ -22,7 +22,9 @@ use Rattle.ladder_grid.specs.Operand.{instance_of, instance_on, is_odd}
 use Rattle.ladder_grid.specs.Page.{Page, part_at, label_of, labels_of, form_at, name_over, instance_at, instance_above}
 use Rattle.ladder_grid.specs.Geometry.{reading_place}
 use Rattle.ladder_vars.specs.Kind.{traits_of}
-use Rattle.ladder_grid.specs.Rules.{leaps, wrong_kind, lacks_lower, is_apart, form_above, form_below, bad_block}
+use Rattle.ladder_grid.specs.Rules.{leaps, form_above, form_below}
+use Rattle.ladder_grid.specs.Shapes.{lacks_lower, is_apart}
+use Rattle.ladder_grid.proofs.ShapeLaws.{torn}
 use Rattle.ladder_grid.specs.PageRules.{later, target_to, jump_label, PartBreaks, IsSoundPage, target_of}
 use Rattle.ladder_grid.specs.Program.{drawing, blank_site, memory_in, block_in, goes_to, has_memory, Fits, has_second, IsWellFormed}
 use Rattle.ladder_grid.specs.Geometry.{place}
@@ -560,8 +562,6 @@ module _ (page : Page) (rungs : ℕ) (sites : List Site)
             let inside : k < length page.parts = omega (arith, below, count) in
             let judged : k < 100 = omega (arith, below, few) in
             let judged : k < 100 = omega (arith, below, few) in
-            let in_columns : nat_lt c 10 ≡ true = lt-ltb c 10 columns in
-            let broken : wrong_kind page k r half.Name c ≡ true = rw (in_columns, odd) refl in
             absurd (sound (Grid rule.WrongKind) k ((part_at page k).start + 2 * r) (inl (
               inside,
               inr (inr (
@@ -573,7 +573,7 @@ module _ (page : Page) (rungs : ℕ) (sites : List Site)
                   half = half.Name;
                   in_rung = rows;
                   on = refl;
-                  along = (c, high, broken);
+                  along = (c, high, (refl, columns, odd));
                 },
               )),
             )))
@@ -613,8 +613,6 @@ module _ (page : Page) (rungs : ℕ) (sites : List Site)
             let inside : k < length page.parts = omega (arith, below, count) in
             let judged : k < 100 = omega (arith, below, few) in
             let judged : k < 100 = omega (arith, below, few) in
-            let in_columns : nat_lt c 10 ≡ true = lt-ltb c 10 columns in
-            let broken : bad_block page k r half.Wire c ≡ true = rw (in_columns, apart_here) refl in
             absurd (sound (Grid rule.BlockShape) k ((part_at page k).start + (2 * r + 1)) (inl (
               inside,
               inr (inr (
@@ -626,7 +624,7 @@ module _ (page : Page) (rungs : ℕ) (sites : List Site)
                   half = half.Wire;
                   in_rung = rows;
                   on = refl;
-                  along = (c, high, broken);
+                  along = (c, high, (refl, columns, (torn _ _ _).0 apart_here));
                 },
               )),
             )))

@@ -1,5 +1,5 @@
 -- What the text over a cell stands for (the profile; output variables of instances as in IEC 61131-3).
-use Rattle.std.specs.Prelude.{◌≡◌, ◌++◌, replicate, ℕ, ◌+◌, ◌-◌, ◌==◌, nat_le, Bool, true, false, not, ◌&&◌, ◌||◌, List, [], ◌∷◌, length, take, drop, codes, slice_get, Option, Some, None, if◌then◌else◌}
+use Rattle.std.specs.Prelude.{◌≡◌, ◌++◌, replicate, ℕ, ◌+◌, ◌-◌, ◌==◌, nat_le, Bool, true, false, not, ◌&&◌, ◌||◌, List, [], ◌∷◌, length, take, drop, codes, slice_get, Option, Some, None, is_some, if◌then◌else◌}
 use Rattle.ladder_vars.specs.Name.{is_name, same_letters}
 use Rattle.ladder_vars.specs.Text.{begins_with}
 use Rattle.ladder_vars.specs.Kind.{traits_of}
@@ -89,24 +89,20 @@ abbrev pub gives_output : Option Instance → Option Output → Bool
 gives_output (Some i) (Some o) = same_output o (traits_of i.kind).output
 gives_output _ _ = false
 
-abbrev pub is_given : Option Output → Bool
-is_given None = false
-is_given (Some o) = true
-
 -- a contact reads a variable, or the output of an instance
 abbrev pub is_odd_on_contact : Declared → Symbol → Option Output → Bool
-is_odd_on_contact decls (symbol.Var i) output = is_given output
+is_odd_on_contact decls (symbol.Var i) output = is_some output
 is_odd_on_contact decls (symbol.Instance i) output = not (gives_output (slice_get decls.instances i) output)
 
 -- a coil writes a variable that is no input
 abbrev pub is_odd_on_coil : Declared → Symbol → Option Output → Bool
-is_odd_on_coil decls (symbol.Var i) output = is_given output || is_input_at (slice_get decls.vars i)
+is_odd_on_coil decls (symbol.Var i) output = is_some output || is_input_at (slice_get decls.vars i)
 is_odd_on_coil decls (symbol.Instance i) output = true
 
 -- a block is an instance of its kind
 abbrev pub is_odd_on_block : Declared → BlockKind → Symbol → Option Output → Bool
 is_odd_on_block decls k (symbol.Var i) output = true
-is_odd_on_block decls k (symbol.Instance i) output = is_given output || not (is_of_kind k (slice_get decls.instances i))
+is_odd_on_block decls k (symbol.Instance i) output = is_some output || not (is_of_kind k (slice_get decls.instances i))
 
 -- The name is none that the symbol may have.
 abbrev pub is_odd : Declared → Option Form → Option Reference → Bool

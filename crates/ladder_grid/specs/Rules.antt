@@ -1,17 +1,16 @@
 -- The rules of the cells, joints and names of a page (the profile): what each asks of a place. A place is a rung k, a row r, its
 -- name line or its wire line, and a column c; column 10 stands for the right rail.
-use Rattle.std.specs.Prelude.{◌≡◌, ℕ, ◌+◌, ◌-◌, ◌*◌, ◌<◌, ◌≤◌, nat_lt, nat_le, Bool, true, false, not, ◌&&◌, ◌||◌, ◌==◌, List, Option, Some, None, if◌then◌else◌}
+use Rattle.std.specs.Prelude.{◌≡◌, ◌⊎◌, ℕ, ◌+◌, ◌-◌, ◌*◌, ◌<◌, ◌≤◌, nat_lt, nat_le, Bool, true, false, not, ◌&&◌, ◌||◌, ◌==◌, List, Option, Some, None, if◌then◌else◌}
 use Rattle.std.specs.List.{list_any}
 use Rattle.ladder_vars.specs.Kind.{traits_of}
 use Rattle.ladder_grid.specs.declared.geometry.TheConstants.{ROWS, COLUMNS, PITCH, RAIL}
 use Rattle.ladder_grid.specs.Bytes.{space, dash, plus, bar}
 use Rattle.ladder_vars.specs.declared.kind.Pin.{Pin}
-use Rattle.ladder_vars.specs.declared.kind.Pin.TheVariants as pin
+use Rattle.ladder_vars.specs.declared.kind.BlockKind.{BlockKind}
 use Rattle.ladder_grid.specs.declared.form.Form.{Form}
 use Rattle.ladder_grid.specs.declared.form.Form.TheVariants.{Contact, Coil, Block, Lower, Jump, Return}
 use Rattle.ladder_grid.specs.declared.fault.GridRule.{GridRule}
 use Rattle.ladder_grid.specs.declared.fault.GridRule.TheVariants as rule
-use Rattle.ladder_grid.specs.declared.operand.Reference.{Reference}
 use Rattle.ladder_grid.specs.Operand.{is_odd}
 use Rattle.ladder_grid.specs.Picture.{Lines, line_of, ch, text_over, joint}
 use Rattle.ladder_grid.specs.declared.picture.Half.{Half}
@@ -19,15 +18,6 @@ use Rattle.ladder_grid.specs.declared.picture.Half.TheVariants as half
 use Rattle.ladder_grid.specs.Feeding.{right_link, IsUnfed}
 use Rattle.ladder_grid.specs.Page.{Page, rung_at, form_at, name_over, instance_at}
 use Rattle.ladder_grid.specs.Geometry.{reading_place}
-
-abbrev pub is_form : Option Form → Bool
-is_form None = false
-is_form (Some form) = true
-
--- G3: the cell has none of the forms.
-abbrev pub bad_cell : Page → ℕ → ℕ → Half → ℕ → Bool
-bad_cell page k r half.Name c = false
-bad_cell page k r half.Wire c = nat_lt c COLUMNS && not (is_form (form_at page k r c))
 
 -- on a name line a joint's place has a space or a bar
 abbrev pub bad_name_joint : ℕ → Bool
@@ -72,58 +62,9 @@ wants_name form = false
 abbrev pub has_text : List ℕ → Bool
 has_text chars = list_any (λ b. not (b == space)) chars
 
--- G7: no name over a contact, a coil or a block.
-abbrev pub name_missing : Page → ℕ → ℕ → Half → ℕ → Bool
-name_missing page k r half.Name c = nat_lt c COLUMNS && (wants_name (form_at page k r c) && not (has_text (text_over (rung_at page k) r c)))
-name_missing page k r half.Wire c = false
-
--- G8: a text over another cell.
-abbrev pub name_without : Page → ℕ → ℕ → Half → ℕ → Bool
-name_without page k r half.Name c = nat_lt c COLUMNS && (not (wants_name (form_at page k r c)) && has_text (text_over (rung_at page k) r c))
-name_without page k r half.Wire c = false
-
-abbrev pub is_known : Option Reference → Bool
-is_known None = false
-is_known (Some name) = true
-
--- G9: the text over the cell is no declared name.
-abbrev pub undeclared : Page → ℕ → ℕ → Half → ℕ → Bool
-undeclared page k r half.Name c = nat_lt c COLUMNS && (wants_name (form_at page k r c) && not (is_known (name_over page k r c)))
-undeclared page k r half.Wire c = false
-
--- G10: the name is none that the symbol may have.
-abbrev pub wrong_kind : Page → ℕ → ℕ → Half → ℕ → Bool
-wrong_kind page k r half.Name c = nat_lt c COLUMNS && is_odd page.decls (form_at page k r c) (name_over page k r c)
-wrong_kind page k r half.Wire c = false
-
-abbrev pub same_pin : Pin → Pin → Bool
-same_pin pin.Reset pin.Reset = true
-same_pin pin.Load pin.Load = true
-same_pin pin.Reset1 pin.Reset1 = true
-same_pin a b = false
-
--- it is the lower cell of this input, if there is one
-abbrev pub is_lower_for : Option Pin → Option Form → Bool
-is_lower_for (Some p) (Some (Lower q linked)) = same_pin p q
-is_lower_for _ _ = false
-
-abbrev pub takes_second : Pin → Option Pin → Bool
-takes_second q None = false
-takes_second q (Some p) = same_pin p q
-
-abbrev pub is_block_for : Pin → Option Form → Bool
-is_block_for q (Some (Block k)) = takes_second q (traits_of k).second_input
-is_block_for q form = false
-
-abbrev pub lacks_lower : Option Pin → Option Form → Bool
-lacks_lower None below = false
-lacks_lower (Some p) below = not (is_lower_for (Some p) below)
-
--- with these forms above and below it
-abbrev pub is_apart : Option Form → Option Form → Option Form → Bool
-is_apart above (Some (Block k)) below = lacks_lower (traits_of k).second_input below
-is_apart above (Some (Lower q linked)) below = not (is_block_for q above)
-is_apart above form below = false
+-- the form of a block whose second input this is
+abbrev pub IsBlockWith : Pin → Option Form → Type 0
+IsBlockWith p form = (k : BlockKind) × (form ≡ Some (Block k)) × ((traits_of k).second_input ≡ Some p)
 
 abbrev pub form_above : Page → ℕ → ℕ → ℕ → Option Form
 form_above page k r c = if r == 0 then None else form_at page k (r - 1) c
@@ -132,9 +73,11 @@ abbrev pub form_below : Page → ℕ → ℕ → ℕ → Option Form
 form_below page k r c = if r + 1 == ROWS then None else form_at page k (r + 1) c
 
 -- G11: a block with a second input lacks its lower cell in the next row, or a lower cell its block above.
-abbrev pub bad_block : Page → ℕ → ℕ → Half → ℕ → Bool
-bad_block page k r half.Wire c = nat_lt c COLUMNS && is_apart (form_above page k r c) (form_at page k r c) (form_below page k r c)
-bad_block page k r half.Name c = false
+abbrev pub IsTorn : Page → ℕ → ℕ → ℕ → Type 0
+IsTorn page k r c =
+    (p : Pin)
+    × ((IsBlockWith p (form_at page k r c) × ((linked : Bool) → form_below page k r c ≡ Some (Lower p linked) → ⊥))
+    ⊎ (((linked : Bool) × (form_at page k r c ≡ Some (Lower p linked))) × ¬ (IsBlockWith p (form_above page k r c))))
 
 -- G12: the block's instance was drawn at an earlier place, of this rung or of one before.
 pub record IsDrawnBefore (page : Page) (inst k r c : ℕ) : Type 0 where
@@ -166,15 +109,23 @@ pub record IsSecondJump (page : Page) (k r c : ℕ) : Type 0 where
 
 -- The rule is broken at the place. Only these rules speak of places.
 abbrev pub BreaksAt : GridRule → Page → ℕ → ℕ → Half → ℕ → Type 0
-BreaksAt rule.BadCell page k r h c = bad_cell page k r h c ≡ true
+-- G3: the cell has none of the forms.
+BreaksAt rule.BadCell page k r h c = (h ≡ half.Wire) × (c < COLUMNS) × (form_at page k r c ≡ None)
 BreaksAt rule.BadJoint page k r h c = bad_joint page k r h c ≡ true
 BreaksAt rule.BrokenVertical page k r h c = bad_vertical (rung_at page k) r h c ≡ true
 BreaksAt rule.Unfed page k r h c = (h ≡ half.Wire) × (c < COLUMNS) × IsUnfed page k r c
-BreaksAt rule.NameMissing page k r h c = name_missing page k r h c ≡ true
-BreaksAt rule.NameWithoutSymbol page k r h c = name_without page k r h c ≡ true
-BreaksAt rule.Undeclared page k r h c = undeclared page k r h c ≡ true
-BreaksAt rule.WrongKind page k r h c = wrong_kind page k r h c ≡ true
-BreaksAt rule.BlockShape page k r h c = bad_block page k r h c ≡ true
+-- G7: no name over a contact, a coil or a block.
+BreaksAt rule.NameMissing page k r h c =
+    (h ≡ half.Name) × (c < COLUMNS) × ((wants_name (form_at page k r c) ≡ true) × (has_text (text_over (rung_at page k) r c) ≡ false))
+-- G8: a text over another cell.
+BreaksAt rule.NameWithoutSymbol page k r h c =
+    (h ≡ half.Name) × (c < COLUMNS) × ((wants_name (form_at page k r c) ≡ false) × (has_text (text_over (rung_at page k) r c) ≡ true))
+-- G9: the text over the cell is no declared name.
+BreaksAt rule.Undeclared page k r h c =
+    (h ≡ half.Name) × (c < COLUMNS) × ((wants_name (form_at page k r c) ≡ true) × (name_over page k r c ≡ None))
+-- G10: the name is none that the symbol may have.
+BreaksAt rule.WrongKind page k r h c = (h ≡ half.Name) × (c < COLUMNS) × (is_odd page.decls (form_at page k r c) (name_over page k r c) ≡ true)
+BreaksAt rule.BlockShape page k r h c = (h ≡ half.Wire) × (c < COLUMNS) × IsTorn page k r c
 BreaksAt rule.DrawnTwice page k r h c = (h ≡ half.Name) × (c < COLUMNS) × IsDrawnTwice page k r c
 BreaksAt rule.TwoJumps page k r h c = (h ≡ half.Wire) × (c < COLUMNS) × IsSecondJump page k r c
 BreaksAt other page k r h c = ⊥

@@ -12,13 +12,15 @@ ghost use Rattle.ladder_grid.specs.Reading.{IsDrawn};
 
 use crate::cell::Cell;
 use crate::fault::Stop;
-use crate::geometry::{PLACES, ROWS};
+use crate::firsts::firsts;
+use crate::geometry::{PLACES, ROWS, RUNGS};
 use crate::lines::{blanked, lines, parts, unclosed_line};
-use crate::page::{PageView, forms};
+use crate::page::{forms, overs};
 use crate::page_check::check;
 use crate::program::Program;
 use crate::sheet::has_memory;
 use crate::site::{Site, cell_drawn, site_with};
+use crate::view::PageView;
 use ladder_vars::{Decls, Name};
 use std::alloc::{AllocError, Global};
 
@@ -37,7 +39,6 @@ fn sites(
     page: PageView<'_, '_>,
     labels: &[Option<Name>],
 ) -> Result<Vec<Site>, AllocError>
-    requires within { All (IsWithin (length page.lines.now)) page.parts.now }
     requires few { length page.parts.now ≤ RUNGS }
     requires known { labels.now ≡ labels_of (map (λ l. l.now) page.lines.now) page.parts.now }
     ensures { IfOk result (λ v. v.items ≡ sites_of (seen page.entry)) }
@@ -67,7 +68,6 @@ fn sites(
 
 /// The sites of a page, where no rule is broken on it.
 fn checked_sites(alloc: Global, page: PageView<'_, '_>) -> Result<(usize, Vec<Site>), Stop>
-    requires within { All (IsWithin (length page.lines.now)) page.parts.now }
     ensures found { IfOk result (λ x. AreSitesOf (seen page.entry) x.0 x.1.items) }
     ensures broken { IfErr result (IsBrokenIn (seen page.entry)) }
     ensures near { IfErr result (IsNear (length page.entry.parts.now) (length page.entry.lines.now)) }
@@ -87,6 +87,9 @@ fn read_sites(alloc: Global, decls: &Decls, text: &[u8]) -> Result<(usize, Vec<S
     let lines = lines(alloc, &shown)?;
     let parts = parts(alloc, &lines)?;
     let forms = forms(alloc, &lines, &parts)?;
+    let overs = overs(alloc, decls, &lines, &parts)?;
+    let rungs = parts.len().min(RUNGS);
+    let firsts = firsts(alloc, decls.instances().len(), rungs, &forms, &overs)?;
     checked_sites(
         alloc,
         PageView {
@@ -95,6 +98,8 @@ fn read_sites(alloc: Global, decls: &Decls, text: &[u8]) -> Result<(usize, Vec<S
             unclosed,
             parts: &parts,
             forms: &forms,
+            overs: &overs,
+            firsts: &firsts,
         },
     )
 }

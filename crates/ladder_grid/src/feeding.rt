@@ -8,8 +8,9 @@ ghost use Rattle.ladder_grid.specs.Feeding.{passes_on, right_link, enters, IsFed
 
 use crate::form::Form;
 use crate::geometry::{CELL, PITCH, ROWS};
-use crate::page::{PageView, form_at, rung_at};
+use crate::page::{form_at, rung_at};
 use crate::picture::{ch, joint, same_group};
+use crate::view::PageView;
 
 fn passes_on(form: &Option<Form>) -> bool
     ensures { result ≡ passes_on form.now }
@@ -24,7 +25,6 @@ fn passes_on(form: &Option<Form>) -> bool
 /// Whether a cell has a right link.
 pub(crate) fn right_link(page: PageView<'_, '_>, rung: usize, row: usize, column: usize) -> bool
     requires rungs { rung < length page.parts.now }
-    requires within { All (IsWithin (length page.lines.now)) page.parts.now }
     requires rows { row < ROWS }
     requires columns { column < COLUMNS }
     ensures { result ≡ right_link (seen page.entry) rung row column }
@@ -35,7 +35,6 @@ pub(crate) fn right_link(page: PageView<'_, '_>, rung: usize, row: usize, column
 
 fn enters(page: PageView<'_, '_>, rung: usize, row: usize, column: usize) -> bool
     requires rungs { rung < length page.parts.now }
-    requires within { All (IsWithin (length page.lines.now)) page.parts.now }
     requires rows { row < ROWS }
     requires columns { column < COLUMNS }
     ensures { result ≡ enters (seen page.entry) rung row column }
@@ -46,7 +45,6 @@ fn enters(page: PageView<'_, '_>, rung: usize, row: usize, column: usize) -> boo
 
 fn is_fed(page: PageView<'_, '_>, rung: usize, row: usize, column: usize) -> bool
     requires rungs { rung < length page.parts.now }
-    requires within { All (IsWithin (length page.lines.now)) page.parts.now }
     requires rows { row < ROWS }
     requires columns { column < COLUMNS }
     ensures { IsTrue result ↔ IsFed (seen page.entry) rung row column }
@@ -64,7 +62,6 @@ fn is_fed(page: PageView<'_, '_>, rung: usize, row: usize, column: usize) -> boo
 /// Whether a cell wants power on its left where none can come.
 pub(crate) fn is_unfed(page: PageView<'_, '_>, rung: usize, row: usize, column: usize) -> bool
     requires rungs { rung < length page.parts.now }
-    requires within { All (IsWithin (length page.lines.now)) page.parts.now }
     requires rows { row < ROWS }
     requires columns { column < COLUMNS }
     ensures { IsTrue result ↔ IsUnfed (seen page.entry) rung row column }

@@ -1,7 +1,7 @@
 //! The geometry of a drawing: how many rungs, rows and columns there are, and where a cell stands in its lines.
 
 ghost use Rattle.std.specs.Prelude.{◌≡◌, ◌<◌};
-ghost use Rattle.ladder_grid.specs.Geometry.{place};
+ghost use Rattle.ladder_grid.specs.Geometry.{place, reading_place};
 
 /// So many rungs a program may have.
 pub const RUNGS: usize = 100;
@@ -35,4 +35,14 @@ pub fn place(rung: usize, row: usize, column: usize) -> usize
     ensures { result ≡ place rung row column }
 {
     PLACES * rung + (ROWS * column + row)
+}
+
+/// The number of a place in the order of reading.
+pub(crate) fn reading_place(rung: usize, row: usize, column: usize) -> usize
+    requires rungs { rung < RUNGS }
+    requires rows { row < ROWS }
+    requires columns { column < COLUMNS }
+    ensures { result ≡ reading_place rung row column }
+{
+    PLACES * rung + (COLUMNS * row + column)
 }

@@ -2,7 +2,7 @@
 
 ghost use Rattle.std.specs.Prelude.{◌≡◌, ◌≤◌, ◌-◌, length, drop, slice_get};
 ghost use Rattle.ladder_vars.specs.Name.{same_letters};
-ghost use Rattle.ladder_grid.specs.Operand.{after_spaces, text_len, word_in, ends_in, without_end, named, referred, refer_to, same_kind, same_output, gives_output, is_odd_on_contact, is_odd_on_coil, is_odd_on_block, is_odd, instance_of};
+ghost use Rattle.ladder_grid.specs.Operand.{after_spaces, text_len, word_in, ends_in, without_end, named, referred, refer_to, same_kind, same_output, gives_output, is_odd_on_contact, is_odd_on_coil, is_odd_on_block, is_odd, instance_of, instance_on};
 
 use crate::form::Form;
 use ladder_vars::{BlockKind, Decls, Name, Output, Symbol, VarKind};
@@ -12,6 +12,13 @@ use ladder_vars::{BlockKind, Decls, Name, Output, Symbol, VarKind};
 pub(crate) struct Reference {
     pub symbol: Symbol,
     pub output: Option<Output>,
+}
+
+/// What stands over a cell: whether there is text, and the declared name that it is.
+#[derive(Clone, Copy, Debug, PartialEq, Eq)]
+pub(crate) struct NameOver {
+    pub written: bool,
+    pub name: Option<Reference>,
 }
 
 fn after_spaces(mut chars: &[u8]) -> &[u8]
@@ -194,5 +201,28 @@ pub(crate) fn instance_of(symbol: Symbol) -> Option<usize>
     match symbol {
         Symbol::Var(_) => None,
         Symbol::Instance(i) => Some(i),
+    }
+}
+
+/// The instance that a block with this text over it is.
+pub(crate) fn instance_on(form: Option<Form>, name: Option<Reference>) -> Option<usize>
+    ensures { result ≡ instance_on form name }
+{
+    match (form, name) {
+        (Some(Form::Block(_)), Some(name)) => instance_of(name.symbol),
+        (Some(Form::Block(_)), None)
+        | (
+            None
+            | Some(
+                Form::Empty
+                | Form::Wire
+                | Form::Contact(_)
+                | Form::Coil(_)
+                | Form::Lower(_, _)
+                | Form::Jump(_)
+                | Form::Return,
+            ),
+            _,
+        ) => None,
     }
 }

@@ -1,40 +1,28 @@
 //! The rules of cells, joints and names.
 
-ghost use Rattle.std.specs.Prelude.{◌≡◌, ◌≤◌, ◌<◌, ◌↔◌, length, map, All, Some, false, IsTrue, IfSome, IfNone};
+ghost use Rattle.std.specs.Prelude.{◌≡◌, ◌≤◌, ◌<◌, ◌↔◌, length, map, None, true, false, IsTrue, IfSome, IfNone};
 ghost use Rattle.ladder_grid.specs.declared.geometry.TheConstants.{RUNGS, ROWS, COLUMNS, LINES};
 ghost use Rattle.std.specs.List.{AllByRecursion};
 ghost use Rattle.ladder_grid.specs.ReadLines.{IsWithin};
 ghost use Rattle.ladder_grid.specs.Seen.{seen};
 ghost use Rattle.ladder_grid.specs.Geometry.{reading_place};
-ghost use Rattle.ladder_grid.specs.Rules.{is_form, bad_cell, bad_name_joint, bad_wire_joint, bad_rail, bad_at_joint, bad_joint, is_branch, bad_vertical, wants_name, has_text, name_missing, name_without, is_known, undeclared, wrong_kind, same_pin, is_lower_for, takes_second, is_block_for, lacks_lower, is_apart, form_above, form_below, bad_block, IsDrawnBefore, IsDrawnTwice, leaps, IsSecondJump, BreaksAt, IsBrokenAlong, IsBrokenOn, IsKept};
+ghost use Rattle.ladder_grid.specs.Rules.{bad_name_joint, bad_wire_joint, bad_rail, bad_at_joint, bad_joint, is_branch, bad_vertical, wants_name, has_text, form_above, form_below, IsTorn, IsDrawnBefore, IsDrawnTwice, leaps, IsSecondJump, BreaksAt, IsBrokenAlong, IsBrokenOn, IsKept};
+ghost use Rattle.ladder_grid.specs.Shapes.{same_pin, is_lower_for, takes_second, is_block_for, lacks_lower, is_apart};
+ghost use Rattle.ladder_grid.specs.Operand.{is_odd};
+ghost use Rattle.ladder_grid.specs.Page.{rung_at, form_at, name_over};
+ghost use Rattle.ladder_grid.specs.Picture.{text_over};
 ghost use Rattle.ladder_grid.specs.declared.fault.GridRule.{GridRule};
 
 use crate::fault::GridRule;
 use crate::feeding::{is_unfed, right_link};
+use crate::firsts::{first_of, is_before};
 use crate::form::Form;
-use crate::geometry::{COLUMNS, PITCH, PLACES, RAIL, ROWS};
+use crate::geometry::{COLUMNS, PITCH, RAIL, ROWS, reading_place};
 use crate::operand::{Reference, is_odd};
-use crate::page::{PageView, form_at, instance_at, name_over, rung_at};
-use crate::picture::{Half, ch, joint, line_of, text_over};
+use crate::page::{form_at, instance_at, is_written_over, name_over, rung_at};
+use crate::picture::{Half, ch, joint, line_of};
+use crate::view::PageView;
 use ladder_vars::Pin;
-
-fn is_form(form: Option<Form>) -> bool
-    ensures { result ≡ is_form form }
-{
-    form.is_some()
-}
-
-fn bad_cell(page: PageView<'_, '_>, rung: usize, row: usize, half: Half, column: usize) -> bool
-    requires rungs { rung < length page.parts.now }
-    requires within { All (IsWithin (length page.lines.now)) page.parts.now }
-    requires rows { row < ROWS }
-    ensures { result ≡ bad_cell (seen page.entry) rung row half column }
-{
-    match half {
-        Half::Name => false,
-        Half::Wire => column < COLUMNS && !is_form(form_at(page, rung, row, column)),
-    }
-}
 
 fn bad_name_joint(b: u8) -> bool
     ensures { result ≡ bad_name_joint b }
@@ -58,7 +46,6 @@ fn bad_rail(b: u8) -> bool
 
 fn bad_at_joint(page: PageView<'_, '_>, rung: usize, row: usize, half: Half, column: usize) -> bool
     requires rungs { rung < length page.parts.now }
-    requires within { All (IsWithin (length page.lines.now)) page.parts.now }
     requires rows { row < ROWS }
     requires columns { column < COLUMNS }
     ensures { result ≡ bad_at_joint (seen page.entry) rung row half column }
@@ -76,7 +63,6 @@ fn bad_at_joint(page: PageView<'_, '_>, rung: usize, row: usize, half: Half, col
 
 fn bad_joint(page: PageView<'_, '_>, rung: usize, row: usize, half: Half, column: usize) -> bool
     requires rungs { rung < length page.parts.now }
-    requires within { All (IsWithin (length page.lines.now)) page.parts.now }
     requires rows { row < ROWS }
     requires columns { column ≤ COLUMNS }
     ensures { result ≡ bad_joint (seen page.entry) rung row half column }
@@ -129,77 +115,66 @@ pub(crate) fn has_text(chars: &[u8]) -> bool
     chars.iter().any(|b| *b != b' ')
 }
 
-fn name_missing(page: PageView<'_, '_>, rung: usize, row: usize, half: Half, column: usize) -> bool
-    requires rungs { rung < length page.parts.now }
-    requires within { All (IsWithin (length page.lines.now)) page.parts.now }
-    requires rows { row < ROWS }
-    ensures { result ≡ name_missing (seen page.entry) rung row half column }
+fn has_no_form(form: Option<Form>) -> bool
+    ensures { IsTrue result ↔ (form ≡ None) }
 {
-    match half {
-        Half::Name => {
-            column < COLUMNS
-                && wants_name(form_at(page, rung, row, column))
-                && !has_text(&text_over(rung_at(page, rung), row, column))
-        },
-        Half::Wire => false,
+    match form {
+        None => true,
+        Some(_) => false,
     }
 }
 
-fn name_without(page: PageView<'_, '_>, rung: usize, row: usize, half: Half, column: usize) -> bool
+fn lacks_name(page: PageView<'_, '_>, rung: usize, row: usize, column: usize) -> bool
     requires rungs { rung < length page.parts.now }
-    requires within { All (IsWithin (length page.lines.now)) page.parts.now }
+    requires few { rung < RUNGS }
     requires rows { row < ROWS }
-    ensures { result ≡ name_without (seen page.entry) rung row half column }
+    requires columns { column < COLUMNS }
+    ensures { IsTrue result ↔ ((wants_name (form_at (seen page.entry) rung row column) ≡ true) × (has_text (text_over (rung_at (seen page.entry) rung) row column) ≡ false)) }
 {
-    match half {
-        Half::Name => {
-            column < COLUMNS
-                && !wants_name(form_at(page, rung, row, column))
-                && has_text(&text_over(rung_at(page, rung), row, column))
-        },
-        Half::Wire => false,
+    wants_name(form_at(page, rung, row, column)) && !is_written_over(page, rung, row, column)
+}
+
+fn has_idle_text(page: PageView<'_, '_>, rung: usize, row: usize, column: usize) -> bool
+    requires rungs { rung < length page.parts.now }
+    requires few { rung < RUNGS }
+    requires rows { row < ROWS }
+    requires columns { column < COLUMNS }
+    ensures { IsTrue result ↔ ((wants_name (form_at (seen page.entry) rung row column) ≡ false) × (has_text (text_over (rung_at (seen page.entry) rung) row column) ≡ true)) }
+{
+    !wants_name(form_at(page, rung, row, column)) && is_written_over(page, rung, row, column)
+}
+
+fn is_unknown(name: Option<Reference>) -> bool
+    ensures { IsTrue result ↔ (name ≡ None) }
+{
+    match name {
+        None => true,
+        Some(_) => false,
     }
 }
 
-fn is_known(name: Option<Reference>) -> bool
-    ensures { result ≡ is_known name }
+fn is_undeclared(page: PageView<'_, '_>, rung: usize, row: usize, column: usize) -> bool
+    requires rungs { rung < length page.parts.now }
+    requires few { rung < RUNGS }
+    requires rows { row < ROWS }
+    requires columns { column < COLUMNS }
+    ensures { IsTrue result ↔ ((wants_name (form_at (seen page.entry) rung row column) ≡ true) × (name_over (seen page.entry) rung row column ≡ None)) }
 {
-    name.is_some()
+    wants_name(form_at(page, rung, row, column)) && is_unknown(name_over(page, rung, row, column))
 }
 
-fn undeclared(page: PageView<'_, '_>, rung: usize, row: usize, half: Half, column: usize) -> bool
+fn has_odd_name(page: PageView<'_, '_>, rung: usize, row: usize, column: usize) -> bool
     requires rungs { rung < length page.parts.now }
-    requires within { All (IsWithin (length page.lines.now)) page.parts.now }
+    requires few { rung < RUNGS }
     requires rows { row < ROWS }
-    ensures { result ≡ undeclared (seen page.entry) rung row half column }
+    requires columns { column < COLUMNS }
+    ensures { result ≡ is_odd page.entry.decls.now (form_at (seen page.entry) rung row column) (name_over (seen page.entry) rung row column) }
 {
-    match half {
-        Half::Name => {
-            column < COLUMNS
-                && wants_name(form_at(page, rung, row, column))
-                && !is_known(name_over(page, rung, row, column))
-        },
-        Half::Wire => false,
-    }
-}
-
-fn wrong_kind(page: PageView<'_, '_>, rung: usize, row: usize, half: Half, column: usize) -> bool
-    requires rungs { rung < length page.parts.now }
-    requires within { All (IsWithin (length page.lines.now)) page.parts.now }
-    requires rows { row < ROWS }
-    ensures { result ≡ wrong_kind (seen page.entry) rung row half column }
-{
-    match half {
-        Half::Name => {
-            column < COLUMNS
-                && is_odd(
-                    page.decls,
-                    form_at(page, rung, row, column),
-                    name_over(page, rung, row, column),
-                )
-        },
-        Half::Wire => false,
-    }
+    is_odd(
+        page.decls,
+        form_at(page, rung, row, column),
+        name_over(page, rung, row, column),
+    )
 }
 
 fn same_pin(a: Pin, b: Pin) -> bool
@@ -282,7 +257,6 @@ fn is_apart(above: Option<Form>, form: Option<Form>, below: Option<Form>) -> boo
 
 fn form_above(page: PageView<'_, '_>, rung: usize, row: usize, column: usize) -> Option<Form>
     requires rungs { rung < length page.parts.now }
-    requires within { All (IsWithin (length page.lines.now)) page.parts.now }
     requires rows { row < ROWS }
     requires columns { column < COLUMNS }
     ensures { result ≡ form_above (seen page.entry) rung row column }
@@ -296,7 +270,6 @@ fn form_above(page: PageView<'_, '_>, rung: usize, row: usize, column: usize) ->
 
 fn form_below(page: PageView<'_, '_>, rung: usize, row: usize, column: usize) -> Option<Form>
     requires rungs { rung < length page.parts.now }
-    requires within { All (IsWithin (length page.lines.now)) page.parts.now }
     requires rows { row < ROWS }
     requires columns { column < COLUMNS }
     ensures { result ≡ form_below (seen page.entry) rung row column }
@@ -308,32 +281,17 @@ fn form_below(page: PageView<'_, '_>, rung: usize, row: usize, column: usize) ->
     }
 }
 
-fn bad_block(page: PageView<'_, '_>, rung: usize, row: usize, half: Half, column: usize) -> bool
+fn is_torn(page: PageView<'_, '_>, rung: usize, row: usize, column: usize) -> bool
     requires rungs { rung < length page.parts.now }
-    requires within { All (IsWithin (length page.lines.now)) page.parts.now }
     requires rows { row < ROWS }
-    ensures { result ≡ bad_block (seen page.entry) rung row half column }
+    requires columns { column < COLUMNS }
+    ensures { IsTrue result ↔ IsTorn (seen page.entry) rung row column }
 {
-    match half {
-        Half::Name => false,
-        Half::Wire => {
-            column < COLUMNS
-                && is_apart(
-                    form_above(page, rung, row, column),
-                    form_at(page, rung, row, column),
-                    form_below(page, rung, row, column),
-                )
-        },
-    }
-}
-
-fn same_number(a: Option<usize>, b: usize) -> bool
-    ensures { IsTrue result ↔ (a ≡ Some b) }
-{
-    match a {
-        Some(a) => a == b,
-        None => false,
-    }
+    is_apart(
+        form_above(page, rung, row, column),
+        form_at(page, rung, row, column),
+        form_below(page, rung, row, column),
+    )
 }
 
 /// Whether a block before the place is the instance.
@@ -345,29 +303,22 @@ fn is_drawn_before(
     column: usize,
 ) -> bool
     requires rungs { rung < length page.parts.now }
-    requires within { All (IsWithin (length page.lines.now)) page.parts.now }
     requires rows { row < ROWS }
     requires columns { column < COLUMNS }
-    requires few { rung ≤ RUNGS }
+    requires few { rung < RUNGS }
     ensures { IsTrue result ↔ IsDrawnBefore (seen page.entry) inst rung row column }
 {
-    for n in 0..PLACES * rung + (COLUMNS * row + column) {
-        if same_number(
-            instance_at(page, n / PLACES, n % PLACES / COLUMNS, n % PLACES % COLUMNS),
-            inst,
-        ) {
-            return true;
-        }
-    }
-    false
+    is_before(
+        first_of(page.firsts, inst),
+        reading_place(rung, row, column),
+    )
 }
 
 fn is_drawn_twice(page: PageView<'_, '_>, rung: usize, row: usize, column: usize) -> bool
     requires rungs { rung < length page.parts.now }
-    requires within { All (IsWithin (length page.lines.now)) page.parts.now }
     requires rows { row < ROWS }
     requires columns { column < COLUMNS }
-    requires few { rung ≤ RUNGS }
+    requires few { rung < RUNGS }
     ensures { IsTrue result ↔ IsDrawnTwice (seen page.entry) rung row column }
 {
     match instance_at(page, rung, row, column) {
@@ -395,7 +346,6 @@ fn leaps(form: Option<Form>) -> bool
 
 fn is_second_jump(page: PageView<'_, '_>, rung: usize, row: usize, column: usize) -> bool
     requires rungs { rung < length page.parts.now }
-    requires within { All (IsWithin (length page.lines.now)) page.parts.now }
     requires rows { row < ROWS }
     requires columns { column < COLUMNS }
     ensures { IsTrue result ↔ IsSecondJump (seen page.entry) rung row column }
@@ -431,22 +381,33 @@ fn breaks(
     column: usize,
 ) -> bool
     requires rungs { rung < length page.parts.now }
-    requires within { All (IsWithin (length page.lines.now)) page.parts.now }
     requires rows { row < ROWS }
     requires columns { column ≤ COLUMNS }
-    requires few { rung ≤ RUNGS }
+    requires few { rung < RUNGS }
     ensures { IsTrue result ↔ BreaksAt rule (seen page.entry) rung row half column }
 {
     match rule {
-        GridRule::BadCell => bad_cell(page, rung, row, half, column),
+        GridRule::BadCell => is_wire(half)
+            && column < COLUMNS
+            && has_no_form(form_at(page, rung, row, column)),
         GridRule::BadJoint => bad_joint(page, rung, row, half, column),
         GridRule::BrokenVertical => bad_vertical(rung_at(page, rung), row, half, column),
         GridRule::Unfed => is_wire(half) && column < COLUMNS && is_unfed(page, rung, row, column),
-        GridRule::NameMissing => name_missing(page, rung, row, half, column),
-        GridRule::NameWithoutSymbol => name_without(page, rung, row, half, column),
-        GridRule::Undeclared => undeclared(page, rung, row, half, column),
-        GridRule::WrongKind => wrong_kind(page, rung, row, half, column),
-        GridRule::BlockShape => bad_block(page, rung, row, half, column),
+        GridRule::NameMissing => !is_wire(half)
+            && column < COLUMNS
+            && lacks_name(page, rung, row, column),
+        GridRule::NameWithoutSymbol => !is_wire(half)
+            && column < COLUMNS
+            && has_idle_text(page, rung, row, column),
+        GridRule::Undeclared => !is_wire(half)
+            && column < COLUMNS
+            && is_undeclared(page, rung, row, column),
+        GridRule::WrongKind => !is_wire(half)
+            && column < COLUMNS
+            && has_odd_name(page, rung, row, column),
+        GridRule::BlockShape => is_wire(half)
+            && column < COLUMNS
+            && is_torn(page, rung, row, column),
         GridRule::DrawnTwice => !is_wire(half)
             && column < COLUMNS
             && is_drawn_twice(page, rung, row, column),
@@ -468,9 +429,8 @@ fn is_broken_along(
     half: Half,
 ) -> bool
     requires rungs { rung < length page.parts.now }
-    requires within { All (IsWithin (length page.lines.now)) page.parts.now }
     requires rows { row < ROWS }
-    requires few { rung ≤ RUNGS }
+    requires few { rung < RUNGS }
     ensures { IsTrue result ↔ IsBrokenAlong rule (seen page.entry) rung row half }
 {
     for column in 0..COLUMNS + 1 {
@@ -484,8 +444,7 @@ fn is_broken_along(
 /// The first line of the rung on which the rule is broken.
 fn broken_line(rule: GridRule, page: PageView<'_, '_>, rung: usize) -> Option<usize>
     requires rungs { rung < length page.parts.now }
-    requires within { All (IsWithin (length page.lines.now)) page.parts.now }
-    requires few { rung ≤ RUNGS }
+    requires few { rung < RUNGS }
     ensures some { IfSome result (λ line. IsBrokenOn rule (seen page.entry) rung line) }
     ensures near { IfSome result (λ line. line < LINES) }
     ensures none { IfNone result (IsKept (seen page.entry) rung rule) }
@@ -522,8 +481,7 @@ fn first_broken(
     rung: usize,
 ) -> Option<(GridRule, usize)>
     requires rungs { rung < length page.parts.now }
-    requires within { All (IsWithin (length page.lines.now)) page.parts.now }
-    requires few { rung ≤ RUNGS }
+    requires few { rung < RUNGS }
     ensures some { IfSome result (λ x. IsBrokenOn x.0 (seen page.entry) rung x.1) }
     ensures near { IfSome result (λ x. x.1 < LINES) }
     ensures none { IfNone result (AllByRecursion (IsKept (seen page.entry) rung) rules.entry.now) }
@@ -540,8 +498,7 @@ fn first_broken(
 /// The first rule of places that the rung breaks, and its line.
 pub(crate) fn broken_place(page: PageView<'_, '_>, rung: usize) -> Option<(GridRule, usize)>
     requires rungs { rung < length page.parts.now }
-    requires within { All (IsWithin (length page.lines.now)) page.parts.now }
-    requires few { rung ≤ RUNGS }
+    requires few { rung < RUNGS }
     ensures some { IfSome result (λ x. IsBrokenOn x.0 (seen page.entry) rung x.1) }
     ensures near { IfSome result (λ x. x.1 < LINES) }
     ensures none { IfNone result ((rule : GridRule) → IsKept (seen page.entry) rung rule) }

@@ -1,7 +1,7 @@
 //! What a page has at a place of a rung.
 
 ghost use Rattle.std.specs.Prelude.{◌≡◌, ◌<◌, map, length, All};
-ghost use Rattle.ladder_grid.specs.declared.geometry.TheConstants.{ROWS, COLUMNS};
+ghost use Rattle.ladder_grid.specs.declared.geometry.TheConstants.{RUNGS, ROWS, COLUMNS};
 ghost use Rattle.ladder_grid.specs.ReadLines.{IsWithin};
 ghost use Rattle.ladder_grid.specs.Seen.{seen};
 ghost use Rattle.ladder_grid.specs.Page.{labels_of};
@@ -11,9 +11,10 @@ use crate::cell::{Cell, CoilMode, Joint, Mode, Operand};
 use crate::feeding::right_link;
 use crate::form::Form;
 use crate::operand::{Reference, instance_of};
-use crate::page::{PageView, form_at, instance_above, name_over, rung_at};
+use crate::page::{form_at, instance_above, name_over, rung_at};
 use crate::page_check::target_of;
 use crate::picture::{joint, vertical};
+use crate::view::PageView;
 use ladder_vars::{Name, Symbol};
 
 /// What is at a place of a rung: a cell, whether power can leave it on its right, the joint on its left, and whether a
@@ -131,7 +132,7 @@ pub(crate) fn cell_drawn(
     column: usize,
 ) -> Cell
     requires rungs { rung < length page.parts.now }
-    requires within { All (IsWithin (length page.lines.now)) page.parts.now }
+    requires few { rung < RUNGS }
     requires known { labels.now ≡ labels_of (map (λ l. l.now) page.lines.now) page.parts.now }
     requires rows { row < ROWS }
     requires columns { column < COLUMNS }
@@ -199,7 +200,6 @@ pub(crate) fn site_with(
     column: usize,
 ) -> Site
     requires rungs { rung < length page.parts.now }
-    requires within { All (IsWithin (length page.lines.now)) page.parts.now }
     requires rows { row < ROWS }
     requires columns { column < COLUMNS }
     ensures { result ≡ site_with (seen page.entry) number cell rung row column }
