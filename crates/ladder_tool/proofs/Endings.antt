@@ -1,5 +1,5 @@
 -- How a request for causes ends, from what each step of it ensures.
-use Rattle.std.proofs.Common.{◌≡◌, ◌∙◌, ap, refl, sym, ℕ, List, ◌∷◌, Some, None, inl, inr, length}
+use Rattle.std.proofs.Common.{◌≡◌, ◌∙◌, ap, refl, ℕ, List, ◌∷◌, Some, inl, inr, length}
 use Rattle.std.specs.Prelude.{unwrap_or}
 use Rattle.ladder_vars.specs.Decls.{Declared}
 use Rattle.ladder_grid.specs.Program.{Drawing}
@@ -7,7 +7,7 @@ use Rattle.ladder_scan.specs.Standing.{Standing}
 use Rattle.ladder_search.specs.Looks.{Search}
 use Rattle.ladder_causes.specs.declared.fault.CauseFault.{CauseFault}
 use Rattle.ladder_causes.specs.declared.fault.CauseFault.TheVariants as cause
-use Rattle.ladder_causes.specs.Causes.{causes_after}
+use Rattle.ladder_causes.specs.Causes.{Question, causes_after, question}
 use Rattle.ladder_causes.specs.Cursor.{Cursor, first_number, looks_given, looks_of, searched}
 use Rattle.ladder_causes.specs.Prefixes.{search_of}
 use Rattle.ladder_causes.specs.Refusal.{reason}
@@ -15,16 +15,13 @@ use Rattle.ladder_sim.specs.CauseText.{cause_text, limited}
 use Rattle.ladder_text.specs.Log.{PutsAll, PutsFront, WriteLog}
 use Rattle.ladder_tool.specs.declared.fault.ToolFault.{ToolFault}
 use Rattle.ladder_tool.specs.declared.fault.ToolFault.TheVariants as fault
-use Rattle.ladder_tool.specs.Performs.{Asking, HasCauseFault, HasListFault, HasWordFault, IsAsked, Subject, causes_for, list_text, looks_for, question_of, refusal_of, rows_line, rows_text}
+use Rattle.ladder_tool.specs.Performs.{Asking, HasCauseFault, HasListFault, HasWordFault, IsAsked, causes_for, list_text, looks_for, refusal_of, rows_line, rows_text}
 use Rattle.ladder_tool.specs.Setting.{Given, HasSettingFault, IsSet}
 use Rattle.ladder_tool.specs.Variables.{AreVariables, variable_of}
 
-abbrev pub subject : Drawing → Standing → ℕ → ℕ → List ℕ → Subject
-subject p s now var listed = record { program = p; state = s; moment = now; var = var; listed = listed }
-
 pub asked_by : (g : Given) (a : Asking) (p : Drawing) (s : Standing) (decls : Declared) (now var : ℕ) (listed given : List ℕ)
     → IsSet g p s → decls ≡ p.decls → given ≡ listed → now ≡ unwrap_or a.moment s.moment → variable_of decls a.coil ≡ Some var → AreVariables decls a.inputs listed
-    → IsAsked g a (subject p s now var given)
+    → IsAsked g a (question p s now var given)
 asked_by g a p s decls now var listed given set same as_given at on among =
     record { set = set; at = at; on = rw same at on; among = rw as_given (rw same at among) }
 
@@ -49,7 +46,7 @@ word_fault g a p s decls fault.Write set same h = absurd h
 word_fault g a p s decls fault.Memory set same h = tt
 word_fault g a p s decls fault.Usage set same h = absurd h
 
-pub cause_fault : (a : Asking) (q : Subject) (f : CauseFault) → refusal_of a q ≡ reason f → HasCauseFault a q f
+pub cause_fault : (a : Asking) (q : Question) (f : CauseFault) → refusal_of a q ≡ reason f → HasCauseFault a q f
 cause_fault a q cause.MomentBack h = inr h
 cause_fault a q cause.NotACoil h = inr h
 cause_fault a q cause.TooManyFree h = inr h
@@ -59,8 +56,8 @@ cause_fault a q cause.AfterOutOfRange h = inr h
 cause_fault a q cause.Memory h = inl refl
 
 -- What the cursor that was made for a subject has to give is what is asked.
-module _ (a : Asking) (q : Subject) (c : Cursor) (of_program : c.program ≡ q.program) (of_listed : c.listed ≡ q.listed)
-    (made : c.rest ≡ causes_after a.after (question_of q)) where
+module _ (a : Asking) (q : Question) (c : Cursor) (of_program : c.program ≡ q.program) (of_listed : c.listed ≡ q.listed)
+    (made : c.rest ≡ causes_after a.after q) where
   pub text_is : cause_text c.program c.listed (limited a.limit c.rest) ≡ list_text a q
   text_is =
       ap (λ (d : Drawing). cause_text d c.listed (limited a.limit c.rest)) of_program
@@ -68,15 +65,15 @@ module _ (a : Asking) (q : Subject) (c : Cursor) (of_program : c.program ≡ q.p
       ∙ ap (λ xs. cause_text q.program q.listed (limited a.limit xs)) made
 
   -- the looks for them
-  looks_are : searched c ≡ search_of (question_of q) (first_number a.after) → looks_of c ≡ 0
+  looks_are : searched c ≡ search_of q (first_number a.after) → looks_of c ≡ 0
       → looks_given (searched c) (looks_of c) a.limit c.rest ≡ looks_for a q
   looks_are search none =
       ap (λ (t : Search). looks_given t (looks_of c) a.limit c.rest) search
-      ∙ ap (λ n. looks_given (search_of (question_of q) (first_number a.after)) n a.limit c.rest) none
-      ∙ ap (looks_given (search_of (question_of q) (first_number a.after)) 0 a.limit) made
+      ∙ ap (λ n. looks_given (search_of q (first_number a.after)) n a.limit c.rest) none
+      ∙ ap (looks_given (search_of q (first_number a.after)) 0 a.limit) made
 
   -- the line of rows and looks
-  pub line_is : (rows looks : ℕ) → searched c ≡ search_of (question_of q) (first_number a.after) → looks_of c ≡ 0
+  pub line_is : (rows looks : ℕ) → searched c ≡ search_of q (first_number a.after) → looks_of c ≡ 0
       → rows ≡ length (limited a.limit c.rest) → looks ≡ looks_given (searched c) (looks_of c) a.limit c.rest → rows_line rows looks ≡ rows_text a q
   line_is rows looks search none h l =
       ap (λ n. rows_line n looks) (h ∙ ap (λ xs. length (limited a.limit xs)) made) ∙ ap (rows_line (length (causes_for a q))) (l ∙ looks_are search none)

@@ -7,7 +7,7 @@ use Rattle.ladder_grid.specs.Reading.{IsProgram}
 use Rattle.ladder_scan.specs.Standing.{Standing}
 use Rattle.ladder_causes.specs.declared.fault.CauseFault.{CauseFault}
 use Rattle.ladder_causes.specs.declared.fault.CauseFault.TheVariants as cause
-use Rattle.ladder_causes.specs.Causes.{Question, causes_after, question}
+use Rattle.ladder_causes.specs.Causes.{Question, causes_after}
 use Rattle.ladder_causes.specs.Cursor.{first_number, looks_given}
 use Rattle.ladder_causes.specs.Prefixes.{search_of}
 use Rattle.ladder_causes.specs.Refusal.{refusal}
@@ -93,37 +93,26 @@ pub record Asking : Type 0 where
   pub coil : Text
   pub inputs : List Text
 
--- What they ask of which program: the state before the scan, its moment, the coil's variable and the listed inputs.
-pub record Subject : Type 0 where
-  pub program : Drawing
-  pub state : Standing
-  pub moment : ℕ
-  pub var : ℕ
-  pub listed : List ℕ
-
 -- The texts tell the program and the state, and the words name the variables. Without a moment the scan is at the stored one.
-pub record IsAsked (g : Given) (a : Asking) (q : Subject) : Type 0 where
+pub record IsAsked (g : Given) (a : Asking) (q : Question) : Type 0 where
   pub set : IsSet g q.program q.state
-  pub at : q.moment ≡ unwrap_or a.moment q.state.moment
-  pub on : variable_of q.program.decls a.coil ≡ Some q.var
+  pub at : q.now ≡ unwrap_or a.moment q.state.moment
+  pub on : variable_of q.program.decls a.coil ≡ Some q.coil
   pub among : AreVariables q.program.decls a.inputs q.listed
 
-abbrev pub question_of : Subject → Question
-question_of q = question q.program q.state q.moment q.var q.listed
-
 -- the first rule that the question breaks
-abbrev pub refusal_of : Asking → Subject → Option CauseFault
-refusal_of a q = refusal q.program q.state.moment q.moment q.var q.listed a.after
+abbrev pub refusal_of : Asking → Question → Option CauseFault
+refusal_of a q = refusal q.program q.state.moment q.now q.coil q.listed a.after
 
 -- the causes that are listed
-abbrev pub causes_for : Asking → Subject → List ℕ
-causes_for a q = limited a.limit (causes_after a.after (question_of q))
+abbrev pub causes_for : Asking → Question → List ℕ
+causes_for a q = limited a.limit (causes_after a.after q)
 
-abbrev pub list_text : Asking → Subject → List ℕ
+abbrev pub list_text : Asking → Question → List ℕ
 list_text a q = cause_text q.program q.listed (causes_for a q)
 
 -- The question breaks this rule first; being out of memory has no reason in it.
-abbrev pub HasCauseFault : Asking → Subject → CauseFault → Type 0
+abbrev pub HasCauseFault : Asking → Question → CauseFault → Type 0
 HasCauseFault a q f = (f ≡ cause.Memory) ⊎ (refusal_of a q ≡ Some f)
 
 -- The first word that names no variable, or being out of memory.
@@ -140,7 +129,7 @@ HasWordFault decls words fault.Usage = ⊥
 -- Faults are looked for in this order: in the program text, in the state text, in the words, in what is asked.
 abbrev pub HasListFault : Given → Asking → ToolFault → Type 0
 HasListFault g a (fault.Grid f) = HasSettingFault g (fault.Grid f)
-HasListFault g a (fault.Cause f) = (q : Subject) × IsAsked g a q × HasCauseFault a q f
+HasListFault g a (fault.Cause f) = (q : Question) × IsAsked g a q × HasCauseFault a q f
 HasListFault g a (fault.Text k f) = HasSettingFault g (fault.Text k f)
 HasListFault g a (fault.Word number) =
     (p : Drawing) × (s : Standing) × IsSet g p s × IsUnknownWord p.decls (a.coil ∷ a.inputs) number
@@ -151,41 +140,41 @@ HasListFault g a fault.Usage = ⊥
 
 -- The text of the causes was written: all rows that are asked for, and no other.
 pub record ListsCauses (g : Given) (a : Asking) (out out' : WriteLog) : Type 0 where
-  pub subject : Subject
-  pub asked : IsAsked g a subject
-  pub accepted : refusal_of a subject ≡ None
-  pub rows : PutsAll out out' (list_text a subject)
+  pub question : Question
+  pub asked : IsAsked g a question
+  pub accepted : refusal_of a question ≡ None
+  pub rows : PutsAll out out' (list_text a question)
 
 -- Status 1: `out` failed at that text, and X6 is on `err`.
 pub record BreaksList (g : Given) (a : Asking) (out out' err err' : WriteLog) : Type 0 where
-  pub subject : Subject
-  pub asked : IsAsked g a subject
-  pub accepted : refusal_of a subject ≡ None
-  pub rows : PutsFront out out' (list_text a subject)
+  pub question : Question
+  pub asked : IsAsked g a question
+  pub accepted : refusal_of a question ≡ None
+  pub rows : PutsFront out out' (list_text a question)
   pub reported : IsReported err err' fault.Write
 
 -- ---- the count of a list's rows and of the looks for them
 
 -- how many looks the search for the listed causes makes
-abbrev pub looks_for : Asking → Subject → ℕ
-looks_for a q = looks_given (search_of (question_of q) (first_number a.after)) 0 a.limit (causes_after a.after (question_of q))
+abbrev pub looks_for : Asking → Question → ℕ
+looks_for a q = looks_given (search_of q (first_number a.after)) 0 a.limit (causes_after a.after q)
 
 -- `rows R looks L`
 abbrev pub rows_line : ℕ → ℕ → List ℕ
 rows_line rows looks = codes "rows " ++ (decimal rows ++ (codes " looks " ++ (decimal looks ++ codes "\n")))
 
-abbrev pub rows_text : Asking → Subject → List ℕ
+abbrev pub rows_text : Asking → Question → List ℕ
 rows_text a q = rows_line (length (causes_for a q)) (looks_for a q)
 
 -- Status 0: the rows were listed, and then counted with the looks for them.
 pub record CountsList (g : Given) (a : Asking) (out out' err err' : WriteLog) : Type 0 where
   pub list : ListsCauses g a out out'
-  pub count : PutsAll err err' (rows_text a list.subject)
+  pub count : PutsAll err err' (rows_text a list.question)
 
 -- Status 1: the rows were listed, and then `err` failed.
 pub record BreaksCount (g : Given) (a : Asking) (out out' err err' : WriteLog) : Type 0 where
   pub list : ListsCauses g a out out'
-  pub count : PutsFront err err' (rows_text a list.subject)
+  pub count : PutsFront err err' (rows_text a list.question)
 
 abbrev pub FailsList : Given → Asking → WriteLog → WriteLog → WriteLog → WriteLog → Type 0
 FailsList g a out out' err err' =

@@ -10,7 +10,6 @@ use Rattle.ladder_state.specs.ReadState.{IsFirstBad}
 use Rattle.ladder_state.specs.StateText.{HasRecords, IsStateOf}
 use Rattle.ladder_text.specs.declared.fault.TextFault.{TextFault}
 use Rattle.ladder_text.specs.declared.fault.TextFault.TheVariants as text
-use Rattle.ladder_tool.specs.declared.fault.TextKind.{TextKind}
 use Rattle.ladder_tool.specs.declared.fault.TextKind.TheVariants as kind
 use Rattle.ladder_tool.specs.declared.fault.ToolFault.{ToolFault}
 use Rattle.ladder_tool.specs.declared.fault.ToolFault.TheVariants as fault

@@ -1,9 +1,10 @@
 use Rattle.std.proofs.Common.{◌∙◌, ap, refl, inl, inr}
 use Rattle.std.specs.Prelude.{unwrap_or}
+use Rattle.ladder_causes.specs.Causes.{question}
 use Rattle.ladder_tool.specs.declared.fault.ToolFault.TheVariants as fault
 use Rattle.ladder_tool.specs.Asked.{asking_of}
 use Rattle.ladder_tool.specs.Setting.{given_by}
-use Rattle.ladder_tool.proofs.Endings.{all_same, asked_by, cause_fault, front_same, line_is, setting_fault, subject, text_is, word_fault}
+use Rattle.ladder_tool.proofs.Endings.{all_same, asked_by, cause_fault, front_same, line_is, setting_fault, text_is, word_fault}
 use Rattle.ladder_tool.proofs.listing.list_causes.Goals as goal
 
 pub returns-in-Err-clause-failed : goal.returns-in-Err-clause-failed
@@ -30,7 +31,7 @@ returns-in-Err-new-clause-failed g c = λ status.
     let s = c.in-Ok.setting in
     let asked = c.in-Ok-asked_variables in
     let at = c.moment-2.ensures ∙ ap (unwrap_or a.moment) c.moment.ensures in
-    let q = subject s.program s.state c.moment-2.result asked.asked.coil c.deref.result.now in
+    let q = question s.program s.state c.moment-2.result asked.asked.coil c.deref.result.now in
     inl (record {
       reason = fault.Cause c.in-Err-new.fault;
       has = (
@@ -48,10 +49,10 @@ returns-in_default-clause-failed g c = λ status.
     let s = c.in-Ok.setting in
     let asked = c.in-Ok-asked_variables in
     let at = c.moment-2.ensures ∙ ap (unwrap_or a.moment) c.moment.ensures in
-    let q = subject s.program s.state c.moment-2.result asked.asked.coil c.deref.result.now in
+    let q = question s.program s.state c.moment-2.result asked.asked.coil c.deref.result.now in
     let made = c.in-Ok-new.ensures in
     inr (inl (record {
-      subject = q;
+      question = q;
       asked = asked_by (given_by c.args.texts.now) a s.program s.state c.decls-decls.result.now c.moment-2.result asked.asked.coil asked.asked.inputs.items c.deref.result.now c.in-Ok.ensures.set c.decls-decls.ensures c.deref.ensures.value at asked.ensures.coil asked.ensures.inputs;
       accepted = made.accepted;
       rows = front_same _ _ _ _ (text_is a q c.in-Ok-new.cursor made.program made.listed made.rest) c.in_default.ensures.bytes;
@@ -64,12 +65,12 @@ returns-in_default-put_rows-clause-failed g c = λ status.
     let s = c.in-Ok.setting in
     let asked = c.in-Ok-asked_variables in
     let at = c.moment-2.ensures ∙ ap (unwrap_or a.moment) c.moment.ensures in
-    let q = subject s.program s.state c.moment-2.result asked.asked.coil c.deref.result.now in
+    let q = question s.program s.state c.moment-2.result asked.asked.coil c.deref.result.now in
     let made = c.in-Ok-new.ensures in
     let w = c.in-Ok-write_causes in
     inr (inr (record {
       list = record {
-        subject = q;
+        question = q;
         asked = asked_by (given_by c.args.texts.now) a s.program s.state c.decls-decls.result.now c.moment-2.result asked.asked.coil asked.asked.inputs.items c.deref.result.now c.in-Ok.ensures.set c.decls-decls.ensures c.deref.ensures.value at asked.ensures.coil asked.ensures.inputs;
         accepted = made.accepted;
         rows = all_same _ _ _ _ (text_is a q c.in-Ok-new.cursor made.program made.listed made.rest) w.ensures.bytes;
@@ -83,12 +84,12 @@ returns-clause-done g c = λ status.
     let s = c.in-Ok.setting in
     let asked = c.in-Ok-asked_variables in
     let at = c.moment-2.ensures ∙ ap (unwrap_or a.moment) c.moment.ensures in
-    let q = subject s.program s.state c.moment-2.result asked.asked.coil c.deref.result.now in
+    let q = question s.program s.state c.moment-2.result asked.asked.coil c.deref.result.now in
     let made = c.in-Ok-new.ensures in
     let w = c.in-Ok-write_causes in
     record {
       list = record {
-        subject = q;
+        question = q;
         asked = asked_by (given_by c.args.texts.now) a s.program s.state c.decls-decls.result.now c.moment-2.result asked.asked.coil asked.asked.inputs.items c.deref.result.now c.in-Ok.ensures.set c.decls-decls.ensures c.deref.ensures.value at asked.ensures.coil asked.ensures.inputs;
         accepted = made.accepted;
         rows = all_same _ _ _ _ (text_is a q c.in-Ok-new.cursor made.program made.listed made.rest) w.ensures.bytes;
