@@ -36,7 +36,7 @@ fn cells_and_coils(rt: HostRuntime) -> Result<(), Memory> {
 }
 
 #[test]
-fn joints_links_and_steps(rt: HostRuntime) -> Result<(), Memory> {
+fn joints_links_and_gates(rt: HostRuntime) -> Result<(), Memory> {
     let program = program(rt.alloc(), MOTOR)?;
     if program.rungs() == 1 {
         assert_eq!(rt; program.joint(0, 0, 1), Joint::Plus);
@@ -46,15 +46,22 @@ fn joints_links_and_steps(rt: HostRuntime) -> Result<(), Memory> {
         assert_eq!(rt; program.vertical(0, 1, 1), false);
         assert_eq!(rt; program.right_link(0, 1, 0), true);
         assert_eq!(rt; program.jump(0), None);
-        let steps = program.steps(0);
-        assert_eq!(rt; steps.len(), 4);
-        let places: [(usize, usize, u8); 4] = [(0, 0, 0), (1, 0, 0), (0, 1, 3), (0, 2, 1)];
-        for (step, (row, column, feeds)) in steps.iter().zip(places.iter()) {
+        let gates = program.gates(0);
+        assert_eq!(rt; gates.len(), 3);
+        let places: [(u8, u8, u8); 3] = [(0, 60, 61), (1, 60, 0), (6, 1, 61)];
+        for (gate, (place, left, other)) in gates.iter().zip(places.iter()) {
             assert_eq!(rt;
-                (step.row, step.column, step.feeds),
-                (*row, *column, *feeds)
+                (gate.place, gate.left, gate.other),
+                (*place, *left, *other)
             );
         }
+        let actions = program.actions(0);
+        assert_eq!(rt; actions.len(), 1);
+        for action in actions {
+            assert_eq!(rt; (action.place, action.left, action.below), (12, 6, 61));
+        }
+        assert_eq!(rt; program.exit(0), None);
+        assert_eq!(rt; program.leaps().len(), 0);
     }
     Ok(())
 }
