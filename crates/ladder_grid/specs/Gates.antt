@@ -1,7 +1,7 @@
 -- Private: a rung as gates, which a scan evaluates, and what a program keeps beside its drawing.
 -- A gate gives its left link AND a literal, OR what another gate gave, and what it gives is kept at the place of its cell. So a gate
 -- has the OR of what its cell and those above it bring into their group, and the last cell that feeds a group has the OR of the group.
-use Rattle.std.specs.Prelude.{◌≡◌, ℕ, zero, suc, ◌+◌, ◌-◌, ◌*◌, ◌/◌, ◌%◌, ◌<◌, nat_lt, ◌&&◌, ◌||◌, ◌==◌, Bool, true, false, List, [], ◌∷◌, ◌++◌, length, slice_index_or, Option, Some, None, if◌then◌else◌}
+use Rattle.std.specs.Prelude.{◌≡◌, ℕ, zero, suc, ◌+◌, ◌-◌, ◌*◌, ◌/◌, ◌%◌, ◌<◌, nat_lt, ◌&&◌, ◌||◌, ◌==◌, Bool, true, false, List, [], ◌∷◌, ◌++◌, length, slice_index_or, Option, Some, None, is_some, if◌then◌else◌}
 use Rattle.ladder_grid.specs.declared.geometry.TheConstants.{ROWS, COLUMNS, PLACES}
 use Rattle.ladder_grid.specs.declared.gates.TheConstants.{ON, OFF, VARIABLES}
 use Rattle.ladder_grid.specs.declared.cell.Mode.{Mode}
@@ -16,7 +16,7 @@ use Rattle.ladder_grid.specs.declared.gates.Exit.{Exit}
 use Rattle.ladder_grid.specs.declared.gates.Leap.{Leap}
 use Rattle.ladder_grid.specs.declared.gates.Literal.{Literal}
 use Rattle.ladder_grid.specs.declared.gates.Literal.TheVariants as literal
-use Rattle.ladder_grid.specs.Program.{Drawing, IsWhole, cell_of, feeds, jump_of, memories_of, is_there, is_linked, is_block}
+use Rattle.ladder_grid.specs.Program.{Drawing, IsWhole, cell_of, feeds, jump_of, memories_of, is_linked, is_block}
 
 -- ---- where links are
 
@@ -93,7 +93,7 @@ gates_of d rung = gates_before d rung PLACES
 abbrev pub acts : Cell → Bool
 acts cell.Empty = false
 acts cell.Wire = false
-acts (cell.Contact mode operand memory) = is_there memory
+acts (cell.Contact mode operand memory) = is_some memory
 acts (cell.Coil mode var memory) = true
 acts (cell.Block inst) = true
 acts (cell.Lower inst linked) = false

@@ -1,6 +1,6 @@
 -- A program: its declarations, and what its drawing has at each place.
 -- Rungs, rows and columns are counted from 0. The place of a cell in its rung is 6 * column + row.
-use Rattle.std.specs.Prelude.{◌≡◌, ℕ, zero, suc, ◌+◌, ◌-◌, ◌*◌, ◌/◌, ◌%◌, ◌<◌, ◌≤◌, min, max, nat_le, Bool, true, false, ◌&&◌, ◌==◌, List, length, count_by, slice_get, slice_index_or, Option, Some, None}
+use Rattle.std.specs.Prelude.{◌≡◌, ℕ, zero, suc, ◌+◌, ◌-◌, ◌*◌, ◌/◌, ◌%◌, ◌<◌, ◌≤◌, min, max, nat_le, Bool, true, false, ◌&&◌, ◌==◌, List, length, count_by, slice_get, slice_index_or, Option, Some, None, is_some}
 use Rattle.std.specs.List.{list_any}
 use Rattle.ladder_vars.specs.Decls.{Declared}
 use Rattle.ladder_vars.specs.declared.decls.Instance.{Instance}
@@ -45,10 +45,9 @@ cell_of d rung at = cell_in d (PLACES * rung + at)
 
 -- Power goes from a right link into the group of a joint where the joint is `-` or `+` (IEC 61131-3, power flow).
 abbrev pub takes_power : Joint → Bool
-takes_power joint.Blank = false
 takes_power joint.Dash = true
 takes_power joint.Plus = true
-takes_power joint.Bar = false
+takes_power other = false
 
 -- vertical links on the left of the column join the n + 1 rows from this one on
 unfoldable pub joined : Drawing → ℕ → ℕ → ℕ → ℕ → Bool
@@ -65,24 +64,13 @@ feeds d rung row column from =
 
 abbrev pub is_empty : Cell → Bool
 is_empty cell.Empty = true
-is_empty cell.Wire = false
-is_empty (cell.Contact mode operand memory) = false
-is_empty (cell.Coil mode var memory) = false
-is_empty (cell.Block inst) = false
-is_empty (cell.Lower inst linked) = false
-is_empty (cell.Jump target) = false
-is_empty cell.Return = false
+is_empty other = false
 
 -- where a cell leads out of its rung: past the last one by a return
 abbrev pub goes_to : ℕ → Cell → Option ℕ
-goes_to rungs cell.Empty = None
-goes_to rungs cell.Wire = None
-goes_to rungs (cell.Contact mode operand memory) = None
-goes_to rungs (cell.Coil mode var memory) = None
-goes_to rungs (cell.Block inst) = None
-goes_to rungs (cell.Lower inst linked) = None
 goes_to rungs (cell.Jump target) = Some target
 goes_to rungs cell.Return = Some rungs
+goes_to rungs other = None
 
 abbrev pub jump_in : Option ℕ → ℕ → Option (ℕ × ℕ × ℕ) → Option (ℕ × ℕ × ℕ)
 jump_in None at other = other
@@ -97,35 +85,20 @@ unfoldable pub jump_of : Drawing → ℕ → Option (ℕ × ℕ × ℕ)
 jump_of d rung = jump_before d rung PLACES
 
 abbrev pub memory_in : Cell → Option ℕ
-memory_in cell.Empty = None
-memory_in cell.Wire = None
 memory_in (cell.Contact mode operand memory) = memory
 memory_in (cell.Coil mode var memory) = memory
-memory_in (cell.Block inst) = None
-memory_in (cell.Lower inst linked) = None
-memory_in (cell.Jump target) = None
-memory_in cell.Return = None
-
-abbrev pub is_there : Option ℕ → Bool
-is_there None = false
-is_there (Some number) = true
+memory_in other = None
 
 abbrev pub has_memory : Cell → Bool
-has_memory c = is_there (memory_in c)
+has_memory c = is_some (memory_in c)
 
 -- how many edge contacts and edge coils there are
 abbrev pub memories_of : Drawing → ℕ
 memories_of d = count_by (λ s. has_memory s.cell) d.sites
 
 abbrev pub is_coil_of : ℕ → Cell → Bool
-is_coil_of var cell.Empty = false
-is_coil_of var cell.Wire = false
-is_coil_of var (cell.Contact mode operand memory) = false
 is_coil_of var (cell.Coil mode v memory) = v == var
-is_coil_of var (cell.Block inst) = false
-is_coil_of var (cell.Lower inst linked) = false
-is_coil_of var (cell.Jump target) = false
-is_coil_of var cell.Return = false
+is_coil_of var other = false
 
 -- whether a coil writes the variable
 abbrev pub has_coil : ℕ → Drawing → Bool
@@ -137,35 +110,16 @@ pub record IsWhole (d : Drawing) : Type 0 where
   pub size : length d.sites ≡ PLACES * d.rungs
 
 abbrev pub block_in : Cell → Option ℕ
-block_in cell.Empty = None
-block_in cell.Wire = None
-block_in (cell.Contact mode operand memory) = None
-block_in (cell.Coil mode var memory) = None
 block_in (cell.Block inst) = Some inst
-block_in (cell.Lower inst linked) = None
-block_in (cell.Jump target) = None
-block_in cell.Return = None
+block_in other = None
 
 abbrev pub is_block : Cell → Bool
-is_block cell.Empty = false
-is_block cell.Wire = false
-is_block (cell.Contact mode operand memory) = false
-is_block (cell.Coil mode var memory) = false
-is_block (cell.Block inst) = true
-is_block (cell.Lower inst linked) = false
-is_block (cell.Jump target) = false
-is_block cell.Return = false
+is_block c = is_some (block_in c)
 
 -- a lower cell that has a left link
 abbrev pub is_linked : Cell → Bool
-is_linked cell.Empty = false
-is_linked cell.Wire = false
-is_linked (cell.Contact mode operand memory) = false
-is_linked (cell.Coil mode var memory) = false
-is_linked (cell.Block inst) = false
 is_linked (cell.Lower inst linked) = linked
-is_linked (cell.Jump target) = false
-is_linked cell.Return = false
+is_linked other = false
 
 abbrev pub OperandFits : Declared → Operand → Type 0
 OperandFits decls (operand.Var number) = number < length decls.vars
@@ -173,14 +127,11 @@ OperandFits decls (operand.Output number) = number < length decls.instances
 
 -- The numbers that a cell has are those of declarations, and no coil writes an input.
 abbrev pub Fits : Declared → Cell → Type 0
-Fits decls cell.Empty = Unit {0}
-Fits decls cell.Wire = Unit {0}
 Fits decls (cell.Contact mode operand memory) = OperandFits decls operand
 Fits decls (cell.Coil mode var memory) = (var < length decls.vars) × (is_input_at (slice_get decls.vars var) ≡ false)
 Fits decls (cell.Block inst) = inst < length decls.instances
 Fits decls (cell.Lower inst linked) = inst < length decls.instances
-Fits decls (cell.Jump target) = Unit {0}
-Fits decls cell.Return = Unit {0}
+Fits decls other = Unit {0}
 
 abbrev pub is_pin : Option Pin → Bool
 is_pin None = false

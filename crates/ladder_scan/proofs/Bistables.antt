@@ -1,8 +1,8 @@
 -- What bistables answer after a list of steps.
-use Rattle.std.proofs.Common.{◌≡◌, ℕ, Bool, true, false, List, [], ◌∷◌, ◌++◌, refl, sym, ap, ◌∙◌, zero, suc, arith, All}
+use Rattle.std.proofs.Common.{◌≡◌, ℕ, Bool, true, false, List, [], ◌∷◌, ◌++◌, not, ◌&&◌, ◌||◌, refl, sym, ap, ◌∙◌, zero, suc, arith, All}
 use Rattle.ladder_vars.specs.declared.kind.BlockKind.TheVariants.{Sr, Rs}
 use Rattle.ladder_scan.specs.declared.block.Stored.TheVariants.{Bistable}
-use Rattle.ladder_scan.specs.Blocks.{step, q_of, sr_q, rs_q}
+use Rattle.ladder_scan.specs.Blocks.{step, q_of}
 use Rattle.ladder_scan.specs.Histories.{StepInput, after, IsSet, IsSetAlone, SrHistory, RsHistory}
 
 abbrev IsNotReset : StepInput → Type 0
@@ -36,6 +36,9 @@ abbrev first : (x : StepInput) (older : List StepInput) → x.on ≡ true → Is
 first x older e = record { later = []; at = x; older = older; steps = refl; set = e; not_reset = all_none }
 
 -- ---- SR
+abbrev sr_q : Bool → Bool → Bool → Bool
+sr_q q set reset = set || (not reset && q)
+
 unfoldable sr_after : List StepInput → Bool
 sr_after [] = false
 sr_after (x ∷ older) = sr_q (sr_after older) x.on x.second
@@ -76,6 +79,9 @@ sr_history preset xs =
     (λ h. sr_set xs (sym e ∙ h), λ s. e ∙ (ap sr_after s.steps ∙ sr_on s.later s.at s.older s.set s.not_reset))
 
 -- ---- RS
+abbrev rs_q : Bool → Bool → Bool → Bool
+rs_q q set reset = not reset && (set || q)
+
 unfoldable rs_after : List StepInput → Bool
 rs_after [] = false
 rs_after (x ∷ older) = rs_q (rs_after older) x.on x.second

@@ -6,8 +6,15 @@ use Rattle.std.proofs.lemmas.Int.{ints}
 use Rattle.ladder_vars.specs.declared.kind.BlockKind.TheVariants.{Ctu, Ctd}
 use Rattle.ladder_scan.specs.declared.block.Stored.{Stored}
 use Rattle.ladder_scan.specs.declared.block.Stored.TheVariants.{Timer, Counter, Bistable}
-use Rattle.ladder_scan.specs.Blocks.{step, counted_up, counted_down}
+use Rattle.ladder_scan.specs.Blocks.{step}
 use Rattle.ladder_scan.specs.Histories.{StepInput, after, last_on, rises, loaded, cv_of, CtuHistory, CtdHistory}
+
+-- CV after a step
+abbrev pub counted_up : Bool → ℤ → Bool → Bool → ℤ
+counted_up last cv on reset = cond reset (pos 0) (cond (on && (not last && int_lt cv (pos 32767))) (cv +ℤ pos 1) cv)
+
+abbrev pub counted_down : ℕ → Bool → ℤ → Bool → Bool → ℤ
+counted_down preset last cv on load = cond load (pos preset) (cond (on && (not last && int_lt (negsuc 32767) cv)) (cv -ℤ pos 1) cv)
 
 -- the last count input, and the value
 abbrev IsCounter : Bool → ℤ → Stored → Type 0

@@ -14,7 +14,8 @@ use Rattle.ladder_grid.specs.declared.cell.Cell.TheVariants.{Empty, Wire, Contac
 use Rattle.ladder_scan.specs.declared.block.Stored.{Stored}
 use Rattle.ladder_scan.specs.declared.block.Stored.TheVariants.{Timer, Counter, Bistable}
 use Rattle.ladder_scan.specs.Truth.{plain}
-use Rattle.ladder_scan.specs.Blocks.{step, new_block, tof_runs, tp_stays, tp_begins, counted_up, counted_down}
+use Rattle.ladder_scan.specs.Blocks.{step, new_block}
+use Rattle.ladder_scan.proofs.Counters.{counted_up, counted_down}
 use Rattle.ladder_grid.specs.Program.{Drawing, block_in}
 use Rattle.ladder_scan.specs.Cells.{Diagram, Frame, Kept, put_in, no_block, stored_of}
 use Rattle.ladder_scan.specs.Rung.{Held, second, stepped, changes, frame_of, link_at, evaluated}
@@ -70,13 +71,8 @@ off_zero : (b : Bool) (x : ℕ) → b ≡ false → cond b x 0 ≡ 0
 off_zero true x e = cc
 off_zero false x e = refl
 
-off_pulse : (stays begins : Bool) (start now : ℕ) → (stays || begins) ≡ false → cond stays start (cond begins now 0) ≡ 0
-off_pulse true begins start now e = cc
-off_pulse false true start now e = cc
-off_pulse false false start now e = refl
-
-on_off : {A : Type 0} → true ≡ false → A
-on_off e = cc
+start_possible : (runs : Bool) (since now : ℕ) → since ≤ now → (cond runs since 0 ≤ now) × (runs ≡ false → cond runs since 0 ≡ 0)
+start_possible runs since now h = (below runs since 0 now h (omega arith), λ e. off_zero runs since e)
 
 -- CV stays in its range
 either : (b : Bool) (x y : ℤ) → FitsSigned w16 x → FitsSigned w16 y → FitsSigned w16 (cond b x y)
@@ -104,15 +100,9 @@ down_fits preset false true false cv p h = down_one cv h
 step_possible : (kind : BlockKind) (preset : ℕ) (s : Stored) (on second : Bool) (now : ℕ) → preset ≤ largest_preset kind
     → IsPossible now s → IsPossible now (step kind preset s on second now)
 unfolding step
-step_possible Ton preset (Timer last running start q) true second now p h = (below running start now now h.0 (omega arith), λ e. on_off e)
-step_possible Ton preset (Timer last running start q) false second now p h = (omega arith, λ e. refl)
-step_possible Tof preset (Timer last running start q) true second now p h = (omega arith, λ e. refl)
-step_possible Tof preset (Timer last running start q) false second now p h =
-    (below _ _ 0 now (below last now start now (omega arith) h.0) (omega arith), λ e. off_zero (tof_runs preset last running start now) _ e)
-step_possible Tp preset (Timer last running start q) on second now p h = (
-  below _ start _ now h.0 (below _ now 0 now (omega arith) (omega arith)),
-  λ e. off_pulse (tp_stays preset running start now) (tp_begins preset last running start on now) start now e,
-)
+step_possible Ton preset (Timer last running start q) on second now p h = start_possible on _ now (below running start now now h.0 (omega arith))
+step_possible Tof preset (Timer last running start q) on second now p h = start_possible _ _ now (below last now start now (omega arith) h.0)
+step_possible Tp preset (Timer last running start q) on second now p h = start_possible _ _ now (below _ start now now h.0 (omega arith))
 step_possible Ctu preset (Timer last running start q) on second now p h = h
 step_possible Ctd preset (Timer last running start q) on second now p h = h
 step_possible Sr preset (Timer last running start q) on second now p h = h
@@ -135,10 +125,8 @@ step_possible Rs preset (Bistable q) on second now p h = tt
 -- a step keeps the shape
 step_shape : (kind : BlockKind) (preset : ℕ) (s : Stored) (on second : Bool) (now : ℕ) → shape (step kind preset s on second now) ≡ shape s
 unfolding step
-step_shape Ton preset (Timer last running start q) true second now = refl
-step_shape Ton preset (Timer last running start q) false second now = refl
-step_shape Tof preset (Timer last running start q) true second now = refl
-step_shape Tof preset (Timer last running start q) false second now = refl
+step_shape Ton preset (Timer last running start q) on second now = refl
+step_shape Tof preset (Timer last running start q) on second now = refl
 step_shape Tp preset (Timer last running start q) on second now = refl
 step_shape Ctu preset (Timer last running start q) on second now = refl
 step_shape Ctd preset (Timer last running start q) on second now = refl

@@ -58,7 +58,8 @@ time_is on last p h = grind arith
 pulse_more : (preset : ℕ) (x : StepInput) (older : List StepInput) (before : ℕ) (last running : Bool) (start : ℕ) (stays begins : Bool) →
     (running ≡ true → rose_at start older ≡ true) → last ≡ last_on older →
     (running && nat_lt (x.now - start) preset) ≡ stays → (x.on && (not last && nat_lt 0 preset)) ≡ begins →
-    (stays || (not stays && begins)) ≡ true → (rose_at (cond stays start (cond (not stays && begins) x.now 0)) (x ∷ older) ≡ true) × (nat_lt (x.now - cond stays start (cond (not stays && begins) x.now 0)) preset ≡ true)
+    (stays || begins) ≡ true → (rose_at (cond (stays || begins) (cond stays start x.now) 0) (x ∷ older) ≡ true)
+    × (nat_lt (x.now - cond (stays || begins) (cond stays start x.now) 0) preset ≡ true)
 pulse_more preset x older before last running start true begins f l s b h = (or_right _ _ (f (stay_1 _ _ s)), stay_2 _ _ s)
 pulse_more preset x older before last running start false true f l s b h =
     (or_left (is_rise x older) _ _ (ap (λ y. x.on && not y) (sym l) ∙ rise_is x.on last (nat_lt 0 preset) b) (same_moment x.now), no_time preset x.now (time_is x.on last (nat_lt 0 preset) b))

@@ -64,14 +64,8 @@ put_in xs (Some i) x = set xs i x
 
 -- A cell writes at most one variable; it has at most one memory (`memory_in`) and steps at most one instance (`block_in`).
 abbrev pub var_in : Cell → Option ℕ
-var_in Empty = None
-var_in Wire = None
-var_in (Contact mode operand memory) = None
 var_in (Coil mode var memory) = Some var
-var_in (Block inst) = None
-var_in (Lower inst linked) = None
-var_in (Jump target) = None
-var_in Return = None
+var_in other = None
 
 -- What is read past the last instance.
 abbrev pub no_block : Stored
@@ -97,14 +91,10 @@ contact o Falling x m = o.meet (o.inverse x) m
 
 -- How far a cell is closed, m being its memory. Wires and coils pass their left link on. No route goes through the others.
 abbrev pub closed : {S : Type 0} → Algebra S → Frame S → S → Cell → S
-closed o f m Empty = o.known false
 closed o f m Wire = o.known true
 closed o f m (Contact mode operand memory) = contact o mode (operand_value o f operand) m
 closed o f m (Coil mode var memory) = o.known true
-closed o f m (Block inst) = o.known false
-closed o f m (Lower inst linked) = o.known false
-closed o f m (Jump target) = o.known false
-closed o f m Return = o.known false
+closed o f m other = o.known false
 
 abbrev pub q_after : BlockKind → ℕ → Stored → ℕ → Bool → Bool → Bool
 q_after kind preset stored now first second = q_of (step kind preset stored first second now)
@@ -119,14 +109,8 @@ q_from o kind preset stored now x y =
 
 -- The Q of the block in a cell, in this evaluation; other cells have none.
 abbrev pub q_here : {S : Type 0} → Algebra S → Diagram → Kept → ℕ → Cell → S → S → S
-q_here o d k now Empty x y = o.known false
-q_here o d k now Wire x y = o.known false
-q_here o d k now (Contact mode operand memory) x y = o.known false
-q_here o d k now (Coil mode var memory) x y = o.known false
 q_here o d k now (Block inst) x y = q_from o (d.kind inst) (d.preset inst) (get_or k.blocks inst no_block) now x y
-q_here o d k now (Lower inst linked) x y = o.known false
-q_here o d k now (Jump target) x y = o.known false
-q_here o d k now Return x y = o.known false
+q_here o d k now other x y = o.known false
 
 -- What a coil writes, by its left link, its memory m, which is the link that it had, and the old value of its variable:
 -- `( )` the link, `(/)` its inverse, `(S)` ON and `(R)` OFF where the link is ON, `(P)` whether the link has become ON, `(N)` whether OFF.
@@ -139,11 +123,5 @@ stored_by o coil.Rising link m old = o.meet link (o.inverse m)
 stored_by o coil.Falling link m old = o.meet (o.inverse link) m
 
 abbrev pub coil_value : {S : Type 0} → Algebra S → Cell → S → S → S → S
-coil_value o Empty link m old = old
-coil_value o Wire link m old = old
-coil_value o (Contact mode operand memory) link m old = old
 coil_value o (Coil mode var memory) link m old = stored_by o mode link m old
-coil_value o (Block inst) link m old = old
-coil_value o (Lower inst linked) link m old = old
-coil_value o (Jump target) link m old = old
-coil_value o Return link m old = old
+coil_value o other link m old = old

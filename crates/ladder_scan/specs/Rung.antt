@@ -85,25 +85,13 @@ pub record SameLengths (g h : Held) : Type 0 where
 
 -- What the memory of a cell becomes: of a contact, its operand's value at the rung's start, whatever its left link; of a coil, its link.
 abbrev pub remembered : Frame Bool → Bool → Cell → Bool
-remembered start x Empty = x
-remembered start x Wire = x
 remembered start x (Contact mode operand memory) = operand_value plain start operand
-remembered start x (Coil mode var memory) = x
-remembered start x (Block inst) = x
-remembered start x (Lower inst linked) = x
-remembered start x (Jump target) = x
-remembered start x Return = x
+remembered start x other = x
 
 -- What the instance of a cell stores then: of a block, that of its step.
 abbrev pub stepped : Diagram → ℕ → Cell → Stored → Bool → Bool → Stored
-stepped d now Empty s x y = s
-stepped d now Wire s x y = s
-stepped d now (Contact mode operand memory) s x y = s
-stepped d now (Coil mode var memory) s x y = s
 stepped d now (Block inst) s x y = step (d.kind inst) (d.preset inst) s x y now
-stepped d now (Lower inst linked) s x y = s
-stepped d now (Jump target) s x y = s
-stepped d now Return s x y = s
+stepped d now other s x y = s
 
 -- What a cell with left link x and second input y leaves, in a rung that began with the frame `start`.
 abbrev pub changed : Diagram → ℕ → Frame Bool → Cell → Bool → Bool → Held → Held

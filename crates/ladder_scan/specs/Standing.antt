@@ -47,13 +47,11 @@ pub data Shape : Type 0 where
   bistable : Shape
 
 abbrev pub shape_of : BlockKind → Shape
-shape_of Ton = timer
-shape_of Tof = timer
-shape_of Tp = timer
 shape_of Ctu = counter
 shape_of Ctd = counter
 shape_of Sr = bistable
 shape_of Rs = bistable
+shape_of other = timer
 
 abbrev pub shape : Stored → Shape
 shape (Timer last running start q) = timer

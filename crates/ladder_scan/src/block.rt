@@ -1,10 +1,11 @@
 //! The steps of the standard function blocks.
 
-ghost use Rattle.std.specs.Prelude.{◌≡◌, ◌≤◌};
+ghost use Rattle.std.specs.Prelude.{◌≡◌, ◌≤◌, ℕ, Bool};
+ghost use Rattle.ladder_vars.specs.declared.kind.BlockKind.TheVariants as kind;
 ghost use Rattle.ladder_vars.specs.Kind.{largest_preset};
 ghost use Rattle.ladder_vars.specs.declared.limits.TheConstants.{LARGEST_COUNT};
-ghost use Rattle.ladder_scan.specs.declared.block.Stored.TheVariants.{Bistable};
-ghost use Rattle.ladder_scan.specs.Blocks.{step, q_of, new_block, ton_step, tof_step, tp_step, counted_up, counted_down, ctu_step, ctd_step, sr_q, rs_q, has_second};
+ghost use Rattle.ladder_scan.specs.declared.block.Stored.TheVariants.{Timer, Counter, Bistable};
+ghost use Rattle.ladder_scan.specs.Blocks.{step, q_of, new_block, has_second};
 
 use ladder_vars::BlockKind::{self, Ctd, Ctu, Rs, Sr, Tof, Ton, Tp};
 
@@ -59,8 +60,9 @@ impl Stored {
     }
 }
 
+#[tactic(auto, unfolding(crate::specs::Blocks::step))]
 fn ton(preset: u32, running: bool, start: u64, on: bool, now: u64) -> Stored
-    ensures { result ≡ ton_step preset running start on now }
+    ensures { (last q second : Bool) → result ≡ step kind.Ton preset (Timer last running start q) on second now }
 {
     if on {
         let start = if running { start } else { now };
@@ -80,8 +82,9 @@ fn ton(preset: u32, running: bool, start: u64, on: bool, now: u64) -> Stored
     }
 }
 
+#[tactic(auto, unfolding(crate::specs::Blocks::step))]
 fn tof(preset: u32, last: bool, running: bool, start: u64, on: bool, now: u64) -> Stored
-    ensures { result ≡ tof_step preset last running start on now }
+    ensures { (q second : Bool) → result ≡ step kind.Tof preset (Timer last running start q) on second now }
 {
     if on {
         return Stored::Timer {
@@ -101,8 +104,9 @@ fn tof(preset: u32, last: bool, running: bool, start: u64, on: bool, now: u64) -
     }
 }
 
+#[tactic(auto, unfolding(crate::specs::Blocks::step))]
 fn tp(preset: u32, last: bool, running: bool, start: u64, on: bool, now: u64) -> Stored
-    ensures { result ≡ tp_step preset last running start on now }
+    ensures { (q second : Bool) → result ≡ step kind.Tp preset (Timer last running start q) on second now }
 {
     let stays = running & (now.saturating_sub(start) < u64::from(preset));
     let begins = !stays & on & !last & (0 < preset);
@@ -122,35 +126,17 @@ fn tp(preset: u32, last: bool, running: bool, start: u64, on: bool, now: u64) ->
     }
 }
 
-fn counted_up(last: bool, cv: i16, on: bool, reset: bool) -> i16
-    ensures { result ≡ counted_up last cv on reset }
+#[tactic(auto, unfolding(crate::specs::Blocks::step))]
+fn ctu(preset: u32, last: bool, cv: i16, on: bool, reset: bool) -> Stored
+    ensures { (q : Bool) (now : ℕ) → result ≡ step kind.Ctu preset (Counter last cv q) on reset now }
 {
-    if reset {
+    let cv = if reset {
         0
     } else if on && !last && cv < i16::MAX {
         cv + 1
     } else {
         cv
-    }
-}
-
-fn counted_down(preset: u16, last: bool, cv: i16, on: bool, load: bool) -> i16
-    requires { preset ≤ LARGEST_COUNT }
-    ensures { result ≡ counted_down preset last cv on load }
-{
-    if load {
-        preset as i16
-    } else if on && !last && cv > i16::MIN {
-        cv - 1
-    } else {
-        cv
-    }
-}
-
-fn ctu(preset: u32, last: bool, cv: i16, on: bool, reset: bool) -> Stored
-    ensures { result ≡ ctu_step preset last cv on reset }
-{
-    let cv = counted_up(last, cv, on, reset);
+    };
     Stored::Counter {
         last: on,
         cv,
@@ -158,11 +144,18 @@ fn ctu(preset: u32, last: bool, cv: i16, on: bool, reset: bool) -> Stored
     }
 }
 
+#[tactic(auto, unfolding(crate::specs::Blocks::step))]
 fn ctd(preset: u32, last: bool, cv: i16, on: bool, load: bool) -> Stored
     requires { preset ≤ LARGEST_COUNT }
-    ensures { result ≡ ctd_step preset last cv on load }
+    ensures { (q : Bool) (now : ℕ) → result ≡ step kind.Ctd preset (Counter last cv q) on load now }
 {
-    let cv = counted_down(preset as u16, last, cv, on, load);
+    let cv = if load {
+        preset as i16
+    } else if on && !last && cv > i16::MIN {
+        cv - 1
+    } else {
+        cv
+    };
     Stored::Counter {
         last: on,
         cv,
@@ -170,16 +163,18 @@ fn ctd(preset: u32, last: bool, cv: i16, on: bool, load: bool) -> Stored
     }
 }
 
+#[tactic(auto, unfolding(crate::specs::Blocks::step))]
 fn sr(q: bool, set: bool, reset: bool) -> Stored
-    ensures { result ≡ Bistable (sr_q q set reset) }
+    ensures { (preset now : ℕ) → result ≡ step kind.Sr preset (Bistable q) set reset now }
 {
     Stored::Bistable {
         q: set | (!reset & q),
     }
 }
 
+#[tactic(auto, unfolding(crate::specs::Blocks::step))]
 fn rs(q: bool, set: bool, reset: bool) -> Stored
-    ensures { result ≡ Bistable (rs_q q set reset) }
+    ensures { (preset now : ℕ) → result ≡ step kind.Rs preset (Bistable q) set reset now }
 {
     Stored::Bistable {
         q: !reset & (set | q),
