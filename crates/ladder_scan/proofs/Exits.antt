@@ -9,7 +9,8 @@ use Rattle.ladder_grid.specs.Gates.{left_of, exit_by, exit_of, leap_by, leaps_be
 use Rattle.ladder_scan.specs.Algebra.{Algebra}
 use Rattle.ladder_scan.specs.Scan.{rung_after}
 use Rattle.ladder_scan.specs.SignalScan.{meet_where, passes_over, guard_of, taken_by}
-use Rattle.ladder_scan.specs.Programs.{placed, diagram_of}
+use Rattle.ladder_scan.specs.Programs.{diagram_of}
+use Rattle.ladder_scan.proofs.Sound.{placed}
 use Rattle.ladder_scan.specs.Gating.{among, guard_by, taken_by_exit}
 
 -- ---- the jump of a rung

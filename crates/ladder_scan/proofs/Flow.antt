@@ -4,7 +4,7 @@ use Rattle.std.proofs.lemmas.List.{map-append}
 use Rattle.std.proofs.lemmas.Bool.Decides.{nat_tests}
 use Rattle.ladder_scan.specs.Algebra.{Algebra, LatticeLaws}
 use Rattle.ladder_scan.specs.Gating.{join_where}
-use Rattle.ladder_scan.specs.Routes.{gather, join_all, Route, rail, block_end, through, Circuit, onto, routes, route_value, link_with, ends_below, left_link}
+use Rattle.ladder_scan.specs.Routes.{gather, join_all, Route, rail, block_end, through, Circuit, routes, route_value, link_with, ends_below, left_link}
 use Rattle.ladder_scan.proofs.Joins.{join_all-value, join_all-append, join_all-meet}
 
 module _ {S : Type 0} (o : Algebra S) (V : S → Type 0) (l : LatticeLaws S V o) where
@@ -96,4 +96,4 @@ module _ {S : Type 0} (o : Algebra S) (V : S → Type 0) (l : LatticeLaws S V o)
     -- what the code computes, one column after the other
     pub left_link-next : (row n : ℕ) → left_link o g row (suc n) ≡ join_where o (g.feeds row (suc n)) (λ q. cond (g.is_block q n) (g.q q n (left_link o g q n) (left_link o g (q + 1) n)) (o.meet (left_link o g q n) (g.closed q n))) 6
     unfolding routes
-    left_link-next row n = gathered (route_value o g (ends_below o g (suc n))) (route-value _ (ends-value (suc n))) (g.feeds row (suc n)) (λ q. onto g.is_block q n (routes g.feeds g.is_block q n)) _ (λ q. given (g.is_block q n) n q) 6
+    left_link-next row n = gathered (route_value o g (ends_below o g (suc n))) (route-value _ (ends-value (suc n))) (g.feeds row (suc n)) (λ q. cond (g.is_block q n) (block_end q n ∷ []) (map (λ w. through w q n) (routes g.feeds g.is_block q n))) _ (λ q. given (g.is_block q n) n q) 6

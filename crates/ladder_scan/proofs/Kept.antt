@@ -4,6 +4,7 @@ use Rattle.ladder_scan.specs.Algebra.{Algebra}
 use Rattle.ladder_scan.specs.Relations.{IsKept, Both, BothFrames}
 use Rattle.ladder_scan.specs.Routes.{join_all, Route, rail, block_end, through, routes, route_value, ends_below, left_link}
 use Rattle.ladder_vars.specs.declared.kind.BlockKind.{BlockKind}
+use Rattle.ladder_vars.specs.declared.kind.BlockKind.TheVariants.{Ton}
 use Rattle.ladder_scan.specs.declared.block.Stored.{Stored}
 use Rattle.ladder_grid.specs.declared.cell.Mode.{Mode}
 use Rattle.ladder_grid.specs.declared.cell.Mode.TheVariants.{Plain, Negated, Rising, Falling}
@@ -14,12 +15,16 @@ use Rattle.ladder_grid.specs.declared.cell.Operand.TheVariants.{Var, Output}
 use Rattle.ladder_grid.specs.declared.cell.Cell.{Cell}
 use Rattle.ladder_grid.specs.declared.cell.Cell.TheVariants.{Empty, Wire, Contact, Coil, Block, Lower, Jump, Return}
 use Rattle.ladder_grid.specs.Program.{block_in, is_block}
-use Rattle.ladder_scan.specs.Cells.{Diagram, Frame, Kept, at, put_in, var_in, memory_of, stored_of, operand_value, closed, contact, q_here, q_from, coil_value, stored_by}
+use Rattle.ladder_scan.specs.Cells.{Diagram, Frame, Kept, at, put_in, var_in, memory_of, operand_value, closed, contact, q_here, q_from, coil_value, stored_by}
 use Rattle.ladder_scan.specs.Rung.{circuit, link, second, written, effects, after_rung}
-use Rattle.ladder_scan.specs.Blocks.{has_second, q_of}
+use Rattle.ladder_scan.specs.Blocks.{has_second, q_of, new_block}
 use Rattle.ladder_scan.specs.Scan.{given}
 use Rattle.ladder_scan.specs.SignalScan.{meet_where, passes_over, guard_of, taken_by, looked, look_frame}
 use Rattle.ladder_scan.specs.Laws.{LookKeeps}
+
+-- what the instance of a cell stores
+abbrev pub stored_of : Kept → Cell → Stored
+stored_of k c = at k.blocks (block_in c) (new_block Ton)
 
 -- a cell finds the same memory and the same stored block in both
 abbrev pub AlikeCell : Kept → Kept → Cell → Type 0

@@ -8,11 +8,12 @@ use Rattle.ladder_vars.specs.declared.kind.BlockKind.{BlockKind}
 use Rattle.ladder_vars.specs.declared.kind.BlockKind.TheVariants.{Ton, Tof, Tp, Ctu, Ctd, Sr, Rs}
 use Rattle.ladder_scan.specs.declared.block.Stored.{Stored}
 use Rattle.ladder_scan.specs.declared.block.Stored.TheVariants.{Timer, Counter, Bistable}
-use Rattle.ladder_scan.specs.Blocks.{step, q_of}
+use Rattle.ladder_scan.specs.Blocks.{step, q_of, new_block}
 use Rattle.ladder_grid.specs.declared.cell.Cell.{Cell}
 use Rattle.ladder_grid.specs.declared.cell.Cell.TheVariants.{Empty, Wire, Contact, Coil, Block, Lower, Jump, Return}
 use Rattle.ladder_grid.specs.Program.{memory_in, block_in}
-use Rattle.ladder_scan.specs.Cells.{Diagram, Frame, frame, Kept, at, put_in, var_in, stored_of, q_here, q_from, coil_value, no_block}
+use Rattle.ladder_scan.specs.Cells.{Diagram, Frame, frame, Kept, at, put_in, var_in, q_here, q_from, coil_value}
+use Rattle.ladder_scan.proofs.Kept.{stored_of}
 use Rattle.ladder_scan.specs.Rung.{link, second, written, effects, after_rung, Held, frame_of, stepped, changes, link_at, evaluated}
 use Rattle.ladder_scan.specs.Laws.{Once}
 use Rattle.ladder_scan.proofs.Kept.{AlikeCell, Alike, rung_kept}
@@ -35,11 +36,11 @@ memory_stays d now j start links h (suc n) i away =
     ∙ memory_stays d now j start links h n i (λ e k. away e (omega arith))
 
 block_stays : (d : Diagram) (now j : ℕ) (start : Frame Bool) (links : ℕ → Bool) (h : Held) (n i : ℕ) → ((e : ℕ) → e < n → block_in (d.cell j e) ≡ Some i → ⊥) →
-    get_or (changes d now j start links n h).kept.blocks i no_block ≡ get_or h.kept.blocks i no_block
+    get_or (changes d now j start links n h).kept.blocks i (new_block Ton) ≡ get_or h.kept.blocks i (new_block Ton)
 unfolding changes
 block_stays d now j start links h zero i away = refl
 block_stays d now j start links h (suc n) i away =
-    put_other (changes d now j start links n h).kept.blocks (block_in (d.cell j n)) _ no_block i (away n (omega arith))
+    put_other (changes d now j start links n h).kept.blocks (block_in (d.cell j n)) _ (new_block Ton) i (away n (omega arith))
     ∙ block_stays d now j start links h n i (λ e k. away e (omega arith))
 
 -- a cell that isn't one of these finds its memory and its block as they were
@@ -48,7 +49,7 @@ pub cell_stays : (d : Diagram) → Once d → (now j : ℕ) (start : Frame Bool)
 cell_stays d once now j start links h n j' e' apart = (
   at_same h.kept.memories (changes d now j start links n h).kept.memories (memory_in (d.cell j' e')) false
       (λ i m. sym (memory_stays d now j start links h n i (λ e k t. let s : (j ≡ j') × (e ≡ e') = once.memory i j e j' e' t m in apart e k s.0 s.1))),
-  at_same h.kept.blocks (changes d now j start links n h).kept.blocks (block_in (d.cell j' e')) no_block
+  at_same h.kept.blocks (changes d now j start links n h).kept.blocks (block_in (d.cell j' e')) (new_block Ton)
       (λ i m. sym (block_stays d now j start links h n i (λ e k t. let s : (j ≡ j') × (e ≡ e') = once.block i j e j' e' t m in apart e k s.0 s.1))),
 )
 
@@ -98,8 +99,8 @@ ends_step d now k h Wire e x y = refl
 ends_step d now k h (Contact mode operand memory) e x y = refl
 ends_step d now k h (Coil mode var memory) e x y = refl
 ends_step d now k h (Block inst) e x y =
-    ap (set (map q_of h.blocks) inst) (q_plain (d.kind inst) (d.preset inst) (get_or k.blocks inst no_block) now x y ∙ ap (λ s. q_of (step (d.kind inst) (d.preset inst) s x y now)) e.1)
-    ∙ sym (map-set q_of h.blocks inst (step (d.kind inst) (d.preset inst) (get_or h.blocks inst no_block) x y now))
+    ap (set (map q_of h.blocks) inst) (q_plain (d.kind inst) (d.preset inst) (get_or k.blocks inst (new_block Ton)) now x y ∙ ap (λ s. q_of (step (d.kind inst) (d.preset inst) s x y now)) e.1)
+    ∙ sym (map-set q_of h.blocks inst (step (d.kind inst) (d.preset inst) (get_or h.blocks inst (new_block Ton)) x y now))
 ends_step d now k h (Lower inst linked) e x y = refl
 ends_step d now k h (Jump target) e x y = refl
 ends_step d now k h Return e x y = refl

@@ -17,12 +17,14 @@ use Rattle.ladder_scan.specs.Truth.{plain}
 use Rattle.ladder_scan.specs.Blocks.{step, new_block}
 use Rattle.ladder_scan.proofs.Counters.{counted_up, counted_down}
 use Rattle.ladder_grid.specs.Program.{Drawing, block_in}
-use Rattle.ladder_scan.specs.Cells.{Diagram, Frame, Kept, put_in, no_block, stored_of}
+use Rattle.ladder_scan.specs.Cells.{Diagram, Frame, Kept, put_in}
+use Rattle.ladder_scan.proofs.Kept.{stored_of}
 use Rattle.ladder_scan.specs.Rung.{Held, second, stepped, changes, frame_of, link_at, evaluated}
 use Rattle.ladder_scan.specs.Scan.{next_rung}
 use Rattle.ladder_scan.specs.Programs.{IsSound}
 use Rattle.ladder_scan.specs.RungByRung.{Scanned, scanned}
-use Rattle.ladder_scan.specs.Standing.{fresh, kinds_of, IsPossible, ArePossible, AreSound, Shape, shape, shape_of}
+use Rattle.ladder_scan.specs.Standing.{fresh, kinds_of, IsPossible, AreSound, Shape, shape, shape_of}
+use Rattle.ladder_scan.specs.RungByRung.{ArePossible}
 
 zero_fits : FitsSigned w16 (pos 0)
 zero_fits = grind (arith, ints, nat_tests)
@@ -155,12 +157,12 @@ set_possible now (b ∷ bs) (suc n) s h t zero = h 0
 set_possible now (b ∷ bs) (suc n) s h t (suc i) = set_possible now bs n s (λ j. h (suc j)) t i
 
 -- what stands in place of another of its shape
-set_shape : (bs : List Stored) (n : ℕ) (s : Stored) → shape s ≡ shape (get_or bs n no_block) → map shape (set bs n s) ≡ map shape bs
+set_shape : (bs : List Stored) (n : ℕ) (s : Stored) → shape s ≡ shape (get_or bs n (new_block Ton)) → map shape (set bs n s) ≡ map shape bs
 set_shape [] n s e = refl
 set_shape (b ∷ bs) zero s e = ap (λ (a : Shape). a ∷ map shape bs) e
 set_shape (b ∷ bs) (suc n) s e = ap (λ (l : List Shape). shape b ∷ l) (set_shape bs n s e)
 
-same_shape : (bs : List Stored) (kinds : List BlockKind) (n : ℕ) → map shape bs ≡ map shape_of kinds → shape (get_or bs n no_block) ≡ shape_of (get_or kinds n Ton)
+same_shape : (bs : List Stored) (kinds : List BlockKind) (n : ℕ) → map shape bs ≡ map shape_of kinds → shape (get_or bs n (new_block Ton)) ≡ shape_of (get_or kinds n Ton)
 same_shape [] [] n e = refl
 same_shape [] (k ∷ kinds) n e = let bad : 0 ≡ suc (length (map shape_of kinds)) = ap length e in absurd (omega (arith, bad))
 same_shape (b ∷ bs) [] n e = let bad : suc (length (map shape bs)) ≡ 0 = ap length e in absurd (omega (arith, bad))
@@ -187,7 +189,7 @@ cell_shapes d now k Empty x y = refl
 cell_shapes d now k Wire x y = refl
 cell_shapes d now k (Contact mode operand memory) x y = refl
 cell_shapes d now k (Coil mode var memory) x y = refl
-cell_shapes d now k (Block inst) x y = set_shape k.blocks inst _ (step_shape (d.kind inst) (d.preset inst) (get_or k.blocks inst no_block) x y now)
+cell_shapes d now k (Block inst) x y = set_shape k.blocks inst _ (step_shape (d.kind inst) (d.preset inst) (get_or k.blocks inst (new_block Ton)) x y now)
 cell_shapes d now k (Lower inst linked) x y = refl
 cell_shapes d now k (Jump target) x y = refl
 cell_shapes d now k Return x y = refl
@@ -232,7 +234,7 @@ later_one m now (Counter last cv q) h t = t
 later_one m now (Bistable q) h t = t
 
 later : (m now : ℕ) (bs : List Stored) → m ≤ now → ArePossible m bs → ArePossible now bs
-later m now bs h t i = later_one m now (get_or bs i no_block) h (t i)
+later m now bs h t i = later_one m now (get_or bs i (new_block Ton)) h (t i)
 
 -- what a scan leaves
 pub after_sound : (m now : ℕ) (kinds : List BlockKind) (bs cs : List Stored) → AreSound kinds bs m → m ≤ now → map shape cs ≡ map shape bs

@@ -1,6 +1,9 @@
 -- What the rules of a drawing make sure of holds for the scan.
 use Rattle.std.proofs.Common.{◌≡◌, ℕ, ◌+◌, ◌*◌, ◌/◌, ◌%◌, ◌<◌, ◌≤◌, Bool, true, false, cond, ◌&&◌, slice_get, zero, suc, nat_lt, Option, Some, None, refl, ap, ◌∙◌, arith, subst}
 use Rattle.std.proofs.lemmas.Bool.Decides.{nat_tests}
+use Rattle.std.specs.Prelude.{option_map, unwrap_or}
+use Rattle.ladder_vars.specs.declared.kind.BlockKind.TheVariants.{Ton}
+use Rattle.ladder_scan.specs.Cells.{place_at}
 use Rattle.ladder_vars.specs.declared.decls.Instance.{Instance}
 use Rattle.ladder_vars.specs.Decls.{AreKept}
 use Rattle.ladder_vars.specs.Kind.{largest_preset}
@@ -9,7 +12,7 @@ use Rattle.ladder_grid.specs.declared.cell.Cell.{Cell}
 use Rattle.ladder_grid.specs.declared.cell.Cell.TheVariants.{Empty, Wire, Contact, Coil, Block, Lower, Jump, Return}
 use Rattle.ladder_grid.specs.Program.{Drawing, cell_of, goes_to, jump_in, jump_before, jump_of, memory_in, block_in, IsWellFormed, is_linked}
 use Rattle.ladder_scan.specs.Laws.{Once, Forward}
-use Rattle.ladder_scan.specs.Programs.{cell_at, kind_in, preset_in, placed, diagram_of, is_filled, IsSound}
+use Rattle.ladder_scan.specs.Programs.{cell_at, diagram_of, is_filled, IsSound}
 use Rattle.ladder_scan.proofs.GateLaws.{cell_is}
 
 both_true : (a b : Bool) → (a && b) ≡ true → (a ≡ true) × (b ≡ true)
@@ -72,6 +75,10 @@ linked p j e h =
     (row_is e w.0, linked_filled (cell_at p j (e + 1)) w.1)
 
 -- ---- jumps
+-- a jump with the place of its cell
+abbrev pub placed : Option (ℕ × ℕ × ℕ) → Option (ℕ × ℕ)
+placed jump = option_map (λ j. (place_at j.0 j.1, j.2)) jump
+
 -- the jump, if any, is at a place below n whose cell leads to its target
 abbrev LeadsAt : Drawing → ℕ → ℕ → Option (ℕ × ℕ) → Type 0
 LeadsAt p j n None = Unit {0}
@@ -140,7 +147,8 @@ jumps p j place target e =
     (at.0, ap is_filled (cell_is p j place at.0) ∙ leads_filled p.rungs target (cell_of p j place) at.1)
 
 -- ---- presets
-presets : (p : Drawing) → AreKept p.decls → (i : ℕ) (found : Option Instance) → slice_get p.decls.instances i ≡ found → preset_in found ≤ largest_preset (kind_in found)
+presets : (p : Drawing) → AreKept p.decls → (i : ℕ) (found : Option Instance) → slice_get p.decls.instances i ≡ found
+    → unwrap_or (option_map (λ (x : Instance). x.preset) found) 0 ≤ largest_preset (unwrap_or (option_map (λ (x : Instance). x.kind) found) Ton)
 presets p kept i None e = omega arith
 presets p kept i (Some instance) e =
     subst (λ (x : Instance). x.preset ≤ largest_preset x.kind) (get_or_from_slice_get p.decls.instances i instance instance e)

@@ -2,6 +2,7 @@
 use Rattle.std.specs.Prelude.{ℕ, ◌+◌, ◌*◌, Bool, true, false, if◌then◌else◌, List, Option, Some, None}
 use Rattle.std.proofs.Common.{get_or, set}
 use Rattle.ladder_vars.specs.declared.kind.BlockKind.{BlockKind}
+use Rattle.ladder_vars.specs.declared.kind.BlockKind.TheVariants.{Ton}
 use Rattle.ladder_grid.specs.declared.geometry.TheConstants.{ROWS}
 use Rattle.ladder_grid.specs.declared.cell.Mode.{Mode}
 use Rattle.ladder_grid.specs.declared.cell.Mode.TheVariants.{Plain, Negated, Rising, Falling}
@@ -13,9 +14,8 @@ use Rattle.ladder_grid.specs.declared.cell.Cell.{Cell}
 use Rattle.ladder_grid.specs.declared.cell.Cell.TheVariants.{Empty, Wire, Contact, Coil, Block, Lower, Jump, Return}
 use Rattle.ladder_grid.specs.Program.{memory_in, block_in}
 use Rattle.ladder_scan.specs.declared.block.Stored.{Stored}
-use Rattle.ladder_scan.specs.declared.block.Stored.TheVariants.{Timer}
 use Rattle.ladder_scan.specs.Algebra.{Algebra}
-use Rattle.ladder_scan.specs.Blocks.{step, q_of, has_second}
+use Rattle.ladder_scan.specs.Blocks.{step, q_of, new_block, has_second}
 
 -- The place of a cell in its rung. Rows and columns are counted from 0.
 abbrev pub place_at : ℕ → ℕ → ℕ
@@ -50,9 +50,6 @@ pub record Kept : Type 0 where
   pub memories : List Bool
   pub blocks : List Stored
 
-abbrev pub kept : List Bool → List Stored → Kept
-kept memories blocks = record { memories = memories; blocks = blocks }
-
 -- The entry of a list at an optional number, and the list with that entry replaced.
 abbrev pub at : {A : Type 0} → List A → Option ℕ → A → A
 at xs None otherwise = otherwise
@@ -67,15 +64,8 @@ abbrev pub var_in : Cell → Option ℕ
 var_in (Coil mode var memory) = Some var
 var_in other = None
 
--- What is read past the last instance.
-abbrev pub no_block : Stored
-no_block = Timer false false 0 false
-
 abbrev pub memory_of : Kept → Cell → Bool
 memory_of k c = at k.memories (memory_in c) false
-
-abbrev pub stored_of : Kept → Cell → Stored
-stored_of k c = at k.blocks (block_in c) no_block
 
 abbrev pub operand_value : {S : Type 0} → Algebra S → Frame S → Operand → S
 operand_value o f (Var var) = get_or f.values var (o.known false)
@@ -96,20 +86,17 @@ closed o f m (Contact mode operand memory) = contact o mode (operand_value o f o
 closed o f m (Coil mode var memory) = o.known true
 closed o f m other = o.known false
 
-abbrev pub q_after : BlockKind → ℕ → Stored → ℕ → Bool → Bool → Bool
-q_after kind preset stored now first second = q_of (step kind preset stored first second now)
-
 -- The Q of a block's step over any signal: by its inputs x and y, the choice among the Qs for known inputs. A timer has no second input.
 abbrev pub q_from : {S : Type 0} → Algebra S → BlockKind → ℕ → Stored → ℕ → S → S → S
 q_from o kind preset stored now x y =
-    let q = λ (first second : Bool). o.known (q_after kind preset stored now first second) in
+    let q = λ (first second : Bool). o.known (q_of (step kind preset stored first second now)) in
     if has_second kind
     then o.choice x (o.choice y (q true true) (q true false)) (o.choice y (q false true) (q false false))
     else o.choice x (q true false) (q false false)
 
--- The Q of the block in a cell, in this evaluation; other cells have none.
+-- The Q of the block in a cell, in this evaluation; other cells have none. Past the last instance a new TON is read.
 abbrev pub q_here : {S : Type 0} → Algebra S → Diagram → Kept → ℕ → Cell → S → S → S
-q_here o d k now (Block inst) x y = q_from o (d.kind inst) (d.preset inst) (get_or k.blocks inst no_block) now x y
+q_here o d k now (Block inst) x y = q_from o (d.kind inst) (d.preset inst) (get_or k.blocks inst (new_block Ton)) now x y
 q_here o d k now other x y = o.known false
 
 -- What a coil writes, by its left link, its memory m, which is the link that it had, and the old value of its variable:

@@ -1,8 +1,6 @@
 -- A program as the scan sees it, and what reading it has made sure of.
-use Rattle.std.specs.Prelude.{◌≡◌, ℕ, ◌+◌, ◌%◌, ◌<◌, ◌≤◌, Bool, true, not, if◌then◌else◌, ◌&&◌, map, nat_lt, Option, Some, None, slice_get}
-use Rattle.ladder_vars.specs.declared.kind.BlockKind.{BlockKind}
+use Rattle.std.specs.Prelude.{◌≡◌, ℕ, ◌+◌, ◌%◌, ◌<◌, ◌≤◌, Bool, true, not, if◌then◌else◌, ◌&&◌, map, nat_lt, Option, Some, option_map, unwrap_or, slice_get}
 use Rattle.ladder_vars.specs.declared.kind.BlockKind.TheVariants.{Ton}
-use Rattle.ladder_vars.specs.declared.decls.Instance.{Instance}
 use Rattle.ladder_vars.specs.Decls.{is_input}
 use Rattle.ladder_vars.specs.Kind.{largest_preset}
 use Rattle.ladder_grid.specs.declared.geometry.TheConstants.{ROWS, PLACES}
@@ -15,29 +13,16 @@ use Rattle.ladder_scan.specs.Laws.{Once, Forward}
 abbrev pub cell_at : Drawing → ℕ → ℕ → Cell
 cell_at p rung place = if nat_lt place PLACES then cell_of p rung place else Empty
 
--- The kind and the preset of an instance; past the last one, which no cell names, TON and 0.
-abbrev pub kind_in : Option Instance → BlockKind
-kind_in None = Ton
-kind_in (Some i) = i.kind
-
-abbrev pub preset_in : Option Instance → ℕ
-preset_in None = 0
-preset_in (Some i) = i.preset
-
--- A rung's jump, with the place of its cell for the cell's row and column.
-abbrev pub placed : Option (ℕ × ℕ × ℕ) → Option (ℕ × ℕ)
-placed None = None
-placed (Some (row, column, target)) = Some (place_at row column, target)
-
+-- An instance past the last one, which no cell names, is a TON with preset 0. A jump's cell goes by its place.
 unfoldable pub diagram_of : Drawing → Diagram
 diagram_of p = record {
   rungs = p.rungs;
   cell = cell_at p;
   feeds = feeds p;
   linked = λ rung place. nat_lt (place % ROWS + 1) ROWS && is_linked (cell_at p rung (place + 1));
-  kind = λ i. kind_in (slice_get p.decls.instances i);
-  preset = λ i. preset_in (slice_get p.decls.instances i);
-  jump = λ rung. placed (jump_of p rung);
+  kind = λ i. unwrap_or (option_map (λ x. x.kind) (slice_get p.decls.instances i)) Ton;
+  preset = λ i. unwrap_or (option_map (λ x. x.preset) (slice_get p.decls.instances i)) 0;
+  jump = λ rung. option_map (λ j. (place_at j.0 j.1, j.2)) (jump_of p rung);
   inputs = map is_input p.decls.vars;
 }
 

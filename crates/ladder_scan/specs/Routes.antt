@@ -24,18 +24,14 @@ unfoldable pub gather : {A : Type 0} → (ℕ → List A) → ℕ → List A
 gather f zero = []
 gather f (suc n) = gather f n ++ f n
 
--- The routes up to the right link of a cell: the end of the block, where one is there, and otherwise each route to its left link
--- with the cell added.
-abbrev pub onto : (ℕ → ℕ → Bool) → ℕ → ℕ → List Route → List Route
-onto is_block row column before =
-    if is_block row column then block_end row column ∷ [] else map (λ r. through r row column) before
-
 -- All routes to the left link of the cell at a row and column: the rail in the first column, and otherwise those up to each right link
--- of the column before that feeds it.
+-- of the column before that feeds it. Up to the right link of a cell there is the end of the block, where one is there, and otherwise
+-- each route to its left link with the cell added.
 unfoldable pub routes : (ℕ → ℕ → ℕ → Bool) → (ℕ → ℕ → Bool) → ℕ → ℕ → List Route
 routes feeds is_block row zero = rail ∷ []
 routes feeds is_block row (suc column) =
-    gather (λ from. if feeds row (suc column) from then onto is_block from column (routes feeds is_block from column) else []) ROWS
+    let onto = λ (from : ℕ). if is_block from column then block_end from column ∷ [] else map (λ r. through r from column) (routes feeds is_block from column) in
+    gather (λ from. if feeds row (suc column) from then onto from else []) ROWS
 
 -- The OR of a list.
 unfoldable pub join_all : {S : Type 0} → Algebra S → List S → S

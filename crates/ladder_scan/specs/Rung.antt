@@ -5,13 +5,14 @@ use Rattle.std.proofs.Common.{zero, suc}
 use Rattle.ladder_grid.specs.declared.geometry.TheConstants.{ROWS, PLACES}
 use Rattle.ladder_grid.specs.declared.cell.Cell.{Cell}
 use Rattle.ladder_grid.specs.declared.cell.Cell.TheVariants.{Empty, Wire, Contact, Coil, Block, Lower, Jump, Return}
+use Rattle.ladder_vars.specs.declared.kind.BlockKind.TheVariants.{Ton}
 use Rattle.ladder_scan.specs.declared.block.Stored.{Stored}
 use Rattle.ladder_scan.specs.Algebra.{Algebra}
 use Rattle.ladder_scan.specs.Truth.{plain}
 use Rattle.ladder_scan.specs.Routes.{Circuit, left_link}
-use Rattle.ladder_scan.specs.Blocks.{step, q_of}
+use Rattle.ladder_scan.specs.Blocks.{step, q_of, new_block}
 use Rattle.ladder_grid.specs.Program.{memory_in, block_in, is_block}
-use Rattle.ladder_scan.specs.Cells.{place_at, Diagram, Frame, frame, Kept, kept, at, put_in, var_in, memory_of, stored_of, operand_value, closed, q_here, coil_value}
+use Rattle.ladder_scan.specs.Cells.{place_at, Diagram, Frame, Kept, at, put_in, var_in, memory_of, operand_value, closed, q_here, coil_value}
 
 -- A lower cell without a link has OFF.
 abbrev pub lower : {S : Type 0} → Algebra S → Bool → S → S
@@ -20,8 +21,7 @@ lower o linked link = if linked then link else o.known false
 -- A rung as the power sees it, from the values, memories and blocks at its start.
 abbrev pub circuit : {S : Type 0} → Algebra S → Diagram → Kept → ℕ → ℕ → Frame S → Circuit S
 circuit o d k now j f =
-    let cell = λ (row column : ℕ). d.cell j (place_at row column) in
-    record {
+    let cell = λ (row column : ℕ). d.cell j (place_at row column) in record {
       feeds = d.feeds j;
       is_block = λ row column. is_block (cell row column);
       closed = λ row column. closed o f (o.known (memory_of k (cell row column))) (cell row column);
@@ -66,11 +66,11 @@ pub record Held : Type 0 where
   pub kept : Kept
 
 abbrev pub held : List Bool → List Bool → List Stored → Held
-held values memories blocks = record { values = values; kept = kept memories blocks }
+held values memories blocks = record { values = values; kept = record { memories = memories; blocks = blocks } }
 
 -- What contacts see from the start of a rung on.
 abbrev pub frame_of : Held → Frame Bool
-frame_of h = frame h.values (map q_of h.kept.blocks)
+frame_of h = record { values = h.values; ends = map q_of h.kept.blocks }
 
 -- As many values and Qs as variables and instances.
 pub record SameSizes {S : Type 0} (f : Frame S) (h : Held) : Type 0 where
@@ -95,14 +95,13 @@ stepped d now other s x y = s
 
 -- What a cell with left link x and second input y leaves, in a rung that began with the frame `start`.
 abbrev pub changed : Diagram → ℕ → Frame Bool → Cell → Bool → Bool → Held → Held
-changed d now start c x y h =
-    record {
-      values = put_in h.values (var_in c) (coil_value plain c x (memory_of h.kept c) (at h.values (var_in c) false));
-      kept = record {
-        memories = put_in h.kept.memories (memory_in c) (remembered start x c);
-        blocks = put_in h.kept.blocks (block_in c) (stepped d now c (stored_of h.kept c) x y);
-      };
-    }
+changed d now start c x y h = record {
+  values = put_in h.values (var_in c) (coil_value plain c x (memory_of h.kept c) (at h.values (var_in c) false));
+  kept = record {
+    memories = put_in h.kept.memories (memory_in c) (remembered start x c);
+    blocks = put_in h.kept.blocks (block_in c) (stepped d now c (at h.kept.blocks (block_in c) (new_block Ton)) x y);
+  };
+}
 
 -- After the cells at the places below n.
 unfoldable pub changes : Diagram → ℕ → ℕ → Frame Bool → (ℕ → Bool) → ℕ → Held → Held

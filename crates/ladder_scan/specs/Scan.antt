@@ -9,11 +9,9 @@ use Rattle.ladder_scan.specs.Rung.{Held, link_at, evaluated}
 -- The first list says of each variable whether it is an input.
 abbrev pub given : {S : Type 0} → List Bool → List S → List S → List S
 given [] xs values = values
-given (true ∷ more) xs [] = []
-given (true ∷ more) [] (v ∷ values) = v ∷ given more [] values
+given (is_input ∷ more) xs [] = []
 given (true ∷ more) (x ∷ xs) (v ∷ values) = x ∷ given more xs values
-given (false ∷ more) xs [] = []
-given (false ∷ more) xs (v ∷ values) = v ∷ given more xs values
+given (is_input ∷ more) xs (v ∷ values) = v ∷ given more xs values
 
 -- The rung after rung j, by its jump and its left links: the target of the jump, where the jump's left link is ON, and otherwise
 -- the rung below.

@@ -3,12 +3,11 @@ use Rattle.std.specs.Prelude.{◌≡◌, ℕ, ◌<◌, ◌≤◌, ◌^◌, Bool,
 use Rattle.std.specs.Int.{w16}
 use Rattle.std.proofs.Common.{get_or}
 use Rattle.ladder_vars.specs.declared.kind.BlockKind.{BlockKind}
-use Rattle.ladder_vars.specs.declared.kind.BlockKind.TheVariants.{Ton, Tof, Tp, Ctu, Ctd, Sr, Rs}
+use Rattle.ladder_vars.specs.declared.kind.BlockKind.TheVariants.{Ton}
 use Rattle.ladder_grid.specs.Program.{Drawing, memories_of}
 use Rattle.ladder_scan.specs.declared.block.Stored.{Stored}
 use Rattle.ladder_scan.specs.declared.block.Stored.TheVariants.{Timer, Counter, Bistable}
 use Rattle.ladder_scan.specs.Blocks.{new_block}
-use Rattle.ladder_scan.specs.Cells.{no_block}
 use Rattle.ladder_scan.specs.Rung.{Held}
 
 -- What a scan changes, the kind of each instance, and the moment of the last scan.
@@ -25,10 +24,7 @@ abbrev pub fresh : Drawing → Standing
 fresh p = record {
   held = record {
     values = map (λ v. v.initial) p.decls.vars;
-    kept = record {
-      memories = replicate (memories_of p) false;
-      blocks = map (λ i. new_block i.kind) p.decls.instances;
-    };
+    kept = record { memories = replicate (memories_of p) false; blocks = map (λ i. new_block i.kind) p.decls.instances };
   };
   kinds = kinds_of p;
   moment = 0;
@@ -46,17 +42,13 @@ pub data Shape : Type 0 where
   counter : Shape
   bistable : Shape
 
-abbrev pub shape_of : BlockKind → Shape
-shape_of Ctu = counter
-shape_of Ctd = counter
-shape_of Sr = bistable
-shape_of Rs = bistable
-shape_of other = timer
-
 abbrev pub shape : Stored → Shape
 shape (Timer last running start q) = timer
 shape (Counter last cv q) = counter
 shape (Bistable q) = bistable
+
+abbrev pub shape_of : BlockKind → Shape
+shape_of kind = shape (new_block kind)
 
 -- What can be stored at a moment: a timer that runs did not begin to after the moment, and one that does not has start 0;
 -- CV is a whole number of 16 bits.
@@ -70,13 +62,10 @@ pub record CanStore (kind : BlockKind) (moment : ℕ) (s : Stored) : Type 0 wher
   pub shape : shape s ≡ shape_of kind
   pub possible : IsPossible moment s
 
-abbrev pub ArePossible : ℕ → List Stored → Type 0
-ArePossible moment blocks = (i : ℕ) → IsPossible moment (get_or blocks i no_block)
-
 -- Each instance stores what belongs to its kind, and what can be stored at the moment.
 pub record AreSound (kinds : List BlockKind) (blocks : List Stored) (moment : ℕ) : Type 0 where
   pub shapes : map shape blocks ≡ map shape_of kinds
-  pub possible : ArePossible moment blocks
+  pub possible : (i : ℕ) → IsPossible moment (get_or blocks i (new_block Ton))
 
 -- What holds of every state.
 pub record IsStanding (s : Standing) : Type 0 where

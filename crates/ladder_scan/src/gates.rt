@@ -5,7 +5,8 @@ ghost use Rattle.ladder_vars.specs.Kind.{largest_preset};
 ghost use Rattle.ladder_grid.specs.declared.geometry.TheConstants.{PLACES};
 ghost use Rattle.ladder_grid.specs.declared.gates.TheConstants.{ON, OFF, OWN, LINKS};
 ghost use Rattle.ladder_grid.specs.Gates.{gates_of};
-ghost use Rattle.ladder_scan.specs.Cells.{closed, contact, q_from, q_after};
+ghost use Rattle.ladder_scan.specs.Blocks.{step, q_of};
+ghost use Rattle.ladder_scan.specs.Cells.{closed, contact, q_from};
 ghost use Rattle.ladder_scan.specs.Programs.{diagram_of, IsSound};
 ghost use Rattle.ladder_scan.specs.Gating.{among, own, passed, ran, IsInside, AreLinks, AreValues};
 
@@ -59,7 +60,7 @@ fn q_after(
     second: bool,
 ) -> bool
     requires { preset ≤ largest_preset kind }
-    ensures { result ≡ q_after kind preset stored now first second }
+    ensures { result ≡ q_of (step kind preset stored first second now) }
 {
     step(kind, preset, stored, first, second, now).q()
 }

@@ -2,8 +2,9 @@
 
 ghost use Rattle.std.specs.Prelude.{◌≡◌, length, map, slice_index_or, slice_set, false, IfOk};
 ghost use Rattle.ladder_vars.specs.Decls.{is_input};
+ghost use Rattle.ladder_vars.specs.declared.kind.BlockKind.TheVariants.{Ton};
 ghost use Rattle.ladder_scan.specs.Blocks.{new_block};
-ghost use Rattle.ladder_scan.specs.Cells.{memory_of, no_block, put_in};
+ghost use Rattle.ladder_scan.specs.Cells.{memory_of, put_in};
 ghost use Rattle.ladder_scan.specs.Rung.{held, SameSizes};
 ghost use Rattle.ladder_scan.specs.Scan.{given};
 ghost use Rattle.ladder_scan.specs.Standing.{fresh};
@@ -126,7 +127,7 @@ impl Storage {
 
     /// What an instance stores, and a timer that was never used past the last one.
     pub(crate) fn stored(&self, inst: usize) -> Stored
-        ensures { result ≡ slice_index_or self.now.kept.blocks inst no_block }
+        ensures { result ≡ slice_index_or self.now.kept.blocks inst (new_block Ton) }
     {
         match self.blocks.get(inst) {
             Some(stored) => *stored,

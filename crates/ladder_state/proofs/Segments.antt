@@ -3,10 +3,11 @@ use Rattle.std.proofs.Common.{◌≡◌, ◌≢◌, ◌+◌, ◌∙◌, ◌++◌
 use Rattle.std.specs.Prelude.{⊤}
 use Rattle.std.proofs.lemmas.List.{length-map, take_at}
 use Rattle.ladder_vars.specs.declared.decls.Instance.{Instance}
+use Rattle.ladder_vars.specs.declared.kind.BlockKind.TheVariants.{Ton}
 use Rattle.ladder_grid.specs.Program.{Drawing, memories_of}
 use Rattle.ladder_records.specs.Left.{Fields}
 use Rattle.ladder_scan.specs.declared.block.Stored.{Stored}
-use Rattle.ladder_scan.specs.Cells.{no_block}
+use Rattle.ladder_scan.specs.Blocks.{new_block}
 use Rattle.ladder_scan.specs.Standing.{IsPossible, Standing, shape, shape_of}
 use Rattle.ladder_state.specs.declared.version.Version.{Version}
 use Rattle.ladder_state.specs.Parts.{CanHold, IsItemsBad, IsStuck, block_item, every, some, tells}
@@ -160,7 +161,7 @@ shape_at (j ∷ js) (s ∷ ss) zero x z e a b =
 shape_at (j ∷ js) (s ∷ ss) (suc i) x z e a b =
     let t : map shape ss ≡ map shape_of (map (λ (k : Instance). k.kind) js) = cc in shape_at js ss i x z t a b
 
-stored_at : (blocks : List Stored) (i : ℕ) (z : Stored) → slice_get blocks i ≡ Some z → get_or blocks i no_block ≡ z
+stored_at : (blocks : List Stored) (i : ℕ) (z : Stored) → slice_get blocks i ≡ Some z → get_or blocks i (new_block Ton) ≡ z
 stored_at [] i z e = cc
 stored_at (s ∷ ss) zero z e = some_same e
 stored_at (s ∷ ss) (suc i) z e = stored_at ss i z e

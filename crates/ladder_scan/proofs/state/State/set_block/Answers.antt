@@ -2,7 +2,8 @@ use Rattle.std.proofs.Common.{ap, length, map, sym, subst, get_or, ◌∙◌}
 use Rattle.std.proofs.lemmas.List.{length-set}
 use Rattle.ladder_vars.specs.declared.kind.BlockKind.TheVariants.{Ton}
 use Rattle.ladder_scan.specs.Rung.{Held}
-use Rattle.ladder_scan.specs.Standing.{ArePossible, CanStore, Standing, shape}
+use Rattle.ladder_scan.specs.Standing.{CanStore, Standing, shape}
+use Rattle.ladder_scan.specs.RungByRung.{ArePossible}
 use Rattle.ladder_scan.proofs.Possible.{set_possible, set_shapes}
 use Rattle.ladder_scan.proofs.state.State.set_block.Goals as goal
 
