@@ -9,7 +9,7 @@ use Rattle.ladder_grid.specs.declared.form.Form.TheVariants.{Empty, Wire, Contac
 use Rattle.ladder_grid.specs.declared.fault.Rule.TheVariants.{Grid}
 use Rattle.ladder_grid.specs.declared.fault.GridRule.TheVariants as rule
 use Rattle.ladder_grid.specs.declared.picture.Half.TheVariants as half
-use Rattle.ladder_grid.specs.declared.operand.Reference.{Reference}
+use Rattle.ladder_vars.specs.declared.decls.Symbol.{Symbol}
 use Rattle.ladder_grid.specs.Form.{Table, Lists, whole_cells, HasForm, IsFormOf}
 use Rattle.ladder_grid.specs.Picture.{Lines, ch, joint, vertical, cell_text, SameGroup}
 use Rattle.ladder_grid.specs.Page.{Page, part_at, rung_at, form_at}
@@ -263,7 +263,7 @@ form_dash chars form (inr (inl h)) wants = dashes_first h.before chars _ h.some_
 form_dash chars form (inr (inr h)) wants = dashes_first h.before chars _ h.some_dashes h.spelled
 
 -- a cell with a left link has such a form
-form_wants : (n : ℕ) (form : Option Form) (name : Option Reference) (above target : Option ℕ)
+form_wants : (n : ℕ) (form : Option Form) (name : Option Symbol) (above target : Option ℕ)
     → has_left_link (numbered n (cell_with form name above target)) ≡ true → (f : Form) × (form ≡ Some f) × (wants_left f ≡ true)
 unfolding wants_left
 form_wants n None name above target h = absurd (off_on h)

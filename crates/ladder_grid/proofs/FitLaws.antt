@@ -4,6 +4,8 @@ use Rattle.std.specs.List.{position_or_len}
 use Rattle.std.proofs.lemmas.Bool.{ltb-true}
 use Rattle.ladder_vars.specs.Decls.{Declared, find, either_symbol}
 use Rattle.ladder_vars.specs.Name.{is_name, same_letters}
+use Rattle.std.specs.Prelude.{option_map}
+use Rattle.ladder_vars.specs.declared.kind.BlockKind.{BlockKind}
 use Rattle.ladder_vars.specs.declared.decls.Symbol.{Symbol}
 use Rattle.ladder_vars.specs.declared.decls.Symbol.TheVariants.{Var, Instance}
 use Rattle.ladder_grid.specs.declared.cell.Mode.{Mode}
@@ -17,7 +19,7 @@ use Rattle.ladder_vars.specs.declared.kind.Output.TheVariants as output
 use Rattle.ladder_grid.specs.declared.operand.Reference.{Reference}
 use Rattle.ladder_grid.specs.Operand.{named, referred, refer_to, ends_in, without_end, is_input_at, is_odd_on_coil, is_odd, instance_of, instance_on}
 use Rattle.ladder_grid.specs.Program.{Fits}
-use Rattle.ladder_grid.specs.Reading.{numbered, contact_on, coil_on, block_on, lower_of, jump_on, cell_with}
+use Rattle.ladder_grid.specs.Reading.{numbered, cell_with}
 
 none_some : {A : Type 0} {x : A} → None ≡ Some x → ⊥
 none_some h = cc
@@ -103,40 +105,34 @@ or_false : (x y : Bool) → (x || y) ≡ false → y ≡ false
 or_false true y h = cc
 or_false false y h = h
 
-contact_fits : (decls : Declared) (m : Mode) (s : Symbol) → SymbolFits decls s → Fits decls (contact_on m s)
-contact_fits decls m (Var i) fits = fits
-contact_fits decls m (Instance i) fits = fits
+contact_fits : (decls : Declared) (m : Mode) (s : Symbol) (above target : Option ℕ) → SymbolFits decls s → Fits decls (cell_with (Some (Contact m)) (Some s) above target)
+contact_fits decls m (Var i) above target fits = fits
+contact_fits decls m (Instance i) above target fits = fits
 
-coil_fits : (decls : Declared) (m : CoilMode) (s : Symbol) (o : Option Output) → SymbolFits decls s → is_odd_on_coil decls s o ≡ false → Fits decls (coil_on m s)
-coil_fits decls m (Var i) o fits even = (fits, or_false (is_some o) (is_input_at (slice_get decls.vars i)) even)
-coil_fits decls m (Instance i) o fits even = tt
+coil_fits : (decls : Declared) (m : CoilMode) (s : Symbol) (above target : Option ℕ) (o : Option Output) → SymbolFits decls s → is_odd_on_coil decls s o ≡ false
+    → Fits decls (cell_with (Some (Coil m)) (Some s) above target)
+coil_fits decls m (Var i) above target o fits even = (fits, or_false (is_some o) (is_input_at (slice_get decls.vars i)) even)
+coil_fits decls m (Instance i) above target o fits even = tt
 
-block_fits : (decls : Declared) (o : Option ℕ) → ((n : ℕ) → o ≡ Some n → n < length decls.instances) → Fits decls (block_on o)
-block_fits decls None fits = tt
-block_fits decls (Some n) fits = fits n refl
-
-lower_fits : (decls : Declared) (o : Option ℕ) (linked : Bool) → ((n : ℕ) → o ≡ Some n → n < length decls.instances) → Fits decls (lower_of o linked)
-lower_fits decls None linked fits = tt
-lower_fits decls (Some n) linked fits = fits n refl
-
-jump_fits : (decls : Declared) (o : Option ℕ) → Fits decls (jump_on o)
-jump_fits decls None = tt
-jump_fits decls (Some n) = tt
+block_fits : (decls : Declared) (kind : BlockKind) (s : Symbol) (above target : Option ℕ) → SymbolFits decls s → Fits decls (cell_with (Some (Block kind)) (Some s) above target)
+block_fits decls kind (Var i) above target fits = tt
+block_fits decls kind (Instance i) above target fits = fits
 
 pub cell_fits : (decls : Declared) (form : Option Form) (name : Option Reference) (above target : Option ℕ) → ((x : Reference) → name ≡ Some x → SymbolFits decls x.symbol)
-    → ((n : ℕ) → above ≡ Some n → n < length decls.instances) → is_odd decls form name ≡ false → Fits decls (cell_with form name above target)
+    → ((n : ℕ) → above ≡ Some n → n < length decls.instances) → is_odd decls form name ≡ false → Fits decls (cell_with form (option_map (λ (x : Reference). x.symbol) name) above target)
 cell_fits decls None name above target names over even = tt
 cell_fits decls (Some Empty) name above target names over even = tt
 cell_fits decls (Some Wire) name above target names over even = tt
 cell_fits decls (Some (Contact m)) None above target names over even = tt
-cell_fits decls (Some (Contact m)) (Some x) above target names over even = contact_fits decls m x.symbol (names x refl)
+cell_fits decls (Some (Contact m)) (Some x) above target names over even = contact_fits decls m x.symbol above target (names x refl)
 cell_fits decls (Some (Coil m)) None above target names over even = tt
-cell_fits decls (Some (Coil m)) (Some x) above target names over even = coil_fits decls m x.symbol x.output (names x refl) even
+cell_fits decls (Some (Coil m)) (Some x) above target names over even = coil_fits decls m x.symbol above target x.output (names x refl) even
 cell_fits decls (Some (Block kind)) None above target names over even = tt
-cell_fits decls (Some (Block kind)) (Some x) above target names over even =
-    block_fits decls (instance_of x.symbol) (λ n e. instance_symbol decls x.symbol n (names x refl) e)
-cell_fits decls (Some (Lower pin linked)) name above target names over even = lower_fits decls above linked over
-cell_fits decls (Some (Jump label)) name above target names over even = jump_fits decls target
+cell_fits decls (Some (Block kind)) (Some x) above target names over even = block_fits decls kind x.symbol above target (names x refl)
+cell_fits decls (Some (Lower pin linked)) name None target names over even = tt
+cell_fits decls (Some (Lower pin linked)) name (Some inst) target names over even = over inst refl
+cell_fits decls (Some (Jump label)) name above None names over even = tt
+cell_fits decls (Some (Jump label)) name above (Some to) names over even = tt
 cell_fits decls (Some Return) name above target names over even = tt
 
 pub fits_numbered : (decls : Declared) (n : ℕ) (c : Cell) → Fits decls c → Fits decls (numbered n c)

@@ -1,6 +1,12 @@
 -- Where the jump of a rung is.
 use Rattle.std.proofs.Common.{◌≡◌, ℕ, ◌/◌, ◌%◌, ◌<◌, ◌≤◌, Option, Some, None, zero, suc, arith}
-use Rattle.ladder_grid.specs.Program.{Drawing, cell_of, goes_to, jump_in, jump_before, jump_of}
+use Rattle.std.specs.Prelude.{option_map}
+use Rattle.std.specs.Option.{option_or}
+use Rattle.ladder_grid.specs.Program.{Drawing, cell_of, goes_to, jump_before, jump_of}
+
+-- what a cell that leads to this target puts in place of another jump
+abbrev pub jump_in : Option ℕ → ℕ → Option (ℕ × ℕ × ℕ) → Option (ℕ × ℕ × ℕ)
+jump_in target at other = option_or (option_map (λ t. (at % 6, at / 6, t)) target) other
 
 some_row : (a b : ℕ × ℕ × ℕ) → Some a ≡ Some b → (a.0 ≡ b.0) × (a.1 ≡ b.1)
 some_row a b h = (cc, cc)

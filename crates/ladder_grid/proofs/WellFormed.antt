@@ -1,8 +1,10 @@
 -- The cells that a sound page is read as are well formed.
 use Rattle.std.proofs.Common.{◌≡◌, ℕ, ◌+◌, ◌-◌, ◌*◌, ◌/◌, ◌%◌, ◌<◌, ◌≤◌, ◌⊎◌, inl, inr, Bool, true, false, ◌==◌, cond, List, length, get_or, count_by, nat_lt, position, suc, Option, Some, None, refl, sym, ap, subst, ◌∙◌, arith, slice_get}
+use Rattle.std.specs.Prelude.{option_map}
 use Rattle.std.proofs.lemmas.Bool.{cases_lt, ltb-true, eqb-false, ne_eqb}
 use Rattle.std.proofs.lemmas.List.Quantifiers.{position-Some}
 use Rattle.std.proofs.lemmas.List.{get_or_past, length-map}
+use Rattle.ladder_vars.specs.declared.kind.BlockKind.{BlockKind}
 use Rattle.ladder_vars.specs.declared.decls.Symbol.{Symbol}
 use Rattle.ladder_vars.specs.declared.decls.Symbol.TheVariants.{Var, Instance}
 use Rattle.ladder_grid.specs.declared.cell.Mode.{Mode}
@@ -28,7 +30,7 @@ use Rattle.ladder_grid.proofs.ShapeLaws.{torn}
 use Rattle.ladder_grid.specs.PageRules.{later, target_to, jump_label, PartBreaks, IsSoundPage, target_of}
 use Rattle.ladder_grid.specs.Program.{drawing, blank_site, memory_in, block_in, goes_to, has_memory, Fits, has_second, IsWellFormed}
 use Rattle.ladder_grid.specs.Geometry.{place}
-use Rattle.ladder_grid.specs.Reading.{numbered, contact_on, coil_on, block_on, lower_of, jump_on, cell_with, cell_drawn, site_drawn, memories_before}
+use Rattle.ladder_grid.specs.Reading.{numbered, cell_with, cell_drawn, site_drawn, memories_before}
 use Rattle.ladder_grid.specs.Geometry.{at_place}
 use Rattle.ladder_grid.specs.Build.{sites_of}
 use Rattle.ladder_grid.proofs.FitLaws.{SymbolFits, refer_fits, instance_fits, cell_fits, fits_numbered}
@@ -96,121 +98,77 @@ same_lower n (cell.Jump target) = refl
 same_lower n cell.Return = refl
 
 -- ---- what a drawn cell says of its form
-block_on_block : (o : Option ℕ) → block_in (block_on o) ≡ o
-block_on_block None = refl
-block_on_block (Some inst) = refl
+contact_no_block : (m : Mode) (s : Symbol) (above target : Option ℕ) → block_in (cell_with (Some (Contact m)) (Some s) above target) ≡ None
+contact_no_block m (Var number) above target = refl
+contact_no_block m (Instance number) above target = refl
 
-lower_no_block : (o : Option ℕ) (linked : Bool) → block_in (lower_of o linked) ≡ None
-lower_no_block None linked = refl
-lower_no_block (Some inst) linked = refl
+coil_no_block : (m : CoilMode) (s : Symbol) (above target : Option ℕ) → block_in (cell_with (Some (Coil m)) (Some s) above target) ≡ None
+coil_no_block m (Var number) above target = refl
+coil_no_block m (Instance number) above target = refl
 
-jump_no_block : (o : Option ℕ) → block_in (jump_on o) ≡ None
-jump_no_block None = refl
-jump_no_block (Some target) = refl
+block_block : (kind : BlockKind) (s : Symbol) (above target : Option ℕ) → block_in (cell_with (Some (Block kind)) (Some s) above target) ≡ instance_of s
+block_block kind (Var number) above target = refl
+block_block kind (Instance inst) above target = refl
 
-contact_no_block : (m : Mode) (s : Symbol) → block_in (contact_on m s) ≡ None
-contact_no_block m (Var number) = refl
-contact_no_block m (Instance number) = refl
-
-coil_no_block : (m : CoilMode) (s : Symbol) → block_in (coil_on m s) ≡ None
-coil_no_block m (Var number) = refl
-coil_no_block m (Instance number) = refl
-
-drawn_block : (form : Option Form) (name : Option Reference) (above target : Option ℕ) → block_in (cell_with form name above target) ≡ instance_on form name
+drawn_block : (form : Option Form) (name : Option Reference) (above target : Option ℕ) → block_in (cell_with form (option_map (λ (x : Reference). x.symbol) name) above target) ≡ instance_on form name
 drawn_block None name above target = refl
 drawn_block (Some Empty) name above target = refl
 drawn_block (Some Wire) name above target = refl
 drawn_block (Some (Contact m)) None above target = refl
-drawn_block (Some (Contact m)) (Some x) above target = contact_no_block m x.symbol
+drawn_block (Some (Contact m)) (Some x) above target = contact_no_block m x.symbol above target
 drawn_block (Some (Coil m)) None above target = refl
-drawn_block (Some (Coil m)) (Some x) above target = coil_no_block m x.symbol
+drawn_block (Some (Coil m)) (Some x) above target = coil_no_block m x.symbol above target
 drawn_block (Some (Block kind)) None above target = refl
-drawn_block (Some (Block kind)) (Some x) above target = block_on_block (instance_of x.symbol)
-drawn_block (Some (Lower pin linked)) name above target = lower_no_block above linked
-drawn_block (Some (Jump label)) name above target = jump_no_block target
+drawn_block (Some (Block kind)) (Some x) above target = block_block kind x.symbol above target
+drawn_block (Some (Lower pin linked)) name None target = refl
+drawn_block (Some (Lower pin linked)) name (Some inst) target = refl
+drawn_block (Some (Jump label)) name above None = refl
+drawn_block (Some (Jump label)) name above (Some to) = refl
 drawn_block (Some Return) name above target = refl
-
-block_on_goal : (rungs : ℕ) (o : Option ℕ) → goes_to rungs (block_on o) ≡ None
-block_on_goal rungs None = refl
-block_on_goal rungs (Some inst) = refl
-
-lower_no_goal : (rungs : ℕ) (o : Option ℕ) (linked : Bool) → goes_to rungs (lower_of o linked) ≡ None
-lower_no_goal rungs None linked = refl
-lower_no_goal rungs (Some inst) linked = refl
-
-jump_goal : (rungs : ℕ) (o : Option ℕ) → goes_to rungs (jump_on o) ≡ o
-jump_goal rungs None = refl
-jump_goal rungs (Some target) = refl
-
-contact_no_goal : (rungs : ℕ) (m : Mode) (s : Symbol) → goes_to rungs (contact_on m s) ≡ None
-contact_no_goal rungs m (Var number) = refl
-contact_no_goal rungs m (Instance number) = refl
-
-coil_no_goal : (rungs : ℕ) (m : CoilMode) (s : Symbol) → goes_to rungs (coil_on m s) ≡ None
-coil_no_goal rungs m (Var number) = refl
-coil_no_goal rungs m (Instance number) = refl
 
 -- a cell that leads out of its rung: where to
 Goal : ℕ → Option Form → Option ℕ → ℕ → Type 0
 Goal rungs form target t = (leaps form ≡ true) × ((t ≡ rungs) ⊎ (target ≡ Some t))
 
-no_goal : (rungs t : ℕ) (form : Option Form) (target : Option ℕ) (c : Cell) → goes_to rungs c ≡ None → goes_to rungs c ≡ Some t → Goal rungs form target t
-no_goal rungs t form target c h k = absurd (none_some (sym h ∙ k))
-
-drawn_goal : (rungs t : ℕ) (form : Option Form) (name : Option Reference) (above target : Option ℕ) → goes_to rungs (cell_with form name above target) ≡ Some t
+drawn_goal : (rungs t : ℕ) (form : Option Form) (name : Option Symbol) (above target : Option ℕ) → goes_to rungs (cell_with form name above target) ≡ Some t
     → Goal rungs form target t
 unfolding Goal
 drawn_goal rungs t None name above target h = absurd (none_some h)
 drawn_goal rungs t (Some Empty) name above target h = absurd (none_some h)
 drawn_goal rungs t (Some Wire) name above target h = absurd (none_some h)
 drawn_goal rungs t (Some (Contact m)) None above target h = absurd (none_some h)
-drawn_goal rungs t (Some (Contact m)) (Some x) above target h = absurd (none_some (sym (contact_no_goal rungs m x.symbol) ∙ h))
+drawn_goal rungs t (Some (Contact m)) (Some (Var number)) above target h = absurd (none_some h)
+drawn_goal rungs t (Some (Contact m)) (Some (Instance number)) above target h = absurd (none_some h)
 drawn_goal rungs t (Some (Coil m)) None above target h = absurd (none_some h)
-drawn_goal rungs t (Some (Coil m)) (Some x) above target h = absurd (none_some (sym (coil_no_goal rungs m x.symbol) ∙ h))
+drawn_goal rungs t (Some (Coil m)) (Some (Var number)) above target h = absurd (none_some h)
+drawn_goal rungs t (Some (Coil m)) (Some (Instance number)) above target h = absurd (none_some h)
 drawn_goal rungs t (Some (Block kind)) None above target h = absurd (none_some h)
-drawn_goal rungs t (Some (Block kind)) (Some x) above target h = absurd (none_some (sym (block_on_goal rungs (instance_of x.symbol)) ∙ h))
-drawn_goal rungs t (Some (Lower pin linked)) name above target h = absurd (none_some (sym (lower_no_goal rungs above linked) ∙ h))
-drawn_goal rungs t (Some (Jump label)) name above target h = (refl, inr (sym (jump_goal rungs target) ∙ h))
+drawn_goal rungs t (Some (Block kind)) (Some (Var number)) above target h = absurd (none_some h)
+drawn_goal rungs t (Some (Block kind)) (Some (Instance number)) above target h = absurd (none_some h)
+drawn_goal rungs t (Some (Lower pin linked)) name None target h = absurd (none_some h)
+drawn_goal rungs t (Some (Lower pin linked)) name (Some inst) target h = absurd (none_some h)
+drawn_goal rungs t (Some (Jump label)) name above None h = absurd (none_some h)
+drawn_goal rungs t (Some (Jump label)) name above (Some to) h = (refl, inr h)
 drawn_goal rungs t (Some Return) name above target h = (refl, inl (some_same t rungs (sym h)))
 
-block_no_lower : (o : Option ℕ) → lower_in (block_on o) ≡ None
-unfolding lower_in
-block_no_lower None = refl
-block_no_lower (Some inst) = refl
-
-lower_lower : (o : Option ℕ) (linked : Bool) → lower_in (lower_of o linked) ≡ o
-unfolding lower_in
-lower_lower None linked = refl
-lower_lower (Some inst) linked = refl
-
-jump_no_lower : (o : Option ℕ) → lower_in (jump_on o) ≡ None
-unfolding lower_in
-jump_no_lower None = refl
-jump_no_lower (Some target) = refl
-
-contact_no_lower : (m : Mode) (s : Symbol) → lower_in (contact_on m s) ≡ None
-unfolding lower_in
-contact_no_lower m (Var number) = refl
-contact_no_lower m (Instance number) = refl
-
-coil_no_lower : (m : CoilMode) (s : Symbol) → lower_in (coil_on m s) ≡ None
-unfolding lower_in
-coil_no_lower m (Var number) = refl
-coil_no_lower m (Instance number) = refl
-
-drawn_lower : (inst : ℕ) (form : Option Form) (name : Option Reference) (above target : Option ℕ) → lower_in (cell_with form name above target) ≡ Some inst → above ≡ Some inst
+drawn_lower : (inst : ℕ) (form : Option Form) (name : Option Symbol) (above target : Option ℕ) → lower_in (cell_with form name above target) ≡ Some inst → above ≡ Some inst
 unfolding lower_in
 drawn_lower inst None name above target h = absurd (none_some h)
 drawn_lower inst (Some Empty) name above target h = absurd (none_some h)
 drawn_lower inst (Some Wire) name above target h = absurd (none_some h)
 drawn_lower inst (Some (Contact m)) None above target h = absurd (none_some h)
-drawn_lower inst (Some (Contact m)) (Some x) above target h = absurd (none_some (sym (contact_no_lower m x.symbol) ∙ h))
+drawn_lower inst (Some (Contact m)) (Some (Var number)) above target h = absurd (none_some h)
+drawn_lower inst (Some (Contact m)) (Some (Instance number)) above target h = absurd (none_some h)
 drawn_lower inst (Some (Coil m)) None above target h = absurd (none_some h)
-drawn_lower inst (Some (Coil m)) (Some x) above target h = absurd (none_some (sym (coil_no_lower m x.symbol) ∙ h))
+drawn_lower inst (Some (Coil m)) (Some (Var number)) above target h = absurd (none_some h)
+drawn_lower inst (Some (Coil m)) (Some (Instance number)) above target h = absurd (none_some h)
 drawn_lower inst (Some (Block kind)) None above target h = absurd (none_some h)
-drawn_lower inst (Some (Block kind)) (Some x) above target h = absurd (none_some (sym (block_no_lower (instance_of x.symbol)) ∙ h))
-drawn_lower inst (Some (Lower pin linked)) name above target h = sym (lower_lower above linked) ∙ h
-drawn_lower inst (Some (Jump label)) name above target h = absurd (none_some (sym (jump_no_lower target) ∙ h))
+drawn_lower inst (Some (Block kind)) (Some (Var number)) above target h = absurd (none_some h)
+drawn_lower inst (Some (Block kind)) (Some (Instance number)) above target h = absurd (none_some h)
+drawn_lower inst (Some (Lower pin linked)) name None target h = absurd (none_some h)
+drawn_lower inst (Some (Lower pin linked)) name (Some number) target h = h
+drawn_lower inst (Some (Jump label)) name above None h = absurd (none_some h)
+drawn_lower inst (Some (Jump label)) name above (Some to) h = absurd (none_some h)
 drawn_lower inst (Some Return) name above target h = absurd (none_some h)
 
 -- a cell with a block's instance is the block
@@ -457,7 +415,7 @@ module _ (page : Page) (rungs : ℕ) (sites : List Site)
   unfolding Goal
   jump_place i t h =
       let s = stands (goes_to rungs) (same_goal rungs) refl i t h in
-      let g = drawn_goal rungs t (form_at page s.rung s.row s.column) (name_over page s.rung s.row s.column) _ _ s.holds in
+      let g = drawn_goal rungs t (form_at page s.rung s.row s.column) _ _ _ s.holds in
       let bounds : (s.rung < t) × (t ≤ rungs) = elim g.1 [
         | inl past ↦ (omega (arith, past, s.below), omega (arith, past))
         | inr known ↦
@@ -514,7 +472,7 @@ module _ (page : Page) (rungs : ℕ) (sites : List Site)
         in_rung = s.in_rung;
         in_row = s.in_row;
         at = s.at;
-        holds = drawn_lower inst (form_at page s.rung s.row s.column) (name_over page s.rung s.row s.column) _ _ s.holds;
+        holds = drawn_lower inst (form_at page s.rung s.row s.column) _ _ _ s.holds;
       }
 
   above_is : (k r c inst : ℕ) → instance_above page k r c ≡ Some inst → (1 ≤ r) × (instance_at page k (r - 1) c ≡ Some inst)
@@ -653,8 +611,8 @@ module _ (page : Page) (rungs : ℕ) (sites : List Site)
       let up : r + 1 - 1 ≡ r = omega arith in
       let above : instance_above page k (r + 1) c ≡ Some inst = rw (test, up) here in
       let drawn : cell_drawn page k (r + 1) c ≡ cell.Lower inst linked
-      = ap (λ f. cell_with f (name_over page k (r + 1) c) (instance_above page k (r + 1) c) (target_of (labels_of page.lines page.parts) k (form_at page k (r + 1) c))) form
-      ∙ ap (λ o. lower_of o linked) above in
+      = ap (λ f. cell_with f (option_map (λ x. x.symbol) (name_over page k (r + 1) c)) (instance_above page k (r + 1) c) (target_of (labels_of page.lines page.parts) k (form_at page k (r + 1) c))) form
+      ∙ ap (λ o. cell_with (Some (Lower q linked)) (option_map (λ x. x.symbol) (name_over page k (r + 1) c)) o (target_of (labels_of page.lines page.parts) k (form_at page k (r + 1) c))) above in
       let read : at_place (cell_drawn page) (place k (r + 1) c) ≡ cell.Lower inst linked = rw (rung, row, column) drawn in
       cell_is (place k (r + 1) c) within ∙ ap (numbered (memories_before page (place k (r + 1) c))) read
 

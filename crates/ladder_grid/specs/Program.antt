@@ -1,6 +1,7 @@
 -- A program: its declarations, and what its drawing has at each place.
 -- Rungs, rows and columns are counted from 0. The place of a cell in its rung is 6 * column + row.
-use Rattle.std.specs.Prelude.{◌≡◌, ℕ, zero, suc, ◌+◌, ◌-◌, ◌*◌, ◌/◌, ◌%◌, ◌<◌, ◌≤◌, min, max, nat_le, Bool, true, false, ◌&&◌, ◌==◌, List, length, count_by, slice_get, slice_index_or, Option, Some, None, is_some}
+use Rattle.std.specs.Prelude.{◌≡◌, ℕ, zero, suc, ◌+◌, ◌-◌, ◌*◌, ◌/◌, ◌%◌, ◌<◌, ◌≤◌, min, max, nat_le, Bool, true, false, ◌&&◌, ◌==◌, List, length, count_by, slice_get, slice_index_or, Option, Some, None, is_some, option_map}
+use Rattle.std.specs.Option.{option_or}
 use Rattle.std.specs.List.{list_any}
 use Rattle.ladder_vars.specs.Decls.{Declared}
 use Rattle.ladder_vars.specs.declared.decls.Instance.{Instance}
@@ -57,9 +58,7 @@ joined d rung row column (suc n) = joined d rung row column n && (site_at d rung
 -- The right link of the row `from` in the column before enters the group of the row's joint.
 abbrev pub feeds : Drawing → ℕ → ℕ → ℕ → ℕ → Bool
 feeds d rung row column from =
-    nat_le 1 column
-    && ((site_at d rung from (column - 1)).right_link
-    && (takes_power (site_at d rung from column).joint
+    nat_le 1 column && ((site_at d rung from (column - 1)).right_link && (takes_power (site_at d rung from column).joint
     && joined d rung (min row from) column (max row from - min row from)))
 
 abbrev pub is_empty : Cell → Bool
@@ -72,13 +71,11 @@ goes_to rungs (cell.Jump target) = Some target
 goes_to rungs cell.Return = Some rungs
 goes_to rungs other = None
 
-abbrev pub jump_in : Option ℕ → ℕ → Option (ℕ × ℕ × ℕ) → Option (ℕ × ℕ × ℕ)
-jump_in None at other = other
-jump_in (Some target) at other = Some (at % ROWS, at / ROWS, target)
-
+-- the last of the first places of a rung whose cell leads out of it: its row and column, and where to
 unfoldable pub jump_before : Drawing → ℕ → ℕ → Option (ℕ × ℕ × ℕ)
 jump_before d rung zero = None
-jump_before d rung (suc at) = jump_in (goes_to d.rungs (cell_of d rung at)) at (jump_before d rung at)
+jump_before d rung (suc at) =
+    option_or (option_map (λ target. (at % ROWS, at / ROWS, target)) (goes_to d.rungs (cell_of d rung at))) (jump_before d rung at)
 
 -- The row and the column of the rung's jump or return, and its target. A rung has at most one.
 unfoldable pub jump_of : Drawing → ℕ → Option (ℕ × ℕ × ℕ)

@@ -1,16 +1,17 @@
 //! What a page has at a place of a rung.
 
-ghost use Rattle.std.specs.Prelude.{◌≡◌, ◌<◌, map, length, All};
+ghost use Rattle.std.specs.Prelude.{◌≡◌, ◌<◌, map, length, All, Some, None};
+ghost use Rattle.ladder_vars.specs.declared.kind.BlockKind.{BlockKind};
+ghost use Rattle.ladder_grid.specs.declared.form.Form.TheVariants as form;
 ghost use Rattle.ladder_grid.specs.declared.geometry.TheConstants.{RUNGS, ROWS, COLUMNS};
 ghost use Rattle.ladder_grid.specs.ReadLines.{IsWithin};
 ghost use Rattle.ladder_grid.specs.Seen.{seen};
 ghost use Rattle.ladder_grid.specs.Page.{labels_of};
-ghost use Rattle.ladder_grid.specs.Reading.{contact_memory, coil_memory, numbered, contact_on, coil_on, block_on, lower_of, jump_on, cell_with, cell_drawn, joint_of, site_with};
+ghost use Rattle.ladder_grid.specs.Reading.{contact_memory, coil_memory, numbered, cell_with, cell_drawn, joint_of, site_drawn};
 
 use crate::cell::{Cell, CoilMode, Joint, Mode, Operand};
 use crate::feeding::right_link;
 use crate::form::Form;
-use crate::operand::{Reference, instance_of};
 use crate::page::{form_at, instance_above, name_over, rung_at};
 use crate::page_check::target_of;
 use crate::picture::{joint, vertical};
@@ -46,7 +47,7 @@ fn coil_memory(mode: CoilMode) -> Option<usize>
 }
 
 fn contact_on(mode: Mode, symbol: Symbol) -> Cell
-    ensures { result ≡ contact_on mode symbol }
+    ensures { result ≡ cell_with (Some (form.Contact mode)) (Some symbol) None None }
 {
     let memory = contact_memory(mode);
     match symbol {
@@ -64,7 +65,7 @@ fn contact_on(mode: Mode, symbol: Symbol) -> Cell
 }
 
 fn coil_on(mode: CoilMode, symbol: Symbol) -> Cell
-    ensures { result ≡ coil_on mode symbol }
+    ensures { result ≡ cell_with (Some (form.Coil mode)) (Some symbol) None None }
 {
     match symbol {
         Symbol::Var(var) => Cell::Coil {
@@ -76,36 +77,18 @@ fn coil_on(mode: CoilMode, symbol: Symbol) -> Cell
     }
 }
 
-fn block_on(inst: Option<usize>) -> Cell
-    ensures { result ≡ block_on inst }
+fn block_on(symbol: Symbol) -> Cell
+    ensures { (kind : BlockKind) → result ≡ cell_with (Some (form.Block kind)) (Some symbol) None None }
 {
-    match inst {
-        Some(inst) => Cell::Block { inst },
-        None => Cell::Empty,
-    }
-}
-
-fn lower_of(inst: Option<usize>, linked: bool) -> Cell
-    ensures { result ≡ lower_of inst linked }
-{
-    match inst {
-        Some(inst) => Cell::Lower { inst, linked },
-        None => Cell::Empty,
-    }
-}
-
-fn jump_on(target: Option<usize>) -> Cell
-    ensures { result ≡ jump_on target }
-{
-    match target {
-        Some(target) => Cell::Jump { target },
-        None => Cell::Empty,
+    match symbol {
+        Symbol::Instance(inst) => Cell::Block { inst },
+        Symbol::Var(_) => Cell::Empty,
     }
 }
 
 fn cell_with(
     form: Option<Form>,
-    name: Option<Reference>,
+    name: Option<Symbol>,
     above: Option<usize>,
     target: Option<usize>,
 ) -> Cell
@@ -113,11 +96,13 @@ fn cell_with(
 {
     match form {
         Some(Form::Wire) => Cell::Wire,
-        Some(Form::Contact(mode)) => name.map_or(Cell::Empty, |x| contact_on(mode, x.symbol)),
-        Some(Form::Coil(mode)) => name.map_or(Cell::Empty, |x| coil_on(mode, x.symbol)),
-        Some(Form::Block(_)) => name.map_or(Cell::Empty, |x| block_on(instance_of(x.symbol))),
-        Some(Form::Lower(_, linked)) => lower_of(above, linked),
-        Some(Form::Jump(_)) => jump_on(target),
+        Some(Form::Contact(mode)) => name.map_or(Cell::Empty, |x| contact_on(mode, x)),
+        Some(Form::Coil(mode)) => name.map_or(Cell::Empty, |x| coil_on(mode, x)),
+        Some(Form::Block(_)) => name.map_or(Cell::Empty, |x| block_on(x)),
+        Some(Form::Lower(_, linked)) => {
+            above.map_or(Cell::Empty, |inst| Cell::Lower { inst, linked })
+        }
+        Some(Form::Jump(_)) => target.map_or(Cell::Empty, |target| Cell::Jump { target }),
         Some(Form::Return) => Cell::Return,
         Some(Form::Empty) | None => Cell::Empty,
     }
@@ -141,7 +126,7 @@ pub(crate) fn cell_drawn(
     let form = form_at(page, rung, row, column);
     cell_with(
         form,
-        name_over(page, rung, row, column),
+        name_over(page, rung, row, column).map(|name| name.symbol),
         instance_above(page, rung, row, column),
         target_of(labels, rung, &form),
     )
@@ -202,7 +187,7 @@ pub(crate) fn site_with(
     requires rungs { rung < length page.parts.now }
     requires rows { row < ROWS }
     requires columns { column < COLUMNS }
-    ensures { result ≡ site_with (seen page.entry) number cell rung row column }
+    ensures { result ≡ record (site_drawn (seen page.entry) rung row column) { cell = numbered number cell } }
 {
     Site {
         cell: numbered(number, cell),

@@ -2,6 +2,7 @@
 use Rattle.std.proofs.Common.{◌≡◌, ℕ, ◌+◌, ◌*◌, ◌/◌, ◌%◌, ◌<◌, ◌≤◌, Bool, true, false, cond, ◌&&◌, slice_get, zero, suc, nat_lt, Option, Some, None, refl, ap, ◌∙◌, arith, subst}
 use Rattle.std.proofs.lemmas.Bool.Decides.{nat_tests}
 use Rattle.std.specs.Prelude.{option_map, unwrap_or}
+use Rattle.std.specs.Option.{option_or}
 use Rattle.ladder_vars.specs.declared.kind.BlockKind.TheVariants.{Ton}
 use Rattle.ladder_scan.specs.Cells.{place_at}
 use Rattle.ladder_vars.specs.declared.decls.Instance.{Instance}
@@ -10,7 +11,7 @@ use Rattle.ladder_vars.specs.Kind.{largest_preset}
 use Rattle.std.proofs.lemmas.Option.{get_or_from_slice_get, slice_get_within}
 use Rattle.ladder_grid.specs.declared.cell.Cell.{Cell}
 use Rattle.ladder_grid.specs.declared.cell.Cell.TheVariants.{Empty, Wire, Contact, Coil, Block, Lower, Jump, Return}
-use Rattle.ladder_grid.specs.Program.{Drawing, cell_of, goes_to, jump_in, jump_before, jump_of, memory_in, block_in, IsWellFormed, is_linked}
+use Rattle.ladder_grid.specs.Program.{Drawing, cell_of, goes_to, jump_before, jump_of, memory_in, block_in, IsWellFormed, is_linked}
 use Rattle.ladder_scan.specs.Laws.{Once, Forward}
 use Rattle.ladder_scan.specs.Programs.{cell_at, diagram_of, is_filled, IsSound}
 use Rattle.ladder_scan.proofs.GateLaws.{cell_is}
@@ -78,6 +79,10 @@ linked p j e h =
 -- a jump with the place of its cell
 abbrev pub placed : Option (ℕ × ℕ × ℕ) → Option (ℕ × ℕ)
 placed jump = option_map (λ j. (place_at j.0 j.1, j.2)) jump
+
+-- what a cell that leads to this target puts in place of another jump
+abbrev jump_in : Option ℕ → ℕ → Option (ℕ × ℕ × ℕ) → Option (ℕ × ℕ × ℕ)
+jump_in target at other = option_or (option_map (λ t. (at % 6, at / 6, t)) target) other
 
 -- the jump, if any, is at a place below n whose cell leads to its target
 abbrev LeadsAt : Drawing → ℕ → ℕ → Option (ℕ × ℕ) → Type 0

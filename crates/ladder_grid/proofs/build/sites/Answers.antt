@@ -1,9 +1,10 @@
 use Rattle.std.proofs.Common.{◌≡◌, ℕ, suc, ◌+◌, ◌/◌, ◌%◌, ap, sym, ◌∙◌, arith, add-one, refl, if◌then◌else◌}
 use Rattle.ladder_grid.specs.declared.cell.Cell.{Cell}
+use Rattle.ladder_grid.specs.declared.site.Site.{Site}
 use Rattle.ladder_grid.specs.Page.{Page}
 use Rattle.ladder_grid.specs.Program.{has_memory}
 use Rattle.ladder_grid.specs.Geometry.{place}
-use Rattle.ladder_grid.specs.Reading.{cell_drawn, site_with, site_drawn, memories_before}
+use Rattle.ladder_grid.specs.Reading.{cell_drawn, numbered, site_drawn, memories_before}
 use Rattle.ladder_grid.specs.Geometry.{at_place}
 use Rattle.ladder_grid.specs.Seen.{seen}
 use Rattle.ladder_grid.proofs.PlaceLaws.{no_place_yet, one_place_more}
@@ -12,6 +13,9 @@ use Rattle.ladder_grid.proofs.build.sites.Goals as goal
 none_before : (page : Page) → 0 ≡ memories_before page 0
 unfolding memories_before
 none_before page = refl
+
+abbrev site_with : (page : Page) (number : ℕ) (cell : Cell) (k r c : ℕ) → Site
+site_with page number cell k r c = record (site_drawn page k r c) { cell = numbered number cell }
 
 site_is : (page : Page) (n next : ℕ) (cell : Cell) → next ≡ memories_before page n → cell ≡ at_place (cell_drawn page) n
     → at_place (site_with page next cell) n ≡ at_place (site_drawn page) n
