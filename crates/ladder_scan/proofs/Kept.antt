@@ -1,5 +1,7 @@
 -- The relational law, definition by definition; memories and blocks may differ where no cell of the rung reads them.
 use Rattle.std.proofs.Common.{◌≡◌, ℕ, ◌+◌, ◌*◌, ◌/◌, ◌%◌, ◌<◌, Bool, true, false, cond, List, [], ◌∷◌, ◌++◌, map, get_or, set, zero, suc, nat_eq, Option, Some, None, refl, subst, arith}
+use Rattle.std.specs.Prelude.{is_some}
+use Rattle.ladder_vars.specs.Kind.{traits_of}
 use Rattle.ladder_scan.specs.Algebra.{Algebra}
 use Rattle.ladder_scan.specs.Relations.{IsKept, Both, BothFrames}
 use Rattle.ladder_scan.specs.Routes.{join_all, Route, rail, block_end, through, routes, route_value, ends_below, left_link}
@@ -17,7 +19,7 @@ use Rattle.ladder_grid.specs.declared.cell.Cell.TheVariants.{Empty, Wire, Contac
 use Rattle.ladder_grid.specs.Program.{block_in, is_block}
 use Rattle.ladder_scan.specs.Cells.{Diagram, Frame, Kept, at, put_in, var_in, memory_of, operand_value, closed, contact, q_here, q_from, coil_value, stored_by}
 use Rattle.ladder_scan.specs.Rung.{circuit, link, second, written, effects, after_rung}
-use Rattle.ladder_scan.specs.Blocks.{has_second, q_of, new_block}
+use Rattle.ladder_scan.specs.Blocks.{q_of, new_block}
 use Rattle.ladder_scan.specs.Scan.{given}
 use Rattle.ladder_scan.specs.SignalScan.{meet_where, passes_over, guard_of, taken_by, looked, look_frame}
 use Rattle.ladder_scan.specs.Laws.{LookKeeps}
@@ -119,7 +121,7 @@ module _ {A B : Type 0} (a : Algebra A) (b : Algebra B) (R : A → B → Type 0)
   from_kept : (kind : BlockKind) (preset : ℕ) (s t : Stored) (now : ℕ) → s ≡ t → (x y : A) (u v : B) → R x u → R y v → R (q_from a kind preset s now x y) (q_from b kind preset t now u v)
   from_kept kind preset s t now e x y u v r w =
       subst (λ (z : Stored). R (q_from a kind preset s now x y) (q_from b kind preset z now u v)) e
-      (either (has_second kind) _ _ _ _
+      (either (is_some (traits_of kind).second_input) _ _ _ _
       (k.choice _ _ _ _ _ _ r (k.choice _ _ _ _ _ _ w (k.known _) (k.known _)) (k.choice _ _ _ _ _ _ w (k.known _) (k.known _)))
       (k.choice _ _ _ _ _ _ r (k.known _) (k.known _)))
 

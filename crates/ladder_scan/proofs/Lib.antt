@@ -5,6 +5,7 @@ pub mod Bistables
 pub mod Joins
 pub mod Flow
 pub mod Kept
+pub mod Changes
 pub mod OneRung
 pub mod LookAtBool
 pub mod ByList

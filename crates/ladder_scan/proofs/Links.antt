@@ -8,8 +8,9 @@ use Rattle.ladder_grid.specs.declared.cell.Operand.TheVariants.{Var, Output}
 use Rattle.ladder_grid.specs.declared.cell.Cell.{Cell}
 use Rattle.ladder_grid.specs.declared.cell.Cell.TheVariants.{Empty, Wire, Contact, Coil, Block, Lower, Jump, Return}
 use Rattle.ladder_scan.specs.declared.block.Stored.{Stored}
+use Rattle.std.specs.Prelude.{is_some}
+use Rattle.ladder_vars.specs.Kind.{traits_of}
 use Rattle.ladder_scan.specs.Algebra.{Algebra, LatticeLaws}
-use Rattle.ladder_scan.specs.Blocks.{has_second}
 use Rattle.ladder_scan.specs.Routes.{join_all, left_link, routes, route_value}
 use Rattle.ladder_grid.specs.Program.{is_block}
 use Rattle.ladder_scan.specs.Cells.{Diagram, Frame, Kept, memory_of, closed, contact, operand_value, q_here, q_from}
@@ -53,7 +54,7 @@ module _ {S : Type 0} (o : Algebra S) (V : S → Type 0) (l : LatticeLaws S V o)
 
   from-value : (kind : BlockKind) (preset : ℕ) (s : Stored) (now : ℕ) (x y : S) → V x → V y → V (q_from o kind preset s now x y)
   from-value kind preset s now x y vx vy =
-      either_value (has_second kind) _ _
+      either_value (is_some (traits_of kind).second_input) _ _
       (l.choice_value _ _ _ vx (l.choice_value _ _ _ vy (l.known_value _) (l.known_value _)) (l.choice_value _ _ _ vy (l.known_value _) (l.known_value _)))
       (l.choice_value _ _ _ vx (l.known_value _) (l.known_value _))
 

@@ -14,8 +14,9 @@ use Rattle.ladder_grid.specs.declared.cell.Cell.TheVariants.{Empty, Wire, Contac
 use Rattle.ladder_grid.specs.Program.{memory_in, block_in}
 use Rattle.ladder_scan.specs.Cells.{Diagram, Frame, frame, Kept, at, put_in, var_in, q_here, q_from, coil_value}
 use Rattle.ladder_scan.proofs.Kept.{stored_of}
-use Rattle.ladder_scan.specs.Rung.{link, second, written, effects, after_rung, Held, frame_of, stepped, changes, link_at, evaluated}
+use Rattle.ladder_scan.specs.Rung.{link, second, written, effects, after_rung, Held, frame_of, changes, link_at, evaluated}
 use Rattle.ladder_scan.specs.Laws.{Once}
+use Rattle.ladder_scan.proofs.Changes.{stepped, changed_is}
 use Rattle.ladder_scan.proofs.Kept.{AlikeCell, Alike, rung_kept}
 
 -- ---- what no cell below n writes stays
@@ -32,7 +33,8 @@ memory_stays : (d : Diagram) (now j : ℕ) (start : Frame Bool) (links : ℕ →
 unfolding changes
 memory_stays d now j start links h zero i away = refl
 memory_stays d now j start links h (suc n) i away =
-    put_other (changes d now j start links n h).kept.memories (memory_in (d.cell j n)) _ false i (away n (omega arith))
+    ap (λ (x : Held). get_or x.kept.memories i false) (changed_is d now start (d.cell j n) (links n) (second plain d j links n) (changes d now j start links n h))
+    ∙ put_other (changes d now j start links n h).kept.memories (memory_in (d.cell j n)) _ false i (away n (omega arith))
     ∙ memory_stays d now j start links h n i (λ e k. away e (omega arith))
 
 block_stays : (d : Diagram) (now j : ℕ) (start : Frame Bool) (links : ℕ → Bool) (h : Held) (n i : ℕ) → ((e : ℕ) → e < n → block_in (d.cell j e) ≡ Some i → ⊥) →
@@ -40,7 +42,8 @@ block_stays : (d : Diagram) (now j : ℕ) (start : Frame Bool) (links : ℕ → 
 unfolding changes
 block_stays d now j start links h zero i away = refl
 block_stays d now j start links h (suc n) i away =
-    put_other (changes d now j start links n h).kept.blocks (block_in (d.cell j n)) _ (new_block Ton) i (away n (omega arith))
+    ap (λ (x : Held). get_or x.kept.blocks i (new_block Ton)) (changed_is d now start (d.cell j n) (links n) (second plain d j links n) (changes d now j start links n h))
+    ∙ put_other (changes d now j start links n h).kept.blocks (block_in (d.cell j n)) _ (new_block Ton) i (away n (omega arith))
     ∙ block_stays d now j start links h n i (λ e k. away e (omega arith))
 
 -- a cell that isn't one of these finds its memory and its block as they were
@@ -121,6 +124,7 @@ in_rung d once now j links h (suc n) =
     ∙ frames _ _ _ _
     (ap (λ x. put_in m.values (var_in c) (coil_value plain c (links n) x (at m.values (var_in c) false))) alike.0)
     (ends_step d now h.kept m.kept c alike (links n) (second plain d j links n))
+    ∙ ap frame_of (sym (changed_is d now (frame_of h) c (links n) (second plain d j links n) m))
 
 -- ---- equal frames by the relational law
 both_same : {S : Type 0} (xs ys : List S) → Both (λ x y. x ≡ y) xs ys → xs ≡ ys

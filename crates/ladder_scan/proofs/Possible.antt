@@ -18,8 +18,9 @@ use Rattle.ladder_scan.specs.Blocks.{step, new_block}
 use Rattle.ladder_scan.proofs.Counters.{counted_up, counted_down}
 use Rattle.ladder_grid.specs.Program.{Drawing, block_in}
 use Rattle.ladder_scan.specs.Cells.{Diagram, Frame, Kept, put_in}
+use Rattle.ladder_scan.proofs.Changes.{stepped, changed_is}
 use Rattle.ladder_scan.proofs.Kept.{stored_of}
-use Rattle.ladder_scan.specs.Rung.{Held, second, stepped, changes, frame_of, link_at, evaluated}
+use Rattle.ladder_scan.specs.Rung.{Held, second, changes, frame_of, link_at, evaluated}
 use Rattle.ladder_scan.specs.Scan.{next_rung}
 use Rattle.ladder_scan.specs.Programs.{IsSound}
 use Rattle.ladder_scan.specs.RungByRung.{Scanned, scanned}
@@ -199,13 +200,16 @@ changes_possible : (d : Diagram) → IsSound d → (now j : ℕ) (start : Frame 
 unfolding changes
 changes_possible d w now j start links zero h t = t
 changes_possible d w now j start links (suc n) h t =
-    cell_possible d w now (changes d now j start links n h).kept (d.cell j n) (links n) (second plain d j links n) (changes_possible d w now j start links n h t)
+    let m = changes d now j start links n h in
+    subst (λ (x : Held). ArePossible now x.kept.blocks) (sym (changed_is d now start (d.cell j n) (links n) (second plain d j links n) m))
+    (cell_possible d w now m.kept (d.cell j n) (links n) (second plain d j links n) (changes_possible d w now j start links n h t))
 
 changes_shapes : (d : Diagram) (now j : ℕ) (start : Frame Bool) (links : ℕ → Bool) (n : ℕ) (h : Held) → map shape (changes d now j start links n h).kept.blocks ≡ map shape h.kept.blocks
 unfolding changes
 changes_shapes d now j start links zero h = refl
 changes_shapes d now j start links (suc n) h =
-    cell_shapes d now (changes d now j start links n h).kept (d.cell j n) (links n) (second plain d j links n) ∙ changes_shapes d now j start links n h
+    ap (λ (x : Held). map shape x.kept.blocks) (changed_is d now start (d.cell j n) (links n) (second plain d j links n) (changes d now j start links n h))
+    ∙ cell_shapes d now (changes d now j start links n h).kept (d.cell j n) (links n) (second plain d j links n) ∙ changes_shapes d now j start links n h
 
 abbrev next : Diagram → ℕ → ℕ → Scanned → Scanned
 next d now n s = record { held = evaluated d now n s.held; resume = next_rung d now n s.held }

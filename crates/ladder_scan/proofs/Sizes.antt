@@ -1,14 +1,16 @@
 -- A scan, and a look, keep the numbers of variables, memories and instances.
-use Rattle.std.proofs.Common.{length, ◌≡◌, ℕ, Bool, true, false, cond, List, [], ◌∷◌, map, zero, suc, nat_lt, sym, ap, ◌∙◌, refl, Option, Some, None}
+use Rattle.std.proofs.Common.{length, ◌≡◌, ℕ, Bool, true, false, cond, List, [], ◌∷◌, map, zero, suc, nat_lt, subst, sym, ap, ◌∙◌, refl, Option, Some, None}
 use Rattle.std.proofs.lemmas.List.{length-map, length-set}
 use Rattle.ladder_grid.specs.Program.{block_in, memory_in}
 use Rattle.ladder_scan.specs.Algebra.{Algebra}
+use Rattle.ladder_scan.specs.Truth.{plain}
 use Rattle.ladder_scan.specs.Blocks.{q_of}
 use Rattle.ladder_scan.specs.Cells.{Diagram, Frame, Kept, put_in, var_in}
-use Rattle.ladder_scan.specs.Rung.{Held, changes, effects, frame_of, link, link_at, evaluated, SameSizes, SameLengths}
+use Rattle.ladder_scan.specs.Rung.{Held, changes, effects, frame_of, second, link, link_at, evaluated, SameSizes, SameLengths}
 use Rattle.ladder_scan.specs.Scan.{given, next_rung}
 use Rattle.ladder_scan.specs.SignalScan.{looked, look_frame, guard_of}
 use Rattle.ladder_scan.specs.RungByRung.{Scanned, scanned}
+use Rattle.ladder_scan.proofs.Changes.{changed_is}
 
 size-put_in : {A : Type 0} (xs : List A) (m : Option ℕ) (x : A) → length (put_in xs m x) ≡ length xs
 size-put_in xs None x = refl
@@ -29,11 +31,11 @@ size_changes d now j start links zero h = record { values = refl; memories = ref
 size_changes d now j start links (suc n) h =
     let before = changes d now j start links n h in
     let s = size_changes d now j start links n h in
-    record {
+    subst (λ (x : Held). SameLengths x h) (sym (changed_is d now start (d.cell j n) (links n) (second plain d j links n) before)) (record {
       values = size-put_in before.values (var_in (d.cell j n)) _ ∙ s.values;
       memories = size-put_in before.kept.memories (memory_in (d.cell j n)) _ ∙ s.memories;
       blocks = size-put_in before.kept.blocks (block_in (d.cell j n)) _ ∙ s.blocks;
-    }
+    })
 
 -- what contacts saw has the sizes of what the rung leaves
 pub rung_sizes : (d : Diagram) (now j : ℕ) (h next : Held) (start : Frame Bool) → start ≡ frame_of h → next ≡ evaluated d now j h → SameSizes start next

@@ -2,10 +2,9 @@
 -- moments are whole milliseconds.
 -- What the standard's timing diagrams leave open is the profile's choice: at equal moments a timer with PT 0 is through at once, a rise
 -- during a pulse does nothing, a TP with PT 0 never begins, a reset or load goes before a rise, and CV stops at the ends of its range.
-use Rattle.std.specs.Prelude.{ℕ, ◌-◌, Bool, true, false, not, if◌then◌else◌, ◌&&◌, ◌||◌, is_some, nat_lt, nat_le, ℤ, pos, negsuc, ◌+ℤ◌, ◌-ℤ◌, int_lt, int_le}
+use Rattle.std.specs.Prelude.{ℕ, ◌-◌, Bool, true, false, not, if◌then◌else◌, ◌&&◌, ◌||◌, nat_lt, nat_le, ℤ, pos, negsuc, ◌+ℤ◌, ◌-ℤ◌, int_lt, int_le}
 use Rattle.ladder_vars.specs.declared.kind.BlockKind.{BlockKind}
 use Rattle.ladder_vars.specs.declared.kind.BlockKind.TheVariants.{Ton, Tof, Tp, Ctu, Ctd, Sr, Rs}
-use Rattle.ladder_vars.specs.Kind.{traits_of}
 use Rattle.ladder_scan.specs.declared.block.Stored.{Stored}
 use Rattle.ladder_scan.specs.declared.block.Stored.TheVariants.{Timer, Counter, Bistable}
 
@@ -55,7 +54,3 @@ step Sr preset (Bistable q) set reset now = Bistable (set || (not reset && q))
 step Rs preset (Bistable q) set reset now = Bistable (not reset && (set || q))
 -- A block that is not of the kind is left unchanged; no state holds one.
 step kind preset other on second now = other
-
--- Whether a block has a second input.
-abbrev pub has_second : BlockKind → Bool
-has_second kind = is_some (traits_of kind).second_input

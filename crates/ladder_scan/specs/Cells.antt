@@ -1,8 +1,9 @@
 -- What each cell of a rung reads and writes, over any signal.
-use Rattle.std.specs.Prelude.{ℕ, ◌+◌, ◌*◌, Bool, true, false, if◌then◌else◌, List, Option, Some, None}
+use Rattle.std.specs.Prelude.{ℕ, ◌+◌, ◌*◌, Bool, true, false, if◌then◌else◌, List, Option, Some, None, is_some}
 use Rattle.std.proofs.Common.{get_or, set}
 use Rattle.ladder_vars.specs.declared.kind.BlockKind.{BlockKind}
 use Rattle.ladder_vars.specs.declared.kind.BlockKind.TheVariants.{Ton}
+use Rattle.ladder_vars.specs.Kind.{traits_of}
 use Rattle.ladder_grid.specs.declared.geometry.TheConstants.{ROWS}
 use Rattle.ladder_grid.specs.declared.cell.Mode.{Mode}
 use Rattle.ladder_grid.specs.declared.cell.Mode.TheVariants.{Plain, Negated, Rising, Falling}
@@ -15,7 +16,7 @@ use Rattle.ladder_grid.specs.declared.cell.Cell.TheVariants.{Empty, Wire, Contac
 use Rattle.ladder_grid.specs.Program.{memory_in, block_in}
 use Rattle.ladder_scan.specs.declared.block.Stored.{Stored}
 use Rattle.ladder_scan.specs.Algebra.{Algebra}
-use Rattle.ladder_scan.specs.Blocks.{step, q_of, new_block, has_second}
+use Rattle.ladder_scan.specs.Blocks.{step, q_of, new_block}
 
 -- The place of a cell in its rung. Rows and columns are counted from 0.
 abbrev pub place_at : ℕ → ℕ → ℕ
@@ -90,7 +91,7 @@ closed o f m other = o.known false
 abbrev pub q_from : {S : Type 0} → Algebra S → BlockKind → ℕ → Stored → ℕ → S → S → S
 q_from o kind preset stored now x y =
     let q = λ (first second : Bool). o.known (q_of (step kind preset stored first second now)) in
-    if has_second kind
+    if is_some (traits_of kind).second_input
     then o.choice x (o.choice y (q true true) (q true false)) (o.choice y (q false true) (q false false))
     else o.choice x (q true false) (q false false)
 

@@ -1,18 +1,18 @@
 -- The evaluation of one rung: its power flow, from the values at its start, and then its effects by column, then row, each seeing what
 -- the ones before it left. First over any signal, under a guard, and then over truth values, where memories and blocks change too.
 use Rattle.std.specs.Prelude.{◌≡◌, ℕ, ◌+◌, ◌/◌, ◌%◌, Bool, false, if◌then◌else◌, List, length, map}
-use Rattle.std.proofs.Common.{zero, suc}
+use Rattle.std.proofs.Common.{get_or, set, zero, suc}
 use Rattle.ladder_grid.specs.declared.geometry.TheConstants.{ROWS, PLACES}
 use Rattle.ladder_grid.specs.declared.cell.Cell.{Cell}
-use Rattle.ladder_grid.specs.declared.cell.Cell.TheVariants.{Empty, Wire, Contact, Coil, Block, Lower, Jump, Return}
+use Rattle.ladder_grid.specs.declared.cell.Cell.TheVariants.{Contact, Coil, Block}
 use Rattle.ladder_vars.specs.declared.kind.BlockKind.TheVariants.{Ton}
 use Rattle.ladder_scan.specs.declared.block.Stored.{Stored}
 use Rattle.ladder_scan.specs.Algebra.{Algebra}
 use Rattle.ladder_scan.specs.Truth.{plain}
 use Rattle.ladder_scan.specs.Routes.{Circuit, left_link}
 use Rattle.ladder_scan.specs.Blocks.{step, q_of, new_block}
-use Rattle.ladder_grid.specs.Program.{memory_in, block_in, is_block}
-use Rattle.ladder_scan.specs.Cells.{place_at, Diagram, Frame, Kept, at, put_in, var_in, memory_of, operand_value, closed, q_here, coil_value}
+use Rattle.ladder_grid.specs.Program.{block_in, is_block}
+use Rattle.ladder_scan.specs.Cells.{place_at, Diagram, Frame, Kept, at, put_in, var_in, memory_of, operand_value, stored_by, closed, q_here, coil_value}
 
 -- A lower cell without a link has OFF.
 abbrev pub lower : {S : Type 0} → Algebra S → Bool → S → S
@@ -83,25 +83,17 @@ pub record SameLengths (g h : Held) : Type 0 where
   pub memories : length g.kept.memories ≡ length h.kept.memories
   pub blocks : length g.kept.blocks ≡ length h.kept.blocks
 
--- What the memory of a cell becomes: of a contact, its operand's value at the rung's start, whatever its left link; of a coil, its link.
-abbrev pub remembered : Frame Bool → Bool → Cell → Bool
-remembered start x (Contact mode operand memory) = operand_value plain start operand
-remembered start x other = x
-
--- What the instance of a cell stores then: of a block, that of its step.
-abbrev pub stepped : Diagram → ℕ → Cell → Stored → Bool → Bool → Stored
-stepped d now (Block inst) s x y = step (d.kind inst) (d.preset inst) s x y now
-stepped d now other s x y = s
-
--- What a cell with left link x and second input y leaves, in a rung that began with the frame `start`.
+-- What a cell with left link x and second input y leaves, in a rung that began with the frame `start`: a contact remembers the value that
+-- its operand had then, whatever its left link; a coil writes its variable and remembers its link; a block makes its step.
 abbrev pub changed : Diagram → ℕ → Frame Bool → Cell → Bool → Bool → Held → Held
-changed d now start c x y h = record {
-  values = put_in h.values (var_in c) (coil_value plain c x (memory_of h.kept c) (at h.values (var_in c) false));
-  kept = record {
-    memories = put_in h.kept.memories (memory_in c) (remembered start x c);
-    blocks = put_in h.kept.blocks (block_in c) (stepped d now c (at h.kept.blocks (block_in c) (new_block Ton)) x y);
-  };
-}
+changed d now start (Contact mode operand memory) x y h = held h.values (put_in h.kept.memories memory (operand_value plain start operand)) h.kept.blocks
+changed d now start (Coil mode var memory) x y h =
+    let value = stored_by plain mode x (at h.kept.memories memory false) (get_or h.values var false) in
+    held (set h.values var value) (put_in h.kept.memories memory x) h.kept.blocks
+changed d now start (Block inst) x y h =
+    let stored = step (d.kind inst) (d.preset inst) (get_or h.kept.blocks inst (new_block Ton)) x y now in
+    held h.values h.kept.memories (set h.kept.blocks inst stored)
+changed d now start other x y h = h
 
 -- After the cells at the places below n.
 unfoldable pub changes : Diagram → ℕ → ℕ → Frame Bool → (ℕ → Bool) → ℕ → Held → Held

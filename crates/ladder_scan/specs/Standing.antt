@@ -8,7 +8,7 @@ use Rattle.ladder_grid.specs.Program.{Drawing, memories_of}
 use Rattle.ladder_scan.specs.declared.block.Stored.{Stored}
 use Rattle.ladder_scan.specs.declared.block.Stored.TheVariants.{Timer, Counter, Bistable}
 use Rattle.ladder_scan.specs.Blocks.{new_block}
-use Rattle.ladder_scan.specs.Rung.{Held}
+use Rattle.ladder_scan.specs.Rung.{Held, held}
 
 -- What a scan changes, the kind of each instance, and the moment of the last scan.
 pub record Standing : Type 0 where
@@ -22,10 +22,7 @@ kinds_of p = map (λ i. i.kind) p.decls.instances
 -- Before the first scan the variables have their initial values; all else is OFF or 0.
 abbrev pub fresh : Drawing → Standing
 fresh p = record {
-  held = record {
-    values = map (λ v. v.initial) p.decls.vars;
-    kept = record { memories = replicate (memories_of p) false; blocks = map (λ i. new_block i.kind) p.decls.instances };
-  };
+  held = held (map (λ v. v.initial) p.decls.vars) (replicate (memories_of p) false) (map (λ i. new_block i.kind) p.decls.instances);
   kinds = kinds_of p;
   moment = 0;
 }

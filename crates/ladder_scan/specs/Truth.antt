@@ -4,13 +4,7 @@ use Rattle.std.proofs.Common.{arith, sym}
 use Rattle.ladder_scan.specs.Algebra.{Algebra, LatticeLaws, AllowsLaws}
 
 abbrev pub plain : Algebra Bool
-plain = record {
-  known = λ b. b;
-  join = λ x y. x || y;
-  meet = λ x y. x && y;
-  inverse = λ x. not x;
-  choice = λ c x y. if c then x else y;
-}
+plain = record { known = λ b. b; join = λ x y. x || y; meet = λ x y. x && y; inverse = λ x. not x; choice = λ c x y. if c then x else y }
 
 abbrev pub AnyBool : Bool → Type 0
 AnyBool b = Unit {0}

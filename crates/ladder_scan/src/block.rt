@@ -1,11 +1,11 @@
 //! The steps of the standard function blocks.
 
-ghost use Rattle.std.specs.Prelude.{◌≡◌, ◌≤◌, ℕ, Bool};
+ghost use Rattle.std.specs.Prelude.{◌≡◌, ◌≤◌, ℕ, Bool, is_some};
 ghost use Rattle.ladder_vars.specs.declared.kind.BlockKind.TheVariants as kind;
-ghost use Rattle.ladder_vars.specs.Kind.{largest_preset};
+ghost use Rattle.ladder_vars.specs.Kind.{largest_preset, traits_of};
 ghost use Rattle.ladder_vars.specs.declared.limits.TheConstants.{LARGEST_COUNT};
 ghost use Rattle.ladder_scan.specs.declared.block.Stored.TheVariants.{Timer, Counter, Bistable};
-ghost use Rattle.ladder_scan.specs.Blocks.{step, q_of, new_block, has_second};
+ghost use Rattle.ladder_scan.specs.Blocks.{step, q_of, new_block};
 
 use ladder_vars::BlockKind::{self, Ctd, Ctu, Rs, Sr, Tof, Ton, Tp};
 
@@ -182,7 +182,7 @@ fn rs(q: bool, set: bool, reset: bool) -> Stored
 }
 
 pub(crate) fn has_second(kind: BlockKind) -> bool
-    ensures { result ≡ has_second kind }
+    ensures { result ≡ is_some (traits_of kind).second_input }
 {
     kind.traits().second_input.is_some()
 }

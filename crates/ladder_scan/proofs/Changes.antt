@@ -1,0 +1,38 @@
+-- What a cell changes, one part of the state after the other: its variable, its memory and its instance.
+use Rattle.std.proofs.Common.{◌≡◌, ℕ, Bool, false, refl}
+use Rattle.ladder_vars.specs.declared.kind.BlockKind.TheVariants.{Ton}
+use Rattle.ladder_grid.specs.declared.cell.Cell.{Cell}
+use Rattle.ladder_grid.specs.declared.cell.Cell.TheVariants.{Empty, Wire, Contact, Coil, Block, Lower, Jump, Return}
+use Rattle.ladder_grid.specs.Program.{memory_in, block_in}
+use Rattle.ladder_scan.specs.declared.block.Stored.{Stored}
+use Rattle.ladder_scan.specs.Blocks.{step, new_block}
+use Rattle.ladder_scan.specs.Truth.{plain}
+use Rattle.ladder_scan.specs.Cells.{Diagram, Frame, Kept, at, put_in, var_in, memory_of, operand_value, coil_value}
+use Rattle.ladder_scan.specs.Rung.{Held, held, changed}
+use Rattle.ladder_scan.proofs.Kept.{stored_of}
+
+-- what the memory of a cell becomes
+abbrev pub remembered : Frame Bool → Bool → Cell → Bool
+remembered start x (Contact mode operand memory) = operand_value plain start operand
+remembered start x other = x
+
+-- what the instance of a cell stores then
+abbrev pub stepped : Diagram → ℕ → Cell → Stored → Bool → Bool → Stored
+stepped d now (Block inst) s x y = step (d.kind inst) (d.preset inst) s x y now
+stepped d now other s x y = s
+
+abbrev pub changed_by : Diagram → ℕ → Frame Bool → Cell → Bool → Bool → Held → Held
+changed_by d now start c x y h =
+    held (put_in h.values (var_in c) (coil_value plain c x (memory_of h.kept c) (at h.values (var_in c) false)))
+    (put_in h.kept.memories (memory_in c) (remembered start x c))
+    (put_in h.kept.blocks (block_in c) (stepped d now c (stored_of h.kept c) x y))
+
+pub changed_is : (d : Diagram) (now : ℕ) (start : Frame Bool) (c : Cell) (x y : Bool) (h : Held) → changed d now start c x y h ≡ changed_by d now start c x y h
+changed_is d now start Empty x y h = refl
+changed_is d now start Wire x y h = refl
+changed_is d now start (Contact mode operand memory) x y h = refl
+changed_is d now start (Coil mode var memory) x y h = refl
+changed_is d now start (Block inst) x y h = refl
+changed_is d now start (Lower inst linked) x y h = refl
+changed_is d now start (Jump target) x y h = refl
+changed_is d now start Return x y h = refl
