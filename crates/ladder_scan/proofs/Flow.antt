@@ -1,11 +1,42 @@
 -- The left links of a column by those of the column before: the OR over routes, one column at a time.
 use Rattle.std.proofs.Common.{◌≡◌, ℕ, ◌+◌, ◌<◌, Bool, true, false, cond, List, [], ◌∷◌, ◌++◌, map, zero, suc, nat_eq, refl, sym, ap, ◌∙◌, arith}
-use Rattle.std.proofs.lemmas.List.{map-append}
+use Rattle.std.specs.Prelude.{filter, flat_map}
+use Rattle.std.specs.List.{range_with_len}
+use Rattle.std.proofs.lemmas.List.{map-append, append-nil}
+use Rattle.std.proofs.lemmas.List.Elements.{filter-append}
+use Rattle.std.proofs.lemmas.Grind.{flat_map-append}
 use Rattle.std.proofs.lemmas.Bool.Decides.{nat_tests}
 use Rattle.ladder_scan.specs.Algebra.{Algebra, LatticeLaws}
 use Rattle.ladder_scan.specs.Gating.{join_where}
-use Rattle.ladder_scan.specs.Routes.{gather, join_all, Route, rail, block_end, through, Circuit, routes, route_value, link_with, ends_below, left_link}
+use Rattle.ladder_scan.specs.Routes.{join_all, Route, rail, block_end, through, Circuit, routes, route_value, link_with, ends_below, left_link}
 use Rattle.ladder_scan.proofs.Joins.{join_all-value, join_all-append, join_all-meet}
+
+-- the lists f 0, f 1, .. and f (n - 1), joined end to end
+pub gather : {A : Type 0} → (ℕ → List A) → ℕ → List A
+gather f zero = []
+gather f (suc n) = gather f n ++ f n
+
+range_more : (a n : ℕ) → range_with_len a (suc n) ≡ range_with_len a n ++ (a + n) ∷ []
+range_more a zero = let same : a ≡ a + 0 = omega arith in ap (λ b. b ∷ []) same
+range_more a (suc n) =
+    let moved : a + 1 + n ≡ a + suc n = omega arith in
+    ap (λ xs. a ∷ xs) (range_more (a + 1) n ∙ ap (λ b. range_with_len (a + 1) n ++ b ∷ []) moved)
+
+single : {A : Type 0} (f : ℕ → List A) (b : Bool) (n : ℕ) → flat_map f (cond b (n ∷ []) []) ≡ cond b (f n) []
+single f true n = append-nil (f n)
+single f false n = refl
+
+-- the lists of the numbers below n that pass a test
+gather_is : {A : Type 0} (p : ℕ → Bool) (f : ℕ → List A) (n : ℕ) → flat_map f (filter p (range_with_len 0 n)) ≡ gather (λ q. cond (p q) (f q) []) n
+unfolding gather
+gather_is p f zero = refl
+gather_is p f (suc n) =
+    let last : 0 + n ≡ n = omega arith in
+    ap (λ xs. flat_map f (filter p xs)) (range_more 0 n ∙ ap (λ m. range_with_len 0 n ++ m ∷ []) last)
+    ∙ ap (flat_map f) (filter-append p (range_with_len 0 n) (n ∷ []))
+    ∙ flat_map-append f (filter p (range_with_len 0 n)) (filter p (n ∷ []))
+    ∙ ap (λ xs. flat_map f (filter p (range_with_len 0 n)) ++ xs) (single f (p n) n)
+    ∙ ap (λ xs. xs ++ cond (p n) (f n) []) (gather_is p f n)
 
 module _ {S : Type 0} (o : Algebra S) (V : S → Type 0) (l : LatticeLaws S V o) where
   off_right : (x : S) → V x → o.join x (o.known false) ≡ x
@@ -28,6 +59,10 @@ module _ {S : Type 0} (o : Algebra S) (V : S → Type 0) (l : LatticeLaws S V o)
 
   -- ---- routes into a column read blocks of earlier columns alone
   module _ (g : Circuit S) (closed_value : (row column : ℕ) → V (g.closed row column)) (q_value : (row column : ℕ) (x y : S) → V x → V y → V (g.q row column x y)) where
+    -- the routes up to the right link of a cell
+    abbrev onto : ℕ → ℕ → List Route
+    onto n q = cond (g.is_block q n) (block_end q n ∷ []) (map (λ w. through w q n) (routes g.feeds g.is_block q n))
+
     route-value : (e : ℕ → ℕ → S) → ((row column : ℕ) → V (e row column)) → (w : Route) → V (route_value o g e w)
     unfolding route_value
     route-value e ve rail = l.known_value true
@@ -69,9 +104,11 @@ module _ {S : Type 0} (o : Algebra S) (V : S → Type 0) (l : LatticeLaws S V o)
     unfolding routes route_value
     routes_same e d zero h row = refl
     routes_same e d (suc n) h row =
-        map_gather (route_value o g e) _ 6
+        ap (map (route_value o g e)) (gather_is (g.feeds row (suc n)) (onto n) 6)
+        ∙ map_gather (route_value o g e) _ 6
         ∙ gather_same _ _ (λ q. onto_same (g.feeds row (suc n) q) (g.is_block q n) e d q n (routes g.feeds g.is_block q n) (h q n (omega arith)) (routes_same e d n (λ r c k. h r c (omega arith)) q)) 6
         ∙ sym (map_gather (route_value o g d) _ 6)
+        ∙ sym (ap (map (route_value o g d)) (gather_is (g.feeds row (suc n)) (onto n) 6))
 
     ends_kept : (n row column : ℕ) → column < n → ends_below o g (suc n) row column ≡ ends_below o g n row column
     unfolding ends_below
@@ -96,4 +133,6 @@ module _ {S : Type 0} (o : Algebra S) (V : S → Type 0) (l : LatticeLaws S V o)
     -- what the code computes, one column after the other
     pub left_link-next : (row n : ℕ) → left_link o g row (suc n) ≡ join_where o (g.feeds row (suc n)) (λ q. cond (g.is_block q n) (g.q q n (left_link o g q n) (left_link o g (q + 1) n)) (o.meet (left_link o g q n) (g.closed q n))) 6
     unfolding routes
-    left_link-next row n = gathered (route_value o g (ends_below o g (suc n))) (route-value _ (ends-value (suc n))) (g.feeds row (suc n)) (λ q. cond (g.is_block q n) (block_end q n ∷ []) (map (λ w. through w q n) (routes g.feeds g.is_block q n))) _ (λ q. given (g.is_block q n) n q) 6
+    left_link-next row n =
+        ap (λ rs. join_all o (map (route_value o g (ends_below o g (suc n))) rs)) (gather_is (g.feeds row (suc n)) (onto n) 6)
+        ∙ gathered (route_value o g (ends_below o g (suc n))) (route-value _ (ends-value (suc n))) (g.feeds row (suc n)) (onto n) _ (λ q. given (g.is_block q n) n q) 6

@@ -1,5 +1,6 @@
 -- Power flow through one rung (IEC 61131-3): power flows from the left rail to the right, along routes. Rows and columns count from 0.
-use Rattle.std.specs.Prelude.{ℕ, ◌+◌, Bool, true, false, List, [], ◌∷◌, ◌++◌, map, if◌then◌else◌, ◌==◌}
+use Rattle.std.specs.Prelude.{ℕ, ◌+◌, Bool, true, false, List, [], ◌∷◌, map, filter, flat_map, if◌then◌else◌, ◌==◌}
+use Rattle.std.specs.List.{range_with_len}
 use Rattle.std.proofs.Common.{zero, suc}
 use Rattle.ladder_grid.specs.declared.geometry.TheConstants.{ROWS}
 use Rattle.ladder_scan.specs.Algebra.{Algebra}
@@ -19,11 +20,6 @@ pub record Circuit (S : Type 0) : Type 0 where
   pub closed : ℕ → ℕ → S
   pub q : ℕ → ℕ → S → S → S
 
--- The lists f 0, f 1, .. and f (n - 1), joined end to end.
-unfoldable pub gather : {A : Type 0} → (ℕ → List A) → ℕ → List A
-gather f zero = []
-gather f (suc n) = gather f n ++ f n
-
 -- All routes to the left link of the cell at a row and column: the rail in the first column, and otherwise those up to each right link
 -- of the column before that feeds it. Up to the right link of a cell there is the end of the block, where one is there, and otherwise
 -- each route to its left link with the cell added.
@@ -31,7 +27,7 @@ unfoldable pub routes : (ℕ → ℕ → ℕ → Bool) → (ℕ → ℕ → Bool
 routes feeds is_block row zero = rail ∷ []
 routes feeds is_block row (suc column) =
     let onto = λ (from : ℕ). if is_block from column then block_end from column ∷ [] else map (λ r. through r from column) (routes feeds is_block from column) in
-    gather (λ from. if feeds row (suc column) from then onto from else []) ROWS
+    flat_map onto (filter (feeds row (suc column)) (range_with_len 0 ROWS))
 
 -- The OR of a list.
 unfoldable pub join_all : {S : Type 0} → Algebra S → List S → S
