@@ -24,7 +24,7 @@ use Rattle.ladder_scan.specs.Rung.{Held, second, changes, frame_of, link_at, eva
 use Rattle.ladder_scan.specs.Scan.{next_rung}
 use Rattle.ladder_scan.specs.Programs.{IsSound}
 use Rattle.ladder_scan.specs.RungByRung.{Scanned, scanned}
-use Rattle.ladder_scan.specs.Standing.{fresh, kinds_of, IsPossible, AreSound, Shape, shape, shape_of}
+use Rattle.ladder_scan.specs.Standing.{fresh, kinds_of, IsPossible, AreSound, shape}
 use Rattle.ladder_scan.specs.RungByRung.{ArePossible}
 
 zero_fits : FitsSigned w16 (pos 0)
@@ -44,7 +44,7 @@ new_possible [] i = (omega arith, λ e. refl)
 new_possible (x ∷ xs) zero = new_one x.kind
 new_possible (x ∷ xs) (suc i) = new_possible xs i
 
-new_shape : (kind : BlockKind) → shape (new_block kind) ≡ shape_of kind
+new_shape : (kind : BlockKind) → shape (new_block kind) ≡ new_block kind
 new_shape Ton = refl
 new_shape Tof = refl
 new_shape Tp = refl
@@ -53,9 +53,9 @@ new_shape Ctd = refl
 new_shape Sr = refl
 new_shape Rs = refl
 
-new_shapes : (instances : List Instance) → map shape (map (λ i. new_block i.kind) instances) ≡ map shape_of (map (λ i. i.kind) instances)
+new_shapes : (instances : List Instance) → map shape (map (λ i. new_block i.kind) instances) ≡ map new_block (map (λ i. i.kind) instances)
 new_shapes [] = refl
-new_shapes (x ∷ xs) = ap₂ (λ (a : Shape) (l : List Shape). a ∷ l) (new_shape x.kind) (new_shapes xs)
+new_shapes (x ∷ xs) = ap₂ (λ (a : Stored) (l : List Stored). a ∷ l) (new_shape x.kind) (new_shapes xs)
 
 pub fresh_sound : (p : Drawing) (h : Held) (kinds : List BlockKind) → h ≡ (fresh p).held → kinds ≡ kinds_of p → AreSound kinds h.kept.blocks 0
 fresh_sound p h kinds e k =
@@ -160,18 +160,18 @@ set_possible now (b ∷ bs) (suc n) s h t (suc i) = set_possible now bs n s (λ 
 -- what stands in place of another of its shape
 set_shape : (bs : List Stored) (n : ℕ) (s : Stored) → shape s ≡ shape (get_or bs n (new_block Ton)) → map shape (set bs n s) ≡ map shape bs
 set_shape [] n s e = refl
-set_shape (b ∷ bs) zero s e = ap (λ (a : Shape). a ∷ map shape bs) e
-set_shape (b ∷ bs) (suc n) s e = ap (λ (l : List Shape). shape b ∷ l) (set_shape bs n s e)
+set_shape (b ∷ bs) zero s e = ap (λ (a : Stored). a ∷ map shape bs) e
+set_shape (b ∷ bs) (suc n) s e = ap (λ (l : List Stored). shape b ∷ l) (set_shape bs n s e)
 
-same_shape : (bs : List Stored) (kinds : List BlockKind) (n : ℕ) → map shape bs ≡ map shape_of kinds → shape (get_or bs n (new_block Ton)) ≡ shape_of (get_or kinds n Ton)
+same_shape : (bs : List Stored) (kinds : List BlockKind) (n : ℕ) → map shape bs ≡ map new_block kinds → shape (get_or bs n (new_block Ton)) ≡ new_block (get_or kinds n Ton)
 same_shape [] [] n e = refl
-same_shape [] (k ∷ kinds) n e = let bad : 0 ≡ suc (length (map shape_of kinds)) = ap length e in absurd (omega (arith, bad))
+same_shape [] (k ∷ kinds) n e = let bad : 0 ≡ suc (length (map new_block kinds)) = ap length e in absurd (omega (arith, bad))
 same_shape (b ∷ bs) [] n e = let bad : suc (length (map shape bs)) ≡ 0 = ap length e in absurd (omega (arith, bad))
 same_shape (b ∷ bs) (k ∷ kinds) zero e = cc
-same_shape (b ∷ bs) (k ∷ kinds) (suc n) e = let t : map shape bs ≡ map shape_of kinds = cc in same_shape bs kinds n t
+same_shape (b ∷ bs) (k ∷ kinds) (suc n) e = let t : map shape bs ≡ map new_block kinds = cc in same_shape bs kinds n t
 
-pub set_shapes : (bs : List Stored) (kinds : List BlockKind) (n : ℕ) (s : Stored) → map shape bs ≡ map shape_of kinds → shape s ≡ shape_of (get_or kinds n Ton)
-    → map shape (set bs n s) ≡ map shape_of kinds
+pub set_shapes : (bs : List Stored) (kinds : List BlockKind) (n : ℕ) (s : Stored) → map shape bs ≡ map new_block kinds → shape s ≡ new_block (get_or kinds n Ton)
+    → map shape (set bs n s) ≡ map new_block kinds
 set_shapes bs kinds n s e h = set_shape bs n s (h ∙ sym (same_shape bs kinds n e)) ∙ e
 
 cell_possible : (d : Diagram) → IsSound d → (now : ℕ) (k : Kept) (c : Cell) (x y : Bool) → ArePossible now k.blocks
@@ -246,4 +246,4 @@ pub after_sound : (m now : ℕ) (kinds : List BlockKind) (bs cs : List Stored) �
 after_sound m now kinds bs cs s h e f = record { shapes = e ∙ s.shapes; possible = f (later m now bs h s.possible) }
 
 pub as_many : (kinds : List BlockKind) (blocks : List Stored) (moment : ℕ) → AreSound kinds blocks moment → length blocks ≡ length kinds
-as_many kinds blocks moment s = sym (length-map blocks shape) ∙ ap length s.shapes ∙ length-map kinds shape_of
+as_many kinds blocks moment s = sym (length-map blocks shape) ∙ ap length s.shapes ∙ length-map kinds new_block

@@ -1,5 +1,5 @@
 -- The state that is kept from scan to scan.
-use Rattle.std.specs.Prelude.{◌≡◌, ℕ, ◌<◌, ◌≤◌, ◌^◌, Bool, false, List, length, map, replicate, FitsSigned}
+use Rattle.std.specs.Prelude.{◌≡◌, ℕ, ◌<◌, ◌≤◌, ◌^◌, Bool, false, List, length, map, replicate, FitsSigned, pos}
 use Rattle.std.specs.Int.{w16}
 use Rattle.std.proofs.Common.{get_or}
 use Rattle.ladder_vars.specs.declared.kind.BlockKind.{BlockKind}
@@ -33,19 +33,11 @@ pub record Fits (p : Drawing) (s : Standing) : Type 0 where
   pub memories : length s.held.kept.memories ≡ memories_of p
   pub kinds : s.kinds ≡ kinds_of p
 
--- What belongs to a kind of instance.
-pub data Shape : Type 0 where
-  timer : Shape
-  counter : Shape
-  bistable : Shape
-
-abbrev pub shape : Stored → Shape
-shape (Timer last running start q) = timer
-shape (Counter last cv q) = counter
-shape (Bistable q) = bistable
-
-abbrev pub shape_of : BlockKind → Shape
-shape_of kind = shape (new_block kind)
+-- What is stored with all that steps change at its beginning. What belongs to a kind of instance has the shape of a new block of the kind.
+abbrev pub shape : Stored → Stored
+shape (Timer last running start q) = Timer false false 0 false
+shape (Counter last cv q) = Counter false (pos 0) false
+shape (Bistable q) = Bistable false
 
 -- What can be stored at a moment: a timer that runs did not begin to after the moment, and one that does not has start 0;
 -- CV is a whole number of 16 bits.
@@ -56,12 +48,12 @@ IsPossible moment (Bistable q) = Unit {0}
 
 -- What an instance of this kind can store at this moment.
 pub record CanStore (kind : BlockKind) (moment : ℕ) (s : Stored) : Type 0 where
-  pub shape : shape s ≡ shape_of kind
+  pub shape : shape s ≡ new_block kind
   pub possible : IsPossible moment s
 
 -- Each instance stores what belongs to its kind, and what can be stored at the moment.
 pub record AreSound (kinds : List BlockKind) (blocks : List Stored) (moment : ℕ) : Type 0 where
-  pub shapes : map shape blocks ≡ map shape_of kinds
+  pub shapes : map shape blocks ≡ map new_block kinds
   pub possible : (i : ℕ) → IsPossible moment (get_or blocks i (new_block Ton))
 
 -- What holds of every state.

@@ -9,7 +9,7 @@ use Rattle.csv.specs.declared.reader.Reader.{Reader}
 use Rattle.ladder_records.specs.Left.{Fields, Left, TakesFirst}
 use Rattle.ladder_scan.specs.declared.block.Stored.{Stored}
 use Rattle.ladder_scan.specs.Blocks.{new_block}
-use Rattle.ladder_scan.specs.Standing.{CanStore, Standing, shape_of, with_blocks, with_memories, with_values}
+use Rattle.ladder_scan.specs.Standing.{CanStore, Standing, with_blocks, with_memories, with_values}
 use Rattle.ladder_state.specs.Parts.{IsRead, IsStuck, TakesItem, every, some}
 use Rattle.ladder_state.specs.StateText.{AreTold, each, has_record}
 use Rattle.ladder_state.specs.declared.version.Version.{Version}
@@ -205,12 +205,12 @@ get_some (a ∷ xs) zero x d e = cc
 get_some (a ∷ xs) (suc i) x d e = get_some xs i x d e
 
 -- a value that is set belongs to an item with a record
-pub told_set : (v : Version) (instances : List Instance) (ys zs : List Stored) (i : ℕ) (x : Instance) (y : Stored) → AreTold v instances ys → has_record v (shape_of x.kind) ≡ true
+pub told_set : (v : Version) (instances : List Instance) (ys zs : List Stored) (i : ℕ) (x : Instance) (y : Stored) → AreTold v instances ys → has_record v (new_block x.kind) ≡ true
     → x ≡ get_or instances i x → zs ≡ set ys i y → AreTold v instances zs
 told_set v instances ys zs i x y told holds e z = λ k j here lacks.
     let other : i ≢ k = λ same.
     let found : get_or instances i x ≡ j = ap (λ n. get_or instances n x) same ∙ get_some instances k j x here in
-    let bad : true ≡ false = sym holds ∙ ap (λ (n : Instance). has_record v (shape_of n.kind)) (e ∙ found) ∙ lacks in cc in
+    let bad : true ≡ false = sym holds ∙ ap (λ (n : Instance). has_record v (new_block n.kind)) (e ∙ found) ∙ lacks in cc in
     ap (λ l. slice_get l k) z ∙ set_other ys i k y other ∙ told k j here lacks
 
 -- before the first scan all is told

@@ -5,9 +5,10 @@ use Rattle.std.specs.Int.{w16}
 use Rattle.std.specs.Prelude.{FitsSigned, IfSome, None}
 use Rattle.csv.specs.Records.{field_at}
 use Rattle.ladder_records.specs.Left.{Fields}
+use Rattle.ladder_vars.specs.declared.kind.BlockKind.TheVariants.{Ton, Ctu, Sr}
+use Rattle.ladder_scan.specs.Blocks.{new_block}
 use Rattle.ladder_scan.specs.declared.block.Stored.{Stored}
 use Rattle.ladder_scan.specs.declared.block.Stored.TheVariants.{Timer, Counter, Bistable}
-use Rattle.ladder_scan.specs.Standing.{Shape, bistable, counter, timer}
 use Rattle.ladder_records.specs.Text.{bit_text}
 use Rattle.ladder_state.specs.Item.{is_on, IsBlockRecord}
 use Rattle.ladder_state.specs.StateText.{block_record}
@@ -44,17 +45,17 @@ pub record IsBistable (name : List ℕ) (fs : Fields) : Type 0 where
   pub q : Bool
   pub same : fs ≡ bistable_fields name q
 
-pub as_timer : (name : List ℕ) (moment : ℕ) (fs : Fields) (s : Stored) → IsBlockRecord name timer moment fs s → IsTimer name moment fs
+pub as_timer : (name : List ℕ) (moment : ℕ) (fs : Fields) (s : Stored) → IsBlockRecord name (new_block Ton) moment fs s → IsTimer name moment fs
 as_timer name moment fs (Timer l r n q) h = record { l = l; r = r; n = n; q = q; same = h.same; before = h.possible.0; stopped = h.possible.1 }
 as_timer name moment fs (Counter l z q) h = let bad = h.shape in cc
 as_timer name moment fs (Bistable q) h = let bad = h.shape in cc
 
-pub as_counter : (name : List ℕ) (moment : ℕ) (fs : Fields) (s : Stored) → IsBlockRecord name counter moment fs s → IsCounter name fs
+pub as_counter : (name : List ℕ) (moment : ℕ) (fs : Fields) (s : Stored) → IsBlockRecord name (new_block Ctu) moment fs s → IsCounter name fs
 as_counter name moment fs (Timer l r n q) h = let bad = h.shape in cc
 as_counter name moment fs (Counter l z q) h = record { l = l; z = z; q = q; same = h.same; fits = h.possible }
 as_counter name moment fs (Bistable q) h = let bad = h.shape in cc
 
-pub as_bistable : (name : List ℕ) (moment : ℕ) (fs : Fields) (s : Stored) → IsBlockRecord name bistable moment fs s → IsBistable name fs
+pub as_bistable : (name : List ℕ) (moment : ℕ) (fs : Fields) (s : Stored) → IsBlockRecord name (new_block Sr) moment fs s → IsBistable name fs
 as_bistable name moment fs (Timer l r n q) h = let bad = h.shape in cc
 as_bistable name moment fs (Counter l z q) h = let bad = h.shape in cc
 as_bistable name moment fs (Bistable q) h = record { q = q; same = h.same }
@@ -110,6 +111,6 @@ pub same_bistable : (name : List ℕ) (q q2 : Bool) (qt : List ℕ) → qt ≡ b
 same_bistable name q q2 qt a b = rw (a, b) refl
 
 -- what a record says at every moment it says at this one
-pub record_of : (o : Option Stored) (name : List ℕ) (wanted : Shape) (fs : Fields) → IfSome o (λ s. (moment : ℕ) → IsBlockRecord name wanted moment fs s) → IfSome o (λ s. fs ≡ block_record name s)
+pub record_of : (o : Option Stored) (name : List ℕ) (wanted : Stored) (fs : Fields) → IfSome o (λ s. (moment : ℕ) → IsBlockRecord name wanted moment fs s) → IfSome o (λ s. fs ≡ block_record name s)
 record_of None name wanted fs h = tt
 record_of (Some s) name wanted fs h = (h 0).same

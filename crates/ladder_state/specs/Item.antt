@@ -2,7 +2,7 @@
 use Rattle.std.specs.Prelude.{◌≡◌, ℕ, List, Option, Some, None, Bool, false, codes, bytes_eq}
 use Rattle.ladder_records.specs.Left.{Fields}
 use Rattle.ladder_scan.specs.declared.block.Stored.{Stored}
-use Rattle.ladder_scan.specs.Standing.{IsPossible, Shape, shape}
+use Rattle.ladder_scan.specs.Standing.{IsPossible, shape}
 use Rattle.ladder_state.specs.StateText.{block_record}
 
 abbrev pub is_on : Option (List ℕ) → Bool
@@ -10,7 +10,7 @@ is_on None = false
 is_on (Some field) = bytes_eq field (codes "1")
 
 -- the record says that an instance of this name and shape stores this, and it can at this moment
-pub record IsBlockRecord (name : List ℕ) (wanted : Shape) (moment : ℕ) (fields : Fields) (s : Stored) : Type 0 where
+pub record IsBlockRecord (name : List ℕ) (wanted : Stored) (moment : ℕ) (fields : Fields) (s : Stored) : Type 0 where
   pub same : fields ≡ block_record name s
   pub shape : shape s ≡ wanted
   pub possible : IsPossible moment s

@@ -4,8 +4,9 @@ use Rattle.std.specs.Borrow.{Bor}
 use Rattle.csv.specs.declared.reader.Reader.{Reader}
 use Rattle.ladder_records.specs.Left.{Fields, Left}
 use Rattle.ladder_vars.specs.declared.decls.Instance.{Instance}
+use Rattle.ladder_scan.specs.Blocks.{new_block}
 use Rattle.ladder_scan.specs.declared.block.Stored.{Stored}
-use Rattle.ladder_scan.specs.Standing.{CanStore, Standing, shape_of}
+use Rattle.ladder_scan.specs.Standing.{CanStore, Standing}
 use Rattle.ladder_grid.specs.Program.{Drawing}
 use Rattle.ladder_text.specs.declared.fault.TextFault.{TextFault}
 use Rattle.ladder_text.specs.declared.fault.TextFault.TheVariants as fault
@@ -17,7 +18,7 @@ abbrev pub CanHold : ℕ → Instance → Stored → Type 0
 CanHold moment i s = CanStore i.kind moment s
 
 abbrev pub tells : Version → Instance → Bool
-tells version i = has_record version (shape_of i.kind)
+tells version i = has_record version (new_block i.kind)
 
 abbrev pub block_item : Instance → Stored → Fields
 block_item i s = block_record i.name s

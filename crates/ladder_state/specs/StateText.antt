@@ -11,7 +11,7 @@ use Rattle.ladder_grid.specs.Program.{Drawing, cell_in, has_memory}
 use Rattle.ladder_scan.specs.declared.block.Stored.{Stored}
 use Rattle.ladder_scan.specs.declared.block.Stored.TheVariants.{Timer, Counter, Bistable}
 use Rattle.ladder_scan.specs.Blocks.{new_block}
-use Rattle.ladder_scan.specs.Standing.{Fits, IsStanding, Shape, Standing, bistable, counter, shape_of, timer}
+use Rattle.ladder_scan.specs.Standing.{Fits, IsStanding, Standing}
 use Rattle.ladder_state.specs.declared.version.Version.{Version}
 use Rattle.ladder_state.specs.declared.version.Version.TheVariants.{First, Second}
 
@@ -42,11 +42,9 @@ block_record name (Bistable q) = codes "bistable" ∷ name ∷ bit_text q ∷ []
 -- ---- what belongs to one variable, memory or instance
 
 -- Version 1 knows timers and counters alone.
-abbrev pub has_record : Version → Shape → Bool
-has_record First timer = true
-has_record First counter = true
-has_record First bistable = false
-has_record Second s = true
+abbrev pub has_record : Version → Stored → Bool
+has_record First (Bistable q) = false
+has_record version other = true
 
 abbrev pub var_records : Var → Bool → List Fields
 var_records var value = var_record var value ∷ []
@@ -55,7 +53,7 @@ abbrev pub memory_records : ℕ → Bool → List Fields
 memory_records place value = memory_record place value ∷ []
 
 abbrev pub block_records : Version → Instance → Stored → List Fields
-block_records version i s = if has_record version (shape_of i.kind) then block_record i.name s ∷ [] else []
+block_records version i s = if has_record version (new_block i.kind) then block_record i.name s ∷ [] else []
 
 -- ---- all of them
 
@@ -98,7 +96,7 @@ pub record IsStateOf (p : Drawing) (s : Standing) : Type 0 where
 -- An instance without a record in this version stores what it does before the first scan.
 abbrev pub AreTold : Version → List Instance → List Stored → Type 0
 AreTold version instances blocks =
-    (number : ℕ) (i : Instance) → slice_get instances number ≡ Some i → has_record version (shape_of i.kind) ≡ false
+    (number : ℕ) (i : Instance) → slice_get instances number ≡ Some i → has_record version (new_block i.kind) ≡ false
     → slice_get blocks number ≡ Some (new_block i.kind)
 
 -- The version tells all of the state: these are the records of it.

@@ -2,8 +2,10 @@
 ghost use Rattle.std.specs.Prelude.{◌≡◌, ◌≢◌, ◌<◌, ◌≤◌, ◌*◌, ◌^◌, ◌∷◌, [], ℕ, Bool, None, IfSome, false, true, codes};
 ghost use Rattle.csv.specs.Records.{field_at, fields_of};
 ghost use Rattle.ladder_grid.specs.declared.geometry.TheConstants.{PLACES, RUNGS};
+ghost use Rattle.ladder_vars.specs.declared.kind.BlockKind.TheVariants.{Ton, Ctu, Sr};
+ghost use Rattle.ladder_scan.specs.Blocks.{new_block};
 ghost use Rattle.ladder_scan.specs.declared.block.Stored.{Stored};
-ghost use Rattle.ladder_scan.specs.Standing.{bistable, counter, timer, CanStore};
+ghost use Rattle.ladder_scan.specs.Standing.{CanStore};
 ghost use Rattle.ladder_state.specs.Item.{is_on, IsBlockRecord};
 ghost use Rattle.ladder_state.specs.StateText.{block_record, memory_record, moment_record, var_record};
 
@@ -139,8 +141,8 @@ fn is_possible(running: bool, start: u64, moment: u64) -> bool
 }
 
 fn read_timer(name: &[u8], moment: u64, row: &ByteRecord) -> Option<Stored>
-    ensures some { IfSome result (λ s. IsBlockRecord name.now timer moment (fields_of row.now) s) }
-    ensures none { result ≡ None → (s : Stored) → IsBlockRecord name.now timer moment (fields_of row.now) s → ⊥ }
+    ensures some { IfSome result (λ s. IsBlockRecord name.now (new_block Ton) moment (fields_of row.now) s) }
+    ensures none { result ≡ None → (s : Stored) → IsBlockRecord name.now (new_block Ton) moment (fields_of row.now) s → ⊥ }
 {
     let Some(field) = row.get(4) else {
         return None;
@@ -171,8 +173,8 @@ fn read_timer(name: &[u8], moment: u64, row: &ByteRecord) -> Option<Stored>
 }
 
 fn read_counter(name: &[u8], row: &ByteRecord) -> Option<Stored>
-    ensures some { IfSome result (λ s. (moment : ℕ) → IsBlockRecord name.now counter moment (fields_of row.now) s) }
-    ensures none { result ≡ None → (moment : ℕ) (s : Stored) → IsBlockRecord name.now counter moment (fields_of row.now) s → ⊥ }
+    ensures some { IfSome result (λ s. (moment : ℕ) → IsBlockRecord name.now (new_block Ctu) moment (fields_of row.now) s) }
+    ensures none { result ≡ None → (moment : ℕ) (s : Stored) → IsBlockRecord name.now (new_block Ctu) moment (fields_of row.now) s → ⊥ }
 {
     let Some(field) = row.get(3) else {
         return None;
@@ -188,8 +190,8 @@ fn read_counter(name: &[u8], row: &ByteRecord) -> Option<Stored>
 }
 
 fn read_bistable(name: &[u8], row: &ByteRecord) -> Option<Stored>
-    ensures some { IfSome result (λ s. (moment : ℕ) → IsBlockRecord name.now bistable moment (fields_of row.now) s) }
-    ensures none { result ≡ None → (moment : ℕ) (s : Stored) → IsBlockRecord name.now bistable moment (fields_of row.now) s → ⊥ }
+    ensures some { IfSome result (λ s. (moment : ℕ) → IsBlockRecord name.now (new_block Sr) moment (fields_of row.now) s) }
+    ensures none { result ≡ None → (moment : ℕ) (s : Stored) → IsBlockRecord name.now (new_block Sr) moment (fields_of row.now) s → ⊥ }
 {
     let q = is_on(row, 2);
     if !is_bistable(name, bit_field(q), row) {

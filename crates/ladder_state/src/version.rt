@@ -1,7 +1,7 @@
 //! The versions of the state text.
 ghost use Rattle.std.specs.Prelude.{◌≡◌, ◌≢◌, None, IfSome};
 ghost use Rattle.csv.specs.Records.{fields_of};
-ghost use Rattle.ladder_scan.specs.Standing.{shape_of};
+ghost use Rattle.ladder_scan.specs.Blocks.{new_block};
 ghost use Rattle.ladder_state.specs.StateText.{has_record, version_record};
 ghost use Rattle.ladder_state.specs.declared.version.Version as version;
 
@@ -21,7 +21,7 @@ pub enum Version {
 impl Version {
     /// Whether an instance of this kind has a record.
     pub(crate) fn has_record(self, kind: BlockKind) -> bool
-        ensures { result ≡ has_record self (shape_of kind) }
+        ensures { result ≡ has_record self (new_block kind) }
     {
         match kind {
             BlockKind::Sr | BlockKind::Rs => self == Version::Second,
