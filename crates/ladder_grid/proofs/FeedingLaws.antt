@@ -17,7 +17,7 @@ use Rattle.ladder_grid.specs.Feeding.{right_link, enters, IsFed}
 use Rattle.ladder_grid.specs.Rules.{bad_wire_joint, bad_joint}
 use Rattle.ladder_grid.specs.PageRules.{PartBreaks}
 use Rattle.ladder_grid.specs.Program.{Drawing, takes_power, site_at, joined, feeds}
-use Rattle.ladder_grid.specs.Reading.{joint_of, numbered, cell_with, IsDrawn, IsProgram}
+use Rattle.ladder_grid.specs.Reading.{joint_of, cell_with, IsDrawn, IsProgram}
 use Rattle.ladder_grid.specs.Agreement.{SameGroups, SameFeeding, FeedsDashes, has_left_link, FeedsCells}
 
 off_on : false ≡ true → ⊥
@@ -264,7 +264,7 @@ form_dash chars form (inr (inr h)) wants = dashes_first h.before chars _ h.some_
 
 -- a cell with a left link has such a form
 form_wants : (n : ℕ) (form : Option Form) (name : Option Symbol) (above target : Option ℕ)
-    → has_left_link (numbered n (cell_with form name above target)) ≡ true → (f : Form) × (form ≡ Some f) × (wants_left f ≡ true)
+    → has_left_link (cell_with n form name above target) ≡ true → (f : Form) × (form ≡ Some f) × (wants_left f ≡ true)
 unfolding wants_left
 form_wants n None name above target h = absurd (off_on h)
 form_wants n (Some Empty) name above target h = absurd (off_on h)

@@ -19,7 +19,8 @@ use Rattle.ladder_vars.specs.declared.kind.Output.TheVariants as output
 use Rattle.ladder_grid.specs.declared.operand.Reference.{Reference}
 use Rattle.ladder_grid.specs.Operand.{named, referred, refer_to, ends_in, without_end, is_input_at, is_odd_on_coil, is_odd, instance_of, instance_on}
 use Rattle.ladder_grid.specs.Program.{Fits}
-use Rattle.ladder_grid.specs.Reading.{numbered, cell_with}
+use Rattle.ladder_grid.specs.Reading.{cell_with}
+use Rattle.ladder_grid.proofs.NumberLaws.{numbered}
 
 none_some : {A : Type 0} {x : A} → None ≡ Some x → ⊥
 none_some h = cc
@@ -105,21 +106,21 @@ or_false : (x y : Bool) → (x || y) ≡ false → y ≡ false
 or_false true y h = cc
 or_false false y h = h
 
-contact_fits : (decls : Declared) (m : Mode) (s : Symbol) (above target : Option ℕ) → SymbolFits decls s → Fits decls (cell_with (Some (Contact m)) (Some s) above target)
+contact_fits : (decls : Declared) (m : Mode) (s : Symbol) (above target : Option ℕ) → SymbolFits decls s → Fits decls (cell_with 0 (Some (Contact m)) (Some s) above target)
 contact_fits decls m (Var i) above target fits = fits
 contact_fits decls m (Instance i) above target fits = fits
 
 coil_fits : (decls : Declared) (m : CoilMode) (s : Symbol) (above target : Option ℕ) (o : Option Output) → SymbolFits decls s → is_odd_on_coil decls s o ≡ false
-    → Fits decls (cell_with (Some (Coil m)) (Some s) above target)
+    → Fits decls (cell_with 0 (Some (Coil m)) (Some s) above target)
 coil_fits decls m (Var i) above target o fits even = (fits, or_false (is_some o) (is_input_at (slice_get decls.vars i)) even)
 coil_fits decls m (Instance i) above target o fits even = tt
 
-block_fits : (decls : Declared) (kind : BlockKind) (s : Symbol) (above target : Option ℕ) → SymbolFits decls s → Fits decls (cell_with (Some (Block kind)) (Some s) above target)
+block_fits : (decls : Declared) (kind : BlockKind) (s : Symbol) (above target : Option ℕ) → SymbolFits decls s → Fits decls (cell_with 0 (Some (Block kind)) (Some s) above target)
 block_fits decls kind (Var i) above target fits = tt
 block_fits decls kind (Instance i) above target fits = fits
 
 pub cell_fits : (decls : Declared) (form : Option Form) (name : Option Reference) (above target : Option ℕ) → ((x : Reference) → name ≡ Some x → SymbolFits decls x.symbol)
-    → ((n : ℕ) → above ≡ Some n → n < length decls.instances) → is_odd decls form name ≡ false → Fits decls (cell_with form (option_map (λ (x : Reference). x.symbol) name) above target)
+    → ((n : ℕ) → above ≡ Some n → n < length decls.instances) → is_odd decls form name ≡ false → Fits decls (cell_with 0 form (option_map (λ (x : Reference). x.symbol) name) above target)
 cell_fits decls None name above target names over even = tt
 cell_fits decls (Some Empty) name above target names over even = tt
 cell_fits decls (Some Wire) name above target names over even = tt

@@ -30,14 +30,14 @@ use Rattle.ladder_grid.proofs.ShapeLaws.{torn}
 use Rattle.ladder_grid.specs.PageRules.{later, target_to, jump_label, PartBreaks, IsSoundPage, target_of}
 use Rattle.ladder_grid.specs.Program.{drawing, blank_site, memory_in, block_in, goes_to, has_memory, Fits, has_second, IsWellFormed}
 use Rattle.ladder_grid.specs.Geometry.{place}
-use Rattle.ladder_grid.specs.Reading.{numbered, cell_with, cell_drawn, site_drawn, memories_before}
+use Rattle.ladder_grid.specs.Reading.{cell_with, cell_drawn, site_drawn, memories_before}
 use Rattle.ladder_grid.specs.Geometry.{at_place}
 use Rattle.ladder_grid.specs.Build.{sites_of}
 use Rattle.ladder_grid.proofs.FitLaws.{SymbolFits, refer_fits, instance_fits, cell_fits, fits_numbered}
 use Rattle.ladder_grid.proofs.LowerLaws.{kind_second, lower_found, block_even}
 use Rattle.ladder_grid.proofs.ReadingOrder.{rung_of_place, row_of_place, column_of_place}
 use Rattle.ladder_grid.proofs.PlaceLaws.{length-all_places, first_places-at}
-use Rattle.ladder_grid.proofs.NumberLaws.{number_is, before_yes, before_more, count-sites}
+use Rattle.ladder_grid.proofs.NumberLaws.{numbered, drawn_numbered, number_is, before_yes, before_more, count-sites}
 
 none_some : {A : Type 0} {x : A} → None ≡ Some x → ⊥
 none_some h = cc
@@ -98,19 +98,19 @@ same_lower n (cell.Jump target) = refl
 same_lower n cell.Return = refl
 
 -- ---- what a drawn cell says of its form
-contact_no_block : (m : Mode) (s : Symbol) (above target : Option ℕ) → block_in (cell_with (Some (Contact m)) (Some s) above target) ≡ None
+contact_no_block : (m : Mode) (s : Symbol) (above target : Option ℕ) → block_in (cell_with 0 (Some (Contact m)) (Some s) above target) ≡ None
 contact_no_block m (Var number) above target = refl
 contact_no_block m (Instance number) above target = refl
 
-coil_no_block : (m : CoilMode) (s : Symbol) (above target : Option ℕ) → block_in (cell_with (Some (Coil m)) (Some s) above target) ≡ None
+coil_no_block : (m : CoilMode) (s : Symbol) (above target : Option ℕ) → block_in (cell_with 0 (Some (Coil m)) (Some s) above target) ≡ None
 coil_no_block m (Var number) above target = refl
 coil_no_block m (Instance number) above target = refl
 
-block_block : (kind : BlockKind) (s : Symbol) (above target : Option ℕ) → block_in (cell_with (Some (Block kind)) (Some s) above target) ≡ instance_of s
+block_block : (kind : BlockKind) (s : Symbol) (above target : Option ℕ) → block_in (cell_with 0 (Some (Block kind)) (Some s) above target) ≡ instance_of s
 block_block kind (Var number) above target = refl
 block_block kind (Instance inst) above target = refl
 
-drawn_block : (form : Option Form) (name : Option Reference) (above target : Option ℕ) → block_in (cell_with form (option_map (λ (x : Reference). x.symbol) name) above target) ≡ instance_on form name
+drawn_block : (form : Option Form) (name : Option Reference) (above target : Option ℕ) → block_in (cell_with 0 form (option_map (λ (x : Reference). x.symbol) name) above target) ≡ instance_on form name
 drawn_block None name above target = refl
 drawn_block (Some Empty) name above target = refl
 drawn_block (Some Wire) name above target = refl
@@ -130,7 +130,7 @@ drawn_block (Some Return) name above target = refl
 Goal : ℕ → Option Form → Option ℕ → ℕ → Type 0
 Goal rungs form target t = (leaps form ≡ true) × ((t ≡ rungs) ⊎ (target ≡ Some t))
 
-drawn_goal : (rungs t : ℕ) (form : Option Form) (name : Option Symbol) (above target : Option ℕ) → goes_to rungs (cell_with form name above target) ≡ Some t
+drawn_goal : (rungs t : ℕ) (form : Option Form) (name : Option Symbol) (above target : Option ℕ) → goes_to rungs (cell_with 0 form name above target) ≡ Some t
     → Goal rungs form target t
 unfolding Goal
 drawn_goal rungs t None name above target h = absurd (none_some h)
@@ -151,7 +151,7 @@ drawn_goal rungs t (Some (Jump label)) name above None h = absurd (none_some h)
 drawn_goal rungs t (Some (Jump label)) name above (Some to) h = (refl, inr h)
 drawn_goal rungs t (Some Return) name above target h = (refl, inl (some_same t rungs (sym h)))
 
-drawn_lower : (inst : ℕ) (form : Option Form) (name : Option Symbol) (above target : Option ℕ) → lower_in (cell_with form name above target) ≡ Some inst → above ≡ Some inst
+drawn_lower : (inst : ℕ) (form : Option Form) (name : Option Symbol) (above target : Option ℕ) → lower_in (cell_with 0 form name above target) ≡ Some inst → above ≡ Some inst
 unfolding lower_in
 drawn_lower inst None name above target h = absurd (none_some h)
 drawn_lower inst (Some Empty) name above target h = absurd (none_some h)
@@ -223,14 +223,15 @@ module _ (page : Page) (rungs : ℕ) (sites : List Site)
     at : i ≡ place rung row column
     holds : P rung row column
 
-  cell_is : (i : ℕ) → i < 60 * rungs → cell_i i ≡ numbered (memories_before page i) (at_place (cell_drawn page) i)
+  cell_is : (i : ℕ) → i < 60 * rungs → cell_i i ≡ numbered (memories_before page i) (at_place (cell_drawn page 0) i)
   unfolding cell_i
   cell_is i below =
       let within : i < 60 * length page.parts = omega (arith, below, count) in
       let here : place (i / 60) (i % 60 % 6) (i % 60 / 6) ≡ i = omega arith in
       ap (λ ss. (get_or ss i blank_site).cell) same
       ∙ ap (λ x. x.cell) (first_places-at (at_place (site_drawn page)) (60 * length page.parts) i blank_site within)
-      ∙ ap (λ n. numbered (memories_before page n) (at_place (cell_drawn page) i)) here
+      ∙ drawn_numbered page (memories_before page (place (i / 60) (i % 60 % 6) (i % 60 / 6))) (i / 60) (i % 60 % 6) (i % 60 / 6)
+      ∙ ap (λ n. numbered (memories_before page n) (at_place (cell_drawn page 0) i)) here
 
   past_end : (i : ℕ) → 60 * rungs ≤ i → cell_i i ≡ cell.Empty
   unfolding cell_i
@@ -242,7 +243,7 @@ module _ (page : Page) (rungs : ℕ) (sites : List Site)
   memory_is i number h =
       elim (cases_lt i (60 * rungs)) [
         | inl below ↦
-            let n = number_is (memories_before page i) number (at_place (cell_drawn page) i) (ap memory_in (sym (cell_is i below)) ∙ h) in
+            let n = number_is (memories_before page i) number (at_place (cell_drawn page 0) i) (ap memory_in (sym (cell_is i below)) ∙ h) in
             (below, n.0, before_yes page i n.1 ∙ ap (λ m. m + 1) n.0)
         | inr past ↦ absurd (none_some (ap memory_in (sym (past_end i past)) ∙ h))
       ]
@@ -268,7 +269,7 @@ module _ (page : Page) (rungs : ℕ) (sites : List Site)
 
   -- what a part of the cells says, that numbering doesn't change and that nothing has past the end
   stands : (f : Cell → Option ℕ) → ((n : ℕ) (c : Cell) → f (numbered n c) ≡ f c) → f cell.Empty ≡ None
-      → (i number : ℕ) → f (cell_i i) ≡ Some number → Stands i (λ k r c. f (cell_drawn page k r c) ≡ Some number)
+      → (i number : ℕ) → f (cell_i i) ≡ Some number → Stands i (λ k r c. f (cell_drawn page 0 k r c) ≡ Some number)
   stands f kept empty i number h =
       elim (cases_lt i (60 * rungs)) [
         | inl below ↦
@@ -284,7 +285,7 @@ module _ (page : Page) (rungs : ℕ) (sites : List Site)
               in_rung = row;
               in_row = column;
               at = is;
-              holds = sym (kept (memories_before page i) (at_place (cell_drawn page) i)) ∙ ap f (sym (cell_is i below)) ∙ h;
+              holds = sym (kept (memories_before page i) (at_place (cell_drawn page 0) i)) ∙ ap f (sym (cell_is i below)) ∙ h;
             }
         | inr past ↦
             let none : cell_i i ≡ cell.Empty = past_end i past in
@@ -494,10 +495,10 @@ module _ (page : Page) (rungs : ℕ) (sites : List Site)
       let rung : place k r c / 60 ≡ k = omega arith in
       let row : place k r c % 60 % 6 ≡ r = omega arith in
       let column : place k r c % 60 / 6 ≡ c = omega arith in
-      let drawn : block_in (cell_drawn page k r c) ≡ Some inst = drawn_block (form_at page k r c) (name_over page k r c) _ _ ∙ h in
-      let read : block_in (at_place (cell_drawn page) (place k r c)) ≡ Some inst = rw (rung, row, column) drawn in
+      let drawn : block_in (cell_drawn page 0 k r c) ≡ Some inst = drawn_block (form_at page k r c) (name_over page k r c) _ _ ∙ h in
+      let read : block_in (at_place (cell_drawn page 0) (place k r c)) ≡ Some inst = rw (rung, row, column) drawn in
       cell_is (place k r c) within
-      ∙ ap (numbered (memories_before page (place k r c))) (is_block (at_place (cell_drawn page) (place k r c)) inst read)
+      ∙ ap (numbered (memories_before page (place k r c))) (is_block (at_place (cell_drawn page 0) (place k r c)) inst read)
 
   under_block : (i inst : ℕ) (linked : Bool) → cell_i i ≡ cell.Lower inst linked
       → (1 ≤ i % 6) × (cell_i (i - 1) ≡ cell.Block inst)
@@ -553,7 +554,7 @@ module _ (page : Page) (rungs : ℕ) (sites : List Site)
             let rung : i / 60 < rungs = omega arith in
             let row : i % 60 % 6 < 6 = omega arith in
             let column : i % 60 / 6 < 10 = omega arith in
-            subst (Fits page.decls) (sym (cell_is i below)) (fits_numbered page.decls (memories_before page i) (at_place (cell_drawn page) i)
+            subst (Fits page.decls) (sym (cell_is i below)) (fits_numbered page.decls (memories_before page i) (at_place (cell_drawn page 0) i)
             (cell_fits page.decls _ _ _ _ (name_fits (i / 60) (i % 60 % 6) (i % 60 / 6)) (over_fits (i / 60) (i % 60 % 6) (i % 60 / 6))
             (never_odd (i / 60) (i % 60 % 6) (i % 60 / 6) rung row column)))
         | inr past ↦ subst (Fits page.decls) (sym (past_end i past)) tt
@@ -610,10 +611,10 @@ module _ (page : Page) (rungs : ℕ) (sites : List Site)
       let test : (r + 1 == 0) ≡ false = ne_eqb (r + 1) 0 (λ e. absurd (omega (arith, e))) in
       let up : r + 1 - 1 ≡ r = omega arith in
       let above : instance_above page k (r + 1) c ≡ Some inst = rw (test, up) here in
-      let drawn : cell_drawn page k (r + 1) c ≡ cell.Lower inst linked
-      = ap (λ f. cell_with f (option_map (λ x. x.symbol) (name_over page k (r + 1) c)) (instance_above page k (r + 1) c) (target_of (labels_of page.lines page.parts) k (form_at page k (r + 1) c))) form
-      ∙ ap (λ o. cell_with (Some (Lower q linked)) (option_map (λ x. x.symbol) (name_over page k (r + 1) c)) o (target_of (labels_of page.lines page.parts) k (form_at page k (r + 1) c))) above in
-      let read : at_place (cell_drawn page) (place k (r + 1) c) ≡ cell.Lower inst linked = rw (rung, row, column) drawn in
+      let drawn : cell_drawn page 0 k (r + 1) c ≡ cell.Lower inst linked
+      = ap (λ f. cell_with 0 f (option_map (λ x. x.symbol) (name_over page k (r + 1) c)) (instance_above page k (r + 1) c) (target_of (labels_of page.lines page.parts) k (form_at page k (r + 1) c))) form
+      ∙ ap (λ o. cell_with 0 (Some (Lower q linked)) (option_map (λ x. x.symbol) (name_over page k (r + 1) c)) o (target_of (labels_of page.lines page.parts) k (form_at page k (r + 1) c))) above in
+      let read : at_place (cell_drawn page 0) (place k (r + 1) c) ≡ cell.Lower inst linked = rw (rung, row, column) drawn in
       cell_is (place k (r + 1) c) within ∙ ap (numbered (memories_before page (place k (r + 1) c))) read
 
   has_lower : (i inst : ℕ) → cell_i i ≡ cell.Block inst → has_second (slice_get page.decls.instances inst) ≡ true

@@ -49,18 +49,12 @@ fn sites(
         let cell = cell_drawn(
             page,
             labels,
+            next,
             n / PLACES,
             n % PLACES % ROWS,
             n % PLACES / ROWS,
         );
-        sites.push(site_with(
-            page,
-            next,
-            cell,
-            n / PLACES,
-            n % PLACES % ROWS,
-            n % PLACES / ROWS,
-        ))?;
+        sites.push(site_with(page, cell, n / PLACES, n % PLACES % ROWS, n % PLACES / ROWS))?;
         next = after_memory(next, &cell);
     }
     Ok(sites)

@@ -7,7 +7,7 @@ ghost use Rattle.ladder_grid.specs.declared.geometry.TheConstants.{RUNGS, ROWS, 
 ghost use Rattle.ladder_grid.specs.ReadLines.{IsWithin};
 ghost use Rattle.ladder_grid.specs.Seen.{seen};
 ghost use Rattle.ladder_grid.specs.Page.{labels_of};
-ghost use Rattle.ladder_grid.specs.Reading.{contact_memory, coil_memory, numbered, cell_with, cell_drawn, joint_of, site_drawn};
+ghost use Rattle.ladder_grid.specs.Reading.{contact_memory, coil_memory, cell_with, cell_drawn, joint_of, site_drawn};
 
 use crate::cell::{Cell, CoilMode, Joint, Mode, Operand};
 use crate::feeding::right_link;
@@ -28,57 +28,57 @@ pub struct Site {
     pub vertical: bool,
 }
 
-fn contact_memory(mode: Mode) -> Option<usize>
-    ensures { result ≡ contact_memory mode }
+fn contact_memory(number: usize, mode: Mode) -> Option<usize>
+    ensures { result ≡ contact_memory number mode }
 {
     match mode {
         Mode::Plain | Mode::Negated => None,
-        Mode::Rising | Mode::Falling => Some(0),
+        Mode::Rising | Mode::Falling => Some(number),
     }
 }
 
-fn coil_memory(mode: CoilMode) -> Option<usize>
-    ensures { result ≡ coil_memory mode }
+fn coil_memory(number: usize, mode: CoilMode) -> Option<usize>
+    ensures { result ≡ coil_memory number mode }
 {
     match mode {
         CoilMode::Store | CoilMode::Inverse | CoilMode::Set | CoilMode::Reset => None,
-        CoilMode::Rising | CoilMode::Falling => Some(0),
+        CoilMode::Rising | CoilMode::Falling => Some(number),
     }
 }
 
-fn contact_on(mode: Mode, symbol: Symbol) -> Cell
-    ensures { result ≡ cell_with (Some (form.Contact mode)) (Some symbol) None None }
+fn contact_on(number: usize, mode: Mode, symbol: Symbol) -> Cell
+    ensures { result ≡ cell_with number (Some (form.Contact mode)) (Some symbol) None None }
 {
-    let memory = contact_memory(mode);
+    let memory = contact_memory(number, mode);
     match symbol {
-        Symbol::Var(number) => Cell::Contact {
+        Symbol::Var(var) => Cell::Contact {
             mode,
-            operand: Operand::Var(number),
+            operand: Operand::Var(var),
             memory,
         },
-        Symbol::Instance(number) => Cell::Contact {
+        Symbol::Instance(inst) => Cell::Contact {
             mode,
-            operand: Operand::Output(number),
+            operand: Operand::Output(inst),
             memory,
         },
     }
 }
 
-fn coil_on(mode: CoilMode, symbol: Symbol) -> Cell
-    ensures { result ≡ cell_with (Some (form.Coil mode)) (Some symbol) None None }
+fn coil_on(number: usize, mode: CoilMode, symbol: Symbol) -> Cell
+    ensures { result ≡ cell_with number (Some (form.Coil mode)) (Some symbol) None None }
 {
     match symbol {
         Symbol::Var(var) => Cell::Coil {
             mode,
             var,
-            memory: coil_memory(mode),
+            memory: coil_memory(number, mode),
         },
         Symbol::Instance(_) => Cell::Empty,
     }
 }
 
 fn block_on(symbol: Symbol) -> Cell
-    ensures { (kind : BlockKind) → result ≡ cell_with (Some (form.Block kind)) (Some symbol) None None }
+    ensures { (kind : BlockKind) → result ≡ cell_with 0 (Some (form.Block kind)) (Some symbol) None None }
 {
     match symbol {
         Symbol::Instance(inst) => Cell::Block { inst },
@@ -87,17 +87,18 @@ fn block_on(symbol: Symbol) -> Cell
 }
 
 fn cell_with(
+    number: usize,
     form: Option<Form>,
     name: Option<Symbol>,
     above: Option<usize>,
     target: Option<usize>,
 ) -> Cell
-    ensures { result ≡ cell_with form name above target }
+    ensures { result ≡ cell_with number form name above target }
 {
     match form {
         Some(Form::Wire) => Cell::Wire,
-        Some(Form::Contact(mode)) => name.map_or(Cell::Empty, |x| contact_on(mode, x)),
-        Some(Form::Coil(mode)) => name.map_or(Cell::Empty, |x| coil_on(mode, x)),
+        Some(Form::Contact(mode)) => name.map_or(Cell::Empty, |x| contact_on(number, mode, x)),
+        Some(Form::Coil(mode)) => name.map_or(Cell::Empty, |x| coil_on(number, mode, x)),
         Some(Form::Block(_)) => name.map_or(Cell::Empty, |x| block_on(x)),
         Some(Form::Lower(_, linked)) => {
             above.map_or(Cell::Empty, |inst| Cell::Lower { inst, linked })
@@ -108,10 +109,11 @@ fn cell_with(
     }
 }
 
-/// The cell at a place, its memory not numbered yet.
+/// The cell at a place; `number` is that of the next memory.
 pub(crate) fn cell_drawn(
     page: PageView<'_, '_>,
     labels: &[Option<Name>],
+    number: usize,
     rung: usize,
     row: usize,
     column: usize,
@@ -121,10 +123,11 @@ pub(crate) fn cell_drawn(
     requires known { labels.now ≡ labels_of (map (λ l. l.now) page.lines.now) page.parts.now }
     requires rows { row < ROWS }
     requires columns { column < COLUMNS }
-    ensures { result ≡ cell_drawn (seen page.entry) rung row column }
+    ensures { result ≡ cell_drawn (seen page.entry) number rung row column }
 {
     let form = form_at(page, rung, row, column);
     cell_with(
+        number,
         form,
         name_over(page, rung, row, column).map(|name| name.symbol),
         instance_above(page, rung, row, column),
@@ -143,42 +146,9 @@ fn joint_of(b: u8) -> Joint
     }
 }
 
-fn numbered(number: usize, cell: Cell) -> Cell
-    ensures { result ≡ numbered number cell }
-{
-    match cell {
-        Cell::Contact {
-            mode,
-            operand,
-            memory: Some(_),
-        } => Cell::Contact {
-            mode,
-            operand,
-            memory: Some(number),
-        },
-        Cell::Coil {
-            mode,
-            var,
-            memory: Some(_),
-        } => Cell::Coil {
-            mode,
-            var,
-            memory: Some(number),
-        },
-        Cell::Contact { memory: None, .. } | Cell::Coil { memory: None, .. } => cell,
-        Cell::Empty
-        | Cell::Wire
-        | Cell::Block { .. }
-        | Cell::Lower { .. }
-        | Cell::Jump { .. }
-        | Cell::Return => cell,
-    }
-}
-
-/// What is at a place that has this cell; `number` is that of the next memory.
+/// What is at a place that has this cell.
 pub(crate) fn site_with(
     page: PageView<'_, '_>,
-    number: usize,
     cell: Cell,
     rung: usize,
     row: usize,
@@ -187,10 +157,10 @@ pub(crate) fn site_with(
     requires rungs { rung < length page.parts.now }
     requires rows { row < ROWS }
     requires columns { column < COLUMNS }
-    ensures { result ≡ record (site_drawn (seen page.entry) rung row column) { cell = numbered number cell } }
+    ensures { result ≡ record (site_drawn (seen page.entry) rung row column) { cell = cell } }
 {
     Site {
-        cell: numbered(number, cell),
+        cell,
         right_link: right_link(page, rung, row, column),
         joint: joint_of(joint(rung_at(page, rung), row, column)),
         vertical: vertical(rung_at(page, rung), row, column),

@@ -24,7 +24,7 @@ use Rattle.ladder_scan.specs.Rung.{Held, second, changes, frame_of, link_at, eva
 use Rattle.ladder_scan.specs.Scan.{next_rung}
 use Rattle.ladder_scan.specs.Programs.{IsSound}
 use Rattle.ladder_scan.specs.RungByRung.{Scanned, scanned}
-use Rattle.ladder_scan.specs.Standing.{fresh, kinds_of, IsPossible, AreSound, shape}
+use Rattle.ladder_scan.specs.Standing.{fresh, IsPossible, AreSound, shape}
 use Rattle.ladder_scan.specs.RungByRung.{ArePossible}
 
 zero_fits : FitsSigned w16 (pos 0)
@@ -57,7 +57,7 @@ new_shapes : (instances : List Instance) → map shape (map (λ i. new_block i.k
 new_shapes [] = refl
 new_shapes (x ∷ xs) = ap₂ (λ (a : Stored) (l : List Stored). a ∷ l) (new_shape x.kind) (new_shapes xs)
 
-pub fresh_sound : (p : Drawing) (h : Held) (kinds : List BlockKind) → h ≡ (fresh p).held → kinds ≡ kinds_of p → AreSound kinds h.kept.blocks 0
+pub fresh_sound : (p : Drawing) (h : Held) (kinds : List BlockKind) → h ≡ (fresh p).held → kinds ≡ map (λ i. i.kind) p.decls.instances → AreSound kinds h.kept.blocks 0
 fresh_sound p h kinds e k =
     let b : h.kept.blocks ≡ map (λ i. new_block i.kind) p.decls.instances = ap (λ (x : Held). x.kept.blocks) e in
     record {

@@ -16,14 +16,11 @@ pub record Standing : Type 0 where
   pub kinds : List BlockKind
   pub moment : ℕ
 
-abbrev pub kinds_of : Drawing → List BlockKind
-kinds_of p = map (λ i. i.kind) p.decls.instances
-
 -- Before the first scan the variables have their initial values; all else is OFF or 0.
 abbrev pub fresh : Drawing → Standing
 fresh p = record {
   held = held (map (λ v. v.initial) p.decls.vars) (replicate (memories_of p) false) (map (λ i. new_block i.kind) p.decls.instances);
-  kinds = kinds_of p;
+  kinds = map (λ i. i.kind) p.decls.instances;
   moment = 0;
 }
 
@@ -31,7 +28,7 @@ fresh p = record {
 pub record Fits (p : Drawing) (s : Standing) : Type 0 where
   pub values : length s.held.values ≡ length p.decls.vars
   pub memories : length s.held.kept.memories ≡ memories_of p
-  pub kinds : s.kinds ≡ kinds_of p
+  pub kinds : s.kinds ≡ map (λ i. i.kind) p.decls.instances
 
 -- What is stored with all that steps change at its beginning. What belongs to a kind of instance has the shape of a new block of the kind.
 abbrev pub shape : Stored → Stored

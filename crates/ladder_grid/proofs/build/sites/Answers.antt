@@ -4,31 +4,32 @@ use Rattle.ladder_grid.specs.declared.site.Site.{Site}
 use Rattle.ladder_grid.specs.Page.{Page}
 use Rattle.ladder_grid.specs.Program.{has_memory}
 use Rattle.ladder_grid.specs.Geometry.{place}
-use Rattle.ladder_grid.specs.Reading.{cell_drawn, numbered, site_drawn, memories_before}
+use Rattle.ladder_grid.specs.Reading.{cell_drawn, site_drawn, memories_before}
 use Rattle.ladder_grid.specs.Geometry.{at_place}
 use Rattle.ladder_grid.specs.Seen.{seen}
 use Rattle.ladder_grid.proofs.PlaceLaws.{no_place_yet, one_place_more}
+use Rattle.ladder_grid.proofs.NumberLaws.{drawn_test}
 use Rattle.ladder_grid.proofs.build.sites.Goals as goal
 
 none_before : (page : Page) → 0 ≡ memories_before page 0
 unfolding memories_before
 none_before page = refl
 
-abbrev site_with : (page : Page) (number : ℕ) (cell : Cell) (k r c : ℕ) → Site
-site_with page number cell k r c = record (site_drawn page k r c) { cell = numbered number cell }
+abbrev site_with : (page : Page) (cell : Cell) (k r c : ℕ) → Site
+site_with page cell k r c = record (site_drawn page k r c) { cell = cell }
 
-site_is : (page : Page) (n next : ℕ) (cell : Cell) → next ≡ memories_before page n → cell ≡ at_place (cell_drawn page) n
-    → at_place (site_with page next cell) n ≡ at_place (site_drawn page) n
+site_is : (page : Page) (n next : ℕ) (cell : Cell) → next ≡ memories_before page n → cell ≡ at_place (cell_drawn page next) n
+    → at_place (site_with page cell) n ≡ at_place (site_drawn page) n
 site_is page n next cell number is =
     let here : place (n / 60) (n % 60 % 6) (n % 60 / 6) ≡ n = omega arith in
-    ap (λ m. at_place (site_with page m cell) n) (number ∙ ap (memories_before page) (sym here))
-    ∙ ap (λ c. at_place (site_with page (memories_before page (place (n / 60) (n % 60 % 6) (n % 60 / 6))) c) n) is
+    ap (λ c. at_place (site_with page c) n) (is ∙ ap (λ m. at_place (cell_drawn page m) n) (number ∙ ap (memories_before page) (sym here)))
 
-next_is : (page : Page) (n next after : ℕ) (cell : Cell) → next ≡ memories_before page n → cell ≡ at_place (cell_drawn page) n
+next_is : (page : Page) (n next after : ℕ) (cell : Cell) → next ≡ memories_before page n → cell ≡ at_place (cell_drawn page next) n
     → after ≡ (if has_memory cell then next + 1 else next) → after ≡ memories_before page (n + 1)
 unfolding memories_before
 next_is page n next after cell number is value =
-    let same : (if has_memory cell then next + 1 else next) ≡ memories_before page (suc n) = rw (number, is) refl in
+    let test : has_memory cell ≡ has_memory (at_place (cell_drawn page 0) n) = ap has_memory is ∙ drawn_test page next (n / 60) (n % 60 % 6) (n % 60 / 6) in
+    let same : (if has_memory cell then next + 1 else next) ≡ memories_before page (suc n) = rw (test, number) refl in
     value ∙ same ∙ ap (memories_before page) (sym (add-one n))
 
 pub loop-n-init : goal.loop-n-init
