@@ -12,8 +12,8 @@ use Rattle.ladder_grid.specs.declared.cell.CoilMode.TheVariants as coil
 use Rattle.ladder_grid.specs.declared.cell.Operand.{Operand}
 use Rattle.ladder_grid.specs.declared.cell.Operand.TheVariants.{Var, Output}
 use Rattle.ladder_grid.specs.declared.cell.Cell.{Cell}
-use Rattle.ladder_grid.specs.declared.cell.Cell.TheVariants.{Empty, Wire, Contact, Coil, Block, Lower, Jump, Return}
-use Rattle.ladder_grid.specs.Program.{memory_in, block_in}
+use Rattle.ladder_grid.specs.declared.cell.Cell.TheVariants.{Wire, Contact, Coil, Block}
+use Rattle.ladder_grid.specs.Program.{memory_in}
 use Rattle.ladder_scan.specs.declared.block.Stored.{Stored}
 use Rattle.ladder_scan.specs.Algebra.{Algebra}
 use Rattle.ladder_scan.specs.Blocks.{step, q_of, new_block}

@@ -1,5 +1,5 @@
 -- A program as the scan sees it, and what reading it has made sure of.
-use Rattle.std.specs.Prelude.{◌≡◌, ℕ, ◌+◌, ◌%◌, ◌<◌, ◌≤◌, Bool, true, not, if◌then◌else◌, ◌&&◌, map, nat_lt, Option, Some, option_map, unwrap_or, slice_get}
+use Rattle.std.specs.Prelude.{◌≡◌, ℕ, ◌+◌, ◌%◌, ◌<◌, ◌≤◌, Bool, true, not, if◌then◌else◌, ◌&&◌, map, nat_lt, Some, option_map, unwrap_or, slice_get}
 use Rattle.ladder_vars.specs.declared.kind.BlockKind.TheVariants.{Ton}
 use Rattle.ladder_vars.specs.Decls.{is_input}
 use Rattle.ladder_vars.specs.Kind.{largest_preset}
