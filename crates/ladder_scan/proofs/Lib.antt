@@ -14,6 +14,7 @@ pub mod Sound
 pub mod Groups
 pub mod GateLaws
 pub mod Acting
+pub mod StepWise
 pub mod Exits
 pub mod Possible
 pub mod Giving

@@ -32,7 +32,7 @@ fn stored_by<S: Signal>(mode: CoilMode, link: S, memory: S, old: S) -> S
 
 /// What one action writes, over any signal, under the guard of its rung. Out of line; see `effect`.
 #[inline(never)]
-fn any_effect<S: Signal>(
+pub(crate) fn any_effect<S: Signal>(
     storage: &Storage,
     guard: S,
     links: &[S],

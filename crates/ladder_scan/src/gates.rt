@@ -64,7 +64,7 @@ fn q_after(
     step(kind, preset, stored, first, second, now).q()
 }
 
-fn q_from<S: Signal>(
+pub(crate) fn q_from<S: Signal>(
     kind: BlockKind,
     preset: u32,
     stored: Stored,
@@ -91,7 +91,7 @@ fn q_from<S: Signal>(
 }
 
 /// What a cell lets through by itself, by its left link and its second input.
-fn through_cell<S: Signal>(
+pub(crate) fn through_cell<S: Signal>(
     scene: Scene<'_>,
     storage: &Storage,
     seen: &Signals<S>,

@@ -109,7 +109,7 @@ fn under<S: Signal>(leap: Leap, taken: &[S], rung: usize, all: S) -> S
 
 /// The AND, over the earlier rungs with a jump past the rung, of NOT that this jump is taken.
 #[tactic(auto, using(crate::proofs::Exits::guard_step))]
-fn guard_by<S: Signal>(leaps: &[Leap], taken: &[S], rung: usize) -> S
+pub(crate) fn guard_by<S: Signal>(leaps: &[Leap], taken: &[S], rung: usize) -> S
     ensures { result ≡ guard_by S.algebra taken.now rung leaps.now (S.algebra.known true) }
 {
     let mut all = S::known(true);

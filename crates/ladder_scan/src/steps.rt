@@ -1,0 +1,232 @@
+//! A look over any signal, step by step.
+
+ghost use Rattle.std.specs.Prelude.{◌≡◌, ◌<◌, ◌+◌, length, slice_index_or, slice_set, false, true, All};
+ghost use Rattle.ladder_vars.specs.Kind.{largest_preset};
+ghost use Rattle.ladder_grid.specs.declared.geometry.TheConstants.{PLACES};
+ghost use Rattle.ladder_grid.specs.declared.gates.TheConstants.{OFF, OWN, LINKS};
+ghost use Rattle.ladder_grid.specs.Gates.{leaps_below};
+ghost use Rattle.ladder_scan.specs.Cells.{no_block, q_from};
+ghost use Rattle.ladder_scan.specs.Programs.{diagram_of, IsSound};
+ghost use Rattle.ladder_scan.specs.Gating.{among, own, acted, guard_by};
+ghost use Rattle.ladder_scan.specs.Stepping.{keeping, passing, storing, links_after, frame_after, taken_after, guard_after, going, all_gone, IsWithin};
+
+use crate::effects::any_effect;
+use crate::gates::{link_at, q_from, through_cell};
+use crate::looking::guard_by;
+use crate::scene::{Scene, cell, instance};
+use crate::signal::Signal;
+use crate::signals::Signals;
+use crate::storage::Storage;
+use ladder_grid::Program;
+use ladder_grid::gates::{Action, LINKS, Leap, OFF, OWN};
+use ladder_grid::steps::Step;
+
+/// What a look goes by, and leaves as it is.
+#[derive(Clone, Copy)]
+pub(crate) struct Base<'a> {
+    pub program: &'a Program,
+    pub storage: &'a Storage,
+    pub now: u64,
+}
+
+/// Keeps what a gate lets through, which other gates see at its place.
+fn pass<S: Signal>(links: &mut [S], place: u8, other: u8, through: S)
+    requires links { length links.old ≡ LINKS }
+    requires place { place < PLACES }
+    requires other { other < OWN }
+    ensures { links.new ≡ passing S.algebra links.old place other through }
+{
+    links[place as usize] = through.or(links[other as usize]);
+}
+
+/// Keeps besides what its cell alone lets through.
+fn keep<S: Signal>(links: &mut [S], place: u8, other: u8, through: S)
+    requires links { length links.old ≡ LINKS }
+    requires place { place < PLACES }
+    requires other { other < OWN }
+    ensures { links.new ≡ keeping S.algebra links.old place other through }
+{
+    let all = through.or(links[other as usize]);
+    links[OWN + place as usize] = through;
+    links[place as usize] = all;
+}
+
+/// The Q of a block in this evaluation, by its inputs. Out of line, for it is rare.
+#[inline(never)]
+fn block_q<S: Signal>(base: Base<'_>, inst: usize, first: S, second: S) -> S
+    requires program { IsSound (diagram_of base.program.now) }
+    ensures { result ≡ q_from S.algebra ((diagram_of base.entry.program.now).kind inst) ((diagram_of base.entry.program.now).preset inst)
+        (slice_index_or base.entry.storage.now.kept.blocks inst no_block) base.entry.now first second }
+{
+    let (kind, preset) = instance(base.program, inst);
+    q_from(kind, preset, base.storage.stored(inst), base.now, first, second)
+}
+
+/// What any cell lets through.
+#[inline(never)]
+fn own<S: Signal>(base: Base<'_>, seen: &Signals<S>, rung: usize, place: usize, left: S, below: S) -> S
+    requires program { IsSound (diagram_of base.program.now) }
+    requires rung { rung < base.program.now.rungs }
+    requires place { place < PLACES }
+    ensures { result ≡ own S.algebra (diagram_of base.entry.program.now) base.entry.storage.now.kept base.entry.now seen.now
+        ((diagram_of base.entry.program.now).cell rung place) left below }
+{
+    let scene = Scene {
+        program: base.program,
+        now: base.now,
+        rung,
+    };
+    let cell = cell(base.program, rung, place);
+    through_cell(scene, base.storage, seen, cell, left, below)
+}
+
+/// The links after a gate that isn't a plain contact.
+fn any_gate<S: Signal>(base: Base<'_>, step: Step, seen: &Signals<S>, links: &mut [S])
+    requires program { IsSound (diagram_of base.program.now) }
+    requires step { IsWithin base.program.now.rungs step }
+    requires links { length links.old ≡ LINKS }
+    ensures { links.new ≡ links_after S.algebra base.entry.program.now base.entry.storage.now.kept base.entry.now seen.now step links.old }
+{
+    match step {
+        Step::Is { place, left, other, var } => {
+            let through = links[left as usize].and(link_at(&seen.values, var as usize));
+            pass(links, place, other, through);
+        }
+        Step::Not { place, left, other, var } => {
+            let through = links[left as usize].and(link_at(&seen.values, var as usize).not());
+            pass(links, place, other, through);
+        }
+        Step::Wire { place, left, other } => {
+            let through = links[left as usize].and(S::known(true));
+            keep(links, place, other, through);
+        }
+        Step::Rising { place, left, other, var, memory } => {
+            let value = link_at(&seen.values, var as usize);
+            let memory = S::known(base.storage.memory_at(memory as usize));
+            let through = links[left as usize].and(value.and(memory.not()));
+            keep(links, place, other, through);
+        }
+        Step::Falling { place, left, other, var, memory } => {
+            let value = link_at(&seen.values, var as usize);
+            let memory = S::known(base.storage.memory_at(memory as usize));
+            let through = links[left as usize].and(value.not().and(memory));
+            keep(links, place, other, through);
+        }
+        Step::Block { place, left, below, other, inst } => {
+            let first = links[left as usize];
+            let second = links[below as usize];
+            keep(links, place, other, block_q(base, inst as usize, first, second));
+        }
+        Step::Own { rung, place, left, below, other } => {
+            let first = links[left as usize];
+            let second = links[below as usize];
+            let through = own(base, seen, rung as usize, place as usize, first, second);
+            keep(links, place, other, through);
+        }
+        Step::Store { .. } | Step::Set { .. } | Step::Reset { .. } | Step::End { .. } | Step::Act { .. } | Step::Leave { .. } | Step::Turn { .. } => {}
+    }
+}
+
+/// Writes what a coil would write to a variable.
+fn store<S: Signal>(seen: &mut Signals<S>, guard: S, var: u16, new: S)
+    ensures { seen.new ≡ storing S.algebra guard var new seen.old }
+{
+    let old = seen.value(var as usize);
+    seen.put_value(var as usize, S::choose(guard, new, old));
+}
+
+/// What any cell writes.
+#[inline(never)]
+fn act<S: Signal>(base: Base<'_>, guard: S, links: &[S], rung: u8, place: u8, left: u8, seen: &mut Signals<S>)
+    requires program { IsSound (diagram_of base.program.now) }
+    requires rung { rung < base.program.now.rungs }
+    requires place { place < PLACES }
+    requires left { left < OWN }
+    requires links { length links.now ≡ LINKS }
+    ensures { seen.new ≡ acted S.algebra base.entry.storage.now.kept guard links.now
+        (record { cell = (diagram_of base.entry.program.now).cell rung place; place = place; left = left; below = OFF }) seen.old }
+{
+    let action = Action {
+        cell: cell(base.program, rung as usize, place as usize),
+        place,
+        left,
+        below: OFF as u8,
+    };
+    any_effect(base.storage, guard, links, &action, seen);
+}
+
+/// The values and Qs after a step that writes.
+fn write<S: Signal>(base: Base<'_>, step: Step, guard: S, links: &[S], seen: &mut Signals<S>)
+    requires program { IsSound (diagram_of base.program.now) }
+    requires step { IsWithin base.program.now.rungs step }
+    requires links { length links.now ≡ LINKS }
+    ensures { seen.new ≡ frame_after S.algebra base.entry.program.now base.entry.storage.now.kept guard links.now step seen.old }
+{
+    match step {
+        Step::Store { left, var } => store(seen, guard, var, links[left as usize]),
+        Step::Set { left, var } => {
+            let old = seen.value(var as usize);
+            store(seen, guard, var, S::choose(links[left as usize], S::known(true), old));
+        }
+        Step::Reset { left, var } => {
+            let old = seen.value(var as usize);
+            store(seen, guard, var, S::choose(links[left as usize], S::known(false), old));
+        }
+        Step::End { place, inst } => {
+            let old = seen.end(inst as usize);
+            seen.put_end(inst as usize, S::choose(guard, links[OWN + place as usize], old));
+        }
+        Step::Act { rung, place, left } => act(base, guard, links, rung, place, left, seen),
+        Step::Is { .. } | Step::Not { .. } | Step::Wire { .. } | Step::Rising { .. } | Step::Falling { .. } | Step::Block { .. } | Step::Own { .. } | Step::Leave { .. } | Step::Turn { .. } => {}
+    }
+}
+
+/// Whether jumps are taken, after a step that may take one.
+fn leave<S: Signal>(step: Step, rungs: usize, guard: S, links: &[S], taken: &mut [S])
+    requires step { IsWithin rungs step }
+    requires links { length links.now ≡ LINKS }
+    requires taken { length taken.old ≡ rungs }
+    ensures { taken.new ≡ taken_after S.algebra guard links.now step taken.old }
+{
+    if let Step::Leave { rung, left } = step {
+        taken[rung as usize] = guard.and(links[left as usize]);
+    }
+}
+
+/// The guard after a step at which it may change.
+fn turn<S: Signal>(program: &Program, step: Step, guard: S, taken: &[S]) -> S
+    ensures { result ≡ guard_after S.algebra program.now taken.now step guard }
+{
+    if let Step::Turn { rung } = step {
+        guard_by(program.leaps(), taken, rung as usize)
+    } else {
+        guard
+    }
+}
+
+/// Goes from step to step, and leaves the values and Qs of the look.
+#[inline(never)]
+#[tactic(auto)]
+pub(crate) fn go<S: Signal>(
+    base: Base<'_>,
+    steps: &[Step],
+    seen: &mut Signals<S>,
+    taken: &mut [S],
+    links: &mut [S],
+)
+    requires program { IsSound (diagram_of base.program.now) }
+    requires steps { All (IsWithin base.program.now.rungs) steps.now }
+    requires links { length links.old ≡ LINKS }
+    requires taken { length taken.old ≡ base.program.now.rungs }
+    ensures { seen.new ≡ (all_gone S.algebra base.entry.program.now base.entry.storage.now.kept base.entry.now steps.now
+        (going seen.old taken.old links.old (S.algebra.known true))).frame }
+{
+    let mut guard = S::known(true);
+    for step in steps {
+        let next = turn(base.program, *step, guard, taken);
+        leave(*step, base.program.rungs(), guard, links, taken);
+        any_gate(base, *step, seen, links);
+        write(base, *step, guard, links, seen);
+        guard = next;
+    }
+}
