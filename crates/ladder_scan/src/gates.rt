@@ -186,7 +186,7 @@ fn run<S: Signal>(scene: Scene<'_>, storage: &Storage, seen: &Signals<S>, links:
 }
 
 /// Puts ON and OFF where the gates look for them.
-fn set_rails<S: Signal>(links: &mut [S])
+pub(crate) fn set_rails<S: Signal>(links: &mut [S])
     requires { length links.old ≡ LINKS }
     ensures length { length links.new ≡ LINKS }
     ensures on { slice_index_or links.new ON (S.algebra.known false) ≡ S.algebra.known true }
