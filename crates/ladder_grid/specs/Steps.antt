@@ -15,6 +15,7 @@ use Rattle.ladder_grid.specs.declared.gates.Exit.{Exit}
 use Rattle.ladder_grid.specs.declared.gates.Leap.{Leap}
 use Rattle.ladder_grid.specs.declared.gates.Literal.{Literal}
 use Rattle.ladder_grid.specs.declared.gates.Literal.TheVariants as literal
+use Rattle.ladder_grid.specs.declared.steps.Spot.{Spot}
 use Rattle.ladder_grid.specs.declared.steps.Step.{Step}
 use Rattle.ladder_grid.specs.declared.steps.Step.TheVariants as step
 use Rattle.ladder_grid.specs.Program.{Drawing, IsWhole, cell_of, jump_of, memories_of}
@@ -22,15 +23,18 @@ use Rattle.ladder_grid.specs.Gates.{gates_of, actions_of, exit_of, leaps_below}
 
 -- ---- gates
 
+abbrev pub spot_of : Gate → Spot
+spot_of g = record { place = g.place; left = g.left; other = g.other }
+
 abbrev pub own_step : ℕ → Gate → Step
-own_step rung g = step.Own rung g.place g.left g.below g.other
+own_step rung g = step.Own (spot_of g) g.below rung
 
 -- an edge contact
 abbrev pub edge_step : ℕ → Gate → Mode → ℕ → ℕ → Step
 edge_step rung g mode.Plain var memory = own_step rung g
 edge_step rung g mode.Negated var memory = own_step rung g
-edge_step rung g mode.Rising var memory = step.Rising g.place g.left g.other var memory
-edge_step rung g mode.Falling var memory = step.Falling g.place g.left g.other var memory
+edge_step rung g mode.Rising var memory = step.Rising (spot_of g) var memory
+edge_step rung g mode.Falling var memory = step.Falling (spot_of g) var memory
 
 abbrev pub contact_step : ℕ → Gate → Mode → Operand → Option ℕ → Step
 contact_step rung g m (operand.Var var) (Some memory) = if nat_lt var VARIABLES && nat_lt memory VARIABLES then edge_step rung g m var memory else own_step rung g
@@ -39,17 +43,17 @@ contact_step rung g m (operand.Output inst) memory = own_step rung g
 
 abbrev pub cell_step : ℕ → Gate → Cell → Step
 cell_step rung g cell.Empty = own_step rung g
-cell_step rung g cell.Wire = step.Wire g.place g.left g.other
+cell_step rung g cell.Wire = step.Wire (spot_of g)
 cell_step rung g (cell.Contact m x memory) = contact_step rung g m x memory
 cell_step rung g (cell.Coil m var memory) = own_step rung g
-cell_step rung g (cell.Block inst) = if nat_lt inst VARIABLES then step.Block g.place g.left g.below g.other inst else own_step rung g
+cell_step rung g (cell.Block inst) = if nat_lt inst VARIABLES then step.Block (spot_of g) g.below inst else own_step rung g
 cell_step rung g (cell.Lower inst linked) = own_step rung g
 cell_step rung g (cell.Jump target) = own_step rung g
 cell_step rung g cell.Return = own_step rung g
 
 abbrev pub literal_step : ℕ → Gate → Cell → Literal → Step
-literal_step rung g c (literal.Is var) = step.Is g.place g.left g.other var
-literal_step rung g c (literal.Not var) = step.Not g.place g.left g.other var
+literal_step rung g c (literal.Is var) = step.Is (spot_of g) var
+literal_step rung g c (literal.Not var) = step.Not (spot_of g) var
 literal_step rung g c literal.Other = cell_step rung g c
 
 abbrev pub gate_step : Drawing → ℕ → Gate → Step

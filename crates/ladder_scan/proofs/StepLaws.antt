@@ -17,15 +17,15 @@ use Rattle.ladder_grid.specs.declared.gates.Action.{Action}
 use Rattle.ladder_grid.specs.declared.gates.Literal.{Literal}
 use Rattle.ladder_grid.specs.declared.gates.Literal.TheVariants as literal
 use Rattle.ladder_grid.specs.declared.steps.Step.{Step}
-use Rattle.ladder_grid.specs.declared.steps.Step.TheVariants.{Own, End, Leave, Turn}
+use Rattle.ladder_grid.specs.declared.steps.Step.TheVariants.{End, Leave, Turn}
 use Rattle.ladder_grid.specs.Program.{Drawing, cell_of, jump_of}
 use Rattle.ladder_grid.specs.Gates.{gates_of, actions_of, left_of, exit_by, exit_of}
-use Rattle.ladder_grid.specs.Steps.{edge_step, contact_step, cell_step, literal_step, gate_step, coil_step, act_step, action_step, turns_before, turn_steps, exit_steps, rung_steps, steps_below}
+use Rattle.ladder_grid.specs.Steps.{spot_of, own_step, edge_step, contact_step, cell_step, literal_step, gate_step, coil_step, act_step, action_step, turns_before, turn_steps, exit_steps, rung_steps, steps_below}
 use Rattle.ladder_scan.specs.Algebra.{Algebra}
 use Rattle.ladder_scan.specs.Cells.{Diagram, Frame, Kept}
 use Rattle.ladder_scan.specs.Programs.{placed, diagram_of, IsSound}
 use Rattle.ladder_scan.specs.Gating.{among, own, through, kept_by, is_other, passed, ran, acted, effects_of, IsInside, IsPlaced}
-use Rattle.ladder_scan.specs.Stepping.{Going, going, keeping, gone, all_gone, IsWithin}
+use Rattle.ladder_scan.specs.Stepping.{Going, going, keeping, gone, all_gone, IsSpot, IsWithin}
 use Rattle.ladder_scan.proofs.GateLaws.{cell_is, left_inside, gates_inside}
 use Rattle.ladder_scan.proofs.Acting.{HasCell, places}
 
@@ -46,10 +46,10 @@ module _ {S : Type 0} (o : Algebra S) (p : Drawing) (k : Kept) (now n : ℕ) (f 
 
     -- the step of a cell does what its gate does
     abbrev Does : Step → Cell → Type 0
-    Does s c = gone o p k now s (after links) ≡ after (keeping o links g.place g.other (own o d_ k now f c x y))
+    Does s c = gone o p k now s (after links) ≡ after (keeping o links (spot_of g) (own o d_ k now f c x y))
 
-    by_cell : (c : Cell) → d_.cell n g.place ≡ c → Does (Own n g.place g.left g.below g.other) c
-    by_cell c h = ap (λ (e : Cell). after (keeping o links g.place g.other (own o d_ k now f e x y))) h
+    by_cell : (c : Cell) → d_.cell n g.place ≡ c → Does (own_step n g) c
+    by_cell c h = ap (λ (e : Cell). after (keeping o links (spot_of g) (own o d_ k now f e x y))) h
 
     either : (b : Bool) (s t : Step) (c : Cell) → Does s c → Does t c → Does (cond b s t) c
     either true s t c h i = h
@@ -158,11 +158,11 @@ module _ (rungs n : ℕ) (lt : n < rungs) where
   one_of false s t h i = i
 
   module _ (g : Gate) (inside : IsInside g) where
-    at_three : (g.place < 60) × (g.left < 62) × (g.other < 62)
+    at_three : IsSpot (spot_of g)
     at_three = (inside.0, inside.1, inside.3)
 
-    at_cell : (n < rungs) × (g.place < 60) × (g.left < 62) × (g.below < 62) × (g.other < 62)
-    at_cell = (lt, inside.0, inside.1, inside.2, inside.3)
+    at_cell : IsWithin rungs (own_step n g)
+    at_cell = (at_three, inside.2, lt)
 
     edge_within : (m : Mode) (var memory : ℕ) → IsWithin rungs (edge_step n g m var memory)
     edge_within mode.Plain var memory = at_cell
@@ -180,7 +180,7 @@ module _ (rungs n : ℕ) (lt : n < rungs) where
     cell_within cell.Wire = at_three
     cell_within (cell.Contact m z memory) = contact_within m z memory
     cell_within (cell.Coil m var memory) = at_cell
-    cell_within (cell.Block inst) = one_of (nat_lt inst 65536) _ (Own n g.place g.left g.below g.other) inside at_cell
+    cell_within (cell.Block inst) = one_of (nat_lt inst 65536) _ (own_step n g) (at_three, inside.2) at_cell
     cell_within (cell.Lower inst linked) = at_cell
     cell_within (cell.Jump target) = at_cell
     cell_within cell.Return = at_cell

@@ -11,13 +11,13 @@ use Rattle.ladder_scan.specs.Stepping.{Going, going, links_after, frame_after, t
 -- ---- one turn of the loop
 module _ {S : Type 0} (o : Algebra S) (p : Drawing) (k : Kept) (now : ℕ) where
   pub links_length : (f : Frame S) (s : Step) (links : List S) → length (links_after o p k now f s links) ≡ length links
-  links_length f (Is place left other var) links = length-set links place _
-  links_length f (Not place left other var) links = length-set links place _
-  links_length f (Wire place left other) links = length-set _ place _ ∙ length-set links _ _
-  links_length f (Rising place left other var memory) links = length-set _ place _ ∙ length-set links _ _
-  links_length f (Falling place left other var memory) links = length-set _ place _ ∙ length-set links _ _
-  links_length f (Block place left below other inst) links = length-set _ place _ ∙ length-set links _ _
-  links_length f (Own rung place left below other) links = length-set _ place _ ∙ length-set links _ _
+  links_length f (Is spot var) links = length-set links spot.place _
+  links_length f (Not spot var) links = length-set links spot.place _
+  links_length f (Wire spot) links = length-set _ spot.place _ ∙ length-set links _ _
+  links_length f (Rising spot var memory) links = length-set _ spot.place _ ∙ length-set links _ _
+  links_length f (Falling spot var memory) links = length-set _ spot.place _ ∙ length-set links _ _
+  links_length f (Block spot below inst) links = length-set _ spot.place _ ∙ length-set links _ _
+  links_length f (Own spot below rung) links = length-set _ spot.place _ ∙ length-set links _ _
   links_length f (Store left var) links = refl
   links_length f (Set left var) links = refl
   links_length f (Reset left var) links = refl
@@ -27,13 +27,13 @@ module _ {S : Type 0} (o : Algebra S) (p : Drawing) (k : Kept) (now : ℕ) where
   links_length f (Turn rung) links = refl
 
   pub taken_length : (guard : S) (links : List S) (s : Step) (taken : List S) → length (taken_after o guard links s taken) ≡ length taken
-  taken_length guard links (Is place left other var) taken = refl
-  taken_length guard links (Not place left other var) taken = refl
-  taken_length guard links (Wire place left other) taken = refl
-  taken_length guard links (Rising place left other var memory) taken = refl
-  taken_length guard links (Falling place left other var memory) taken = refl
-  taken_length guard links (Block place left below other inst) taken = refl
-  taken_length guard links (Own rung place left below other) taken = refl
+  taken_length guard links (Is spot var) taken = refl
+  taken_length guard links (Not spot var) taken = refl
+  taken_length guard links (Wire spot) taken = refl
+  taken_length guard links (Rising spot var memory) taken = refl
+  taken_length guard links (Falling spot var memory) taken = refl
+  taken_length guard links (Block spot below inst) taken = refl
+  taken_length guard links (Own spot below rung) taken = refl
   taken_length guard links (Store left var) taken = refl
   taken_length guard links (Set left var) taken = refl
   taken_length guard links (Reset left var) taken = refl

@@ -4,6 +4,7 @@ use Rattle.std.proofs.Common.{get_or, set}
 use Rattle.ladder_grid.specs.declared.geometry.TheConstants.{PLACES}
 use Rattle.ladder_grid.specs.declared.gates.TheConstants.{OFF, OWN}
 use Rattle.ladder_grid.specs.declared.cell.CoilMode.TheVariants as coil
+use Rattle.ladder_grid.specs.declared.steps.Spot.{Spot}
 use Rattle.ladder_grid.specs.declared.steps.Step.{Step}
 use Rattle.ladder_grid.specs.declared.steps.Step.TheVariants.{Is, Not, Wire, Rising, Falling, Block, Own, Store, Set, Reset, End, Act, Leave, Turn}
 use Rattle.ladder_grid.specs.Program.{Drawing}
@@ -14,52 +15,38 @@ use Rattle.ladder_scan.specs.Programs.{diagram_of}
 use Rattle.ladder_scan.specs.Gating.{among, own, acted, guard_by}
 
 -- The links after a gate that lets x through, and after one that keeps what its cell alone lets through.
-abbrev pub passing : {S : Type 0} → Algebra S → List S → ℕ → ℕ → S → List S
-passing o links place other x = set links place (o.join x (among o links other))
+abbrev pub passing : {S : Type 0} → Algebra S → List S → Spot → S → List S
+passing o links spot x = set links spot.place (o.join x (among o links spot.other))
 
-abbrev pub keeping : {S : Type 0} → Algebra S → List S → ℕ → ℕ → S → List S
-keeping o links place other x = set (set links (OWN + place) x) place (o.join x (among o links other))
+abbrev pub keeping : {S : Type 0} → Algebra S → List S → Spot → S → List S
+keeping o links spot x = set (set links (OWN + spot.place) x) spot.place (o.join x (among o links spot.other))
 
 abbrev pub links_after : {S : Type 0} → Algebra S → Drawing → Kept → ℕ → Frame S → Step → List S → List S
-links_after o p k now f (Is place left other var) links = passing o links place other (o.meet (among o links left) (among o f.values var))
-links_after o p k now f (Not place left other var) links = passing o links place other (o.meet (among o links left) (o.inverse (among o f.values var)))
-links_after o p k now f (Wire place left other) links = keeping o links place other (o.meet (among o links left) (o.known true))
-links_after o p k now f (Rising place left other var memory) links =
-    keeping o links place other (o.meet (among o links left) (o.meet (among o f.values var) (o.inverse (o.known (get_or k.memories memory false)))))
-links_after o p k now f (Falling place left other var memory) links =
-    keeping o links place other (o.meet (among o links left) (o.meet (o.inverse (among o f.values var)) (o.known (get_or k.memories memory false))))
-links_after o p k now f (Block place left below other inst) links =
-    keeping o links place other (q_from o ((diagram_of p).kind inst) ((diagram_of p).preset inst) (get_or k.blocks inst no_block) now (among o links left) (among o links below))
-links_after o p k now f (Own rung place left below other) links =
-    keeping o links place other (own o (diagram_of p) k now f ((diagram_of p).cell rung place) (among o links left) (among o links below))
-links_after o p k now f (Store left var) links = links
-links_after o p k now f (Set left var) links = links
-links_after o p k now f (Reset left var) links = links
-links_after o p k now f (End place inst) links = links
-links_after o p k now f (Act rung place left) links = links
-links_after o p k now f (Leave rung left) links = links
-links_after o p k now f (Turn rung) links = links
+links_after o p k now f (Is spot var) links = passing o links spot (o.meet (among o links spot.left) (among o f.values var))
+links_after o p k now f (Not spot var) links = passing o links spot (o.meet (among o links spot.left) (o.inverse (among o f.values var)))
+links_after o p k now f (Wire spot) links = keeping o links spot (o.meet (among o links spot.left) (o.known true))
+links_after o p k now f (Rising spot var memory) links =
+    keeping o links spot (o.meet (among o links spot.left) (o.meet (among o f.values var) (o.inverse (o.known (get_or k.memories memory false)))))
+links_after o p k now f (Falling spot var memory) links =
+    keeping o links spot (o.meet (among o links spot.left) (o.meet (o.inverse (among o f.values var)) (o.known (get_or k.memories memory false))))
+links_after o p k now f (Block spot below inst) links =
+    keeping o links spot (q_from o ((diagram_of p).kind inst) ((diagram_of p).preset inst) (get_or k.blocks inst no_block) now (among o links spot.left) (among o links below))
+links_after o p k now f (Own spot below rung) links =
+    keeping o links spot (own o (diagram_of p) k now f ((diagram_of p).cell rung spot.place) (among o links spot.left) (among o links below))
+links_after o p k now f other links = links
 
 -- The values after a coil that would write x.
 abbrev pub storing : {S : Type 0} → Algebra S → S → ℕ → S → Frame S → Frame S
 storing o guard var x f = record { values = set f.values var (o.choice guard x (among o f.values var)); ends = f.ends }
 
 abbrev pub frame_after : {S : Type 0} → Algebra S → Drawing → Kept → S → List S → Step → Frame S → Frame S
-frame_after o p k guard links (Is place left other var) f = f
-frame_after o p k guard links (Not place left other var) f = f
-frame_after o p k guard links (Wire place left other) f = f
-frame_after o p k guard links (Rising place left other var memory) f = f
-frame_after o p k guard links (Falling place left other var memory) f = f
-frame_after o p k guard links (Block place left below other inst) f = f
-frame_after o p k guard links (Own rung place left below other) f = f
 frame_after o p k guard links (Store left var) f = storing o guard var (among o links left) f
 frame_after o p k guard links (Set left var) f = storing o guard var (o.choice (among o links left) (o.known true) (among o f.values var)) f
 frame_after o p k guard links (Reset left var) f = storing o guard var (o.choice (among o links left) (o.known false) (among o f.values var)) f
 frame_after o p k guard links (End place inst) f = record { values = f.values; ends = set f.ends inst (o.choice guard (among o links (OWN + place)) (among o f.ends inst)) }
 frame_after o p k guard links (Act rung place left) f =
     acted o k guard links (record { cell = (diagram_of p).cell rung place; place = place; left = left; below = OFF }) f
-frame_after o p k guard links (Leave rung left) f = f
-frame_after o p k guard links (Turn rung) f = f
+frame_after o p k guard links other f = f
 
 -- How far a look is: the values and Qs, whether the jumps so far are taken, the links of the rung, and its guard.
 pub record Going (S : Type 0) : Type 0 where
@@ -92,15 +79,18 @@ unfoldable pub all_gone : {S : Type 0} → Algebra S → Drawing → Kept → �
 all_gone o p k now [] g = g
 all_gone o p k now (s ∷ ss) g = all_gone o p k now ss (gone o p k now s g)
 
+abbrev pub IsSpot : Spot → Type 0
+IsSpot spot = (spot.place < PLACES) × (spot.left < OWN) × (spot.other < OWN)
+
 -- What a step looks at is there, in a program of so many rungs.
 abbrev pub IsWithin : ℕ → Step → Type 0
-IsWithin rungs (Is place left other var) = (place < PLACES) × (left < OWN) × (other < OWN)
-IsWithin rungs (Not place left other var) = (place < PLACES) × (left < OWN) × (other < OWN)
-IsWithin rungs (Wire place left other) = (place < PLACES) × (left < OWN) × (other < OWN)
-IsWithin rungs (Rising place left other var memory) = (place < PLACES) × (left < OWN) × (other < OWN)
-IsWithin rungs (Falling place left other var memory) = (place < PLACES) × (left < OWN) × (other < OWN)
-IsWithin rungs (Block place left below other inst) = (place < PLACES) × (left < OWN) × (below < OWN) × (other < OWN)
-IsWithin rungs (Own rung place left below other) = (rung < rungs) × (place < PLACES) × (left < OWN) × (below < OWN) × (other < OWN)
+IsWithin rungs (Is spot var) = IsSpot spot
+IsWithin rungs (Not spot var) = IsSpot spot
+IsWithin rungs (Wire spot) = IsSpot spot
+IsWithin rungs (Rising spot var memory) = IsSpot spot
+IsWithin rungs (Falling spot var memory) = IsSpot spot
+IsWithin rungs (Block spot below inst) = IsSpot spot × (below < OWN)
+IsWithin rungs (Own spot below rung) = IsSpot spot × (below < OWN) × (rung < rungs)
 IsWithin rungs (Store left var) = left < OWN
 IsWithin rungs (Set left var) = left < OWN
 IsWithin rungs (Reset left var) = left < OWN

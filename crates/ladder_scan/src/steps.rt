@@ -8,7 +8,7 @@ ghost use Rattle.ladder_grid.specs.Gates.{leaps_below};
 ghost use Rattle.ladder_scan.specs.Cells.{no_block, q_from};
 ghost use Rattle.ladder_scan.specs.Programs.{diagram_of, IsSound};
 ghost use Rattle.ladder_scan.specs.Gating.{among, own, acted, guard_by};
-ghost use Rattle.ladder_scan.specs.Stepping.{keeping, passing, storing, links_after, frame_after, taken_after, guard_after, going, all_gone, IsWithin};
+ghost use Rattle.ladder_scan.specs.Stepping.{keeping, passing, storing, links_after, frame_after, taken_after, guard_after, going, all_gone, IsSpot, IsWithin};
 
 use crate::effects::any_effect;
 use crate::gates::{link_at, q_from, through_cell};
@@ -19,7 +19,7 @@ use crate::signals::Signals;
 use crate::storage::Storage;
 use ladder_grid::Program;
 use ladder_grid::gates::{Action, LINKS, Leap, OFF, OWN};
-use ladder_grid::steps::Step;
+use ladder_grid::steps::{Spot, Step};
 
 /// What a look goes by, and leaves as it is.
 #[derive(Clone, Copy)]
@@ -30,54 +30,103 @@ pub(crate) struct Base<'a> {
 }
 
 /// Keeps what a gate lets through, which other gates see at its place.
-fn pass<S: Signal>(links: &mut [S], place: u8, other: u8, through: S)
+fn pass<S: Signal>(links: &mut [S], spot: Spot, through: S)
     requires links { length links.old ≡ LINKS }
-    requires place { place < PLACES }
-    requires other { other < OWN }
-    ensures { links.new ≡ passing S.algebra links.old place other through }
+    requires spot { IsSpot spot }
+    ensures { links.new ≡ passing S.algebra links.old spot through }
 {
-    links[place as usize] = through.or(links[other as usize]);
+    links[spot.place as usize] = through.or(links[spot.other as usize]);
 }
 
 /// Keeps besides what its cell alone lets through.
-fn keep<S: Signal>(links: &mut [S], place: u8, other: u8, through: S)
+fn keep<S: Signal>(links: &mut [S], spot: Spot, through: S)
     requires links { length links.old ≡ LINKS }
-    requires place { place < PLACES }
-    requires other { other < OWN }
-    ensures { links.new ≡ keeping S.algebra links.old place other through }
+    requires spot { IsSpot spot }
+    ensures { links.new ≡ keeping S.algebra links.old spot through }
 {
-    let all = through.or(links[other as usize]);
-    links[OWN + place as usize] = through;
-    links[place as usize] = all;
+    let all = through.or(links[spot.other as usize]);
+    links[OWN + spot.place as usize] = through;
+    links[spot.place as usize] = all;
 }
 
-/// The Q of a block in this evaluation, by its inputs. Out of line, for it is rare.
-#[inline(never)]
-fn block_q<S: Signal>(base: Base<'_>, inst: usize, first: S, second: S) -> S
+/// The gate of a contact on a variable.
+#[inline(always)]
+fn is<S: Signal>(seen: &Signals<S>, spot: Spot, var: u16, links: &mut [S])
+    requires links { length links.old ≡ LINKS }
+    requires spot { IsSpot spot }
+    ensures { links.new ≡ passing S.algebra links.old spot (S.algebra.meet (among S.algebra links.old spot.left) (among S.algebra seen.now.values var)) }
+{
+    let through = links[spot.left as usize].and(link_at(&seen.values, var as usize));
+    pass(links, spot, through);
+}
+
+/// The gate of a negated contact.
+#[inline(always)]
+fn is_not<S: Signal>(seen: &Signals<S>, spot: Spot, var: u16, links: &mut [S])
+    requires links { length links.old ≡ LINKS }
+    requires spot { IsSpot spot }
+    ensures { links.new ≡ passing S.algebra links.old spot (S.algebra.meet (among S.algebra links.old spot.left) (S.algebra.inverse (among S.algebra seen.now.values var))) }
+{
+    let through = links[spot.left as usize].and(link_at(&seen.values, var as usize).not());
+    pass(links, spot, through);
+}
+
+fn wire<S: Signal>(spot: Spot, links: &mut [S])
+    requires links { length links.old ≡ LINKS }
+    requires spot { IsSpot spot }
+    ensures { links.new ≡ keeping S.algebra links.old spot (S.algebra.meet (among S.algebra links.old spot.left) (S.algebra.known true)) }
+{
+    let through = links[spot.left as usize].and(S::known(true));
+    keep(links, spot, through);
+}
+
+/// The gate of an edge contact: closed where `now` is ON and `before` OFF.
+fn edge<S: Signal>(now: S, before: S, spot: Spot, links: &mut [S])
+    requires links { length links.old ≡ LINKS }
+    requires spot { IsSpot spot }
+    ensures { links.new ≡ keeping S.algebra links.old spot (S.algebra.meet (among S.algebra links.old spot.left) (S.algebra.meet now before)) }
+{
+    let through = links[spot.left as usize].and(now.and(before));
+    keep(links, spot, through);
+}
+
+/// The Q of a block in this evaluation, by its inputs.
+fn block<S: Signal>(base: Base<'_>, spot: Spot, below: u8, inst: usize, links: &mut [S])
     requires program { IsSound (diagram_of base.program.now) }
-    ensures { result ≡ q_from S.algebra ((diagram_of base.entry.program.now).kind inst) ((diagram_of base.entry.program.now).preset inst)
-        (slice_index_or base.entry.storage.now.kept.blocks inst no_block) base.entry.now first second }
+    requires links { length links.old ≡ LINKS }
+    requires spot { IsSpot spot }
+    requires below { below < OWN }
+    ensures { links.new ≡ keeping S.algebra links.old spot (q_from S.algebra ((diagram_of base.entry.program.now).kind inst) ((diagram_of base.entry.program.now).preset inst)
+        (slice_index_or base.entry.storage.now.kept.blocks inst no_block) base.entry.now (among S.algebra links.old spot.left) (among S.algebra links.old below)) }
 {
     let (kind, preset) = instance(base.program, inst);
-    q_from(kind, preset, base.storage.stored(inst), base.now, first, second)
+    let stored = base.storage.stored(inst);
+    let first = links[spot.left as usize];
+    let second = links[below as usize];
+    keep(links, spot, q_from(kind, preset, stored, base.now, first, second));
 }
 
-/// What any cell lets through.
+/// Any gate, as its cell says.
 #[inline(never)]
-fn own<S: Signal>(base: Base<'_>, seen: &Signals<S>, rung: usize, place: usize, left: S, below: S) -> S
+fn own<S: Signal>(base: Base<'_>, seen: &Signals<S>, spot: Spot, below: u8, rung: usize, links: &mut [S])
     requires program { IsSound (diagram_of base.program.now) }
+    requires links { length links.old ≡ LINKS }
+    requires spot { IsSpot spot }
+    requires below { below < OWN }
     requires rung { rung < base.program.now.rungs }
-    requires place { place < PLACES }
-    ensures { result ≡ own S.algebra (diagram_of base.entry.program.now) base.entry.storage.now.kept base.entry.now seen.now
-        ((diagram_of base.entry.program.now).cell rung place) left below }
+    ensures { links.new ≡ keeping S.algebra links.old spot (own S.algebra (diagram_of base.entry.program.now) base.entry.storage.now.kept base.entry.now seen.now
+        ((diagram_of base.entry.program.now).cell rung spot.place) (among S.algebra links.old spot.left) (among S.algebra links.old below)) }
 {
     let scene = Scene {
         program: base.program,
         now: base.now,
         rung,
     };
-    let cell = cell(base.program, rung, place);
-    through_cell(scene, base.storage, seen, cell, left, below)
+    let cell = cell(base.program, rung, spot.place as usize);
+    let first = links[spot.left as usize];
+    let second = links[below as usize];
+    let through = through_cell(scene, base.storage, seen, cell, first, second);
+    keep(links, spot, through);
 }
 
 /// The links after a gate that isn't a plain contact.
@@ -88,42 +137,26 @@ fn any_gate<S: Signal>(base: Base<'_>, step: Step, seen: &Signals<S>, links: &mu
     ensures { links.new ≡ links_after S.algebra base.entry.program.now base.entry.storage.now.kept base.entry.now seen.now step links.old }
 {
     match step {
-        Step::Is { place, left, other, var } => {
-            let through = links[left as usize].and(link_at(&seen.values, var as usize));
-            pass(links, place, other, through);
+        Step::Is { spot, var } => is(seen, spot, var, links),
+        Step::Not { spot, var } => is_not(seen, spot, var, links),
+        Step::Wire { spot } => wire(spot, links),
+        Step::Rising { spot, var, memory } => {
+            let before = S::known(base.storage.memory_at(memory as usize));
+            edge(link_at(&seen.values, var as usize), before.not(), spot, links);
         }
-        Step::Not { place, left, other, var } => {
-            let through = links[left as usize].and(link_at(&seen.values, var as usize).not());
-            pass(links, place, other, through);
+        Step::Falling { spot, var, memory } => {
+            let before = S::known(base.storage.memory_at(memory as usize));
+            edge(link_at(&seen.values, var as usize).not(), before, spot, links);
         }
-        Step::Wire { place, left, other } => {
-            let through = links[left as usize].and(S::known(true));
-            keep(links, place, other, through);
-        }
-        Step::Rising { place, left, other, var, memory } => {
-            let value = link_at(&seen.values, var as usize);
-            let memory = S::known(base.storage.memory_at(memory as usize));
-            let through = links[left as usize].and(value.and(memory.not()));
-            keep(links, place, other, through);
-        }
-        Step::Falling { place, left, other, var, memory } => {
-            let value = link_at(&seen.values, var as usize);
-            let memory = S::known(base.storage.memory_at(memory as usize));
-            let through = links[left as usize].and(value.not().and(memory));
-            keep(links, place, other, through);
-        }
-        Step::Block { place, left, below, other, inst } => {
-            let first = links[left as usize];
-            let second = links[below as usize];
-            keep(links, place, other, block_q(base, inst as usize, first, second));
-        }
-        Step::Own { rung, place, left, below, other } => {
-            let first = links[left as usize];
-            let second = links[below as usize];
-            let through = own(base, seen, rung as usize, place as usize, first, second);
-            keep(links, place, other, through);
-        }
-        Step::Store { .. } | Step::Set { .. } | Step::Reset { .. } | Step::End { .. } | Step::Act { .. } | Step::Leave { .. } | Step::Turn { .. } => {}
+        Step::Block { spot, below, inst } => block(base, spot, below, inst as usize, links),
+        Step::Own { spot, below, rung } => own(base, seen, spot, below, rung as usize, links),
+        Step::Store { .. }
+        | Step::Set { .. }
+        | Step::Reset { .. }
+        | Step::End { .. }
+        | Step::Act { .. }
+        | Step::Leave { .. }
+        | Step::Turn { .. } => {}
     }
 }
 
@@ -177,7 +210,15 @@ fn write<S: Signal>(base: Base<'_>, step: Step, guard: S, links: &[S], seen: &mu
             seen.put_end(inst as usize, S::choose(guard, links[OWN + place as usize], old));
         }
         Step::Act { rung, place, left } => act(base, guard, links, rung, place, left, seen),
-        Step::Is { .. } | Step::Not { .. } | Step::Wire { .. } | Step::Rising { .. } | Step::Falling { .. } | Step::Block { .. } | Step::Own { .. } | Step::Leave { .. } | Step::Turn { .. } => {}
+        Step::Is { .. }
+        | Step::Not { .. }
+        | Step::Wire { .. }
+        | Step::Rising { .. }
+        | Step::Falling { .. }
+        | Step::Block { .. }
+        | Step::Own { .. }
+        | Step::Leave { .. }
+        | Step::Turn { .. } => {}
     }
 }
 
@@ -204,6 +245,78 @@ fn turn<S: Signal>(program: &Program, step: Step, guard: S, taken: &[S]) -> S
     }
 }
 
+/// Takes any step, and returns the guard from there on.
+#[inline(never)]
+fn take_any<S: Signal>(
+    base: Base<'_>,
+    step: Step,
+    guard: S,
+    seen: &mut Signals<S>,
+    taken: &mut [S],
+    links: &mut [S],
+) -> S
+    requires program { IsSound (diagram_of base.program.now) }
+    requires step { IsWithin base.program.now.rungs step }
+    requires links { length links.old ≡ LINKS }
+    requires taken { length taken.old ≡ base.program.now.rungs }
+    ensures links { links.new ≡ links_after S.algebra base.entry.program.now base.entry.storage.now.kept base.entry.now seen.old step links.old }
+    ensures seen { seen.new ≡ frame_after S.algebra base.entry.program.now base.entry.storage.now.kept guard links.new step seen.old }
+    ensures taken { taken.new ≡ taken_after S.algebra guard links.old step taken.old }
+    ensures guard { result ≡ guard_after S.algebra base.entry.program.now taken.old step guard }
+{
+    let next = turn(base.program, step, guard, taken);
+    leave(step, base.program.rungs(), guard, links, taken);
+    any_gate(base, step, seen, links);
+    write(base, step, guard, links, seen);
+    next
+}
+
+/// Takes a step, most of which are plain contacts and coils, and returns the guard from there on.
+#[inline(always)]
+fn take<S: Signal>(
+    base: Base<'_>,
+    step: &Step,
+    guard: S,
+    seen: &mut Signals<S>,
+    taken: &mut [S],
+    links: &mut [S],
+) -> S
+    requires program { IsSound (diagram_of base.program.now) }
+    requires step { IsWithin base.program.now.rungs step.now }
+    requires links { length links.old ≡ LINKS }
+    requires taken { length taken.old ≡ base.program.now.rungs }
+    ensures links { links.new ≡ links_after S.algebra base.entry.program.now base.entry.storage.now.kept base.entry.now seen.old step.now links.old }
+    ensures seen { seen.new ≡ frame_after S.algebra base.entry.program.now base.entry.storage.now.kept guard links.new step.now seen.old }
+    ensures taken { taken.new ≡ taken_after S.algebra guard links.old step.now taken.old }
+    ensures guard { result ≡ guard_after S.algebra base.entry.program.now taken.old step.now guard }
+{
+    match *step {
+        Step::Is { spot, var } => {
+            is(seen, spot, var, links);
+            guard
+        }
+        Step::Not { spot, var } => {
+            is_not(seen, spot, var, links);
+            guard
+        }
+        Step::Store { left, var } => {
+            store(seen, guard, var, links[left as usize]);
+            guard
+        }
+        Step::Wire { .. }
+        | Step::Rising { .. }
+        | Step::Falling { .. }
+        | Step::Block { .. }
+        | Step::Own { .. }
+        | Step::Set { .. }
+        | Step::Reset { .. }
+        | Step::End { .. }
+        | Step::Act { .. }
+        | Step::Leave { .. }
+        | Step::Turn { .. } => take_any(base, *step, guard, seen, taken, links),
+    }
+}
+
 /// Goes from step to step, and leaves the values and Qs of the look.
 #[inline(never)]
 #[tactic(auto)]
@@ -223,10 +336,6 @@ pub(crate) fn go<S: Signal>(
 {
     let mut guard = S::known(true);
     for step in steps {
-        let next = turn(base.program, *step, guard, taken);
-        leave(*step, base.program.rungs(), guard, links, taken);
-        any_gate(base, *step, seen, links);
-        write(base, *step, guard, links, seen);
-        guard = next;
+        guard = take(base, step, guard, seen, taken, links);
     }
 }

@@ -10,12 +10,13 @@ loop-step-preserved g c =
     let k = c.args.base.storage.now.kept in
     let now = c.args.base.now in
     let l = c.loop-step in
+    let t = c.take-guard.ensures in
     record {
-      links = ap length c.any_gate.ensures ∙ links_length o p k now l.seen _ l.links ∙ l.invariant.links;
-      taken = ap length c.leave.ensures ∙ taken_length o p k now l.guard l.links _ l.taken ∙ l.invariant.taken;
+      links = ap length t.links ∙ links_length o p k now l.seen _ l.links ∙ l.invariant.links;
+      taken = ap length t.taken ∙ taken_length o p k now l.guard l.links _ l.taken ∙ l.invariant.taken;
       gone =
           go_more o p k now c.args.steps.now l.step-index _ (going l.seen l.taken l.links l.guard) _ (omega arith)
-          (went o p k now _ l.seen _ l.taken _ l.links _ l.guard _ c.turn-next.ensures c.leave.ensures c.any_gate.ensures c.write.ensures)
+          (went o p k now _ l.seen _ l.taken _ l.links _ l.guard _ t.guard t.taken t.links t.seen)
           ∙ l.invariant.gone;
     }
 
