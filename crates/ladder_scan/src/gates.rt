@@ -64,6 +64,7 @@ fn q_after(
     step(kind, preset, stored, first, second, now).q()
 }
 
+#[inline(always)]
 pub(crate) fn q_from<S: Signal>(
     kind: BlockKind,
     preset: u32,

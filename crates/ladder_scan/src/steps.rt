@@ -5,7 +5,7 @@ ghost use Rattle.ladder_vars.specs.Kind.{largest_preset};
 ghost use Rattle.ladder_grid.specs.declared.geometry.TheConstants.{PLACES};
 ghost use Rattle.ladder_grid.specs.declared.gates.TheConstants.{OFF, OWN, LINKS};
 ghost use Rattle.ladder_grid.specs.Gates.{leaps_below};
-ghost use Rattle.ladder_scan.specs.Cells.{no_block, q_from};
+ghost use Rattle.ladder_scan.specs.Cells.{frame, no_block, q_from};
 ghost use Rattle.ladder_scan.specs.Programs.{diagram_of, IsSound};
 ghost use Rattle.ladder_scan.specs.Gating.{among, own, acted, guard_by};
 ghost use Rattle.ladder_scan.specs.Stepping.{keeping, passing, storing, links_after, frame_after, taken_after, guard_after, going, all_gone, IsSpot, IsWithin};
@@ -18,7 +18,7 @@ use crate::signal::Signal;
 use crate::signals::Signals;
 use crate::storage::Storage;
 use ladder_grid::Program;
-use ladder_grid::gates::{Action, LINKS, Leap, OFF, OWN};
+use ladder_grid::gates::{Action, LINKS, OFF, OWN};
 use ladder_grid::steps::{Spot, Step};
 
 /// What a look goes by, and leaves as it is.
@@ -80,17 +80,32 @@ fn wire<S: Signal>(spot: Spot, links: &mut [S])
     keep(links, spot, through);
 }
 
-/// The gate of an edge contact: closed where `now` is ON and `before` OFF.
-fn edge<S: Signal>(now: S, before: S, spot: Spot, links: &mut [S])
+/// The gate of a contact that closes where its variable becomes ON.
+fn rising<S: Signal>(base: Base<'_>, value: S, spot: Spot, memory: u16, links: &mut [S])
     requires links { length links.old ≡ LINKS }
     requires spot { IsSpot spot }
-    ensures { links.new ≡ keeping S.algebra links.old spot (S.algebra.meet (among S.algebra links.old spot.left) (S.algebra.meet now before)) }
+    ensures { links.new ≡ keeping S.algebra links.old spot (S.algebra.meet (among S.algebra links.old spot.left)
+        (S.algebra.meet value (S.algebra.inverse (S.algebra.known (slice_index_or base.entry.storage.now.kept.memories memory false))))) }
 {
-    let through = links[spot.left as usize].and(now.and(before));
+    let before = S::known(base.storage.memory_at(memory as usize));
+    let through = links[spot.left as usize].and(value.and(before.not()));
     keep(links, spot, through);
 }
 
-/// The Q of a block in this evaluation, by its inputs.
+/// The gate of a contact that closes where its variable becomes OFF.
+fn falling<S: Signal>(base: Base<'_>, value: S, spot: Spot, memory: u16, links: &mut [S])
+    requires links { length links.old ≡ LINKS }
+    requires spot { IsSpot spot }
+    ensures { links.new ≡ keeping S.algebra links.old spot (S.algebra.meet (among S.algebra links.old spot.left)
+        (S.algebra.meet (S.algebra.inverse value) (S.algebra.known (slice_index_or base.entry.storage.now.kept.memories memory false)))) }
+{
+    let before = S::known(base.storage.memory_at(memory as usize));
+    let through = links[spot.left as usize].and(value.not().and(before));
+    keep(links, spot, through);
+}
+
+/// The gate of a block: its Q in this evaluation, by its inputs.
+#[inline(always)]
 fn block<S: Signal>(base: Base<'_>, spot: Spot, below: u8, inst: usize, links: &mut [S])
     requires program { IsSound (diagram_of base.program.now) }
     requires links { length links.old ≡ LINKS }
@@ -129,37 +144,6 @@ fn own<S: Signal>(base: Base<'_>, seen: &Signals<S>, spot: Spot, below: u8, rung
     keep(links, spot, through);
 }
 
-/// The links after a gate that isn't a plain contact.
-fn any_gate<S: Signal>(base: Base<'_>, step: Step, seen: &Signals<S>, links: &mut [S])
-    requires program { IsSound (diagram_of base.program.now) }
-    requires step { IsWithin base.program.now.rungs step }
-    requires links { length links.old ≡ LINKS }
-    ensures { links.new ≡ links_after S.algebra base.entry.program.now base.entry.storage.now.kept base.entry.now seen.now step links.old }
-{
-    match step {
-        Step::Is { spot, var } => is(seen, spot, var, links),
-        Step::Not { spot, var } => is_not(seen, spot, var, links),
-        Step::Wire { spot } => wire(spot, links),
-        Step::Rising { spot, var, memory } => {
-            let before = S::known(base.storage.memory_at(memory as usize));
-            edge(link_at(&seen.values, var as usize), before.not(), spot, links);
-        }
-        Step::Falling { spot, var, memory } => {
-            let before = S::known(base.storage.memory_at(memory as usize));
-            edge(link_at(&seen.values, var as usize).not(), before, spot, links);
-        }
-        Step::Block { spot, below, inst } => block(base, spot, below, inst as usize, links),
-        Step::Own { spot, below, rung } => own(base, seen, spot, below, rung as usize, links),
-        Step::Store { .. }
-        | Step::Set { .. }
-        | Step::Reset { .. }
-        | Step::End { .. }
-        | Step::Act { .. }
-        | Step::Leave { .. }
-        | Step::Turn { .. } => {}
-    }
-}
-
 /// Writes what a coil would write to a variable.
 fn store<S: Signal>(seen: &mut Signals<S>, guard: S, var: u16, new: S)
     ensures { seen.new ≡ storing S.algebra guard var new seen.old }
@@ -188,87 +172,64 @@ fn act<S: Signal>(base: Base<'_>, guard: S, links: &[S], rung: u8, place: u8, le
     any_effect(base.storage, guard, links, &action, seen);
 }
 
-/// The values and Qs after a step that writes.
-fn write<S: Signal>(base: Base<'_>, step: Step, guard: S, links: &[S], seen: &mut Signals<S>)
-    requires program { IsSound (diagram_of base.program.now) }
-    requires step { IsWithin base.program.now.rungs step }
-    requires links { length links.now ≡ LINKS }
-    ensures { seen.new ≡ frame_after S.algebra base.entry.program.now base.entry.storage.now.kept guard links.now step seen.old }
+/// A coil that writes this value where its link is ON.
+fn latch<S: Signal>(seen: &mut Signals<S>, guard: S, var: u16, link: S, on: bool)
+    ensures { seen.new ≡ storing S.algebra guard var (S.algebra.choice link (S.algebra.known on) (among S.algebra seen.old.values var)) seen.old }
 {
-    match step {
-        Step::Store { left, var } => store(seen, guard, var, links[left as usize]),
-        Step::Set { left, var } => {
-            let old = seen.value(var as usize);
-            store(seen, guard, var, S::choose(links[left as usize], S::known(true), old));
-        }
-        Step::Reset { left, var } => {
-            let old = seen.value(var as usize);
-            store(seen, guard, var, S::choose(links[left as usize], S::known(false), old));
-        }
-        Step::End { place, inst } => {
-            let old = seen.end(inst as usize);
-            seen.put_end(inst as usize, S::choose(guard, links[OWN + place as usize], old));
-        }
-        Step::Act { rung, place, left } => act(base, guard, links, rung, place, left, seen),
-        Step::Is { .. }
-        | Step::Not { .. }
-        | Step::Wire { .. }
-        | Step::Rising { .. }
-        | Step::Falling { .. }
-        | Step::Block { .. }
-        | Step::Own { .. }
-        | Step::Leave { .. }
-        | Step::Turn { .. } => {}
-    }
+    let old = seen.value(var as usize);
+    store(seen, guard, var, S::choose(link, S::known(on), old));
 }
 
-/// Whether jumps are taken, after a step that may take one.
-fn leave<S: Signal>(step: Step, rungs: usize, guard: S, links: &[S], taken: &mut [S])
-    requires step { IsWithin rungs step }
-    requires links { length links.now ≡ LINKS }
-    requires taken { length taken.old ≡ rungs }
-    ensures { taken.new ≡ taken_after S.algebra guard links.now step taken.old }
+/// A block writes its Q.
+fn end<S: Signal>(seen: &mut Signals<S>, guard: S, inst: u16, new: S)
+    ensures { seen.new ≡ frame seen.old.values (slice_set seen.old.ends inst (S.algebra.choice guard new (among S.algebra seen.old.ends inst))) }
 {
-    if let Step::Leave { rung, left } = step {
-        taken[rung as usize] = guard.and(links[left as usize]);
-    }
+    let old = seen.end(inst as usize);
+    seen.put_end(inst as usize, S::choose(guard, new, old));
 }
 
-/// The guard after a step at which it may change.
-fn turn<S: Signal>(program: &Program, step: Step, guard: S, taken: &[S]) -> S
-    ensures { result ≡ guard_after S.algebra program.now taken.now step guard }
-{
-    if let Step::Turn { rung } = step {
-        guard_by(program.leaps(), taken, rung as usize)
-    } else {
-        guard
-    }
-}
-
-/// Takes any step, and returns the guard from there on.
+/// Takes any step, and returns the guard from there on. Out of line; see `take`.
 #[inline(never)]
 fn take_any<S: Signal>(
     base: Base<'_>,
-    step: Step,
+    step: &Step,
     guard: S,
     seen: &mut Signals<S>,
     taken: &mut [S],
     links: &mut [S],
 ) -> S
     requires program { IsSound (diagram_of base.program.now) }
-    requires step { IsWithin base.program.now.rungs step }
+    requires step { IsWithin base.program.now.rungs step.now }
     requires links { length links.old ≡ LINKS }
     requires taken { length taken.old ≡ base.program.now.rungs }
-    ensures links { links.new ≡ links_after S.algebra base.entry.program.now base.entry.storage.now.kept base.entry.now seen.old step links.old }
-    ensures seen { seen.new ≡ frame_after S.algebra base.entry.program.now base.entry.storage.now.kept guard links.new step seen.old }
-    ensures taken { taken.new ≡ taken_after S.algebra guard links.old step taken.old }
-    ensures guard { result ≡ guard_after S.algebra base.entry.program.now taken.old step guard }
+    ensures links { links.new ≡ links_after S.algebra base.entry.program.now base.entry.storage.now.kept base.entry.now seen.old step.now links.old }
+    ensures seen { seen.new ≡ frame_after S.algebra base.entry.program.now base.entry.storage.now.kept guard links.new step.now seen.old }
+    ensures taken { taken.new ≡ taken_after S.algebra guard links.old step.now taken.old }
+    ensures guard { result ≡ guard_after S.algebra base.entry.program.now taken.old step.now guard }
 {
-    let next = turn(base.program, step, guard, taken);
-    leave(step, base.program.rungs(), guard, links, taken);
-    any_gate(base, step, seen, links);
-    write(base, step, guard, links, seen);
-    next
+    match *step {
+        Step::Is { spot, var } => is(seen, spot, var, links),
+        Step::Not { spot, var } => is_not(seen, spot, var, links),
+        Step::Wire { spot } => wire(spot, links),
+        Step::Rising { spot, var, memory } => {
+            rising(base, seen.value(var as usize), spot, memory, links);
+        }
+        Step::Falling { spot, var, memory } => {
+            falling(base, seen.value(var as usize), spot, memory, links);
+        }
+        Step::Block { spot, below, inst } => block(base, spot, below, inst as usize, links),
+        Step::Own { spot, below, rung } => own(base, seen, spot, below, rung as usize, links),
+        Step::Store { left, var } => store(seen, guard, var, links[left as usize]),
+        Step::Set { left, var } => latch(seen, guard, var, links[left as usize], true),
+        Step::Reset { left, var } => latch(seen, guard, var, links[left as usize], false),
+        Step::End { place, inst } => end(seen, guard, inst, links[OWN + place as usize]),
+        Step::Act { rung, place, left } => act(base, guard, links, rung, place, left, seen),
+        Step::Leave { rung, left } => {
+            taken[rung as usize] = guard.and(links[left as usize]);
+        }
+        Step::Turn { rung } => return guard_by(base.program.leaps(), taken, rung as usize),
+    }
+    guard
 }
 
 /// Takes a step, most of which are plain contacts and coils, and returns the guard from there on.
@@ -290,31 +251,19 @@ fn take<S: Signal>(
     ensures taken { taken.new ≡ taken_after S.algebra guard links.old step.now taken.old }
     ensures guard { result ≡ guard_after S.algebra base.entry.program.now taken.old step.now guard }
 {
-    match *step {
-        Step::Is { spot, var } => {
-            is(seen, spot, var, links);
-            guard
-        }
-        Step::Not { spot, var } => {
-            is_not(seen, spot, var, links);
-            guard
-        }
-        Step::Store { left, var } => {
-            store(seen, guard, var, links[left as usize]);
-            guard
-        }
-        Step::Wire { .. }
-        | Step::Rising { .. }
-        | Step::Falling { .. }
-        | Step::Block { .. }
-        | Step::Own { .. }
-        | Step::Set { .. }
-        | Step::Reset { .. }
-        | Step::End { .. }
-        | Step::Act { .. }
-        | Step::Leave { .. }
-        | Step::Turn { .. } => take_any(base, *step, guard, seen, taken, links),
+    if let Step::Is { spot, var } = *step {
+        is(seen, spot, var, links);
+        return guard;
     }
+    if let Step::Not { spot, var } = *step {
+        is_not(seen, spot, var, links);
+        return guard;
+    }
+    if let Step::Store { left, var } = *step {
+        store(seen, guard, var, links[left as usize]);
+        return guard;
+    }
+    take_any(base, step, guard, seen, taken, links)
 }
 
 /// Goes from step to step, and leaves the values and Qs of the look.
