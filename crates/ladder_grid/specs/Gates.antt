@@ -1,7 +1,7 @@
--- Private: a rung as gates, which a scan evaluates, and what a program keeps beside its drawing.
+-- Private: a rung as gates, which a scan evaluates.
 -- A gate gives its left link AND a literal, OR what another gate gave, and what it gives is kept at the place of its cell. So a gate
 -- has the OR of what its cell and those above it bring into their group, and the last cell that feeds a group has the OR of the group.
-use Rattle.std.specs.Prelude.{◌≡◌, ℕ, zero, suc, ◌+◌, ◌-◌, ◌*◌, ◌/◌, ◌%◌, ◌<◌, nat_lt, ◌&&◌, ◌||◌, ◌==◌, Bool, true, false, List, [], ◌∷◌, ◌++◌, length, slice_index_or, Option, Some, None, is_some, if◌then◌else◌}
+use Rattle.std.specs.Prelude.{◌≡◌, ℕ, zero, suc, ◌+◌, ◌-◌, ◌*◌, ◌/◌, ◌%◌, nat_lt, ◌&&◌, ◌||◌, ◌==◌, Bool, true, false, List, [], ◌∷◌, ◌++◌, Option, Some, None, is_some, if◌then◌else◌}
 use Rattle.ladder_grid.specs.declared.geometry.TheConstants.{ROWS, COLUMNS, PLACES}
 use Rattle.ladder_grid.specs.declared.gates.TheConstants.{ON, OFF, VARIABLES}
 use Rattle.ladder_grid.specs.declared.cell.Mode.{Mode}
@@ -16,7 +16,7 @@ use Rattle.ladder_grid.specs.declared.gates.Exit.{Exit}
 use Rattle.ladder_grid.specs.declared.gates.Leap.{Leap}
 use Rattle.ladder_grid.specs.declared.gates.Literal.{Literal}
 use Rattle.ladder_grid.specs.declared.gates.Literal.TheVariants as literal
-use Rattle.ladder_grid.specs.Program.{Drawing, IsWhole, cell_of, feeds, jump_of, memories_of, is_linked, is_block}
+use Rattle.ladder_grid.specs.Program.{Drawing, cell_of, feeds, jump_of, is_linked, is_block}
 
 -- ---- where links are
 
@@ -129,18 +129,3 @@ leap_by rung (Some jump) = record { rung = rung; target = jump.2 } ∷ []
 unfoldable pub leaps_below : Drawing → ℕ → List Leap
 leaps_below d zero = []
 leaps_below d (suc n) = leaps_below d n ++ leap_by n (jump_of d n)
-
--- What a program keeps beside its drawing is the drawing's.
-pub record IsCompiled (d : Drawing) (gates : List (List Gate)) (actions : List (List Action)) (jumps : List (Option (ℕ × ℕ × ℕ)))
-    (exits : List (Option Exit)) (leaps : List Leap) (memories : ℕ) : Type 0 where
-  pub whole : IsWhole d
-  pub gate_count : length gates ≡ d.rungs
-  pub each_gates : (k : ℕ) → k < d.rungs → slice_index_or gates k [] ≡ gates_of d k
-  pub action_count : length actions ≡ d.rungs
-  pub each_actions : (k : ℕ) → k < d.rungs → slice_index_or actions k [] ≡ actions_of d k
-  pub jump_count : length jumps ≡ d.rungs
-  pub each_jump : (k : ℕ) → k < d.rungs → slice_index_or jumps k None ≡ jump_of d k
-  pub exit_count : length exits ≡ d.rungs
-  pub each_exit : (k : ℕ) → k < d.rungs → slice_index_or exits k None ≡ exit_of d k
-  pub all_leaps : leaps ≡ leaps_below d d.rungs
-  pub memory_count : memories ≡ memories_of d

@@ -42,6 +42,23 @@ pub places : (p : Drawing) (j : ℕ) → All IsPlaced (actions_of p j)
 unfolding actions_of
 places p j = placed_before p j 60 (omega arith)
 
+-- An action has the cell at its place.
+abbrev pub HasCell : Drawing → ℕ → Action → Type 0
+HasCell p j a = (diagram_of p).cell j a.place ≡ a.cell
+
+cells_before : (p : Drawing) (j n : ℕ) → n ≤ 60 → All (HasCell p j) (actions_before p j n)
+unfolding actions_before
+cells_before p j zero h = All-nil _
+cells_before p j (suc n) h = elim (cases_Bool (acts (cell_of p j n))) [
+  | inl t ↦ subst (λ (xs : List Action). All (HasCell p j) xs) (sym (cond_true (acts (cell_of p j n)) _ _ t))
+      (All-append (HasCell p j) (actions_before p j n) _ (cells_before p j n (omega arith)) (all_one (HasCell p j) (action_at p j n) (cell_is p j n (omega arith))))
+  | inr t ↦ subst (λ (xs : List Action). All (HasCell p j) xs) (sym (cond_false (acts (cell_of p j n)) _ _ t)) (cells_before p j n (omega arith))
+]
+
+pub action_cells : (p : Drawing) (j : ℕ) → All (HasCell p j) (actions_of p j)
+unfolding actions_of
+action_cells p j = cells_before p j 60 (omega arith)
+
 -- ---- over any signal
 module _ {S : Type 0} (o : Algebra S) (p : Drawing) (k : Kept) (now j : ℕ) (guard : S) where
   -- a cell that does not act writes nothing

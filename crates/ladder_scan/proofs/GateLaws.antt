@@ -145,6 +145,12 @@ linked_is p j e h = elim (cases_Bool (nat_lt (e % 6 + 1) 6)) [
   | inr t ↦ ap (λ b. b && is_linked (cell_at p j (e + 1))) t ∙ sym (ap (λ b. b && is_linked (cell_of p j (e + 1))) t)
 ]
 
+-- ON and OFF are where the gates look for them.
+pub record AreRailed {S : Type 0} (o : Algebra S) (R : List S) : Type 0 where
+  pub long : length R ≡ 122
+  pub on : get_or R 60 (o.known false) ≡ o.known true
+  pub off : get_or R 61 (o.known false) ≡ o.known false
+
 module _ {S : Type 0} (o : Algebra S) (V : S → Type 0) (l : LatticeLaws S V o) (p : Drawing) (k : Kept) (now j : ℕ) (f : Frame S) (vs : AreValues o V f) where
   abbrev lk : ℕ → ℕ → S
   lk row column = left_link o (circuit o (diagram_of p) k now j f) row column
@@ -426,3 +432,10 @@ module _ {S : Type 0} (o : Algebra S) (V : S → Type 0) (l : LatticeLaws S V o)
             ∙ cond_true (is_block (cl e)) _ _ block
             ∙ ap (q_here o (diagram_of p) k now (cl e) (lk (e % 6) (e / 6))) (sym (second_is e h));
       }
+
+  -- the gates leave the rails as they are
+  pub rails_stay : (R : List S) → AreRailed o R → AreRailed o (ran o (diagram_of p) k now j f (gates_of p j) R)
+  unfolding gates_of
+  rails_stay R rails =
+      let good = all_good 60 (omega arith) R rails.long rails.on rails.off in
+      record { long = good.long; on = good.on; off = good.off }

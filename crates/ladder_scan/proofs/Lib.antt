@@ -15,6 +15,9 @@ pub mod Sound
 pub mod Groups
 pub mod GateLaws
 pub mod Acting
+pub mod StepWise
+pub mod StepLaws
+pub mod StepLooks
 pub mod Exits
 pub mod Possible
 pub mod Giving

@@ -14,3 +14,4 @@ pub mod Standing
 pub mod Sheets
 pub mod RungByRung
 pub mod Gating
+pub mod Stepping

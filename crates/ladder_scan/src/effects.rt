@@ -32,7 +32,7 @@ fn stored_by<S: Signal>(mode: CoilMode, link: S, memory: S, old: S) -> S
 
 /// What one action writes, over any signal, under the guard of its rung. Out of line; see `effect`.
 #[inline(never)]
-fn any_effect<S: Signal>(
+pub(crate) fn any_effect<S: Signal>(
     storage: &Storage,
     guard: S,
     links: &[S],
@@ -61,38 +61,6 @@ fn any_effect<S: Signal>(
         | Cell::Lower { .. }
         | Cell::Jump { .. }
         | Cell::Return => {}
-    }
-}
-
-/// What one action writes: most are plain coils.
-fn effect<S: Signal>(
-    storage: &Storage,
-    guard: S,
-    links: &[S],
-    action: &Action,
-    seen: &mut Signals<S>,
-)
-    requires action { IsPlaced action.now }
-    requires links { length links.now ≡ LINKS }
-    ensures { seen.new ≡ acted S.algebra storage.now.kept guard links.now action.now seen.old }
-{
-    match action.cell {
-        Cell::Coil {
-            mode: CoilMode::Store,
-            var,
-            ..
-        } => {
-            let old = seen.value(var);
-            seen.put_value(var, S::choose(guard, links[action.left as usize], old));
-        }
-        Cell::Coil { .. }
-        | Cell::Block { .. }
-        | Cell::Empty
-        | Cell::Wire
-        | Cell::Contact { .. }
-        | Cell::Lower { .. }
-        | Cell::Jump { .. }
-        | Cell::Return => any_effect(storage, guard, links, action, seen),
     }
 }
 
@@ -134,26 +102,6 @@ fn change(
             );
         }
         Cell::Empty | Cell::Wire | Cell::Lower { .. } | Cell::Jump { .. } | Cell::Return => {}
-    }
-}
-
-/// The effects of a rung over any signal, by column, then row.
-#[tactic(auto, using(crate::proofs::Turns::effects_step))]
-pub(crate) fn effects<S: Signal>(
-    scene: Scene<'_>,
-    storage: &Storage,
-    guard: S,
-    links: &[S],
-    seen: &mut Signals<S>,
-)
-    requires rung { scene.rung < scene.program.now.rungs }
-    requires places { All IsPlaced (actions_of scene.program.now scene.rung) }
-    requires links { length links.now ≡ LINKS }
-    ensures { seen.new ≡ effects_of S.algebra storage.now.kept guard links.now
-        (actions_of scene.entry.program.now scene.entry.rung) seen.old }
-{
-    for action in scene.program.actions(scene.rung) {
-        effect(storage, guard, links, action, seen);
     }
 }
 

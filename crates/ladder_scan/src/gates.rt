@@ -65,7 +65,8 @@ fn q_after(
     step(kind, preset, stored, first, second, now).q()
 }
 
-fn q_from<S: Signal>(
+#[inline(always)]
+pub(crate) fn q_from<S: Signal>(
     kind: BlockKind,
     preset: u32,
     stored: Stored,
@@ -92,7 +93,7 @@ fn q_from<S: Signal>(
 }
 
 /// What a cell lets through by itself, by its left link and its second input.
-fn through_cell<S: Signal>(
+pub(crate) fn through_cell<S: Signal>(
     scene: Scene<'_>,
     storage: &Storage,
     seen: &Signals<S>,
@@ -187,7 +188,7 @@ fn run<S: Signal>(scene: Scene<'_>, storage: &Storage, seen: &Signals<S>, links:
 }
 
 /// Puts ON and OFF where the gates look for them.
-fn set_rails<S: Signal>(links: &mut [S])
+pub(crate) fn set_rails<S: Signal>(links: &mut [S])
     requires { length links.old ≡ LINKS }
     ensures length { length links.new ≡ LINKS }
     ensures on { slice_index_or links.new ON (S.algebra.known false) ≡ S.algebra.known true }

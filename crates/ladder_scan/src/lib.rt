@@ -13,6 +13,7 @@ mod scene;
 mod signal;
 mod signals;
 mod state;
+mod steps;
 mod storage;
 
 pub use block::Stored;

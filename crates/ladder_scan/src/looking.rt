@@ -11,16 +11,16 @@ ghost use Rattle.ladder_scan.specs.Standing.{Fits};
 ghost use Rattle.ladder_scan.specs.Sheets.{HasRoom};
 ghost use Rattle.ladder_scan.specs.Gating.{among, guard_by, taken_by_exit, AreValues};
 
-use crate::effects::effects;
-use crate::gates::{find_links, link_at};
+use crate::gates::{link_at, set_rails};
 use crate::memory::Memory;
-use crate::scene::{Scene, checked};
+use crate::scene::checked;
 use crate::signal::Signal;
 use crate::signals::Signals;
 use crate::state::State;
+use crate::steps::{Base, go};
 use crate::storage::Storage;
 use ladder_grid::Program;
-use ladder_grid::gates::{Exit, LINKS, Leap};
+use ladder_grid::gates::{LINKS, Leap};
 use std::alloc::Global;
 use std::marker::Model;
 
@@ -109,7 +109,7 @@ fn under<S: Signal>(leap: Leap, taken: &[S], rung: usize, all: S) -> S
 
 /// The AND, over the earlier rungs with a jump past the rung, of NOT that this jump is taken.
 #[tactic(auto, using(crate::proofs::Exits::guard_step))]
-fn guard_by<S: Signal>(leaps: &[Leap], taken: &[S], rung: usize) -> S
+pub(crate) fn guard_by<S: Signal>(leaps: &[Leap], taken: &[S], rung: usize) -> S
     ensures { result ≡ guard_by S.algebra taken.now rung leaps.now (S.algebra.known true) }
 {
     let mut all = S::known(true);
@@ -117,39 +117,6 @@ fn guard_by<S: Signal>(leaps: &[Leap], taken: &[S], rung: usize) -> S
         all = under(*leap, taken, rung, all);
     }
     all
-}
-
-/// The guard of a rung, by the earlier jumps that pass over it; none passes over the rung `reach` or a later one.
-fn guard<S: Signal>(program: &Program, taken: &[S], rung: usize, reach: usize) -> S
-    requires rung { rung < program.now.rungs }
-    requires reach { (i k : ℕ) → i < rung → reach ≤ k → passes_over ((diagram_of program.now).jump i) k ≡ false }
-    ensures { result ≡ guard_of S.algebra (diagram_of program.now) taken.now rung }
-{
-    if reach <= rung {
-        return S::known(true);
-    }
-    guard_by(program.leaps(), taken, rung)
-}
-
-/// Whether a rung's jump is taken, by the links of its gates.
-fn taken_by<S: Signal>(exit: Option<Exit>, guard: S, links: &[S]) -> S
-    ensures { result ≡ taken_by_exit S.algebra exit guard links.now }
-{
-    match exit {
-        Some(exit) => guard.and(link_at(links, exit.left as usize)),
-        None => S::known(false),
-    }
-}
-
-/// How far the jumps reach with that of a further rung.
-fn further(exit: Option<Exit>, reach: usize) -> usize
-    ensures at_least { reach ≤ result }
-    ensures target { (e : Exit) → exit ≡ Some e → e.target ≤ result }
-{
-    match exit {
-        Some(exit) => reach.max(exit.target),
-        None => reach,
-    }
 }
 
 /// What the rungs of a look begin with: the given inputs, and all that is stored.
@@ -161,79 +128,32 @@ fn begin<S: Signal>(program: &Program, storage: &Storage, inputs: &[S], seen: &m
     seen.give(program.decls(), inputs);
 }
 
-/// Evaluates each rung of a program that has no jumps.
-#[inline(never)]
-fn look_straight<S: Signal>(
-    program: &Program,
-    storage: &Storage,
-    now: u64,
-    seen: &mut Signals<S>,
-    links: &mut [S],
-)
-    requires program { IsSound (diagram_of program.now) }
-    requires straight { leaps_below program.now program.now.rungs ≡ [] }
-    requires values { AreValues S.algebra S.value seen.old }
-    requires links { length links.old ≡ LINKS }
-    ensures frame { seen.new ≡ (looked S.algebra (diagram_of program.now) storage.now.kept now seen.old program.now.rungs).frame }
-    ensures links { length links.new ≡ LINKS }
+/// OFF for each rung.
+fn clear<S: Signal>(taken: &mut [S])
+    ensures length { length taken.new ≡ length taken.old }
+    ensures off { (i : ℕ) → slice_index_or taken.new i (S.algebra.known false) ≡ S.algebra.known false }
 {
-    for rung in 0..program.rungs() {
-        let scene = Scene { program, now, rung };
-        find_links(scene, storage, seen, links);
-        effects(scene, storage, S::known(true), links, seen);
-    }
-}
-
-/// Evaluates each rung under its guard.
-#[inline(never)]
-fn look_jumping<S: Signal>(
-    program: &Program,
-    storage: &Storage,
-    now: u64,
-    seen: &mut Signals<S>,
-    taken: &mut [S],
-    links: &mut [S],
-)
-    requires program { IsSound (diagram_of program.now) }
-    requires values { AreValues S.algebra S.value seen.old }
-    requires taken { length taken.old ≡ program.now.rungs }
-    requires links { length links.old ≡ LINKS }
-    ensures frame { seen.new ≡ (looked S.algebra (diagram_of program.now) storage.now.kept now seen.old program.now.rungs).frame }
-    ensures links { length links.new ≡ LINKS }
-{
-    // the furthest target of the jumps so far: from there on no rung is passed over, and its guard is ON
-    let mut reach = 0;
-    for rung in 0..program.rungs() {
-        let scene = Scene { program, now, rung };
-        let guard = guard(program, &taken[..rung], rung, reach);
-        find_links(scene, storage, seen, links);
-        let exit = program.exit(rung);
-        taken[rung] = taken_by(exit, guard, links);
-        effects(scene, storage, guard, links, seen);
-        reach = further(exit, reach);
+    for rung in 0..taken.len() {
+        taken[rung] = S::known(false);
     }
 }
 
 /// Evaluates each rung.
 fn look_rungs<S: Signal>(
-    program: &Program,
-    storage: &Storage,
-    now: u64,
+    base: Base<'_>,
     seen: &mut Signals<S>,
     taken: &mut [S],
     links: &mut [S],
 )
-    requires program { IsSound (diagram_of program.now) }
+    requires program { IsSound (diagram_of base.program.now) }
     requires values { AreValues S.algebra S.value seen.old }
-    requires taken { length taken.old ≡ program.now.rungs }
+    requires taken { length taken.old ≡ base.program.now.rungs }
     requires links { length links.old ≡ LINKS }
-    ensures { seen.new ≡ (looked S.algebra (diagram_of program.now) storage.now.kept now seen.old program.now.rungs).frame }
+    ensures { seen.new ≡ (looked S.algebra (diagram_of base.entry.program.now) base.entry.storage.now.kept base.entry.now seen.old base.entry.program.now.rungs).frame }
 {
-    if program.leaps().is_empty() {
-        look_straight(program, storage, now, seen, links);
-    } else {
-        look_jumping(program, storage, now, seen, taken, links);
-    }
+    clear(taken);
+    set_rails(links);
+    go(base, base.program.steps(), seen, taken, links);
 }
 
 /// One scan over a signal at the moment `now`, from the values, memories and instances of the state, which is not changed. `work`
@@ -250,10 +170,13 @@ pub fn look<S: Signal>(program: &Program, state: &State, inputs: &[S], now: u64,
 {
     checked(program);
     begin(program, &state.storage, inputs, &mut work.seen);
-    look_rungs(
+    let base = Base {
         program,
-        &state.storage,
+        storage: &state.storage,
         now,
+    };
+    look_rungs(
+        base,
         &mut work.seen,
         &mut work.taken,
         &mut work.links,

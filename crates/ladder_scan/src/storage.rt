@@ -96,6 +96,16 @@ impl Storage {
         }
     }
 
+    /// A memory, and OFF past the last one.
+    pub(crate) fn memory_at(&self, number: usize) -> bool
+        ensures { result ≡ slice_index_or self.now.kept.memories number false }
+    {
+        match self.memories.get(number) {
+            Some(memory) => *memory,
+            None => false,
+        }
+    }
+
     /// The memory of a cell, and OFF where it has none.
     pub(crate) fn memory(&self, cell: Cell) -> bool
         ensures { result ≡ memory_of self.now.kept cell }
@@ -108,12 +118,7 @@ impl Storage {
             | Cell::Coil {
                 memory: Some(number),
                 ..
-            } => {
-                match self.memories.get(number) {
-                    Some(memory) => *memory,
-                    None => false,
-                }
-            }
+            } => self.memory_at(number),
             Cell::Contact { .. }
             | Cell::Coil { .. }
             | Cell::Empty

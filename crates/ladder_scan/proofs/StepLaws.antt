@@ -1,0 +1,250 @@
+-- What single steps do, and that they look at what is there.
+use Rattle.std.proofs.Common.{◌≡◌, ℕ, ◌+◌, ◌<◌, ◌≤◌, ◌*◌, ◌&&◌, Bool, true, false, cond, List, [], ◌∷◌, ◌++◌, All, map, filter_map, length, set, get_or, zero, suc, nat_lt, refl, sym, ap, subst, ◌∙◌, arith, Option, Some, None, inl, inr}
+use Rattle.std.specs.List.{cons_option}
+use Rattle.std.proofs.lemmas.Bool.{cases_Bool}
+use Rattle.std.proofs.lemmas.List.Elements.{All-append, All-nil}
+use Rattle.std.proofs.lemmas.Grind.{common_steps}
+use Rattle.ladder_grid.specs.declared.cell.Mode.{Mode}
+use Rattle.ladder_grid.specs.declared.cell.Mode.TheVariants as mode
+use Rattle.ladder_grid.specs.declared.cell.CoilMode.{CoilMode}
+use Rattle.ladder_grid.specs.declared.cell.CoilMode.TheVariants as coil
+use Rattle.ladder_grid.specs.declared.cell.Operand.{Operand}
+use Rattle.ladder_grid.specs.declared.cell.Operand.TheVariants as operand
+use Rattle.ladder_grid.specs.declared.cell.Cell.{Cell}
+use Rattle.ladder_grid.specs.declared.cell.Cell.TheVariants as cell
+use Rattle.ladder_grid.specs.declared.gates.Gate.{Gate}
+use Rattle.ladder_grid.specs.declared.gates.Action.{Action}
+use Rattle.ladder_grid.specs.declared.gates.Literal.{Literal}
+use Rattle.ladder_grid.specs.declared.gates.Literal.TheVariants as literal
+use Rattle.ladder_grid.specs.declared.steps.Step.{Step}
+use Rattle.ladder_grid.specs.declared.steps.Step.TheVariants.{End, Leave, Turn}
+use Rattle.ladder_grid.specs.Program.{Drawing, cell_of, jump_of}
+use Rattle.ladder_grid.specs.Gates.{gates_of, actions_of, left_of, exit_by, exit_of}
+use Rattle.ladder_grid.specs.Steps.{spot_of, own_step, edge_step, contact_step, cell_step, literal_step, gate_step, coil_step, act_step, action_step, turns_before, turn_steps, exit_steps, rung_steps, steps_below}
+use Rattle.ladder_scan.specs.Algebra.{Algebra}
+use Rattle.ladder_scan.specs.Cells.{Diagram, Frame, Kept}
+use Rattle.ladder_scan.specs.Programs.{placed, diagram_of, IsSound}
+use Rattle.ladder_scan.specs.Gating.{among, own, through, kept_by, is_other, passed, ran, acted, effects_of, IsInside, IsPlaced}
+use Rattle.ladder_scan.specs.Stepping.{Going, going, keeping, gone, all_gone, IsSpot, IsWithin}
+use Rattle.ladder_scan.proofs.GateLaws.{cell_is, left_inside, gates_inside}
+use Rattle.ladder_scan.proofs.Acting.{HasCell, places}
+
+module _ {S : Type 0} (o : Algebra S) (p : Drawing) (k : Kept) (now n : ℕ) (f : Frame S) (taken : List S) (guard : S) where
+  abbrev d_ : Diagram
+  d_ = diagram_of p
+
+  -- ---- gates
+  abbrev after : List S → Going S
+  after links = going f taken links guard
+
+  module _ (links : List S) (g : Gate) where
+    abbrev x : S
+    x = among o links g.left
+
+    abbrev y : S
+    y = among o links g.below
+
+    -- the step of a cell does what its gate does
+    abbrev Does : Step → Cell → Type 0
+    Does s c = gone o p k now s (after links) ≡ after (keeping o links (spot_of g) (own o d_ k now f c x y))
+
+    by_cell : (c : Cell) → d_.cell n g.place ≡ c → Does (own_step n g) c
+    by_cell c h = ap (λ (e : Cell). after (keeping o links (spot_of g) (own o d_ k now f e x y))) h
+
+    either : (b : Bool) (s t : Step) (c : Cell) → Does s c → Does t c → Does (cond b s t) c
+    either true s t c h i = h
+    either false s t c h i = i
+
+    by_edge : (m : Mode) (var memory : ℕ) → d_.cell n g.place ≡ cell.Contact m (operand.Var var) (Some memory)
+        → Does (edge_step n g m var memory) (cell.Contact m (operand.Var var) (Some memory))
+    by_edge mode.Plain var memory h = by_cell _ h
+    by_edge mode.Negated var memory h = by_cell _ h
+    by_edge mode.Rising var memory h = refl
+    by_edge mode.Falling var memory h = refl
+
+    by_contact : (m : Mode) (z : Operand) (memory : Option ℕ) → d_.cell n g.place ≡ cell.Contact m z memory → Does (contact_step n g m z memory) (cell.Contact m z memory)
+    by_contact m (operand.Var var) (Some memory) h = either (nat_lt var 65536 && nat_lt memory 65536) _ _ (cell.Contact m (operand.Var var) (Some memory)) (by_edge m var memory h) (by_cell _ h)
+    by_contact m (operand.Var var) None h = by_cell _ h
+    by_contact m (operand.Output inst) memory h = by_cell _ h
+
+    by_step : (c : Cell) → d_.cell n g.place ≡ c → Does (cell_step n g c) c
+    by_step cell.Empty h = by_cell _ h
+    by_step cell.Wire h = refl
+    by_step (cell.Contact m z memory) h = by_contact m z memory h
+    by_step (cell.Coil m var memory) h = by_cell _ h
+    by_step (cell.Block inst) h = either (nat_lt inst 65536) _ _ (cell.Block inst) refl (by_cell _ h)
+    by_step (cell.Lower inst linked) h = by_cell _ h
+    by_step (cell.Jump target) h = by_cell _ h
+    by_step cell.Return h = by_cell _ h
+
+    by_literal : (t : Literal) (c : Cell) → d_.cell n g.place ≡ c
+        → gone o p k now (literal_step n g c t) (after links)
+        ≡ after (set (cond (is_other t) (set links (62 + g.place) (through o d_ k now f t c x y)) links) g.place (o.join (through o d_ k now f t c x y) (among o links g.other)))
+    by_literal (literal.Is var) c h = refl
+    by_literal (literal.Not var) c h = refl
+    by_literal literal.Other c h = by_step c h
+
+    one_gate : g.place < 60 → gone o p k now (gate_step p n g) (after links) ≡ after (passed o d_ k now n f links g)
+    one_gate h =
+        let same = cell_is p n g.place h in
+        by_literal g.literal (cell_of p n g.place) same
+        ∙ ap (λ (c : Cell). after (kept_by o links g (through o d_ k now f g.literal c x y))) (sym same)
+
+  rest : {A : Type 0} (P : A → Type 0) (a : A) (more : List A) → All P (a ∷ more) → All P more
+  rest P a more h = λ i b lt. h (suc i) b (omega (arith, lt))
+
+  pub gates_gone : (gs : List Gate) (links : List S) → All IsInside gs → all_gone o p k now (map (gate_step p n) gs) (after links) ≡ after (ran o d_ k now n f gs links)
+  unfolding all_gone ran
+  gates_gone [] links h = refl
+  gates_gone (g ∷ gs) links h =
+      ap (all_gone o p k now (map (gate_step p n) gs)) (one_gate links g (h 0 g (omega arith)).0) ∙ gates_gone gs _ (rest IsInside g gs h)
+
+module _ {S : Type 0} (o : Algebra S) (p : Drawing) (k : Kept) (now n : ℕ) (taken links : List S) (guard : S) where
+  -- ---- actions
+  abbrev left_by : Frame S → Going S
+  left_by f = going f taken links guard
+
+  by_act : (a : Action) (c : Cell) (f : Frame S) → (diagram_of p).cell n a.place ≡ c → gone o p k now (act_step n a) (left_by f) ≡ left_by (acted o k guard links (record a { cell = c }) f)
+  by_act a c f h = ap (λ (e : Cell). left_by (acted o k guard links (record a { cell = e }) f)) h
+
+  by_coil : (a : Action) (m : CoilMode) (var : ℕ) (memory : Option ℕ) (f : Frame S) → (diagram_of p).cell n a.place ≡ cell.Coil m var memory
+      → gone o p k now (coil_step n a m var) (left_by f) ≡ left_by (acted o k guard links (record a { cell = cell.Coil m var memory }) f)
+  by_coil a coil.Store var memory f h = refl
+  by_coil a coil.Inverse var memory f h = by_act a _ f h
+  by_coil a coil.Set var memory f h = refl
+  by_coil a coil.Reset var memory f h = refl
+  by_coil a coil.Rising var memory f h = by_act a _ f h
+  by_coil a coil.Falling var memory f h = by_act a _ f h
+
+  chosen : (b : Bool) (s t : Step) (g h : Going S) → gone o p k now s g ≡ h → gone o p k now t g ≡ h → gone o p k now (cond b s t) g ≡ h
+  chosen true s t g h i j = i
+  chosen false s t g h i j = j
+
+  one_action : (a : Action) (c : Cell) (f : Frame S) (ss : List Step) → (diagram_of p).cell n a.place ≡ c
+      → all_gone o p k now (cons_option (action_step n a c) ss) (left_by f) ≡ all_gone o p k now ss (left_by (acted o k guard links (record a { cell = c }) f))
+  unfolding all_gone
+  one_action a cell.Empty f ss h = refl
+  one_action a cell.Wire f ss h = refl
+  one_action a (cell.Contact m z memory) f ss h = refl
+  one_action a (cell.Coil m var memory) f ss h =
+      ap (all_gone o p k now ss) (chosen (nat_lt var 65536) (coil_step n a m var) (act_step n a) (left_by f) _ (by_coil a m var memory f h) (by_act a _ f h))
+  one_action a (cell.Block inst) f ss h = ap (all_gone o p k now ss) (chosen (nat_lt inst 65536) _ (act_step n a) (left_by f) _ refl (by_act a _ f h))
+  one_action a (cell.Lower inst linked) f ss h = refl
+  one_action a (cell.Jump target) f ss h = refl
+  one_action a cell.Return f ss h = refl
+
+  pub actions_gone : (more : List Action) (f : Frame S) → All (HasCell p n) more
+      → all_gone o p k now (filter_map (λ a. action_step n a a.cell) more) (left_by f) ≡ left_by (effects_of o k guard links more f)
+  unfolding all_gone effects_of
+  actions_gone [] f h = refl
+  actions_gone (a ∷ more) f h =
+      one_action a a.cell f (filter_map (λ a. action_step n a a.cell) more) (h 0 a (omega arith))
+      ∙ actions_gone more _ (λ i b lt. h (suc i) b (omega (arith, lt)))
+
+-- ---- what steps look at
+jump_is : (p : Drawing) (n : ℕ) → placed (jump_of p n) ≡ (diagram_of p).jump n
+unfolding diagram_of
+jump_is p n = refl
+
+all_one : {A : Type 0} (P : A → Type 0) (x : A) → P x → All P (x ∷ [])
+all_one P x h = grind (arith, common_steps)
+
+all_more : {A : Type 0} (P : A → Type 0) (x : A) (xs : List A) → P x → All P xs → All P (x ∷ xs)
+all_more P x xs h hs = All-append P (x ∷ []) xs (all_one P x h) hs
+
+module _ (rungs n : ℕ) (lt : n < rungs) where
+  one_of : (b : Bool) (s t : Step) → IsWithin rungs s → IsWithin rungs t → IsWithin rungs (cond b s t)
+  one_of true s t h i = h
+  one_of false s t h i = i
+
+  module _ (g : Gate) (inside : IsInside g) where
+    at_three : IsSpot (spot_of g)
+    at_three = (inside.0, inside.1, inside.3)
+
+    at_cell : IsWithin rungs (own_step n g)
+    at_cell = (at_three, inside.2, lt)
+
+    edge_within : (m : Mode) (var memory : ℕ) → IsWithin rungs (edge_step n g m var memory)
+    edge_within mode.Plain var memory = at_cell
+    edge_within mode.Negated var memory = at_cell
+    edge_within mode.Rising var memory = at_three
+    edge_within mode.Falling var memory = at_three
+
+    contact_within : (m : Mode) (z : Operand) (memory : Option ℕ) → IsWithin rungs (contact_step n g m z memory)
+    contact_within m (operand.Var var) (Some memory) = one_of (nat_lt var 65536 && nat_lt memory 65536) _ _ (edge_within m var memory) at_cell
+    contact_within m (operand.Var var) None = at_cell
+    contact_within m (operand.Output inst) memory = at_cell
+
+    cell_within : (c : Cell) → IsWithin rungs (cell_step n g c)
+    cell_within cell.Empty = at_cell
+    cell_within cell.Wire = at_three
+    cell_within (cell.Contact m z memory) = contact_within m z memory
+    cell_within (cell.Coil m var memory) = at_cell
+    cell_within (cell.Block inst) = one_of (nat_lt inst 65536) _ (own_step n g) (at_three, inside.2) at_cell
+    cell_within (cell.Lower inst linked) = at_cell
+    cell_within (cell.Jump target) = at_cell
+    cell_within cell.Return = at_cell
+
+    literal_within : (t : Literal) (c : Cell) → IsWithin rungs (literal_step n g c t)
+    literal_within (literal.Is var) c = at_three
+    literal_within (literal.Not var) c = at_three
+    literal_within literal.Other c = cell_within c
+
+  gates_within : (p : Drawing) (gs : List Gate) → All IsInside gs → All (IsWithin rungs) (map (gate_step p n) gs)
+  gates_within p [] h = All-nil _
+  gates_within p (g ∷ gs) h =
+      all_more (IsWithin rungs) (gate_step p n g) (map (gate_step p n) gs) (literal_within g (h 0 g (omega arith)) g.literal (cell_of p n g.place))
+      (gates_within p gs (λ i b less. h (suc i) b (omega (arith, less))))
+
+  coil_within : (a : Action) → IsPlaced a → (m : CoilMode) (var : ℕ) → IsWithin rungs (coil_step n a m var)
+  coil_within a h coil.Store var = h.1
+  coil_within a h coil.Inverse var = (lt, h.0, h.1)
+  coil_within a h coil.Set var = h.1
+  coil_within a h coil.Reset var = h.1
+  coil_within a h coil.Rising var = (lt, h.0, h.1)
+  coil_within a h coil.Falling var = (lt, h.0, h.1)
+
+  action_within : (a : Action) → IsPlaced a → (c : Cell) (ss : List Step) → All (IsWithin rungs) ss → All (IsWithin rungs) (cons_option (action_step n a c) ss)
+  action_within a h cell.Empty ss hs = hs
+  action_within a h cell.Wire ss hs = hs
+  action_within a h (cell.Contact m z memory) ss hs = hs
+  action_within a h (cell.Coil m var memory) ss hs =
+      all_more (IsWithin rungs) _ ss (one_of (nat_lt var 65536) (coil_step n a m var) (act_step n a) (coil_within a h m var) (lt, h.0, h.1)) hs
+  action_within a h (cell.Block inst) ss hs =
+      all_more (IsWithin rungs) _ ss (one_of (nat_lt inst 65536) (End a.place inst) (act_step n a) h.0 (lt, h.0, h.1)) hs
+  action_within a h (cell.Lower inst linked) ss hs = hs
+  action_within a h (cell.Jump target) ss hs = hs
+  action_within a h cell.Return ss hs = hs
+
+  actions_within : (more : List Action) → All IsPlaced more → All (IsWithin rungs) (filter_map (λ a. action_step n a a.cell) more)
+  actions_within [] h = All-nil _
+  actions_within (a ∷ more) h =
+      action_within a (h 0 a (omega arith)) a.cell (filter_map (λ a. action_step n a a.cell) more) (actions_within more (λ i b less. h (suc i) b (omega (arith, less))))
+
+  turn_within : (b : Bool) → All (IsWithin rungs) (turn_steps n b)
+  turn_within true = all_one (IsWithin rungs) (Turn n) tt
+  turn_within false = All-nil _
+
+  by_jump : (p : Drawing) (jump : Option (ℕ × ℕ × ℕ)) → ((place target : ℕ) → placed jump ≡ Some (place, target) → place < 60)
+      → All (IsWithin rungs) (exit_steps n (exit_by p n jump))
+  by_jump p None h = All-nil _
+  by_jump p (Some (row, column, target)) h =
+      all_one (IsWithin rungs) (Leave n (left_of p n (6 * column + row))) (lt, left_inside p n (6 * column + row) (h (6 * column + row) target refl))
+
+  exit_within : (p : Drawing) → IsSound (diagram_of p) → All (IsWithin rungs) (exit_steps n (exit_of p n))
+  exit_within p sound = by_jump p (jump_of p n) (λ place target h. (sound.jumps n place target (sym (jump_is p n) ∙ h)).0)
+
+  pub rung_within : (p : Drawing) → IsSound (diagram_of p) → All (IsWithin rungs) (rung_steps p n)
+  rung_within p sound =
+      All-append (IsWithin rungs) _ _ (turn_within (turns_before p n n))
+      (All-append (IsWithin rungs) _ _ (gates_within p (gates_of p n) (gates_inside p n))
+      (All-append (IsWithin rungs) _ _ (exit_within p sound) (actions_within (actions_of p n) (places p n))))
+
+within_below : (p : Drawing) → IsSound (diagram_of p) → (n : ℕ) → n ≤ p.rungs → All (IsWithin p.rungs) (steps_below p n)
+unfolding steps_below
+within_below p sound zero h = All-nil _
+within_below p sound (suc n) h =
+    All-append (IsWithin p.rungs) (steps_below p n) _ (within_below p sound n (omega (arith, h))) (rung_within p.rungs n (omega (arith, h)) p sound)
+
+pub all_within : (p : Drawing) → IsSound (diagram_of p) → All (IsWithin p.rungs) (steps_below p p.rungs)
+all_within p sound = within_below p sound p.rungs (omega arith)
