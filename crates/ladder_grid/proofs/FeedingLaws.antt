@@ -12,7 +12,8 @@ use Rattle.ladder_grid.specs.declared.picture.Half.TheVariants as half
 use Rattle.ladder_grid.specs.declared.operand.Reference.{Reference}
 use Rattle.ladder_grid.specs.Form.{Table, Lists, whole_cells, HasForm, IsFormOf}
 use Rattle.ladder_grid.specs.Picture.{Lines, ch, joint, vertical, cell_text, SameGroup}
-use Rattle.ladder_grid.specs.Page.{Page, part_at, rung_at, form_at}
+use Rattle.ladder_grid.specs.Page.{Page, rung_at, form_at}
+use Rattle.ladder_grid.specs.Checks.{part_at}
 use Rattle.ladder_grid.specs.Feeding.{right_link, enters, IsFed}
 use Rattle.ladder_grid.specs.Rules.{bad_wire_joint, bad_joint}
 use Rattle.ladder_grid.specs.PageRules.{PartBreaks}

@@ -9,8 +9,9 @@ use Rattle.ladder_grid.specs.declared.lines.Part.{Part}
 use Rattle.ladder_grid.specs.declared.operand.NameOver.{NameOver}
 use Rattle.ladder_grid.specs.Geometry.{place, reading_place}
 use Rattle.ladder_grid.specs.Operand.{instance_on}
-use Rattle.ladder_grid.specs.Page.{Page, page, form_at, name_over, instance_at}
+use Rattle.ladder_grid.specs.Page.{Page, form_at, name_over, instance_at}
 use Rattle.ladder_grid.specs.Picture.{Lines}
+use Rattle.ladder_grid.specs.ReadLines.{page}
 use Rattle.ladder_grid.specs.Rules.{IsDrawnBefore}
 use Rattle.ladder_grid.specs.Tables.{place_read, block_in, noted_at, noted, firsts_of, overs_of, IsBefore}
 use Rattle.ladder_grid.proofs.FitLaws.{refer_fits, instance_fits}

@@ -19,10 +19,11 @@ use Rattle.ladder_grid.specs.declared.picture.Half.TheVariants as half
 use Rattle.ladder_grid.specs.declared.operand.Reference.{Reference}
 use Rattle.ladder_grid.specs.Gap.{Labels, is_named}
 use Rattle.ladder_grid.specs.Operand.{instance_of, instance_on, is_odd}
-use Rattle.ladder_grid.specs.Page.{Page, part_at, label_of, labels_of, form_at, name_over, instance_at, instance_above}
+use Rattle.ladder_grid.specs.Page.{Page, labels_of, form_at, name_over, instance_at, instance_above}
 use Rattle.ladder_grid.specs.Geometry.{reading_place}
 use Rattle.ladder_vars.specs.Kind.{traits_of}
 use Rattle.ladder_grid.specs.Rules.{leaps, form_above, form_below}
+use Rattle.ladder_grid.specs.Checks.{part_at, label_of}
 use Rattle.ladder_grid.specs.Shapes.{lacks_lower, is_apart}
 use Rattle.ladder_grid.proofs.ShapeLaws.{torn}
 use Rattle.ladder_grid.specs.PageRules.{later, target_to, jump_label, PartBreaks, IsSoundPage, target_of}

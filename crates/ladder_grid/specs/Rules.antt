@@ -4,7 +4,7 @@ use Rattle.std.specs.Prelude.{◌≡◌, ◌⊎◌, ℕ, ◌+◌, ◌-◌, ◌*�
 use Rattle.std.specs.List.{list_any}
 use Rattle.ladder_vars.specs.Kind.{traits_of}
 use Rattle.ladder_grid.specs.declared.geometry.TheConstants.{ROWS, COLUMNS, PITCH, RAIL}
-use Rattle.ladder_grid.specs.Bytes.{space, dash, plus, bar}
+use Rattle.ladder_grid.specs.Bytes.{space, dash, plus, bar, is_upright}
 use Rattle.ladder_vars.specs.declared.kind.Pin.{Pin}
 use Rattle.ladder_vars.specs.declared.kind.BlockKind.{BlockKind}
 use Rattle.ladder_grid.specs.declared.form.Form.{Form}
@@ -42,14 +42,11 @@ bad_joint page k r h c =
     (c == COLUMNS && bad_rail (ch (rung_at page k) (line_of r h) RAIL))
     || ((nat_le 1 c && nat_lt c COLUMNS) && bad_at_joint page k r h c)
 
-abbrev pub is_branch : ℕ → Bool
-is_branch b = b == plus || b == bar
-
 -- G5: a bar on a name line where the joint above it or the one below it is neither a `+` nor a bar; row 0 has none above.
 abbrev pub bad_vertical : Lines → ℕ → Half → ℕ → Bool
 bad_vertical rung r half.Name c =
     (nat_le 1 c && nat_lt c COLUMNS)
-    && (ch rung (2 * r) (PITCH * c) == bar && (r == 0 || (not (is_branch (joint rung (r - 1) c)) || not (is_branch (joint rung r c)))))
+    && (ch rung (2 * r) (PITCH * c) == bar && (r == 0 || (not (is_upright (joint rung (r - 1) c)) || not (is_upright (joint rung r c)))))
 bad_vertical rung r half.Wire c = false
 
 -- the forms that have a name over them

@@ -5,8 +5,9 @@ ghost use Rattle.ladder_grid.specs.declared.geometry.TheConstants.{RUNGS, ROWS, 
 ghost use Rattle.std.specs.List.{AllByRecursion};
 ghost use Rattle.ladder_grid.specs.ReadLines.{IsWithin};
 ghost use Rattle.ladder_grid.specs.Seen.{seen};
+ghost use Rattle.ladder_grid.specs.Bytes.{is_upright};
 ghost use Rattle.ladder_grid.specs.Geometry.{reading_place};
-ghost use Rattle.ladder_grid.specs.Rules.{bad_name_joint, bad_wire_joint, bad_rail, bad_at_joint, bad_joint, is_branch, bad_vertical, wants_name, has_text, form_above, form_below, IsTorn, IsDrawnBefore, IsDrawnTwice, leaps, IsSecondJump, BreaksAt, IsBrokenAlong, IsBrokenOn, IsKept};
+ghost use Rattle.ladder_grid.specs.Rules.{bad_name_joint, bad_wire_joint, bad_rail, bad_at_joint, bad_joint, bad_vertical, wants_name, has_text, form_above, form_below, IsTorn, IsDrawnBefore, IsDrawnTwice, leaps, IsSecondJump, BreaksAt, IsBrokenAlong, IsBrokenOn, IsKept};
 ghost use Rattle.ladder_grid.specs.Shapes.{same_pin, is_lower_for, takes_second, is_block_for, lacks_lower, is_apart};
 ghost use Rattle.ladder_grid.specs.Operand.{is_odd};
 ghost use Rattle.ladder_grid.specs.Page.{rung_at, form_at, name_over};
@@ -75,9 +76,9 @@ fn bad_joint(page: PageView<'_, '_>, rung: usize, row: usize, half: Half, column
 }
 
 fn is_branch(b: u8) -> bool
-    ensures { result ≡ is_branch b }
+    ensures { result ≡ is_upright b }
 {
-    b == b'+' || b == b'|'
+    b == b'|' || b == b'+'
 }
 
 fn bad_vertical(lines: &[&[u8]], row: usize, half: Half, column: usize) -> bool
