@@ -168,13 +168,7 @@ module _ (page : Page) (d : Drawing) (drawn : IsDrawn page d) where
                 judged,
                 2 * r + 1,
                 refl,
-                record {
-                  row = r;
-                  half = half.Wire;
-                  in_rung = rows;
-                  on = refl;
-                  along = (c, high, broken);
-                },
+                (r, half.Wire, rows, refl, (c, high, broken)),
               )),
             )))
       ] refl
@@ -193,13 +187,7 @@ module _ (page : Page) (d : Drawing) (drawn : IsDrawn page d) where
           judged,
           2 * r + 1,
           refl,
-          record {
-            row = r;
-            half = half.Wire;
-            in_rung = rows;
-            on = refl;
-            along = (c, high, (refl, columns, (some, dashed, unfed)));
-          },
+          (r, half.Wire, rows, refl, (c, high, (refl, columns, (some, dashed, unfed)))),
         )),
       ))
 

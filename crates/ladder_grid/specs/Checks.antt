@@ -1,14 +1,20 @@
 -- Private: parts of the rules, as the code has them in functions of their own.
-use Rattle.std.specs.Prelude.{ℕ, ◌+◌, ◌-◌, ◌==◌, ◌&&◌, ◌||◌, Bool, not, nat_le, List, length, take, drop, map, Option, is_some}
+use Rattle.std.specs.Prelude.{ℕ, ◌+◌, ◌-◌, ◌==◌, ◌&&◌, ◌||◌, ◌≡◌, ◌<◌, ◌≤◌, Bool, true, not, nat_le, List, length, take, drop, map, Option, Some, is_some}
 use Rattle.std.specs.List.{list_any}
-use Rattle.ladder_grid.specs.declared.geometry.TheConstants.{RAIL}
+use Rattle.ladder_grid.specs.declared.geometry.TheConstants.{ROWS, COLUMNS, RAIL}
 use Rattle.ladder_grid.specs.declared.lines.Part.{Part}
 use Rattle.ladder_grid.specs.Bytes.{space}
-use Rattle.ladder_grid.specs.Picture.{Lines, line_at}
+use Rattle.ladder_grid.specs.Picture.{Lines, line_at, line_of}
 use Rattle.ladder_grid.specs.Lines.{part_in}
 use Rattle.ladder_grid.specs.Gap.{Labels, is_named, label_in, label_before}
-use Rattle.ladder_grid.specs.Page.{Page}
-use Rattle.ladder_grid.specs.Rules.{has_text}
+use Rattle.ladder_vars.specs.Decls.{Declared}
+use Rattle.ladder_grid.specs.declared.form.Form.{Form}
+use Rattle.ladder_grid.specs.declared.operand.Reference.{Reference}
+use Rattle.ladder_grid.specs.declared.picture.Half.{Half}
+use Rattle.ladder_grid.specs.declared.fault.GridRule.{GridRule}
+use Rattle.ladder_grid.specs.Operand.{MayHave}
+use Rattle.ladder_grid.specs.Page.{Page, form_at, instance_at}
+use Rattle.ladder_grid.specs.Rules.{has_text, wants_name, leaps, HoldsBefore, BreaksAt}
 
 abbrev pub part_at : Page → ℕ → Part
 part_at page k = part_in page.parts k
@@ -37,3 +43,27 @@ is_wide line = has_text (drop (RAIL + 1) line)
 
 abbrev pub is_wide_at : Lines → ℕ → Bool
 is_wide_at rung line = is_wide (line_at rung line)
+
+-- the name is none that the symbol may have
+abbrev pub IsOdd : Declared → Option Form → Option Reference → Type 0
+IsOdd decls form name = (wants_name form ≡ true) × (x : Reference) × (name ≡ Some x) × ¬ (MayHave decls form x.symbol x.output)
+
+abbrev pub IsDrawnBefore : Page → ℕ → ℕ → ℕ → ℕ → Type 0
+IsDrawnBefore page inst k r c = HoldsBefore (λ j q d. instance_at page j q d ≡ Some inst) k r c
+
+abbrev pub IsDrawnTwice : Page → ℕ → ℕ → ℕ → Type 0
+IsDrawnTwice page k r c = (inst : ℕ) × (instance_at page k r c ≡ Some inst) × IsDrawnBefore page inst k r c
+
+abbrev pub IsSecondJump : Page → ℕ → ℕ → ℕ → Type 0
+IsSecondJump page k r c = (leaps (form_at page k r c) ≡ true) × HoldsBefore (λ j q d. (j ≡ k) × (leaps (form_at page k q d) ≡ true)) k r c
+
+-- on a line of a row, and on a line of the rung
+abbrev pub IsBrokenAlong : GridRule → Page → ℕ → ℕ → Half → Type 0
+IsBrokenAlong rule page k r h = (c : ℕ) × (c ≤ COLUMNS) × BreaksAt rule page k r h c
+
+abbrev pub IsBrokenOn : GridRule → Page → ℕ → ℕ → Type 0
+IsBrokenOn rule page k line = (r : ℕ) × (h : Half) × (r < ROWS) × (line ≡ line_of r h) × IsBrokenAlong rule page k r h
+
+-- nowhere in the rung
+abbrev pub IsKept : Page → ℕ → GridRule → Type 0
+IsKept page k rule = (r : ℕ) → r < ROWS → (h : Half) → IsBrokenAlong rule page k r h → ⊥

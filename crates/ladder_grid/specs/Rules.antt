@@ -3,7 +3,7 @@
 use Rattle.std.specs.Prelude.{◌≡◌, ◌⊎◌, ℕ, ◌+◌, ◌-◌, ◌*◌, ◌<◌, ◌≤◌, nat_lt, nat_le, Bool, true, false, not, ◌&&◌, ◌||◌, ◌==◌, List, Option, Some, None, if◌then◌else◌}
 use Rattle.std.specs.List.{list_any}
 use Rattle.ladder_vars.specs.Kind.{traits_of}
-use Rattle.ladder_grid.specs.declared.geometry.TheConstants.{ROWS, COLUMNS, PITCH, RAIL}
+use Rattle.ladder_grid.specs.declared.geometry.TheConstants.{ROWS, COLUMNS, PLACES, PITCH, RAIL}
 use Rattle.ladder_grid.specs.Bytes.{space, dash, plus, bar, is_upright}
 use Rattle.ladder_vars.specs.declared.kind.Pin.{Pin}
 use Rattle.ladder_vars.specs.declared.kind.BlockKind.{BlockKind}
@@ -11,13 +11,13 @@ use Rattle.ladder_grid.specs.declared.form.Form.{Form}
 use Rattle.ladder_grid.specs.declared.form.Form.TheVariants.{Contact, Coil, Block, Lower, Jump, Return}
 use Rattle.ladder_grid.specs.declared.fault.GridRule.{GridRule}
 use Rattle.ladder_grid.specs.declared.fault.GridRule.TheVariants as rule
-use Rattle.ladder_grid.specs.Operand.{is_odd}
+use Rattle.ladder_grid.specs.Operand.{MayHave}
 use Rattle.ladder_grid.specs.Picture.{Lines, line_of, ch, text_over, joint}
 use Rattle.ladder_grid.specs.declared.picture.Half.{Half}
 use Rattle.ladder_grid.specs.declared.picture.Half.TheVariants as half
 use Rattle.ladder_grid.specs.Feeding.{right_link, IsUnfed}
 use Rattle.ladder_grid.specs.Page.{Page, rung_at, form_at, name_over, instance_at}
-use Rattle.ladder_grid.specs.Geometry.{reading_place}
+use Rattle.ladder_grid.specs.declared.operand.Reference.{Reference}
 
 -- on a name line a joint's place has a space or a bar
 abbrev pub bad_name_joint : ℕ → Bool
@@ -76,33 +76,14 @@ IsTorn page k r c =
     × ((IsBlockWith p (form_at page k r c) × ((linked : Bool) → form_below page k r c ≡ Some (Lower p linked) → ⊥))
     ⊎ (((linked : Bool) × (form_at page k r c ≡ Some (Lower p linked))) × ¬ (IsBlockWith p (form_above page k r c))))
 
--- G12: the block's instance was drawn at an earlier place, of this rung or of one before.
-pub record IsDrawnBefore (page : Page) (inst k r c : ℕ) : Type 0 where
-  pub rung : ℕ
-  pub row : ℕ
-  pub column : ℕ
-  pub in_rung : row < ROWS
-  pub in_row : column < COLUMNS
-  pub earlier : reading_place rung row column < reading_place k r c
-  pub drawn : instance_at page rung row column ≡ Some inst
-
-abbrev pub IsDrawnTwice : Page → ℕ → ℕ → ℕ → Type 0
-IsDrawnTwice page k r c = (inst : ℕ) × (instance_at page k r c ≡ Some inst) × IsDrawnBefore page inst k r c
+-- It holds at a place before this one, in the order of reading: by rung, row and column.
+abbrev pub HoldsBefore : (ℕ → ℕ → ℕ → Type 0) → ℕ → ℕ → ℕ → Type 0
+HoldsBefore P k r c = (j q d : ℕ) × (q < ROWS) × (d < COLUMNS) × (PLACES * j + (COLUMNS * q + d) < PLACES * k + (COLUMNS * r + c)) × P j q d
 
 abbrev pub leaps : Option Form → Bool
 leaps (Some (Jump label)) = true
 leaps (Some Return) = true
 leaps form = false
-
--- G14: a jump or a return stands before in the rung.
-pub record IsSecondJump (page : Page) (k r c : ℕ) : Type 0 where
-  pub row : ℕ
-  pub column : ℕ
-  pub in_rung : row < ROWS
-  pub in_row : column < COLUMNS
-  pub earlier : COLUMNS * row + column < COLUMNS * r + c
-  pub this : leaps (form_at page k r c) ≡ true
-  pub other : leaps (form_at page k row column) ≡ true
 
 -- The rule is broken at the place. Only these rules speak of places.
 abbrev pub BreaksAt : GridRule → Page → ℕ → ℕ → Half → ℕ → Type 0
@@ -121,24 +102,14 @@ BreaksAt rule.NameWithoutSymbol page k r h c =
 BreaksAt rule.Undeclared page k r h c =
     (h ≡ half.Name) × (c < COLUMNS) × ((wants_name (form_at page k r c) ≡ true) × (name_over page k r c ≡ None))
 -- G10: the name is none that the symbol may have.
-BreaksAt rule.WrongKind page k r h c = (h ≡ half.Name) × (c < COLUMNS) × (is_odd page.decls (form_at page k r c) (name_over page k r c) ≡ true)
+BreaksAt rule.WrongKind page k r h c =
+    (h ≡ half.Name) × (c < COLUMNS) × ((wants_name (form_at page k r c) ≡ true) × (x : Reference) × (name_over page k r c ≡ Some x)
+    × ¬ (MayHave page.decls (form_at page k r c) x.symbol x.output))
 BreaksAt rule.BlockShape page k r h c = (h ≡ half.Wire) × (c < COLUMNS) × IsTorn page k r c
-BreaksAt rule.DrawnTwice page k r h c = (h ≡ half.Name) × (c < COLUMNS) × IsDrawnTwice page k r c
-BreaksAt rule.TwoJumps page k r h c = (h ≡ half.Wire) × (c < COLUMNS) × IsSecondJump page k r c
+-- G12: the block's instance was drawn at an earlier place, of this rung or of one before.
+BreaksAt rule.DrawnTwice page k r h c =
+    (h ≡ half.Name) × (c < COLUMNS) × ((inst : ℕ) × (instance_at page k r c ≡ Some inst) × HoldsBefore (λ j q d. instance_at page j q d ≡ Some inst) k r c)
+-- G14: a jump or a return stands before in the rung.
+BreaksAt rule.TwoJumps page k r h c =
+    (h ≡ half.Wire) × (c < COLUMNS) × ((leaps (form_at page k r c) ≡ true) × HoldsBefore (λ j q d. (j ≡ k) × (leaps (form_at page k q d) ≡ true)) k r c)
 BreaksAt other page k r h c = ⊥
-
--- The rule is broken on this line of a row.
-abbrev pub IsBrokenAlong : GridRule → Page → ℕ → ℕ → Half → Type 0
-IsBrokenAlong rule page k r h = (c : ℕ) × (c ≤ COLUMNS) × BreaksAt rule page k r h c
-
--- The rule is broken on this line of the rung.
-pub record IsBrokenOn (rule : GridRule) (page : Page) (rung line : ℕ) : Type 0 where
-  pub row : ℕ
-  pub half : Half
-  pub in_rung : row < ROWS
-  pub on : line ≡ line_of row half
-  pub along : IsBrokenAlong rule page rung row half
-
--- The rule is broken nowhere in the rung.
-abbrev pub IsKept : Page → ℕ → GridRule → Type 0
-IsKept page k rule = (r : ℕ) → r < ROWS → (h : Half) → IsBrokenAlong rule page k r h → ⊥

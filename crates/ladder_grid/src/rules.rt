@@ -6,10 +6,10 @@ ghost use Rattle.std.specs.List.{AllByRecursion};
 ghost use Rattle.ladder_grid.specs.ReadLines.{IsWithin};
 ghost use Rattle.ladder_grid.specs.Seen.{seen};
 ghost use Rattle.ladder_grid.specs.Bytes.{is_upright};
-ghost use Rattle.ladder_grid.specs.Geometry.{reading_place};
-ghost use Rattle.ladder_grid.specs.Rules.{bad_name_joint, bad_wire_joint, bad_rail, bad_at_joint, bad_joint, bad_vertical, wants_name, has_text, form_above, form_below, IsTorn, IsDrawnBefore, IsDrawnTwice, leaps, IsSecondJump, BreaksAt, IsBrokenAlong, IsBrokenOn, IsKept};
+ghost use Rattle.ladder_grid.specs.AllPlaces.{reading_place};
+ghost use Rattle.ladder_grid.specs.Rules.{bad_name_joint, bad_wire_joint, bad_rail, bad_at_joint, bad_joint, bad_vertical, wants_name, has_text, form_above, form_below, IsTorn, leaps, BreaksAt};
+ghost use Rattle.ladder_grid.specs.Checks.{IsOdd, IsDrawnBefore, IsDrawnTwice, IsSecondJump, IsBrokenAlong, IsBrokenOn, IsKept};
 ghost use Rattle.ladder_grid.specs.Shapes.{same_pin, is_lower_for, takes_second, is_block_for, lacks_lower, is_apart};
-ghost use Rattle.ladder_grid.specs.Operand.{is_odd};
 ghost use Rattle.ladder_grid.specs.Page.{rung_at, form_at, name_over};
 ghost use Rattle.ladder_grid.specs.Picture.{text_over};
 ghost use Rattle.ladder_grid.specs.declared.fault.GridRule.{GridRule};
@@ -169,7 +169,7 @@ fn has_odd_name(page: PageView<'_, '_>, rung: usize, row: usize, column: usize) 
     requires few { rung < RUNGS }
     requires rows { row < ROWS }
     requires columns { column < COLUMNS }
-    ensures { result ≡ is_odd page.entry.decls.now (form_at (seen page.entry) rung row column) (name_over (seen page.entry) rung row column) }
+    ensures { IsTrue result ↔ IsOdd page.entry.decls.now (form_at (seen page.entry) rung row column) (name_over (seen page.entry) rung row column) }
 {
     is_odd(
         page.decls,
