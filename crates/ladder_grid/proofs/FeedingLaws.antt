@@ -248,8 +248,7 @@ dashes_first (suc n) chars tail some spelled = rw spelled refl
 form_dash : (chars : List ℕ) (form : Form) → HasForm chars form → wants_left form ≡ true → begins_with dash chars ≡ true
 unfolding dashed_table wants_left
 form_dash chars form (inl listed) wants = listed_dash whole_cells chars form refl listed wants
-form_dash chars form (inr (inl h)) wants = dashes_first h.before chars _ h.some_dashes h.spelled
-form_dash chars form (inr (inr h)) wants = dashes_first h.before chars _ h.some_dashes h.spelled
+form_dash chars form (inr h) wants = dashes_first h.0 chars _ h.4 h.5
 
 -- a cell with a left link has such a form
 form_wants : (n : ℕ) (form : Option Form) (name : Option Reference) (above target : Option ℕ)

@@ -24,11 +24,13 @@ use Rattle.ladder_grid.proofs.OddLaws.{odd_is}
 use Rattle.ladder_grid.specs.Page.{Page, labels_of, form_at, name_over, instance_at, instance_above}
 use Rattle.ladder_grid.specs.AllPlaces.{reading_place}
 use Rattle.ladder_vars.specs.Kind.{traits_of}
-use Rattle.ladder_grid.specs.Rules.{leaps, form_above, form_below}
-use Rattle.ladder_grid.specs.Checks.{part_at, label_of}
+use Rattle.ladder_grid.specs.Form.{leaps}
+use Rattle.ladder_grid.specs.Rules.{form_above, form_below}
+use Rattle.ladder_grid.specs.Checks.{part_at, label_of, later, target_to, jump_label}
 use Rattle.ladder_grid.specs.Shapes.{lacks_lower, is_apart}
 use Rattle.ladder_grid.proofs.ShapeLaws.{torn}
-use Rattle.ladder_grid.specs.PageRules.{later, target_to, jump_label, PartBreaks, IsSoundPage, target_of}
+use Rattle.ladder_grid.specs.PageRules.{PartBreaks, IsSoundPage, target_of}
+use Rattle.ladder_grid.proofs.TargetLaws.{target_is}
 use Rattle.ladder_grid.specs.Program.{drawing, blank_site, memory_in, block_in, goes_to, has_memory, Fits, has_second, IsWellFormed}
 use Rattle.ladder_grid.specs.Geometry.{place}
 use Rattle.ladder_grid.specs.Reading.{numbered, contact_on, coil_on, block_on, lower_of, jump_on, cell_with, cell_drawn, site_drawn, memories_before}
@@ -417,7 +419,7 @@ module _ (page : Page) (rungs : ℕ) (sites : List Site)
       let bounds : (s.rung < t) × (t ≤ rungs) = elim g.1 [
         | inl past ↦ (omega (arith, past, s.below), omega (arith, past))
         | inr known ↦
-            let w = target_within (labels_of page.lines page.parts) s.rung t (jump_label (form_at page s.rung s.row s.column)) known in
+            let w = target_within (labels_of page.lines page.parts) s.rung t (jump_label (form_at page s.rung s.row s.column)) (sym (target_is (labels_of page.lines page.parts) s.rung (form_at page s.rung s.row s.column)) ∙ known) in
             (w.0, omega (arith, w.1, count, length-map page.parts (label_of page.lines)))
       ] in
       record {

@@ -1,5 +1,5 @@
 -- Private: parts of the rules, as the code has them in functions of their own.
-use Rattle.std.specs.Prelude.{ℕ, ◌+◌, ◌-◌, ◌==◌, ◌&&◌, ◌||◌, ◌≡◌, ◌<◌, ◌≤◌, Bool, true, not, nat_le, List, length, take, drop, map, Option, Some, is_some}
+use Rattle.std.specs.Prelude.{ℕ, ◌+◌, ◌-◌, ◌==◌, ◌&&◌, ◌||◌, ◌≡◌, ◌<◌, ◌≤◌, Bool, true, not, nat_le, List, length, take, drop, map, Option, Some, None, is_some, is_none, option_and_then, position, if◌then◌else◌, nat_lt}
 use Rattle.std.specs.List.{list_any}
 use Rattle.ladder_grid.specs.declared.geometry.TheConstants.{ROWS, COLUMNS, RAIL}
 use Rattle.ladder_grid.specs.declared.lines.Part.{Part}
@@ -9,12 +9,15 @@ use Rattle.ladder_grid.specs.Lines.{part_in}
 use Rattle.ladder_grid.specs.Gap.{Labels, is_named, label_in, label_before}
 use Rattle.ladder_vars.specs.Decls.{Declared}
 use Rattle.ladder_grid.specs.declared.form.Form.{Form}
+use Rattle.ladder_grid.specs.declared.form.Form.TheVariants.{Jump}
 use Rattle.ladder_grid.specs.declared.operand.Reference.{Reference}
 use Rattle.ladder_grid.specs.declared.picture.Half.{Half}
 use Rattle.ladder_grid.specs.declared.fault.GridRule.{GridRule}
 use Rattle.ladder_grid.specs.Operand.{MayHave}
 use Rattle.ladder_grid.specs.Page.{Page, form_at, instance_at}
-use Rattle.ladder_grid.specs.Rules.{has_text, wants_name, leaps, HoldsBefore, BreaksAt}
+use Rattle.ladder_grid.specs.PageRules.{target_of}
+use Rattle.ladder_grid.specs.Form.{leaps}
+use Rattle.ladder_grid.specs.Rules.{has_text, wants_name, HoldsBefore, BreaksAt}
 
 abbrev pub part_at : Page → ℕ → Part
 part_at page k = part_in page.parts k
@@ -67,3 +70,19 @@ IsBrokenOn rule page k line = (r : ℕ) × (h : Half) × (r < ROWS) × (line ≡
 -- nowhere in the rung
 abbrev pub IsKept : Page → ℕ → GridRule → Type 0
 IsKept page k rule = (r : ℕ) → r < ROWS → (h : Half) → IsBrokenAlong rule page k r h → ⊥
+
+abbrev pub jump_label : Option Form → Option (List ℕ)
+jump_label (Some (Jump label)) = Some label
+jump_label form = None
+
+-- the target, where it comes after the rung k
+abbrev pub later : ℕ → Option ℕ → Option ℕ
+later k target = option_and_then (λ t. if nat_lt k t then Some t else None) target
+
+abbrev pub target_to : Labels → ℕ → Option (List ℕ) → Option ℕ
+target_to labels k None = None
+target_to labels k (Some label) = later k (position (is_named label) labels)
+
+-- a jump has no target
+abbrev pub leads_nowhere : Labels → ℕ → Option Form → Bool
+leads_nowhere labels k form = is_some (jump_label form) && is_none (target_of labels k form)

@@ -39,41 +39,30 @@ symbols =
     ∷ (codes "( )", Coil coil.Store) ∷ (codes "(/)", Coil coil.Inverse) ∷ (codes "(S)", Coil coil.Set) ∷ (codes "(R)", Coil coil.Reset)
     ∷ (codes "(P)", Coil coil.Rising) ∷ (codes "(N)", Coil coil.Falling) ∷ []
 
--- One or more dashes, a symbol, then only dashes or only spaces, or nothing.
-pub record HasSymbol (chars : List ℕ) (form : Form) : Type 0 where
-  pub before : ℕ
-  pub after : ℕ
-  pub filler : ℕ
-  pub symbol : List ℕ
-  pub some_dashes : 1 ≤ before
-  pub dashes_or_spaces : (filler ≡ dash) ⊎ (filler ≡ space)
-  pub listed : Lists symbols symbol form
-  pub spelled : chars ≡ replicate before dash ++ (symbol ++ replicate after filler)
-
 -- A label is a name of at most eight characters.
 abbrev pub is_label_name : List ℕ → Bool
 is_label_name word = nat_le (length word) 8 && is_name word
 
--- what leaves the rung: `<RETURN>`, or `>>` and a label
-abbrev pub IsLeap : List ℕ → Form → Type 0
-IsLeap mark form =
-    ((mark ≡ codes "<RETURN>") × (form ≡ Return))
-    ⊎ ((label : List ℕ) × (mark ≡ codes ">>" ++ label) × (is_label_name label ≡ true) × (form ≡ Jump label))
-
--- One or more dashes, such a mark, then only spaces, or nothing.
-pub record HasLeap (chars : List ℕ) (form : Form) : Type 0 where
-  pub before : ℕ
-  pub after : ℕ
-  pub mark : List ℕ
-  pub some_dashes : 1 ≤ before
-  pub leaps : IsLeap mark form
-  pub spelled : chars ≡ replicate before dash ++ (mark ++ replicate after space)
+-- One or more dashes, a mark and a filler, or nothing: a symbol, and then only dashes or only spaces; or what leaves the rung,
+-- `<RETURN>` or `>>` and a label, and then only spaces.
+abbrev pub HasMark : List ℕ → Form → Type 0
+HasMark chars form =
+    (before after filler : ℕ) × (mark : List ℕ) × (1 ≤ before) × (chars ≡ replicate before dash ++ (mark ++ replicate after filler))
+    × ((Lists symbols mark form × ((filler ≡ dash) ⊎ (filler ≡ space)))
+    ⊎ ((filler ≡ space) × (((mark ≡ codes "<RETURN>") × (form ≡ Return))
+    ⊎ ((label : List ℕ) × (mark ≡ codes ">>" ++ label) × (is_label_name label ≡ true) × (form ≡ Jump label)))))
 
 -- The characters of a cell have this form.
 abbrev pub HasForm : List ℕ → Form → Type 0
-HasForm chars form = Lists whole_cells chars form ⊎ (HasSymbol chars form ⊎ HasLeap chars form)
+HasForm chars form = Lists whole_cells chars form ⊎ HasMark chars form
 
 -- What the characters of a cell are: this form, or none.
 abbrev pub IsFormOf : List ℕ → Option Form → Type 0
 IsFormOf chars None = (form : Form) → HasForm chars form → ⊥
 IsFormOf chars (Some form) = HasForm chars form
+
+-- The cell leads out of its rung.
+abbrev pub leaps : Option Form → Bool
+leaps (Some (Jump label)) = true
+leaps (Some Return) = true
+leaps form = false

@@ -41,22 +41,16 @@ pub record IsWordIn (chars word : List ℕ) : Type 0 where
 abbrev pub ends_in : List ℕ → List ℕ → Bool
 ends_in suffix word = nat_le (length suffix) (length word) && same_letters (drop (length word - length suffix) word) suffix
 
-abbrev pub without_end : ℕ → List ℕ → List ℕ
-without_end n word = take (length word - n) word
-
-abbrev pub named : Declared → List ℕ → Option Symbol
-named decls word = if is_name word then find decls word else None
-
-abbrev pub referred : Option Output → Option Symbol → Option Reference
-referred output None = None
-referred output (Some s) = Some (record { symbol = s; output = output })
+-- a declared name, with this output
+abbrev pub reference : Declared → Option Output → List ℕ → Option Reference
+reference decls output name = option_map (λ s. record { symbol = s; output = output }) (if is_name name then find decls name else None)
 
 -- A declared name, or one with `.Q` or `.Q1`.
 unfoldable pub refer_to : Declared → List ℕ → Option Reference
 refer_to decls word =
-    if ends_in (codes ".Q") word then referred (Some output.Q) (named decls (without_end 2 word))
-    else (if ends_in (codes ".Q1") word then referred (Some output.Q1) (named decls (without_end 3 word))
-    else referred None (named decls word))
+    if ends_in (codes ".Q") word then reference decls (Some output.Q) (take (length word - 2) word)
+    else (if ends_in (codes ".Q1") word then reference decls (Some output.Q1) (take (length word - 3) word)
+    else reference decls None word)
 
 abbrev pub is_input_at : Option Var → Bool
 is_input_at (Some v) = is_input v

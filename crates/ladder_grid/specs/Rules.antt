@@ -8,13 +8,14 @@ use Rattle.ladder_grid.specs.Bytes.{space, dash, plus, bar, is_upright}
 use Rattle.ladder_vars.specs.declared.kind.Pin.{Pin}
 use Rattle.ladder_vars.specs.declared.kind.BlockKind.{BlockKind}
 use Rattle.ladder_grid.specs.declared.form.Form.{Form}
-use Rattle.ladder_grid.specs.declared.form.Form.TheVariants.{Contact, Coil, Block, Lower, Jump, Return}
+use Rattle.ladder_grid.specs.declared.form.Form.TheVariants.{Contact, Coil, Block, Lower}
 use Rattle.ladder_grid.specs.declared.fault.GridRule.{GridRule}
 use Rattle.ladder_grid.specs.declared.fault.GridRule.TheVariants as rule
 use Rattle.ladder_grid.specs.Operand.{MayHave}
 use Rattle.ladder_grid.specs.Picture.{Lines, line_of, ch, text_over, joint}
 use Rattle.ladder_grid.specs.declared.picture.Half.{Half}
 use Rattle.ladder_grid.specs.declared.picture.Half.TheVariants as half
+use Rattle.ladder_grid.specs.Form.{leaps}
 use Rattle.ladder_grid.specs.Feeding.{right_link, IsUnfed}
 use Rattle.ladder_grid.specs.Page.{Page, rung_at, form_at, name_over, instance_at}
 use Rattle.ladder_grid.specs.declared.operand.Reference.{Reference}
@@ -80,11 +81,6 @@ IsTorn page k r c =
 abbrev pub HoldsBefore : (ℕ → ℕ → ℕ → Type 0) → ℕ → ℕ → ℕ → Type 0
 HoldsBefore P k r c = (j q d : ℕ) × (q < ROWS) × (d < COLUMNS) × (PLACES * j + (COLUMNS * q + d) < PLACES * k + (COLUMNS * r + c)) × P j q d
 
-abbrev pub leaps : Option Form → Bool
-leaps (Some (Jump label)) = true
-leaps (Some Return) = true
-leaps form = false
-
 -- The rule is broken at the place. Only these rules speak of places.
 abbrev pub BreaksAt : GridRule → Page → ℕ → ℕ → Half → ℕ → Type 0
 -- G3: the cell has none of the forms.
@@ -99,8 +95,7 @@ BreaksAt rule.NameMissing page k r h c =
 BreaksAt rule.NameWithoutSymbol page k r h c =
     (h ≡ half.Name) × (c < COLUMNS) × ((wants_name (form_at page k r c) ≡ false) × (has_text (text_over (rung_at page k) r c) ≡ true))
 -- G9: the text over the cell is no declared name.
-BreaksAt rule.Undeclared page k r h c =
-    (h ≡ half.Name) × (c < COLUMNS) × ((wants_name (form_at page k r c) ≡ true) × (name_over page k r c ≡ None))
+BreaksAt rule.Undeclared page k r h c = (h ≡ half.Name) × (c < COLUMNS) × ((wants_name (form_at page k r c) ≡ true) × (name_over page k r c ≡ None))
 -- G10: the name is none that the symbol may have.
 BreaksAt rule.WrongKind page k r h c =
     (h ≡ half.Name) × (c < COLUMNS) × ((wants_name (form_at page k r c) ≡ true) × (x : Reference) × (name_over page k r c ≡ Some x)

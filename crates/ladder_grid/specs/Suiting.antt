@@ -1,7 +1,8 @@
--- Private: whether a symbol may have a name, as the code finds it.
-use Rattle.std.specs.Prelude.{Bool, true, false, not, ◌||◌, slice_get, Option, Some, None, is_some}
+-- Private: what a text over a cell stands for, and whether a symbol may have it, as the code finds it.
+use Rattle.std.specs.Prelude.{ℕ, ◌-◌, List, length, take, option_map, if◌then◌else◌, Bool, true, false, not, ◌||◌, slice_get, Option, Some, None, is_some}
 use Rattle.ladder_vars.specs.Kind.{traits_of}
-use Rattle.ladder_vars.specs.Decls.{Declared}
+use Rattle.ladder_vars.specs.Decls.{Declared, find}
+use Rattle.ladder_vars.specs.Name.{is_name}
 use Rattle.ladder_vars.specs.declared.decls.Symbol.{Symbol}
 use Rattle.ladder_vars.specs.declared.decls.Symbol.TheVariants as symbol
 use Rattle.ladder_vars.specs.declared.decls.Instance.{Instance}
@@ -13,6 +14,15 @@ use Rattle.ladder_grid.specs.declared.form.Form.{Form}
 use Rattle.ladder_grid.specs.declared.form.Form.TheVariants.{Contact, Coil, Block}
 use Rattle.ladder_grid.specs.declared.operand.Reference.{Reference}
 use Rattle.ladder_grid.specs.Operand.{is_input_at}
+
+abbrev pub without_end : ℕ → List ℕ → List ℕ
+without_end n word = take (length word - n) word
+
+abbrev pub named : Declared → List ℕ → Option Symbol
+named decls word = if is_name word then find decls word else None
+
+abbrev pub referred : Option Output → Option Symbol → Option Reference
+referred output s = option_map (λ s. record { symbol = s; output = output }) s
 
 abbrev pub same_kind : BlockKind → BlockKind → Bool
 same_kind kind.Ton kind.Ton = true
