@@ -11,7 +11,8 @@ use Rattle.ladder_grid.specs.declared.fault.GridRule.TheVariants as rule
 use Rattle.ladder_grid.specs.declared.picture.Half.TheVariants as half
 use Rattle.ladder_grid.specs.declared.operand.Reference.{Reference}
 use Rattle.ladder_grid.specs.Form.{Table, Lists, whole_cells, HasForm, IsFormOf}
-use Rattle.ladder_grid.specs.Picture.{Lines, ch, joint, vertical, cell_text, SameGroup}
+use Rattle.ladder_grid.specs.Picture.{Lines, ch, joint, vertical, text_at, SameGroup}
+use Rattle.ladder_grid.specs.Texts.{cell_text}
 use Rattle.ladder_grid.specs.Page.{Page, rung_at, form_at}
 use Rattle.ladder_grid.specs.Checks.{part_at}
 use Rattle.ladder_grid.specs.Feeding.{right_link, enters, IsFed}
@@ -266,7 +267,7 @@ form_wants n (Some (Jump label)) name above target h = (Jump label, refl, refl)
 form_wants n (Some Return) name above target h = (Return, refl, refl)
 
 first_dash : (rung : Lines) (r c : ℕ) → begins_with dash (cell_text rung r c) ≡ true → ch rung (2 * r + 1) (12 * c + 1) ≡ dash
-unfolding cell_text
+unfolding text_at
 first_dash rung r c h = eqb-true (ch rung (2 * r + 1) (12 * c + 1)) dash h
 
 pub feeds_cells : (text : List ℕ) (d : Drawing) → IsProgram text d → FeedsCells d

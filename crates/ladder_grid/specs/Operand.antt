@@ -1,5 +1,6 @@
 -- What the text over a cell stands for (the profile; output variables of instances as in IEC 61131-3).
 use Rattle.std.specs.Prelude.{◌≡◌, ◌++◌, replicate, ℕ, ◌+◌, ◌-◌, ◌==◌, nat_le, Bool, true, false, not, ◌&&◌, ◌||◌, List, [], ◌∷◌, length, take, drop, codes, slice_get, Option, Some, None, option_map, if◌then◌else◌}
+use Rattle.std.specs.List.{prefix_len, suffix_len}
 use Rattle.ladder_vars.specs.Name.{is_name, same_letters}
 use Rattle.ladder_vars.specs.Text.{begins_with}
 use Rattle.ladder_vars.specs.Kind.{traits_of}
@@ -15,18 +16,9 @@ use Rattle.ladder_vars.specs.declared.kind.Output.{Output}
 use Rattle.ladder_vars.specs.declared.kind.Output.TheVariants as output
 use Rattle.ladder_grid.specs.declared.operand.Reference.{Reference}
 
-abbrev pub after_spaces : List ℕ → List ℕ
-after_spaces [] = []
-after_spaces (b ∷ bs) = if b == space then after_spaces bs else b ∷ bs
-
--- how many characters there are up to the last that is no space; `at` were before, `kept` of them up to the last
-abbrev pub text_len : ℕ → ℕ → List ℕ → ℕ
-text_len at kept [] = kept
-text_len at kept (b ∷ bs) = if b == space then text_len (at + 1) kept bs else text_len (at + 1) (at + 1) bs
-
 -- The characters without the spaces at both ends.
 unfoldable pub word_in : List ℕ → List ℕ
-word_in chars = take (text_len 0 0 (after_spaces chars)) (after_spaces chars)
+word_in chars = drop (prefix_len (λ b. b == space) chars) (take (length chars - suffix_len (λ b. b == space) chars) chars)
 
 -- The characters are spaces, the word and spaces; the word neither begins nor ends with a space. Any characters have one such
 -- word, which is the one above.

@@ -12,7 +12,7 @@ use Rattle.ladder_grid.specs.declared.form.Form.TheVariants.{Contact, Coil, Bloc
 use Rattle.ladder_grid.specs.declared.fault.GridRule.{GridRule}
 use Rattle.ladder_grid.specs.declared.fault.GridRule.TheVariants as rule
 use Rattle.ladder_grid.specs.Operand.{MayHave}
-use Rattle.ladder_grid.specs.Picture.{Lines, line_of, ch, text_over, joint}
+use Rattle.ladder_grid.specs.Picture.{Lines, line_of, ch, text_at, joint}
 use Rattle.ladder_grid.specs.declared.picture.Half.{Half}
 use Rattle.ladder_grid.specs.declared.picture.Half.TheVariants as half
 use Rattle.ladder_grid.specs.Form.{leaps}
@@ -90,10 +90,10 @@ BreaksAt rule.BrokenVertical page k r h c = bad_vertical (rung_at page k) r h c 
 BreaksAt rule.Unfed page k r h c = (h ≡ half.Wire) × (c < COLUMNS) × IsUnfed page k r c
 -- G7: no name over a contact, a coil or a block.
 BreaksAt rule.NameMissing page k r h c =
-    (h ≡ half.Name) × (c < COLUMNS) × ((wants_name (form_at page k r c) ≡ true) × (has_text (text_over (rung_at page k) r c) ≡ false))
+    (h ≡ half.Name) × (c < COLUMNS) × ((wants_name (form_at page k r c) ≡ true) × (has_text (text_at (rung_at page k) (2 * r) c) ≡ false))
 -- G8: a text over another cell.
 BreaksAt rule.NameWithoutSymbol page k r h c =
-    (h ≡ half.Name) × (c < COLUMNS) × ((wants_name (form_at page k r c) ≡ false) × (has_text (text_over (rung_at page k) r c) ≡ true))
+    (h ≡ half.Name) × (c < COLUMNS) × ((wants_name (form_at page k r c) ≡ false) × (has_text (text_at (rung_at page k) (2 * r) c) ≡ true))
 -- G9: the text over the cell is no declared name.
 BreaksAt rule.Undeclared page k r h c = (h ≡ half.Name) × (c < COLUMNS) × ((wants_name (form_at page k r c) ≡ true) × (name_over page k r c ≡ None))
 -- G10: the name is none that the symbol may have.

@@ -12,7 +12,7 @@ ghost use Rattle.ladder_grid.specs.Form.{leaps};
 ghost use Rattle.ladder_grid.specs.Checks.{IsOdd, IsDrawnBefore, IsDrawnTwice, IsSecondJump, IsBrokenAlong, IsBrokenOn, IsKept};
 ghost use Rattle.ladder_grid.specs.Shapes.{same_pin, is_lower_for, takes_second, is_block_for, lacks_lower, is_apart};
 ghost use Rattle.ladder_grid.specs.Page.{rung_at, form_at, name_over};
-ghost use Rattle.ladder_grid.specs.Picture.{text_over};
+ghost use Rattle.ladder_grid.specs.Texts.{text_over};
 ghost use Rattle.ladder_grid.specs.declared.fault.GridRule.{GridRule};
 
 use crate::fault::GridRule;
