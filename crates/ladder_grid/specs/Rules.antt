@@ -1,9 +1,9 @@
 -- The rules of the cells, joints and names of a page (the profile): what each asks of a place. A place is a rung k, a row r, its
 -- name line or its wire line, and a column c; column 10 stands for the right rail.
-use Rattle.std.specs.Prelude.{◌≡◌, ◌⊎◌, ℕ, ◌+◌, ◌-◌, ◌*◌, ◌<◌, ◌≤◌, nat_lt, nat_le, Bool, true, false, not, ◌&&◌, ◌||◌, ◌==◌, List, Option, Some, None, if◌then◌else◌}
+use Rattle.std.specs.Prelude.{◌≡◌, ◌⊎◌, ℕ, ◌+◌, ◌-◌, ◌*◌, ◌<◌, ◌≤◌, Bool, true, false, not, ◌&&◌, ◌||◌, ◌==◌, List, Option, Some, None, if◌then◌else◌}
 use Rattle.std.specs.List.{list_any}
 use Rattle.ladder_vars.specs.Kind.{traits_of}
-use Rattle.ladder_grid.specs.declared.geometry.TheConstants.{ROWS, COLUMNS, PLACES, PITCH, RAIL}
+use Rattle.ladder_grid.specs.declared.geometry.TheConstants.{ROWS, COLUMNS, PLACES, PITCH}
 use Rattle.ladder_grid.specs.Bytes.{space, dash, plus, bar, is_upright}
 use Rattle.ladder_vars.specs.declared.kind.Pin.{Pin}
 use Rattle.ladder_vars.specs.declared.kind.BlockKind.{BlockKind}
@@ -12,7 +12,7 @@ use Rattle.ladder_grid.specs.declared.form.Form.TheVariants.{Contact, Coil, Bloc
 use Rattle.ladder_grid.specs.declared.fault.GridRule.{GridRule}
 use Rattle.ladder_grid.specs.declared.fault.GridRule.TheVariants as rule
 use Rattle.ladder_grid.specs.Operand.{MayHave}
-use Rattle.ladder_grid.specs.Picture.{Lines, line_of, ch, text_at, joint}
+use Rattle.ladder_grid.specs.Picture.{line_of, ch, text_at, joint}
 use Rattle.ladder_grid.specs.declared.picture.Half.{Half}
 use Rattle.ladder_grid.specs.declared.picture.Half.TheVariants as half
 use Rattle.ladder_grid.specs.Form.{leaps}
@@ -20,35 +20,16 @@ use Rattle.ladder_grid.specs.Feeding.{right_link, IsUnfed}
 use Rattle.ladder_grid.specs.Page.{Page, rung_at, form_at, name_over, instance_at}
 use Rattle.ladder_grid.specs.declared.operand.Reference.{Reference}
 
--- on a name line a joint's place has a space or a bar
-abbrev pub bad_name_joint : ℕ → Bool
-bad_name_joint b = not (b == space || b == bar)
+-- What may stand between two cells, beside a space: on a name line a bar; on a wire line a `+`, a dash with a right link on its
+-- left, or a bar with no link on either side.
+abbrev pub is_joint : Half → Bool → ℕ → ℕ → Bool
+is_joint half.Name linked b right = b == bar
+is_joint half.Wire linked b right = b == plus || (if linked then b == dash else b == bar && not (right == dash))
 
--- on a wire line it has a space, a dash with a right link on its left, a `+`, or a bar with no link on either side
-abbrev pub bad_wire_joint : ℕ → Bool → ℕ → Bool
-bad_wire_joint b linked right =
-    not (b == space || (b == dash || (b == plus || b == bar))) || ((b == dash && not linked) || (b == bar && (linked || right == dash)))
-
-abbrev pub bad_rail : ℕ → Bool
-bad_rail b = not (b == space || (b == plus || b == bar))
-
--- G4: the character at a joint's place or at the right rail isn't allowed there, or doesn't fit the cells beside it.
-abbrev pub bad_at_joint : Page → ℕ → ℕ → Half → ℕ → Bool
-bad_at_joint page k r half.Name c = bad_name_joint (ch (rung_at page k) (2 * r) (PITCH * c))
-bad_at_joint page k r half.Wire c =
-    bad_wire_joint (joint (rung_at page k) r c) (right_link page k r (c - 1)) (ch (rung_at page k) (2 * r + 1) (PITCH * c + 1))
-
-abbrev pub bad_joint : Page → ℕ → ℕ → Half → ℕ → Bool
-bad_joint page k r h c =
-    (c == COLUMNS && bad_rail (ch (rung_at page k) (line_of r h) RAIL))
-    || ((nat_le 1 c && nat_lt c COLUMNS) && bad_at_joint page k r h c)
-
--- G5: a bar on a name line where the joint above it or the one below it is neither a `+` nor a bar; row 0 has none above.
-abbrev pub bad_vertical : Lines → ℕ → Half → ℕ → Bool
-bad_vertical rung r half.Name c =
-    (nat_le 1 c && nat_lt c COLUMNS)
-    && (ch rung (2 * r) (PITCH * c) == bar && (r == 0 || (not (is_upright (joint rung (r - 1) c)) || not (is_upright (joint rung r c)))))
-bad_vertical rung r half.Wire c = false
+-- The character at a joint's place, or at the right rail, where a `+` or a bar may stand, is one that may.
+abbrev pub fits_joint : Page → ℕ → ℕ → Half → ℕ → ℕ → Bool
+fits_joint page k r h c b =
+    b == space || (if c == COLUMNS then is_upright b else is_joint h (right_link page k r (c - 1)) b (ch (rung_at page k) (line_of r h) (PITCH * c + 1)))
 
 -- the forms that have a name over them
 abbrev pub wants_name : Option Form → Bool
@@ -85,8 +66,12 @@ HoldsBefore P k r c = (j q d : ℕ) × (q < ROWS) × (d < COLUMNS) × (PLACES * 
 abbrev pub BreaksAt : GridRule → Page → ℕ → ℕ → Half → ℕ → Type 0
 -- G3: the cell has none of the forms.
 BreaksAt rule.BadCell page k r h c = (h ≡ half.Wire) × (c < COLUMNS) × (form_at page k r c ≡ None)
-BreaksAt rule.BadJoint page k r h c = bad_joint page k r h c ≡ true
-BreaksAt rule.BrokenVertical page k r h c = bad_vertical (rung_at page k) r h c ≡ true
+-- G4: the character at a joint's place or at the right rail isn't allowed there, or doesn't fit the cells beside it.
+BreaksAt rule.BadJoint page k r h c = (1 ≤ c) × (fits_joint page k r h c (ch (rung_at page k) (line_of r h) (PITCH * c)) ≡ false)
+-- G5: a bar on a name line where the joint above it or the one below it is neither a `+` nor a bar; row 0 has none above.
+BreaksAt rule.BrokenVertical page k r h c =
+    (h ≡ half.Name) × (1 ≤ c) × (c < COLUMNS) × ((ch (rung_at page k) (2 * r) (PITCH * c) == bar
+    && (r == 0 || (not (is_upright (joint (rung_at page k) (r - 1) c)) || not (is_upright (joint (rung_at page k) r c))))) ≡ true)
 BreaksAt rule.Unfed page k r h c = (h ≡ half.Wire) × (c < COLUMNS) × IsUnfed page k r c
 -- G7: no name over a contact, a coil or a block.
 BreaksAt rule.NameMissing page k r h c =
