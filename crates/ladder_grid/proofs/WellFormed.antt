@@ -25,9 +25,8 @@ use Rattle.ladder_grid.specs.Page.{Page, labels_of, form_at, name_over, instance
 use Rattle.ladder_grid.specs.AllPlaces.{reading_place}
 use Rattle.ladder_vars.specs.Kind.{traits_of}
 use Rattle.ladder_grid.specs.Form.{leaps}
-use Rattle.ladder_grid.specs.Rules.{form_above, form_below}
 use Rattle.ladder_grid.specs.Checks.{part_at, label_of, later, target_to, jump_label}
-use Rattle.ladder_grid.specs.Shapes.{lacks_lower, is_apart}
+use Rattle.ladder_grid.specs.Shapes.{lacks_lower, is_apart, form_above, form_below}
 use Rattle.ladder_grid.proofs.ShapeLaws.{torn}
 use Rattle.ladder_grid.specs.PageRules.{PartBreaks, IsSoundPage, target_of}
 use Rattle.ladder_grid.proofs.TargetLaws.{target_is}
@@ -571,7 +570,7 @@ module _ (page : Page) (rungs : ℕ) (sites : List Site)
                 judged,
                 2 * r + 1,
                 refl,
-                (r, half.Wire, rows, refl, (c, high, (refl, columns, (torn _ _ _).0 apart_here))),
+                (r, half.Wire, rows, refl, (c, high, (refl, columns, torn page k r c rows apart_here))),
               )),
             )))
       ] refl

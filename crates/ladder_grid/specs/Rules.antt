@@ -41,22 +41,18 @@ wants_name form = false
 abbrev pub has_text : List ℕ → Bool
 has_text chars = list_any (λ b. not (b == space)) chars
 
--- the form of a block whose second input this is
+-- the form of a block whose second input this is, and that of its lower cell
 abbrev pub IsBlockWith : Pin → Option Form → Type 0
 IsBlockWith p form = (k : BlockKind) × (form ≡ Some (Block k)) × ((traits_of k).second_input ≡ Some p)
 
-abbrev pub form_above : Page → ℕ → ℕ → ℕ → Option Form
-form_above page k r c = if r == 0 then None else form_at page k (r - 1) c
-
-abbrev pub form_below : Page → ℕ → ℕ → ℕ → Option Form
-form_below page k r c = if r + 1 == ROWS then None else form_at page k (r + 1) c
+abbrev pub IsLowerWith : Pin → Option Form → Type 0
+IsLowerWith p form = (linked : Bool) × (form ≡ Some (Lower p linked))
 
 -- G11: a block with a second input lacks its lower cell in the next row, or a lower cell its block above.
 abbrev pub IsTorn : Page → ℕ → ℕ → ℕ → Type 0
 IsTorn page k r c =
-    (p : Pin)
-    × ((IsBlockWith p (form_at page k r c) × ((linked : Bool) → form_below page k r c ≡ Some (Lower p linked) → ⊥))
-    ⊎ (((linked : Bool) × (form_at page k r c ≡ Some (Lower p linked))) × ¬ (IsBlockWith p (form_above page k r c))))
+    (p : Pin) × ((IsBlockWith p (form_at page k r c) × (r + 1 < ROWS → ¬ (IsLowerWith p (form_at page k (r + 1) c))))
+    ⊎ (IsLowerWith p (form_at page k r c) × (1 ≤ r → ¬ (IsBlockWith p (form_at page k (r - 1) c)))))
 
 -- It holds at a place before this one, in the order of reading: by rung, row and column.
 abbrev pub HoldsBefore : (ℕ → ℕ → ℕ → Type 0) → ℕ → ℕ → ℕ → Type 0
