@@ -1,7 +1,7 @@
 -- Power flow in a picture and in its program, and G6.
-use Rattle.std.proofs.Common.{◌≡◌, ℕ, zero, suc, ◌+◌, ◌-◌, ◌*◌, ◌<◌, ◌≤◌, ◌⊎◌, inl, inr, min, max, Bool, true, false, cond, ◌&&◌, ◌||◌, ◌==◌, not, nat_le, nat_lt, List, [], ◌∷◌, ◌++◌, length, replicate, Option, Some, None, refl, sym, ap, subst, ◌∙◌, arith}
+use Rattle.std.proofs.Common.{◌≡◌, ℕ, zero, suc, ◌+◌, ◌-◌, ◌*◌, ◌<◌, ◌≤◌, ◌⊎◌, inl, inr, min, max, Bool, true, false, cond, ◌&&◌, ◌||◌, ◌==◌, not, nat_le, List, [], ◌∷◌, ◌++◌, length, replicate, Option, Some, None, refl, sym, ap, subst, ◌∙◌, arith}
 use Rattle.std.specs.List.{list_all}
-use Rattle.std.proofs.lemmas.Bool.{cases_lt, ne_eqb, and_parts, or_cases, leb-true, le-leb, lt-ltb, eqb-true, true≢false}
+use Rattle.std.proofs.lemmas.Bool.{cases_lt, ne_eqb, and_parts, or_cases, leb-true, le-leb, eqb-true, true≢false}
 use Rattle.ladder_vars.specs.Text.{begins_with}
 use Rattle.ladder_grid.specs.Bytes.{space, dash, plus, bar}
 use Rattle.ladder_grid.specs.declared.form.Form.{Form}

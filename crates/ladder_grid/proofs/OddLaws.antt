@@ -1,5 +1,5 @@
 -- A name that the code finds odd is none that the symbol may have.
-use Rattle.std.proofs.Common.{◌≡◌, ◌↔◌, ℕ, Bool, true, false, not, IsTrue, slice_get, Option, Some, None, refl, sym, ap, subst, ◌∙◌}
+use Rattle.std.proofs.Common.{◌≡◌, ◌↔◌, Bool, true, false, not, IsTrue, slice_get, Option, Some, None, refl, sym, ap, subst, ◌∙◌}
 use Rattle.std.specs.Option.{option_map}
 use Rattle.ladder_vars.specs.Decls.{Declared, is_input}
 use Rattle.ladder_vars.specs.Kind.{traits_of}

@@ -133,7 +133,6 @@ read_found chars =
     } in
     subst (IsWordIn chars) (sym (read_is chars t.0 is)) is
 
-
 -- ---- what stands between the spaces at both ends
 
 is_space : ℕ → Bool

@@ -1,5 +1,5 @@
 -- Private: parts of the rules, as the code has them in functions of their own.
-use Rattle.std.specs.Prelude.{ℕ, ◌+◌, ◌-◌, ◌*◌, ◌==◌, ◌&&◌, ◌||◌, ◌≡◌, ◌<◌, ◌≤◌, Bool, true, not, nat_le, List, length, take, drop, map, Option, Some, None, is_some, is_none, option_and_then, position, if◌then◌else◌, nat_lt}
+use Rattle.std.specs.Prelude.{ℕ, ◌+◌, ◌-◌, ◌*◌, ◌==◌, ◌&&◌, ◌||◌, ◌≡◌, ◌<◌, ◌≤◌, Bool, true, not, nat_le, List, drop, Option, Some, None, is_some, is_none, option_and_then, position, if◌then◌else◌, nat_lt}
 use Rattle.std.specs.List.{list_any}
 use Rattle.ladder_grid.specs.declared.geometry.TheConstants.{ROWS, COLUMNS, PITCH, RAIL}
 use Rattle.ladder_grid.specs.declared.lines.Part.{Part}

@@ -1,5 +1,5 @@
 -- What the text over a cell stands for (the profile; output variables of instances as in IEC 61131-3).
-use Rattle.std.specs.Prelude.{◌≡◌, ◌++◌, replicate, ℕ, ◌+◌, ◌-◌, ◌==◌, nat_le, Bool, true, false, not, ◌&&◌, ◌||◌, List, [], ◌∷◌, length, take, drop, codes, slice_get, Option, Some, None, option_map, if◌then◌else◌}
+use Rattle.std.specs.Prelude.{◌≡◌, ◌++◌, replicate, ℕ, ◌-◌, ◌==◌, nat_le, Bool, true, false, ◌&&◌, List, [], ◌∷◌, length, take, drop, codes, slice_get, Option, Some, None, option_map, if◌then◌else◌}
 use Rattle.std.specs.List.{prefix_len, suffix_len}
 use Rattle.ladder_vars.specs.Name.{is_name, same_letters}
 use Rattle.ladder_vars.specs.Text.{begins_with}
@@ -8,7 +8,6 @@ use Rattle.ladder_vars.specs.Decls.{Declared, find, is_input}
 use Rattle.ladder_vars.specs.declared.decls.Symbol.{Symbol}
 use Rattle.ladder_vars.specs.declared.decls.Symbol.TheVariants as symbol
 use Rattle.ladder_vars.specs.declared.decls.Var.{Var}
-use Rattle.ladder_vars.specs.declared.decls.Instance.{Instance}
 use Rattle.ladder_grid.specs.Bytes.{space}
 use Rattle.ladder_grid.specs.declared.form.Form.{Form}
 use Rattle.ladder_grid.specs.declared.form.Form.TheVariants.{Contact, Coil, Block}

@@ -45,7 +45,14 @@ fn is_joint(half: Half, linked: bool, b: u8, right: u8) -> bool
 }
 
 /// Whether what stands at a joint's place, or at the right rail, may stand there.
-fn fits_joint(page: PageView<'_, '_>, rung: usize, row: usize, half: Half, column: usize, b: u8) -> bool
+fn fits_joint(
+    page: PageView<'_, '_>,
+    rung: usize,
+    row: usize,
+    half: Half,
+    column: usize,
+    b: u8,
+) -> bool
     requires rungs { rung < length page.parts.now }
     requires rows { row < ROWS }
     requires columns { column ≤ COLUMNS }
