@@ -10,7 +10,9 @@ use Rattle.ladder_grid.specs.declared.fault.Rule.TheVariants.{Grid}
 use Rattle.ladder_grid.specs.declared.fault.GridRule.TheVariants as rule
 use Rattle.ladder_grid.specs.declared.picture.Half.TheVariants as half
 use Rattle.ladder_grid.specs.declared.operand.Reference.{Reference}
-use Rattle.ladder_grid.specs.Form.{Table, Lists, whole_cells, HasForm, IsFormOf}
+use Rattle.ladder_grid.specs.Form.{whole_cells, HasForm, IsFormOf}
+use Rattle.ladder_grid.specs.ReadForm.{Table, Lists}
+use Rattle.ladder_grid.proofs.FormLaws.{lists_of}
 use Rattle.ladder_grid.specs.Picture.{Lines, ch, joint, vertical, text_at, SameGroup}
 use Rattle.ladder_grid.specs.Texts.{cell_text}
 use Rattle.ladder_grid.specs.Page.{Page, rung_at, form_at}
@@ -237,7 +239,7 @@ dashes_first (suc n) chars tail some spelled = rw spelled refl
 -- a form with a left link begins with a dash
 form_dash : (chars : List ℕ) (form : Form) → HasForm chars form → wants_left form ≡ true → begins_with dash chars ≡ true
 unfolding dashed_table wants_left
-form_dash chars form (inl listed) wants = listed_dash whole_cells chars form refl listed wants
+form_dash chars form (inl listed) wants = listed_dash whole_cells chars form refl (lists_of whole_cells chars form listed) wants
 form_dash chars form (inr h) wants = dashes_first h.0 chars _ h.4 h.5
 
 -- a cell with a left link has such a form
