@@ -1,7 +1,7 @@
 -- Power flow in a picture and in its program, and G6.
-use Rattle.std.proofs.Common.{◌≡◌, ℕ, zero, suc, ◌+◌, ◌-◌, ◌*◌, ◌<◌, ◌≤◌, ◌⊎◌, inl, inr, min, max, Bool, true, false, ◌||◌, ◌==◌, not, nat_le, nat_lt, List, [], ◌∷◌, ◌++◌, length, replicate, Option, Some, None, refl, sym, ap, subst, ◌∙◌, arith}
+use Rattle.std.proofs.Common.{◌≡◌, ℕ, zero, suc, ◌+◌, ◌-◌, ◌*◌, ◌<◌, ◌≤◌, ◌⊎◌, inl, inr, min, max, Bool, true, false, cond, ◌&&◌, ◌||◌, ◌==◌, not, nat_le, List, [], ◌∷◌, ◌++◌, length, replicate, Option, Some, None, refl, sym, ap, subst, ◌∙◌, arith}
 use Rattle.std.specs.List.{list_all}
-use Rattle.std.proofs.lemmas.Bool.{cases_lt, ne_eqb, and_parts, leb-true, le-leb, lt-ltb, eqb-true, true≢false}
+use Rattle.std.proofs.lemmas.Bool.{cases_lt, ne_eqb, and_parts, or_cases, leb-true, le-leb, eqb-true, true≢false}
 use Rattle.ladder_vars.specs.Text.{begins_with}
 use Rattle.ladder_grid.specs.Bytes.{space, dash, plus, bar}
 use Rattle.ladder_grid.specs.declared.form.Form.{Form}
@@ -10,11 +10,15 @@ use Rattle.ladder_grid.specs.declared.fault.Rule.TheVariants.{Grid}
 use Rattle.ladder_grid.specs.declared.fault.GridRule.TheVariants as rule
 use Rattle.ladder_grid.specs.declared.picture.Half.TheVariants as half
 use Rattle.ladder_vars.specs.declared.decls.Symbol.{Symbol}
-use Rattle.ladder_grid.specs.Form.{Table, Lists, whole_cells, HasForm, IsFormOf}
-use Rattle.ladder_grid.specs.Picture.{Lines, ch, joint, vertical, cell_text, SameGroup}
-use Rattle.ladder_grid.specs.Page.{Page, part_at, rung_at, form_at}
+use Rattle.ladder_grid.specs.Form.{whole_cells, HasForm, IsFormOf}
+use Rattle.ladder_grid.specs.ReadForm.{Table, Lists}
+use Rattle.ladder_grid.proofs.FormLaws.{lists_of}
+use Rattle.ladder_grid.specs.Picture.{Lines, ch, joint, vertical, text_at, SameGroup}
+use Rattle.ladder_grid.specs.Texts.{cell_text}
+use Rattle.ladder_grid.specs.Page.{Page, rung_at, form_at}
+use Rattle.ladder_grid.specs.Checks.{part_at}
 use Rattle.ladder_grid.specs.Feeding.{right_link, enters, IsFed}
-use Rattle.ladder_grid.specs.Rules.{bad_wire_joint, bad_joint}
+use Rattle.ladder_grid.specs.Rules.{is_joint, fits_joint}
 use Rattle.ladder_grid.specs.PageRules.{PartBreaks}
 use Rattle.ladder_grid.specs.Program.{Drawing, takes_power, site_at, joined, feeds}
 use Rattle.ladder_grid.specs.Reading.{joint_of, cell_with, IsDrawn, IsProgram}
@@ -123,57 +127,36 @@ module _ (page : Page) (d : Drawing) (drawn : IsDrawn page d) where
       ]
 
   -- a joint on the left of a dash that G4 allows
-  wire_joint : (b : ℕ) (linked : Bool) → bad_wire_joint b linked dash ≡ false → (b ≡ space) ⊎ (((b ≡ dash) × (linked ≡ true)) ⊎ (b ≡ plus))
-  wire_joint b linked h =
-      elim (b == space) as (λ t. (b == space) ≡ t → (b ≡ space) ⊎ (((b ≡ dash) × (linked ≡ true)) ⊎ (b ≡ plus))) [
-        | true ↦ λ e. inl (eqb-true b space e)
-        | false ↦ λ no_space. elim (b == plus) as (λ t. (b == plus) ≡ t → (b ≡ space) ⊎ (((b ≡ dash) × (linked ≡ true)) ⊎ (b ≡ plus))) [
-          | true ↦ λ e. inr (inr (eqb-true b plus e))
-          | false ↦ λ no_plus. elim (b == dash) as (λ t. (b == dash) ≡ t → (b ≡ space) ⊎ (((b ≡ dash) × (linked ≡ true)) ⊎ (b ≡ plus))) [
-            | true ↦ λ e. elim linked as (λ l. linked ≡ l → (b ≡ space) ⊎ (((b ≡ dash) × (linked ≡ true)) ⊎ (b ≡ plus))) [
-              | true ↦ λ l. inr (inl (eqb-true b dash e, l))
-              | false ↦ λ l. let broken : bad_wire_joint b linked dash ≡ true = rw (no_space, no_plus, e, l) refl in absurd (true≢false (sym broken ∙ h))
-            ] refl
-            | false ↦ λ no_dash. elim (b == bar) as (λ t. (b == bar) ≡ t → (b ≡ space) ⊎ (((b ≡ dash) × (linked ≡ true)) ⊎ (b ≡ plus))) [
-              | true ↦ λ e. elim linked as (λ l. linked ≡ l → (b ≡ space) ⊎ (((b ≡ dash) × (linked ≡ true)) ⊎ (b ≡ plus))) [
-                | true ↦ λ l. let broken : bad_wire_joint b linked dash ≡ true = rw (no_space, no_plus, no_dash, e, l) refl in absurd (true≢false (sym broken ∙ h))
-                | false ↦ λ l. let broken : bad_wire_joint b linked dash ≡ true = rw (no_space, no_plus, no_dash, e, l) refl in absurd (true≢false (sym broken ∙ h))
-              ] refl
-              | false ↦ λ e. let broken : bad_wire_joint b linked dash ≡ true = rw (no_space, no_plus, no_dash, e) refl in absurd (true≢false (sym broken ∙ h))
-            ] refl
-          ] refl
-        ] refl
-      ] refl
+  wire_joint : (b : ℕ) (linked : Bool) → (b == space || is_joint half.Wire linked b dash) ≡ true → (b ≡ space) ⊎ (((b ≡ dash) × (linked ≡ true)) ⊎ (b ≡ plus))
+  wire_joint b linked h = elim (or_cases (b == space) _ h) [
+    | inl e ↦ inl (eqb-true b space e)
+    | inr other ↦ elim (or_cases (b == plus) _ other) [
+      | inl e ↦ inr (inr (eqb-true b plus e))
+      | inr rest ↦ elim linked as (λ l. linked ≡ l → cond l (b == dash) (b == bar && false) ≡ true → (b ≡ space) ⊎ (((b ≡ dash) × (linked ≡ true)) ⊎ (b ≡ plus))) [
+        | true ↦ λ l e. inr (inl (eqb-true b dash e, l))
+        | false ↦ λ l e. absurd (off_on (and_parts (b == bar) false e).1)
+      ] refl rest
+    ]
+  ]
 
   -- G4 holds at a joint
-  never_odd_joint : (k r c : ℕ) → k < d.rungs → r < 6 → 1 ≤ c → c < 10
-      → bad_wire_joint (joint (rung_at page k) r c) (right_link page k r (c - 1)) (ch (rung_at page k) (2 * r + 1) (12 * c + 1)) ≡ false
+  never_odd_joint : (k r c : ℕ) → k < d.rungs → r < 6 → 1 ≤ c → c < 10 → fits_joint page k r half.Wire c (joint (rung_at page k) r c) ≡ true
   unfolding PartBreaks
   never_odd_joint k r c below rows some columns =
-      elim (bad_wire_joint (joint (rung_at page k) r c) (right_link page k r (c - 1)) (ch (rung_at page k) (2 * r + 1) (12 * c + 1))) as
-      (λ t. bad_wire_joint (joint (rung_at page k) r c) (right_link page k r (c - 1)) (ch (rung_at page k) (2 * r + 1) (12 * c + 1)) ≡ t → t ≡ false) [
-        | false ↦ λ e. refl
-        | true ↦ λ e.
+      elim (fits_joint page k r half.Wire c (joint (rung_at page k) r c)) as
+      (λ t. fits_joint page k r half.Wire c (joint (rung_at page k) r c) ≡ t → t ≡ true) [
+        | true ↦ λ e. refl
+        | false ↦ λ e.
             let inside : k < length page.parts = omega (arith, below, drawn.rungs) in
             let judged : k < 100 = omega (arith, below, drawn.whole.few) in
             let high : c ≤ 10 = omega (arith, columns) in
-            let past : nat_le 1 c ≡ true = le-leb 1 c some in
-            let in_columns : nat_lt c 10 ≡ true = lt-ltb c 10 columns in
-            let last : (c == 10) ≡ false = ne_eqb c 10 (λ is. absurd (omega (arith, is, columns))) in
-            let broken : bad_joint page k r half.Wire c ≡ true = rw (last, past, in_columns, e) refl in
             absurd (drawn.sound (Grid rule.BadJoint) k ((part_at page k).start + (2 * r + 1)) (inl (
               inside,
               inr (inr (
                 judged,
                 2 * r + 1,
                 refl,
-                record {
-                  row = r;
-                  half = half.Wire;
-                  in_rung = rows;
-                  on = refl;
-                  along = (c, high, broken);
-                },
+                (r, half.Wire, rows, refl, (c, high, (some, e))),
               )),
             )))
       ] refl
@@ -192,13 +175,7 @@ module _ (page : Page) (d : Drawing) (drawn : IsDrawn page d) where
           judged,
           2 * r + 1,
           refl,
-          record {
-            row = r;
-            half = half.Wire;
-            in_rung = rows;
-            on = refl;
-            along = (c, high, (refl, columns, (some, dashed, unfed)));
-          },
+          (r, half.Wire, rows, refl, (c, high, (refl, columns, (some, dashed, unfed)))),
         )),
       ))
 
@@ -209,9 +186,13 @@ module _ (page : Page) (d : Drawing) (drawn : IsDrawn page d) where
         | inr none ↦
             let no_feed : IsFed page k r c → ⊥ = λ (f : IsFed page k r c).
             none f.0 f.1 ((same_feeding k r c f.0 below rows columns f.1).1 (some, f.2, f.3)) in
-            let fits : bad_wire_joint (joint (rung_at page k) r c) (right_link page k r (c - 1)) dash ≡ false
-            = ap (bad_wire_joint (joint (rung_at page k) r c) (right_link page k r (c - 1))) (sym dashed) ∙ never_odd_joint k r c below rows some columns in
-            elim (wire_joint (joint (rung_at page k) r c) (right_link page k r (c - 1)) fits) [
+            let linked : Bool = right_link page k r (c - 1) in
+            let inner : (c == 10) ≡ false = ne_eqb c 10 (λ is. absurd (omega (arith, is, columns))) in
+            let fits : (joint (rung_at page k) r c == space || is_joint half.Wire linked (joint (rung_at page k) r c) (ch (rung_at page k) (2 * r + 1) (12 * c + 1))) ≡ true
+            = rw inner at (never_odd_joint k r c below rows some columns) in
+            let dashes : (joint (rung_at page k) r c == space || is_joint half.Wire linked (joint (rung_at page k) r c) dash) ≡ true
+            = ap (λ x. joint (rung_at page k) r c == space || is_joint half.Wire linked (joint (rung_at page k) r c) x) (sym dashed) ∙ fits in
+            elim (wire_joint (joint (rung_at page k) r c) (right_link page k r (c - 1)) dashes) [
               | inl blank ↦ absurd (never_unfed k r c below rows some columns dashed (inl blank))
               | inr (inr branch) ↦ absurd (never_unfed k r c below rows some columns dashed (inr (branch, no_feed)))
               | inr (inl (straight, linked)) ↦
@@ -258,9 +239,8 @@ dashes_first (suc n) chars tail some spelled = rw spelled refl
 -- a form with a left link begins with a dash
 form_dash : (chars : List ℕ) (form : Form) → HasForm chars form → wants_left form ≡ true → begins_with dash chars ≡ true
 unfolding dashed_table wants_left
-form_dash chars form (inl listed) wants = listed_dash whole_cells chars form refl listed wants
-form_dash chars form (inr (inl h)) wants = dashes_first h.before chars _ h.some_dashes h.spelled
-form_dash chars form (inr (inr h)) wants = dashes_first h.before chars _ h.some_dashes h.spelled
+form_dash chars form (inl listed) wants = listed_dash whole_cells chars form refl (lists_of whole_cells chars form listed) wants
+form_dash chars form (inr h) wants = dashes_first h.0 chars _ h.4 h.5
 
 -- a cell with a left link has such a form
 form_wants : (n : ℕ) (form : Option Form) (name : Option Symbol) (above target : Option ℕ)
@@ -278,7 +258,7 @@ form_wants n (Some (Jump label)) name above target h = (Jump label, refl, refl)
 form_wants n (Some Return) name above target h = (Return, refl, refl)
 
 first_dash : (rung : Lines) (r c : ℕ) → begins_with dash (cell_text rung r c) ≡ true → ch rung (2 * r + 1) (12 * c + 1) ≡ dash
-unfolding cell_text
+unfolding text_at
 first_dash rung r c h = eqb-true (ch rung (2 * r + 1) (12 * c + 1)) dash h
 
 pub feeds_cells : (text : List ℕ) (d : Drawing) → IsProgram text d → FeedsCells d

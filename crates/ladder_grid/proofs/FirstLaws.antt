@@ -7,11 +7,13 @@ use Rattle.ladder_vars.specs.Decls.{Declared}
 use Rattle.ladder_grid.specs.declared.form.Form.{Form}
 use Rattle.ladder_grid.specs.declared.lines.Part.{Part}
 use Rattle.ladder_grid.specs.declared.operand.NameOver.{NameOver}
-use Rattle.ladder_grid.specs.Geometry.{place, reading_place}
+use Rattle.ladder_grid.specs.Geometry.{place}
+use Rattle.ladder_grid.specs.AllPlaces.{reading_place}
 use Rattle.ladder_grid.specs.Operand.{instance_on}
-use Rattle.ladder_grid.specs.Page.{Page, page, form_at, name_over, instance_at}
+use Rattle.ladder_grid.specs.Page.{Page, form_at, name_over, instance_at}
 use Rattle.ladder_grid.specs.Picture.{Lines}
-use Rattle.ladder_grid.specs.Rules.{IsDrawnBefore}
+use Rattle.ladder_grid.specs.ReadLines.{page}
+use Rattle.ladder_grid.specs.Checks.{IsDrawnBefore}
 use Rattle.ladder_grid.specs.Tables.{place_read, block_in, noted_at, noted, firsts_of, overs_of, IsBefore}
 use Rattle.ladder_grid.proofs.FitLaws.{refer_fits, instance_fits}
 use Rattle.ladder_grid.proofs.OverLaws.{over_at}
@@ -136,15 +138,15 @@ module _ (decls : Declared) (lines : Lines) (unclosed : Option ℕ) (parts : Lis
       let row : first % 60 / 10 < 6 = omega arith in
       let column : first % 60 % 10 < 10 = omega arith in
       let here : reading_place (first / 60) (first % 60 / 10) (first % 60 % 10) ≡ first = omega arith in
-      record {
-        rung = first / 60;
-        row = first % 60 / 10;
-        column = first % 60 % 10;
-        in_rung = row;
-        in_row = column;
-        earlier = omega (arith, here, before);
-        drawn = sym (block_at (first / 60) (first % 60 / 10) (first % 60 % 10) rung few row column) ∙ ap block here ∙ is;
-      }
+      let earlier : reading_place (first / 60) (first % 60 / 10) (first % 60 % 10) < reading_place k r c = omega (arith, here, before) in (
+        first / 60,
+        first % 60 / 10,
+        first % 60 % 10,
+        row,
+        column,
+        earlier,
+        sym (block_at (first / 60) (first % 60 / 10) (first % 60 % 10) rung few row column) ∙ ap block here ∙ is,
+      )
 
   before_here : (k r c inst : ℕ) (o : Option ℕ) → FirstIn block count inst o → IsBefore o (reading_place k r c) → IsDrawnBefore drawn_on inst k r c
   before_here k r c inst None says before = absurd before
@@ -175,15 +177,15 @@ module _ (decls : Declared) (lines : Lines) (unclosed : Option ℕ) (parts : Lis
       | inr past ↦ absurd (no_entry inst _ past (subst (λ xs. IsBefore (slice_index_or xs inst None) (reading_place k r c)) table before))
     ],
     λ d.
-        let declared : inst < length decls.instances = declared_only d.rung d.row d.column inst d.drawn in
-        let rung : d.rung ≤ k = omega (arith, d.earlier, d.in_rung, d.in_row, rows, columns) in
-        let in_parts : d.rung < length parts = omega (arith, rung, below) in
-        let in_limit : d.rung < 100 = omega (arith, rung, few) in
-        let within : reading_place d.rung d.row d.column < count = omega (arith, in_parts, in_limit, d.in_rung, d.in_row) in
-        let is : block (reading_place d.rung d.row d.column) ≡ Some inst = block_at d.rung d.row d.column in_parts in_limit d.in_rung d.in_row ∙ d.drawn in
+        let declared : inst < length decls.instances = declared_only d.0 d.1 d.2 inst d.6 in
+        let rung : d.0 ≤ k = omega (arith, d.5, d.3, d.4, rows, columns) in
+        let in_parts : d.0 < length parts = omega (arith, rung, below) in
+        let in_limit : d.0 < 100 = omega (arith, rung, few) in
+        let within : reading_place d.0 d.1 d.2 < count = omega (arith, in_parts, in_limit, d.3, d.4) in
+        let is : block (reading_place d.0 d.1 d.2) ≡ Some inst = block_at d.0 d.1 d.2 in_parts in_limit d.3 d.4 ∙ d.6 in
         let says = first_in block (length decls.instances) count inst declared in
         subst (λ xs. IsBefore (slice_index_or xs inst None) (reading_place k r c)) (sym table)
-        (found_before inst (reading_place d.rung d.row d.column) (reading_place k r c) _ says within d.earlier is),
+        (found_before inst (reading_place d.0 d.1 d.2) (reading_place k r c) _ says within d.5 is),
   )
 
   pub drawn_by : (firsts : List (Option ℕ)) → firsts ≡ firsts_of block (length decls.instances) count

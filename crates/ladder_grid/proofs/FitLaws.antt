@@ -17,7 +17,8 @@ use Rattle.ladder_grid.specs.declared.form.Form.TheVariants.{Empty, Wire, Contac
 use Rattle.ladder_vars.specs.declared.kind.Output.{Output}
 use Rattle.ladder_vars.specs.declared.kind.Output.TheVariants as output
 use Rattle.ladder_grid.specs.declared.operand.Reference.{Reference}
-use Rattle.ladder_grid.specs.Operand.{named, referred, refer_to, ends_in, without_end, is_input_at, is_odd_on_coil, is_odd, instance_of, instance_on}
+use Rattle.ladder_grid.specs.Operand.{refer_to, ends_in, is_input_at, instance_of, instance_on}
+use Rattle.ladder_grid.specs.Suiting.{named, referred, without_end, is_odd_on_coil, is_odd}
 use Rattle.ladder_grid.specs.Program.{Fits}
 use Rattle.ladder_grid.specs.Reading.{cell_with}
 use Rattle.ladder_grid.proofs.NumberLaws.{numbered}

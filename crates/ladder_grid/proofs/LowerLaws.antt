@@ -3,7 +3,6 @@ use Rattle.std.proofs.Common.{◌≡◌, ℕ, Bool, true, false, not, ◌||◌, 
 use Rattle.ladder_vars.specs.Decls.{Declared}
 use Rattle.ladder_vars.specs.declared.decls.Instance.{Instance}
 use Rattle.ladder_vars.specs.declared.kind.BlockKind.{BlockKind}
-use Rattle.ladder_vars.specs.declared.kind.BlockKind.TheVariants as kind
 use Rattle.ladder_vars.specs.declared.decls.Symbol.{Symbol}
 use Rattle.ladder_vars.specs.declared.decls.Symbol.TheVariants as symbol
 use Rattle.ladder_vars.specs.declared.kind.Pin.{Pin}
@@ -12,9 +11,11 @@ use Rattle.ladder_grid.specs.declared.form.Form.TheVariants.{Empty, Wire, Contac
 use Rattle.ladder_vars.specs.declared.kind.Output.{Output}
 use Rattle.ladder_grid.specs.declared.operand.Reference.{Reference}
 use Rattle.ladder_vars.specs.Kind.{traits_of}
-use Rattle.ladder_grid.specs.Operand.{same_kind, is_of_kind, is_odd_on_block, is_odd, instance_of, instance_on}
+use Rattle.ladder_grid.specs.Operand.{instance_of, instance_on}
+use Rattle.ladder_grid.specs.Suiting.{same_kind, is_of_kind, is_odd_on_block, is_odd}
 use Rattle.ladder_grid.specs.Shapes.{lacks_lower}
 use Rattle.ladder_grid.specs.Program.{is_pin, has_second}
+use Rattle.ladder_grid.proofs.OddLaws.{kind_is}
 
 none_some : {A : Type 0} {x : A} → None ≡ Some x → ⊥
 none_some h = cc
@@ -37,55 +38,7 @@ or_false true y h = absurd (on_off h)
 or_false false y h = h
 
 same_second : (a b : BlockKind) → same_kind a b ≡ true → (traits_of a).second_input ≡ (traits_of b).second_input
-same_second kind.Ton kind.Ton h = refl
-same_second kind.Ton kind.Tof h = absurd (off_on h)
-same_second kind.Ton kind.Tp h = absurd (off_on h)
-same_second kind.Ton kind.Ctu h = absurd (off_on h)
-same_second kind.Ton kind.Ctd h = absurd (off_on h)
-same_second kind.Ton kind.Sr h = absurd (off_on h)
-same_second kind.Ton kind.Rs h = absurd (off_on h)
-same_second kind.Tof kind.Ton h = absurd (off_on h)
-same_second kind.Tof kind.Tof h = refl
-same_second kind.Tof kind.Tp h = absurd (off_on h)
-same_second kind.Tof kind.Ctu h = absurd (off_on h)
-same_second kind.Tof kind.Ctd h = absurd (off_on h)
-same_second kind.Tof kind.Sr h = absurd (off_on h)
-same_second kind.Tof kind.Rs h = absurd (off_on h)
-same_second kind.Tp kind.Ton h = absurd (off_on h)
-same_second kind.Tp kind.Tof h = absurd (off_on h)
-same_second kind.Tp kind.Tp h = refl
-same_second kind.Tp kind.Ctu h = absurd (off_on h)
-same_second kind.Tp kind.Ctd h = absurd (off_on h)
-same_second kind.Tp kind.Sr h = absurd (off_on h)
-same_second kind.Tp kind.Rs h = absurd (off_on h)
-same_second kind.Ctu kind.Ton h = absurd (off_on h)
-same_second kind.Ctu kind.Tof h = absurd (off_on h)
-same_second kind.Ctu kind.Tp h = absurd (off_on h)
-same_second kind.Ctu kind.Ctu h = refl
-same_second kind.Ctu kind.Ctd h = absurd (off_on h)
-same_second kind.Ctu kind.Sr h = absurd (off_on h)
-same_second kind.Ctu kind.Rs h = absurd (off_on h)
-same_second kind.Ctd kind.Ton h = absurd (off_on h)
-same_second kind.Ctd kind.Tof h = absurd (off_on h)
-same_second kind.Ctd kind.Tp h = absurd (off_on h)
-same_second kind.Ctd kind.Ctu h = absurd (off_on h)
-same_second kind.Ctd kind.Ctd h = refl
-same_second kind.Ctd kind.Sr h = absurd (off_on h)
-same_second kind.Ctd kind.Rs h = absurd (off_on h)
-same_second kind.Sr kind.Ton h = absurd (off_on h)
-same_second kind.Sr kind.Tof h = absurd (off_on h)
-same_second kind.Sr kind.Tp h = absurd (off_on h)
-same_second kind.Sr kind.Ctu h = absurd (off_on h)
-same_second kind.Sr kind.Ctd h = absurd (off_on h)
-same_second kind.Sr kind.Sr h = refl
-same_second kind.Sr kind.Rs h = absurd (off_on h)
-same_second kind.Rs kind.Ton h = absurd (off_on h)
-same_second kind.Rs kind.Tof h = absurd (off_on h)
-same_second kind.Rs kind.Tp h = absurd (off_on h)
-same_second kind.Rs kind.Ctu h = absurd (off_on h)
-same_second kind.Rs kind.Ctd h = absurd (off_on h)
-same_second kind.Rs kind.Sr h = absurd (off_on h)
-same_second kind.Rs kind.Rs h = refl
+same_second a b h = ap (λ k. (traits_of k).second_input) (kind_is a b h)
 
 pub kind_second : (k : BlockKind) (o : Option Instance) → is_of_kind k o ≡ true → has_second o ≡ true → is_pin (traits_of k).second_input ≡ true
 kind_second k None h s = absurd (off_on h)

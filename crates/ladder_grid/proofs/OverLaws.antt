@@ -4,7 +4,8 @@ use Rattle.ladder_vars.specs.Decls.{Declared}
 use Rattle.ladder_grid.specs.declared.lines.Part.{Part}
 use Rattle.ladder_grid.specs.declared.operand.NameOver.{NameOver}
 use Rattle.ladder_grid.specs.Geometry.{place}
-use Rattle.ladder_grid.specs.Picture.{Lines, text_over}
+use Rattle.ladder_grid.specs.Picture.{Lines}
+use Rattle.ladder_grid.specs.Texts.{text_over}
 use Rattle.ladder_grid.specs.Lines.{part_in, rung_of}
 use Rattle.ladder_grid.specs.Tables.{over_with, over_read, overs_of}
 use Rattle.ladder_grid.proofs.PlaceLaws.{length-all_places, all_places-drawn}

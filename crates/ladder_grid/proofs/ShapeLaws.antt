@@ -1,13 +1,15 @@
 -- A block or a lower cell that the code finds torn is so.
-use Rattle.std.proofs.Common.{◌≡◌, ◌↔◌, ◌⊎◌, inl, inr, Bool, true, false, not, IsTrue, Option, Some, None, refl, ap, ◌∙◌}
+use Rattle.std.proofs.lemmas.Bool.{cases_lt, eqb-true, eqb-false}
+use Rattle.std.proofs.Common.{ℕ, ◌+◌, ◌-◌, ◌<◌, ◌≤◌, ◌==◌, cond, arith, ◌≡◌, ◌↔◌, ◌⊎◌, inl, inr, Bool, true, false, not, IsTrue, Option, Some, None, refl, ap, ◌∙◌}
 use Rattle.ladder_vars.specs.Kind.{traits_of}
 use Rattle.ladder_vars.specs.declared.kind.BlockKind.{BlockKind}
 use Rattle.ladder_vars.specs.declared.kind.Pin.{Pin}
 use Rattle.ladder_vars.specs.declared.kind.Pin.TheVariants as pin
 use Rattle.ladder_grid.specs.declared.form.Form.{Form}
 use Rattle.ladder_grid.specs.declared.form.Form.TheVariants.{Empty, Wire, Contact, Coil, Block, Lower, Jump, Return}
-use Rattle.ladder_grid.specs.Rules.{IsBlockWith}
-use Rattle.ladder_grid.specs.Shapes.{same_pin, is_lower_for, takes_second, is_block_for, lacks_lower, is_apart}
+use Rattle.ladder_grid.specs.Page.{Page, form_at}
+use Rattle.ladder_grid.specs.Rules.{IsBlockWith, IsLowerWith, IsTorn}
+use Rattle.ladder_grid.specs.Shapes.{same_pin, is_lower_for, takes_second, is_block_for, lacks_lower, is_apart, form_above, form_below}
 
 abbrev pub IsTornFrom : Option Form → Option Form → Option Form → Type 0
 IsTornFrom above form below =
@@ -38,6 +40,9 @@ off false h = refl
 not_on : (b : Bool) → not b ≡ true → b ≡ true → ⊥
 not_on true h on = absurd cc
 not_on false h on = absurd cc
+
+none_some : {A : Type 0} {x : A} → None ≡ Some x → ⊥
+none_some h = cc
 
 same_form : (a b : Form) → Some a ≡ Some b → a ≡ b
 same_form a b h = cc
@@ -103,9 +108,49 @@ torn_so above form below (p, inl (b, none)) =
 torn_so above form below (p, inr (lower, none)) =
     ap (λ f. is_apart above f below) lower.1 ∙ off (is_block_for p above) (λ on. none (block_is p above on))
 
-pub torn : (above form below : Option Form) → IsTrue (is_apart above form below) ↔ IsTornFrom above form below
-torn above form below = (torn_is above form below, torn_so above form below)
+torn_from : (above form below : Option Form) → IsTrue (is_apart above form below) ↔ IsTornFrom above form below
+torn_from above form below = (torn_is above form below, torn_so above form below)
 
-pub torn_told : (above form below a f b : Option Form) → a ≡ above → f ≡ form → b ≡ below → (found : Bool) → found ≡ is_apart a f b
-    → IsTrue found ↔ IsTornFrom above form below
-torn_told above form below a f b up here down found is = rw (is, up, here, down) (torn above form below)
+-- ---- at a place
+
+module _ (page : Page) (k r c : ℕ) (rows : r < 6) where
+  last_row : (r + 1 == 6) ≡ true → r + 1 < 6 → ⊥
+  last_row e below = absurd (omega (arith, eqb-true (r + 1) 6 e, below))
+
+  none_below : (p : Pin) → ((linked : Bool) → form_below page k r c ≡ Some (Lower p linked) → ⊥) ↔ (r + 1 < 6 → ¬ (IsLowerWith p (form_at page k (r + 1) c)))
+  none_below p =
+      elim (r + 1 == 6) as (λ t. (r + 1 == 6) ≡ t → ((linked : Bool) → cond t None (form_at page k (r + 1) c) ≡ Some (Lower p linked) → ⊥)
+      ↔ (r + 1 < 6 → ¬ (IsLowerWith p (form_at page k (r + 1) c)))) [
+        | true ↦ λ e. (λ h below lower. last_row e below, λ h linked is. none_some is)
+        | false ↦ λ e.
+            let below : r + 1 < 6 = elim (cases_lt (r + 1) 6) [ inl less ↦ less | inr more ↦ absurd (eqb-false (r + 1) 6 e (omega (arith, more, rows))) ] in
+            (λ h less lower. h lower.0 lower.1, λ h linked is. h below (linked, is))
+      ] refl
+
+  none_above : (p : Pin) → (¬ (IsBlockWith p (form_above page k r c))) ↔ (1 ≤ r → ¬ (IsBlockWith p (form_at page k (r - 1) c)))
+  none_above p =
+      elim (r == 0) as (λ t. (r == 0) ≡ t → (¬ (IsBlockWith p (cond t None (form_at page k (r - 1) c)))) ↔ (1 ≤ r → ¬ (IsBlockWith p (form_at page k (r - 1) c)))) [
+        | true ↦ λ e. (λ h some. absurd (omega (arith, eqb-true r 0 e, some)), λ h block. none_some block.1)
+        | false ↦ λ e.
+            let some : 1 ≤ r = elim (cases_lt 0 r) [ inl less ↦ less | inr more ↦ absurd (eqb-false r 0 e (omega (arith, more))) ] in
+            (λ h less. h, λ h. h some)
+      ] refl
+
+  at_place : IsTornFrom (form_above page k r c) (form_at page k r c) (form_below page k r c) ↔ IsTorn page k r c
+  at_place = (there, back) where
+    there : IsTornFrom (form_above page k r c) (form_at page k r c) (form_below page k r c) → IsTorn page k r c
+    there (p, inl h) = (p, inl (h.0, (none_below p).0 h.1))
+    there (p, inr h) = (p, inr (h.0, (none_above p).0 h.1))
+
+    back : IsTorn page k r c → IsTornFrom (form_above page k r c) (form_at page k r c) (form_below page k r c)
+    back (p, inl h) = (p, inl (h.0, (none_below p).1 h.1))
+    back (p, inr h) = (p, inr (h.0, (none_above p).1 h.1))
+
+  pub torn : is_apart (form_above page k r c) (form_at page k r c) (form_below page k r c) ≡ true → IsTorn page k r c
+  torn h = at_place.0 (torn_is _ _ _ h)
+
+  pub torn_told : (a f b : Option Form) → a ≡ form_above page k r c → f ≡ form_at page k r c → b ≡ form_below page k r c → (found : Bool) → found ≡ is_apart a f b
+      → IsTrue found ↔ IsTorn page k r c
+  torn_told a f b up here down found is =
+      let law : IsTrue found ↔ IsTornFrom (form_above page k r c) (form_at page k r c) (form_below page k r c) = rw (is, up, here, down) (torn_from _ _ _) in
+      (λ h. at_place.0 (law.0 h), λ h. law.1 (at_place.1 h))

@@ -20,14 +20,18 @@ use Rattle.ladder_grid.specs.declared.fault.GridRule.TheVariants as rule
 use Rattle.ladder_grid.specs.declared.picture.Half.TheVariants as half
 use Rattle.ladder_grid.specs.declared.operand.Reference.{Reference}
 use Rattle.ladder_grid.specs.Gap.{Labels, is_named}
-use Rattle.ladder_grid.specs.Operand.{instance_of, instance_on, is_odd}
-use Rattle.ladder_grid.specs.Page.{Page, part_at, label_of, labels_of, form_at, name_over, instance_at, instance_above}
-use Rattle.ladder_grid.specs.Geometry.{reading_place}
+use Rattle.ladder_grid.specs.Operand.{instance_of, instance_on}
+use Rattle.ladder_grid.specs.Suiting.{is_odd}
+use Rattle.ladder_grid.proofs.OddLaws.{odd_is}
+use Rattle.ladder_grid.specs.Page.{Page, labels_of, form_at, name_over, instance_at, instance_above}
+use Rattle.ladder_grid.specs.AllPlaces.{reading_place}
 use Rattle.ladder_vars.specs.Kind.{traits_of}
-use Rattle.ladder_grid.specs.Rules.{leaps, form_above, form_below}
-use Rattle.ladder_grid.specs.Shapes.{lacks_lower, is_apart}
+use Rattle.ladder_grid.specs.Form.{leaps}
+use Rattle.ladder_grid.specs.Checks.{part_at, label_of, later, target_to, jump_label}
+use Rattle.ladder_grid.specs.Shapes.{lacks_lower, is_apart, form_above, form_below}
 use Rattle.ladder_grid.proofs.ShapeLaws.{torn}
-use Rattle.ladder_grid.specs.PageRules.{later, target_to, jump_label, PartBreaks, IsSoundPage, target_of}
+use Rattle.ladder_grid.specs.PageRules.{PartBreaks, IsSoundPage, target_of}
+use Rattle.ladder_grid.proofs.TargetLaws.{target_is}
 use Rattle.ladder_grid.specs.Program.{drawing, blank_site, memory_in, block_in, goes_to, has_memory, Fits, has_second, IsWellFormed}
 use Rattle.ladder_grid.specs.Geometry.{place}
 use Rattle.ladder_grid.specs.Reading.{cell_with, cell_drawn, site_drawn, memories_before}
@@ -306,33 +310,7 @@ module _ (page : Page) (rungs : ℕ) (sites : List Site)
           judged,
           2 * r,
           refl,
-          record {
-            row = r;
-            half = half.Name;
-            in_rung = rows;
-            on = refl;
-            along = (
-              c,
-              high,
-              (
-                refl,
-                columns,
-                (
-                  number,
-                  here,
-                  record {
-                    rung = j;
-                    row = q;
-                    column = b;
-                    in_rung = other_rows;
-                    in_row = other_columns;
-                    earlier = earlier;
-                    drawn = there;
-                  },
-                ),
-              ),
-            );
-          },
+          (r, half.Name, rows, refl, (c, high, (refl, columns, (number, here, (j, q, b, other_rows, other_columns, earlier, there))))),
         )),
       ))
 
@@ -344,35 +322,14 @@ module _ (page : Page) (rungs : ℕ) (sites : List Site)
       let high : c ≤ 10 = omega arith in
       let inside : k < length page.parts = omega (arith, below, count) in
       let judged : k < 100 = omega (arith, below, few) in
+      let before : reading_place k q b < reading_place k r c = omega (arith, earlier) in
       sound (Grid rule.TwoJumps) k ((part_at page k).start + (2 * r + 1)) (inl (
         inside,
         inr (inr (
           judged,
           2 * r + 1,
           refl,
-          record {
-            row = r;
-            half = half.Wire;
-            in_rung = rows;
-            on = refl;
-            along = (
-              c,
-              high,
-              (
-                refl,
-                columns,
-                record {
-                  row = q;
-                  column = b;
-                  in_rung = other_rows;
-                  in_row = other_columns;
-                  earlier = earlier;
-                  this = here;
-                  other = there;
-                },
-              ),
-            );
-          },
+          (r, half.Wire, rows, refl, (c, high, (refl, columns, (here, (k, q, b, other_rows, other_columns, before, (refl, there)))))),
         )),
       ))
 
@@ -420,7 +377,7 @@ module _ (page : Page) (rungs : ℕ) (sites : List Site)
       let bounds : (s.rung < t) × (t ≤ rungs) = elim g.1 [
         | inl past ↦ (omega (arith, past, s.below), omega (arith, past))
         | inr known ↦
-            let w = target_within (labels_of page.lines page.parts) s.rung t (jump_label (form_at page s.rung s.row s.column)) known in
+            let w = target_within (labels_of page.lines page.parts) s.rung t (jump_label (form_at page s.rung s.row s.column)) (sym (target_is (labels_of page.lines page.parts) s.rung (form_at page s.rung s.row s.column)) ∙ known) in
             (w.0, omega (arith, w.1, count, length-map page.parts (label_of page.lines)))
       ] in
       record {
@@ -527,13 +484,7 @@ module _ (page : Page) (rungs : ℕ) (sites : List Site)
                 judged,
                 2 * r,
                 refl,
-                record {
-                  row = r;
-                  half = half.Name;
-                  in_rung = rows;
-                  on = refl;
-                  along = (c, high, (refl, columns, odd));
-                },
+                (r, half.Name, rows, refl, (c, high, (refl, columns, (odd_is _ _ _).0 odd))),
               )),
             )))
       ] refl
@@ -578,13 +529,7 @@ module _ (page : Page) (rungs : ℕ) (sites : List Site)
                 judged,
                 2 * r + 1,
                 refl,
-                record {
-                  row = r;
-                  half = half.Wire;
-                  in_rung = rows;
-                  on = refl;
-                  along = (c, high, (refl, columns, (torn _ _ _).0 apart_here));
-                },
+                (r, half.Wire, rows, refl, (c, high, (refl, columns, torn page k r c rows apart_here))),
               )),
             )))
       ] refl

@@ -3,16 +3,15 @@ use Rattle.std.specs.Prelude.{◌≡◌, ℕ, ◌+◌, ◌-◌, ◌*◌, ◌<◌
 use Rattle.ladder_grid.specs.declared.geometry.TheConstants.{ROWS, CELL, PITCH}
 use Rattle.ladder_grid.specs.Bytes.{space, dash, plus}
 use Rattle.ladder_grid.specs.declared.form.Form.{Form}
-use Rattle.ladder_grid.specs.declared.form.Form.TheVariants.{Lower, Jump, Return}
+use Rattle.ladder_grid.specs.declared.form.Form.TheVariants.{Lower}
+use Rattle.ladder_grid.specs.Form.{leaps}
 use Rattle.ladder_grid.specs.Picture.{ch, joint, SameGroup}
 use Rattle.ladder_grid.specs.Page.{Page, rung_at, form_at}
 
 -- Jumps, returns and lower cells have no right link.
 abbrev pub passes_on : Option Form → Bool
 passes_on (Some (Lower pin linked)) = false
-passes_on (Some (Jump label)) = false
-passes_on (Some Return) = false
-passes_on form = true
+passes_on form = not (leaps form)
 
 -- A cell has a right link where its last character is no space and it is none of these.
 abbrev pub right_link : Page → ℕ → ℕ → ℕ → Bool
@@ -29,6 +28,5 @@ IsFed page k r c = (q : ℕ) × (q < ROWS) × SameGroup (rung_at page k) c r q �
 -- A cell past the first column begins with a dash, and on its left is no joint, or a `+` whose group no right link enters.
 abbrev pub IsUnfed : Page → ℕ → ℕ → ℕ → Type 0
 IsUnfed page k r c =
-    (1 ≤ c)
-    × (ch (rung_at page k) (2 * r + 1) (PITCH * c + 1) ≡ dash)
+    (1 ≤ c) × (ch (rung_at page k) (2 * r + 1) (PITCH * c + 1) ≡ dash)
     × ((joint (rung_at page k) r c ≡ space) ⊎ ((joint (rung_at page k) r c ≡ plus) × ¬ (IsFed page k r c)))

@@ -1,5 +1,6 @@
 -- What the text over a cell stands for (the profile; output variables of instances as in IEC 61131-3).
-use Rattle.std.specs.Prelude.{◌≡◌, ◌++◌, replicate, ℕ, ◌+◌, ◌-◌, ◌==◌, nat_le, Bool, true, false, not, ◌&&◌, ◌||◌, List, [], ◌∷◌, length, take, drop, codes, slice_get, Option, Some, None, is_some, if◌then◌else◌}
+use Rattle.std.specs.Prelude.{◌≡◌, ◌++◌, replicate, ℕ, ◌-◌, ◌==◌, nat_le, Bool, true, false, ◌&&◌, List, [], ◌∷◌, length, take, drop, codes, slice_get, Option, Some, None, option_map, if◌then◌else◌}
+use Rattle.std.specs.List.{prefix_len, suffix_len}
 use Rattle.ladder_vars.specs.Name.{is_name, same_letters}
 use Rattle.ladder_vars.specs.Text.{begins_with}
 use Rattle.ladder_vars.specs.Kind.{traits_of}
@@ -7,9 +8,6 @@ use Rattle.ladder_vars.specs.Decls.{Declared, find, is_input}
 use Rattle.ladder_vars.specs.declared.decls.Symbol.{Symbol}
 use Rattle.ladder_vars.specs.declared.decls.Symbol.TheVariants as symbol
 use Rattle.ladder_vars.specs.declared.decls.Var.{Var}
-use Rattle.ladder_vars.specs.declared.decls.Instance.{Instance}
-use Rattle.ladder_vars.specs.declared.kind.BlockKind.{BlockKind}
-use Rattle.ladder_vars.specs.declared.kind.BlockKind.TheVariants as kind
 use Rattle.ladder_grid.specs.Bytes.{space}
 use Rattle.ladder_grid.specs.declared.form.Form.{Form}
 use Rattle.ladder_grid.specs.declared.form.Form.TheVariants.{Contact, Coil, Block}
@@ -17,18 +15,9 @@ use Rattle.ladder_vars.specs.declared.kind.Output.{Output}
 use Rattle.ladder_vars.specs.declared.kind.Output.TheVariants as output
 use Rattle.ladder_grid.specs.declared.operand.Reference.{Reference}
 
-abbrev pub after_spaces : List ℕ → List ℕ
-after_spaces [] = []
-after_spaces (b ∷ bs) = if b == space then after_spaces bs else b ∷ bs
-
--- how many characters there are up to the last that is no space; `at` were before, `kept` of them up to the last
-abbrev pub text_len : ℕ → ℕ → List ℕ → ℕ
-text_len at kept [] = kept
-text_len at kept (b ∷ bs) = if b == space then text_len (at + 1) kept bs else text_len (at + 1) (at + 1) bs
-
 -- The characters without the spaces at both ends.
 unfoldable pub word_in : List ℕ → List ℕ
-word_in chars = take (text_len 0 0 (after_spaces chars)) (after_spaces chars)
+word_in chars = drop (prefix_len (λ b. b == space) chars) (take (length chars - suffix_len (λ b. b == space) chars) chars)
 
 -- The characters are spaces, the word and spaces; the word neither begins nor ends with a space. Any characters have one such
 -- word, which is the one above.
@@ -43,73 +32,29 @@ pub record IsWordIn (chars word : List ℕ) : Type 0 where
 abbrev pub ends_in : List ℕ → List ℕ → Bool
 ends_in suffix word = nat_le (length suffix) (length word) && same_letters (drop (length word - length suffix) word) suffix
 
-abbrev pub without_end : ℕ → List ℕ → List ℕ
-without_end n word = take (length word - n) word
-
-abbrev pub named : Declared → List ℕ → Option Symbol
-named decls word = if is_name word then find decls word else None
-
-abbrev pub referred : Option Output → Option Symbol → Option Reference
-referred output None = None
-referred output (Some s) = Some (record { symbol = s; output = output })
+-- a declared name, with this output
+abbrev pub reference : Declared → Option Output → List ℕ → Option Reference
+reference decls output name = option_map (λ s. record { symbol = s; output = output }) (if is_name name then find decls name else None)
 
 -- A declared name, or one with `.Q` or `.Q1`.
 unfoldable pub refer_to : Declared → List ℕ → Option Reference
 refer_to decls word =
-    if ends_in (codes ".Q") word then referred (Some output.Q) (named decls (without_end 2 word))
-    else (if ends_in (codes ".Q1") word then referred (Some output.Q1) (named decls (without_end 3 word))
-    else referred None (named decls word))
+    if ends_in (codes ".Q") word then reference decls (Some output.Q) (take (length word - 2) word)
+    else (if ends_in (codes ".Q1") word then reference decls (Some output.Q1) (take (length word - 3) word)
+    else reference decls None word)
 
 abbrev pub is_input_at : Option Var → Bool
 is_input_at (Some v) = is_input v
 is_input_at None = false
 
-abbrev pub same_kind : BlockKind → BlockKind → Bool
-same_kind kind.Ton kind.Ton = true
-same_kind kind.Tof kind.Tof = true
-same_kind kind.Tp kind.Tp = true
-same_kind kind.Ctu kind.Ctu = true
-same_kind kind.Ctd kind.Ctd = true
-same_kind kind.Sr kind.Sr = true
-same_kind kind.Rs kind.Rs = true
-same_kind a b = false
-
-abbrev pub is_of_kind : BlockKind → Option Instance → Bool
-is_of_kind k (Some i) = same_kind k i.kind
-is_of_kind k None = false
-
-abbrev pub same_output : Output → Output → Bool
-same_output output.Q output.Q = true
-same_output output.Q output.Q1 = false
-same_output output.Q1 output.Q = false
-same_output output.Q1 output.Q1 = true
-
--- the instance has this output
-abbrev pub gives_output : Option Instance → Option Output → Bool
-gives_output (Some i) (Some o) = same_output o (traits_of i.kind).output
-gives_output _ _ = false
-
--- a contact reads a variable, or the output of an instance
-abbrev pub is_odd_on_contact : Declared → Symbol → Option Output → Bool
-is_odd_on_contact decls (symbol.Var i) output = is_some output
-is_odd_on_contact decls (symbol.Instance i) output = not (gives_output (slice_get decls.instances i) output)
-
--- a coil writes a variable that is no input
-abbrev pub is_odd_on_coil : Declared → Symbol → Option Output → Bool
-is_odd_on_coil decls (symbol.Var i) output = is_some output || is_input_at (slice_get decls.vars i)
-is_odd_on_coil decls (symbol.Instance i) output = true
-
--- a block is an instance of its kind
-abbrev pub is_odd_on_block : Declared → BlockKind → Symbol → Option Output → Bool
-is_odd_on_block decls k (symbol.Var i) output = true
-is_odd_on_block decls k (symbol.Instance i) output = is_some output || not (is_of_kind k (slice_get decls.instances i))
-
--- The name is none that the symbol may have.
-abbrev pub is_odd : Declared → Option Form → Option Reference → Bool
-is_odd decls (Some (Contact mode)) (Some x) = is_odd_on_contact decls x.symbol x.output
-is_odd decls (Some (Coil mode)) (Some x) = is_odd_on_coil decls x.symbol x.output
-is_odd decls (Some (Block k)) (Some x) = is_odd_on_block decls k x.symbol x.output
-is_odd decls _ _ = false
+-- The names that a symbol may have: a contact that of a variable, or an output of an instance that has it; a coil that of a variable
+-- that is no input; a block that of an instance of its kind.
+abbrev pub MayHave : Declared → Option Form → Symbol → Option Output → Type 0
+MayHave decls (Some (Contact mode)) (symbol.Var i) None = Unit {0}
+MayHave decls (Some (Contact mode)) (symbol.Instance i) (Some o) = option_map (λ x. (traits_of x.kind).output) (slice_get decls.instances i) ≡ Some o
+MayHave decls (Some (Coil mode)) (symbol.Var i) None = ¬ (option_map is_input (slice_get decls.vars i) ≡ Some true)
+MayHave decls (Some (Block kind)) (symbol.Instance i) None = option_map (λ x. x.kind) (slice_get decls.instances i) ≡ Some kind
+MayHave decls form symbol output = ⊥
 
 abbrev pub instance_of : Symbol → Option ℕ
 instance_of (symbol.Var i) = None

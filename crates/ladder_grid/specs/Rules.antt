@@ -1,56 +1,35 @@
 -- The rules of the cells, joints and names of a page (the profile): what each asks of a place. A place is a rung k, a row r, its
 -- name line or its wire line, and a column c; column 10 stands for the right rail.
-use Rattle.std.specs.Prelude.{◌≡◌, ◌⊎◌, ℕ, ◌+◌, ◌-◌, ◌*◌, ◌<◌, ◌≤◌, nat_lt, nat_le, Bool, true, false, not, ◌&&◌, ◌||◌, ◌==◌, List, Option, Some, None, if◌then◌else◌}
+use Rattle.std.specs.Prelude.{◌≡◌, ◌⊎◌, ℕ, ◌+◌, ◌-◌, ◌*◌, ◌<◌, ◌≤◌, Bool, true, false, not, ◌&&◌, ◌||◌, ◌==◌, List, Option, Some, None, if◌then◌else◌}
 use Rattle.std.specs.List.{list_any}
 use Rattle.ladder_vars.specs.Kind.{traits_of}
-use Rattle.ladder_grid.specs.declared.geometry.TheConstants.{ROWS, COLUMNS, PITCH, RAIL}
-use Rattle.ladder_grid.specs.Bytes.{space, dash, plus, bar}
+use Rattle.ladder_grid.specs.declared.geometry.TheConstants.{ROWS, COLUMNS, PLACES, PITCH}
+use Rattle.ladder_grid.specs.Bytes.{space, dash, plus, bar, is_upright}
 use Rattle.ladder_vars.specs.declared.kind.Pin.{Pin}
 use Rattle.ladder_vars.specs.declared.kind.BlockKind.{BlockKind}
 use Rattle.ladder_grid.specs.declared.form.Form.{Form}
-use Rattle.ladder_grid.specs.declared.form.Form.TheVariants.{Contact, Coil, Block, Lower, Jump, Return}
+use Rattle.ladder_grid.specs.declared.form.Form.TheVariants.{Contact, Coil, Block, Lower}
 use Rattle.ladder_grid.specs.declared.fault.GridRule.{GridRule}
 use Rattle.ladder_grid.specs.declared.fault.GridRule.TheVariants as rule
-use Rattle.ladder_grid.specs.Operand.{is_odd}
-use Rattle.ladder_grid.specs.Picture.{Lines, line_of, ch, text_over, joint}
+use Rattle.ladder_grid.specs.Operand.{MayHave}
+use Rattle.ladder_grid.specs.Picture.{line_of, ch, text_at, joint}
 use Rattle.ladder_grid.specs.declared.picture.Half.{Half}
 use Rattle.ladder_grid.specs.declared.picture.Half.TheVariants as half
+use Rattle.ladder_grid.specs.Form.{leaps}
 use Rattle.ladder_grid.specs.Feeding.{right_link, IsUnfed}
 use Rattle.ladder_grid.specs.Page.{Page, rung_at, form_at, name_over, instance_at}
-use Rattle.ladder_grid.specs.Geometry.{reading_place}
+use Rattle.ladder_grid.specs.declared.operand.Reference.{Reference}
 
--- on a name line a joint's place has a space or a bar
-abbrev pub bad_name_joint : ℕ → Bool
-bad_name_joint b = not (b == space || b == bar)
+-- What may stand between two cells, beside a space: on a name line a bar; on a wire line a `+`, a dash with a right link on its
+-- left, or a bar with no link on either side.
+abbrev pub is_joint : Half → Bool → ℕ → ℕ → Bool
+is_joint half.Name linked b right = b == bar
+is_joint half.Wire linked b right = b == plus || (if linked then b == dash else b == bar && not (right == dash))
 
--- on a wire line it has a space, a dash with a right link on its left, a `+`, or a bar with no link on either side
-abbrev pub bad_wire_joint : ℕ → Bool → ℕ → Bool
-bad_wire_joint b linked right =
-    not (b == space || (b == dash || (b == plus || b == bar))) || ((b == dash && not linked) || (b == bar && (linked || right == dash)))
-
-abbrev pub bad_rail : ℕ → Bool
-bad_rail b = not (b == space || (b == plus || b == bar))
-
--- G4: the character at a joint's place or at the right rail isn't allowed there, or doesn't fit the cells beside it.
-abbrev pub bad_at_joint : Page → ℕ → ℕ → Half → ℕ → Bool
-bad_at_joint page k r half.Name c = bad_name_joint (ch (rung_at page k) (2 * r) (PITCH * c))
-bad_at_joint page k r half.Wire c =
-    bad_wire_joint (joint (rung_at page k) r c) (right_link page k r (c - 1)) (ch (rung_at page k) (2 * r + 1) (PITCH * c + 1))
-
-abbrev pub bad_joint : Page → ℕ → ℕ → Half → ℕ → Bool
-bad_joint page k r h c =
-    (c == COLUMNS && bad_rail (ch (rung_at page k) (line_of r h) RAIL))
-    || ((nat_le 1 c && nat_lt c COLUMNS) && bad_at_joint page k r h c)
-
-abbrev pub is_branch : ℕ → Bool
-is_branch b = b == plus || b == bar
-
--- G5: a bar on a name line where the joint above it or the one below it is neither a `+` nor a bar; row 0 has none above.
-abbrev pub bad_vertical : Lines → ℕ → Half → ℕ → Bool
-bad_vertical rung r half.Name c =
-    (nat_le 1 c && nat_lt c COLUMNS)
-    && (ch rung (2 * r) (PITCH * c) == bar && (r == 0 || (not (is_branch (joint rung (r - 1) c)) || not (is_branch (joint rung r c)))))
-bad_vertical rung r half.Wire c = false
+-- The character at a joint's place, or at the right rail, where a `+` or a bar may stand, is one that may.
+abbrev pub fits_joint : Page → ℕ → ℕ → Half → ℕ → ℕ → Bool
+fits_joint page k r h c b =
+    b == space || (if c == COLUMNS then is_upright b else is_joint h (right_link page k r (c - 1)) b (ch (rung_at page k) (line_of r h) (PITCH * c + 1)))
 
 -- the forms that have a name over them
 abbrev pub wants_name : Option Form → Bool
@@ -62,86 +41,51 @@ wants_name form = false
 abbrev pub has_text : List ℕ → Bool
 has_text chars = list_any (λ b. not (b == space)) chars
 
--- the form of a block whose second input this is
+-- the form of a block whose second input this is, and that of its lower cell
 abbrev pub IsBlockWith : Pin → Option Form → Type 0
 IsBlockWith p form = (k : BlockKind) × (form ≡ Some (Block k)) × ((traits_of k).second_input ≡ Some p)
 
-abbrev pub form_above : Page → ℕ → ℕ → ℕ → Option Form
-form_above page k r c = if r == 0 then None else form_at page k (r - 1) c
-
-abbrev pub form_below : Page → ℕ → ℕ → ℕ → Option Form
-form_below page k r c = if r + 1 == ROWS then None else form_at page k (r + 1) c
+abbrev pub IsLowerWith : Pin → Option Form → Type 0
+IsLowerWith p form = (linked : Bool) × (form ≡ Some (Lower p linked))
 
 -- G11: a block with a second input lacks its lower cell in the next row, or a lower cell its block above.
 abbrev pub IsTorn : Page → ℕ → ℕ → ℕ → Type 0
 IsTorn page k r c =
-    (p : Pin)
-    × ((IsBlockWith p (form_at page k r c) × ((linked : Bool) → form_below page k r c ≡ Some (Lower p linked) → ⊥))
-    ⊎ (((linked : Bool) × (form_at page k r c ≡ Some (Lower p linked))) × ¬ (IsBlockWith p (form_above page k r c))))
+    (p : Pin) × ((IsBlockWith p (form_at page k r c) × (r + 1 < ROWS → ¬ (IsLowerWith p (form_at page k (r + 1) c))))
+    ⊎ (IsLowerWith p (form_at page k r c) × (1 ≤ r → ¬ (IsBlockWith p (form_at page k (r - 1) c)))))
 
--- G12: the block's instance was drawn at an earlier place, of this rung or of one before.
-pub record IsDrawnBefore (page : Page) (inst k r c : ℕ) : Type 0 where
-  pub rung : ℕ
-  pub row : ℕ
-  pub column : ℕ
-  pub in_rung : row < ROWS
-  pub in_row : column < COLUMNS
-  pub earlier : reading_place rung row column < reading_place k r c
-  pub drawn : instance_at page rung row column ≡ Some inst
-
-abbrev pub IsDrawnTwice : Page → ℕ → ℕ → ℕ → Type 0
-IsDrawnTwice page k r c = (inst : ℕ) × (instance_at page k r c ≡ Some inst) × IsDrawnBefore page inst k r c
-
-abbrev pub leaps : Option Form → Bool
-leaps (Some (Jump label)) = true
-leaps (Some Return) = true
-leaps form = false
-
--- G14: a jump or a return stands before in the rung.
-pub record IsSecondJump (page : Page) (k r c : ℕ) : Type 0 where
-  pub row : ℕ
-  pub column : ℕ
-  pub in_rung : row < ROWS
-  pub in_row : column < COLUMNS
-  pub earlier : COLUMNS * row + column < COLUMNS * r + c
-  pub this : leaps (form_at page k r c) ≡ true
-  pub other : leaps (form_at page k row column) ≡ true
+-- It holds at a place before this one, in the order of reading: by rung, row and column.
+abbrev pub HoldsBefore : (ℕ → ℕ → ℕ → Type 0) → ℕ → ℕ → ℕ → Type 0
+HoldsBefore P k r c = (j q d : ℕ) × (q < ROWS) × (d < COLUMNS) × (PLACES * j + (COLUMNS * q + d) < PLACES * k + (COLUMNS * r + c)) × P j q d
 
 -- The rule is broken at the place. Only these rules speak of places.
 abbrev pub BreaksAt : GridRule → Page → ℕ → ℕ → Half → ℕ → Type 0
 -- G3: the cell has none of the forms.
 BreaksAt rule.BadCell page k r h c = (h ≡ half.Wire) × (c < COLUMNS) × (form_at page k r c ≡ None)
-BreaksAt rule.BadJoint page k r h c = bad_joint page k r h c ≡ true
-BreaksAt rule.BrokenVertical page k r h c = bad_vertical (rung_at page k) r h c ≡ true
+-- G4: the character at a joint's place or at the right rail isn't allowed there, or doesn't fit the cells beside it.
+BreaksAt rule.BadJoint page k r h c = (1 ≤ c) × (fits_joint page k r h c (ch (rung_at page k) (line_of r h) (PITCH * c)) ≡ false)
+-- G5: a bar on a name line where the joint above it or the one below it is neither a `+` nor a bar; row 0 has none above.
+BreaksAt rule.BrokenVertical page k r h c =
+    (h ≡ half.Name) × (1 ≤ c) × (c < COLUMNS) × ((ch (rung_at page k) (2 * r) (PITCH * c) == bar
+    && (r == 0 || (not (is_upright (joint (rung_at page k) (r - 1) c)) || not (is_upright (joint (rung_at page k) r c))))) ≡ true)
 BreaksAt rule.Unfed page k r h c = (h ≡ half.Wire) × (c < COLUMNS) × IsUnfed page k r c
 -- G7: no name over a contact, a coil or a block.
 BreaksAt rule.NameMissing page k r h c =
-    (h ≡ half.Name) × (c < COLUMNS) × ((wants_name (form_at page k r c) ≡ true) × (has_text (text_over (rung_at page k) r c) ≡ false))
+    (h ≡ half.Name) × (c < COLUMNS) × ((wants_name (form_at page k r c) ≡ true) × (has_text (text_at (rung_at page k) (2 * r) c) ≡ false))
 -- G8: a text over another cell.
 BreaksAt rule.NameWithoutSymbol page k r h c =
-    (h ≡ half.Name) × (c < COLUMNS) × ((wants_name (form_at page k r c) ≡ false) × (has_text (text_over (rung_at page k) r c) ≡ true))
+    (h ≡ half.Name) × (c < COLUMNS) × ((wants_name (form_at page k r c) ≡ false) × (has_text (text_at (rung_at page k) (2 * r) c) ≡ true))
 -- G9: the text over the cell is no declared name.
-BreaksAt rule.Undeclared page k r h c =
-    (h ≡ half.Name) × (c < COLUMNS) × ((wants_name (form_at page k r c) ≡ true) × (name_over page k r c ≡ None))
+BreaksAt rule.Undeclared page k r h c = (h ≡ half.Name) × (c < COLUMNS) × ((wants_name (form_at page k r c) ≡ true) × (name_over page k r c ≡ None))
 -- G10: the name is none that the symbol may have.
-BreaksAt rule.WrongKind page k r h c = (h ≡ half.Name) × (c < COLUMNS) × (is_odd page.decls (form_at page k r c) (name_over page k r c) ≡ true)
+BreaksAt rule.WrongKind page k r h c =
+    (h ≡ half.Name) × (c < COLUMNS) × ((wants_name (form_at page k r c) ≡ true) × (x : Reference) × (name_over page k r c ≡ Some x)
+    × ¬ (MayHave page.decls (form_at page k r c) x.symbol x.output))
 BreaksAt rule.BlockShape page k r h c = (h ≡ half.Wire) × (c < COLUMNS) × IsTorn page k r c
-BreaksAt rule.DrawnTwice page k r h c = (h ≡ half.Name) × (c < COLUMNS) × IsDrawnTwice page k r c
-BreaksAt rule.TwoJumps page k r h c = (h ≡ half.Wire) × (c < COLUMNS) × IsSecondJump page k r c
+-- G12: the block's instance was drawn at an earlier place, of this rung or of one before.
+BreaksAt rule.DrawnTwice page k r h c =
+    (h ≡ half.Name) × (c < COLUMNS) × ((inst : ℕ) × (instance_at page k r c ≡ Some inst) × HoldsBefore (λ j q d. instance_at page j q d ≡ Some inst) k r c)
+-- G14: a jump or a return stands before in the rung.
+BreaksAt rule.TwoJumps page k r h c =
+    (h ≡ half.Wire) × (c < COLUMNS) × ((leaps (form_at page k r c) ≡ true) × HoldsBefore (λ j q d. (j ≡ k) × (leaps (form_at page k q d) ≡ true)) k r c)
 BreaksAt other page k r h c = ⊥
-
--- The rule is broken on this line of a row.
-abbrev pub IsBrokenAlong : GridRule → Page → ℕ → ℕ → Half → Type 0
-IsBrokenAlong rule page k r h = (c : ℕ) × (c ≤ COLUMNS) × BreaksAt rule page k r h c
-
--- The rule is broken on this line of the rung.
-pub record IsBrokenOn (rule : GridRule) (page : Page) (rung line : ℕ) : Type 0 where
-  pub row : ℕ
-  pub half : Half
-  pub in_rung : row < ROWS
-  pub on : line ≡ line_of row half
-  pub along : IsBrokenAlong rule page rung row half
-
--- The rule is broken nowhere in the rung.
-abbrev pub IsKept : Page → ℕ → GridRule → Type 0
-IsKept page k rule = (r : ℕ) → r < ROWS → (h : Half) → IsBrokenAlong rule page k r h → ⊥

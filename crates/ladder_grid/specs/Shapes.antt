@@ -1,8 +1,10 @@
 -- Private: whether a block lacks its lower cell, or a lower cell its block, as the code finds it.
-use Rattle.std.specs.Prelude.{Bool, true, false, not, Option, Some, None}
+use Rattle.std.specs.Prelude.{ℕ, ◌+◌, ◌-◌, ◌==◌, if◌then◌else◌, Bool, true, false, not, Option, Some, None}
 use Rattle.ladder_vars.specs.Kind.{traits_of}
 use Rattle.ladder_vars.specs.declared.kind.Pin.{Pin}
 use Rattle.ladder_vars.specs.declared.kind.Pin.TheVariants as pin
+use Rattle.ladder_grid.specs.declared.geometry.TheConstants.{ROWS}
+use Rattle.ladder_grid.specs.Page.{Page, form_at}
 use Rattle.ladder_grid.specs.declared.form.Form.{Form}
 use Rattle.ladder_grid.specs.declared.form.Form.TheVariants.{Block, Lower}
 
@@ -34,3 +36,9 @@ abbrev pub is_apart : Option Form → Option Form → Option Form → Bool
 is_apart above (Some (Block k)) below = lacks_lower (traits_of k).second_input below
 is_apart above (Some (Lower q linked)) below = not (is_block_for q above)
 is_apart above form below = false
+
+abbrev pub form_above : Page → ℕ → ℕ → ℕ → Option Form
+form_above page k r c = if r == 0 then None else form_at page k (r - 1) c
+
+abbrev pub form_below : Page → ℕ → ℕ → ℕ → Option Form
+form_below page k r c = if r + 1 == ROWS then None else form_at page k (r + 1) c

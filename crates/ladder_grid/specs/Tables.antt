@@ -2,7 +2,8 @@
 use Rattle.std.specs.Prelude.{ℕ, zero, suc, ◌<◌, ◌/◌, ◌%◌, false, List, length, min, set, replicate, slice_index_or, Option, Some, None}
 use Rattle.ladder_vars.specs.Decls.{Declared}
 use Rattle.ladder_grid.specs.declared.geometry.TheConstants.{RUNGS, COLUMNS, PLACES}
-use Rattle.ladder_grid.specs.Picture.{Lines, text_over}
+use Rattle.ladder_grid.specs.Picture.{Lines}
+use Rattle.ladder_grid.specs.Texts.{text_over}
 use Rattle.ladder_grid.specs.Lines.{part_in, rung_of}
 use Rattle.ladder_grid.specs.Operand.{word_in, refer_to, instance_on}
 use Rattle.ladder_grid.specs.Rules.{has_text}

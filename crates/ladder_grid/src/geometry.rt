@@ -1,7 +1,8 @@
 //! The geometry of a drawing: how many rungs, rows and columns there are, and where a cell stands in its lines.
 
 ghost use Rattle.std.specs.Prelude.{◌≡◌, ◌<◌};
-ghost use Rattle.ladder_grid.specs.Geometry.{place, reading_place};
+ghost use Rattle.ladder_grid.specs.Geometry.{place};
+ghost use Rattle.ladder_grid.specs.AllPlaces.{reading_place};
 
 /// So many rungs a program may have.
 pub const RUNGS: usize = 100;

@@ -2,7 +2,9 @@
 
 ghost use Rattle.std.specs.Prelude.{◌≡◌, ◌≤◌, ◌-◌, length, drop, slice_get};
 ghost use Rattle.ladder_vars.specs.Name.{same_letters};
-ghost use Rattle.ladder_grid.specs.Operand.{after_spaces, text_len, word_in, ends_in, without_end, named, referred, refer_to, same_kind, same_output, gives_output, is_odd_on_contact, is_odd_on_coil, is_odd_on_block, is_odd, instance_of, instance_on};
+ghost use Rattle.ladder_grid.specs.Operand.{word_in, ends_in, refer_to, instance_of, instance_on};
+ghost use Rattle.ladder_grid.specs.Texts.{after_spaces, text_len};
+ghost use Rattle.ladder_grid.specs.Suiting.{without_end, named, referred, same_kind, same_output, gives_output, is_odd_on_contact, is_odd_on_coil, is_odd_on_block, is_odd};
 
 use crate::form::Form;
 use ladder_vars::{BlockKind, Decls, Name, Output, Symbol, VarKind};
@@ -47,7 +49,6 @@ fn text_len(mut chars: &[u8]) -> usize
 }
 
 /// The characters without the spaces at both ends.
-#[tactic(auto, unfolding(crate::specs::Operand::word_in))]
 pub(crate) fn word_in(chars: &[u8]) -> &[u8]
     ensures { result.now ≡ word_in chars.now }
 {

@@ -1,101 +1,110 @@
 //! The rules of cells, joints and names.
 
-ghost use Rattle.std.specs.Prelude.{◌≡◌, ◌≤◌, ◌<◌, ◌↔◌, length, map, None, true, false, IsTrue, IfSome, IfNone};
-ghost use Rattle.ladder_grid.specs.declared.geometry.TheConstants.{RUNGS, ROWS, COLUMNS, LINES};
+ghost use Rattle.std.specs.Prelude.{◌≡◌, ◌≤◌, ◌<◌, ◌*◌, ◌↔◌, length, map, None, true, false, IsTrue, IfSome, IfNone};
+ghost use Rattle.ladder_grid.specs.declared.geometry.TheConstants.{RUNGS, ROWS, COLUMNS, LINES, PITCH};
 ghost use Rattle.std.specs.List.{AllByRecursion};
 ghost use Rattle.ladder_grid.specs.ReadLines.{IsWithin};
 ghost use Rattle.ladder_grid.specs.Seen.{seen};
-ghost use Rattle.ladder_grid.specs.Geometry.{reading_place};
-ghost use Rattle.ladder_grid.specs.Rules.{bad_name_joint, bad_wire_joint, bad_rail, bad_at_joint, bad_joint, is_branch, bad_vertical, wants_name, has_text, form_above, form_below, IsTorn, IsDrawnBefore, IsDrawnTwice, leaps, IsSecondJump, BreaksAt, IsBrokenAlong, IsBrokenOn, IsKept};
-ghost use Rattle.ladder_grid.specs.Shapes.{same_pin, is_lower_for, takes_second, is_block_for, lacks_lower, is_apart};
-ghost use Rattle.ladder_grid.specs.Operand.{is_odd};
+ghost use Rattle.ladder_grid.specs.Bytes.{is_upright};
+ghost use Rattle.ladder_grid.specs.AllPlaces.{reading_place};
+ghost use Rattle.ladder_grid.specs.Rules.{is_joint, fits_joint, wants_name, has_text, IsTorn, BreaksAt};
+ghost use Rattle.ladder_grid.specs.Form.{leaps};
+ghost use Rattle.ladder_grid.specs.Checks.{is_loose, IsOdd, IsDrawnBefore, IsDrawnTwice, IsSecondJump, IsBrokenAlong, IsBrokenOn, IsKept};
+ghost use Rattle.ladder_grid.specs.Shapes.{same_pin, is_lower_for, takes_second, is_block_for, lacks_lower, is_apart, form_above, form_below};
 ghost use Rattle.ladder_grid.specs.Page.{rung_at, form_at, name_over};
-ghost use Rattle.ladder_grid.specs.Picture.{text_over};
+ghost use Rattle.ladder_grid.specs.Picture.{ch, line_of};
+ghost use Rattle.ladder_grid.specs.Texts.{text_over};
 ghost use Rattle.ladder_grid.specs.declared.fault.GridRule.{GridRule};
 
 use crate::fault::GridRule;
 use crate::feeding::{is_unfed, right_link};
 use crate::firsts::{first_of, is_before};
 use crate::form::Form;
-use crate::geometry::{COLUMNS, PITCH, RAIL, ROWS, reading_place};
+use crate::geometry::{COLUMNS, PITCH, ROWS, reading_place};
 use crate::operand::{Reference, is_odd};
 use crate::page::{form_at, instance_at, is_written_over, name_over, rung_at};
 use crate::picture::{Half, ch, joint, line_of};
 use crate::view::PageView;
 use ladder_vars::Pin;
 
-fn bad_name_joint(b: u8) -> bool
-    ensures { result ≡ bad_name_joint b }
+/// Whether a character that is no space may stand between two cells.
+fn is_joint(half: Half, linked: bool, b: u8, right: u8) -> bool
+    ensures { result ≡ is_joint half linked b right }
 {
-    !(b == b' ' || b == b'|')
-}
-
-fn bad_wire_joint(b: u8, linked: bool, right: u8) -> bool
-    ensures { result ≡ bad_wire_joint b linked right }
-{
-    !(b == b' ' || b == b'-' || b == b'+' || b == b'|')
-        || (b == b'-' && !linked)
-        || (b == b'|' && (linked || right == b'-'))
-}
-
-fn bad_rail(b: u8) -> bool
-    ensures { result ≡ bad_rail b }
-{
-    !(b == b' ' || b == b'+' || b == b'|')
-}
-
-fn bad_at_joint(page: PageView<'_, '_>, rung: usize, row: usize, half: Half, column: usize) -> bool
-    requires rungs { rung < length page.parts.now }
-    requires rows { row < ROWS }
-    requires columns { column < COLUMNS }
-    ensures { result ≡ bad_at_joint (seen page.entry) rung row half column }
-{
-    let lines = rung_at(page, rung);
     match half {
-        Half::Name => bad_name_joint(ch(lines, 2 * row, PITCH * column)),
-        Half::Wire => bad_wire_joint(
-            joint(lines, row, column),
-            right_link(page, rung, row, column.saturating_sub(1)),
-            ch(lines, 2 * row + 1, PITCH * column + 1),
-        ),
+        Half::Name => b == b'|',
+        Half::Wire => {
+            b == b'+'
+                || if linked {
+                    b == b'-'
+                } else {
+                    b == b'|' && right != b'-'
+                }
+        }
     }
 }
 
-fn bad_joint(page: PageView<'_, '_>, rung: usize, row: usize, half: Half, column: usize) -> bool
+/// Whether what stands at a joint's place, or at the right rail, may stand there.
+fn fits_joint(
+    page: PageView<'_, '_>,
+    rung: usize,
+    row: usize,
+    half: Half,
+    column: usize,
+    b: u8,
+) -> bool
     requires rungs { rung < length page.parts.now }
     requires rows { row < ROWS }
     requires columns { column ≤ COLUMNS }
-    ensures { result ≡ bad_joint (seen page.entry) rung row half column }
+    ensures { result ≡ fits_joint (seen page.entry) rung row half column b }
 {
-    if column == COLUMNS {
-        bad_rail(ch(rung_at(page, rung), line_of(row, half), RAIL))
-    } else {
-        column >= 1 && bad_at_joint(page, rung, row, half, column)
+    if b == b' ' {
+        return true;
     }
+    if column == COLUMNS {
+        is_branch(b)
+    } else {
+        is_joint(
+            half,
+            right_link(page, rung, row, column.saturating_sub(1)),
+            b,
+            ch(rung_at(page, rung), line_of(row, half), PITCH * column + 1),
+        )
+    }
+}
+
+fn is_odd_joint(page: PageView<'_, '_>, rung: usize, row: usize, half: Half, column: usize) -> bool
+    requires rungs { rung < length page.parts.now }
+    requires rows { row < ROWS }
+    requires columns { column ≤ COLUMNS }
+    ensures { IsTrue result ↔ (fits_joint (seen page.entry) rung row half column (ch (rung_at (seen page.entry) rung) (line_of row half) (PITCH * column)) ≡ false) }
+{
+    !fits_joint(
+        page,
+        rung,
+        row,
+        half,
+        column,
+        ch(rung_at(page, rung), line_of(row, half), PITCH * column),
+    )
 }
 
 fn is_branch(b: u8) -> bool
-    ensures { result ≡ is_branch b }
+    ensures { result ≡ is_upright b }
 {
-    b == b'+' || b == b'|'
+    b == b'|' || b == b'+'
 }
 
-fn bad_vertical(lines: &[&[u8]], row: usize, half: Half, column: usize) -> bool
+/// Whether a bar on the name line of the row has a loose end.
+fn is_loose(lines: &[&[u8]], row: usize, column: usize) -> bool
     requires rows { row < ROWS }
-    requires columns { column ≤ COLUMNS }
-    ensures { result ≡ bad_vertical (map (λ l. l.now) lines.now) row half column }
+    requires columns { column < COLUMNS }
+    ensures { result ≡ is_loose (map (λ l. l.now) lines.now) row column }
 {
-    match half {
-        Half::Name => {
-            column >= 1
-                && column < COLUMNS
-                && ch(lines, 2 * row, PITCH * column) == b'|'
-                && (row == 0
-                    || !is_branch(joint(lines, row - 1, column))
-                    || !is_branch(joint(lines, row, column)))
-        }
-        Half::Wire => false,
-    }
+    ch(lines, 2 * row, PITCH * column) == b'|'
+        && (row == 0
+            || !is_branch(joint(lines, row - 1, column))
+            || !is_branch(joint(lines, row, column)))
 }
 
 fn wants_name(form: Option<Form>) -> bool
@@ -168,7 +177,7 @@ fn has_odd_name(page: PageView<'_, '_>, rung: usize, row: usize, column: usize) 
     requires few { rung < RUNGS }
     requires rows { row < ROWS }
     requires columns { column < COLUMNS }
-    ensures { result ≡ is_odd page.entry.decls.now (form_at (seen page.entry) rung row column) (name_over (seen page.entry) rung row column) }
+    ensures { IsTrue result ↔ IsOdd page.entry.decls.now (form_at (seen page.entry) rung row column) (name_over (seen page.entry) rung row column) }
 {
     is_odd(
         page.decls,
@@ -390,8 +399,11 @@ fn breaks(
         GridRule::BadCell => is_wire(half)
             && column < COLUMNS
             && has_no_form(form_at(page, rung, row, column)),
-        GridRule::BadJoint => bad_joint(page, rung, row, half, column),
-        GridRule::BrokenVertical => bad_vertical(rung_at(page, rung), row, half, column),
+        GridRule::BadJoint => column >= 1 && is_odd_joint(page, rung, row, half, column),
+        GridRule::BrokenVertical => !is_wire(half)
+            && column >= 1
+            && column < COLUMNS
+            && is_loose(rung_at(page, rung), row, column),
         GridRule::Unfed => is_wire(half) && column < COLUMNS && is_unfed(page, rung, row, column),
         GridRule::NameMissing => !is_wire(half)
             && column < COLUMNS
