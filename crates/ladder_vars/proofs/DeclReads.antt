@@ -8,7 +8,7 @@ use Rattle.ladder_vars.specs.declared.decls.Instance.{Instance}
 use Rattle.ladder_vars.specs.declared.decls.Body.TheVariants as body
 use Rattle.ladder_vars.specs.Name.{same_letters, is_name, is_keyword, has_name_form}
 use Rattle.ladder_vars.specs.Decls.{Declared, AreKept}
-use Rattle.ladder_vars.specs.Text.{Piece, ArePieces, AreTokens, spelling}
+use Rattle.ladder_vars.specs.Text.{Gap, Nothing, Blank, Comment, LineComment, AreTokens}
 use Rattle.ladder_vars.specs.Grammar.{Is, Decl, IsDecl, AreDecls, declared_by, HasDecls}
 use Rattle.ladder_vars.specs.ReadDecls.{name_of, with_decl, added, nothing, decls_from, all_of}
 use Rattle.ladder_vars.proofs.Steps.{or_false}
@@ -19,18 +19,24 @@ use Rattle.ladder_vars.proofs.Accepting.{joined, accepts}
 
 -- ---- where a reading ends
 
-pieces-end : (ps : List Piece) (text rest : List ℕ) → ArePieces ps text rest → (front : List ℕ) × (text ≡ front ++ rest)
-pieces-end [] text rest h = ([], h)
-pieces-end (p ∷ ps) text rest h =
-    let more = pieces-end ps h.0 rest h.3 in
-    (spelling p ++ more.0, h.1 ∙ ap (λ z. spelling p ++ z) more.1 ∙ sym (append_assoc (spelling p) more.0 rest))
+gap-end : {text rest : List ℕ} → Gap text rest → (front : List ℕ) × (text ≡ front ++ rest)
+gap-end Nothing = ([], refl)
+gap-end (Blank {b} blank g) = let more = gap-end g in (b ∷ more.0, ap (λ z. b ∷ z) more.1)
+gap-end {rest = rest} (Comment inside unclosed g) =
+    let more = gap-end g in
+    let whole = ap (λ z. 40 ∷ 42 ∷ (inside ++ (42 ∷ 41 ∷ z))) more.1 in
+    (40 ∷ 42 ∷ (inside ++ (42 ∷ 41 ∷ more.0)), whole ∙ ap (λ (z : List ℕ). 40 ∷ 42 ∷ z) (sym (append_assoc inside (42 ∷ 41 ∷ more.0) rest)))
+gap-end {rest = rest} (LineComment inside one_line end g) =
+    let more = gap-end g in
+    let whole = ap (λ z. 47 ∷ 47 ∷ (inside ++ z)) more.1 in
+    (47 ∷ 47 ∷ (inside ++ more.0), whole ∙ ap (λ (z : List ℕ). 47 ∷ 47 ∷ z) (sym (append_assoc inside more.0 rest)))
 
 tokens-end : (ts : List (List ℕ)) (text rest : List ℕ) → AreTokens ts text rest → (front : List ℕ) × (text ≡ front ++ rest)
 tokens-end [] text rest h = ([], h)
 tokens-end (t ∷ ts) text rest h =
-    let gap = pieces-end h.2.0 text h.0 h.2.1 in
-    let more = tokens-end ts h.1 rest h.4 in
-    let after : h.0 ≡ (t ++ more.0) ++ rest = h.3.parts ∙ ap (λ z. t ++ z) more.1 ∙ sym (append_assoc t more.0 rest) in
+    let gap = gap-end h.2 in
+    let more = tokens-end ts h.1 rest h.6 in
+    let after : h.0 ≡ (t ++ more.0) ++ rest = h.3 ∙ ap (λ z. t ++ z) more.1 ∙ sym (append_assoc t more.0 rest) in
     (gap.0 ++ (t ++ more.0), gap.1 ∙ ap (λ z. gap.0 ++ z) after ∙ sym (append_assoc gap.0 (t ++ more.0) rest))
 
 drop_end : (front rest : List ℕ) → drop (length (front ++ rest) - length rest) (front ++ rest) ≡ rest
