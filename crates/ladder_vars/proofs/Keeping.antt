@@ -1,6 +1,7 @@
 -- Names, addresses and limits are kept by one more declaration exactly where no rule refuses it.
 use Rattle.std.proofs.Common.{◌≡◌, ℕ, ◌≤◌, ◌<◌, false, ◌||◌, ◌==◌, nat_le, nat_lt, List, [], ◌∷◌, ◌++◌, length, map, Option, Some, None, refl, sym, ap, ◌∙◌, arith, append_assoc, inl, inr}
 use Rattle.std.specs.List.{IsDistinct, list_any}
+use Rattle.std.specs.Option.{option_eq}
 use Rattle.std.specs.Str.{str_to_ascii_lowercase}
 use Rattle.std.proofs.lemmas.Cmp.{nat_eq_equiv, nat_list_eq_equiv}
 use Rattle.std.proofs.lemmas.List.{append-nil, length-append, map-append}
@@ -13,7 +14,7 @@ use Rattle.ladder_vars.specs.declared.decls.Instance.{Instance}
 use Rattle.ladder_vars.specs.declared.decls.Body.{Body}
 use Rattle.ladder_vars.specs.declared.decls.Body.TheVariants as body
 use Rattle.ladder_vars.specs.Name.{same_letters}
-use Rattle.ladder_vars.specs.Decls.{Declared, AreKept, names_of, addresses_of, same_number, same_address}
+use Rattle.ladder_vars.specs.Decls.{Declared, AreKept, names_of, addresses_of, same_address}
 use Rattle.ladder_vars.specs.Kind.{traits_of, largest_preset}
 use Rattle.ladder_vars.specs.ReadDecls.{nothing, is_there, is_declared, is_taken, refusal, with_var, with_instance, with_decl, PresetFits}
 use Rattle.ladder_vars.proofs.Steps.{chosen, or_false}
@@ -38,7 +39,7 @@ nat_eq-flips m n = nat_eq_equiv.symm m n
 pub same_letters-flips : (a b : List ℕ) → same_letters a b ≡ same_letters b a
 same_letters-flips a b = nat_list_eq_equiv.symm (str_to_ascii_lowercase a) (str_to_ascii_lowercase b)
 
-same_number-flips : (a b : Option ℕ) → same_number a b ≡ same_number b a
+same_number-flips : (a b : Option ℕ) → option_eq (λ m n. m == n) a b ≡ option_eq (λ m n. m == n) b a
 same_number-flips (Some m) (Some n) = nat_eq-flips m n
 same_number-flips None None = refl
 same_number-flips (Some m) None = refl

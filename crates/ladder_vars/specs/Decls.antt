@@ -1,5 +1,6 @@
 -- The declarations of a text as a value: its variables and its function block instances, each in order of declaration.
-use Rattle.std.specs.Prelude.{ℕ, ◌≤◌, Bool, true, false, ◌&&◌, ◌==◌, List, ◌++◌, length, map, position, Option, Some, None}
+use Rattle.std.specs.Prelude.{ℕ, ◌≤◌, Bool, true, false, ◌&&◌, ◌==◌, List, ◌++◌, length, map, position, Option, option_map}
+use Rattle.std.specs.Option.{option_or, option_eq}
 use Rattle.std.specs.List.{All, IsDistinct, filter_map}
 use Rattle.ladder_vars.specs.declared.limits.TheConstants.{MOST_VARS, MOST_INSTANCES}
 use Rattle.ladder_vars.specs.declared.decls.VarKind.TheVariants as kind
@@ -17,31 +18,20 @@ pub record Declared : Type 0 where
 
 abbrev pub is_input_kind : kind.the_data → Bool
 is_input_kind kind.Input = true
-is_input_kind kind.Output = false
-is_input_kind kind.Memory = false
+is_input_kind other = false
 
 abbrev pub is_input : Var → Bool
 is_input v = is_input_kind v.kind
 
 -- What a name stands for: the variable or the instance that is declared with it, in any letter case.
-abbrev pub either_symbol : Option ℕ → Option ℕ → Option Symbol
-either_symbol (Some number) other = Some (symbol.Var number)
-either_symbol None (Some number) = Some (symbol.Instance number)
-either_symbol None None = None
-
 abbrev pub find : Declared → List ℕ → Option Symbol
 find declared name =
-    either_symbol (position (λ v. same_letters name v.name) declared.vars) (position (λ i. same_letters name i.name) declared.instances)
+    option_or (option_map symbol.Var (position (λ v. same_letters name v.name) declared.vars))
+    (option_map symbol.Instance (position (λ i. same_letters name i.name) declared.instances))
 
 -- Two addresses are the same where the letter and the numbers are.
-abbrev pub same_number : Option ℕ → Option ℕ → Bool
-same_number (Some m) (Some n) = m == n
-same_number None None = true
-same_number (Some m) None = false
-same_number None (Some n) = false
-
 abbrev pub same_address : Address → Address → Bool
-same_address a b = (a.letter == b.letter) && ((a.first == b.first) && same_number a.second b.second)
+same_address a b = (a.letter == b.letter) && ((a.first == b.first) && option_eq (λ m n. m == n) a.second b.second)
 
 abbrev pub names_of : Declared → List (List ℕ)
 names_of declared = map (λ v. v.name) declared.vars ++ map (λ i. i.name) declared.instances

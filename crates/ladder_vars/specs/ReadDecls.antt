@@ -19,9 +19,9 @@ use Rattle.ladder_vars.specs.Name.{same_letters, is_name, has_name_form}
 use Rattle.ladder_vars.specs.Kind.{traits_of, parameter_word, largest_preset}
 use Rattle.ladder_vars.specs.Decls.{Declared, is_input_kind, same_address}
 use Rattle.ladder_vars.specs.Text.{begins_word}
-use Rattle.ladder_vars.specs.Grammar.{bit_of, block_of}
+use Rattle.ladder_vars.specs.Grammar.{bit_of}
 use Rattle.ladder_vars.specs.ReadText.{◌>>=◌, token_at, unfinished}
-use Rattle.ladder_vars.specs.ReadWords.{address_of, value_of}
+use Rattle.ladder_vars.specs.ReadWords.{address_of, value_of, block_of}
 
 -- the same, unless memory ran out
 abbrev pub Fails : {Y : Type 0} → ReadFault → Result Y Fault → Type 0

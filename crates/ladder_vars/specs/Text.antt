@@ -44,7 +44,7 @@ pub data Gap : List ℕ → List ℕ → Type 0 where
   Blank : {b : ℕ} {after rest : List ℕ} → is_blank b after ≡ true → Gap after rest → Gap (b ∷ after) rest
   Comment : (inside : List ℕ) {after rest : List ℕ} → closes inside ≡ false → Gap after rest → Gap (codes "(*" ++ (inside ++ (codes "*)" ++ after))) rest
   LineComment : (inside : List ℕ) {after rest : List ℕ} → list_all (λ b. not (b == 10)) inside ≡ true → (after ≡ []) ⊎ (begins_with 10 after ≡ true)
-    → Gap after rest → Gap (codes "//" ++ (inside ++ after)) rest
+      → Gap after rest → Gap (codes "//" ++ (inside ++ after)) rest
 
 -- The text is these tokens, each after a gap and as long as it can be, and then the rest, right after the last token.
 abbrev pub AreTokens : List (List ℕ) → List ℕ → List ℕ → Type 0
