@@ -6,13 +6,14 @@ use Rattle.ladder_vars.specs.declared.decls.VarKind.TheVariants as var_kind
 use Rattle.ladder_vars.specs.declared.kind.BlockKind.{BlockKind}
 use Rattle.ladder_vars.specs.declared.kind.BlockKind.TheVariants as block_kind
 use Rattle.ladder_vars.specs.declared.kind.Parameter.{Parameter}
+use Rattle.ladder_vars.specs.declared.kind.Parameter.TheVariants as parameter
 use Rattle.ladder_vars.specs.declared.decls.Address.{Address}
 use Rattle.ladder_vars.specs.declared.decls.Body.{Body}
 use Rattle.ladder_vars.specs.declared.decls.Body.TheVariants as body
 use Rattle.ladder_vars.specs.Name.{same_letters}
 use Rattle.ladder_vars.specs.Kind.{traits_of, parameter_word}
-use Rattle.ladder_vars.specs.Grammar.{Is, AreOf, IsAddress, IsValue, IsBody, bit_of, preset_form}
-use Rattle.ladder_vars.specs.ReadWords.{block_of}
+use Rattle.ladder_vars.specs.Grammar.{Is, AreOf, IsAddress, IsBody, bit_of, preset_form}
+use Rattle.ladder_vars.specs.ReadWords.{IsValue, block_of}
 use Rattle.ladder_vars.proofs.PartLaws.{same_bytes}
 use Rattle.ladder_vars.proofs.Steps.{chosen}
 
@@ -116,10 +117,20 @@ block_takes w kind h =
 
 -- ---- the parts of what the grammar derives
 
-instance_given : (o : Option Parameter) (ts : List (List ℕ)) (kind : BlockKind) (n : ℕ) → (traits_of kind).parameter ≡ o
-    → AreOf (Is (codes ":") ∷ Is (traits_of kind).word ∷ Is (codes ":=") ∷ (preset_form o n ++ Is (codes ";") ∷ [])) ts → IsInstanceBody ts kind n
-instance_given None ts kind n takes (colon, a, pa, is_colon, (block, b, pb, is_block, (assign, c, pc, is_assign, (word, d, pd, never, more)))) = absurd never
-instance_given (Some form) ts kind n takes
+abbrev value_form : Parameter → ℕ → List (List ℕ → Type 0)
+value_form form n = Is (codes "(") ∷ Is (parameter_word form) ∷ Is (codes ":=") ∷ (λ word. IsValue form word n) ∷ Is (codes ")") ∷ []
+
+form_opened : (form : Parameter) (n : ℕ) (P : List (List ℕ → Type 0) → Type 0) → P (preset_form (Some form) n) → P (value_form form n)
+form_opened parameter.Time n P h = h
+form_opened parameter.Count n P h = h
+
+form_closed : (form : Parameter) (n : ℕ) (P : List (List ℕ → Type 0) → Type 0) → P (value_form form n) → P (preset_form (Some form) n)
+form_closed parameter.Time n P h = h
+form_closed parameter.Count n P h = h
+
+instance_with : (form : Parameter) (ts : List (List ℕ)) (kind : BlockKind) (n : ℕ) → (traits_of kind).parameter ≡ Some form
+    → AreOf (Is (codes ":") ∷ Is (traits_of kind).word ∷ Is (codes ":=") ∷ (value_form form n ++ Is (codes ";") ∷ [])) ts → IsInstanceBody ts kind n
+instance_with form ts kind n takes
     (colon, a, pa, is_colon, (block, b, pb, is_block, (assign, c, pc, is_assign, (opening, d, pd, is_opening, (parameter, e, pe, is_parameter, (given, f, pf, is_given, (word, g, pg, is_word, (closing, i, pi, is_closing, (semicolon, j, pj, is_semicolon, empty)))))))))
     = record {
       colon = colon;
@@ -149,6 +160,13 @@ instance_given (Some form) ts kind n takes
       });
       is_semicolon = is_semicolon;
     }
+
+instance_given : (o : Option Parameter) (ts : List (List ℕ)) (kind : BlockKind) (n : ℕ) → (traits_of kind).parameter ≡ o
+    → AreOf (Is (codes ":") ∷ Is (traits_of kind).word ∷ Is (codes ":=") ∷ (preset_form o n ++ Is (codes ";") ∷ [])) ts → IsInstanceBody ts kind n
+instance_given None ts kind n takes (colon, a, pa, is_colon, (block, b, pb, is_block, (assign, c, pc, is_assign, (word, d, pd, never, more)))) = absurd never
+instance_given (Some form) ts kind n takes h =
+    instance_with form ts kind n takes
+    (form_opened form n (λ sorts. AreOf (Is (codes ":") ∷ Is (traits_of kind).word ∷ Is (codes ":=") ∷ (sorts ++ Is (codes ";") ∷ [])) ts) h)
 
 pub has_body : (ts : List (List ℕ)) (b : Body) → IsBody ts b → HasBody ts b
 has_body ts (body.Var kind None value) (inl ((colon, a, pa, is_colon, (bool, b, pb, is_bool, (semicolon, c, pc, is_semicolon, empty))), off), memory) = record {
@@ -255,7 +273,7 @@ is_instance kind n ts preset colon block semicolon parts is_colon is_block (inr 
     = parts ∙ ap (λ z. colon ∷ block ∷ (z ++ semicolon ∷ [])) p.tokens in
     let Given : Option Parameter → Type 0
     = λ o. AreOf (Is (codes ":") ∷ Is (traits_of kind).word ∷ Is (codes ":=") ∷ (preset_form o n ++ Is (codes ";") ∷ [])) ts in
-    let given : Given (Some p.form) = (
+    let given : AreOf (Is (codes ":") ∷ Is (traits_of kind).word ∷ Is (codes ":=") ∷ (value_form p.form n ++ Is (codes ";") ∷ [])) ts = (
       colon,
       _,
       whole,
@@ -286,7 +304,9 @@ is_instance kind n ts preset colon block semicolon parts is_colon is_block (inr 
         ),
       ),
     ) in
-    inr (subst Given (sym p.takes) given)
+    let closed : Given (Some p.form)
+    = form_closed p.form n (λ sorts. AreOf (Is (codes ":") ∷ Is (traits_of kind).word ∷ Is (codes ":=") ∷ (sorts ++ Is (codes ";") ∷ [])) ts) given in
+    inr (subst Given (sym p.takes) closed)
 
 pub is_body : (ts : List (List ℕ)) (b : Body) → HasBody ts b → IsBody ts b
 is_body ts (body.Var kind address value) h =

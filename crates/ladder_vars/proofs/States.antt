@@ -15,8 +15,8 @@ use Rattle.ladder_vars.specs.declared.decls.Body.{Body}
 use Rattle.ladder_vars.specs.declared.decls.Body.TheVariants as body
 use Rattle.ladder_vars.specs.Name.{same_letters, is_name, has_name_form}
 use Rattle.ladder_vars.specs.Kind.{traits_of, parameter_word}
-use Rattle.ladder_vars.specs.Grammar.{Is, IsAddress, IsValue, Decl, AreDecls, IsHead, IsBlock, CanFollow, bit_of}
-use Rattle.ladder_vars.specs.ReadWords.{◌>>=◌, numbers_of, address_of, part_at, total_from, total_of, time_of, value_of, block_of}
+use Rattle.ladder_vars.specs.Grammar.{Is, IsAddress, Decl, AreDecls, IsHead, IsBlock, CanFollow, bit_of}
+use Rattle.ladder_vars.specs.ReadWords.{IsValue, ◌>>=◌, numbers_of, address_of, part_at, total_from, total_of, time_of, value_of, block_of}
 use Rattle.ladder_vars.specs.ReadDecls.{preset_fault}
 use Rattle.ladder_vars.proofs.Bodies.{IsInitial, IsPreset, IsVarBody, HasBody, has_body, is_body}
 use Rattle.ladder_vars.proofs.Steps.{chosen}

@@ -7,8 +7,7 @@ use Rattle.std.proofs.lemmas.Bool.{leb-true, le-leb, or_cases}
 use Rattle.std.proofs.lemmas.List.{take-append-drop, length-map}
 use Rattle.std.proofs.Math.Seq.{take-append_seam, drop-append_seam}
 use Rattle.ladder_vars.specs.Name.{same_letters}
-use Rattle.ladder_vars.specs.declared.kind.Parameter.TheVariants as parameter
-use Rattle.ladder_vars.specs.Grammar.{IsValue}
+use Rattle.ladder_vars.specs.Duration.{IsDuration}
 use Rattle.ladder_vars.specs.ReadWords.{or_else, after_word, after_prefix, total_of, time_of}
 use Rattle.ladder_vars.proofs.Steps.{chosen}
 use Rattle.ladder_vars.proofs.Runs.{bind_some}
@@ -80,15 +79,15 @@ uncut s h = omega arith
 below_cap : (m s : ℕ) → m ≡ min s cap → m ≤ 4294967295 → m ≡ s
 below_cap m s e h = omega arith
 
-pub time_reads : (word : List ℕ) (n : ℕ) → IsValue parameter.Time word n → time_of word ≡ Some n
+pub time_reads : (word : List ℕ) (n : ℕ) → IsDuration word n → time_of word ≡ Some n
 unfolding time_of
-time_reads word n ((prefix, after, [], spelled, is_prefix, are_parts, sum), small) = absurd are_parts
-time_reads word n ((prefix, after, p ∷ ps, spelled, is_prefix, are_parts, sum), small) =
+time_reads word n (prefix, after, [], spelled, is_prefix, are_parts, sum, small) = absurd are_parts
+time_reads word n (prefix, after, p ∷ ps, spelled, is_prefix, are_parts, sum, small) =
     let total : total_of after ≡ Some n = all_reads p ps after are_parts ∙ ap (λ k. Some (min k cap)) (sym sum) ∙ ap Some (uncut n small) in
     let behind : after_prefix word ≡ Some after = ap after_prefix spelled ∙ prefix_reads prefix after is_prefix in
     rw (behind, total, le-leb n 4294967295 small) refl
 
-pub time_takes : (word : List ℕ) (n : ℕ) → time_of word ≡ Some n → IsValue parameter.Time word n
+pub time_takes : (word : List ℕ) (n : ℕ) → time_of word ≡ Some n → IsDuration word n
 unfolding time_of
 time_takes word n h =
     let a = bind_some (after_prefix word) _ n h in
@@ -101,5 +100,5 @@ time_takes word n h =
           let p = prefix_takes word a.0 a.1 in
           let small : t.0 ≤ 4294967295 = leb-true t.0 4294967295 fits.0 in
           let sum : n ≡ sum_of all.parts = sym same ∙ below_cap t.0 (sum_of all.parts) all.sum small in
-          ((p.0, a.0, all.parts, p.1, p.2, all.are_parts, sum), subst (λ k. k ≤ 4294967295) same small)
+          (p.0, a.0, all.parts, p.1, p.2, all.are_parts, sum, subst (λ k. k ≤ 4294967295) same small)
     ]

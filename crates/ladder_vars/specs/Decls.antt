@@ -46,4 +46,8 @@ pub record AreKept (declared : Declared) : Type 0 where
   pub few_vars : length declared.vars ≤ MOST_VARS
   pub few_instances : length declared.instances ≤ MOST_INSTANCES
   pub short_names : All (λ i. length i.name ≤ (traits_of i.kind).longest_name) declared.instances
+
+-- The same of declarations that were read: no preset is larger than that of its block can be, as the grammar has it.
+pub record AreInRange (declared : Declared) : Type 0 where
+  pub kept : AreKept declared
   pub presets : All (λ i. i.preset ≤ largest_preset i.kind) declared.instances

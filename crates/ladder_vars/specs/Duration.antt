@@ -2,7 +2,7 @@
 use Rattle.std.specs.Prelude.{◌≡◌, ℕ, ◌+◌, ◌-◌, ◌*◌, ◌<◌, ◌≤◌, ◌⊎◌, true, List, [], ◌∷◌, ◌++◌, length, codes}
 use Rattle.std.specs.List.{fold, list_all, list_any, sum_by}
 use Rattle.std.specs.Char.{is_ascii_digit}
-use Rattle.ladder_vars.specs.declared.limits.TheConstants.{MOST_DIGITS}
+use Rattle.ladder_vars.specs.declared.limits.TheConstants.{MOST_DIGITS, LARGEST_TIME}
 use Rattle.ladder_vars.specs.declared.time.Unit.TheVariants as unit
 use Rattle.ladder_vars.specs.Name.{same_letters}
 
@@ -46,8 +46,8 @@ AreParts (p ∷ q ∷ ps) text =
     × ((between ≡ []) ⊎ (between ≡ 95 ∷ [])) × ((measure q.unit).millis < (measure p.unit).millis)
     × (number_of q.digits < (measure q.unit).range) × AreParts (q ∷ ps) after
 
--- The literal: `T#` or `TIME#`, then the parts; its value in milliseconds is their sum.
+-- The literal: `T#` or `TIME#`, then the parts; its value in milliseconds is their sum, and below 2 ^ 32 (the profile).
 abbrev pub IsDuration : List ℕ → ℕ → Type 0
 IsDuration text n =
     (prefix after : List ℕ) × (parts : List Part) × (text ≡ prefix ++ after) × (list_any (same_letters prefix) (codes "T#" ∷ codes "TIME#" ∷ []) ≡ true)
-    × AreParts parts after × (n ≡ sum_by (λ p. number_of p.digits * (measure p.unit).millis) parts)
+    × AreParts parts after × (n ≡ sum_by (λ p. number_of p.digits * (measure p.unit).millis) parts) × (n ≤ LARGEST_TIME)

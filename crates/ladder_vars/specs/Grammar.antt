@@ -4,6 +4,7 @@ use Rattle.std.specs.Prelude.{◌≡◌, ℕ, ◌≤◌, ◌⊎◌, ◌==◌, Bo
 use Rattle.std.specs.List.{filter_map}
 use Rattle.std.specs.Map.{lookup}
 use Rattle.std.specs.Char.{to_ascii_uppercase}
+use Rattle.ladder_vars.specs.declared.limits.TheConstants.{LARGEST_COUNT}
 use Rattle.ladder_vars.specs.declared.decls.VarKind.{VarKind}
 use Rattle.ladder_vars.specs.declared.decls.VarKind.TheVariants as var_kind
 use Rattle.ladder_vars.specs.declared.kind.Parameter.{Parameter}
@@ -14,7 +15,7 @@ use Rattle.ladder_vars.specs.declared.decls.Instance.{Instance}
 use Rattle.ladder_vars.specs.declared.decls.Body.{Body}
 use Rattle.ladder_vars.specs.declared.decls.Body.TheVariants as body
 use Rattle.ladder_vars.specs.Name.{same_letters, is_name}
-use Rattle.ladder_vars.specs.Kind.{traits_of, parameter_word, largest_value}
+use Rattle.ladder_vars.specs.Kind.{traits_of}
 use Rattle.ladder_vars.specs.Decls.{Declared, AreKept}
 use Rattle.ladder_vars.specs.Text.{AreTokens}
 use Rattle.ladder_vars.specs.Duration.{IsNumber, IsDuration}
@@ -50,14 +51,14 @@ IsAddress word kind address =
 abbrev pub bit_of : List ℕ → Option Bool
 bit_of word = lookup (same_letters word) ((codes "TRUE", true) ∷ (codes "FALSE", false) ∷ (codes "1", true) ∷ (codes "0", false) ∷ [])
 
--- what a parameter can be given
-abbrev pub IsValue : Parameter → List ℕ → ℕ → Type 0
-IsValue parameter.Time word n = IsDuration word n × (n ≤ largest_value parameter.Time)
-IsValue parameter.Count word n = IsNumber word n × (n ≤ largest_value parameter.Count)
+-- ( word := value )
+abbrev pub bracketed : List ℕ → (List ℕ → Type 0) → List (List ℕ → Type 0)
+bracketed word Value = Is (codes "(") ∷ Is word ∷ Is (codes ":=") ∷ Value ∷ Is (codes ")") ∷ []
 
--- A preset: `( PT := duration )` of a timer, `( PV := number )` of a counter; a bistable has none.
+-- A preset: `( PT := duration )` of a timer, `( PV := number )` of a counter, at most 32767 (the profile); a bistable has none.
 abbrev pub preset_form : Option Parameter → ℕ → List (List ℕ → Type 0)
-preset_form (Some form) n = Is (codes "(") ∷ Is (parameter_word form) ∷ Is (codes ":=") ∷ (λ word. IsValue form word n) ∷ Is (codes ")") ∷ []
+preset_form (Some parameter.Time) n = bracketed (codes "PT") (λ word. IsDuration word n)
+preset_form (Some parameter.Count) n = bracketed (codes "PV") (λ word. IsNumber word n × (n ≤ LARGEST_COUNT))
 preset_form None n = (λ word. ⊥) ∷ []
 
 -- ---- declarations

@@ -1,5 +1,5 @@
 -- Private to the proofs: words read from left to right, as the code reads them.
-use Rattle.std.specs.Prelude.{◌≡◌, ℕ, zero, suc, ◌+◌, ◌-◌, ◌*◌, ◌^◌, min, Bool, ◌&&◌, ◌==◌, nat_le, nat_lt, List, [], ◌∷◌, length, take, drop, codes, Option, Some, None, if◌then◌else◌}
+use Rattle.std.specs.Prelude.{◌≡◌, ℕ, zero, suc, ◌+◌, ◌-◌, ◌*◌, ◌^◌, min, Bool, ◌&&◌, ◌==◌, ◌≤◌, nat_le, nat_lt, List, [], ◌∷◌, length, take, drop, codes, Option, Some, None, if◌then◌else◌}
 use Rattle.std.specs.List.{find, fold, list_all, prefix_len}
 use Rattle.std.specs.Map.{lookup}
 use Rattle.std.specs.Char.{is_ascii_digit, is_ascii_alphabetic, to_ascii_uppercase}
@@ -14,7 +14,7 @@ use Rattle.ladder_vars.specs.declared.time.Unit.{Unit as TimeUnit}
 use Rattle.ladder_vars.specs.declared.time.Unit.TheVariants as time_unit
 use Rattle.ladder_vars.specs.Name.{same_letters}
 use Rattle.ladder_vars.specs.Kind.{traits_of, largest_value}
-use Rattle.ladder_vars.specs.Duration.{number_of, measure}
+use Rattle.ladder_vars.specs.Duration.{number_of, measure, IsNumber, IsDuration}
 use Rattle.ladder_vars.specs.Grammar.{kind_of}
 
 infixl 10 ◌>>=◌
@@ -138,6 +138,11 @@ time_of text = do
 abbrev pub value_of : Parameter → List ℕ → Option ℕ
 value_of parameter.Time word = time_of word
 value_of parameter.Count word = count_of word
+
+-- what a parameter can be given
+abbrev pub IsValue : Parameter → List ℕ → ℕ → Type 0
+IsValue parameter.Time word n = IsDuration word n
+IsValue parameter.Count word n = IsNumber word n × (n ≤ largest_value parameter.Count)
 
 -- ---- function blocks
 
