@@ -21,8 +21,8 @@ use Rattle.ladder_scan.specs.declared.block.Stored.{Stored}
 use Rattle.ladder_scan.specs.declared.block.Stored.TheVariants.{Timer, Counter, Bistable}
 use Rattle.ladder_scan.specs.Standing.{IsPossible, Standing}
 use Rattle.ladder_state.specs.Named.{AreNamed}
-use Rattle.ladder_state.specs.Parts.{block_item, every, some, tells}
-use Rattle.ladder_state.specs.StateText.{IsStateOf, block_record, each, memory_places, memory_record, state_records, state_text, var_record}
+use Rattle.ladder_state.specs.Parts.{block_item, each, every, some, tells}
+use Rattle.ladder_state.specs.StateText.{IsStateOf, block_record, memory_places, memory_record, state_records, state_text, var_record}
 use Rattle.ladder_state.specs.declared.version.Version.TheVariants.{Second}
 use Rattle.ladder_state.proofs.Places.{place_below}
 use Rattle.ladder_state.proofs.Segments.{blocks_in, can_hold, memories_in, values_of}
