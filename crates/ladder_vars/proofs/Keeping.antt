@@ -23,13 +23,7 @@ use Rattle.ladder_vars.proofs.Lists.{list_any-map, IsDistinct-put_between}
 pub AreInRange-nothing : AreInRange nothing
 unfolding IsDistinct
 AreInRange-nothing = record {
-  kept = record {
-    names = tt;
-    addresses = tt;
-    few_vars = omega arith;
-    few_instances = omega arith;
-    short_names = All-nil (λ i. length i.name ≤ (traits_of i.kind).longest_name);
-  };
+  kept = (tt, tt, omega arith, omega arith, All-nil (λ i. length i.name ≤ (traits_of i.kind).longest_name));
   presets = All-nil (λ i. i.preset ≤ largest_preset i.kind);
 }
 
@@ -110,13 +104,13 @@ AreInRange-var d v kept accepted =
           | inr room ↦
               let apart : list_any (same_letters v.name) (names_of d) ≡ false = names_none d v.name new.0 in
               let few : length d.vars < 256 = leb-false 256 (length d.vars) room.0 in
-              let still : AreKept (with_var d v) = record {
-                names = rw (names-var d v) (IsDistinct-put_between same_letters same_letters-flips (map (λ x. x.name) d.vars) v.name (map (λ i. i.name) d.instances) kept.kept.names apart);
-                addresses = addresses_kept d.vars v d refl kept.kept.addresses unused.0;
-                few_vars = omega (arith, length-append {A = Var} d.vars (v ∷ []));
-                few_instances = kept.kept.few_instances;
-                short_names = kept.kept.short_names;
-              } in
+              let still : AreKept (with_var d v) = (
+                rw (names-var d v) (IsDistinct-put_between same_letters same_letters-flips (map (λ x. x.name) d.vars) v.name (map (λ i. i.name) d.instances) kept.kept.0 apart),
+                addresses_kept d.vars v d refl kept.kept.1 unused.0,
+                omega (arith, length-append {A = Var} d.vars (v ∷ [])),
+                kept.kept.3,
+                kept.kept.4,
+              ) in
               record { kept = still; presets = kept.presets }
         ]
       ]
@@ -133,16 +127,16 @@ AreInRange-instance d i kept accepted fits =
           | inl full ↦ absurd cc
           | inr room ↦
               let apart : list_any (same_letters i.name) (names_of d ++ []) ≡ false = rw (append-nil (names_of d)) (names_none d i.name new.0) in
-              let distinct : IsDistinct same_letters (names_of d ++ []) = rw (append-nil (names_of d)) kept.kept.names in
+              let distinct : IsDistinct same_letters (names_of d ++ []) = rw (append-nil (names_of d)) kept.kept.0 in
               let few : length d.instances < 64 = leb-false 64 (length d.instances) room.0 in
               let short_name : length i.name ≤ (traits_of i.kind).longest_name = ltb-false (traits_of i.kind).longest_name (length i.name) short.0 in
-              let still : AreKept (with_instance d i) = record {
-                names = rw (names-instance d i) (IsDistinct-put_between same_letters same_letters-flips (names_of d) i.name [] distinct apart);
-                addresses = kept.kept.addresses;
-                few_vars = kept.kept.few_vars;
-                few_instances = omega (arith, length-append {A = Instance} d.instances (i ∷ []));
-                short_names = All-push (λ x. length x.name ≤ (traits_of x.kind).longest_name) d.instances i kept.kept.short_names short_name;
-              } in
+              let still : AreKept (with_instance d i) = (
+                rw (names-instance d i) (IsDistinct-put_between same_letters same_letters-flips (names_of d) i.name [] distinct apart),
+                kept.kept.1,
+                kept.kept.2,
+                omega (arith, length-append {A = Instance} d.instances (i ∷ [])),
+                All-push (λ x. length x.name ≤ (traits_of x.kind).longest_name) d.instances i kept.kept.4 short_name,
+              ) in
               record { kept = still; presets = All-push (λ x. x.preset ≤ largest_preset x.kind) d.instances i kept.presets fits }
         ]
       ]

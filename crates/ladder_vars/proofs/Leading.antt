@@ -21,4 +21,4 @@ leading-var vars v leading is =
     ] refl)
 
 pub few_leading : (d : Declared) (leading : ℕ) → leading ≡ prefix_len is_input d.vars → AreInRange d → leading ≤ 256
-few_leading d leading is kept = omega (arith, is, prefix_len-le-length is_input d.vars, kept.kept.few_vars)
+few_leading d leading is kept = omega (arith, is, prefix_len-le-length is_input d.vars, kept.kept.2)

@@ -16,12 +16,8 @@ pub record Declared : Type 0 where
   pub vars : List Var
   pub instances : List Instance
 
-abbrev pub is_input_kind : kind.the_data → Bool
-is_input_kind kind.Input = true
-is_input_kind other = false
-
 abbrev pub is_input : Var → Bool
-is_input v = is_input_kind v.kind
+is_input v = elim v.kind [ kind.Input ↦ true | _ ↦ false ]
 
 -- What a name stands for: the variable or the instance that is declared with it, in any letter case.
 abbrev pub find : Declared → List ℕ → Option Symbol
@@ -40,12 +36,10 @@ abbrev pub addresses_of : List Var → List Address
 addresses_of vars = filter_map (λ v. v.address) vars
 
 -- What holds of all declarations: each name and each address is declared once (IEC 61131-3), and the limits are kept (the profile).
-pub record AreKept (declared : Declared) : Type 0 where
-  pub names : IsDistinct same_letters (names_of declared)
-  pub addresses : IsDistinct same_address (addresses_of declared.vars)
-  pub few_vars : length declared.vars ≤ MOST_VARS
-  pub few_instances : length declared.instances ≤ MOST_INSTANCES
-  pub short_names : All (λ i. length i.name ≤ (traits_of i.kind).longest_name) declared.instances
+abbrev pub AreKept : Declared → Type 0
+AreKept declared =
+    IsDistinct same_letters (names_of declared) × IsDistinct same_address (addresses_of declared.vars) × (length declared.vars ≤ MOST_VARS)
+    × (length declared.instances ≤ MOST_INSTANCES) × All (λ i. length i.name ≤ (traits_of i.kind).longest_name) declared.instances
 
 -- The same of declarations that were read: no preset is larger than that of its block can be, as the grammar has it.
 pub record AreInRange (declared : Declared) : Type 0 where
