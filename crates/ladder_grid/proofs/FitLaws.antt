@@ -1,8 +1,9 @@
 -- The numbers that a drawn cell has are those of declarations, and no coil writes an input.
 use Rattle.std.proofs.Common.{◌≡◌, ℕ, ◌<◌, Bool, true, false, ◌||◌, cond, List, length, slice_get, codes, nat_lt, position, is_some, Option, Some, None, refl, ap, subst}
 use Rattle.std.specs.List.{position_or_len}
+use Rattle.std.specs.Option.{option_or, option_map}
 use Rattle.std.proofs.lemmas.Bool.{ltb-true}
-use Rattle.ladder_vars.specs.Decls.{Declared, find, either_symbol}
+use Rattle.ladder_vars.specs.Decls.{Declared, find}
 use Rattle.ladder_vars.specs.Name.{is_name, same_letters}
 use Rattle.std.specs.Prelude.{option_map}
 use Rattle.ladder_vars.specs.declared.kind.BlockKind.{BlockKind}
@@ -45,7 +46,7 @@ SymbolFits decls (Var i) = i < length decls.vars
 SymbolFits decls (Instance i) = i < length decls.instances
 
 either_fits : (decls : Declared) (a b : Option ℕ) → ((i : ℕ) → a ≡ Some i → i < length decls.vars) → ((i : ℕ) → b ≡ Some i → i < length decls.instances)
-    → (s : Symbol) → either_symbol a b ≡ Some s → SymbolFits decls s
+    → (s : Symbol) → option_or (option_map Var a) (option_map Instance b) ≡ Some s → SymbolFits decls s
 either_fits decls (Some i) b vars instances s h = subst (SymbolFits decls) (some_symbol (Var i) s h) (vars i refl)
 either_fits decls None (Some i) vars instances s h = subst (SymbolFits decls) (some_symbol (Instance i) s h) (instances i refl)
 either_fits decls None None vars instances s h = absurd (none_some h)

@@ -1,11 +1,12 @@
 -- The label that a gap line is.
-use Rattle.std.proofs.Common.{◌≡◌, ℕ, ◌+◌, inl, inr, Bool, true, false, not, ◌&&◌, ◌==◌, cond, nat_le, one-add, Option, List, [], ◌∷◌, ◌++◌, length, take, drop, Some, None, refl, sym, ap, ◌∙◌}
+use Rattle.std.proofs.Common.{◌≡◌, ℕ, ◌+◌, inl, inr, Bool, true, false, not, ◌&&◌, ◌||◌, ◌==◌, cond, nat_le, one-add, Option, List, [], ◌∷◌, ◌++◌, length, take, drop, Some, None, refl, sym, ap, ◌∙◌}
 use Rattle.std.specs.List.{list_all, prefix_len, filter}
+use Rattle.std.specs.Char.{is_ascii_alphabetic}
 use Rattle.std.specs.Str.{bytes_eq}
 use Rattle.std.proofs.lemmas.Bool.{and_parts, or_cases, eq-eqb, eqb-true, true≢false}
 use Rattle.std.proofs.lemmas.List.{take-append-drop}
 use Rattle.std.proofs.Math.Seq.{take-append_seam, drop-append_seam}
-use Rattle.ladder_vars.specs.Name.{is_name, is_name_byte, is_name_start, has_name_form}
+use Rattle.ladder_vars.specs.Name.{is_name, is_name_byte, has_name_form}
 use Rattle.ladder_grid.specs.Form.{is_label_name}
 use Rattle.ladder_grid.specs.Gap.{is_blank, first_word, label_in, IsLabelIn}
 use Rattle.ladder_grid.specs.Labels.{is_blank_line, after_blanks, word_at, behind_word, ends_label, is_label, label_read}
@@ -57,6 +58,9 @@ read_known text label h =
 blanks_off : (before text : List ℕ) → is_blank_line before ≡ true → after_blanks (before ++ text) ≡ after_blanks text
 blanks_off [] text h = refl
 blanks_off (b ∷ bs) text h = let parts = and_parts (is_blank b) (is_blank_line bs) h in rw parts.0 (blanks_off bs text parts.1)
+
+abbrev is_name_start : ℕ → Bool
+is_name_start b = is_ascii_alphabetic b || b == 95
 
 start_stays : (b : ℕ) (bs : List ℕ) → is_name_start b ≡ true → after_blanks (b ∷ bs) ≡ b ∷ bs
 start_stays b bs h =

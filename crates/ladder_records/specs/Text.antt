@@ -1,5 +1,5 @@
 -- The records of a csv text, and the text of records that need no quotes.
-use Rattle.std.specs.Prelude.{◌≡◌, ◌<◌, ◌++◌, ◌∷◌, ⊤, ℕ, Bool, true, false, List, [], codes, length}
+use Rattle.std.specs.Prelude.{◌≡◌, ◌<◌, ◌++◌, ◌∷◌, ⊤, ℕ, Bool, true, false, List, [], codes, flat_map, length}
 use Rattle.std.specs.List.{list_any}
 use Rattle.csv.specs.Reading.{default_config, records, strip_bom}
 use Rattle.csv.specs.Writing.{default_writer, needs_byte}
@@ -16,8 +16,7 @@ bit_text false = codes "0"
 
 -- fields with a comma before each
 abbrev pub after_commas : Fields → List ℕ
-after_commas [] = []
-after_commas (f ∷ fs) = codes "," ++ (f ++ after_commas fs)
+after_commas fields = flat_map (λ f. codes "," ++ f) fields
 
 -- the line of a record: its fields joined by commas, and a line end
 abbrev pub line_text : Fields → List ℕ
@@ -26,8 +25,7 @@ line_text (f ∷ fs) = f ++ (after_commas fs ++ codes "\n")
 
 -- the lines of records, one after the other
 abbrev pub lines_text : List Fields → List ℕ
-lines_text [] = []
-lines_text (r ∷ rs) = line_text r ++ lines_text rs
+lines_text records = flat_map line_text records
 
 -- a field without comma, quote or line end
 abbrev pub IsPlainField : List ℕ → Type 0

@@ -6,7 +6,7 @@ use Rattle.std.specs.Option.{option_or}
 use Rattle.ladder_vars.specs.declared.kind.BlockKind.TheVariants.{Ton}
 use Rattle.ladder_scan.specs.Cells.{place_at}
 use Rattle.ladder_vars.specs.declared.decls.Instance.{Instance}
-use Rattle.ladder_vars.specs.Decls.{AreKept}
+use Rattle.ladder_vars.specs.Decls.{AreInRange}
 use Rattle.ladder_vars.specs.Kind.{largest_preset}
 use Rattle.std.proofs.lemmas.Option.{get_or_from_slice_get, slice_get_within}
 use Rattle.ladder_grid.specs.declared.cell.Cell.{Cell}
@@ -152,14 +152,14 @@ jumps p j place target e =
     (at.0, ap is_filled (cell_is p j place at.0) ∙ leads_filled p.rungs target (cell_of p j place) at.1)
 
 -- ---- presets
-presets : (p : Drawing) → AreKept p.decls → (i : ℕ) (found : Option Instance) → slice_get p.decls.instances i ≡ found
+presets : (p : Drawing) → AreInRange p.decls → (i : ℕ) (found : Option Instance) → slice_get p.decls.instances i ≡ found
     → unwrap_or (option_map (λ (x : Instance). x.preset) found) 0 ≤ largest_preset (unwrap_or (option_map (λ (x : Instance). x.kind) found) Ton)
 presets p kept i None e = omega arith
 presets p kept i (Some instance) e =
     subst (λ (x : Instance). x.preset ≤ largest_preset x.kind) (get_or_from_slice_get p.decls.instances i instance instance e)
     (kept.presets i instance (slice_get_within p.decls.instances i instance e))
 
-pub sound : (p : Drawing) → IsWellFormed p → AreKept p.decls → IsSound (diagram_of p)
+pub sound : (p : Drawing) → IsWellFormed p → AreInRange p.decls → IsSound (diagram_of p)
 unfolding diagram_of
 sound p w kept = record {
   presets = λ i. presets p kept i (slice_get p.decls.instances i) refl;

@@ -1,6 +1,7 @@
 -- Private: a look over any signal as the code does it, step by step.
 use Rattle.std.specs.Prelude.{ℕ, ◌+◌, ◌<◌, Bool, true, false, List, [], ◌∷◌}
 use Rattle.std.proofs.Common.{get_or, set}
+use Rattle.ladder_vars.specs.declared.kind.BlockKind.TheVariants.{Ton}
 use Rattle.ladder_grid.specs.declared.geometry.TheConstants.{PLACES}
 use Rattle.ladder_grid.specs.declared.gates.TheConstants.{OFF, OWN}
 use Rattle.ladder_grid.specs.declared.cell.CoilMode.TheVariants as coil
@@ -10,7 +11,8 @@ use Rattle.ladder_grid.specs.declared.steps.Step.TheVariants.{Is, Not, Wire, Ris
 use Rattle.ladder_grid.specs.Program.{Drawing}
 use Rattle.ladder_grid.specs.Gates.{leaps_below}
 use Rattle.ladder_scan.specs.Algebra.{Algebra}
-use Rattle.ladder_scan.specs.Cells.{Frame, Kept, no_block, q_from}
+use Rattle.ladder_scan.specs.Blocks.{new_block}
+use Rattle.ladder_scan.specs.Cells.{Frame, Kept, q_from}
 use Rattle.ladder_scan.specs.Programs.{diagram_of}
 use Rattle.ladder_scan.specs.Gating.{among, own, acted, guard_by}
 
@@ -30,7 +32,7 @@ links_after o p k now f (Rising spot var memory) links =
 links_after o p k now f (Falling spot var memory) links =
     keeping o links spot (o.meet (among o links spot.left) (o.meet (o.inverse (among o f.values var)) (o.known (get_or k.memories memory false))))
 links_after o p k now f (Block spot below inst) links =
-    keeping o links spot (q_from o ((diagram_of p).kind inst) ((diagram_of p).preset inst) (get_or k.blocks inst no_block) now (among o links spot.left) (among o links below))
+    keeping o links spot (q_from o ((diagram_of p).kind inst) ((diagram_of p).preset inst) (get_or k.blocks inst (new_block Ton)) now (among o links spot.left) (among o links below))
 links_after o p k now f (Own spot below rung) links =
     keeping o links spot (own o (diagram_of p) k now f ((diagram_of p).cell rung spot.place) (among o links spot.left) (among o links below))
 links_after o p k now f other links = links

@@ -2,10 +2,12 @@
 
 ghost use Rattle.std.specs.Prelude.{◌≡◌, ◌<◌, ◌+◌, length, slice_index_or, slice_set, false, true, All};
 ghost use Rattle.ladder_vars.specs.Kind.{largest_preset};
+ghost use Rattle.ladder_vars.specs.declared.kind.BlockKind.TheVariants.{Ton};
 ghost use Rattle.ladder_grid.specs.declared.geometry.TheConstants.{PLACES};
 ghost use Rattle.ladder_grid.specs.declared.gates.TheConstants.{OFF, OWN, LINKS};
 ghost use Rattle.ladder_grid.specs.Gates.{leaps_below};
-ghost use Rattle.ladder_scan.specs.Cells.{frame, no_block, q_from};
+ghost use Rattle.ladder_scan.specs.Blocks.{new_block};
+ghost use Rattle.ladder_scan.specs.Cells.{frame, q_from};
 ghost use Rattle.ladder_scan.specs.Programs.{diagram_of, IsSound};
 ghost use Rattle.ladder_scan.specs.Gating.{among, own, acted, guard_by};
 ghost use Rattle.ladder_scan.specs.Stepping.{keeping, passing, storing, links_after, frame_after, taken_after, guard_after, going, all_gone, IsSpot, IsWithin};
@@ -112,7 +114,7 @@ fn block<S: Signal>(base: Base<'_>, spot: Spot, below: u8, inst: usize, links: &
     requires spot { IsSpot spot }
     requires below { below < OWN }
     ensures { links.new ≡ keeping S.algebra links.old spot (q_from S.algebra ((diagram_of base.entry.program.now).kind inst) ((diagram_of base.entry.program.now).preset inst)
-        (slice_index_or base.entry.storage.now.kept.blocks inst no_block) base.entry.now (among S.algebra links.old spot.left) (among S.algebra links.old below)) }
+        (slice_index_or base.entry.storage.now.kept.blocks inst (new_block Ton)) base.entry.now (among S.algebra links.old spot.left) (among S.algebra links.old below)) }
 {
     let (kind, preset) = instance(base.program, inst);
     let stored = base.storage.stored(inst);

@@ -1,7 +1,8 @@
 -- One cause more of a limited list.
 use Rattle.std.proofs.Common.{◌≡◌, ◌≢◌, ◌∙◌, ◌+◌, ◌-◌, ◌≤◌, ℕ, suc, List, [], ◌∷◌, ◌++◌, Option, Some, None, sym, refl, ap, append_assoc, arith, length, take}
 use Rattle.std.specs.Prelude.{IfSome}
-use Rattle.ladder_sim.specs.CauseText.{limited, row, rows}
+use Rattle.ladder_sim.specs.CauseText.{limited}
+use Rattle.ladder_sim.specs.Rows.{row, rows}
 use Rattle.ladder_text.specs.Block.{SendsAll}
 use Rattle.ladder_sim.specs.Limit.{limit_left}
 use Rattle.ladder_text.specs.Log.{PutsFront, WriteLog}

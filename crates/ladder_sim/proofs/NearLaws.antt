@@ -10,7 +10,8 @@ use Rattle.std.proofs.Math.Nat.{div-div-eq-div-mul}
 use borrow.Rule.Slice.PartMut.{put_mid, post_of, take_put}
 use Rattle.ladder_causes.specs.Assignment.{bit_of}
 use Rattle.ladder_causes.proofs.SourceLaws.{range_with_len-add}
-use Rattle.ladder_sim.specs.CauseText.{behind_commas, bit_text, bits, row}
+use Rattle.ladder_records.specs.Text.{bit_text}
+use Rattle.ladder_sim.specs.Rows.{behind_commas, bits, row}
 use Rattle.ladder_sim.specs.Kept.{ArePairs, AreTails, IsNear, pair_text, tail_text}
 use Rattle.ladder_sim.proofs.RowLaws.{behind_commas-append, bits_more}
 

@@ -6,7 +6,8 @@ use borrow.Rule.Slice.PartMut.{put_mid, post_of}
 use Rattle.std.proofs.lemmas.List.{drop_at, length-take-le, map-append, map_more, take-append-drop, take_at}
 use Rattle.ladder_causes.specs.Assignment.{bit_of}
 use Rattle.ladder_causes.proofs.SourceLaws.{range_with_len-add}
-use Rattle.ladder_sim.specs.CauseText.{behind_commas, bit_text, bits}
+use Rattle.ladder_records.specs.Text.{bit_text}
+use Rattle.ladder_sim.specs.Rows.{behind_commas, bits}
 
 pub behind_commas-append : (xs ys : List (List ℕ)) → behind_commas (xs ++ ys) ≡ behind_commas xs ++ behind_commas ys
 behind_commas-append [] ys = refl

@@ -1,3 +1,4 @@
 pub mod CauseText
+pub mod Rows
 pub mod Kept
 pub mod Limit

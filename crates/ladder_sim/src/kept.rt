@@ -1,7 +1,7 @@
 //! A row that is kept: the rows of the numbers behind it differ from it, mostly, in the last digits and bits alone.
 ghost use Rattle.std.specs.Prelude.{◌≡◌, ◌+◌, ◌*◌, ◌<◌, ◌≤◌, ℕ, length, take};
 ghost use Rattle.std.specs.List.{slice_range};
-ghost use Rattle.ladder_sim.specs.CauseText.{row};
+ghost use Rattle.ladder_sim.specs.Rows.{row};
 ghost use Rattle.ladder_sim.specs.Kept.{ArePairs, AreTails, IsKept, IsNear};
 ghost use Rattle.ladder_sim.specs.declared.cause_text.TheConstants.{DIGITS, ROW};
 

@@ -1,6 +1,6 @@
 //! The row of a number near the one whose row is kept.
 ghost use Rattle.std.specs.Prelude.{◌≡◌, ◌<◌, ◌≤◌, length, take};
-ghost use Rattle.ladder_sim.specs.CauseText.{row};
+ghost use Rattle.ladder_sim.specs.Rows.{row};
 ghost use Rattle.ladder_sim.specs.Kept.{IsKept};
 
 use super::kept::Kept;
@@ -17,7 +17,7 @@ pub(crate) struct Near<'a> {
 
 impl<'a> Model for Near<'a> {
     ghost use Rattle.std.specs.Prelude.{ℕ, List, ◌<◌, ◌≤◌};
-    ghost use Rattle.ladder_sim.specs.CauseText.{row};
+    ghost use Rattle.ladder_sim.specs.Rows.{row};
     ghost use Rattle.ladder_sim.specs.Kept.{IsKept};
 
     ghost Value = { List ℕ };

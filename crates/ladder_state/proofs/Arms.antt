@@ -11,8 +11,8 @@ use Rattle.ladder_scan.specs.Standing.{Fits, Standing, with_blocks, with_memorie
 use Rattle.ladder_text.specs.declared.fault.TextFault.{TextFault}
 use Rattle.ladder_text.specs.declared.fault.TextFault.TheVariants as fault
 use Rattle.ladder_state.specs.declared.version.Version.{Version}
-use Rattle.ladder_state.specs.Parts.{CanHold, IsRead, IsStuck, ReadsItems, ReadsPart, block_item, every, tells}
-use Rattle.ladder_state.specs.StateText.{IsStateOf, block_records, each, item_records, memory_places, memory_record, memory_records, var_record, var_records}
+use Rattle.ladder_state.specs.Parts.{CanHold, IsRead, IsStuck, ReadsItems, ReadsPart, block_item, block_records, each, every, memory_records, tells, var_records}
+use Rattle.ladder_state.specs.StateText.{IsStateOf, item_records, memory_places, memory_record, var_record}
 use Rattle.ladder_state.proofs.Segments.{blocks_bad, blocks_in, further_bad, memories_bad, memories_in, values_bad, values_of}
 
 pub fits_values : (p : Drawing) (a n : Standing) → Fits p a → n ≡ with_values a n.held.values → length n.held.values ≡ length p.decls.vars → Fits p n

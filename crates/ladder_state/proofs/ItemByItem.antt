@@ -10,8 +10,8 @@ use Rattle.ladder_records.specs.Left.{Fields, Left, TakesFirst}
 use Rattle.ladder_scan.specs.declared.block.Stored.{Stored}
 use Rattle.ladder_scan.specs.Blocks.{new_block}
 use Rattle.ladder_scan.specs.Standing.{CanStore, Standing, with_blocks, with_memories, with_values}
-use Rattle.ladder_state.specs.Parts.{IsRead, IsStuck, TakesItem, every, some}
-use Rattle.ladder_state.specs.StateText.{AreTold, each, has_record}
+use Rattle.ladder_state.specs.Parts.{IsRead, IsStuck, TakesItem, each, every, some}
+use Rattle.ladder_state.specs.StateText.{AreTold, has_record}
 use Rattle.ladder_state.specs.declared.version.Version.{Version}
 use Rattle.ladder_vars.specs.declared.decls.Instance.{Instance}
 

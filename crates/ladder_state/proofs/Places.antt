@@ -1,10 +1,13 @@
 -- The places of memories, in order.
 use Rattle.std.proofs.Common.{◌≡◌, ◌+◌, ◌-◌, ◌<◌, ◌≤◌, ◌∙◌, ◌++◌, ◌∷◌, ◌⊎◌, inl, inr, [], ℕ, suc, zero, Bool, true, false, List, Some, refl, sym, ap, subst, arith, append_assoc, length, length-append, slice_get, take, take_all, add-one}
-use Rattle.std.specs.List.{count_by}
+use Rattle.std.specs.List.{count_by, filter, range_with_len}
+use Rattle.std.proofs.lemmas.List.{append-nil}
+use Rattle.std.proofs.lemmas.List.Elements.{filter-append}
 use Rattle.std.proofs.lemmas.List.Sums.{count_by_more_no, count_by_more_yes}
 use Rattle.ladder_grid.specs.declared.site.Site.{Site}
 use Rattle.ladder_grid.specs.Program.{Drawing, blank_site, cell_in, has_memory, memories_of}
-use Rattle.ladder_state.specs.StateText.{memory_places, memory_places_before}
+use Rattle.ladder_state.specs.StateText.{memory_places}
+use Rattle.ladder_state.specs.Parts.{memory_places_before}
 use Rattle.ladder_state.proofs.Items.{some_same}
 
 abbrev here : Drawing → ℕ → Bool
@@ -13,13 +16,26 @@ here p n = has_memory (cell_in p n)
 abbrev remembers : Site → Bool
 remembers s = has_memory s.cell
 
+range_with_len-suc : (a n : ℕ) → range_with_len a (suc n) ≡ range_with_len a n ++ (a + n) ∷ []
+range_with_len-suc a zero = let e : a ≡ a + 0 = omega arith in ap (λ x. x ∷ []) e
+range_with_len-suc a (suc n) =
+    let e : (a + 1) + n ≡ a + suc n = omega arith in
+    ap (λ xs. a ∷ xs) (range_with_len-suc (a + 1) n ∙ ap (λ x. range_with_len (a + 1) n ++ x ∷ []) e)
+
+-- the places before the next one, and that one where it has a memory
+one_more : (p : Drawing) (n : ℕ) → memory_places_before p (suc n) ≡ memory_places_before p n ++ filter (here p) (n ∷ [])
+one_more p n =
+    let last : 0 + n ≡ n = omega arith in
+    ap (filter (here p)) (range_with_len-suc 0 n) ∙ filter-append (here p) (range_with_len 0 n) ((0 + n) ∷ [])
+    ∙ ap (λ x. memory_places_before p n ++ filter (here p) (x ∷ [])) last
+
 pub place_there : (p : Drawing) (n : ℕ) → here p n ≡ true → memory_places_before p (suc n) ≡ memory_places_before p n ++ n ∷ []
-unfolding memory_places_before
-place_there p n e = rw e refl
+place_there p n e = let last : filter (here p) (n ∷ []) ≡ n ∷ [] = rw e refl in one_more p n ∙ ap (λ xs. memory_places_before p n ++ xs) last
 
 pub place_not : (p : Drawing) (n : ℕ) → here p n ≡ false → memory_places_before p (suc n) ≡ memory_places_before p n
-unfolding memory_places_before
-place_not p n e = rw e refl
+place_not p n e =
+    let none : filter (here p) (n ∷ []) ≡ [] = rw e refl in
+    one_more p n ∙ ap (λ xs. memory_places_before p n ++ xs) none ∙ append-nil (memory_places_before p n)
 
 -- one place more
 abbrev pub Later : Drawing → ℕ → ℕ → Type 0
@@ -42,7 +58,6 @@ counted p n m true e h before = omega (arith, ap length (place_there p n e), len
 counted p n m false e h before = ap length (place_not p n e) ∙ before ∙ sym (count_by_more_no remembers p.sites n blank_site h e)
 
 pub places_count : (p : Drawing) (n : ℕ) → n ≤ length p.sites → length (memory_places_before p n) ≡ count_by remembers (take n p.sites)
-unfolding memory_places_before
 places_count p zero h = refl
 places_count p (suc n) h = rw (← add-one n) (counted p n n (here p n) refl (omega (arith, h)) (places_count p n (omega (arith, h))))
 
@@ -50,7 +65,6 @@ pub all_places : (p : Drawing) → length (memory_places p) ≡ memories_of p
 all_places p = places_count p (length p.sites) (omega arith) ∙ ap (count_by remembers) (take_all (length p.sites) p.sites (omega arith))
 
 pub places_none : (p : Drawing) → [] ≡ memory_places_before p 0
-unfolding memory_places_before
 places_none p = refl
 
 -- a place with a memory has a number below the count of memories
@@ -85,6 +99,5 @@ below_step p n i place true e before h = elim (get_push (memory_places_before p 
 below_step p n i place false e before h = omega (arith, before i (sym (ap (λ l. slice_get l i) (place_not p n e)) ∙ h))
 
 pub place_below : (p : Drawing) (n i place : ℕ) → slice_get (memory_places_before p n) i ≡ Some place → place < n
-unfolding memory_places_before
 place_below p zero i place e = cc
 place_below p (suc n) i place e = below_step p n i place (here p n) refl (λ k there. place_below p n k place there) e

@@ -1,7 +1,8 @@
 -- The records of a state stand in a text as they are: their fields hold no comma, quote or line end.
-use Rattle.std.proofs.Common.{◌≡◌, ◌<◌, ◌≤◌, ◌*◌, ◌==◌, ◌&&◌, ◌∙◌, ◌^◌, ◌∷◌, ◌++◌, [], if◌then◌else◌, ℕ, ℤ, pos, negsuc, suc, Bool, true, false, List, Some, refl, sym, ap, arith, decimal, length, slice_get}
+use Rattle.std.proofs.Common.{◌≡◌, ◌<◌, ◌≤◌, ◌*◌, ◌==◌, ◌||◌, ◌&&◌, ◌∙◌, ◌^◌, ◌∷◌, ◌++◌, [], if◌then◌else◌, ℕ, ℤ, pos, negsuc, suc, Bool, true, false, List, Some, refl, sym, ap, arith, decimal, length, slice_get}
 use Rattle.std.specs.List.{list_all}
 use Rattle.std.specs.Fmt.{signed_decimal}
+use Rattle.std.specs.Char.{is_ascii_alphabetic}
 use Rattle.std.specs.Int.{w16}
 use Rattle.std.specs.Prelude.{FitsSigned}
 use Rattle.std.specs.Str.Parse.{AllDigits}
@@ -13,7 +14,7 @@ use Rattle.csv.specs.Writing.{default_writer, needs_byte}
 use Rattle.ladder_records.specs.Left.{Fields}
 use Rattle.ladder_records.specs.Text.{ArePlainFields, ArePlainRecords, IsPlainField, IsPlainRecord, bit_text, records_of}
 use Rattle.ladder_records.proofs.Plain.{records_of_lines}
-use Rattle.ladder_vars.specs.Name.{is_name, is_name_byte, is_name_start}
+use Rattle.ladder_vars.specs.Name.{is_name, is_name_byte}
 use Rattle.ladder_vars.specs.declared.decls.Var.{Var}
 use Rattle.ladder_grid.specs.declared.geometry.TheConstants.{PLACES, RUNGS}
 use Rattle.ladder_grid.specs.Program.{Drawing, IsWhole}
@@ -21,8 +22,8 @@ use Rattle.ladder_scan.specs.declared.block.Stored.{Stored}
 use Rattle.ladder_scan.specs.declared.block.Stored.TheVariants.{Timer, Counter, Bistable}
 use Rattle.ladder_scan.specs.Standing.{IsPossible, Standing}
 use Rattle.ladder_state.specs.Named.{AreNamed}
-use Rattle.ladder_state.specs.Parts.{block_item, every, some, tells}
-use Rattle.ladder_state.specs.StateText.{IsStateOf, block_record, each, memory_places, memory_record, state_records, state_text, var_record}
+use Rattle.ladder_state.specs.Parts.{block_item, each, every, some, tells}
+use Rattle.ladder_state.specs.StateText.{IsStateOf, block_record, memory_places, memory_record, state_records, state_text, var_record}
 use Rattle.ladder_state.specs.declared.version.Version.TheVariants.{Second}
 use Rattle.ladder_state.proofs.Places.{place_below}
 use Rattle.ladder_state.proofs.Segments.{blocks_in, can_hold, memories_in, values_of}
@@ -48,9 +49,9 @@ bytes_plain (b ∷ bs) h =
 name_plain : (name : List ℕ) → is_name name ≡ true → IsPlainField name
 name_plain [] h = refl
 name_plain (b ∷ bs) h =
-    let form = both (is_name_start b && list_all is_name_byte bs) _ h in
-    let q = both (is_name_start b) (list_all is_name_byte bs) form.0 in
-    rw (plain_byte is_name_start refl refl refl refl b q.0) (bytes_plain bs q.1)
+    let form = both ((is_ascii_alphabetic b || b == 95) && list_all is_name_byte bs) _ h in
+    let q = both (is_ascii_alphabetic b || b == 95) (list_all is_name_byte bs) form.0 in
+    rw (plain_byte (λ c. is_ascii_alphabetic c || c == 95) refl refl refl refl b q.0) (bytes_plain bs q.1)
 
 digit_plain : (c : ℕ) → 48 ≤ c → c ≤ 57 → needs_byte default_writer c ≡ false
 digit_plain c a b = rw (ne_eqb c 44 (omega arith), ne_eqb c 34 (omega arith), ne_eqb c 13 (omega arith), ne_eqb c 10 (omega arith)) refl

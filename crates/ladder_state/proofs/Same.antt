@@ -11,8 +11,8 @@ use Rattle.ladder_scan.specs.declared.block.Stored.{Stored}
 use Rattle.ladder_scan.specs.declared.block.Stored.TheVariants.{Timer, Counter, Bistable}
 use Rattle.ladder_scan.specs.Standing.{IsPossible, Standing, shape}
 use Rattle.ladder_state.specs.Laws.{ReadsBack, TellsOneState}
-use Rattle.ladder_state.specs.Parts.{block_item, every, some, tells}
-use Rattle.ladder_state.specs.StateText.{AreTold, IsStateOf, block_record, each, memory_places, memory_record, state_records, state_text, var_record}
+use Rattle.ladder_state.specs.Parts.{block_item, each, every, some, tells}
+use Rattle.ladder_state.specs.StateText.{AreTold, IsStateOf, block_record, memory_places, memory_record, state_records, state_text, var_record}
 use Rattle.ladder_state.specs.declared.version.Version.{Version}
 use Rattle.ladder_state.specs.declared.version.Version.TheVariants.{Second}
 use Rattle.ladder_state.proofs.Heads.{moment_same, told_second, version_same}

@@ -10,8 +10,8 @@ use Rattle.ladder_scan.specs.declared.block.Stored.{Stored}
 use Rattle.ladder_scan.specs.Blocks.{new_block}
 use Rattle.ladder_scan.specs.Standing.{IsPossible, Standing, shape}
 use Rattle.ladder_state.specs.declared.version.Version.{Version}
-use Rattle.ladder_state.specs.Parts.{CanHold, IsItemsBad, IsStuck, block_item, every, some, tells}
-use Rattle.ladder_state.specs.StateText.{IsStateOf, block_records, each, item_records, memory_places, memory_record, memory_records, var_record, var_records}
+use Rattle.ladder_state.specs.Parts.{CanHold, IsItemsBad, IsStuck, block_item, block_records, each, every, memory_records, some, tells, var_records}
+use Rattle.ladder_state.specs.StateText.{IsStateOf, item_records, memory_places, memory_record, var_record}
 use Rattle.ladder_state.proofs.ItemByItem.{one}
 use Rattle.ladder_state.proofs.Places.{all_places}
 

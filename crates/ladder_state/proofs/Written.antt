@@ -1,7 +1,8 @@
 -- The records of items that are written one after the other.
 use Rattle.std.proofs.Common.{◌≡◌, ◌∙◌, ◌+◌, ◌<◌, ◌++◌, ◌∷◌, [], ℕ, suc, zero, List, Some, sym, ap, ap₂, refl, arith, length, get_or, take, drop, slice_get, add-one}
 use Rattle.ladder_records.specs.Left.{Fields}
-use Rattle.ladder_state.specs.StateText.{each, item_records}
+use Rattle.ladder_state.specs.StateText.{item_records}
+use Rattle.ladder_state.specs.Parts.{each}
 use Rattle.ladder_state.specs.declared.version.Version.TheVariants.{Second}
 use Rattle.ladder_grid.specs.Program.{Drawing}
 use Rattle.ladder_scan.specs.Standing.{Standing}

@@ -1,18 +1,40 @@
 -- Private to the reading of a state: how the records of a list of items are read, one after the other.
-use Rattle.std.specs.Prelude.{◌≡◌, ◌≢◌, ◌+◌, ◌++◌, ◌∷◌, [], ⊤, ℕ, suc, Bool, true, List, Option, Some, None, Result, Ok, Err, if◌then◌else◌, length, take, slice_get}
+use Rattle.std.specs.Prelude.{◌≡◌, ◌≢◌, ◌+◌, ◌++◌, ◌∷◌, [], ⊤, ℕ, suc, Bool, true, List, Option, Some, None, Result, Ok, Err, if◌then◌else◌, length, take, slice_get, filter, flat_map, zip}
+use Rattle.std.specs.List.{range_with_len}
 use Rattle.std.specs.Borrow.{Bor}
 use Rattle.csv.specs.declared.reader.Reader.{Reader}
 use Rattle.ladder_records.specs.Left.{Fields, Left}
+use Rattle.ladder_vars.specs.declared.decls.Var.{Var}
 use Rattle.ladder_vars.specs.declared.decls.Instance.{Instance}
 use Rattle.ladder_scan.specs.Blocks.{new_block}
 use Rattle.ladder_scan.specs.declared.block.Stored.{Stored}
 use Rattle.ladder_scan.specs.Standing.{CanStore, Standing}
-use Rattle.ladder_grid.specs.Program.{Drawing}
+use Rattle.ladder_grid.specs.Program.{Drawing, cell_in, has_memory}
 use Rattle.ladder_text.specs.declared.fault.TextFault.{TextFault}
 use Rattle.ladder_text.specs.declared.fault.TextFault.TheVariants as fault
 use Rattle.ladder_state.specs.ReadState.{IsFirstBad}
-use Rattle.ladder_state.specs.StateText.{HasRecords, IsStateOf, block_record, each, has_record, item_records}
+use Rattle.ladder_state.specs.StateText.{HasRecords, IsStateOf, block_record, has_record, item_records, memory_record, var_record}
 use Rattle.ladder_state.specs.declared.version.Version.{Version}
+
+-- ---- the records of items one by one
+
+abbrev pub each : {A B : Type 0} → (A → B → List Fields) → List A → List B → List Fields
+each row xs ys = flat_map (λ x. row x.0 x.1) (zip xs ys)
+
+abbrev pub var_records : Var → Bool → List Fields
+var_records var value = var_record var value ∷ []
+
+abbrev pub memory_records : ℕ → Bool → List Fields
+memory_records place value = memory_record place value ∷ []
+
+abbrev pub block_records : Version → Instance → Stored → List Fields
+block_records version i s = if has_record version (new_block i.kind) then block_record i.name s ∷ [] else []
+
+-- those of the first n places where a memory is
+abbrev pub memory_places_before : Drawing → ℕ → List ℕ
+memory_places_before p n = filter (λ place. has_memory (cell_in p place)) (range_with_len 0 n)
+
+-- ---- what is read of them
 
 abbrev pub CanHold : ℕ → Instance → Stored → Type 0
 CanHold moment i s = CanStore i.kind moment s

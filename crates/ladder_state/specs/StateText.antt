@@ -1,6 +1,7 @@
 -- The records of a state (the profile): the version of the text, the moment, and then one for each variable, each memory and each instance.
 -- Version 2 is written; versions 1 and 2 are read.
-use Rattle.std.specs.Prelude.{◌≡◌, ◌++◌, ◌∷◌, ◌+◌, ℕ, zero, suc, List, [], Bool, true, false, Some, if◌then◌else◌, codes, decimal, slice_get, length}
+use Rattle.std.specs.Prelude.{◌≡◌, ◌++◌, ◌∷◌, ◌+◌, ℕ, List, [], Bool, true, false, Some, if◌then◌else◌, codes, decimal, slice_get, length, filter, flat_map, zip}
+use Rattle.std.specs.List.{range_with_len}
 use Rattle.std.specs.Fmt.{signed_decimal}
 use Rattle.ladder_records.specs.Left.{Fields}
 use Rattle.ladder_records.specs.Text.{bit_text, lines_text}
@@ -39,46 +40,27 @@ block_record name (Timer last running start q) =
 block_record name (Counter last cv q) = codes "counter" ∷ name ∷ bit_text last ∷ signed_decimal cv ∷ bit_text q ∷ []
 block_record name (Bistable q) = codes "bistable" ∷ name ∷ bit_text q ∷ []
 
--- ---- what belongs to one variable, memory or instance
-
 -- Version 1 knows timers and counters alone.
 abbrev pub has_record : Version → Stored → Bool
 has_record First (Bistable q) = false
 has_record version other = true
 
-abbrev pub var_records : Var → Bool → List Fields
-var_records var value = var_record var value ∷ []
-
-abbrev pub memory_records : ℕ → Bool → List Fields
-memory_records place value = memory_record place value ∷ []
-
-abbrev pub block_records : Version → Instance → Stored → List Fields
-block_records version i s = if has_record version (new_block i.kind) then block_record i.name s ∷ [] else []
-
 -- ---- all of them
 
--- the records of each item with its value, in order
-abbrev pub each : {A B : Type 0} → (A → B → List Fields) → List A → List B → List Fields
-each row [] ys = []
-each row (x ∷ xs) [] = []
-each row (x ∷ xs) (y ∷ ys) = row x y ++ each row xs ys
+-- the records of those items that have one, each with its value, in order
+abbrev pub told : {A B : Type 0} → (A → Bool) → (A → B → Fields) → List A → List B → List Fields
+told has row items values = flat_map (λ x. if has x.0 then row x.0 x.1 ∷ [] else []) (zip items values)
 
--- those of the first n places where an edge contact or edge coil stands
-unfoldable pub memory_places_before : Drawing → ℕ → List ℕ
-memory_places_before p zero = []
-memory_places_before p (suc n) =
-    if has_memory (cell_in p n) then memory_places_before p n ++ n ∷ [] else memory_places_before p n
-
--- The n-th memory is that of the n-th of these places: they go by rung, column and row.
+-- the places where an edge contact or edge coil stands: the n-th memory is that of the n-th of them, they go by rung, column and row
 abbrev pub memory_places : Drawing → List ℕ
-memory_places p = memory_places_before p (length p.sites)
+memory_places p = filter (λ place. has_memory (cell_in p place)) (range_with_len 0 (length p.sites))
 
 -- variables and instances as they are declared, memories by their places
 abbrev pub item_records : Version → Drawing → Standing → List Fields
 item_records version p s =
-    each var_records p.decls.vars s.held.values
-    ++ (each memory_records (memory_places p) s.held.kept.memories
-    ++ each (block_records version) p.decls.instances s.held.kept.blocks)
+    told (λ _. true) var_record p.decls.vars s.held.values
+    ++ (told (λ _. true) memory_record (memory_places p) s.held.kept.memories
+    ++ told (λ i. has_record version (new_block i.kind)) (λ i. block_record i.name) p.decls.instances s.held.kept.blocks)
 
 abbrev pub state_records : Version → Drawing → Standing → List Fields
 state_records version p s = version_record version ∷ moment_record s.moment ∷ item_records version p s

@@ -4,8 +4,8 @@ ghost use Rattle.ladder_grid.specs.declared.geometry.TheConstants.{PLACES, RUNGS
 ghost use Rattle.ladder_grid.specs.Program.{cell_in, has_memory, memories_of, IsWhole};
 ghost use Rattle.ladder_records.specs.Left.{Fields, IsPlain, Left};
 ghost use Rattle.ladder_scan.specs.Standing.{CanStore, Fits, IsStanding, with_blocks, with_memories, with_values};
-ghost use Rattle.ladder_state.specs.Parts.{block_item, every, tells, CanHold, ReadsItems, ReadsPart, TakesItem};
-ghost use Rattle.ladder_state.specs.StateText.{block_record, block_records, each, memory_places, memory_record, var_record, AreTold};
+ghost use Rattle.ladder_state.specs.Parts.{CanHold, ReadsItems, ReadsPart, TakesItem, block_item, block_records, each, every, tells};
+ghost use Rattle.ladder_state.specs.StateText.{block_record, memory_places, memory_record, var_record, AreTold};
 
 use crate::row::{read_block, read_memory, read_var};
 use crate::version::Version;

@@ -15,7 +15,7 @@ use Rattle.ladder_sim.specs.CauseText.{cause_text, limited}
 use Rattle.ladder_text.specs.Log.{PutsAll, PutsFront, WriteLog}
 use Rattle.ladder_tool.specs.declared.fault.ToolFault.{ToolFault}
 use Rattle.ladder_tool.specs.declared.fault.ToolFault.TheVariants as fault
-use Rattle.ladder_tool.specs.Performs.{Asking, HasCauseFault, HasListFault, HasWordFault, IsAsked, causes_for, list_text, looks_for, refusal_of, rows_line, rows_text}
+use Rattle.ladder_tool.specs.Performs.{Asking, HasCauseFault, HasListFault, HasWordFault, IsAsked, causes_for, looks_for, refusal_of, rows_line, rows_text}
 use Rattle.ladder_tool.specs.Setting.{Given, HasSettingFault, IsSet}
 use Rattle.ladder_tool.specs.Variables.{AreVariables, variable_of}
 
@@ -58,7 +58,7 @@ cause_fault a q cause.Memory h = inl refl
 -- What the cursor that was made for a subject has to give is what is asked.
 module _ (a : Asking) (q : Question) (c : Cursor) (of_program : c.program ≡ q.program) (of_listed : c.listed ≡ q.listed)
     (made : c.rest ≡ causes_after a.after q) where
-  pub text_is : cause_text c.program c.listed (limited a.limit c.rest) ≡ list_text a q
+  pub text_is : cause_text c.program c.listed (limited a.limit c.rest) ≡ cause_text q.program q.listed (causes_for a q)
   text_is =
       ap (λ (d : Drawing). cause_text d c.listed (limited a.limit c.rest)) of_program
       ∙ ap (λ g. cause_text q.program g (limited a.limit c.rest)) of_listed

@@ -108,9 +108,6 @@ refusal_of a q = refusal q.program q.state.moment q.now q.coil q.listed a.after
 abbrev pub causes_for : Asking → Question → List ℕ
 causes_for a q = limited a.limit (causes_after a.after q)
 
-abbrev pub list_text : Asking → Question → List ℕ
-list_text a q = cause_text q.program q.listed (causes_for a q)
-
 -- The question breaks this rule first; being out of memory has no reason in it.
 abbrev pub HasCauseFault : Asking → Question → CauseFault → Type 0
 HasCauseFault a q f = (f ≡ cause.Memory) ⊎ (refusal_of a q ≡ Some f)
@@ -143,14 +140,14 @@ pub record ListsCauses (g : Given) (a : Asking) (out out' : WriteLog) : Type 0 w
   pub question : Question
   pub asked : IsAsked g a question
   pub accepted : refusal_of a question ≡ None
-  pub rows : PutsAll out out' (list_text a question)
+  pub rows : PutsAll out out' (cause_text question.program question.listed (causes_for a question))
 
 -- Status 1: `out` failed at that text, and X6 is on `err`.
 pub record BreaksList (g : Given) (a : Asking) (out out' err err' : WriteLog) : Type 0 where
   pub question : Question
   pub asked : IsAsked g a question
   pub accepted : refusal_of a question ≡ None
-  pub rows : PutsFront out out' (list_text a question)
+  pub rows : PutsFront out out' (cause_text question.program question.listed (causes_for a question))
   pub reported : IsReported err err' fault.Write
 
 -- ---- the count of a list's rows and of the looks for them

@@ -7,9 +7,8 @@ use Rattle.ladder_vars.specs.Decls.{Declared, find}
 use Rattle.ladder_vars.specs.Name.{is_name}
 
 abbrev pub var_in : Option Symbol → Option ℕ
-var_in None = None
 var_in (Some (symbol.Var number)) = Some number
-var_in (Some (symbol.Instance number)) = None
+var_in other = None
 
 -- the variable with this name, by its number in order of declaration
 abbrev pub variable_of : Declared → List ℕ → Option ℕ

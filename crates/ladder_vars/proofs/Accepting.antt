@@ -40,13 +40,13 @@ accepts_var a v vs is kept =
     let D : List (List ℕ) = map (λ x. x.name) is in
     let whole : map (λ x. x.name) (a.vars ++ v ∷ vs) ++ map (λ x. x.name) (a.instances ++ is) ≡ A ++ (v.name ∷ (B ++ (C ++ D)))
     = rw (map-append (λ x. x.name) a.vars (v ∷ vs), map-append (λ x. x.name) a.instances is) (append_assoc A (v.name ∷ B) (C ++ D)) in
-    let distinct : IsDistinct same_letters (A ++ (v.name ∷ (B ++ (C ++ D)))) = subst (IsDistinct same_letters) whole kept.names in
+    let distinct : IsDistinct same_letters (A ++ (v.name ∷ (B ++ (C ++ D)))) = subst (IsDistinct same_letters) whole kept.0 in
     let earlier : list_any (same_letters v.name) A ≡ false = apart_from_earlier same_letters same_letters-flips A v.name (B ++ (C ++ D)) distinct in
     let later : list_any (same_letters v.name) (B ++ (C ++ D)) ≡ false = apart_from_later same_letters A v.name (B ++ (C ++ D)) distinct in
     let instances : list_any (same_letters v.name) C ≡ false = list_any-left (same_letters v.name) C D (list_any-right (same_letters v.name) B (C ++ D) later) in
     let new : is_declared a v.name ≡ false = not_declared a v.name earlier instances in
-    let unused : is_taken a v.address ≡ false = not_taken a v vs kept.addresses in
-    let room : nat_le 256 (length a.vars) ≡ false = lt-leb 256 (length a.vars) (omega (arith, kept.few_vars, length-append {A = Var} a.vars (v ∷ vs))) in
+    let unused : is_taken a v.address ≡ false = not_taken a v vs kept.1 in
+    let room : nat_le 256 (length a.vars) ≡ false = lt-leb 256 (length a.vars) (omega (arith, kept.2, length-append {A = Var} a.vars (v ∷ vs))) in
     rw (new, unused, room) refl
 
 accepts_instance : (a : Declared) (i : Instance) (vs : List Var) (is : List Instance) → AreKept (record { vars = a.vars ++ vs; instances = a.instances ++ i ∷ is })
@@ -58,15 +58,15 @@ accepts_instance a i vs is kept =
     let D : List (List ℕ) = map (λ x. x.name) is in
     let whole : map (λ x. x.name) (a.vars ++ vs) ++ map (λ x. x.name) (a.instances ++ i ∷ is) ≡ ((A ++ B) ++ C) ++ (i.name ∷ D)
     = rw (map-append (λ x. x.name) a.vars vs, map-append (λ x. x.name) a.instances (i ∷ is)) (sym (append_assoc (A ++ B) C (i.name ∷ D))) in
-    let distinct : IsDistinct same_letters (((A ++ B) ++ C) ++ (i.name ∷ D)) = subst (IsDistinct same_letters) whole kept.names in
+    let distinct : IsDistinct same_letters (((A ++ B) ++ C) ++ (i.name ∷ D)) = subst (IsDistinct same_letters) whole kept.0 in
     let earlier : list_any (same_letters i.name) ((A ++ B) ++ C) ≡ false = apart_from_earlier same_letters same_letters-flips ((A ++ B) ++ C) i.name D distinct in
     let vars : list_any (same_letters i.name) A ≡ false = list_any-left (same_letters i.name) A B (list_any-left (same_letters i.name) (A ++ B) C earlier) in
     let instances : list_any (same_letters i.name) C ≡ false = list_any-right (same_letters i.name) (A ++ B) C earlier in
     let new : is_declared a i.name ≡ false = not_declared a i.name vars instances in
-    let short_name : length i.name ≤ (traits_of i.kind).longest_name = All-middle (λ x. length x.name ≤ (traits_of x.kind).longest_name) a.instances i is kept.short_names in
+    let short_name : length i.name ≤ (traits_of i.kind).longest_name = All-middle (λ x. length x.name ≤ (traits_of x.kind).longest_name) a.instances i is kept.4 in
     let short : nat_lt (traits_of i.kind).longest_name (length i.name) ≡ false = le-ltb (traits_of i.kind).longest_name (length i.name) short_name in
     let room : nat_le 64 (length a.instances) ≡ false
-    = lt-leb 64 (length a.instances) (omega (arith, kept.few_instances, length-append {A = Instance} a.instances (i ∷ is))) in
+    = lt-leb 64 (length a.instances) (omega (arith, kept.3, length-append {A = Instance} a.instances (i ∷ is))) in
     rw (short, new, room) refl
 
 -- the declarations, and more behind them

@@ -1,15 +1,16 @@
 -- What a text declares is read, and where a reading ends.
 use Rattle.std.proofs.Common.{◌≡◌, ℕ, zero, suc, ◌+◌, ◌-◌, ◌<◌, ◌≤◌, true, false, not, nat_le, List, [], ◌∷◌, ◌++◌, length, drop, codes, Ok, refl, sym, ap, subst, ◌∙◌, arith, append_assoc}
+use Rattle.std.specs.List.{list_any}
 use Rattle.std.proofs.lemmas.List.{append-nil, length-append}
 use Rattle.std.proofs.Math.Seq.{drop-append_seam}
 use Rattle.std.proofs.lemmas.Bool.{and_parts, not-true}
 use Rattle.ladder_vars.specs.declared.decls.Var.{Var}
 use Rattle.ladder_vars.specs.declared.decls.Instance.{Instance}
 use Rattle.ladder_vars.specs.declared.decls.Body.TheVariants as body
-use Rattle.ladder_vars.specs.Name.{same_letters, is_name, is_keyword, has_name_form}
+use Rattle.ladder_vars.specs.Name.{same_letters, keywords, is_name, has_name_form}
 use Rattle.ladder_vars.specs.Decls.{Declared, AreKept}
-use Rattle.ladder_vars.specs.Text.{Piece, ArePieces, AreTokens, spelling}
-use Rattle.ladder_vars.specs.Grammar.{Is, Decl, IsDecl, AreDecls, declared_by, HasDecls}
+use Rattle.ladder_vars.specs.Text.{Gap, Nothing, Blank, Comment, LineComment, AreTokens}
+use Rattle.ladder_vars.specs.Grammar.{Is, Decl, AreDecls, declared_by, HasDecls}
 use Rattle.ladder_vars.specs.ReadDecls.{name_of, with_decl, added, nothing, decls_from, all_of}
 use Rattle.ladder_vars.proofs.Steps.{or_false}
 use Rattle.ladder_vars.proofs.TextReads.{first_token}
@@ -19,18 +20,24 @@ use Rattle.ladder_vars.proofs.Accepting.{joined, accepts}
 
 -- ---- where a reading ends
 
-pieces-end : (ps : List Piece) (text rest : List ℕ) → ArePieces ps text rest → (front : List ℕ) × (text ≡ front ++ rest)
-pieces-end [] text rest h = ([], h)
-pieces-end (p ∷ ps) text rest h =
-    let more = pieces-end ps h.0 rest h.3 in
-    (spelling p ++ more.0, h.1 ∙ ap (λ z. spelling p ++ z) more.1 ∙ sym (append_assoc (spelling p) more.0 rest))
+gap-end : {text rest : List ℕ} → Gap text rest → (front : List ℕ) × (text ≡ front ++ rest)
+gap-end Nothing = ([], refl)
+gap-end (Blank {b} blank g) = let more = gap-end g in (b ∷ more.0, ap (λ z. b ∷ z) more.1)
+gap-end {rest = rest} (Comment inside unclosed g) =
+    let more = gap-end g in
+    let whole = ap (λ z. 40 ∷ 42 ∷ (inside ++ (42 ∷ 41 ∷ z))) more.1 in
+    (40 ∷ 42 ∷ (inside ++ (42 ∷ 41 ∷ more.0)), whole ∙ ap (λ (z : List ℕ). 40 ∷ 42 ∷ z) (sym (append_assoc inside (42 ∷ 41 ∷ more.0) rest)))
+gap-end {rest = rest} (LineComment inside one_line end g) =
+    let more = gap-end g in
+    let whole = ap (λ z. 47 ∷ 47 ∷ (inside ++ z)) more.1 in
+    (47 ∷ 47 ∷ (inside ++ more.0), whole ∙ ap (λ (z : List ℕ). 47 ∷ 47 ∷ z) (sym (append_assoc inside more.0 rest)))
 
 tokens-end : (ts : List (List ℕ)) (text rest : List ℕ) → AreTokens ts text rest → (front : List ℕ) × (text ≡ front ++ rest)
 tokens-end [] text rest h = ([], h)
 tokens-end (t ∷ ts) text rest h =
-    let gap = pieces-end h.2.0 text h.0 h.2.1 in
-    let more = tokens-end ts h.1 rest h.4 in
-    let after : h.0 ≡ (t ++ more.0) ++ rest = h.3.parts ∙ ap (λ z. t ++ z) more.1 ∙ sym (append_assoc t more.0 rest) in
+    let gap = gap-end h.2 in
+    let more = tokens-end ts h.1 rest h.6 in
+    let after : h.0 ≡ (t ++ more.0) ++ rest = h.3 ∙ ap (λ z. t ++ z) more.1 ∙ sym (append_assoc t more.0 rest) in
     (gap.0 ++ (t ++ more.0), gap.1 ∙ ap (λ z. gap.0 ++ z) after ∙ sym (append_assoc gap.0 (t ++ more.0) rest))
 
 drop_end : (front rest : List ℕ) → drop (length (front ++ rest) - length rest) (front ++ rest) ≡ rest
@@ -45,11 +52,11 @@ tokens-shorter ts text rest h =
 
 pub place_after : (text : List ℕ) (declared : Declared) (rest : List ℕ) → HasDecls text declared rest → rest ≡ drop (length text - length rest) text
 place_after text declared rest h =
-    let end = tokens-end h.tokens text rest h.read in
+    let end = tokens-end h.0 text rest h.2 in
     rw end.1 (sym (drop_end end.0 rest))
 
 pub rest-le : (text : List ℕ) (declared : Declared) (rest : List ℕ) → HasDecls text declared rest → length rest ≤ length text
-rest-le text declared rest h = tokens-shorter h.tokens text rest h.read
+rest-le text declared rest h = tokens-shorter h.0 text rest h.2
 
 -- ---- what the text declares is read
 
@@ -60,8 +67,8 @@ names_itself name left h = rw h refl
 -- a name is no keyword
 pub no_keyword : (name : List ℕ) → is_name name ≡ true → same_letters name (codes "END_VAR") ≡ false
 no_keyword name h =
-    let parts = and_parts (nat_le (length name) 11) (not (is_keyword name)) (and_parts (has_name_form name) _ h).1 in
-    (or_false _ _ (or_false _ _ (not-true (is_keyword name) parts.1)).1).0
+    let parts = and_parts (nat_le (length name) 11) (not (list_any (same_letters name) keywords)) (and_parts (has_name_form name) _ h).1 in
+    (or_false _ _ (or_false _ _ (not-true (list_any (same_letters name) keywords) parts.1)).1).0
 
 joined-nil : (a : Declared) → joined a [] ≡ a
 joined-nil a =
@@ -93,22 +100,20 @@ decls_read [] a ts closing text rest (suc n) enough is_end derived kept h =
     let first = first_token closing [] text rest only in
     rw (first.1, is_end, first.2) (ap (λ d. Ok (d, rest)) (sym (joined-nil a)))
 decls_read (d ∷ ds) a ts closing text rest (suc n) enough is_end derived kept h =
-    let front = derived.0 in
-    let back = derived.1 in
-    let decl : IsDecl front d = derived.3 in
-    let later : List (List ℕ) = decl.behind ++ (back ++ closing ∷ []) in
+    let (behind, back, parts, is_named, is_body, others) = derived in
+    let later : List (List ℕ) = behind ++ (back ++ closing ∷ []) in
     let whole : ts ++ closing ∷ [] ≡ d.name ∷ later
-    = ap (λ z. z ++ closing ∷ []) (derived.2 ∙ ap (λ z. z ++ back) decl.tokens) ∙ ap (λ z. d.name ∷ z) (append_assoc decl.behind back (closing ∷ [])) in
+    = ap (λ z. z ++ closing ∷ []) parts ∙ ap (λ z. d.name ∷ z) (append_assoc behind back (closing ∷ [])) in
     let tokens : AreTokens (d.name ∷ later) text rest = subst (λ z. AreTokens z text rest) whole h in
     let first = first_token d.name later text rest tokens in
-    let b = body_reads decl.behind (back ++ closing ∷ []) d.body first.0 rest decl.is_body first.2 in
-    let named : name_of d.name (length first.0) ≡ Ok d.name = names_itself d.name (length first.0) decl.named in
-    let not_end : same_letters d.name (codes "END_VAR") ≡ false = no_keyword d.name decl.named in
+    let b = body_reads behind (back ++ closing ∷ []) d.body first.0 rest is_body first.2 in
+    let named : name_of d.name (length first.0) ≡ Ok d.name = names_itself d.name (length first.0) is_named in
+    let not_end : same_letters d.name (codes "END_VAR") ≡ false = no_keyword d.name is_named in
     let more : added a d.name d.body (length first.0) ≡ Ok (with_decl a d.name d.body) = adds a d ds (length first.0) kept in
     let taken : TakesBody d.body first.0 b.0 = body_takes d.body first.0 b.0 b.1 in
     let shorter : length b.0 < n = omega (arith, first.3, tokens-shorter taken.behind first.0 b.0 taken.tokens) in
     let kept_later : AreKept (joined (with_decl a d.name d.body) ds) = subst AreKept (sym (joined-more a d ds)) kept in
-    let all = decls_read ds (with_decl a d.name d.body) back closing b.0 rest n shorter is_end derived.4 kept_later b.2 in
+    let all = decls_read ds (with_decl a d.name d.body) back closing b.0 rest n shorter is_end others kept_later b.2 in
     let same : decls_from n (with_decl a d.name d.body) b.0 ≡ Ok (joined a (d ∷ ds), rest)
     = subst (λ z. decls_from n (with_decl a d.name d.body) b.0 ≡ Ok (z, rest)) (joined-more a d ds) all in
     rw (first.1, not_end, named, b.1, more) same
@@ -116,12 +121,12 @@ decls_read (d ∷ ds) a ts closing text rest (suc n) enough is_end derived kept 
 pub all_reads : (text : List ℕ) (declared : Declared) (rest : List ℕ) → HasDecls text declared rest → all_of text ≡ Ok (declared, rest)
 unfolding all_of
 all_reads text declared rest h =
-    let (head, closing, parts, (opening, between, split, is_var, derived), is_end) = h.block in
-    let whole : h.tokens ≡ opening ∷ (between ++ closing ∷ []) = parts ∙ ap (λ z. z ++ closing ∷ []) split in
-    let tokens : AreTokens (opening ∷ (between ++ closing ∷ [])) text rest = subst (λ ts. AreTokens ts text rest) whole h.read in
+    let (ts, ds, read, (head, closing, parts, (opening, between, split, is_var, derived), is_end), declared_is, kept_) = h in
+    let whole : ts ≡ opening ∷ (between ++ closing ∷ []) = parts ∙ ap (λ z. z ++ closing ∷ []) split in
+    let tokens : AreTokens (opening ∷ (between ++ closing ∷ [])) text rest = subst (λ ts. AreTokens ts text rest) whole read in
     let first = expect_reads (codes "VAR") opening (between ++ closing ∷ []) text rest is_var tokens in
     let enough : length first.0 < length first.0 + 1 = omega arith in
-    let kept : AreKept (joined nothing h.decls) = subst AreKept h.declared_is h.kept in
-    let read : decls_from (length first.0 + 1) nothing first.0 ≡ Ok (joined nothing h.decls, rest)
-    = decls_read h.decls nothing between closing first.0 rest (length first.0 + 1) enough is_end derived kept first.2 in
-    rw first.1 (subst (λ d. decls_from (length first.0 + 1) nothing first.0 ≡ Ok (d, rest)) (sym h.declared_is) read)
+    let kept : AreKept (joined nothing ds) = subst AreKept declared_is kept_ in
+    let found : decls_from (length first.0 + 1) nothing first.0 ≡ Ok (joined nothing ds, rest)
+    = decls_read ds nothing between closing first.0 rest (length first.0 + 1) enough is_end derived kept first.2 in
+    rw first.1 (subst (λ d. decls_from (length first.0 + 1) nothing first.0 ≡ Ok (d, rest)) (sym declared_is) found)

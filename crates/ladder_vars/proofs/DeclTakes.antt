@@ -8,7 +8,7 @@ use Rattle.ladder_vars.specs.declared.decls.Body.TheVariants as body
 use Rattle.ladder_vars.specs.Name.{same_letters, is_name, has_name_form}
 use Rattle.ladder_vars.specs.Decls.{Declared, AreKept}
 use Rattle.ladder_vars.specs.Text.{AreTokens}
-use Rattle.ladder_vars.specs.Grammar.{Is, Decl, IsDecl, AreDecls, var_of, instance_of, declared_by, IsBlock, HasDecls}
+use Rattle.ladder_vars.specs.Grammar.{Is, Decl, IsBody, AreDecls, var_of, instance_of, declared_by, IsBlock, HasDecls}
 use Rattle.ladder_vars.specs.ReadText.{token_at}
 use Rattle.ladder_vars.specs.ReadDecls.{expect, name_of, refusal, with_decl, refused, added, body_at, nothing, decls_from, all_of}
 use Rattle.ladder_vars.proofs.Steps.{bind_ok, chosen}
@@ -23,10 +23,13 @@ pub record ReadsTo (text : List ℕ) (ds : List Decl) (due : List ℕ) : Type 0 
   pub derived : AreDecls tokens ds
   pub read : AreTokens (opening ∷ tokens) text due
 
-pub AreDecls-push : (ds : List Decl) (ts front : List (List ℕ)) (d : Decl) → AreDecls ts ds → IsDecl front d → AreDecls (ts ++ front) (ds ++ d ∷ [])
-AreDecls-push [] ts front d h decl = (front, [], ap (λ z. z ++ front) h ∙ sym (append-nil front), decl, refl)
-AreDecls-push (e ∷ ds) ts front d h decl =
-    (h.0, h.1 ++ front, ap (λ z. z ++ front) h.2 ∙ append_assoc h.0 h.1 front, h.3, AreDecls-push ds h.1 front d h.4 decl)
+pub AreDecls-push : (ds : List Decl) (ts behind : List (List ℕ)) (d : Decl) → AreDecls ts ds → is_name d.name ≡ true → IsBody behind d.body
+    → AreDecls (ts ++ (d.name ∷ behind)) (ds ++ d ∷ [])
+AreDecls-push [] ts behind d h named is_body =
+    (behind, [], ap (λ z. z ++ (d.name ∷ behind)) h ∙ ap (λ z. d.name ∷ z) (sym (append-nil behind)), named, is_body, refl)
+AreDecls-push (e ∷ ds) ts behind d (first, back, parts, e_named, e_body, others) named is_body =
+    let whole = ap (λ z. z ++ (d.name ∷ behind)) parts ∙ ap (λ z. e.name ∷ z) (append_assoc first back (d.name ∷ behind)) in
+    (first, back ++ (d.name ∷ behind), whole, e_named, e_body, AreDecls-push ds back behind d others named is_body)
 
 pub named_is : (word : List ℕ) (left : ℕ) (name : List ℕ) → name_of word left ≡ Ok name → (word ≡ name) × (is_name word ≡ true)
 unfolding name_of
@@ -66,13 +69,12 @@ pub next_due : (text : List ℕ) (ds : List Decl) (due name after rest : List �
 next_due text ds due name after rest b h word named taken =
     let d : Decl = record { name = name; body = b } in
     let front : List (List ℕ) = name ∷ taken.behind in
-    let decl : IsDecl front d = record { behind = taken.behind; tokens = refl; named = named; is_body = taken.is_body } in
     let read : AreTokens front due rest = AreTokens-append (name ∷ []) taken.behind due after rest word taken.tokens in
     record {
       opening = h.opening;
       tokens = h.tokens ++ front;
       is_var = h.is_var;
-      derived = AreDecls-push ds h.tokens front d h.derived decl;
+      derived = AreDecls-push ds h.tokens taken.behind d h.derived named taken.is_body;
       read = AreTokens-append (h.opening ∷ h.tokens) front text due rest h.read read;
     }
 
@@ -81,14 +83,8 @@ ends_take : (text : List ℕ) (ds : List Decl) (a : Declared) (due w after : Lis
 ends_take text ds a due w after all rest h same kept word is_end whole left =
     let read : AreTokens (h.opening ∷ (h.tokens ++ w ∷ [])) text after = AreTokens-append (h.opening ∷ h.tokens) (w ∷ []) text due after h.read word in
     let block : IsBlock (h.opening ∷ (h.tokens ++ w ∷ [])) ds = (h.opening ∷ h.tokens, w, refl, (h.opening, h.tokens, refl, h.is_var, h.derived), is_end) in
-    record {
-      tokens = h.opening ∷ (h.tokens ++ w ∷ []);
-      decls = ds;
-      block = block;
-      declared_is = sym whole ∙ same;
-      kept = kept;
-      read = subst (λ r. AreTokens (h.opening ∷ (h.tokens ++ w ∷ [])) text r) left read;
-    }
+    let taken : AreTokens (h.opening ∷ (h.tokens ++ w ∷ [])) text rest = subst (λ r. AreTokens (h.opening ∷ (h.tokens ++ w ∷ [])) text r) left read in
+    (h.opening ∷ (h.tokens ++ w ∷ []), ds, taken, block, sym whole ∙ same, kept)
 
 decls_take : (n : ℕ) (text : List ℕ) (ds : List Decl) (a : Declared) (due : List ℕ) (all : Declared) (rest : List ℕ) → ReadsTo text ds due → a ≡ declared_by ds
     → AreKept all → decls_from n a due ≡ Ok (all, rest) → HasDecls text all rest

@@ -9,8 +9,8 @@ use Rattle.std.proofs.lemmas.List.Sums.{sum_by-cons}
 use Rattle.ladder_vars.specs.declared.time.Unit.{Unit as TimeUnit}
 use Rattle.ladder_vars.specs.declared.time.Unit.TheVariants as time_unit
 use Rattle.ladder_vars.specs.Text.{begins}
-use Rattle.ladder_vars.specs.Duration.{number_of, millis_of, range_of, Part, IsPart, AreParts}
-use Rattle.ladder_vars.specs.ReadWords.{PartAt, part_at, after_underscore, with_part, may_follow, total_from, total_of}
+use Rattle.ladder_vars.specs.Duration.{number_of, Part, IsPart, AreParts}
+use Rattle.ladder_vars.specs.ReadWords.{millis_of, range_of, PartAt, part_at, after_underscore, with_part, may_follow, total_from, total_of}
 use Rattle.ladder_vars.proofs.Steps.{chosen}
 use Rattle.ladder_vars.proofs.Runs.{bind_some}
 use Rattle.ladder_vars.proofs.PartLaws.{cap, part_reads, TakesPart, part_takes}
@@ -84,7 +84,7 @@ digits_start (d ∷ ds) rest some all =
     record { digit = d; others = ds ++ rest; text_is = refl; is_digit = (and_parts (is_ascii_digit d) (list_all is_ascii_digit ds) all).0 }
 
 starts : (p : Part) (ps : List Part) (text : List ℕ) → FirstPart p ps text → Starts text
-starts p ps text f = rw f.parts (digits_start p.digits (p.letters ++ f.rest) f.is_part.some f.is_part.digits)
+starts p ps text f = rw f.parts (digits_start p.digits (p.letters ++ f.rest) f.is_part.0 f.is_part.1)
 
 digit_no_letter : (d : ℕ) → is_ascii_digit d ≡ true → is_ascii_alphabetic d ≡ false
 digit_no_letter d h = grind (arith, nat_tests)
@@ -157,7 +157,7 @@ total_reads (q ∷ ps) p (suc n) total rest enough small (between, after, parts,
     let whole : length rest ≡ length between + length after = ap length parts ∙ length-append {A = ℕ} between after in
     let first : length after ≡ length q.digits + (length q.letters + length f.rest)
     = ap length f.parts ∙ length-append {A = ℕ} q.digits (q.letters ++ f.rest) ∙ ap (λ k. length q.digits + k) (length-append {A = ℕ} q.letters f.rest) in
-    let shorter : length f.rest < n = omega (arith, whole, first, f.is_part.some) in
+    let shorter : length f.rest < n = omega (arith, whole, first, f.is_part.0) in
     let all : total_from n q.unit (min (total + v * millis_of q.unit) cap) f.rest ≡ Some (min (min (total + v * millis_of q.unit) cap + sum_of ps) cap)
     = total_reads ps q n (min (total + v * millis_of q.unit) cap) f.rest shorter (omega arith) f.follows in
     step ∙ ap (λ t. total_from n q.unit t f.rest) (with_part-cut total v q.unit) ∙ all

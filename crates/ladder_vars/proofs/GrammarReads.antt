@@ -12,11 +12,11 @@ use Rattle.ladder_vars.specs.declared.decls.Body.{Body}
 use Rattle.ladder_vars.specs.declared.decls.Body.TheVariants as body
 use Rattle.ladder_vars.specs.Name.{same_letters}
 use Rattle.ladder_vars.specs.Text.{AreTokens}
-use Rattle.ladder_vars.specs.Grammar.{Is, IsInitial, IsPreset, IsVarBody, IsInstanceBody, IsBody, bit_of, block_of}
+use Rattle.ladder_vars.specs.Grammar.{Is, IsBody, bit_of}
 use Rattle.ladder_vars.specs.Kind.{parameter_word}
-use Rattle.ladder_vars.specs.ReadWords.{address_of, value_of}
+use Rattle.ladder_vars.specs.ReadWords.{address_of, value_of, block_of}
 use Rattle.ladder_vars.specs.ReadDecls.{expect, given_bit, initial_at, preset_word, given_preset, preset_at, bool_at, placed, block_at, typed, body_at}
-use Rattle.ladder_vars.proofs.Presets.{HasPreset, has_preset}
+use Rattle.ladder_vars.proofs.Bodies.{IsInitial, HasPreset, IsPreset, IsVarBody, IsInstanceBody, has_body}
 use Rattle.ladder_vars.proofs.TextReads.{first_token}
 use Rattle.ladder_vars.proofs.WordLaws.{address_reads, value_reads}
 
@@ -87,8 +87,7 @@ preset_at_reads ts kind n semicolon us text rest (inl (none, zero_)) is_semicolo
     let tokens : AreTokens (semicolon ∷ us) text rest = subst (λ z. AreTokens (z ++ (semicolon ∷ us)) text rest) none h in
     let first = first_token semicolon us text rest tokens in
     record { after = first.0; value = rw (first.1, is_semicolon, zero_) refl; others = first.2 }
-preset_at_reads ts kind n semicolon us text rest (inr (form, takes, parts)) is_semicolon h =
-    let p : HasPreset ts kind n = has_preset ts kind n form takes parts in
+preset_at_reads ts kind n semicolon us text rest (inr p) is_semicolon h =
     let later : List (List ℕ) = p.opening ∷ p.parameter ∷ p.given ∷ p.word ∷ p.closing ∷ semicolon ∷ us in
     let tokens : AreTokens (p.assign ∷ later) text rest = subst (λ z. AreTokens (z ++ (semicolon ∷ us)) text rest) p.tokens h in
     let first = first_token p.assign later text rest tokens in
@@ -195,8 +194,8 @@ instance_reads ts us kind n text rest b h =
 pub body_reads : (ts us : List (List ℕ)) (b : Body) (text rest : List ℕ) → IsBody ts b → AreTokens (ts ++ us) text rest
     → (after : List ℕ) × (body_at text ≡ Ok (b, after)) × AreTokens us after rest
 body_reads ts us (body.Var kind address value) text rest h tokens =
-    let x = var_reads ts us kind address value text rest h tokens in
+    let x = var_reads ts us kind address value text rest (has_body ts (body.Var kind address value) h) tokens in
     (x.after, x.value, x.others)
 body_reads ts us (body.Instance kind n) text rest h tokens =
-    let x = instance_reads ts us kind n text rest h tokens in
+    let x = instance_reads ts us kind n text rest (has_body ts (body.Instance kind n) h) tokens in
     (x.after, x.value, x.others)

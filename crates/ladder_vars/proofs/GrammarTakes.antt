@@ -10,12 +10,12 @@ use Rattle.ladder_vars.specs.declared.decls.Body.{Body}
 use Rattle.ladder_vars.specs.declared.decls.Body.TheVariants as body
 use Rattle.ladder_vars.specs.Name.{same_letters}
 use Rattle.ladder_vars.specs.Text.{AreTokens}
-use Rattle.ladder_vars.specs.Grammar.{Is, IsPlace, IsInitial, IsPreset, IsVarBody, IsInstanceBody, IsBody, bit_of, block_of}
+use Rattle.ladder_vars.specs.Grammar.{Is, IsBody, bit_of}
 use Rattle.ladder_vars.specs.Kind.{traits_of, parameter_word}
 use Rattle.ladder_vars.specs.ReadText.{token_at}
-use Rattle.ladder_vars.specs.ReadWords.{address_of, value_of}
+use Rattle.ladder_vars.specs.ReadWords.{address_of, value_of, block_of}
 use Rattle.ladder_vars.specs.ReadDecls.{some_or, expect, given_bit, initial_at, preset_word, given_preset, given_to, preset_at, bool_at, placed, block_at, typed, body_at}
-use Rattle.ladder_vars.proofs.Presets.{HasPreset, is_preset}
+use Rattle.ladder_vars.proofs.Bodies.{IsPlace, IsInitial, HasPreset, IsPreset, IsVarBody, IsInstanceBody, is_body}
 use Rattle.ladder_vars.proofs.Steps.{bind_ok, chosen}
 use Rattle.ladder_vars.proofs.TextTakes.{token_takes, AreTokens-append}
 use Rattle.ladder_vars.proofs.WordLaws.{address_takes, value_takes}
@@ -158,7 +158,7 @@ given_preset_takes kind form n m text start rest takes is_assign first h =
     record {
       preset = m ∷ ta.0 ∷ tb.0 ∷ tc.0 ∷ tx.0 ∷ td.0 ∷ [];
       semicolon = te.0;
-      is_preset = is_preset _ kind n has;
+      is_preset = inr has;
       is_semicolon = te.1;
       tokens = subst (λ r. AreTokens (m ∷ ta.0 ∷ tb.0 ∷ tc.0 ∷ tx.0 ∷ td.0 ∷ te.0 ∷ []) start r) parts.1 p7;
     }
@@ -211,7 +211,7 @@ bool_at_takes kind address place colon bool b start text rest is_place is_colon 
     = append_assoc place (colon ∷ bool ∷ []) (i.initial ++ i.semicolon ∷ []) in
     let tokens : AreTokens (place ++ (colon ∷ bool ∷ (i.initial ++ i.semicolon ∷ []))) start x.0.1
     = subst (λ ts. AreTokens ts start x.0.1) whole (then front (i.initial ++ i.semicolon ∷ []) start text x.0.1 before i.tokens) in
-    let is_body : IsVarBody (place ++ (colon ∷ bool ∷ (i.initial ++ i.semicolon ∷ []))) kind address x.0.0 = record {
+    let is_var : IsVarBody (place ++ (colon ∷ bool ∷ (i.initial ++ i.semicolon ∷ []))) kind address x.0.0 = record {
       place = place;
       colon = colon;
       bool = bool;
@@ -225,7 +225,7 @@ bool_at_takes kind address place colon bool b start text rest is_place is_colon 
       is_semicolon = i.is_semicolon;
     } in
     let taken : TakesBody (body.Var kind address x.0.0) start x.0.1
-    = record { behind = place ++ (colon ∷ bool ∷ (i.initial ++ i.semicolon ∷ [])); is_body = is_body; tokens = tokens } in
+    = record { behind = place ++ (colon ∷ bool ∷ (i.initial ++ i.semicolon ∷ [])); is_body = is_body _ (body.Var kind address x.0.0) is_var; tokens = tokens } in
     subst (λ r. TakesBody b start r) parts.1 (subst (λ c. TakesBody c start x.0.1) parts.0 taken)
 
 placed_takes : (m : List ℕ) (b : Body) (start text rest : List ℕ) → Is (codes "AT") m → AreTokens (m ∷ []) start text → placed text ≡ Ok (b, rest)
@@ -255,7 +255,7 @@ block_at_takes kind colon block b start text rest is_colon is_block before h =
     let parts : (body.Instance kind x.0.0 ≡ b) × (x.0.1 ≡ rest) = halves (body.Instance kind x.0.0) b x.0.1 rest x.2 in
     let tokens : AreTokens (colon ∷ block ∷ (i.preset ++ i.semicolon ∷ [])) start x.0.1
     = then (colon ∷ block ∷ []) (i.preset ++ i.semicolon ∷ []) start text x.0.1 before i.tokens in
-    let is_body : IsInstanceBody (colon ∷ block ∷ (i.preset ++ i.semicolon ∷ [])) kind x.0.0 = record {
+    let is_instance : IsInstanceBody (colon ∷ block ∷ (i.preset ++ i.semicolon ∷ [])) kind x.0.0 = record {
       colon = colon;
       block = block;
       preset = i.preset;
@@ -267,7 +267,7 @@ block_at_takes kind colon block b start text rest is_colon is_block before h =
       is_semicolon = i.is_semicolon;
     } in
     let taken : TakesBody (body.Instance kind x.0.0) start x.0.1
-    = record { behind = colon ∷ block ∷ (i.preset ++ i.semicolon ∷ []); is_body = is_body; tokens = tokens } in
+    = record { behind = colon ∷ block ∷ (i.preset ++ i.semicolon ∷ []); is_body = is_body _ (body.Instance kind x.0.0) is_instance; tokens = tokens } in
     subst (λ r. TakesBody b start r) parts.1 (subst (λ c. TakesBody c start x.0.1) parts.0 taken)
 
 typed_takes : (m : List ℕ) (b : Body) (start text rest : List ℕ) → Is (codes ":") m → AreTokens (m ∷ []) start text → typed text ≡ Ok (b, rest)

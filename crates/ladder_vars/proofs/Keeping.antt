@@ -1,6 +1,7 @@
 -- Names, addresses and limits are kept by one more declaration exactly where no rule refuses it.
 use Rattle.std.proofs.Common.{◌≡◌, ℕ, ◌≤◌, ◌<◌, false, ◌||◌, ◌==◌, nat_le, nat_lt, List, [], ◌∷◌, ◌++◌, length, map, Option, Some, None, refl, sym, ap, ◌∙◌, arith, append_assoc, inl, inr}
 use Rattle.std.specs.List.{IsDistinct, list_any}
+use Rattle.std.specs.Option.{option_eq}
 use Rattle.std.specs.Str.{str_to_ascii_lowercase}
 use Rattle.std.proofs.lemmas.Cmp.{nat_eq_equiv, nat_list_eq_equiv}
 use Rattle.std.proofs.lemmas.List.{append-nil, length-append, map-append}
@@ -13,20 +14,16 @@ use Rattle.ladder_vars.specs.declared.decls.Instance.{Instance}
 use Rattle.ladder_vars.specs.declared.decls.Body.{Body}
 use Rattle.ladder_vars.specs.declared.decls.Body.TheVariants as body
 use Rattle.ladder_vars.specs.Name.{same_letters}
-use Rattle.ladder_vars.specs.Decls.{Declared, AreKept, names_of, addresses_of, same_number, same_address}
+use Rattle.ladder_vars.specs.Decls.{Declared, AreKept, AreInRange, names_of, addresses_of, same_address}
 use Rattle.ladder_vars.specs.Kind.{traits_of, largest_preset}
 use Rattle.ladder_vars.specs.ReadDecls.{nothing, is_there, is_declared, is_taken, refusal, with_var, with_instance, with_decl, PresetFits}
 use Rattle.ladder_vars.proofs.Steps.{chosen, or_false}
 use Rattle.ladder_vars.proofs.Lists.{list_any-map, IsDistinct-put_between}
 
-pub AreKept-nothing : AreKept nothing
+pub AreInRange-nothing : AreInRange nothing
 unfolding IsDistinct
-AreKept-nothing = record {
-  names = tt;
-  addresses = tt;
-  few_vars = omega arith;
-  few_instances = omega arith;
-  short_names = All-nil (λ i. length i.name ≤ (traits_of i.kind).longest_name);
+AreInRange-nothing = record {
+  kept = (tt, tt, omega arith, omega arith, All-nil (λ i. length i.name ≤ (traits_of i.kind).longest_name));
   presets = All-nil (λ i. i.preset ≤ largest_preset i.kind);
 }
 
@@ -38,7 +35,7 @@ nat_eq-flips m n = nat_eq_equiv.symm m n
 pub same_letters-flips : (a b : List ℕ) → same_letters a b ≡ same_letters b a
 same_letters-flips a b = nat_list_eq_equiv.symm (str_to_ascii_lowercase a) (str_to_ascii_lowercase b)
 
-same_number-flips : (a b : Option ℕ) → same_number a b ≡ same_number b a
+same_number-flips : (a b : Option ℕ) → option_eq (λ m n. m == n) a b ≡ option_eq (λ m n. m == n) b a
 same_number-flips (Some m) (Some n) = nat_eq-flips m n
 same_number-flips None None = refl
 same_number-flips (Some m) None = refl
@@ -95,9 +92,9 @@ addresses_kept vars v d same h new =
           rw (whole, one) (IsDistinct-put_between same_address same_address-flips (addresses_of vars) a [] distinct unlike)
     ] refl
 
-pub AreKept-var : (d : Declared) (v : Var) → AreKept d → refusal d v.name (body.Var v.kind v.address v.initial) ≡ None
-    → AreKept (with_var d v)
-AreKept-var d v kept accepted =
+pub AreInRange-var : (d : Declared) (v : Var) → AreInRange d → refusal d v.name (body.Var v.kind v.address v.initial) ≡ None
+    → AreInRange (with_var d v)
+AreInRange-var d v kept accepted =
     elim (chosen (is_declared d v.name) _ _ _ accepted) [
       | inl twice ↦ absurd cc
       | inr new ↦ elim (chosen (is_taken d v.address) _ _ _ new.1) [
@@ -107,21 +104,21 @@ AreKept-var d v kept accepted =
           | inr room ↦
               let apart : list_any (same_letters v.name) (names_of d) ≡ false = names_none d v.name new.0 in
               let few : length d.vars < 256 = leb-false 256 (length d.vars) room.0 in
-              record {
-                names = rw (names-var d v) (IsDistinct-put_between same_letters same_letters-flips (map (λ x. x.name) d.vars) v.name (map (λ i. i.name) d.instances) kept.names apart);
-                addresses = addresses_kept d.vars v d refl kept.addresses unused.0;
-                few_vars = omega (arith, length-append {A = Var} d.vars (v ∷ []));
-                few_instances = kept.few_instances;
-                short_names = kept.short_names;
-                presets = kept.presets;
-              }
+              let still : AreKept (with_var d v) = (
+                rw (names-var d v) (IsDistinct-put_between same_letters same_letters-flips (map (λ x. x.name) d.vars) v.name (map (λ i. i.name) d.instances) kept.kept.0 apart),
+                addresses_kept d.vars v d refl kept.kept.1 unused.0,
+                omega (arith, length-append {A = Var} d.vars (v ∷ [])),
+                kept.kept.3,
+                kept.kept.4,
+              ) in
+              record { kept = still; presets = kept.presets }
         ]
       ]
     ]
 
-pub AreKept-instance : (d : Declared) (i : Instance) → AreKept d → refusal d i.name (body.Instance i.kind i.preset) ≡ None → i.preset ≤ largest_preset i.kind
-    → AreKept (with_instance d i)
-AreKept-instance d i kept accepted fits =
+pub AreInRange-instance : (d : Declared) (i : Instance) → AreInRange d → refusal d i.name (body.Instance i.kind i.preset) ≡ None → i.preset ≤ largest_preset i.kind
+    → AreInRange (with_instance d i)
+AreInRange-instance d i kept accepted fits =
     elim (chosen (nat_lt (traits_of i.kind).longest_name (length i.name)) _ _ _ accepted) [
       | inl long ↦ absurd cc
       | inr short ↦ elim (chosen (is_declared d i.name) _ _ _ short.1) [
@@ -130,17 +127,17 @@ AreKept-instance d i kept accepted fits =
           | inl full ↦ absurd cc
           | inr room ↦
               let apart : list_any (same_letters i.name) (names_of d ++ []) ≡ false = rw (append-nil (names_of d)) (names_none d i.name new.0) in
-              let distinct : IsDistinct same_letters (names_of d ++ []) = rw (append-nil (names_of d)) kept.names in
+              let distinct : IsDistinct same_letters (names_of d ++ []) = rw (append-nil (names_of d)) kept.kept.0 in
               let few : length d.instances < 64 = leb-false 64 (length d.instances) room.0 in
               let short_name : length i.name ≤ (traits_of i.kind).longest_name = ltb-false (traits_of i.kind).longest_name (length i.name) short.0 in
-              record {
-                names = rw (names-instance d i) (IsDistinct-put_between same_letters same_letters-flips (names_of d) i.name [] distinct apart);
-                addresses = kept.addresses;
-                few_vars = kept.few_vars;
-                few_instances = omega (arith, length-append {A = Instance} d.instances (i ∷ []));
-                short_names = All-push (λ x. length x.name ≤ (traits_of x.kind).longest_name) d.instances i kept.short_names short_name;
-                presets = All-push (λ x. x.preset ≤ largest_preset x.kind) d.instances i kept.presets fits;
-              }
+              let still : AreKept (with_instance d i) = (
+                rw (names-instance d i) (IsDistinct-put_between same_letters same_letters-flips (names_of d) i.name [] distinct apart),
+                kept.kept.1,
+                kept.kept.2,
+                omega (arith, length-append {A = Instance} d.instances (i ∷ [])),
+                All-push (λ x. length x.name ≤ (traits_of x.kind).longest_name) d.instances i kept.kept.4 short_name,
+              ) in
+              record { kept = still; presets = All-push (λ x. x.preset ≤ largest_preset x.kind) d.instances i kept.presets fits }
         ]
       ]
     ]
@@ -180,8 +177,8 @@ AreFew-decl d name (body.Instance kind preset) few accepted =
       ]
     ]
 
-pub AreKept-decl : (d : Declared) (name : List ℕ) (b : Body) → AreKept d → refusal d name b ≡ None → PresetFits b → AreKept (with_decl d name b)
-AreKept-decl d name (body.Var kind address initial) kept accepted fits =
-    AreKept-var d (record { name = name; kind = kind; address = address; initial = initial }) kept accepted
-AreKept-decl d name (body.Instance kind preset) kept accepted fits =
-    AreKept-instance d (record { name = name; kind = kind; preset = preset }) kept accepted fits
+pub AreInRange-decl : (d : Declared) (name : List ℕ) (b : Body) → AreInRange d → refusal d name b ≡ None → PresetFits b → AreInRange (with_decl d name b)
+AreInRange-decl d name (body.Var kind address initial) kept accepted fits =
+    AreInRange-var d (record { name = name; kind = kind; address = address; initial = initial }) kept accepted
+AreInRange-decl d name (body.Instance kind preset) kept accepted fits =
+    AreInRange-instance d (record { name = name; kind = kind; preset = preset }) kept accepted fits

@@ -5,7 +5,7 @@ use Rattle.std.proofs.lemmas.Bool.{eqb-true}
 use Rattle.std.proofs.lemmas.List.Folds.{prefix_len-append}
 use Rattle.std.proofs.lemmas.List.Sums.{prefix_len-le-length}
 use Rattle.ladder_vars.specs.declared.decls.Var.{Var}
-use Rattle.ladder_vars.specs.Decls.{Declared, is_input, AreKept}
+use Rattle.ladder_vars.specs.Decls.{Declared, is_input, AreInRange}
 use Rattle.ladder_vars.specs.ReadDecls.{leading_with}
 
 pub leading-var : (vars : List Var) (v : Var) (leading : ℕ) → leading ≡ prefix_len is_input vars
@@ -20,5 +20,5 @@ leading-var vars v leading is =
       | false ↦ λ _. refl
     ] refl)
 
-pub few_leading : (d : Declared) (leading : ℕ) → leading ≡ prefix_len is_input d.vars → AreKept d → leading ≤ 256
-few_leading d leading is kept = omega (arith, is, prefix_len-le-length is_input d.vars, kept.few_vars)
+pub few_leading : (d : Declared) (leading : ℕ) → leading ≡ prefix_len is_input d.vars → AreInRange d → leading ≤ 256
+few_leading d leading is kept = omega (arith, is, prefix_len-le-length is_input d.vars, kept.kept.2)

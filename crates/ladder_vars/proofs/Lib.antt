@@ -9,7 +9,7 @@ mod Leading
 mod Lists
 mod DeclLoop
 mod WordLaws
-mod Presets
+mod Bodies
 mod GrammarReads
 mod GrammarTakes
 mod GrammarFaults

@@ -4,7 +4,8 @@ use Rattle.std.proofs.lemmas.Bool.{cases_lt}
 use Rattle.std.proofs.lemmas.Bool.{leb-true, and_parts}
 use Rattle.std.specs.List.{list_all}
 use Rattle.std.specs.Char.{is_ascii_digit}
-use Rattle.ladder_vars.specs.Duration.{value_from, number_of}
+use Rattle.ladder_vars.specs.Duration.{number_of}
+use Rattle.ladder_vars.specs.ReadWords.{value_from}
 
 grows : (n : ℕ) (bs : List ℕ) → n ≤ value_from n bs
 grows n [] = omega arith

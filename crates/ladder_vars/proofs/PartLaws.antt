@@ -11,8 +11,8 @@ use Rattle.ladder_vars.specs.declared.time.Unit.{Unit as TimeUnit}
 use Rattle.ladder_vars.specs.declared.time.Unit.TheVariants as time_unit
 use Rattle.ladder_vars.specs.Name.{same_letters}
 use Rattle.ladder_vars.specs.Text.{begins}
-use Rattle.ladder_vars.specs.Duration.{number_of, letters_of, Part, IsPart}
-use Rattle.ladder_vars.specs.ReadWords.{unit_of, PartAt, part_at}
+use Rattle.ladder_vars.specs.Duration.{number_of, Part, IsPart}
+use Rattle.ladder_vars.specs.ReadWords.{letters_of, unit_of, PartAt, part_at}
 use Rattle.ladder_vars.proofs.Steps.{chosen}
 use Rattle.ladder_vars.proofs.Runs.{bind_some, take_run, drop_run, run_passes}
 
@@ -103,13 +103,13 @@ pub part_reads : (p : Part) (after : List ℕ) → IsPart p → begins is_ascii_
     → part_at (p.digits ++ (p.letters ++ after)) ≡ Some (record { number = min (number_of p.digits) cap; unit = p.unit; rest = after })
 unfolding part_at
 part_reads p after h end =
-    let lower : str_to_ascii_lowercase p.letters ≡ letters_of p.unit = lower_is p.letters p.unit h.letters in
+    let lower : str_to_ascii_lowercase p.letters ≡ letters_of p.unit = lower_is p.letters p.unit h.2 in
     let digits_end : begins is_ascii_digit (p.letters ++ after) ≡ false = no_digit p.letters (letters_of p.unit) after lower (spelled_small p.unit) (spelled_some p.unit) in
     let letters : list_all is_ascii_alphabetic p.letters ≡ true = letters_alphabetic p.letters (letters_of p.unit) lower (spelled_small p.unit) in
     rw (
-      take_run is_ascii_digit p.digits (p.letters ++ after) h.digits digits_end,
-      drop_run is_ascii_digit p.digits (p.letters ++ after) h.digits digits_end,
-      le-leb 1 (length p.digits) h.some,
+      take_run is_ascii_digit p.digits (p.letters ++ after) h.1 digits_end,
+      drop_run is_ascii_digit p.digits (p.letters ++ after) h.1 digits_end,
+      le-leb 1 (length p.digits) h.0,
       take_run is_ascii_alphabetic p.letters after letters end,
       drop_run is_ascii_alphabetic p.letters after letters end,
       unit_reads p.letters p.unit lower,
@@ -139,7 +139,7 @@ part_takes q text h =
           = sym (take-append-drop n text) ∙ ap (λ z. take n text ++ z) (sym (take-append-drop m after)) in
           let taken : TakesPart made text = record {
             part = p;
-            is_part = record { some = leb-true 1 (length (take n text)) some.0; digits = run_passes is_ascii_digit text; letters = unit_takes (take m after) u.0 u.1 };
+            is_part = (leb-true 1 (length (take n text)) some.0, run_passes is_ascii_digit text, unit_takes (take m after) u.0 u.1);
             parts = spelled;
             number = refl;
             unit = refl;

@@ -7,10 +7,10 @@ use Rattle.ladder_vars.specs.declared.kind.BlockKind.{BlockKind}
 use Rattle.ladder_vars.specs.declared.kind.Parameter.{Parameter}
 use Rattle.ladder_vars.specs.Name.{same_letters}
 use Rattle.ladder_vars.specs.Text.{begins_word, AreTokens}
-use Rattle.ladder_vars.specs.Grammar.{Is, block_of}
+use Rattle.ladder_vars.specs.Grammar.{Is}
 use Rattle.ladder_vars.specs.Kind.{traits_of, parameter_word}
 use Rattle.ladder_vars.specs.ReadText.{token_at}
-use Rattle.ladder_vars.specs.ReadWords.{value_of}
+use Rattle.ladder_vars.specs.ReadWords.{block_of, value_of}
 use Rattle.ladder_vars.specs.ReadDecls.{at, some_or, preset_fault, expect, preset_word, given_preset, given_to, preset_at, block_at, typed, body_at}
 use Rattle.ladder_vars.proofs.Steps.{bind_err, chosen}
 use Rattle.ladder_vars.proofs.TextTakes.{token_takes, AreTokens-append}

@@ -15,10 +15,10 @@ use Rattle.ladder_vars.specs.declared.decls.Body.{Body}
 use Rattle.ladder_vars.specs.declared.decls.Body.TheVariants as body
 use Rattle.ladder_vars.specs.Name.{same_letters, is_name, has_name_form}
 use Rattle.ladder_vars.specs.Kind.{traits_of, parameter_word}
-use Rattle.ladder_vars.specs.Grammar.{Is, IsAddress, IsInitial, IsValue, IsPreset, IsVarBody, IsBody, Decl, IsDecl, AreDecls, IsHead, IsBlock, CanFollow, bit_of, block_of}
-use Rattle.ladder_vars.specs.ReadWords.{◌>>=◌, numbers_of, address_of, part_at, total_from, total_of, time_of, value_of}
+use Rattle.ladder_vars.specs.Grammar.{Is, IsAddress, Decl, AreDecls, IsHead, IsBlock, CanFollow, bit_of}
+use Rattle.ladder_vars.specs.ReadWords.{IsValue, ◌>>=◌, numbers_of, address_of, part_at, total_from, total_of, time_of, value_of, block_of}
 use Rattle.ladder_vars.specs.ReadDecls.{preset_fault}
-use Rattle.ladder_vars.proofs.Presets.{HasPreset, has_preset}
+use Rattle.ladder_vars.proofs.Bodies.{IsInitial, IsPreset, IsVarBody, HasBody, has_body, is_body}
 use Rattle.ladder_vars.proofs.Steps.{chosen}
 use Rattle.ladder_vars.proofs.PartLaws.{same_bytes}
 use Rattle.ladder_vars.proofs.DeclReads.{no_keyword}
@@ -109,8 +109,7 @@ initial_runs ts us value semicolon (inr (assign, bit, tokens, is_assign, is_bit)
 preset_runs : (ts us : List (List ℕ)) (kind : BlockKind) (n : ℕ) (semicolon : List ℕ) → IsPreset ts kind n → Is (codes ";") semicolon
     → run (AfterBlock kind) (ts ++ (semicolon ∷ us)) ≡ run NeedName us
 preset_runs ts us kind n semicolon (inl (none, zero_)) end = rw (none, end) refl
-preset_runs ts us kind n semicolon (inr (form, takes, parts)) end =
-    let p : HasPreset ts kind n = has_preset ts kind n form takes parts in
+preset_runs ts us kind n semicolon (inr p) end =
     rw (
       p.tokens,
       alike (codes ":=") (codes ";") p.assign p.is_assign,
@@ -146,7 +145,7 @@ var_runs ts us kind (Some a) value b =
       append_assoc b.initial (b.semicolon ∷ []) us,
     ) (initial_runs b.initial us value b.semicolon b.is_initial b.is_semicolon)
 
-body_runs : (ts us : List (List ℕ)) (b : Body) → IsBody ts b → run AfterName (ts ++ us) ≡ run NeedName us
+body_runs : (ts us : List (List ℕ)) (b : Body) → HasBody ts b → run AfterName (ts ++ us) ≡ run NeedName us
 body_runs ts us (body.Var kind address value) b = var_runs ts us kind address value b
 body_runs ts us (body.Instance kind n) b =
     rw (
@@ -163,12 +162,11 @@ name_next name named = ap (λ b. if same_letters name (codes "END_VAR") then Som
 
 pub decls_run : (ds : List Decl) (ts us : List (List ℕ)) → AreDecls ts ds → run NeedName (ts ++ us) ≡ run NeedName us
 decls_run [] ts us h = rw h refl
-decls_run (d ∷ ds) ts us (front, back, parts, decl, others) =
-    let whole : ts ++ us ≡ d.name ∷ (decl.behind ++ (back ++ us))
-    = ap (λ z. z ++ us) (parts ∙ ap (λ z. z ++ back) decl.tokens) ∙ ap (λ z. d.name ∷ z) (append_assoc decl.behind back us) in
+decls_run (d ∷ ds) ts us (behind, back, parts, named, is, others) =
+    let whole : ts ++ us ≡ d.name ∷ (behind ++ (back ++ us)) = ap (λ z. z ++ us) parts ∙ ap (λ z. d.name ∷ z) (append_assoc behind back us) in
     ap (run NeedName) whole
-    ∙ ap (λ o. o >>= λ n. run n (decl.behind ++ (back ++ us))) (name_next d.name decl.named)
-    ∙ body_runs decl.behind (back ++ us) d.body decl.is_body
+    ∙ ap (λ o. o >>= λ n. run n (behind ++ (back ++ us))) (name_next d.name named)
+    ∙ body_runs behind (back ++ us) d.body (has_body behind d.body is)
     ∙ decls_run ds back us others
 
 pub head_runs : (ts us : List (List ℕ)) (ds : List Decl) → IsHead ts ds → run NeedVar (ts ++ us) ≡ run NeedName us
@@ -230,10 +228,10 @@ abbrev PresetPart : BlockKind → List (List ℕ) → Type 0
 PresetPart kind ts = (preset : List (List ℕ)) × (n : ℕ) × (semicolon : List ℕ) × (ts ≡ preset ++ semicolon ∷ []) × IsPreset preset kind n × Is (codes ";") semicolon
 
 abbrev ColonPart : List (List ℕ) → Type 0
-ColonPart ts = (b : Body) × ((colon : List ℕ) → Is (codes ":") colon → IsBody (colon ∷ ts) b)
+ColonPart ts = (b : Body) × ((colon : List ℕ) → Is (codes ":") colon → HasBody (colon ∷ ts) b)
 
 abbrev BodyPart : List (List ℕ) → Type 0
-BodyPart ts = (b : Body) × IsBody ts b
+BodyPart ts = (b : Body) × HasBody ts b
 
 abbrev Rest : State → List (List ℕ) → Type 0
 Rest NeedVar ts = (ds : List Decl) × IsBlock ts ds
@@ -283,12 +281,11 @@ var_before t ts is_var (tokens, closing, ds, parts, is_end, derived) =
     (ds, (t ∷ tokens, closing, ap (λ z. t ∷ z) parts, (t, tokens, refl, is_var, derived), is_end))
 
 name_before : (t : List ℕ) (ts : List (List ℕ)) → is_name t ≡ true → Later BodyPart ts → HasEnd (t ∷ ts)
-name_before t ts named (front, back, parts, (b, is_body), (tokens, closing, ds, split, is_end, derived)) =
+name_before t ts named (front, back, parts, (b, has), (tokens, closing, ds, split, is_end, derived)) =
     let d : Decl = record { name = t; body = b } in
-    let decl : IsDecl (t ∷ front) d = record { behind = front; tokens = refl; named = named; is_body = is_body } in
     let whole : t ∷ ts ≡ ((t ∷ front) ++ tokens) ++ closing ∷ []
     = ap (λ z. t ∷ z) (parts ∙ ap (λ z. front ++ z) split ∙ sym (append_assoc front tokens (closing ∷ []))) in
-    ((t ∷ front) ++ tokens, closing, d ∷ ds, whole, is_end, (t ∷ front, tokens, refl, decl, derived))
+    ((t ∷ front) ++ tokens, closing, d ∷ ds, whole, is_end, (front, tokens, refl, named, is_body front b has, derived))
 
 end_before : (t : List ℕ) (ts : List (List ℕ)) → Is (codes "END_VAR") t → ts ≡ [] → HasEnd (t ∷ ts)
 end_before t ts is_end none = ([], t, [], ap (λ z. t ∷ z) none, is_end, refl)
@@ -374,35 +371,23 @@ preset_before kind form t ts takes is_assign h = push (OpeningPart form) (Preset
       n,
       semicolon,
       whole,
-      inr (
-        form,
-        takes,
-        (
-          t,
-          _,
-          refl,
-          is_assign,
-          (
-            opening,
-            _,
-            refl,
-            is_opening,
-            (
-              word,
-              _,
-              refl,
-              is_parameter,
-              (
-                given,
-                _,
-                refl,
-                is_given,
-                (value, _, refl, is_value, (closing, [], refl, is_closing, refl)),
-              ),
-            ),
-          ),
-        ),
-      ),
+      inr (record {
+        form = form;
+        takes = takes;
+        assign = t;
+        opening = opening;
+        parameter = word;
+        given = given;
+        word = value;
+        closing = closing;
+        tokens = refl;
+        is_assign = is_assign;
+        is_opening = is_opening;
+        is_parameter = is_parameter;
+        is_given = is_given;
+        is_word = is_value;
+        is_closing = is_closing;
+      }),
       is_semicolon,
     )) h
 

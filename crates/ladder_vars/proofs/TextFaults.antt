@@ -1,5 +1,5 @@
 -- Where no token is found, a byte that may not stand there does, or the text ends.
-use Rattle.std.proofs.Common.{◌≡◌, ℕ, ◌⊎◌, inl, inr, true, false, ◌==◌, ◌&&◌, List, [], ◌∷◌, length, Ok, Err, refl, sym, ap, subst, ◌∙◌, append_assoc}
+use Rattle.std.proofs.Common.{◌≡◌, ℕ, ◌⊎◌, inl, inr, true, false, ◌==◌, ◌&&◌, List, [], ◌∷◌, length, Ok, Err, refl, sym, ap, subst, ◌∙◌}
 use Rattle.std.proofs.lemmas.Bool.{eqb-true, and_parts}
 use Rattle.ladder_vars.specs.declared.fault.Fault.{Fault}
 use Rattle.ladder_vars.specs.declared.fault.VarRule.TheVariants as rule
@@ -94,7 +94,7 @@ comment_end b bs at ends g =
 comment_more : (b : ℕ) (bs at : List ℕ) → (b == 42 && begins_with 41 bs) ≡ false → EndsComment bs at → EndsComment (b ∷ bs) at
 comment_more b bs at more g =
     let front : begins_with 41 bs ≡ begins_with 41 g.inside
-    = ap (begins_with 41) (g.parts ∙ append_assoc g.inside (42 ∷ 41 ∷ []) g.after) ∙ begins_with-append 41 42 g.inside (41 ∷ g.after) refl in
+    = ap (begins_with 41) g.parts ∙ begins_with-append 41 42 g.inside (41 ∷ g.after) refl in
     let not_here : (b == 42 && begins_with 41 g.inside) ≡ false = ap (λ t. b == 42 && t) (sym front) ∙ more in
     record { inside = b ∷ g.inside; after = g.after; parts = ap (λ z. b ∷ z) g.parts; first = rw not_here g.first; gap = g.gap }
 

@@ -1,11 +1,11 @@
 -- Every token that stands in a text is found: the first token of a reading is the one that `token_at` gives.
-use Rattle.std.proofs.Common.{◌≡◌, ℕ, ◌<◌, ◌≤◌, ◌⊎◌, inl, inr, true, false, not, cond, ◌==◌, ◌&&◌, List, [], ◌∷◌, ◌++◌, length, Ok, refl, sym, ap, ◌∙◌, arith, append_assoc}
+use Rattle.std.proofs.Common.{◌≡◌, ℕ, ◌<◌, ◌≤◌, ◌⊎◌, inl, inr, true, false, not, cond, ◌==◌, ◌&&◌, List, [], ◌∷◌, ◌++◌, length, Ok, refl, sym, ap, ◌∙◌, arith}
 use Rattle.std.specs.List.{list_all}
 use Rattle.std.proofs.lemmas.Bool.{eqb-true, ne_eqb, and_parts, not-true}
 use Rattle.std.proofs.lemmas.List.{length-append}
 use Rattle.std.proofs.Math.Seq.{take-append_seam, drop-append_seam}
 use Rattle.ladder_vars.specs.declared.text.Within.TheVariants as state
-use Rattle.ladder_vars.specs.Text.{begins_with, token_len, closes, Piece, Blank, Comment, LineComment, ArePieces, AreTokens}
+use Rattle.ladder_vars.specs.Text.{begins_with, token_len, closes, Gap, Nothing, Blank, Comment, LineComment, AreTokens}
 use Rattle.ladder_vars.specs.ReadText.{skip_from, token_at}
 use Rattle.ladder_vars.proofs.Steps.{or_false, and_false, and_true_left}
 
@@ -13,13 +13,12 @@ pub begins_with-append : (byte other : ℕ) (inside rest : List ℕ) → (other 
 begins_with-append byte other [] rest h = h
 begins_with-append byte other (b ∷ bs) rest h = refl
 
-block_skipped : (inside after : List ℕ) → closes inside ≡ false → skip_from state.Comment ((inside ++ (42 ∷ 41 ∷ [])) ++ after) ≡ skip_from state.Blanks after
+block_skipped : (inside after : List ℕ) → closes inside ≡ false → skip_from state.Comment (inside ++ (42 ∷ 41 ∷ after)) ≡ skip_from state.Blanks after
 block_skipped [] after h = refl
 block_skipped (b ∷ bs) after h =
     let parts : ((b == 42 && begins_with 41 bs) ≡ false) × (closes bs ≡ false) = or_false (b == 42 && begins_with 41 bs) (closes bs) h in
-    let front : begins_with 41 ((bs ++ (42 ∷ 41 ∷ [])) ++ after) ≡ begins_with 41 bs
-    = ap (begins_with 41) (append_assoc bs (42 ∷ 41 ∷ []) after) ∙ begins_with-append 41 42 bs (41 ∷ after) refl in
-    let open_yet : (b == 42 && begins_with 41 ((bs ++ (42 ∷ 41 ∷ [])) ++ after)) ≡ false = ap (λ t. b == 42 && t) front ∙ parts.0 in
+    let front : begins_with 41 (bs ++ (42 ∷ 41 ∷ after)) ≡ begins_with 41 bs = begins_with-append 41 42 bs (41 ∷ after) refl in
+    let open_yet : (b == 42 && begins_with 41 (bs ++ (42 ∷ 41 ∷ after))) ≡ false = ap (λ t. b == 42 && t) front ∙ parts.0 in
     rw open_yet (block_skipped bs after parts.1)
 
 line_skipped : (inside after : List ℕ) → list_all (λ b. not (b == 10)) inside ≡ true → (after ≡ []) ⊎ (begins_with 10 after ≡ true) → skip_from state.LineComment (inside ++ after) ≡ skip_from state.Blanks after
@@ -60,17 +59,17 @@ token_found u after some len =
     rw (stands, len, not_none, take-append_seam u after, drop-append_seam u after) refl
 
 -- what is skipped makes no difference
-gap_skipped : (ps : List Piece) (text rest : List ℕ) → ArePieces ps text rest → skip_from state.Blanks text ≡ skip_from state.Blanks rest
-gap_skipped [] text rest h = ap (skip_from state.Blanks) h
-gap_skipped (Blank b ∷ ps) text rest h = rw (h.1, h.2) (gap_skipped ps h.0 rest h.3)
-gap_skipped (Comment c ∷ ps) text rest h = rw h.1 (block_skipped c h.0 h.2) ∙ gap_skipped ps h.0 rest h.3
-gap_skipped (LineComment c ∷ ps) text rest h = rw h.1 (line_skipped c h.0 h.2.0 h.2.1) ∙ gap_skipped ps h.0 rest h.3
+gap_skipped : {text rest : List ℕ} → Gap text rest → skip_from state.Blanks text ≡ skip_from state.Blanks rest
+gap_skipped Nothing = refl
+gap_skipped (Blank blank g) = rw blank (gap_skipped g)
+gap_skipped (Comment inside {after} unclosed g) = block_skipped inside after unclosed ∙ gap_skipped g
+gap_skipped (LineComment inside {after} one_line end g) = line_skipped inside after one_line end ∙ gap_skipped g
 
-pieces-shorter : (ps : List Piece) (text rest : List ℕ) → ArePieces ps text rest → length rest ≤ length text
-pieces-shorter [] text rest h = omega (arith, ap length h)
-pieces-shorter (Blank b ∷ ps) text rest h = omega (arith, ap length h.1, pieces-shorter ps h.0 rest h.3)
-pieces-shorter (Comment c ∷ ps) text rest h = omega (arith, ap length h.1, length-append {A = ℕ} (c ++ (42 ∷ 41 ∷ [])) h.0, pieces-shorter ps h.0 rest h.3)
-pieces-shorter (LineComment c ∷ ps) text rest h = omega (arith, ap length h.1, length-append {A = ℕ} c h.0, pieces-shorter ps h.0 rest h.3)
+gap-shorter : {text rest : List ℕ} → Gap text rest → length rest ≤ length text
+gap-shorter Nothing = omega arith
+gap-shorter (Blank blank g) = omega (arith, gap-shorter g)
+gap-shorter (Comment inside {after} unclosed g) = omega (arith, length-append {A = ℕ} inside (42 ∷ 41 ∷ after), gap-shorter g)
+gap-shorter (LineComment inside {after} one_line end g) = omega (arith, length-append {A = ℕ} inside after, gap-shorter g)
 
 token_at-skipped : (a b : List ℕ) → skip_from state.Blanks a ≡ skip_from state.Blanks b → token_at a ≡ token_at b
 unfolding token_at
@@ -80,10 +79,9 @@ token_at-skipped a b e = rw e refl
 pub first_token : (t : List ℕ) (ts : List (List ℕ)) (text rest : List ℕ) → AreTokens (t ∷ ts) text rest
     → (after : List ℕ) × (token_at text ≡ Ok (t, after)) × AreTokens ts after rest × (length after < length text)
 first_token t ts text rest h =
-    let stands = h.3 in
-    let same : token_at text ≡ token_at (t ++ h.1) = token_at-skipped text h.0 (gap_skipped h.2.0 text h.0 h.2.1) ∙ ap token_at stands.parts in (
+    let same : token_at text ≡ token_at (t ++ h.1) = token_at-skipped text h.0 (gap_skipped h.2) ∙ ap token_at h.3 in (
       h.1,
-      same ∙ token_found t h.1 stands.some (ap token_len (sym stands.parts) ∙ stands.longest),
-      h.4,
-      omega (arith, pieces-shorter h.2.0 text h.0 h.2.1, ap length stands.parts, length-append {A = ℕ} t h.1, stands.some),
+      same ∙ token_found t h.1 h.4 (ap token_len (sym h.3) ∙ h.5),
+      h.6,
+      omega (arith, gap-shorter h.2, ap length h.3, length-append {A = ℕ} t h.1, h.4),
     )

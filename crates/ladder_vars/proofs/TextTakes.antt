@@ -1,12 +1,13 @@
 -- What is found stands there: a token that `token_at` gives is the first of a reading, behind a gap.
-use Rattle.std.proofs.Common.{◌≡◌, ◌≢◌, ℕ, ◌≤◌, min, ◌⊎◌, inl, inr, Bool, true, false, not, ◌==◌, ◌||◌, ◌&&◌, List, [], ◌∷◌, ◌++◌, length, take, drop, Ok, refl, sym, ap, subst, ◌∙◌, arith, append_assoc}
+use Rattle.std.proofs.Common.{◌≡◌, ◌≢◌, ℕ, ◌≤◌, min, ◌⊎◌, inl, inr, Bool, true, false, not, ◌==◌, ◌||◌, ◌&&◌, List, [], ◌∷◌, ◌++◌, length, take, drop, Ok, refl, sym, ap, subst, ◌∙◌, arith}
 use Rattle.std.specs.List.{list_all, prefix_len}
+use Rattle.std.specs.Char.{is_ascii_alphanumeric}
 use Rattle.std.proofs.lemmas.Bool.{eqb-true, eqb-false, and_parts, false≢true, cond_both}
 use Rattle.std.proofs.lemmas.List.{take-append-drop, length-take}
 use Rattle.std.proofs.lemmas.List.Sums.{prefix_len-le-length}
 use Rattle.ladder_vars.specs.declared.text.Within.{Within}
 use Rattle.ladder_vars.specs.declared.text.Within.TheVariants as state
-use Rattle.ladder_vars.specs.Text.{begins_with, is_blank, is_word_byte, is_address_byte, token_len, closes, Blank, Comment, LineComment, Gap, AreTokens}
+use Rattle.ladder_vars.specs.Text.{begins_with, is_blank, is_word_byte, token_len, closes, Gap, Nothing, Blank, Comment, LineComment, AreTokens}
 use Rattle.ladder_vars.specs.ReadText.{skip_from, token_at}
 use Rattle.ladder_vars.proofs.Steps.{bind_ok, chosen}
 use Rattle.ladder_vars.proofs.TextReads.{begins_with-append}
@@ -22,7 +23,7 @@ head_same a b xs ys e = cc
 pub record EndsComment (text rest : List ℕ) : Type 0 where
   pub inside : List ℕ
   pub after : List ℕ
-  pub parts : text ≡ (inside ++ (42 ∷ 41 ∷ [])) ++ after
+  pub parts : text ≡ inside ++ (42 ∷ 41 ∷ after)
   pub first : closes inside ≡ false
   pub gap : Gap after rest
 
@@ -42,10 +43,10 @@ GapFrom state.Closing text rest = (b : ℕ) × (after : List ℕ) × (text ≡ b
 GapFrom state.LineComment text rest = EndsLine text rest
 
 pub gap_blank : (b : ℕ) (bs rest : List ℕ) → is_blank b bs ≡ true → Gap bs rest → Gap (b ∷ bs) rest
-gap_blank b bs rest h g = (Blank b ∷ g.0, (bs, refl, h, g.1))
+gap_blank b bs rest h g = Blank h g
 
 pub gap_none : (rest : List ℕ) → Gap rest rest
-gap_none rest = ([], refl)
+gap_none rest = Nothing
 
 pub gap_block : (b : ℕ) (bs rest : List ℕ) → (b == 40 && begins_with 42 bs) ≡ true → GapFrom state.Opening bs rest → Gap (b ∷ bs) rest
 gap_block b bs rest h g =
@@ -54,8 +55,8 @@ gap_block b bs rest h g =
     let star = begins_cons 42 bs both.1 in
     let second : g.0 ≡ 42 = head_same g.0 42 g.1 star.0 (sym g.2 ∙ star.1) in
     let block = g.3 in
-    let whole : b ∷ bs ≡ (40 ∷ 42 ∷ (block.inside ++ (42 ∷ 41 ∷ []))) ++ block.after = rw (g.2, first, second) (ap (λ (z : List ℕ). 40 ∷ 42 ∷ z) block.parts) in
-    (Comment block.inside ∷ block.gap.0, (block.after, whole, block.first, block.gap.1))
+    let whole : b ∷ bs ≡ 40 ∷ 42 ∷ (block.inside ++ (42 ∷ 41 ∷ block.after)) = rw (g.2, first, second) (ap (λ (z : List ℕ). 40 ∷ 42 ∷ z) block.parts) in
+    subst (λ z. Gap z rest) (sym whole) (Comment block.inside block.first block.gap)
 
 gap_line_at : (bs rest inside after : List ℕ) → begins_with 47 bs ≡ true → bs ≡ inside ++ after → list_all (λ b. not (b == 10)) inside ≡ true
     → (after ≡ []) ⊎ (begins_with 10 after ≡ true) → Gap after rest → Gap (47 ∷ bs) rest
@@ -66,8 +67,8 @@ gap_line_at bs rest [] after slash parts one_line (inr e) gap =
 gap_line_at bs rest (c ∷ cs) after slash parts one_line end gap =
     let same : c ≡ 47 = eqb-true c 47 (ap (begins_with 47) (sym parts) ∙ slash) in
     let both = and_parts (not (c == 10)) (list_all (λ b. not (b == 10)) cs) one_line in
-    let whole : 47 ∷ bs ≡ (47 ∷ 47 ∷ cs) ++ after = ap (λ z. 47 ∷ z) (parts ∙ ap (λ x. x ∷ (cs ++ after)) same) in
-    (LineComment cs ∷ gap.0, (after, whole, (both.1, end), gap.1))
+    let whole : 47 ∷ bs ≡ 47 ∷ 47 ∷ (cs ++ after) = ap (λ z. 47 ∷ z) (parts ∙ ap (λ x. x ∷ (cs ++ after)) same) in
+    subst (λ z. Gap z rest) (sym whole) (LineComment cs both.1 end gap)
 
 pub gap_line : (b : ℕ) (bs rest : List ℕ) → (b == 47 && begins_with 47 bs) ≡ true → EndsLine bs rest → Gap (b ∷ bs) rest
 gap_line b bs rest h line =
@@ -108,7 +109,7 @@ skipped state.Comment (b ∷ bs) rest h =
       | inr more ↦
           let g : EndsComment bs rest = skipped state.Comment bs rest more.1 in
           let front : begins_with 41 bs ≡ begins_with 41 g.inside
-          = ap (begins_with 41) (g.parts ∙ append_assoc g.inside (42 ∷ 41 ∷ []) g.after) ∙ begins_with-append 41 42 g.inside (41 ∷ g.after) refl in
+          = ap (begins_with 41) g.parts ∙ begins_with-append 41 42 g.inside (41 ∷ g.after) refl in
           let not_here : (b == 42 && begins_with 41 g.inside) ≡ false = ap (λ t. b == 42 && t) (sym front) ∙ more.0 in
           record { inside = b ∷ g.inside; after = g.after; parts = ap (λ z. b ∷ z) g.parts; first = rw not_here g.first; gap = g.gap }
     ]
@@ -125,7 +126,7 @@ skipped state.LineComment (b ∷ bs) rest h =
 
 pub AreTokens-append : (ts us : List (List ℕ)) (a b c : List ℕ) → AreTokens ts a b → AreTokens us b c → AreTokens (ts ++ us) a c
 AreTokens-append [] us a b c p q = rw p q
-AreTokens-append (t ∷ ts) us a b c p q = (p.0, p.1, p.2, p.3, AreTokens-append ts us p.1 b c p.4 q)
+AreTokens-append (t ∷ ts) us a b c p q = (p.0, p.1, p.2, p.3, p.4, p.5, AreTokens-append ts us p.1 b c p.6 q)
 
 prefix_len-le : (p : ℕ → Bool) (bs : List ℕ) → prefix_len p bs ≤ length bs
 prefix_len-le p bs = prefix_len-le-length p bs
@@ -139,7 +140,7 @@ token_len-le [] = omega arith
 token_len-le (b ∷ bs) =
     let P : ℕ → Type 0 = λ n. n ≤ length (b ∷ bs) in
     cond_both (is_word_byte b) _ _ P (λ _. omega (arith, prefix_len-le is_word_byte bs)) (λ _.
-    cond_both (b == 37) _ _ P (λ _. omega (arith, prefix_len-le is_address_byte bs)) (λ _.
+    cond_both (b == 37) _ _ P (λ _. omega (arith, prefix_len-le (λ c. is_ascii_alphanumeric c || c == 46) bs)) (λ _.
     cond_both (b == 58) _ _ P (λ _. cond_both (begins_with 61 bs) _ _ P (λ e. omega (arith, begins_some 61 bs e)) (λ _. omega arith)) (λ _.
     cond_both (b == 40) _ _ P (λ _. cond_both (begins_with 42 bs) _ _ P (λ _. omega arith) (λ _. omega arith)) (λ _.
     cond_both (b == 59 || b == 41) _ _ P (λ _. omega arith) (λ _. omega arith)))))
@@ -163,5 +164,5 @@ token_takes text t rest h =
           let len : length t ≡ n = ap length (sym (ap (λ p. p.0) pair)) ∙ length-take n skip.0 ∙ min_is n (length skip.0) (token_len-le skip.0) in
           let parts : skip.0 ≡ t ++ rest = sym (take-append-drop n skip.0) ∙ ap (λ p. p.0 ++ p.1) pair in
           let not_none : n ≢ 0 = eqb-false n 0 some.0 in
-          (skip.0, rest, gap, record { parts = parts; some = omega (arith, not_none, len); longest = sym len }, refl)
+          (skip.0, rest, gap, parts, omega (arith, not_none, len), sym len, refl)
     ]

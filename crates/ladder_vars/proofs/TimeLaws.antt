@@ -1,13 +1,13 @@
 -- Durations: a word is read as so many milliseconds exactly where it is a literal of them.
 use Rattle.std.proofs.Common.{◌≡◌, ℕ, ◌≤◌, ◌⊎◌, inl, inr, ◌||◌, min, Bool, true, false, nat_le, List, [], ◌∷◌, ◌++◌, length, take, drop, codes, Option, Some, None, refl, sym, ap, subst, ◌∙◌, arith}
 use Rattle.std.specs.Str.{str_to_ascii_lowercase}
+use Rattle.std.specs.List.{list_any}
 use Rattle.std.specs.Char.{to_ascii_lowercase}
 use Rattle.std.proofs.lemmas.Bool.{leb-true, le-leb, or_cases}
 use Rattle.std.proofs.lemmas.List.{take-append-drop, length-map}
 use Rattle.std.proofs.Math.Seq.{take-append_seam, drop-append_seam}
-use Rattle.ladder_vars.specs.Name.{same_letters, is_one_of}
-use Rattle.ladder_vars.specs.Duration.{AreParts}
-use Rattle.ladder_vars.specs.Grammar.{IsTime}
+use Rattle.ladder_vars.specs.Name.{same_letters}
+use Rattle.ladder_vars.specs.Duration.{IsDuration}
 use Rattle.ladder_vars.specs.ReadWords.{or_else, after_word, after_prefix, total_of, time_of}
 use Rattle.ladder_vars.proofs.Steps.{chosen}
 use Rattle.ladder_vars.proofs.Runs.{bind_some}
@@ -36,7 +36,7 @@ time_first (a ∷ b ∷ more) after h =
     let second : to_ascii_lowercase b ≡ 105 = cc in
     rw (first, second) refl
 
-prefix_reads : (prefix after : List ℕ) → is_one_of (codes "T#" ∷ codes "TIME#" ∷ []) prefix ≡ true → after_prefix (prefix ++ after) ≡ Some after
+prefix_reads : (prefix after : List ℕ) → list_any (same_letters prefix) (codes "T#" ∷ codes "TIME#" ∷ []) ≡ true → after_prefix (prefix ++ after) ≡ Some after
 prefix_reads prefix after h =
     elim (or_cases (same_letters prefix (codes "T#")) _ h) [
       | inl t ↦ rw (after_word-found (codes "T#") prefix after t) refl
@@ -64,7 +64,7 @@ or_else-cases (Some y) b x h = inl h
 or_else-cases None b x h = inr h
 
 prefix_takes : (text after : List ℕ) → after_prefix text ≡ Some after
-    → (prefix : List ℕ) × (text ≡ prefix ++ after) × (is_one_of (codes "T#" ∷ codes "TIME#" ∷ []) prefix ≡ true)
+    → (prefix : List ℕ) × (text ≡ prefix ++ after) × (list_any (same_letters prefix) (codes "T#" ∷ codes "TIME#" ∷ []) ≡ true)
 prefix_takes text after h =
     elim (or_else-cases (after_word (codes "T#") text) (after_word (codes "TIME#") text) after h) [
       | inl t ↦ let p = after_word-is (codes "T#") text after t in (p.0, p.1, rw p.2 refl)
@@ -79,21 +79,15 @@ uncut s h = omega arith
 below_cap : (m s : ℕ) → m ≡ min s cap → m ≤ 4294967295 → m ≡ s
 below_cap m s e h = omega arith
 
-pub time_reads : (word : List ℕ) (n : ℕ) → IsTime word n → time_of word ≡ Some n
+pub time_reads : (word : List ℕ) (n : ℕ) → IsDuration word n → time_of word ≡ Some n
 unfolding time_of
-time_reads word n (h, small) =
-    elim h.parts as (λ ps. h.parts ≡ ps → time_of word ≡ Some n) [
-      | [] ↦ λ e. absurd (subst (λ ps. AreParts ps h.after) e h.are_parts)
-      | p ∷ ps ↦ λ e.
-          let parts : AreParts (p ∷ ps) h.after = subst (λ z. AreParts z h.after) e h.are_parts in
-          let sum : n ≡ sum_of (p ∷ ps) = h.sum ∙ ap sum_of e in
-          let total : total_of h.after ≡ Some n
-          = all_reads p ps h.after parts ∙ ap (λ k. Some (min k cap)) (sym sum) ∙ ap Some (uncut n small) in
-          let after : after_prefix word ≡ Some h.after = ap after_prefix h.spelled ∙ prefix_reads h.prefix h.after h.is_prefix in
-          rw (after, total, le-leb n 4294967295 small) refl
-    ] refl
+time_reads word n (prefix, after, [], spelled, is_prefix, are_parts, sum, small) = absurd are_parts
+time_reads word n (prefix, after, p ∷ ps, spelled, is_prefix, are_parts, sum, small) =
+    let total : total_of after ≡ Some n = all_reads p ps after are_parts ∙ ap (λ k. Some (min k cap)) (sym sum) ∙ ap Some (uncut n small) in
+    let behind : after_prefix word ≡ Some after = ap after_prefix spelled ∙ prefix_reads prefix after is_prefix in
+    rw (behind, total, le-leb n 4294967295 small) refl
 
-pub time_takes : (word : List ℕ) (n : ℕ) → time_of word ≡ Some n → IsTime word n
+pub time_takes : (word : List ℕ) (n : ℕ) → time_of word ≡ Some n → IsDuration word n
 unfolding time_of
 time_takes word n h =
     let a = bind_some (after_prefix word) _ n h in
@@ -105,8 +99,6 @@ time_takes word n h =
           let all : TakesAll a.0 t.0 = all_takes a.0 t.0 t.1 in
           let p = prefix_takes word a.0 a.1 in
           let small : t.0 ≤ 4294967295 = leb-true t.0 4294967295 fits.0 in
-          let sum : n ≡ sum_of all.parts = sym same ∙ below_cap t.0 (sum_of all.parts) all.sum small in (
-            record { prefix = p.0; after = a.0; parts = all.parts; spelled = p.1; is_prefix = p.2; are_parts = all.are_parts; sum = sum },
-            subst (λ k. k ≤ 4294967295) same small,
-          )
+          let sum : n ≡ sum_of all.parts = sym same ∙ below_cap t.0 (sum_of all.parts) all.sum small in
+          (p.0, a.0, all.parts, p.1, p.2, all.are_parts, sum, subst (λ k. k ≤ 4294967295) same small)
     ]

@@ -13,8 +13,8 @@ use Rattle.ladder_vars.specs.declared.kind.Parameter.TheVariants as parameter
 use Rattle.ladder_vars.specs.declared.decls.Address.{Address}
 use Rattle.ladder_vars.specs.Text.{begins}
 use Rattle.ladder_vars.specs.Duration.{IsNumber, number_of}
-use Rattle.ladder_vars.specs.Grammar.{Is, IsSecond, IsAddress, IsValue, kind_of}
-use Rattle.ladder_vars.specs.ReadWords.{short_number, count_of, after_size, second_of, numbers_of, placed_at, address_of, value_of}
+use Rattle.ladder_vars.specs.Grammar.{Is, IsSecond, IsAddress, kind_of}
+use Rattle.ladder_vars.specs.ReadWords.{IsValue, short_number, count_of, after_size, second_of, numbers_of, placed_at, address_of, value_of}
 use Rattle.ladder_vars.proofs.Steps.{chosen}
 use Rattle.ladder_vars.proofs.Runs.{bind_some, prefix_len-run}
 use Rattle.ladder_vars.proofs.TimeLaws.{time_reads, time_takes}
@@ -22,7 +22,7 @@ use Rattle.ladder_vars.proofs.TimeLaws.{time_reads, time_takes}
 -- ---- numbers
 
 number_reads : (word : List ℕ) (n : ℕ) → IsNumber word n → short_number word ≡ Some n
-number_reads word n h = rw (le-leb 1 (length word) h.some, le-leb (length word) 5 h.few, h.digits) (ap Some (sym h.value))
+number_reads word n h = rw (le-leb 1 (length word) h.0, le-leb (length word) 5 h.1, h.2) (ap Some (sym h.3))
 
 number_takes : (word : List ℕ) (n : ℕ) → short_number word ≡ Some n → IsNumber word n
 number_takes word n h =
@@ -31,7 +31,7 @@ number_takes word n h =
           let a = and_parts (nat_le 1 (length word)) _ fits.0 in
           let b = and_parts (nat_le (length word) 5) _ a.1 in
           let value : number_of word ≡ n = cc in
-          record { some = leb-true 1 (length word) a.0; few = leb-true (length word) 5 b.0; digits = b.1; value = sym value }
+          (leb-true 1 (length word) a.0, leb-true (length word) 5 b.0, b.1, sym value)
       | inr other ↦ absurd cc
     ]
 
@@ -107,20 +107,20 @@ no_digit second (Some n) h = rw h.1 refl
 numbers_read : (first second : List ℕ) (n : ℕ) (o : Option ℕ) → IsNumber first n → IsSecond second o → numbers_of (first ++ second) ≡ Some (n, o)
 unfolding numbers_of
 numbers_read first second n o h s =
-    let len : prefix_len is_ascii_digit (first ++ second) ≡ length first = prefix_len-run is_ascii_digit first second h.digits (no_digit second o s) in
+    let len : prefix_len is_ascii_digit (first ++ second) ≡ length first = prefix_len-run is_ascii_digit first second h.2 (no_digit second o s) in
     rw (len, take-append_seam first second, drop-append_seam first second, number_reads first n h, second_reads second o s) refl
 
 pub address_reads : (word : List ℕ) (kind : VarKind) (a : Address) → IsAddress word kind a → address_of word ≡ Some (kind, a)
-address_reads word kind a h =
-    let kind_is : kind_of (to_ascii_uppercase h.letter) ≡ Some kind = ap kind_of (sym h.capital) ∙ h.kind_is in
-    let rest : after_size (h.size ++ (h.first ++ h.second)) ≡ h.first ++ h.second = after_size-size h.size h.first h.second h.is_size h.is_first.some h.is_first.digits in
-    let numbers : numbers_of (after_size (h.size ++ (h.first ++ h.second))) ≡ Some (a.first, a.second)
-    = ap numbers_of rest ∙ numbers_read h.first h.second a.first a.second h.is_first h.is_second in
-    let one : address_of word ≡ placed_at (to_ascii_uppercase h.letter) (h.size ++ (h.first ++ h.second)) = ap address_of h.spelled in
-    let found : placed_at (to_ascii_uppercase h.letter) (h.size ++ (h.first ++ h.second))
-    ≡ Some (kind, record { letter = to_ascii_uppercase h.letter; first = a.first; second = a.second }) = rw (kind_is, numbers) refl in
-    let same : record { letter = to_ascii_uppercase h.letter; first = a.first; second = a.second } ≡ a
-    = ap (λ l. record { letter = l; first = a.first; second = a.second }) (sym h.capital) in
+address_reads word kind a (letter, size, first, second, spelled, capital, kind_of_letter, is_size, is_first, is_second) =
+    let kind_is : kind_of (to_ascii_uppercase letter) ≡ Some kind = ap kind_of (sym capital) ∙ kind_of_letter in
+    let rest : after_size (size ++ (first ++ second)) ≡ first ++ second = after_size-size size first second is_size is_first.0 is_first.2 in
+    let numbers : numbers_of (after_size (size ++ (first ++ second))) ≡ Some (a.first, a.second)
+    = ap numbers_of rest ∙ numbers_read first second a.first a.second is_first is_second in
+    let one : address_of word ≡ placed_at (to_ascii_uppercase letter) (size ++ (first ++ second)) = ap address_of spelled in
+    let found : placed_at (to_ascii_uppercase letter) (size ++ (first ++ second))
+    ≡ Some (kind, record { letter = to_ascii_uppercase letter; first = a.first; second = a.second }) = rw (kind_is, numbers) refl in
+    let same : record { letter = to_ascii_uppercase letter; first = a.first; second = a.second } ≡ a
+    = ap (λ l. record { letter = l; first = a.first; second = a.second }) (sym capital) in
     one ∙ found ∙ ap (λ x. Some (kind, x)) same
 
 record Numbers (text : List ℕ) (n : ℕ) (o : Option ℕ) : Type 0 where
@@ -165,18 +165,8 @@ address_takes (percent ∷ letter ∷ text) kind a h =
           let first : percent ≡ 37 = eqb-true percent 37 yes_.0 in
           let spelled : percent ∷ letter ∷ text ≡ 37 ∷ letter ∷ (size.0 ++ (numbers.first ++ numbers.second))
           = ap (λ p. p ∷ letter ∷ text) first ∙ ap (λ (z : List ℕ). 37 ∷ letter ∷ z) (size.1 ∙ ap (λ z. size.0 ++ z) numbers.parts) in
-          let is : IsAddress (percent ∷ letter ∷ text) k.0 made = record {
-            letter = letter;
-            size = size.0;
-            first = numbers.first;
-            second = numbers.second;
-            spelled = spelled;
-            capital = refl;
-            kind_is = k.1;
-            is_size = size.2;
-            is_first = numbers.is_first;
-            is_second = numbers.is_second;
-          } in
+          let is : IsAddress (percent ∷ letter ∷ text) k.0 made
+          = (letter, size.0, numbers.first, numbers.second, spelled, refl, k.1, size.2, numbers.is_first, numbers.is_second) in
           subst (λ p. IsAddress (percent ∷ letter ∷ text) p.0 p.1) pair is
     ]
 

@@ -1,5 +1,6 @@
 -- The declarations of a text as a value: its variables and its function block instances, each in order of declaration.
-use Rattle.std.specs.Prelude.{ℕ, ◌≤◌, Bool, true, false, ◌&&◌, ◌==◌, List, ◌++◌, length, map, position, Option, Some, None}
+use Rattle.std.specs.Prelude.{ℕ, ◌≤◌, Bool, true, false, ◌&&◌, ◌==◌, List, ◌++◌, length, map, position, Option, option_map}
+use Rattle.std.specs.Option.{option_or, option_eq}
 use Rattle.std.specs.List.{All, IsDistinct, filter_map}
 use Rattle.ladder_vars.specs.declared.limits.TheConstants.{MOST_VARS, MOST_INSTANCES}
 use Rattle.ladder_vars.specs.declared.decls.VarKind.TheVariants as kind
@@ -15,33 +16,18 @@ pub record Declared : Type 0 where
   pub vars : List Var
   pub instances : List Instance
 
-abbrev pub is_input_kind : kind.the_data → Bool
-is_input_kind kind.Input = true
-is_input_kind kind.Output = false
-is_input_kind kind.Memory = false
-
 abbrev pub is_input : Var → Bool
-is_input v = is_input_kind v.kind
+is_input v = elim v.kind [ kind.Input ↦ true | _ ↦ false ]
 
 -- What a name stands for: the variable or the instance that is declared with it, in any letter case.
-abbrev pub either_symbol : Option ℕ → Option ℕ → Option Symbol
-either_symbol (Some number) other = Some (symbol.Var number)
-either_symbol None (Some number) = Some (symbol.Instance number)
-either_symbol None None = None
-
 abbrev pub find : Declared → List ℕ → Option Symbol
 find declared name =
-    either_symbol (position (λ v. same_letters name v.name) declared.vars) (position (λ i. same_letters name i.name) declared.instances)
+    option_or (option_map symbol.Var (position (λ v. same_letters name v.name) declared.vars))
+    (option_map symbol.Instance (position (λ i. same_letters name i.name) declared.instances))
 
 -- Two addresses are the same where the letter and the numbers are.
-abbrev pub same_number : Option ℕ → Option ℕ → Bool
-same_number (Some m) (Some n) = m == n
-same_number None None = true
-same_number (Some m) None = false
-same_number None (Some n) = false
-
 abbrev pub same_address : Address → Address → Bool
-same_address a b = (a.letter == b.letter) && ((a.first == b.first) && same_number a.second b.second)
+same_address a b = (a.letter == b.letter) && ((a.first == b.first) && option_eq (λ m n. m == n) a.second b.second)
 
 abbrev pub names_of : Declared → List (List ℕ)
 names_of declared = map (λ v. v.name) declared.vars ++ map (λ i. i.name) declared.instances
@@ -50,10 +36,12 @@ abbrev pub addresses_of : List Var → List Address
 addresses_of vars = filter_map (λ v. v.address) vars
 
 -- What holds of all declarations: each name and each address is declared once (IEC 61131-3), and the limits are kept (the profile).
-pub record AreKept (declared : Declared) : Type 0 where
-  pub names : IsDistinct same_letters (names_of declared)
-  pub addresses : IsDistinct same_address (addresses_of declared.vars)
-  pub few_vars : length declared.vars ≤ MOST_VARS
-  pub few_instances : length declared.instances ≤ MOST_INSTANCES
-  pub short_names : All (λ i. length i.name ≤ (traits_of i.kind).longest_name) declared.instances
+abbrev pub AreKept : Declared → Type 0
+AreKept declared =
+    IsDistinct same_letters (names_of declared) × IsDistinct same_address (addresses_of declared.vars) × (length declared.vars ≤ MOST_VARS)
+    × (length declared.instances ≤ MOST_INSTANCES) × All (λ i. length i.name ≤ (traits_of i.kind).longest_name) declared.instances
+
+-- The same of declarations that were read: no preset is larger than that of its block can be, as the grammar has it.
+pub record AreInRange (declared : Declared) : Type 0 where
+  pub kept : AreKept declared
   pub presets : All (λ i. i.preset ≤ largest_preset i.kind) declared.instances

@@ -1,47 +1,31 @@
 -- Numbers in decimal, and duration literals (IEC 61131-3, without decimals; milliseconds are the smallest unit of the profile).
 use Rattle.std.specs.Prelude.{◌≡◌, ℕ, ◌+◌, ◌-◌, ◌*◌, ◌<◌, ◌≤◌, ◌⊎◌, true, List, [], ◌∷◌, ◌++◌, length, codes}
-use Rattle.std.specs.List.{list_all, sum_by}
+use Rattle.std.specs.List.{fold, list_all, list_any, sum_by}
 use Rattle.std.specs.Char.{is_ascii_digit}
-use Rattle.ladder_vars.specs.declared.limits.TheConstants.{MOST_DIGITS}
+use Rattle.ladder_vars.specs.declared.limits.TheConstants.{MOST_DIGITS, LARGEST_TIME}
 use Rattle.ladder_vars.specs.declared.time.Unit.TheVariants as unit
-use Rattle.ladder_vars.specs.Name.{same_letters, is_one_of}
+use Rattle.ladder_vars.specs.Name.{same_letters}
 
 -- The number that digits spell, the first one weighing most; 48 is the digit 0.
-abbrev pub value_from : ℕ → List ℕ → ℕ
-value_from n [] = n
-value_from n (b ∷ bs) = value_from (n * 10 + (b - 48)) bs
-
 abbrev pub number_of : List ℕ → ℕ
-number_of digits = value_from 0 digits
+number_of digits = fold (λ n b. n * 10 + (b - 48)) 0 digits
 
 -- A number of the declarations has 1 to 5 digits.
-pub record IsNumber (word : List ℕ) (n : ℕ) : Type 0 where
-  pub some : 1 ≤ length word
-  pub few : length word ≤ MOST_DIGITS
-  pub digits : list_all is_ascii_digit word ≡ true
-  pub value : n ≡ number_of word
+abbrev pub IsNumber : List ℕ → ℕ → Type 0
+IsNumber word n = (1 ≤ length word) × (length word ≤ MOST_DIGITS) × (list_all is_ascii_digit word ≡ true) × (n ≡ number_of word)
 
-abbrev pub letters_of : unit.the_data → List ℕ
-letters_of unit.Day = codes "d"
-letters_of unit.Hour = codes "h"
-letters_of unit.Minute = codes "m"
-letters_of unit.Second = codes "s"
-letters_of unit.Milli = codes "ms"
+-- A unit: its letters, its milliseconds, and how many of it make the next larger one, 1 where there is none.
+pub record Measure : Type 0 where
+  pub letters : List ℕ
+  pub millis : ℕ
+  pub range : ℕ
 
-abbrev pub millis_of : unit.the_data → ℕ
-millis_of unit.Day = 86400000
-millis_of unit.Hour = 3600000
-millis_of unit.Minute = 60000
-millis_of unit.Second = 1000
-millis_of unit.Milli = 1
-
--- How many of a unit make the next larger one: any unit after the first one counts to less. (Days are never after another unit.)
-abbrev pub range_of : unit.the_data → ℕ
-range_of unit.Day = 1
-range_of unit.Hour = 24
-range_of unit.Minute = 60
-range_of unit.Second = 60
-range_of unit.Milli = 1000
+abbrev pub measure : unit.the_data → Measure
+measure unit.Day = record { letters = codes "d"; millis = 86400000; range = 1 }
+measure unit.Hour = record { letters = codes "h"; millis = 3600000; range = 24 }
+measure unit.Minute = record { letters = codes "m"; millis = 60000; range = 60 }
+measure unit.Second = record { letters = codes "s"; millis = 1000; range = 60 }
+measure unit.Milli = record { letters = codes "ms"; millis = 1; range = 1000 }
 
 -- Digits and a unit, whose letters may be small or capital.
 pub record Part : Type 0 where
@@ -49,26 +33,21 @@ pub record Part : Type 0 where
   pub letters : List ℕ
   pub unit : unit.the_data
 
-pub record IsPart (p : Part) : Type 0 where
-  pub some : 1 ≤ length p.digits
-  pub digits : list_all is_ascii_digit p.digits ≡ true
-  pub letters : same_letters p.letters (letters_of p.unit) ≡ true
+abbrev pub IsPart : Part → Type 0
+IsPart p = (1 ≤ length p.digits) × (list_all is_ascii_digit p.digits ≡ true) × (same_letters p.letters (measure p.unit).letters ≡ true)
 
 -- The text is these parts, from larger units to smaller ones; one underscore (95) may stand between two of them.
+-- Any unit after the first one counts to less than the next larger unit.
 abbrev pub AreParts : List Part → List ℕ → Type 0
 AreParts [] text = ⊥
 AreParts (p ∷ []) text = IsPart p × (text ≡ p.digits ++ p.letters)
 AreParts (p ∷ q ∷ ps) text =
     (between after : List ℕ) × IsPart p × (text ≡ p.digits ++ (p.letters ++ (between ++ after)))
-    × ((between ≡ []) ⊎ (between ≡ 95 ∷ [])) × (millis_of q.unit < millis_of p.unit)
-    × (number_of q.digits < range_of q.unit) × AreParts (q ∷ ps) after
+    × ((between ≡ []) ⊎ (between ≡ 95 ∷ [])) × ((measure q.unit).millis < (measure p.unit).millis)
+    × (number_of q.digits < (measure q.unit).range) × AreParts (q ∷ ps) after
 
--- The literal: `T#` or `TIME#`, then the parts; its value in milliseconds is their sum.
-pub record IsDuration (text : List ℕ) (n : ℕ) : Type 0 where
-  pub prefix : List ℕ
-  pub after : List ℕ
-  pub parts : List Part
-  pub spelled : text ≡ prefix ++ after
-  pub is_prefix : is_one_of (codes "T#" ∷ codes "TIME#" ∷ []) prefix ≡ true
-  pub are_parts : AreParts parts after
-  pub sum : n ≡ sum_by (λ p. number_of p.digits * millis_of p.unit) parts
+-- The literal: `T#` or `TIME#`, then the parts; its value in milliseconds is their sum, and below 2 ^ 32 (the profile).
+abbrev pub IsDuration : List ℕ → ℕ → Type 0
+IsDuration text n =
+    (prefix after : List ℕ) × (parts : List Part) × (text ≡ prefix ++ after) × (list_any (same_letters prefix) (codes "T#" ∷ codes "TIME#" ∷ []) ≡ true)
+    × AreParts parts after × (n ≡ sum_by (λ p. number_of p.digits * (measure p.unit).millis) parts) × (n ≤ LARGEST_TIME)

@@ -1,5 +1,5 @@
 -- The standard function blocks (IEC 61131-3:2013, 6.6.3.5), and all that depends on the kind of a block.
-use Rattle.std.specs.Prelude.{ℕ, List, [], ◌∷◌, codes, Option, Some, None}
+use Rattle.std.specs.Prelude.{ℕ, List, codes, Option, Some, None}
 use Rattle.ladder_vars.specs.declared.limits.TheConstants.{LONGEST_INSTANCE, LONGEST_BISTABLE, LARGEST_TIME, LARGEST_COUNT}
 use Rattle.ladder_vars.specs.declared.kind.BlockKind.{BlockKind}
 use Rattle.ladder_vars.specs.declared.kind.BlockKind.TheVariants as kind
@@ -19,26 +19,14 @@ pub record Traits : Type 0 where
   pub second_input : Option Pin
   pub output : Output
 
-abbrev pub traits : List ℕ → Option Parameter → ℕ → Option Pin → Output → Traits
-traits word parameter longest_name second_input output = record {
-  word = word;
-  parameter = parameter;
-  longest_name = longest_name;
-  second_input = second_input;
-  output = output;
-}
-
 abbrev pub traits_of : BlockKind → Traits
-traits_of kind.Ton = traits (codes "TON") (Some parameter.Time) LONGEST_INSTANCE None output.Q
-traits_of kind.Tof = traits (codes "TOF") (Some parameter.Time) LONGEST_INSTANCE None output.Q
-traits_of kind.Tp = traits (codes "TP") (Some parameter.Time) LONGEST_INSTANCE None output.Q
-traits_of kind.Ctu = traits (codes "CTU") (Some parameter.Count) LONGEST_INSTANCE (Some pin.Reset) output.Q
-traits_of kind.Ctd = traits (codes "CTD") (Some parameter.Count) LONGEST_INSTANCE (Some pin.Load) output.Q
-traits_of kind.Sr = traits (codes "SR") None LONGEST_BISTABLE (Some pin.Reset) output.Q1
-traits_of kind.Rs = traits (codes "RS") None LONGEST_BISTABLE (Some pin.Reset1) output.Q1
-
-abbrev pub all_kinds : List BlockKind
-all_kinds = kind.Ton ∷ kind.Tof ∷ kind.Tp ∷ kind.Ctu ∷ kind.Ctd ∷ kind.Sr ∷ kind.Rs ∷ []
+traits_of kind.Ton = record { word = codes "TON"; parameter = Some parameter.Time; longest_name = LONGEST_INSTANCE; second_input = None; output = output.Q }
+traits_of kind.Tof = record { word = codes "TOF"; parameter = Some parameter.Time; longest_name = LONGEST_INSTANCE; second_input = None; output = output.Q }
+traits_of kind.Tp = record { word = codes "TP"; parameter = Some parameter.Time; longest_name = LONGEST_INSTANCE; second_input = None; output = output.Q }
+traits_of kind.Ctu = record { word = codes "CTU"; parameter = Some parameter.Count; longest_name = LONGEST_INSTANCE; second_input = Some pin.Reset; output = output.Q }
+traits_of kind.Ctd = record { word = codes "CTD"; parameter = Some parameter.Count; longest_name = LONGEST_INSTANCE; second_input = Some pin.Load; output = output.Q }
+traits_of kind.Sr = record { word = codes "SR"; parameter = None; longest_name = LONGEST_BISTABLE; second_input = Some pin.Reset; output = output.Q1 }
+traits_of kind.Rs = record { word = codes "RS"; parameter = None; longest_name = LONGEST_BISTABLE; second_input = Some pin.Reset1; output = output.Q1 }
 
 abbrev pub parameter_word : Parameter → List ℕ
 parameter_word parameter.Time = codes "PT"

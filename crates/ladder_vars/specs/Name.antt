@@ -16,22 +16,13 @@ keywords =
 abbrev pub same_letters : List ℕ → List ℕ → Bool
 same_letters a b = str_eq_ignore_ascii_case a b
 
-abbrev pub is_one_of : List (List ℕ) → List ℕ → Bool
-is_one_of words word = list_any (same_letters word) words
-
-abbrev pub is_keyword : List ℕ → Bool
-is_keyword word = is_one_of keywords word
-
 -- 95 is the underscore
-abbrev pub is_name_start : ℕ → Bool
-is_name_start b = is_ascii_alphabetic b || (b == 95)
-
 abbrev pub is_name_byte : ℕ → Bool
 is_name_byte b = is_ascii_alphanumeric b || (b == 95)
 
 abbrev pub has_name_form : List ℕ → Bool
 has_name_form [] = false
-has_name_form (b ∷ bs) = is_name_start b && list_all is_name_byte bs
+has_name_form (b ∷ bs) = (is_ascii_alphabetic b || b == 95) && list_all is_name_byte bs
 
 abbrev pub is_name : List ℕ → Bool
-is_name word = has_name_form word && (nat_le (length word) LONGEST_NAME && not (is_keyword word))
+is_name word = has_name_form word && (nat_le (length word) LONGEST_NAME && not (list_any (same_letters word) keywords))

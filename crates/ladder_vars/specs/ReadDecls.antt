@@ -1,5 +1,5 @@
 -- Private to the proofs: declarations read from left to right, as the code reads them, with the first fault that is met.
-use Rattle.std.specs.Prelude.{◌≡◌, ℕ, zero, suc, ◌+◌, Bool, false, ◌||◌, ◌&&◌, ◌==◌, ◌≤◌, nat_le, nat_lt, List, [], ◌∷◌, ◌++◌, length, codes, Option, Some, None, if◌then◌else◌, Result, Ok, Err}
+use Rattle.std.specs.Prelude.{◌≡◌, ℕ, zero, suc, ◌+◌, Bool, true, false, ◌||◌, ◌&&◌, ◌==◌, ◌≤◌, nat_le, nat_lt, List, [], ◌∷◌, ◌++◌, length, codes, Option, Some, None, if◌then◌else◌, Result, Ok, Err}
 use Rattle.std.specs.List.{list_any}
 use Rattle.ladder_vars.specs.declared.limits.TheConstants.{MOST_VARS, MOST_INSTANCES}
 use Rattle.ladder_vars.specs.declared.fault.VarRule.{VarRule}
@@ -17,11 +17,11 @@ use Rattle.ladder_vars.specs.declared.decls.Body.{Body}
 use Rattle.ladder_vars.specs.declared.decls.Body.TheVariants as body
 use Rattle.ladder_vars.specs.Name.{same_letters, is_name, has_name_form}
 use Rattle.ladder_vars.specs.Kind.{traits_of, parameter_word, largest_preset}
-use Rattle.ladder_vars.specs.Decls.{Declared, is_input_kind, same_address}
+use Rattle.ladder_vars.specs.Decls.{Declared, same_address}
 use Rattle.ladder_vars.specs.Text.{begins_word}
-use Rattle.ladder_vars.specs.Grammar.{bit_of, block_of}
+use Rattle.ladder_vars.specs.Grammar.{bit_of}
 use Rattle.ladder_vars.specs.ReadText.{◌>>=◌, token_at, unfinished}
-use Rattle.ladder_vars.specs.ReadWords.{address_of, value_of}
+use Rattle.ladder_vars.specs.ReadWords.{address_of, value_of, block_of}
 
 -- the same, unless memory ran out
 abbrev pub Fails : {Y : Type 0} → ReadFault → Result Y Fault → Type 0
@@ -159,6 +159,10 @@ refusal declared name (body.Instance kind preset) =
     if nat_lt (traits_of kind).longest_name (length name) then Some rule.BadName
     else (if is_declared declared name then Some rule.Duplicate
     else (if nat_le MOST_INSTANCES (length declared.instances) then Some rule.TooMany else None))
+
+abbrev pub is_input_kind : var_kind.the_data → Bool
+is_input_kind var_kind.Input = true
+is_input_kind other = false
 
 -- how many inputs lead, with one more variable after so many others
 abbrev pub leading_with : ℕ → ℕ → var_kind.the_data → ℕ

@@ -1,18 +1,20 @@
 -- Private to the proofs: words read from left to right, as the code reads them.
-use Rattle.std.specs.Prelude.{◌≡◌, ℕ, zero, suc, ◌+◌, ◌*◌, ◌^◌, min, Bool, ◌&&◌, ◌==◌, nat_le, nat_lt, List, [], ◌∷◌, length, take, drop, codes, Option, Some, None, if◌then◌else◌}
-use Rattle.std.specs.List.{list_all, prefix_len}
+use Rattle.std.specs.Prelude.{◌≡◌, ℕ, zero, suc, ◌+◌, ◌-◌, ◌*◌, ◌^◌, min, Bool, ◌&&◌, ◌==◌, ◌≤◌, nat_le, nat_lt, List, [], ◌∷◌, length, take, drop, codes, Option, Some, None, if◌then◌else◌}
+use Rattle.std.specs.List.{find, fold, list_all, prefix_len}
 use Rattle.std.specs.Map.{lookup}
 use Rattle.std.specs.Char.{is_ascii_digit, is_ascii_alphabetic, to_ascii_uppercase}
 use Rattle.ladder_vars.specs.declared.limits.TheConstants.{MOST_DIGITS}
 use Rattle.ladder_vars.specs.declared.decls.VarKind.{VarKind}
+use Rattle.ladder_vars.specs.declared.kind.BlockKind.{BlockKind}
+use Rattle.ladder_vars.specs.declared.kind.BlockKind.TheVariants as block_kind
 use Rattle.ladder_vars.specs.declared.kind.Parameter.{Parameter}
 use Rattle.ladder_vars.specs.declared.kind.Parameter.TheVariants as parameter
 use Rattle.ladder_vars.specs.declared.decls.Address.{Address}
 use Rattle.ladder_vars.specs.declared.time.Unit.{Unit as TimeUnit}
 use Rattle.ladder_vars.specs.declared.time.Unit.TheVariants as time_unit
 use Rattle.ladder_vars.specs.Name.{same_letters}
-use Rattle.ladder_vars.specs.Kind.{largest_value}
-use Rattle.ladder_vars.specs.Duration.{number_of, millis_of, range_of}
+use Rattle.ladder_vars.specs.Kind.{traits_of, largest_value}
+use Rattle.ladder_vars.specs.Duration.{number_of, measure, IsNumber, IsDuration}
 use Rattle.ladder_vars.specs.Grammar.{kind_of}
 
 infixl 10 ◌>>=◌
@@ -25,6 +27,10 @@ or_else (Some x) other = Some x
 or_else None other = other
 
 -- ---- numbers
+
+-- the number of digits behind others that spell n
+abbrev pub value_from : ℕ → List ℕ → ℕ
+value_from n digits = fold (λ m b. m * 10 + (b - 48)) n digits
 
 abbrev pub short_number : List ℕ → Option ℕ
 short_number word =
@@ -61,6 +67,15 @@ address_of (a ∷ []) = None
 address_of (percent ∷ letter ∷ text) = if percent == 37 then placed_at (to_ascii_uppercase letter) text else None
 
 -- ---- durations
+
+abbrev pub letters_of : TimeUnit → List ℕ
+letters_of u = (measure u).letters
+
+abbrev pub millis_of : TimeUnit → ℕ
+millis_of u = (measure u).millis
+
+abbrev pub range_of : TimeUnit → ℕ
+range_of u = (measure u).range
 
 abbrev pub units : List (List ℕ × TimeUnit)
 units =
@@ -123,6 +138,20 @@ time_of text = do
 abbrev pub value_of : Parameter → List ℕ → Option ℕ
 value_of parameter.Time word = time_of word
 value_of parameter.Count word = count_of word
+
+-- what a parameter can be given
+abbrev pub IsValue : Parameter → List ℕ → ℕ → Type 0
+IsValue parameter.Time word n = IsDuration word n
+IsValue parameter.Count word n = IsNumber word n × (n ≤ largest_value parameter.Count)
+
+-- ---- function blocks
+
+abbrev pub all_kinds : List BlockKind
+all_kinds = block_kind.Ton ∷ block_kind.Tof ∷ block_kind.Tp ∷ block_kind.Ctu ∷ block_kind.Ctd ∷ block_kind.Sr ∷ block_kind.Rs ∷ []
+
+-- the kind whose type the word names
+abbrev pub block_of : List ℕ → Option BlockKind
+block_of word = find (λ k. same_letters word (traits_of k).word) all_kinds
 
 -- what a function returned is what reading gives
 abbrev pub Gives : {X Y : Type 0} → (X → Y) → Option X → Option Y → Type 0

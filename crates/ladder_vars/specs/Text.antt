@@ -22,16 +22,13 @@ is_word_byte b = is_ascii_alphanumeric b || (b == 95 || (b == 35 || b == 46))
 abbrev pub begins_word : List ℕ → Bool
 begins_word = begins (λ b. is_word_byte b || b == 37)
 
-abbrev pub is_address_byte : ℕ → Bool
-is_address_byte b = is_ascii_alphanumeric b || b == 46
-
 -- How long the token at the start is: a word with its longest run, `%` with the longest run of an address after it,
 -- `:=`, or one of `:` `;` `(` `)`, but `(*` begins a comment. It is 0 where there is no token.
 abbrev pub token_len : List ℕ → ℕ
 token_len [] = 0
 token_len (b ∷ bs) =
     if is_word_byte b then 1 + prefix_len is_word_byte bs
-    else (if b == 37 then 1 + prefix_len is_address_byte bs
+    else (if b == 37 then 1 + prefix_len (λ c. is_ascii_alphanumeric c || c == 46) bs
     else (if b == 58 then (if begins_with 61 bs then 2 else 1)
     else (if b == 40 then (if begins_with 42 bs then 0 else 1)
     else (if b == 59 || b == 41 then 1 else 0))))
@@ -41,41 +38,19 @@ abbrev pub closes : List ℕ → Bool
 closes [] = false
 closes (b ∷ bs) = (b == 42 && begins_with 41 bs) || closes bs
 
--- What stands between tokens: a comment is `(*` to the first `*)`, or `//` to the end of its line.
-pub data Piece : Type 0 where
-  Blank : (byte : ℕ) → Piece
-  Comment : (inside : List ℕ) → Piece
-  LineComment : (inside : List ℕ) → Piece
+-- What stands between tokens, before the rest: blanks, and comments. A comment is `(*` to the first `*)`, or `//` to the end of its line.
+pub data Gap : List ℕ → List ℕ → Type 0 where
+  Nothing : {rest : List ℕ} → Gap rest rest
+  Blank : {b : ℕ} {after rest : List ℕ} → is_blank b after ≡ true → Gap after rest → Gap (b ∷ after) rest
+  Comment : (inside : List ℕ) {after rest : List ℕ} → closes inside ≡ false → Gap after rest → Gap (codes "(*" ++ (inside ++ (codes "*)" ++ after))) rest
+  LineComment : (inside : List ℕ) {after rest : List ℕ} → list_all (λ b. not (b == 10)) inside ≡ true → (after ≡ []) ⊎ (begins_with 10 after ≡ true)
+      → Gap after rest → Gap (codes "//" ++ (inside ++ after)) rest
 
-abbrev pub spelling : Piece → List ℕ
-spelling (Blank byte) = byte ∷ []
-spelling (Comment inside) = codes "(*" ++ (inside ++ codes "*)")
-spelling (LineComment inside) = codes "//" ++ inside
-
--- The piece ends where this follows it.
-abbrev pub EndsBefore : Piece → List ℕ → Type 0
-EndsBefore (Blank byte) after = is_blank byte after ≡ true
-EndsBefore (Comment inside) after = closes inside ≡ false
-EndsBefore (LineComment inside) after = (list_all (λ b. not (b == 10)) inside ≡ true) × ((after ≡ []) ⊎ (begins_with 10 after ≡ true))
-
--- The text is these pieces, and then the rest.
-abbrev pub ArePieces : List Piece → List ℕ → List ℕ → Type 0
-ArePieces [] text rest = text ≡ rest
-ArePieces (p ∷ ps) text rest = (after : List ℕ) × (text ≡ spelling p ++ after) × EndsBefore p after × ArePieces ps after rest
-
-abbrev pub Gap : List ℕ → List ℕ → Type 0
-Gap text rest = (pieces : List Piece) × ArePieces pieces text rest
-
--- The token stands at the start of the text, and this follows it.
-pub record IsTokenBefore (text token after : List ℕ) : Type 0 where
-  pub parts : text ≡ token ++ after
-  pub some : 0 < length token
-  pub longest : token_len text ≡ length token
-
--- The text is these tokens, each after a gap, and then the rest, right after the last token.
+-- The text is these tokens, each after a gap and as long as it can be, and then the rest, right after the last token.
 abbrev pub AreTokens : List (List ℕ) → List ℕ → List ℕ → Type 0
 AreTokens [] text rest = text ≡ rest
-AreTokens (t ∷ ts) text rest = (start after : List ℕ) × Gap text start × IsTokenBefore start t after × AreTokens ts after rest
+AreTokens (t ∷ ts) text rest =
+    (start after : List ℕ) × Gap text start × (start ≡ t ++ after) × (0 < length t) × (token_len start ≡ length t) × AreTokens ts after rest
 
 -- The text ends where a token is due, or inside a comment (40, 42 open it).
 abbrev pub IsUnfinished : List ℕ → Type 0

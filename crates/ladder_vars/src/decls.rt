@@ -3,7 +3,7 @@
 ghost use Rattle.std.specs.Prelude.{◌≡◌, ◌≤◌, OnOk, IsNone, position, count_by};
 ghost use Rattle.std.specs.List.{list_any, prefix_len};
 ghost use Rattle.ladder_vars.specs.Name.{same_letters};
-ghost use Rattle.ladder_vars.specs.Decls.{is_input, find, AreKept};
+ghost use Rattle.ladder_vars.specs.Decls.{is_input, find, AreInRange};
 ghost use Rattle.ladder_vars.specs.ReadDecls.{is_there, is_declared, is_taken, refusal, nothing, added, leading_with, with_var, with_instance, with_decl, GivesInMemory, PresetFits};
 
 use crate::fault::{Fault, ReadFault, VarRule};
@@ -88,13 +88,13 @@ pub struct Decls {
 impl Model for Decls {
     ghost use Rattle.std.specs.Prelude.{◌≡◌};
     ghost use Rattle.std.specs.List.{prefix_len};
-    ghost use Rattle.ladder_vars.specs.Decls.{Declared, AreKept, is_input};
+    ghost use Rattle.ladder_vars.specs.Decls.{Declared, AreInRange, is_input};
 
     ghost Value = { Declared };
 
     ghost view = { λ d. record { vars = d.vars.items; instances = d.instances.items } };
 
-    ghost invariant = { λ d. AreKept (record { vars = d.vars.items; instances = d.instances.items })
+    ghost invariant = { λ d. AreInRange (record { vars = d.vars.items; instances = d.instances.items })
         × (d.leading ≡ prefix_len is_input d.vars.items) };
 }
 
@@ -163,7 +163,7 @@ impl Decls {
 
     fn is_declared(&self, name: &Name) -> bool
         ensures value { result ≡ is_declared self.now name.now }
-        ensures kept { AreKept self.now }
+        ensures kept { AreInRange self.now }
     {
         is_var(&self.vars, name) || is_instance(&self.instances, name)
     }
@@ -180,7 +180,7 @@ impl Decls {
     /// The rule that one more declaration would break.
     fn refusal(&self, name: &Name, body: Body) -> Option<VarRule>
         ensures value { result ≡ refusal self.now name.now body }
-        ensures kept { IsNone result → AreKept self.now }
+        ensures kept { IsNone result → AreInRange self.now }
     {
         match body {
             Body::Var { address, .. } => {
@@ -209,7 +209,7 @@ impl Decls {
     }
 
     fn push_var(&mut self, var: Var) -> Result<(), AllocError>
-        requires { AreKept (with_var self.old var) }
+        requires { AreInRange (with_var self.old var) }
         ensures { OnOk result (self.new ≡ with_var self.old var) }
     {
         let leading = leading_with(self.leading, self.vars.len(), var.kind);
@@ -219,7 +219,7 @@ impl Decls {
     }
 
     fn push_instance(&mut self, instance: Instance) -> Result<(), AllocError>
-        requires { AreKept (with_instance self.old instance) }
+        requires { AreInRange (with_instance self.old instance) }
         ensures { OnOk result (self.new ≡ with_instance self.old instance) }
     {
         self.instances.push(instance)?;
@@ -227,7 +227,7 @@ impl Decls {
     }
 
     fn push(&mut self, name: Name, body: Body) -> Result<(), AllocError>
-        requires { AreKept (with_decl self.old name body) }
+        requires { AreInRange (with_decl self.old name body) }
         ensures { OnOk result (self.new ≡ with_decl self.old name body) }
     {
         match body {
@@ -260,7 +260,7 @@ impl Decls {
     /// The variables, in order of declaration.
     pub fn vars(&self) -> &[Var]
         ensures value { result.now ≡ self.now.vars }
-        ensures kept { AreKept self.now }
+        ensures kept { AreInRange self.now }
     {
         self.vars.as_slice()
     }
@@ -268,7 +268,7 @@ impl Decls {
     /// The instances, in order of declaration.
     pub fn instances(&self) -> &[Instance]
         ensures value { result.now ≡ self.now.instances }
-        ensures kept { AreKept self.now }
+        ensures kept { AreInRange self.now }
     {
         self.instances.as_slice()
     }

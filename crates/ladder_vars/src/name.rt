@@ -2,7 +2,7 @@
 
 ghost use Rattle.std.specs.Prelude.{◌≡◌, true, false, IfSome, IfNone};
 ghost use Rattle.std.specs.List.{list_all, list_any};
-ghost use Rattle.ladder_vars.specs.Name.{is_keyword, is_name_byte, has_name_form, is_name, same_letters};
+ghost use Rattle.ladder_vars.specs.Name.{keywords, is_name_byte, has_name_form, is_name, same_letters};
 
 use crate::limits::LONGEST_NAME;
 use std::marker::Model;
@@ -27,7 +27,7 @@ fn is_one_of(words: &[&[u8]], word: &[u8]) -> bool
 }
 
 fn is_keyword(word: &[u8]) -> bool
-    ensures { result ≡ is_keyword word.now }
+    ensures { result ≡ list_any (λ w. same_letters word.now w) keywords }
 {
     is_one_of(&KEYWORDS, word)
 }

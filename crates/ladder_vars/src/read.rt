@@ -1,7 +1,7 @@
 //! Reads the block of declarations at the head of a text.
 
 ghost use Rattle.std.specs.Prelude.{◌≡◌, ◌≤◌, ◌+◌, ◌≢◌, ℕ, List, length, drop, IfOk, IfErr};
-ghost use Rattle.ladder_vars.specs.Decls.{Declared, AreKept};
+ghost use Rattle.ladder_vars.specs.Decls.{Declared, AreInRange};
 ghost use Rattle.ladder_vars.specs.Grammar.{HasDecls, HasNoDecls};
 ghost use Rattle.ladder_vars.specs.Rules.{BreaksOn, line_of};
 ghost use Rattle.ladder_vars.specs.ReadText.{Gives};
@@ -35,7 +35,7 @@ fn name_of(word: &[u8], left: usize) -> Result<Name, Fault>
 /// The declarations up to END_VAR, and what follows it.
 fn decls_from(alloc: Global, text: &[u8]) -> Result<(Decls, &[u8]), ReadFault>
     ensures value { GivesInMemory (λ x. (x.0, x.1.now)) result (decls_from (length text.now + 1) nothing text.now) }
-    ensures kept { IfOk result (λ x. AreKept x.0) }
+    ensures kept { IfOk result (λ x. AreInRange x.0) }
 {
     let mut decls = Decls::new(alloc);
     let mut rest = text;
@@ -54,7 +54,7 @@ fn decls_from(alloc: Global, text: &[u8]) -> Result<(Decls, &[u8]), ReadFault>
 #[tactic(auto, unfolding(crate::specs::ReadDecls::all_of))]
 fn all_of(alloc: Global, text: &[u8]) -> Result<(Decls, &[u8]), ReadFault>
     ensures value { GivesInMemory (λ x. (x.0, x.1.now)) result (all_of text.now) }
-    ensures kept { IfOk result (λ x. AreKept x.0) }
+    ensures kept { IfOk result (λ x. AreInRange x.0) }
 {
     let rest = expect(b"VAR", text)?;
     decls_from(alloc, rest)

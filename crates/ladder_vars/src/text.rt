@@ -1,8 +1,9 @@
 //! Cuts a text into tokens.
 
-ghost use Rattle.std.specs.Prelude.{◌≡◌, ◌≤◌, ◌<◌, ◌∷◌, length, Ok, IfOk, IfSome, IfNone};
+ghost use Rattle.std.specs.Prelude.{◌≡◌, ◌≤◌, ◌<◌, ◌||◌, ◌==◌, ◌∷◌, length, Ok, IfOk, IfSome, IfNone};
 ghost use Rattle.std.specs.List.{prefix_len};
-ghost use Rattle.ladder_vars.specs.Text.{begins_with, is_blank, is_word_byte, is_address_byte, token_len};
+ghost use Rattle.std.specs.Char.{is_ascii_alphanumeric};
+ghost use Rattle.ladder_vars.specs.Text.{begins_with, is_blank, is_word_byte, token_len};
 ghost use Rattle.ladder_vars.specs.ReadText.{skip_from, no_token, token_at, Gives};
 
 use crate::fault::{Fault, VarRule};
@@ -41,7 +42,7 @@ pub(crate) fn is_word_byte(b: u8) -> bool
 }
 
 fn is_address_byte(b: u8) -> bool
-    ensures { result ≡ is_address_byte b }
+    ensures { result ≡ (is_ascii_alphanumeric b || b == 46) }
 {
     b.is_ascii_alphanumeric() || b == b'.'
 }
@@ -97,7 +98,7 @@ fn word_len(text: &[u8]) -> usize
 }
 
 fn address_len(text: &[u8]) -> usize
-    ensures value { result ≡ prefix_len is_address_byte text.now }
+    ensures value { result ≡ prefix_len (λ c. is_ascii_alphanumeric c || c == 46) text.now }
     ensures within { result ≤ length text.now }
 {
     text.iter().take_while(|b| is_address_byte(**b)).count()

@@ -3,9 +3,8 @@
 ghost use Rattle.std.specs.Prelude.{◌≡◌, ◌≤◌, ◌<◌, ◌+◌, ◌^◌, length, ℕ, IfSome, IfNone};
 ghost use Rattle.std.specs.List.{prefix_len};
 ghost use Rattle.std.specs.Char.{is_ascii_alphabetic};
-ghost use Rattle.ladder_vars.specs.Duration.{millis_of, range_of};
-ghost use Rattle.ladder_vars.specs.Grammar.{IsTime};
-ghost use Rattle.ladder_vars.specs.ReadWords.{unit_of, PartAt, part_at, after_underscore, with_part, may_follow, total_of, after_word, after_prefix, time_of, Gives};
+ghost use Rattle.ladder_vars.specs.Duration.{IsDuration};
+ghost use Rattle.ladder_vars.specs.ReadWords.{millis_of, range_of, unit_of, PartAt, part_at, after_underscore, with_part, may_follow, total_of, after_word, after_prefix, time_of, Gives};
 
 use crate::digits::{CAP, digits_len, number};
 use crate::name::same_letters;
@@ -171,10 +170,10 @@ pub(crate) fn time_of(text: &[u8]) -> Option<u32>
 ///
 /// It is None where the text is no such literal, or one of more than 4,294,967,295 ms.
 pub fn read_time(text: &[u8]) -> Option<u32>
-    ensures some { IfSome result (λ n. IsTime text.now n) }
-    ensures none { IfNone result ((n : ℕ) → IsTime text.now n → ⊥) }
+    ensures some { IfSome result (λ n. IsDuration text.now n) }
+    ensures none { IfNone result ((n : ℕ) → IsDuration text.now n → ⊥) }
     // A literal has one value.
-    ensures only { IfSome result (λ n. (m : ℕ) → IsTime text.now m → m ≡ n) }
+    ensures only { IfSome result (λ n. (m : ℕ) → IsDuration text.now m → m ≡ n) }
 {
     time_of(text)
 }

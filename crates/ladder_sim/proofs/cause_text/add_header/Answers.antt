@@ -1,5 +1,5 @@
 use Rattle.std.proofs.Common.{◌++◌, [], codes, refl, sym, append_assoc, map, slice_get}
-use Rattle.ladder_sim.specs.CauseText.{behind_commas, header, name_in}
+use Rattle.ladder_sim.specs.Rows.{behind_commas, header, name_in}
 use Rattle.ladder_text.proofs.Sending.{sends_front, sends_last, sends_more, sends_none}
 use Rattle.ladder_sim.proofs.cause_text.add_header.Goals as goal
 

@@ -1,5 +1,5 @@
 use Rattle.std.proofs.Common.{◌++◌, [], codes, refl, slice_get}
-use Rattle.ladder_sim.specs.CauseText.{name_in}
+use Rattle.ladder_sim.specs.Rows.{name_in}
 use Rattle.ladder_text.proofs.Sending.{sends_front, sends_last, sends_none}
 use Rattle.ladder_sim.proofs.cause_text.add_name.Goals as goal
 

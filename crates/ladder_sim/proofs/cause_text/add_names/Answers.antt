@@ -1,5 +1,5 @@
 use Rattle.std.proofs.Common.{◌+◌, drop, map, slice_get, sym, take}
-use Rattle.ladder_sim.specs.CauseText.{behind_commas, name_in}
+use Rattle.ladder_sim.specs.Rows.{behind_commas, name_in}
 use Rattle.ladder_sim.proofs.RowLaws.{behind_cut, behind_more}
 use Rattle.ladder_text.proofs.Sending.{sends_front, sends_more, sends_same}
 use Rattle.ladder_sim.proofs.cause_text.add_names.Goals as goal

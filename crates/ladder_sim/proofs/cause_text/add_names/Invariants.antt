@@ -1,6 +1,6 @@
 use Rattle.std.proofs.Common.{map, take, slice_get}
 use Rattle.ladder_text.specs.Block.{SendsAll}
-use Rattle.ladder_sim.specs.CauseText.{behind_commas, name_in}
+use Rattle.ladder_sim.specs.Rows.{behind_commas, name_in}
 use Rattle.ladder_sim.proofs.cause_text.add_names.Given as goal
 
 abbrev pub invariant-loop-var : goal.invariant-loop-var

@@ -1,5 +1,5 @@
 use Rattle.std.proofs.Common.{◌∙◌, ap, arith}
-use Rattle.ladder_sim.specs.CauseText.{bit_text}
+use Rattle.ladder_records.specs.Text.{bit_text}
 use Rattle.ladder_sim.proofs.RowLaws.{bit_more}
 use Rattle.ladder_sim.proofs.cause_text.fill_end.Goals as goal
 

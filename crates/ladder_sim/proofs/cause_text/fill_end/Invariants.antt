@@ -1,5 +1,5 @@
 use Rattle.std.proofs.Common.{◌≡◌, ◌*◌, take}
-use Rattle.ladder_sim.specs.CauseText.{behind_commas, bits}
+use Rattle.ladder_sim.specs.Rows.{behind_commas, bits}
 use Rattle.ladder_sim.proofs.cause_text.fill_end.Given as goal
 
 abbrev pub invariant-loop-place : goal.invariant-loop-place

@@ -1,5 +1,6 @@
 use Rattle.std.proofs.Common.{◌++◌, [], ap, append-nil, length, refl, sym}
-use Rattle.ladder_sim.specs.CauseText.{cause_text, header, limited, rows}
+use Rattle.ladder_sim.specs.CauseText.{cause_text, limited}
+use Rattle.ladder_sim.specs.Rows.{header, rows}
 use Rattle.ladder_text.proofs.Sending.{flush_all, flush_front, sends_front, sends_more, sends_none}
 use Rattle.ladder_sim.proofs.cause_text.write_causes.Goals as goal
 

@@ -1,7 +1,7 @@
 use Rattle.std.proofs.Common.{arith, ◌+◌, refl, length, length-set, ap, sym, subst, ◌∙◌}
 use Rattle.ladder_scan.specs.Standing.{CanStore, Standing}
-use Rattle.ladder_state.specs.Parts.{CanHold, TakesItem, block_item, tells}
-use Rattle.ladder_state.specs.StateText.{block_record, block_records}
+use Rattle.ladder_state.specs.Parts.{CanHold, TakesItem, block_item, block_records, tells}
+use Rattle.ladder_state.specs.StateText.{block_record}
 use Rattle.ladder_state.proofs.ItemByItem.{block_can, count_all, count_more, count_same, item_some, other_blocks, read_all, read_more, read_none, read_skip, read_stuck, told_set}
 use Rattle.ladder_state.proofs.parts.read_blocks.Goals as goal
 

@@ -1,8 +1,8 @@
 use Rattle.std.specs.Prelude.{◌≡◌, ◌≤◌, ◌+◌, List, length, take}
 use Rattle.ladder_records.specs.Left.{Fields, IsPlain, Left}
 use Rattle.ladder_scan.specs.Standing.{with_blocks}
-use Rattle.ladder_state.specs.Parts.{IsRead}
-use Rattle.ladder_state.specs.StateText.{AreTold, block_records, each}
+use Rattle.ladder_state.specs.Parts.{IsRead, block_records, each}
+use Rattle.ladder_state.specs.StateText.{AreTold}
 use Rattle.ladder_state.proofs.parts.read_blocks.Given as goal
 
 abbrev pub invariant-loop-number : goal.invariant-loop-number

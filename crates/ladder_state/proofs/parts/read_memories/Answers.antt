@@ -1,7 +1,7 @@
 use Rattle.std.proofs.Common.{arith, refl, [], ◌∷◌, length, length-append, length-set, ap, sym, subst, ◌∙◌, ◌≡◌}
 use Rattle.std.specs.Prelude.{⊤}
-use Rattle.ladder_state.specs.Parts.{IsRead}
-use Rattle.ladder_state.specs.StateText.{memory_places, memory_places_before, memory_record, memory_records}
+use Rattle.ladder_state.specs.Parts.{IsRead, memory_places_before, memory_records}
+use Rattle.ladder_state.specs.StateText.{memory_places, memory_record}
 use Rattle.ladder_state.proofs.ItemByItem.{other_memories, read_none, read_push, read_stuck_at}
 use Rattle.ladder_state.proofs.Places.{one_not, one_there, place_cut, place_number, places_none}
 use Rattle.ladder_state.proofs.parts.read_memories.Goals as goal

@@ -2,8 +2,7 @@ use Rattle.std.specs.Prelude.{◌≡◌, ◌≤◌, List, length}
 use Rattle.ladder_grid.specs.Program.{memories_of}
 use Rattle.ladder_records.specs.Left.{Fields, IsPlain, Left}
 use Rattle.ladder_scan.specs.Standing.{with_memories}
-use Rattle.ladder_state.specs.Parts.{IsRead}
-use Rattle.ladder_state.specs.StateText.{memory_places_before, memory_records}
+use Rattle.ladder_state.specs.Parts.{IsRead, memory_places_before, memory_records}
 use Rattle.ladder_state.proofs.parts.read_memories.Given as goal
 
 abbrev pub invariant-loop-place : goal.invariant-loop-place

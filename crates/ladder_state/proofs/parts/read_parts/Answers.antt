@@ -1,7 +1,7 @@
 use Rattle.std.proofs.Common.{◌∙◌, ◌+◌, ap, sym, arith, length}
 use Rattle.ladder_vars.specs.Decls.{Declared}
 use Rattle.ladder_scan.specs.Standing.{Standing}
-use Rattle.ladder_state.specs.StateText.{block_records, each}
+use Rattle.ladder_state.specs.Parts.{block_records, each}
 use Rattle.ladder_state.proofs.Arms.{all_cut, blocks_arm, both_cut, done_arm, fits_blocks, fits_memories, fits_values, further_arm, memories_arm, values_arm, values_cut}
 use Rattle.ladder_state.proofs.parts.read_parts.Goals as goal
 

@@ -1,7 +1,7 @@
 use Rattle.std.proofs.Common.{arith, refl, length, length-set, ap, ◌∙◌}
 use Rattle.std.specs.Prelude.{⊤}
-use Rattle.ladder_state.specs.StateText.{var_record, var_records}
-use Rattle.ladder_state.specs.Parts.{every}
+use Rattle.ladder_state.specs.StateText.{var_record}
+use Rattle.ladder_state.specs.Parts.{every, var_records}
 use Rattle.ladder_state.proofs.ItemByItem.{each_count, other_values, read_all, read_more, read_none, read_stuck}
 use Rattle.ladder_state.proofs.parts.read_values.Goals as goal
 

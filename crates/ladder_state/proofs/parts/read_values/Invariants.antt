@@ -1,8 +1,7 @@
 use Rattle.std.specs.Prelude.{◌≡◌, List, length, take}
 use Rattle.ladder_records.specs.Left.{Fields, IsPlain, Left}
 use Rattle.ladder_scan.specs.Standing.{with_values}
-use Rattle.ladder_state.specs.Parts.{IsRead}
-use Rattle.ladder_state.specs.StateText.{var_records}
+use Rattle.ladder_state.specs.Parts.{IsRead, var_records}
 use Rattle.ladder_state.proofs.parts.read_values.Given as goal
 
 abbrev pub invariant-loop-number : goal.invariant-loop-number

@@ -1,8 +1,7 @@
 use Rattle.std.proofs.Common.{arith, subst, take_all}
 use Rattle.ladder_records.specs.Text.{lines_text}
 use Rattle.ladder_records.proofs.Lines.{line_front, line_more}
-use Rattle.ladder_state.specs.Parts.{block_item}
-use Rattle.ladder_state.specs.StateText.{block_records, each}
+use Rattle.ladder_state.specs.Parts.{block_item, block_records, each}
 use Rattle.ladder_state.specs.declared.version.Version.TheVariants.{Second}
 use Rattle.ladder_text.specs.Block.{SendsAll}
 use Rattle.ladder_state.proofs.Written.{one_written, written_apart}

@@ -1,6 +1,6 @@
 use Rattle.std.proofs.Common.{take}
 use Rattle.ladder_records.specs.Text.{lines_text}
-use Rattle.ladder_state.specs.StateText.{block_records, each}
+use Rattle.ladder_state.specs.Parts.{block_records, each}
 use Rattle.ladder_state.specs.declared.version.Version.TheVariants.{Second}
 use Rattle.ladder_text.specs.Block.{SendsAll}
 use Rattle.ladder_state.proofs.write.add_blocks.Given as goal

@@ -1,7 +1,8 @@
 use Rattle.std.proofs.Common.{◌≡◌, ◌∙◌, ◌∷◌, [], arith, ap, length, length-append, slice_get, subst, sym}
 use Rattle.ladder_records.specs.Text.{lines_text}
 use Rattle.ladder_records.proofs.Lines.{line_front, line_more}
-use Rattle.ladder_state.specs.StateText.{each, memory_places_before, memory_record, memory_records}
+use Rattle.ladder_state.specs.StateText.{memory_record}
+use Rattle.ladder_state.specs.Parts.{each, memory_places_before, memory_records}
 use Rattle.ladder_text.specs.Block.{SendsAll}
 use Rattle.ladder_text.proofs.Sending.{sends_none}
 use Rattle.ladder_state.proofs.Places.{one_not, one_there, place_cut, place_number, places_none}

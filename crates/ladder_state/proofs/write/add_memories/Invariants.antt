@@ -1,6 +1,6 @@
 use Rattle.std.specs.Prelude.{◌≡◌, ◌≤◌, length}
 use Rattle.ladder_records.specs.Text.{lines_text}
-use Rattle.ladder_state.specs.StateText.{each, memory_places_before, memory_records}
+use Rattle.ladder_state.specs.Parts.{each, memory_places_before, memory_records}
 use Rattle.ladder_text.specs.Block.{SendsAll}
 use Rattle.ladder_state.proofs.write.add_memories.Given as goal
 

@@ -1,7 +1,8 @@
 use Rattle.std.proofs.Common.{arith, subst, take_all}
 use Rattle.ladder_records.specs.Text.{lines_text}
 use Rattle.ladder_records.proofs.Lines.{line_front, line_more}
-use Rattle.ladder_state.specs.StateText.{each, var_record, var_records}
+use Rattle.ladder_state.specs.StateText.{var_record}
+use Rattle.ladder_state.specs.Parts.{each, var_records}
 use Rattle.ladder_text.specs.Block.{SendsAll}
 use Rattle.ladder_state.proofs.Written.{one_written, written_apart}
 use Rattle.ladder_state.proofs.write.add_vars.Goals as goal

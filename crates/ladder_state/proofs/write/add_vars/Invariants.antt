@@ -1,6 +1,6 @@
 use Rattle.std.proofs.Common.{take}
 use Rattle.ladder_records.specs.Text.{lines_text}
-use Rattle.ladder_state.specs.StateText.{each, var_records}
+use Rattle.ladder_state.specs.Parts.{each, var_records}
 use Rattle.ladder_text.specs.Block.{SendsAll}
 use Rattle.ladder_state.proofs.write.add_vars.Given as goal
 

@@ -1,5 +1,5 @@
 use Rattle.std.proofs.Common.{◌≡◌, ℕ, ◌+◌, ◌-◌, ◌*◌, ◌<◌, ◌^◌, min, List, ◌∷◌, length, drop, get_or, arith, sym, refl, ◌∙◌, ap, add-one, drop-cons}
-use Rattle.ladder_vars.specs.Duration.{value_from}
+use Rattle.ladder_vars.specs.ReadWords.{value_from}
 use Rattle.ladder_vars.proofs.Numbers.{clamped}
 use Rattle.ladder_vars.proofs.digits.number.Goals as goal
 

@@ -1,5 +1,6 @@
 use Rattle.std.proofs.Common.{◌≡◌, ◌≤◌, ◌^◌, min, drop}
-use Rattle.ladder_vars.specs.Duration.{value_from, number_of}
+use Rattle.ladder_vars.specs.Duration.{number_of}
+use Rattle.ladder_vars.specs.ReadWords.{value_from}
 use Rattle.ladder_vars.proofs.digits.number.Given as goal
 
 abbrev pub invariant-loop-digit : goal.invariant-loop-digit

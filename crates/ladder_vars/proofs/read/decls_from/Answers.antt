@@ -1,6 +1,6 @@
 use Rattle.std.proofs.Common.{◌∙◌, sym, subst, arith}
 use Rattle.std.proofs.lemmas.Result.{err_from_is_err_and}
-use Rattle.ladder_vars.specs.Decls.{AreKept}
+use Rattle.ladder_vars.specs.Decls.{AreInRange}
 use Rattle.ladder_vars.proofs.DeclLoop.{HasWord, no_word, ends, no_name, no_body, fails, goes_on}
 use Rattle.ladder_vars.proofs.read.decls_from.Goals as goal
 
@@ -14,7 +14,7 @@ returns-then-same_letters-clause-value c =
     ends _ _ _ _ _ c.loop-decls.invariant c.in_ok-word.ensures.value (sym c.same_letters.ensures ∙ c.if-same_letters.true)
 
 pub returns-then-same_letters-clause-kept : goal.returns-then-same_letters-clause-kept
-returns-then-same_letters-clause-kept c = subst AreKept c.decls.view_is c.decls.invariant.0
+returns-then-same_letters-clause-kept c = subst AreInRange c.decls.view_is c.decls.invariant.0
 
 pub returns-in_err-name-clause-value : goal.returns-in_err-name-clause-value
 returns-in_err-name-clause-value c =

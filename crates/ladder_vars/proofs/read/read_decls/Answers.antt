@@ -8,18 +8,18 @@ use Rattle.ladder_vars.proofs.LoopFaults.{all_breaks, breaks_on}
 use Rattle.ladder_vars.proofs.read.read_decls.Goals as goal
 
 pub overflow_sub-result : goal.overflow_sub-result
-overflow_sub-result c = rest-le _ _ _ (all_take _ _ _ c.in-Ok.ensures.kept c.in-Ok.ensures.value)
+overflow_sub-result c = rest-le _ _ _ (all_take _ _ _ c.in-Ok.ensures.kept.kept c.in-Ok.ensures.value)
 
 pub returns-in-Ok-clause-found : goal.returns-in-Ok-clause-found
 returns-in-Ok-clause-found c =
     let text : List ℕ = c.args.text.now in
-    let has : HasDecls text c.in-Ok.decls c.in-Ok.rest.now = all_take text c.in-Ok.decls c.in-Ok.rest.now c.in-Ok.ensures.kept c.in-Ok.ensures.value in
+    let has : HasDecls text c.in-Ok.decls c.in-Ok.rest.now = all_take text c.in-Ok.decls c.in-Ok.rest.now c.in-Ok.ensures.kept.kept c.in-Ok.ensures.value in
     (omega arith, subst (λ r. HasDecls text c.in-Ok.decls r) (place_after text c.in-Ok.decls c.in-Ok.rest.now has) has)
 
 pub returns-in-Ok-clause-only : goal.returns-in-Ok-clause-only
 returns-in-Ok-clause-only c = λ declared rest other.
     let text : List ℕ = c.args.text.now in
-    let has : HasDecls text c.in-Ok.decls c.in-Ok.rest.now = all_take text c.in-Ok.decls c.in-Ok.rest.now c.in-Ok.ensures.kept c.in-Ok.ensures.value in
+    let has : HasDecls text c.in-Ok.decls c.in-Ok.rest.now = all_take text c.in-Ok.decls c.in-Ok.rest.now c.in-Ok.ensures.kept.kept c.in-Ok.ensures.value in
     let place : c.in-Ok.rest.now ≡ drop (length text - length c.in-Ok.rest.now) text = place_after text c.in-Ok.decls c.in-Ok.rest.now has in
     let first : all_of text ≡ Ok (c.in-Ok.decls, c.in-Ok.rest.now) = c.in-Ok.ensures.value in
     let second : all_of text ≡ Ok (declared, rest) = all_reads text declared rest other in

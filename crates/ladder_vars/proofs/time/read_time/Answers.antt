@@ -1,18 +1,18 @@
 use Rattle.std.proofs.Common.{◌≡◌, ℕ, List, Option, Some, None, IfSome, IfNone, sym, ◌∙◌}
-use Rattle.ladder_vars.specs.Grammar.{IsTime}
+use Rattle.ladder_vars.specs.Duration.{IsDuration}
 use Rattle.ladder_vars.specs.ReadWords.{time_of}
 use Rattle.ladder_vars.proofs.TimeLaws.{time_reads, time_takes}
 use Rattle.ladder_vars.proofs.time.read_time.Goals as goal
 
-some_time : (o : Option ℕ) (text : List ℕ) → o ≡ time_of text → IfSome o (λ n. IsTime text n)
+some_time : (o : Option ℕ) (text : List ℕ) → o ≡ time_of text → IfSome o (λ n. IsDuration text n)
 some_time (Some n) text e = time_takes text n (sym e)
 some_time None text e = tt
 
-no_time : (o : Option ℕ) (text : List ℕ) → o ≡ time_of text → IfNone o ((n : ℕ) → IsTime text n → ⊥)
+no_time : (o : Option ℕ) (text : List ℕ) → o ≡ time_of text → IfNone o ((n : ℕ) → IsDuration text n → ⊥)
 no_time (Some n) text e = tt
 no_time None text e = λ n is. let found : None ≡ Some n = e ∙ time_reads text n is in absurd cc
 
-one_time : (o : Option ℕ) (text : List ℕ) → o ≡ time_of text → IfSome o (λ n. (m : ℕ) → IsTime text m → m ≡ n)
+one_time : (o : Option ℕ) (text : List ℕ) → o ≡ time_of text → IfSome o (λ n. (m : ℕ) → IsDuration text m → m ≡ n)
 one_time (Some n) text e = λ m is. let same : Some n ≡ Some m = e ∙ time_reads text m is in cc
 one_time None text e = tt
 
