@@ -23,10 +23,11 @@ use Rattle.ladder_grid.specs.Gates.{gates_of, actions_of, left_of, exit_by, exit
 use Rattle.ladder_grid.specs.Steps.{spot_of, own_step, edge_step, contact_step, cell_step, literal_step, gate_step, coil_step, act_step, action_step, turns_before, turn_steps, exit_steps, rung_steps, steps_below}
 use Rattle.ladder_scan.specs.Algebra.{Algebra}
 use Rattle.ladder_scan.specs.Cells.{Diagram, Frame, Kept}
-use Rattle.ladder_scan.specs.Programs.{placed, diagram_of, IsSound}
+use Rattle.ladder_scan.specs.Programs.{diagram_of, IsSound}
 use Rattle.ladder_scan.specs.Gating.{among, own, through, kept_by, is_other, passed, ran, acted, effects_of, IsInside, IsPlaced}
 use Rattle.ladder_scan.specs.Stepping.{Going, going, keeping, gone, all_gone, IsSpot, IsWithin}
 use Rattle.ladder_scan.proofs.GateLaws.{cell_is, left_inside, gates_inside}
+use Rattle.ladder_scan.proofs.Sound.{placed}
 use Rattle.ladder_scan.proofs.Acting.{HasCell, places}
 
 module _ {S : Type 0} (o : Algebra S) (p : Drawing) (k : Kept) (now n : ℕ) (f : Frame S) (taken : List S) (guard : S) where

@@ -12,10 +12,11 @@ use Rattle.ladder_scan.specs.Algebra.{Algebra, LatticeLaws}
 use Rattle.ladder_scan.specs.Cells.{Frame, Kept}
 use Rattle.ladder_scan.specs.Rung.{link}
 use Rattle.ladder_scan.specs.SignalScan.{meet_where, passes_over, guard_of, taken_by, taken_at, looked}
-use Rattle.ladder_scan.specs.Programs.{placed, diagram_of, IsSound}
+use Rattle.ladder_scan.specs.Programs.{diagram_of, IsSound}
 use Rattle.ladder_scan.specs.Gating.{among, ran, effects_of, taken_by_exit, AreLinks, AreValues}
 use Rattle.ladder_scan.specs.Stepping.{Going, going, all_gone}
 use Rattle.ladder_scan.proofs.GateLaws.{AreRailed, gates_inside, links_are, rails_stay}
+use Rattle.ladder_scan.proofs.Sound.{placed}
 use Rattle.ladder_scan.proofs.Acting.{action_cells, rung_along}
 use Rattle.ladder_scan.proofs.Exits.{taken_of, guard_is}
 use Rattle.ladder_scan.proofs.Values.{looked_values}
