@@ -1,7 +1,7 @@
 -- Private: a rung as gates, which a scan evaluates.
 -- A gate gives its left link AND a literal, OR what another gate gave, and what it gives is kept at the place of its cell. So a gate
 -- has the OR of what its cell and those above it bring into their group, and the last cell that feeds a group has the OR of the group.
-use Rattle.std.specs.Prelude.{◌≡◌, ℕ, zero, suc, ◌+◌, ◌-◌, ◌*◌, ◌/◌, ◌%◌, nat_lt, ◌&&◌, ◌||◌, ◌==◌, Bool, true, false, List, [], ◌∷◌, ◌++◌, Option, Some, None, is_some, if◌then◌else◌}
+use Rattle.std.specs.Prelude.{ℕ, zero, suc, ◌+◌, ◌-◌, ◌*◌, ◌/◌, ◌%◌, nat_lt, ◌&&◌, ◌||◌, ◌==◌, Bool, true, false, List, [], ◌∷◌, ◌++◌, Option, Some, None, is_some, if◌then◌else◌}
 use Rattle.ladder_grid.specs.declared.geometry.TheConstants.{ROWS, COLUMNS, PLACES}
 use Rattle.ladder_grid.specs.declared.gates.TheConstants.{ON, OFF, VARIABLES}
 use Rattle.ladder_grid.specs.declared.cell.Mode.{Mode}

@@ -1,5 +1,5 @@
 -- Private: a program as one list of steps, which a look over any signal takes one after the other, and what a program keeps beside its drawing.
-use Rattle.std.specs.Prelude.{◌≡◌, ℕ, zero, suc, ◌+◌, ◌<◌, nat_lt, ◌&&◌, ◌||◌, ◌==◌, Bool, true, false, List, [], ◌∷◌, ◌++◌, length, map, filter_map, slice_index_or, Option, Some, None, if◌then◌else◌}
+use Rattle.std.specs.Prelude.{◌≡◌, ℕ, zero, suc, ◌+◌, ◌<◌, nat_lt, ◌&&◌, ◌||◌, ◌==◌, Bool, false, List, [], ◌∷◌, ◌++◌, length, map, filter_map, slice_index_or, Option, Some, None, if◌then◌else◌}
 use Rattle.ladder_grid.specs.declared.gates.TheConstants.{VARIABLES}
 use Rattle.ladder_grid.specs.declared.cell.Mode.{Mode}
 use Rattle.ladder_grid.specs.declared.cell.Mode.TheVariants as mode

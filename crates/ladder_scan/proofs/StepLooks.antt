@@ -1,19 +1,18 @@
 -- The steps of all rungs make the look, rung by rung.
-use Rattle.std.proofs.Common.{◌≡◌, ℕ, ◌+◌, ◌*◌, ◌<◌, ◌≤◌, ◌||◌, Bool, true, false, cond, List, [], ◌∷◌, ◌++◌, All, map, filter_map, length, set, get_or, zero, suc, nat_eq, nat_lt, refl, sym, ap, ap₂, subst, ◌∙◌, arith, get_or-set_other, get_or-set_same, length-set, Option, Some, None, inl, inr}
+use Rattle.std.proofs.Common.{◌≡◌, ℕ, ◌+◌, ◌<◌, ◌≤◌, ◌||◌, Bool, true, false, cond, List, [], ◌∷◌, ◌++◌, map, filter_map, length, set, get_or, zero, suc, nat_eq, nat_lt, refl, sym, ap, ap₂, subst, ◌∙◌, arith, get_or-set_other, get_or-set_same, length-set, Option, Some, None, inl, inr}
 use Rattle.std.proofs.lemmas.Bool.{cases_Bool, cases_eq}
 use Rattle.std.proofs.lemmas.Bool.Decides.{nat_tests}
 use Rattle.std.proofs.lemmas.List.{get_or_append_left, get_or_at, length-append}
 use Rattle.ladder_grid.specs.declared.gates.Exit.{Exit}
 use Rattle.ladder_grid.specs.declared.steps.Step.{Step}
 use Rattle.ladder_grid.specs.Program.{Drawing, jump_of}
-use Rattle.ladder_grid.specs.Gates.{gates_of, actions_of, exit_of, left_of}
+use Rattle.ladder_grid.specs.Gates.{gates_of, actions_of, exit_of}
 use Rattle.ladder_grid.specs.Steps.{gate_step, action_step, turned_by, turns_before, turn_steps, exit_steps, rung_steps, steps_below}
 use Rattle.ladder_scan.specs.Algebra.{Algebra, LatticeLaws}
 use Rattle.ladder_scan.specs.Cells.{Frame, Kept}
-use Rattle.ladder_scan.specs.Rung.{link}
-use Rattle.ladder_scan.specs.SignalScan.{meet_where, passes_over, guard_of, taken_by, taken_at, looked}
+use Rattle.ladder_scan.specs.SignalScan.{meet_where, passes_over, guard_of, taken_at, looked}
 use Rattle.ladder_scan.specs.Programs.{diagram_of, IsSound}
-use Rattle.ladder_scan.specs.Gating.{among, ran, effects_of, taken_by_exit, AreLinks, AreValues}
+use Rattle.ladder_scan.specs.Gating.{among, ran, taken_by_exit, AreLinks, AreValues}
 use Rattle.ladder_scan.specs.Stepping.{Going, going, all_gone}
 use Rattle.ladder_scan.proofs.GateLaws.{AreRailed, gates_inside, links_are, rails_stay}
 use Rattle.ladder_scan.proofs.Sound.{placed}

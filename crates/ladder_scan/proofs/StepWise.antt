@@ -1,5 +1,5 @@
 -- A look step by step is the look rung by rung.
-use Rattle.std.proofs.Common.{◌≡◌, ℕ, ◌+◌, ◌<◌, ◌≤◌, Bool, List, [], ◌∷◌, drop, length, get_or, set, refl, sym, ap, ap₂, ◌∙◌, length-set}
+use Rattle.std.proofs.Common.{◌≡◌, ℕ, ◌+◌, ◌<◌, ◌≤◌, List, drop, length, get_or, refl, sym, ap, ap₂, ◌∙◌, length-set}
 use Rattle.std.proofs.lemmas.List.{drop_more, drop_all}
 use Rattle.ladder_grid.specs.declared.steps.Step.{Step}
 use Rattle.ladder_grid.specs.declared.steps.Step.TheVariants.{Is, Not, Wire, Rising, Falling, Block, Own, Store, Set, Reset, End, Act, Leave, Turn}

@@ -2,7 +2,7 @@
 -- moments are whole milliseconds.
 -- What the standard's timing diagrams leave open is the profile's choice: at equal moments a timer with PT 0 is through at once, a rise
 -- during a pulse does nothing, a TP with PT 0 never begins, a reset or load goes before a rise, and CV stops at the ends of its range.
-use Rattle.std.specs.Prelude.{ℕ, ◌-◌, Bool, false, not, if◌then◌else◌, ◌&&◌, ◌||◌, nat_lt, nat_le, ℤ, pos, negsuc, ◌+ℤ◌, ◌-ℤ◌, int_lt, int_le}
+use Rattle.std.specs.Prelude.{ℕ, ◌-◌, Bool, false, not, if◌then◌else◌, ◌&&◌, ◌||◌, nat_lt, nat_le, pos, negsuc, ◌+ℤ◌, ◌-ℤ◌, int_lt, int_le}
 use Rattle.ladder_vars.specs.declared.kind.BlockKind.{BlockKind}
 use Rattle.ladder_vars.specs.declared.kind.BlockKind.TheVariants.{Ton, Tof, Tp, Ctu, Ctd, Sr, Rs}
 use Rattle.ladder_scan.specs.declared.block.Stored.{Stored}

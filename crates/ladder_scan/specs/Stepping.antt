@@ -1,10 +1,9 @@
 -- Private: a look over any signal as the code does it, step by step.
-use Rattle.std.specs.Prelude.{ℕ, ◌+◌, ◌<◌, Bool, true, false, List, [], ◌∷◌}
+use Rattle.std.specs.Prelude.{ℕ, ◌+◌, ◌<◌, true, false, List, [], ◌∷◌}
 use Rattle.std.proofs.Common.{get_or, set}
 use Rattle.ladder_vars.specs.declared.kind.BlockKind.TheVariants.{Ton}
 use Rattle.ladder_grid.specs.declared.geometry.TheConstants.{PLACES}
 use Rattle.ladder_grid.specs.declared.gates.TheConstants.{OFF, OWN}
-use Rattle.ladder_grid.specs.declared.cell.CoilMode.TheVariants as coil
 use Rattle.ladder_grid.specs.declared.steps.Spot.{Spot}
 use Rattle.ladder_grid.specs.declared.steps.Step.{Step}
 use Rattle.ladder_grid.specs.declared.steps.Step.TheVariants.{Is, Not, Wire, Rising, Falling, Block, Own, Store, Set, Reset, End, Act, Leave, Turn}

@@ -1,6 +1,6 @@
 use Rattle.std.proofs.Common.{◌∙◌, sym, ap, subst, true, All, List}
 use Rattle.ladder_grid.specs.declared.steps.Step.{Step}
-use Rattle.ladder_scan.specs.Stepping.{Going, going, all_gone, IsWithin}
+use Rattle.ladder_scan.specs.Stepping.{going, all_gone, IsWithin}
 use Rattle.ladder_scan.proofs.StepLaws.{all_within}
 use Rattle.ladder_scan.proofs.StepLooks.{by_steps}
 use Rattle.ladder_scan.proofs.looking.look_rungs.Goals as goal
