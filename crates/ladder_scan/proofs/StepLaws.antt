@@ -17,7 +17,9 @@ use Rattle.ladder_grid.specs.declared.gates.Action.{Action}
 use Rattle.ladder_grid.specs.declared.gates.Literal.{Literal}
 use Rattle.ladder_grid.specs.declared.gates.Literal.TheVariants as literal
 use Rattle.ladder_grid.specs.declared.steps.Step.{Step}
-use Rattle.ladder_grid.specs.declared.steps.Step.TheVariants.{End, Leave, Turn}
+use Rattle.ladder_grid.specs.declared.steps.Step.TheVariants as step
+use Rattle.ladder_grid.specs.declared.steps.Rare.{Rare}
+use Rattle.ladder_grid.specs.declared.steps.Rare.TheVariants.{End, Leave, Turn}
 use Rattle.ladder_grid.specs.Program.{Drawing, cell_of, jump_of}
 use Rattle.ladder_grid.specs.Gates.{gates_of, actions_of, left_of, exit_by, exit_of}
 use Rattle.ladder_grid.specs.Steps.{spot_of, own_step, edge_step, contact_step, cell_step, literal_step, gate_step, coil_step, act_step, action_step, turns_before, turn_steps, exit_steps, rung_steps, steps_below}
@@ -45,13 +47,13 @@ module _ {S : Type 0} (o : Algebra S) (p : Drawing) (k : Kept) (now n : ℕ) (f 
     y = among o links g.below
 
     -- the step of a cell does what its gate does
-    abbrev Does : Step → Cell → Type 0
-    Does s c = gone o p k now s (after links) ≡ after (keeping o links (spot_of g) (own o d_ k now f c x y))
+    abbrev Does : Rare → Cell → Type 0
+    Does s c = gone o p k now (step.Rare s) (after links) ≡ after (keeping o links (spot_of g) (own o d_ k now f c x y))
 
     by_cell : (c : Cell) → d_.cell n g.place ≡ c → Does (own_step n g) c
     by_cell c h = ap (λ (e : Cell). after (keeping o links (spot_of g) (own o d_ k now f e x y))) h
 
-    either : (b : Bool) (s t : Step) (c : Cell) → Does s c → Does t c → Does (cond b s t) c
+    either : (b : Bool) (s t : Rare) (c : Cell) → Does s c → Does t c → Does (cond b s t) c
     either true s t c h i = h
     either false s t c h i = i
 
@@ -104,11 +106,11 @@ module _ {S : Type 0} (o : Algebra S) (p : Drawing) (k : Kept) (now n : ℕ) (ta
   abbrev left_by : Frame S → Going S
   left_by f = going f taken links guard
 
-  by_act : (a : Action) (c : Cell) (f : Frame S) → (diagram_of p).cell n a.place ≡ c → gone o p k now (act_step n a) (left_by f) ≡ left_by (acted o k guard links (record a { cell = c }) f)
+  by_act : (a : Action) (c : Cell) (f : Frame S) → (diagram_of p).cell n a.place ≡ c → gone o p k now (step.Rare (act_step n a)) (left_by f) ≡ left_by (acted o k guard links (record a { cell = c }) f)
   by_act a c f h = ap (λ (e : Cell). left_by (acted o k guard links (record a { cell = e }) f)) h
 
   by_coil : (a : Action) (m : CoilMode) (var : ℕ) (memory : Option ℕ) (f : Frame S) → (diagram_of p).cell n a.place ≡ cell.Coil m var memory
-      → gone o p k now (coil_step n a m var) (left_by f) ≡ left_by (acted o k guard links (record a { cell = cell.Coil m var memory }) f)
+      → gone o p k now (step.Rare (coil_step n a m var)) (left_by f) ≡ left_by (acted o k guard links (record a { cell = cell.Coil m var memory }) f)
   by_coil a coil.Store var memory f h = refl
   by_coil a coil.Inverse var memory f h = by_act a _ f h
   by_coil a coil.Set var memory f h = refl
@@ -116,7 +118,7 @@ module _ {S : Type 0} (o : Algebra S) (p : Drawing) (k : Kept) (now n : ℕ) (ta
   by_coil a coil.Rising var memory f h = by_act a _ f h
   by_coil a coil.Falling var memory f h = by_act a _ f h
 
-  chosen : (b : Bool) (s t : Step) (g h : Going S) → gone o p k now s g ≡ h → gone o p k now t g ≡ h → gone o p k now (cond b s t) g ≡ h
+  chosen : (b : Bool) (s t : Rare) (g h : Going S) → gone o p k now (step.Rare s) g ≡ h → gone o p k now (step.Rare t) g ≡ h → gone o p k now (step.Rare (cond b s t)) g ≡ h
   chosen true s t g h i j = i
   chosen false s t g h i j = j
 
@@ -153,7 +155,7 @@ all_more : {A : Type 0} (P : A → Type 0) (x : A) (xs : List A) → P x → All
 all_more P x xs h hs = All-append P (x ∷ []) xs (all_one P x h) hs
 
 module _ (rungs n : ℕ) (lt : n < rungs) where
-  one_of : (b : Bool) (s t : Step) → IsWithin rungs s → IsWithin rungs t → IsWithin rungs (cond b s t)
+  one_of : (b : Bool) (s t : Rare) → IsWithin rungs (step.Rare s) → IsWithin rungs (step.Rare t) → IsWithin rungs (step.Rare (cond b s t))
   one_of true s t h i = h
   one_of false s t h i = i
 
@@ -161,21 +163,21 @@ module _ (rungs n : ℕ) (lt : n < rungs) where
     at_three : IsSpot (spot_of g)
     at_three = (inside.0, inside.1, inside.3)
 
-    at_cell : IsWithin rungs (own_step n g)
+    at_cell : IsWithin rungs (step.Rare (own_step n g))
     at_cell = (at_three, inside.2, lt)
 
-    edge_within : (m : Mode) (var memory : ℕ) → IsWithin rungs (edge_step n g m var memory)
+    edge_within : (m : Mode) (var memory : ℕ) → IsWithin rungs (step.Rare (edge_step n g m var memory))
     edge_within mode.Plain var memory = at_cell
     edge_within mode.Negated var memory = at_cell
     edge_within mode.Rising var memory = at_three
     edge_within mode.Falling var memory = at_three
 
-    contact_within : (m : Mode) (z : Operand) (memory : Option ℕ) → IsWithin rungs (contact_step n g m z memory)
+    contact_within : (m : Mode) (z : Operand) (memory : Option ℕ) → IsWithin rungs (step.Rare (contact_step n g m z memory))
     contact_within m (operand.Var var) (Some memory) = one_of (nat_lt var 65536 && nat_lt memory 65536) _ _ (edge_within m var memory) at_cell
     contact_within m (operand.Var var) None = at_cell
     contact_within m (operand.Output inst) memory = at_cell
 
-    cell_within : (c : Cell) → IsWithin rungs (cell_step n g c)
+    cell_within : (c : Cell) → IsWithin rungs (step.Rare (cell_step n g c))
     cell_within cell.Empty = at_cell
     cell_within cell.Wire = at_three
     cell_within (cell.Contact m z memory) = contact_within m z memory
@@ -196,7 +198,7 @@ module _ (rungs n : ℕ) (lt : n < rungs) where
       all_more (IsWithin rungs) (gate_step p n g) (map (gate_step p n) gs) (literal_within g (h 0 g (omega arith)) g.literal (cell_of p n g.place))
       (gates_within p gs (λ i b less. h (suc i) b (omega (arith, less))))
 
-  coil_within : (a : Action) → IsPlaced a → (m : CoilMode) (var : ℕ) → IsWithin rungs (coil_step n a m var)
+  coil_within : (a : Action) → IsPlaced a → (m : CoilMode) (var : ℕ) → IsWithin rungs (step.Rare (coil_step n a m var))
   coil_within a h coil.Store var = h.1
   coil_within a h coil.Inverse var = (lt, h.0, h.1)
   coil_within a h coil.Set var = h.1
@@ -222,14 +224,14 @@ module _ (rungs n : ℕ) (lt : n < rungs) where
       action_within a (h 0 a (omega arith)) a.cell (filter_map (λ a. action_step n a a.cell) more) (actions_within more (λ i b less. h (suc i) b (omega (arith, less))))
 
   turn_within : (b : Bool) → All (IsWithin rungs) (turn_steps n b)
-  turn_within true = all_one (IsWithin rungs) (Turn n) tt
+  turn_within true = all_one (IsWithin rungs) (step.Rare (Turn n)) tt
   turn_within false = All-nil _
 
   by_jump : (p : Drawing) (jump : Option (ℕ × ℕ × ℕ)) → ((place target : ℕ) → placed jump ≡ Some (place, target) → place < 60)
       → All (IsWithin rungs) (exit_steps n (exit_by p n jump))
   by_jump p None h = All-nil _
   by_jump p (Some (row, column, target)) h =
-      all_one (IsWithin rungs) (Leave n (left_of p n (6 * column + row))) (lt, left_inside p n (6 * column + row) (h (6 * column + row) target refl))
+      all_one (IsWithin rungs) (step.Rare (Leave n (left_of p n (6 * column + row)))) (lt, left_inside p n (6 * column + row) (h (6 * column + row) target refl))
 
   exit_within : (p : Drawing) → IsSound (diagram_of p) → All (IsWithin rungs) (exit_steps n (exit_of p n))
   exit_within p sound = by_jump p (jump_of p n) (λ place target h. (sound.jumps n place target (sym (jump_is p n) ∙ h)).0)
