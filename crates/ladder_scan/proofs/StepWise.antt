@@ -6,7 +6,9 @@ use Rattle.ladder_grid.specs.declared.steps.Step.TheVariants.{Is, Not, Rare}
 use Rattle.ladder_grid.specs.declared.steps.Rare.TheVariants.{Wire, Rising, Falling, Block, Own, Store, Set, Reset, End, Act, Leave, Turn}
 use Rattle.ladder_grid.specs.Program.{Drawing}
 use Rattle.ladder_scan.specs.Algebra.{Algebra}
-use Rattle.ladder_scan.specs.Cells.{Frame, Kept}
+use Rattle.ladder_scan.specs.Cells.{Frame, Kept, var_in}
+use Rattle.ladder_scan.specs.Programs.{diagram_of}
+use Rattle.ladder_scan.proofs.Sizes.{size-put_in}
 use Rattle.ladder_scan.specs.Stepping.{Going, going, links_after, frame_after, taken_after, guard_after, gone, all_gone}
 
 -- ---- one turn of the loop
@@ -26,6 +28,22 @@ module _ {S : Type 0} (o : Algebra S) (p : Drawing) (k : Kept) (now : ℕ) where
   links_length f (Rare (Act rung place left)) links = refl
   links_length f (Rare (Leave rung left)) links = refl
   links_length f (Rare (Turn rung)) links = refl
+
+  pub values_length : (guard : S) (links : List S) (s : Step) (f : Frame S) → length (frame_after o p k guard links s f).values ≡ length f.values
+  values_length guard links (Is spot var) f = refl
+  values_length guard links (Not spot var) f = refl
+  values_length guard links (Rare (Wire spot)) f = refl
+  values_length guard links (Rare (Rising spot var memory)) f = refl
+  values_length guard links (Rare (Falling spot var memory)) f = refl
+  values_length guard links (Rare (Block spot below inst)) f = refl
+  values_length guard links (Rare (Own spot below rung)) f = refl
+  values_length guard links (Rare (Store left var)) f = length-set f.values var _
+  values_length guard links (Rare (Set left var)) f = length-set f.values var _
+  values_length guard links (Rare (Reset left var)) f = length-set f.values var _
+  values_length guard links (Rare (End place inst)) f = refl
+  values_length guard links (Rare (Act rung place left)) f = size-put_in f.values (var_in ((diagram_of p).cell rung place)) _
+  values_length guard links (Rare (Leave rung left)) f = refl
+  values_length guard links (Rare (Turn rung)) f = refl
 
   pub taken_length : (guard : S) (links : List S) (s : Step) (taken : List S) → length (taken_after o guard links s taken) ≡ length taken
   taken_length guard links (Is spot var) taken = refl

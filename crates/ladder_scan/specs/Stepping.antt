@@ -83,19 +83,19 @@ all_gone o p k now (s ∷ ss) g = all_gone o p k now ss (gone o p k now s g)
 abbrev pub IsSpot : Spot → Type 0
 IsSpot spot = (spot.place < PLACES) × (spot.left < OWN) × (spot.other < OWN)
 
--- What a step looks at is there, in a program of so many rungs.
-abbrev pub IsWithin : ℕ → Step → Type 0
-IsWithin rungs (Is spot var) = IsSpot spot
-IsWithin rungs (Not spot var) = IsSpot spot
-IsWithin rungs (Rare (Wire spot)) = IsSpot spot
-IsWithin rungs (Rare (Rising spot var memory)) = IsSpot spot
-IsWithin rungs (Rare (Falling spot var memory)) = IsSpot spot
-IsWithin rungs (Rare (Block spot below inst)) = IsSpot spot × (below < OWN)
-IsWithin rungs (Rare (Own spot below rung)) = IsSpot spot × (below < OWN) × (rung < rungs)
-IsWithin rungs (Rare (Store left var)) = left < OWN
-IsWithin rungs (Rare (Set left var)) = left < OWN
-IsWithin rungs (Rare (Reset left var)) = left < OWN
-IsWithin rungs (Rare (End place inst)) = place < PLACES
-IsWithin rungs (Rare (Act rung place left)) = (rung < rungs) × (place < PLACES) × (left < OWN)
-IsWithin rungs (Rare (Leave rung left)) = (rung < rungs) × (left < OWN)
-IsWithin rungs (Rare (Turn rung)) = Unit {0}
+-- What a step looks at is there, in a program of so many rungs and variables.
+abbrev pub IsWithin : ℕ → ℕ → Step → Type 0
+IsWithin rungs vars (Is spot var) = IsSpot spot × (var < vars)
+IsWithin rungs vars (Not spot var) = IsSpot spot × (var < vars)
+IsWithin rungs vars (Rare (Wire spot)) = IsSpot spot
+IsWithin rungs vars (Rare (Rising spot var memory)) = IsSpot spot
+IsWithin rungs vars (Rare (Falling spot var memory)) = IsSpot spot
+IsWithin rungs vars (Rare (Block spot below inst)) = IsSpot spot × (below < OWN)
+IsWithin rungs vars (Rare (Own spot below rung)) = IsSpot spot × (below < OWN) × (rung < rungs)
+IsWithin rungs vars (Rare (Store left var)) = left < OWN
+IsWithin rungs vars (Rare (Set left var)) = left < OWN
+IsWithin rungs vars (Rare (Reset left var)) = left < OWN
+IsWithin rungs vars (Rare (End place inst)) = place < PLACES
+IsWithin rungs vars (Rare (Act rung place left)) = (rung < rungs) × (place < PLACES) × (left < OWN)
+IsWithin rungs vars (Rare (Leave rung left)) = (rung < rungs) × (left < OWN)
+IsWithin rungs vars (Rare (Turn rung)) = Unit {0}

@@ -55,9 +55,10 @@ fn keep<S: Signal>(links: &mut [S], spot: Spot, through: S)
 fn is<S: Signal>(seen: &Signals<S>, spot: Spot, var: u16, links: &mut [S])
     requires links { length links.old ≡ LINKS }
     requires spot { IsSpot spot }
+    requires var { var < length seen.now.values }
     ensures { links.new ≡ passing S.algebra links.old spot (S.algebra.meet (among S.algebra links.old spot.left) (among S.algebra seen.now.values var)) }
 {
-    let through = links[spot.left as usize].and(link_at(&seen.values, var as usize));
+    let through = links[spot.left as usize].and(seen.values[var as usize]);
     pass(links, spot, through);
 }
 
@@ -66,9 +67,10 @@ fn is<S: Signal>(seen: &Signals<S>, spot: Spot, var: u16, links: &mut [S])
 fn is_not<S: Signal>(seen: &Signals<S>, spot: Spot, var: u16, links: &mut [S])
     requires links { length links.old ≡ LINKS }
     requires spot { IsSpot spot }
+    requires var { var < length seen.now.values }
     ensures { links.new ≡ passing S.algebra links.old spot (S.algebra.meet (among S.algebra links.old spot.left) (S.algebra.inverse (among S.algebra seen.now.values var))) }
 {
-    let through = links[spot.left as usize].and(link_at(&seen.values, var as usize).not());
+    let through = links[spot.left as usize].and(seen.values[var as usize].not());
     pass(links, spot, through);
 }
 
@@ -208,7 +210,7 @@ fn take_rare<S: Signal>(
     links: &mut [S],
 ) -> S
     requires program { IsSound (diagram_of base.program.now) }
-    requires step { IsWithin base.program.now.rungs (Step.Rare rare) }
+    requires step { IsWithin base.program.now.rungs (length base.program.now.decls.vars) (Step.Rare rare) }
     requires links { length links.old ≡ LINKS }
     requires taken { length taken.old ≡ base.program.now.rungs }
     ensures links { links.new ≡ links_after S.algebra base.entry.program.now base.entry.storage.now.kept base.entry.now seen.old (Step.Rare rare) links.old }
@@ -250,7 +252,8 @@ fn take<S: Signal>(
     links: &mut [S],
 ) -> S
     requires program { IsSound (diagram_of base.program.now) }
-    requires step { IsWithin base.program.now.rungs step.now }
+    requires step { IsWithin base.program.now.rungs (length base.program.now.decls.vars) step.now }
+    requires values { length seen.old.values ≡ length base.program.now.decls.vars }
     requires links { length links.old ≡ LINKS }
     requires taken { length taken.old ≡ base.program.now.rungs }
     ensures links { links.new ≡ links_after S.algebra base.entry.program.now base.entry.storage.now.kept base.entry.now seen.old step.now links.old }
@@ -282,7 +285,8 @@ pub(crate) fn go<S: Signal>(
     links: &mut [S],
 )
     requires program { IsSound (diagram_of base.program.now) }
-    requires steps { All (IsWithin base.program.now.rungs) steps.now }
+    requires steps { All (IsWithin base.program.now.rungs (length base.program.now.decls.vars)) steps.now }
+    requires values { length seen.old.values ≡ length base.program.now.decls.vars }
     requires links { length links.old ≡ LINKS }
     requires taken { length taken.old ≡ base.program.now.rungs }
     ensures { seen.new ≡ (all_gone S.algebra base.entry.program.now base.entry.storage.now.kept base.entry.now steps.now
