@@ -22,7 +22,7 @@ use Rattle.ladder_grid.specs.declared.steps.Rare.{Rare}
 use Rattle.ladder_grid.specs.declared.steps.Rare.TheVariants.{End, Leave, Turn}
 use Rattle.ladder_grid.specs.Program.{Drawing, cell_of, jump_of, Fits, OperandFits, IsWellFormed}
 use Rattle.ladder_vars.specs.Decls.{Declared}
-use Rattle.ladder_grid.specs.Gates.{literal_on, literal_of, has_gate, gate_at, gates_before, gates_of, actions_of, left_of, exit_by, exit_of}
+use Rattle.ladder_grid.specs.Gates.{literal_on, literal_of, has_gate, gate_at, gates_before, acts, action_at, actions_before, gates_of, actions_of, left_of, exit_by, exit_of}
 use Rattle.ladder_grid.specs.Steps.{spot_of, own_step, edge_step, contact_step, cell_step, literal_step, gate_step, coil_step, act_step, action_step, turns_before, turn_steps, exit_steps, rung_steps, steps_below}
 use Rattle.ladder_scan.specs.Algebra.{Algebra}
 use Rattle.ladder_scan.specs.Cells.{Diagram, Frame, Kept}
@@ -191,6 +191,20 @@ literal_var decls (cell.Lower inst linked) h = tt
 literal_var decls (cell.Jump target) h = tt
 literal_var decls cell.Return h = tt
 
+abbrev HasCoil : ℕ → Cell → Type 0
+HasCoil vars (cell.Coil m var memory) = var < vars
+HasCoil vars other = Unit {0}
+
+coil_var : (decls : Declared) (c : Cell) → Fits decls c → HasCoil (length decls.vars) c
+coil_var decls cell.Empty h = tt
+coil_var decls cell.Wire h = tt
+coil_var decls (cell.Contact m z memory) h = tt
+coil_var decls (cell.Coil m var memory) h = h.0
+coil_var decls (cell.Block inst) h = tt
+coil_var decls (cell.Lower inst linked) h = tt
+coil_var decls (cell.Jump target) h = tt
+coil_var decls cell.Return h = tt
+
 module _ (p : Drawing) (formed : IsWellFormed p) (rung : ℕ) where
   abbrev Knows : Gate → Type 0
   Knows g = HasVar (length p.decls.vars) g.literal
@@ -203,6 +217,22 @@ module _ (p : Drawing) (formed : IsWellFormed p) (rung : ℕ) where
         (All-append Knows (gates_before p rung n) _ (known_before n) (all_one Knows (gate_at p rung n) (literal_var p.decls (cell_of p rung n) (formed.fits (60 * rung + n)))))
     | inr t ↦ subst (λ (xs : List Gate). All Knows xs) (sym (cond_off (has_gate p rung n) _ _ t)) (known_before n)
   ]
+
+  abbrev Writes : Action → Type 0
+  Writes a = HasCoil (length p.decls.vars) a.cell
+
+  there_before : (n : ℕ) → All Writes (actions_before p rung n)
+  unfolding actions_before
+  there_before zero = All-nil _
+  there_before (suc n) = elim (cases_Bool (acts (cell_of p rung n))) [
+    | inl t ↦ subst (λ (xs : List Action). All Writes xs) (sym (cond_on (acts (cell_of p rung n)) _ _ t))
+        (All-append Writes (actions_before p rung n) _ (there_before n) (all_one Writes (action_at p rung n) (coil_var p.decls (cell_of p rung n) (formed.fits (60 * rung + n)))))
+    | inr t ↦ subst (λ (xs : List Action). All Writes xs) (sym (cond_off (acts (cell_of p rung n)) _ _ t)) (there_before n)
+  ]
+
+  pub all_there : All Writes (actions_of p rung)
+  unfolding actions_of
+  all_there = there_before 60
 
   pub all_known : All Knows (gates_of p rung)
   unfolding gates_of
@@ -252,30 +282,31 @@ module _ (rungs vars n : ℕ) (lt : n < rungs) where
       all_more (IsWithin rungs vars) (gate_step p n g) (map (gate_step p n) gs) (literal_within g (h 0 g (omega arith)) g.literal (cell_of p n g.place) (known 0 g (omega arith)))
       (gates_within p gs (λ i b less. h (suc i) b (omega (arith, less))) (λ i b less. known (suc i) b (omega (arith, less))))
 
-  coil_within : (a : Action) → IsPlaced a → (m : CoilMode) (var : ℕ) → IsWithin rungs vars (step.Rare (coil_step n a m var))
-  coil_within a h coil.Store var = h.1
-  coil_within a h coil.Inverse var = (lt, h.0, h.1)
-  coil_within a h coil.Set var = h.1
-  coil_within a h coil.Reset var = h.1
-  coil_within a h coil.Rising var = (lt, h.0, h.1)
-  coil_within a h coil.Falling var = (lt, h.0, h.1)
+  coil_within : (a : Action) → IsPlaced a → (m : CoilMode) (var : ℕ) → var < vars → IsWithin rungs vars (step.Rare (coil_step n a m var))
+  coil_within a h coil.Store var there = (h.1, there)
+  coil_within a h coil.Inverse var there = (lt, h.0, h.1)
+  coil_within a h coil.Set var there = (h.1, there)
+  coil_within a h coil.Reset var there = (h.1, there)
+  coil_within a h coil.Rising var there = (lt, h.0, h.1)
+  coil_within a h coil.Falling var there = (lt, h.0, h.1)
 
-  action_within : (a : Action) → IsPlaced a → (c : Cell) (ss : List Step) → All (IsWithin rungs vars) ss → All (IsWithin rungs vars) (cons_option (action_step n a c) ss)
-  action_within a h cell.Empty ss hs = hs
-  action_within a h cell.Wire ss hs = hs
-  action_within a h (cell.Contact m z memory) ss hs = hs
-  action_within a h (cell.Coil m var memory) ss hs =
-      all_more (IsWithin rungs vars) _ ss (one_of (nat_lt var 65536) (coil_step n a m var) (act_step n a) (coil_within a h m var) (lt, h.0, h.1)) hs
-  action_within a h (cell.Block inst) ss hs =
+  action_within : (a : Action) → IsPlaced a → (c : Cell) → HasCoil vars c → (ss : List Step) → All (IsWithin rungs vars) ss → All (IsWithin rungs vars) (cons_option (action_step n a c) ss)
+  action_within a h cell.Empty there ss hs = hs
+  action_within a h cell.Wire there ss hs = hs
+  action_within a h (cell.Contact m z memory) there ss hs = hs
+  action_within a h (cell.Coil m var memory) there ss hs =
+      all_more (IsWithin rungs vars) _ ss (one_of (nat_lt var 65536) (coil_step n a m var) (act_step n a) (coil_within a h m var there) (lt, h.0, h.1)) hs
+  action_within a h (cell.Block inst) there ss hs =
       all_more (IsWithin rungs vars) _ ss (one_of (nat_lt inst 65536) (End a.place inst) (act_step n a) h.0 (lt, h.0, h.1)) hs
-  action_within a h (cell.Lower inst linked) ss hs = hs
-  action_within a h (cell.Jump target) ss hs = hs
-  action_within a h cell.Return ss hs = hs
+  action_within a h (cell.Lower inst linked) there ss hs = hs
+  action_within a h (cell.Jump target) there ss hs = hs
+  action_within a h cell.Return there ss hs = hs
 
-  actions_within : (more : List Action) → All IsPlaced more → All (IsWithin rungs vars) (filter_map (λ a. action_step n a a.cell) more)
-  actions_within [] h = All-nil _
-  actions_within (a ∷ more) h =
-      action_within a (h 0 a (omega arith)) a.cell (filter_map (λ a. action_step n a a.cell) more) (actions_within more (λ i b less. h (suc i) b (omega (arith, less))))
+  actions_within : (more : List Action) → All IsPlaced more → All (λ a. HasCoil vars a.cell) more → All (IsWithin rungs vars) (filter_map (λ a. action_step n a a.cell) more)
+  actions_within [] h there = All-nil _
+  actions_within (a ∷ more) h there =
+      action_within a (h 0 a (omega arith)) a.cell (there 0 a (omega arith)) (filter_map (λ a. action_step n a a.cell) more)
+      (actions_within more (λ i b less. h (suc i) b (omega (arith, less))) (λ i b less. there (suc i) b (omega (arith, less))))
 
   turn_within : (b : Bool) → All (IsWithin rungs vars) (turn_steps n b)
   turn_within true = all_one (IsWithin rungs vars) (step.Rare (Turn n)) tt
@@ -290,18 +321,19 @@ module _ (rungs vars n : ℕ) (lt : n < rungs) where
   exit_within : (p : Drawing) → IsSound (diagram_of p) → All (IsWithin rungs vars) (exit_steps n (exit_of p n))
   exit_within p sound = by_jump p (jump_of p n) (λ place target h. (sound.jumps n place target (sym (jump_is p n) ∙ h)).0)
 
-  pub rung_within : (p : Drawing) → IsSound (diagram_of p) → All (λ g. HasVar vars g.literal) (gates_of p n) → All (IsWithin rungs vars) (rung_steps p n)
-  rung_within p sound known =
+  pub rung_within : (p : Drawing) → IsSound (diagram_of p) → All (λ g. HasVar vars g.literal) (gates_of p n) → All (λ a. HasCoil vars a.cell) (actions_of p n)
+      → All (IsWithin rungs vars) (rung_steps p n)
+  rung_within p sound known there =
       All-append (IsWithin rungs vars) _ _ (turn_within (turns_before p n n))
       (All-append (IsWithin rungs vars) _ _ (gates_within p (gates_of p n) (gates_inside p n) known)
-      (All-append (IsWithin rungs vars) _ _ (exit_within p sound) (actions_within (actions_of p n) (places p n))))
+      (All-append (IsWithin rungs vars) _ _ (exit_within p sound) (actions_within (actions_of p n) (places p n) there)))
 
 within_below : (p : Drawing) → IsSound (diagram_of p) → IsWellFormed p → (n : ℕ) → n ≤ p.rungs → All (IsWithin p.rungs (length p.decls.vars)) (steps_below p n)
 unfolding steps_below
 within_below p sound formed zero h = All-nil _
 within_below p sound formed (suc n) h =
     All-append (IsWithin p.rungs (length p.decls.vars)) (steps_below p n) _ (within_below p sound formed n (omega (arith, h)))
-    (rung_within p.rungs (length p.decls.vars) n (omega (arith, h)) p sound (all_known p formed n))
+    (rung_within p.rungs (length p.decls.vars) n (omega (arith, h)) p sound (all_known p formed n) (all_there p formed n))
 
 pub all_within : (p : Drawing) → IsSound (diagram_of p) → IsWellFormed p → All (IsWithin p.rungs (length p.decls.vars)) (steps_below p p.rungs)
 all_within p sound formed = within_below p sound formed p.rungs (omega arith)

@@ -149,10 +149,11 @@ fn own<S: Signal>(base: Base<'_>, seen: &Signals<S>, spot: Spot, below: u8, rung
 
 /// Writes what a coil would write to a variable.
 fn store<S: Signal>(seen: &mut Signals<S>, guard: S, var: u16, new: S)
+    requires { var < length seen.old.values }
     ensures { seen.new ≡ storing S.algebra guard var new seen.old }
 {
-    let old = seen.value(var as usize);
-    seen.put_value(var as usize, S::choose(guard, new, old));
+    let old = seen.values[var as usize];
+    seen.values[var as usize] = S::choose(guard, new, old);
 }
 
 /// What any cell writes.
@@ -177,9 +178,10 @@ fn act<S: Signal>(base: Base<'_>, guard: S, links: &[S], rung: u8, place: u8, le
 
 /// A coil that writes this value where its link is ON.
 fn latch<S: Signal>(seen: &mut Signals<S>, guard: S, var: u16, link: S, on: bool)
+    requires { var < length seen.old.values }
     ensures { seen.new ≡ storing S.algebra guard var (S.algebra.choice link (S.algebra.known on) (among S.algebra seen.old.values var)) seen.old }
 {
-    let old = seen.value(var as usize);
+    let old = seen.values[var as usize];
     store(seen, guard, var, S::choose(link, S::known(on), old));
 }
 
@@ -211,6 +213,7 @@ fn take_rare<S: Signal>(
 ) -> S
     requires program { IsSound (diagram_of base.program.now) }
     requires step { IsWithin base.program.now.rungs (length base.program.now.decls.vars) (Step.Rare rare) }
+    requires values { length seen.old.values ≡ length base.program.now.decls.vars }
     requires links { length links.old ≡ LINKS }
     requires taken { length taken.old ≡ base.program.now.rungs }
     ensures links { links.new ≡ links_after S.algebra base.entry.program.now base.entry.storage.now.kept base.entry.now seen.old (Step.Rare rare) links.old }
