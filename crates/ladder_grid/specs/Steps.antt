@@ -18,6 +18,8 @@ use Rattle.ladder_grid.specs.declared.gates.Literal.TheVariants as literal
 use Rattle.ladder_grid.specs.declared.steps.Spot.{Spot}
 use Rattle.ladder_grid.specs.declared.steps.Step.{Step}
 use Rattle.ladder_grid.specs.declared.steps.Step.TheVariants as step
+use Rattle.ladder_grid.specs.declared.steps.Rare.{Rare}
+use Rattle.ladder_grid.specs.declared.steps.Rare.TheVariants as rare
 use Rattle.ladder_grid.specs.Program.{Drawing, IsWhole, cell_of, jump_of, memories_of}
 use Rattle.ladder_grid.specs.Gates.{gates_of, actions_of, exit_of, leaps_below}
 
@@ -26,27 +28,27 @@ use Rattle.ladder_grid.specs.Gates.{gates_of, actions_of, exit_of, leaps_below}
 abbrev pub spot_of : Gate → Spot
 spot_of g = record { place = g.place; left = g.left; other = g.other }
 
-abbrev pub own_step : ℕ → Gate → Step
-own_step rung g = step.Own (spot_of g) g.below rung
+abbrev pub own_step : ℕ → Gate → Rare
+own_step rung g = rare.Own (spot_of g) g.below rung
 
 -- an edge contact
-abbrev pub edge_step : ℕ → Gate → Mode → ℕ → ℕ → Step
+abbrev pub edge_step : ℕ → Gate → Mode → ℕ → ℕ → Rare
 edge_step rung g mode.Plain var memory = own_step rung g
 edge_step rung g mode.Negated var memory = own_step rung g
-edge_step rung g mode.Rising var memory = step.Rising (spot_of g) var memory
-edge_step rung g mode.Falling var memory = step.Falling (spot_of g) var memory
+edge_step rung g mode.Rising var memory = rare.Rising (spot_of g) var memory
+edge_step rung g mode.Falling var memory = rare.Falling (spot_of g) var memory
 
-abbrev pub contact_step : ℕ → Gate → Mode → Operand → Option ℕ → Step
+abbrev pub contact_step : ℕ → Gate → Mode → Operand → Option ℕ → Rare
 contact_step rung g m (operand.Var var) (Some memory) = if nat_lt var VARIABLES && nat_lt memory VARIABLES then edge_step rung g m var memory else own_step rung g
 contact_step rung g m (operand.Var var) None = own_step rung g
 contact_step rung g m (operand.Output inst) memory = own_step rung g
 
-abbrev pub cell_step : ℕ → Gate → Cell → Step
+abbrev pub cell_step : ℕ → Gate → Cell → Rare
 cell_step rung g cell.Empty = own_step rung g
-cell_step rung g cell.Wire = step.Wire (spot_of g)
+cell_step rung g cell.Wire = rare.Wire (spot_of g)
 cell_step rung g (cell.Contact m x memory) = contact_step rung g m x memory
 cell_step rung g (cell.Coil m var memory) = own_step rung g
-cell_step rung g (cell.Block inst) = if nat_lt inst VARIABLES then step.Block (spot_of g) g.below inst else own_step rung g
+cell_step rung g (cell.Block inst) = if nat_lt inst VARIABLES then rare.Block (spot_of g) g.below inst else own_step rung g
 cell_step rung g (cell.Lower inst linked) = own_step rung g
 cell_step rung g (cell.Jump target) = own_step rung g
 cell_step rung g cell.Return = own_step rung g
@@ -54,21 +56,21 @@ cell_step rung g cell.Return = own_step rung g
 abbrev pub literal_step : ℕ → Gate → Cell → Literal → Step
 literal_step rung g c (literal.Is var) = step.Is (spot_of g) var
 literal_step rung g c (literal.Not var) = step.Not (spot_of g) var
-literal_step rung g c literal.Other = cell_step rung g c
+literal_step rung g c literal.Other = step.Rare (cell_step rung g c)
 
 abbrev pub gate_step : Drawing → ℕ → Gate → Step
 gate_step d rung g = literal_step rung g (cell_of d rung g.place) g.literal
 
 -- ---- actions
 
-abbrev pub act_step : ℕ → Action → Step
-act_step rung a = step.Act rung a.place a.left
+abbrev pub act_step : ℕ → Action → Rare
+act_step rung a = rare.Act rung a.place a.left
 
-abbrev pub coil_step : ℕ → Action → CoilMode → ℕ → Step
-coil_step rung a coil.Store var = step.Store a.left var
+abbrev pub coil_step : ℕ → Action → CoilMode → ℕ → Rare
+coil_step rung a coil.Store var = rare.Store a.left var
 coil_step rung a coil.Inverse var = act_step rung a
-coil_step rung a coil.Set var = step.Set a.left var
-coil_step rung a coil.Reset var = step.Reset a.left var
+coil_step rung a coil.Set var = rare.Set a.left var
+coil_step rung a coil.Reset var = rare.Reset a.left var
 coil_step rung a coil.Rising var = act_step rung a
 coil_step rung a coil.Falling var = act_step rung a
 
@@ -77,8 +79,8 @@ abbrev pub action_step : ℕ → Action → Cell → Option Step
 action_step rung a cell.Empty = None
 action_step rung a cell.Wire = None
 action_step rung a (cell.Contact m x memory) = None
-action_step rung a (cell.Coil m var memory) = Some (if nat_lt var VARIABLES then coil_step rung a m var else act_step rung a)
-action_step rung a (cell.Block inst) = Some (if nat_lt inst VARIABLES then step.End a.place inst else act_step rung a)
+action_step rung a (cell.Coil m var memory) = Some (step.Rare (if nat_lt var VARIABLES then coil_step rung a m var else act_step rung a))
+action_step rung a (cell.Block inst) = Some (step.Rare (if nat_lt inst VARIABLES then rare.End a.place inst else act_step rung a))
 action_step rung a (cell.Lower inst linked) = None
 action_step rung a (cell.Jump target) = None
 action_step rung a cell.Return = None
@@ -96,11 +98,11 @@ turns_before d n zero = false
 turns_before d n (suc i) = turns_before d n i || turned_by n i (jump_of d i)
 
 abbrev pub turn_steps : ℕ → Bool → List Step
-turn_steps rung turns = if turns then step.Turn rung ∷ [] else []
+turn_steps rung turns = if turns then step.Rare (rare.Turn rung) ∷ [] else []
 
 abbrev pub exit_steps : ℕ → Option Exit → List Step
 exit_steps rung None = []
-exit_steps rung (Some exit) = step.Leave rung exit.left ∷ []
+exit_steps rung (Some exit) = step.Rare (rare.Leave rung exit.left) ∷ []
 
 -- Its guard, its gates, its jump and what it writes.
 abbrev pub rung_steps : Drawing → ℕ → List Step

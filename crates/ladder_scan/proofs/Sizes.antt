@@ -12,7 +12,7 @@ use Rattle.ladder_scan.specs.SignalScan.{looked, look_frame, guard_of}
 use Rattle.ladder_scan.specs.RungByRung.{Scanned, scanned}
 use Rattle.ladder_scan.proofs.Changes.{changed_is}
 
-size-put_in : {A : Type 0} (xs : List A) (m : Option ℕ) (x : A) → length (put_in xs m x) ≡ length xs
+pub size-put_in : {A : Type 0} (xs : List A) (m : Option ℕ) (x : A) → length (put_in xs m x) ≡ length xs
 size-put_in xs None x = refl
 size-put_in xs (Some i) x = length-set xs i x
 
@@ -118,3 +118,7 @@ look_sizes o d now inputs h f next n b e = record {
       ∙ ap (λ (x : Frame _). length x.ends) b
       ∙ length-map h.kept.blocks (λ b. o.known (q_of b));
 }
+
+pub begin_size : {S : Type 0} (o : Algebra S) (d : Diagram) (inputs : List S) (h : Held) (f : Frame S) → f ≡ look_frame o d inputs h → length f.values ≡ length h.values
+begin_size o d inputs h f e =
+    ap (λ (x : Frame _). length x.values) e ∙ size-given d.inputs inputs (map o.known h.values) ∙ length-map h.values o.known

@@ -2,7 +2,7 @@
 
 ghost use Rattle.std.specs.Prelude.{◌≡◌, ◌+◌, ◌-◌, ◌^◌, ◌<◌, ◌≤◌, ◌↔◌, ℕ, min, length, map, All, IfOk, IsTrue, slice_get, Some, slice_index_or, false, true, [], nat_lt, ◌&&◌, if◌then◌else◌};
 ghost use Rattle.ladder_grid.specs.declared.gates.TheConstants.{LINKS};
-ghost use Rattle.ladder_grid.specs.Gates.{leaps_below};
+ghost use Rattle.ladder_grid.specs.Program.{IsWellFormed};
 ghost use Rattle.ladder_grid.specs.declared.gates.Exit.{Exit};
 ghost use Rattle.ladder_scan.specs.SignalScan.{passes_over, guard_of, look_frame, looked, after_look};
 ghost use Rattle.ladder_scan.specs.Rung.{SameSizes};
@@ -146,6 +146,8 @@ fn look_rungs<S: Signal>(
     links: &mut [S],
 )
     requires program { IsSound (diagram_of base.program.now) }
+    requires formed { IsWellFormed base.program.now }
+    requires sizes { length seen.old.values ≡ length base.program.now.decls.vars }
     requires values { AreValues S.algebra S.value seen.old }
     requires taken { length taken.old ≡ base.program.now.rungs }
     requires links { length links.old ≡ LINKS }
@@ -168,6 +170,7 @@ pub fn look<S: Signal>(program: &Program, state: &State, inputs: &[S], now: u64,
     ensures fits { HasRoom program.now work.new }
     ensures looks { work.new.looks ≡ min (work.old.looks + 1) (2 ^ 64 - 1) }
 {
+    program.checked();
     checked(program);
     begin(program, &state.storage, inputs, &mut work.seen);
     let base = Base {

@@ -6,6 +6,7 @@ ghost use Rattle.ladder_vars.specs.declared.kind.BlockKind.TheVariants.{Ton};
 ghost use Rattle.ladder_grid.specs.declared.geometry.TheConstants.{PLACES};
 ghost use Rattle.ladder_grid.specs.declared.gates.TheConstants.{OFF, OWN, LINKS};
 ghost use Rattle.ladder_grid.specs.Gates.{leaps_below};
+ghost use Rattle.ladder_grid.specs.declared.steps.Step.{Step};
 ghost use Rattle.ladder_scan.specs.Blocks.{new_block};
 ghost use Rattle.ladder_scan.specs.Cells.{frame, q_from};
 ghost use Rattle.ladder_scan.specs.Programs.{diagram_of, IsSound};
@@ -21,7 +22,7 @@ use crate::signals::Signals;
 use crate::storage::Storage;
 use ladder_grid::Program;
 use ladder_grid::gates::{Action, LINKS, OFF, OWN};
-use ladder_grid::steps::{Spot, Step};
+use ladder_grid::steps::{Rare, Spot, Step};
 
 /// What a look goes by, and leaves as it is.
 #[derive(Clone, Copy)]
@@ -56,9 +57,10 @@ fn keep<S: Signal>(links: &mut [S], spot: Spot, through: S)
 fn is<S: Signal>(seen: &Signals<S>, spot: Spot, var: u16, links: &mut [S])
     requires links { length links.old ≡ LINKS }
     requires spot { IsSpot spot }
+    requires var { var < length seen.now.values }
     ensures { links.new ≡ passing S.algebra links.old spot (S.algebra.meet (among S.algebra links.old spot.left) (among S.algebra seen.now.values var)) }
 {
-    let through = links[spot.left as usize].and(link_at(&seen.values, var as usize));
+    let through = links[spot.left as usize].and(seen.values[var as usize]);
     pass(links, spot, through);
 }
 
@@ -67,9 +69,10 @@ fn is<S: Signal>(seen: &Signals<S>, spot: Spot, var: u16, links: &mut [S])
 fn is_not<S: Signal>(seen: &Signals<S>, spot: Spot, var: u16, links: &mut [S])
     requires links { length links.old ≡ LINKS }
     requires spot { IsSpot spot }
+    requires var { var < length seen.now.values }
     ensures { links.new ≡ passing S.algebra links.old spot (S.algebra.meet (among S.algebra links.old spot.left) (S.algebra.inverse (among S.algebra seen.now.values var))) }
 {
-    let through = links[spot.left as usize].and(link_at(&seen.values, var as usize).not());
+    let through = links[spot.left as usize].and(seen.values[var as usize].not());
     pass(links, spot, through);
 }
 
@@ -106,8 +109,8 @@ fn falling<S: Signal>(base: Base<'_>, value: S, spot: Spot, memory: u16, links: 
     keep(links, spot, through);
 }
 
-/// The gate of a block: its Q in this evaluation, by its inputs.
-#[inline(always)]
+/// The gate of a block: its Q in this evaluation, by its inputs. Out of line, for it is rare.
+#[inline(never)]
 fn block<S: Signal>(base: Base<'_>, spot: Spot, below: u8, inst: usize, links: &mut [S])
     requires program { IsSound (diagram_of base.program.now) }
     requires links { length links.old ≡ LINKS }
@@ -148,10 +151,11 @@ fn own<S: Signal>(base: Base<'_>, seen: &Signals<S>, spot: Spot, below: u8, rung
 
 /// Writes what a coil would write to a variable.
 fn store<S: Signal>(seen: &mut Signals<S>, guard: S, var: u16, new: S)
+    requires { var < length seen.old.values }
     ensures { seen.new ≡ storing S.algebra guard var new seen.old }
 {
-    let old = seen.value(var as usize);
-    seen.put_value(var as usize, S::choose(guard, new, old));
+    let old = seen.values[var as usize];
+    seen.values[var as usize] = S::choose(guard, new, old);
 }
 
 /// What any cell writes.
@@ -176,9 +180,10 @@ fn act<S: Signal>(base: Base<'_>, guard: S, links: &[S], rung: u8, place: u8, le
 
 /// A coil that writes this value where its link is ON.
 fn latch<S: Signal>(seen: &mut Signals<S>, guard: S, var: u16, link: S, on: bool)
+    requires { var < length seen.old.values }
     ensures { seen.new ≡ storing S.algebra guard var (S.algebra.choice link (S.algebra.known on) (among S.algebra seen.old.values var)) seen.old }
 {
-    let old = seen.value(var as usize);
+    let old = seen.values[var as usize];
     store(seen, guard, var, S::choose(link, S::known(on), old));
 }
 
@@ -190,51 +195,58 @@ fn end<S: Signal>(seen: &mut Signals<S>, guard: S, inst: u16, new: S)
     seen.put_end(inst as usize, S::choose(guard, new, old));
 }
 
-/// Takes any step, and returns the guard from there on. Out of line; see `take`.
+/// The guard of a rung, by the jumps before it. Out of line, for it is rare.
 #[inline(never)]
-fn take_any<S: Signal>(
+fn new_guard<S: Signal>(program: &Program, taken: &[S], rung: u8) -> S
+    ensures { result ≡ guard_by S.algebra taken.now rung (leaps_below program.now program.now.rungs) (S.algebra.known true) }
+{
+    guard_by(program.leaps(), taken, rung as usize)
+}
+
+/// Takes a step that isn't a plain contact, and returns the guard from there on.
+#[inline(always)]
+fn take_rare<S: Signal>(
     base: Base<'_>,
-    step: &Step,
+    rare: Rare,
     guard: S,
     seen: &mut Signals<S>,
     taken: &mut [S],
     links: &mut [S],
 ) -> S
     requires program { IsSound (diagram_of base.program.now) }
-    requires step { IsWithin base.program.now.rungs step.now }
+    requires step { IsWithin base.program.now.rungs (length base.program.now.decls.vars) (Step.Rare rare) }
+    requires values { length seen.old.values ≡ length base.program.now.decls.vars }
     requires links { length links.old ≡ LINKS }
     requires taken { length taken.old ≡ base.program.now.rungs }
-    ensures links { links.new ≡ links_after S.algebra base.entry.program.now base.entry.storage.now.kept base.entry.now seen.old step.now links.old }
-    ensures seen { seen.new ≡ frame_after S.algebra base.entry.program.now base.entry.storage.now.kept guard links.new step.now seen.old }
-    ensures taken { taken.new ≡ taken_after S.algebra guard links.old step.now taken.old }
-    ensures guard { result ≡ guard_after S.algebra base.entry.program.now taken.old step.now guard }
+    ensures links { links.new ≡ links_after S.algebra base.entry.program.now base.entry.storage.now.kept base.entry.now seen.old (Step.Rare rare) links.old }
+    ensures seen { seen.new ≡ frame_after S.algebra base.entry.program.now base.entry.storage.now.kept guard links.new (Step.Rare rare) seen.old }
+    ensures taken { taken.new ≡ taken_after S.algebra guard links.old (Step.Rare rare) taken.old }
+    ensures guard { result ≡ guard_after S.algebra base.entry.program.now taken.old (Step.Rare rare) guard }
 {
-    match *step {
-        Step::Is { spot, var } => is(seen, spot, var, links),
-        Step::Not { spot, var } => is_not(seen, spot, var, links),
-        Step::Wire { spot } => wire(spot, links),
-        Step::Rising { spot, var, memory } => {
+    match rare {
+        Rare::Wire { spot } => wire(spot, links),
+        Rare::Rising { spot, var, memory } => {
             rising(base, seen.value(var as usize), spot, memory, links);
         }
-        Step::Falling { spot, var, memory } => {
+        Rare::Falling { spot, var, memory } => {
             falling(base, seen.value(var as usize), spot, memory, links);
         }
-        Step::Block { spot, below, inst } => block(base, spot, below, inst as usize, links),
-        Step::Own { spot, below, rung } => own(base, seen, spot, below, rung as usize, links),
-        Step::Store { left, var } => store(seen, guard, var, links[left as usize]),
-        Step::Set { left, var } => latch(seen, guard, var, links[left as usize], true),
-        Step::Reset { left, var } => latch(seen, guard, var, links[left as usize], false),
-        Step::End { place, inst } => end(seen, guard, inst, links[OWN + place as usize]),
-        Step::Act { rung, place, left } => act(base, guard, links, rung, place, left, seen),
-        Step::Leave { rung, left } => {
+        Rare::Block { spot, below, inst } => block(base, spot, below, inst as usize, links),
+        Rare::Own { spot, below, rung } => own(base, seen, spot, below, rung as usize, links),
+        Rare::Store { left, var } => store(seen, guard, var, links[left as usize]),
+        Rare::Set { left, var } => latch(seen, guard, var, links[left as usize], true),
+        Rare::Reset { left, var } => latch(seen, guard, var, links[left as usize], false),
+        Rare::End { place, inst } => end(seen, guard, inst, links[OWN + place as usize]),
+        Rare::Act { rung, place, left } => act(base, guard, links, rung, place, left, seen),
+        Rare::Leave { rung, left } => {
             taken[rung as usize] = guard.and(links[left as usize]);
         }
-        Step::Turn { rung } => return guard_by(base.program.leaps(), taken, rung as usize),
+        Rare::Turn { rung } => return new_guard(base.program, taken, rung),
     }
     guard
 }
 
-/// Takes a step, most of which are plain contacts and coils, and returns the guard from there on.
+/// Takes a step, and returns the guard from there on.
 #[inline(always)]
 fn take<S: Signal>(
     base: Base<'_>,
@@ -245,7 +257,8 @@ fn take<S: Signal>(
     links: &mut [S],
 ) -> S
     requires program { IsSound (diagram_of base.program.now) }
-    requires step { IsWithin base.program.now.rungs step.now }
+    requires step { IsWithin base.program.now.rungs (length base.program.now.decls.vars) step.now }
+    requires values { length seen.old.values ≡ length base.program.now.decls.vars }
     requires links { length links.old ≡ LINKS }
     requires taken { length taken.old ≡ base.program.now.rungs }
     ensures links { links.new ≡ links_after S.algebra base.entry.program.now base.entry.storage.now.kept base.entry.now seen.old step.now links.old }
@@ -253,19 +266,17 @@ fn take<S: Signal>(
     ensures taken { taken.new ≡ taken_after S.algebra guard links.old step.now taken.old }
     ensures guard { result ≡ guard_after S.algebra base.entry.program.now taken.old step.now guard }
 {
-    if let Step::Is { spot, var } = *step {
-        is(seen, spot, var, links);
-        return guard;
+    match *step {
+        Step::Is { spot, var } => {
+            is(seen, spot, var, links);
+            guard
+        }
+        Step::Not { spot, var } => {
+            is_not(seen, spot, var, links);
+            guard
+        }
+        Step::Rare(rare) => take_rare(base, rare, guard, seen, taken, links),
     }
-    if let Step::Not { spot, var } = *step {
-        is_not(seen, spot, var, links);
-        return guard;
-    }
-    if let Step::Store { left, var } = *step {
-        store(seen, guard, var, links[left as usize]);
-        return guard;
-    }
-    take_any(base, step, guard, seen, taken, links)
 }
 
 /// Goes from step to step, and leaves the values and Qs of the look.
@@ -279,7 +290,8 @@ pub(crate) fn go<S: Signal>(
     links: &mut [S],
 )
     requires program { IsSound (diagram_of base.program.now) }
-    requires steps { All (IsWithin base.program.now.rungs) steps.now }
+    requires steps { All (IsWithin base.program.now.rungs (length base.program.now.decls.vars)) steps.now }
+    requires values { length seen.old.values ≡ length base.program.now.decls.vars }
     requires links { length links.old ≡ LINKS }
     requires taken { length taken.old ≡ base.program.now.rungs }
     ensures { seen.new ≡ (all_gone S.algebra base.entry.program.now base.entry.storage.now.kept base.entry.now steps.now

@@ -4,7 +4,7 @@ use Rattle.ladder_scan.specs.Programs.{diagram_of}
 use Rattle.ladder_scan.specs.Standing.{Standing}
 use Rattle.ladder_scan.specs.SignalScan.{after_look}
 use Rattle.ladder_scan.proofs.Possible.{as_many}
-use Rattle.ladder_scan.proofs.Sizes.{look_sizes}
+use Rattle.ladder_scan.proofs.Sizes.{begin_size, look_sizes}
 use Rattle.ladder_scan.proofs.Starts.{begin_values, by_looks}
 use Rattle.ladder_scan.proofs.looking.look.Goals as goal
 
@@ -38,3 +38,9 @@ returns-clause-fits g c =
           ∙ ap length c.requires.state.kinds
           ∙ length-map c.args.program.now.decls.instances (λ i. i.kind);
     }
+
+pub look_rungs-requires-clause-sizes : goal.look_rungs-requires-clause-sizes
+look_rungs-requires-clause-sizes g c =
+    begin_size g.S.Signal.algebra (diagram_of c.args.program.now) c.args.inputs.now c.state.inside.storage c.begin.new.seen c.begin.ensures
+    ∙ ap (λ (s : Standing). length s.held.values) c.state.view_is
+    ∙ c.requires.state.values

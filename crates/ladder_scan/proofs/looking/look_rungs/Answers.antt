@@ -1,4 +1,4 @@
-use Rattle.std.proofs.Common.{◌∙◌, sym, ap, subst, true, All, List}
+use Rattle.std.proofs.Common.{◌∙◌, sym, ap, subst, true, length, All, List}
 use Rattle.ladder_grid.specs.declared.steps.Step.{Step}
 use Rattle.ladder_scan.specs.Stepping.{going, all_gone, IsWithin}
 use Rattle.ladder_scan.proofs.StepLaws.{all_within}
@@ -8,7 +8,7 @@ use Rattle.ladder_scan.proofs.looking.look_rungs.Goals as goal
 pub go-requires-clause-steps : goal.go-requires-clause-steps
 go-requires-clause-steps g c =
     let p = c.args.base.program.now in
-    subst (λ (ss : List Step). All (IsWithin p.rungs) ss) (sym c.steps.ensures) (all_within p c.requires.program)
+    subst (λ (ss : List Step). All (IsWithin p.rungs (length p.decls.vars)) ss) (sym c.steps.ensures) (all_within p c.requires.program c.requires.formed)
 
 pub returns : goal.returns
 returns g c =

@@ -1,6 +1,7 @@
 use Rattle.std.proofs.Common.{◌∙◌, sym, ap, arith, length}
+use Rattle.ladder_scan.specs.Cells.{Frame}
 use Rattle.ladder_scan.specs.Stepping.{Going, going}
-use Rattle.ladder_scan.proofs.StepWise.{links_length, taken_length, go_more, go_end, went}
+use Rattle.ladder_scan.proofs.StepWise.{values_length, links_length, taken_length, go_more, go_end, went}
 use Rattle.ladder_scan.proofs.steps.go.Goals as goal
 
 pub loop-step-preserved : goal.loop-step-preserved
@@ -12,6 +13,7 @@ loop-step-preserved g c =
     let l = c.loop-step in
     let t = c.take-guard.ensures in
     record {
+      values = ap (λ (f : Frame _). length f.values) t.seen ∙ values_length o p k now l.guard _ _ l.seen ∙ l.invariant.values;
       links = ap length t.links ∙ links_length o p k now l.seen _ l.links ∙ l.invariant.links;
       taken = ap length t.taken ∙ taken_length o p k now l.guard l.links _ l.taken ∙ l.invariant.taken;
       gone =

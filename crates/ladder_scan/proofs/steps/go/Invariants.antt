@@ -8,6 +8,7 @@ invariant-loop-step g l =
     let p = l.base.program.now in
     let k = l.base.storage.now.kept in
     record {
+      values : length l.seen.values ≡ length p.decls.vars;
       links : length l.links ≡ 122;
       taken : length l.taken ≡ p.rungs;
       gone : all_gone o p k l.base.now (drop l.step-index l.steps) (going l.seen l.taken l.links l.guard)
