@@ -1,6 +1,7 @@
 -- What single steps do, and that they look at what is there.
-use Rattle.std.proofs.Common.{◌≡◌, ℕ, ◌+◌, ◌<◌, ◌≤◌, ◌*◌, ◌&&◌, Bool, true, false, cond, List, [], ◌∷◌, All, map, filter_map, set, zero, suc, nat_lt, refl, sym, ap, ◌∙◌, arith, Option, Some, None}
+use Rattle.std.proofs.Common.{◌≡◌, ℕ, ◌+◌, ◌<◌, ◌≤◌, ◌*◌, ◌&&◌, Bool, true, false, cond, List, [], ◌∷◌, All, map, length, filter_map, set, zero, suc, nat_lt, refl, sym, ap, ◌∙◌, arith, Option, Some, None, inl, inr, subst}
 use Rattle.std.specs.List.{cons_option}
+use Rattle.std.proofs.lemmas.Bool.{cases_Bool}
 use Rattle.std.proofs.lemmas.List.Elements.{All-append, All-nil}
 use Rattle.std.proofs.lemmas.Grind.{common_steps}
 use Rattle.ladder_grid.specs.declared.cell.Mode.{Mode}
