@@ -3,10 +3,10 @@
 //! The links of a rung are kept in one list, by the places of the cells: what a gate gives is at the place of its cell, and what a
 //! cell by itself lets through `OWN` further on.
 
-ghost use Rattle.std.specs.Prelude.{◌≡◌, ◌<◌, ◌≤◌, ◌+◌, ◌*◌, ◌-◌, ◌/◌, length, map, nat_lt, ◌&&◌, ◌||◌, IfOk, if◌then◌else◌};
+ghost use Rattle.std.specs.Prelude.{◌≡◌, ◌<◌, ◌≤◌, ◌+◌, ◌*◌, ◌-◌, ◌/◌, length, map, ◌&&◌, ◌||◌, IfOk, if◌then◌else◌};
 ghost use Rattle.ladder_grid.specs.declared.geometry.TheConstants.{RUNGS, ROWS, COLUMNS, PLACES};
 ghost use Rattle.ladder_grid.specs.Program.{cell_of, is_linked, is_block, jump_of};
-ghost use Rattle.ladder_grid.specs.Gates.{last_feeder, left_of, other_of, below_of, literal_on, literal_of, gate_at, feeds_on, has_gate, gates_of, acts, action_at, actions_of, exit_by, leap_by, leaps_below};
+ghost use Rattle.ladder_grid.specs.Gates.{last_feeder, left_of, other_of, below_of, literal_on, literal_of, gate_at, feeds_on, has_gate, gates_of, acts, action_at, actions_of, exit_by, leaps_below};
 ghost use Rattle.ladder_grid.specs.Sheet.{drawing_of, HasGates, HasActions, HasJumps, HasExits};
 
 use crate::cell::{Cell, Mode, Operand};

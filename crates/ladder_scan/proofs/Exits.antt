@@ -40,16 +40,6 @@ after_by_none p j links (Some (row, column, target)) h = cc
 not_less : (a b : ℕ) → b ≤ a → nat_lt a b ≡ false
 not_less a b h = grind (arith, nat_tests)
 
-over_by_exit : (p : Drawing) (j : ℕ) (jump : Option (ℕ × ℕ × ℕ)) (exit : Exit) → exit_by p j jump ≡ Some exit → (k : ℕ) → exit.target ≤ k → passes_over (placed jump) k ≡ false
-over_by_exit p j None exit h k le = cc
-over_by_exit p j (Some (row, column, target)) exit h k le =
-    let same : target ≡ exit.target = ap (λ (e : Exit). e.target) (some_same _ exit h) in
-    not_less k target (omega (arith, same))
-
-over_by_none : (p : Drawing) (j : ℕ) (jump : Option (ℕ × ℕ × ℕ)) → exit_by p j jump ≡ None → (k : ℕ) → passes_over (placed jump) k ≡ false
-over_by_none p j None h k = refl
-over_by_none p j (Some (row, column, target)) h k = cc
-
 module _ (p : Drawing) (j : ℕ) where
   pub taken_exit : {S : Type 0} (o : Algebra S) (guard : S) (links : ℕ → S) (exit : Exit) → exit_of p j ≡ Some exit
       → o.meet guard (links exit.left) ≡ taken_by o ((diagram_of p).jump j) guard (λ place. links (left_of p j place))
@@ -70,24 +60,11 @@ module _ (p : Drawing) (j : ℕ) where
   unfolding diagram_of
   after_none links h = after_by_none p j links (jump_of p j) h
 
-  pub over_exit : (exit : Exit) → exit_of p j ≡ Some exit → (k : ℕ) → exit.target ≤ k → passes_over ((diagram_of p).jump j) k ≡ false
-  unfolding diagram_of
-  over_exit exit h k le = over_by_exit p j (jump_of p j) exit h k le
-
-  pub over_none : exit_of p j ≡ None → (k : ℕ) → passes_over ((diagram_of p).jump j) k ≡ false
-  unfolding diagram_of
-  over_none h k = over_by_none p j (jump_of p j) h k
-
 module _ (p : Drawing) (j : ℕ) where
   pub taken_of : {S : Type 0} (o : Algebra S) (guard : S) (links : List S) (exit : Option Exit) → exit ≡ exit_of p j
       → taken_by_exit o exit guard links ≡ taken_by o ((diagram_of p).jump j) guard (λ place. among o links (left_of p j place))
   taken_of o guard links None h = taken_none p j o guard (among o links) (sym h)
   taken_of o guard links (Some exit) h = taken_exit p j o guard (among o links) exit (sym h)
-
-  pub over_of : (exit : Option Exit) → exit ≡ exit_of p j → (next : ℕ) → ((e : Exit) → exit ≡ Some e → e.target ≤ next)
-      → (k : ℕ) → next ≤ k → passes_over ((diagram_of p).jump j) k ≡ false
-  over_of None h next far k le = over_none p j (sym h) k
-  over_of (Some exit) h next far k le = let t = far exit refl in over_exit p j exit (sym h) k (omega (arith, t, le))
 
 -- ---- guards
 pub guard_more : {S : Type 0} (o : Algebra S) (taken : List S) (j : ℕ) (all next : S) (ls : List Leap) (i : ℕ) (l : Leap) → i < length ls
@@ -155,8 +132,3 @@ module _ {S : Type 0} (o : Algebra S) (p : Drawing) (taken : List S) (j : ℕ) w
   guard_is h =
       let all : j + (p.rungs - j) ≡ p.rungs = omega arith in
       ap (λ n. guard_by o taken j (leaps_below p n) (o.known true)) (sym all) ∙ behind (p.rungs - j)
-
--- In a program without jumps each guard is ON.
-pub straight_guard : {S : Type 0} (o : Algebra S) (p : Drawing) (taken : List S) (j : ℕ) → j < p.rungs → leaps_below p p.rungs ≡ [] → guard_of o (diagram_of p) taken j ≡ o.known true
-unfolding guard_by
-straight_guard o p taken j h none = sym (guard_is o p taken j h) ∙ ap (λ ls. guard_by o taken j ls (o.known true)) none

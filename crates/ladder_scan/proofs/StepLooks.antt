@@ -192,7 +192,7 @@ module _ {S : Type 0} (o : Algebra S) (V : S → Type 0) (l : LatticeLaws S V o)
       let exit : Option Exit = exit_of p n in
       let ts : List S = leaves n at.taken R guard exit in
       let is_taken : taken_by_exit o exit guard R ≡ taken_at o d k now guard n h =
-          taken_of p n o guard R exit refl ∙ taken_same o (d.jump n) guard _ _ (λ place target e. are.left place (sound.jumps n place target e).0) in
+      taken_of p n o guard R exit refl ∙ taken_same o (d.jump n) guard _ _ (λ place target e. are.left place (sound.jumps n place target e).0) in
       let gates : List Step = map (gate_step p n) (gates_of p n) in
       let acts : List Step = filter_map (λ a. action_step n a a.cell) (actions_of p n) in
       record {

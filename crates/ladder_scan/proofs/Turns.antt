@@ -2,25 +2,10 @@
 use Rattle.std.proofs.Common.{◌≡◌, ℕ, ◌+◌, ◌<◌, ◌≤◌, Bool, List, drop, length, get_or, sym, ap, ◌∙◌}
 use Rattle.std.proofs.lemmas.List.{drop_more, drop_all}
 use Rattle.ladder_grid.specs.declared.gates.Action.{Action}
-use Rattle.ladder_scan.specs.Algebra.{Algebra}
 use Rattle.ladder_scan.specs.Truth.{plain}
-use Rattle.ladder_scan.specs.Cells.{Diagram, Frame, Kept}
+use Rattle.ladder_scan.specs.Cells.{Diagram, Frame}
 use Rattle.ladder_scan.specs.Rung.{Held, changed}
-use Rattle.ladder_scan.specs.Gating.{among, acted, effects_of, changes_of}
-
-pub effects_more : {S : Type 0} (o : Algebra S) (k : Kept) (guard : S) (links : List S) (f next : Frame S) (more : List Action) (i : ℕ) (a : Action)
-    → i < length more → next ≡ acted o k guard links (get_or more i a) f
-    → effects_of o k guard links (drop (i + 1) more) next ≡ effects_of o k guard links (drop i more) f
-unfolding effects_of
-effects_more o k guard links f next more i a lt h =
-    ap (effects_of o k guard links (drop (i + 1) more)) h ∙ sym (ap (λ xs. effects_of o k guard links xs f) (drop_more more i a lt))
-
-pub effects_end : {S : Type 0} (o : Algebra S) (k : Kept) (guard : S) (links : List S) (f : Frame S) (more : List Action) (i : ℕ)
-    → length more ≤ i → effects_of o k guard links (drop i more) f ≡ f
-unfolding effects_of
-effects_end o k guard links f more i le = ap (λ xs. effects_of o k guard links xs f) (drop_all i more le)
-
-pub ruleset effects_step = (effects_more, effects_end)
+use Rattle.ladder_scan.specs.Gating.{among, changes_of}
 
 pub changes_more : (d : Diagram) (now : ℕ) (start : Frame Bool) (links : List Bool) (h next : Held) (more : List Action) (i : ℕ) (a : Action)
     → i < length more

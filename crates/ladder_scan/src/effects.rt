@@ -7,7 +7,7 @@ ghost use Rattle.ladder_scan.specs.Truth.{plain};
 ghost use Rattle.ladder_scan.specs.Cells.{stored_by};
 ghost use Rattle.ladder_scan.specs.Rung.{changed};
 ghost use Rattle.ladder_scan.specs.Programs.{diagram_of, IsSound};
-ghost use Rattle.ladder_scan.specs.Gating.{IsPlaced, among, acted, effects_of, changes_of};
+ghost use Rattle.ladder_scan.specs.Gating.{IsPlaced, among, acted, changes_of};
 
 use crate::block;
 use crate::scene::{Scene, instance};

@@ -2,7 +2,6 @@
 
 ghost use Rattle.std.specs.Prelude.{◌≡◌, ◌<◌, ◌≤◌, ◌+◌, length, slice_index_or, slice_set, false, true, All};
 ghost use Rattle.ladder_vars.specs.Kind.{largest_preset};
-ghost use Rattle.ladder_grid.specs.declared.geometry.TheConstants.{PLACES};
 ghost use Rattle.ladder_grid.specs.declared.gates.TheConstants.{ON, OFF, OWN, LINKS};
 ghost use Rattle.ladder_grid.specs.Gates.{gates_of};
 ghost use Rattle.ladder_scan.specs.Blocks.{step, q_of};

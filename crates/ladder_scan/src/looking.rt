@@ -1,15 +1,14 @@
 //! One scan of a program over a signal, which leaves the state as it is.
 
-ghost use Rattle.std.specs.Prelude.{◌≡◌, ◌+◌, ◌-◌, ◌^◌, ◌<◌, ◌≤◌, ◌↔◌, ℕ, min, length, map, All, IfOk, IsTrue, slice_get, Some, slice_index_or, false, true, [], nat_lt, ◌&&◌, if◌then◌else◌};
+ghost use Rattle.std.specs.Prelude.{◌≡◌, ◌+◌, ◌-◌, ◌^◌, ◌<◌, ◌↔◌, ℕ, min, length, All, IfOk, IsTrue, slice_get, Some, slice_index_or, false, true, nat_lt, ◌&&◌, if◌then◌else◌};
 ghost use Rattle.ladder_grid.specs.declared.gates.TheConstants.{LINKS};
 ghost use Rattle.ladder_grid.specs.Program.{IsWellFormed};
-ghost use Rattle.ladder_grid.specs.declared.gates.Exit.{Exit};
-ghost use Rattle.ladder_scan.specs.SignalScan.{passes_over, guard_of, look_frame, looked, after_look};
+ghost use Rattle.ladder_scan.specs.SignalScan.{look_frame, looked, after_look};
 ghost use Rattle.ladder_scan.specs.Rung.{SameSizes};
 ghost use Rattle.ladder_scan.specs.Programs.{diagram_of, IsSound};
 ghost use Rattle.ladder_scan.specs.Standing.{Fits};
 ghost use Rattle.ladder_scan.specs.Sheets.{HasRoom};
-ghost use Rattle.ladder_scan.specs.Gating.{among, guard_by, taken_by_exit, AreValues};
+ghost use Rattle.ladder_scan.specs.Gating.{among, guard_by, AreValues};
 
 use crate::gates::{link_at, set_rails};
 use crate::memory::Memory;
@@ -139,12 +138,7 @@ fn clear<S: Signal>(taken: &mut [S])
 }
 
 /// Evaluates each rung.
-fn look_rungs<S: Signal>(
-    base: Base<'_>,
-    seen: &mut Signals<S>,
-    taken: &mut [S],
-    links: &mut [S],
-)
+fn look_rungs<S: Signal>(base: Base<'_>, seen: &mut Signals<S>, taken: &mut [S], links: &mut [S])
     requires program { IsSound (diagram_of base.program.now) }
     requires formed { IsWellFormed base.program.now }
     requires sizes { length seen.old.values ≡ length base.program.now.decls.vars }
@@ -178,11 +172,6 @@ pub fn look<S: Signal>(program: &Program, state: &State, inputs: &[S], now: u64,
         storage: &state.storage,
         now,
     };
-    look_rungs(
-        base,
-        &mut work.seen,
-        &mut work.taken,
-        &mut work.links,
-    );
+    look_rungs(base, &mut work.seen, &mut work.taken, &mut work.links);
     work.looks = work.looks.saturating_add(1);
 }

@@ -1,7 +1,6 @@
 //! A look over any signal, step by step.
 
 ghost use Rattle.std.specs.Prelude.{◌≡◌, ◌<◌, ◌+◌, length, slice_index_or, slice_set, false, true, All};
-ghost use Rattle.ladder_vars.specs.Kind.{largest_preset};
 ghost use Rattle.ladder_vars.specs.declared.kind.BlockKind.TheVariants.{Ton};
 ghost use Rattle.ladder_grid.specs.declared.geometry.TheConstants.{PLACES};
 ghost use Rattle.ladder_grid.specs.declared.gates.TheConstants.{OFF, OWN, LINKS};
@@ -14,7 +13,7 @@ ghost use Rattle.ladder_scan.specs.Gating.{among, own, acted, guard_by};
 ghost use Rattle.ladder_scan.specs.Stepping.{keeping, passing, storing, links_after, frame_after, taken_after, guard_after, going, all_gone, IsSpot, IsWithin};
 
 use crate::effects::any_effect;
-use crate::gates::{link_at, q_from, through_cell};
+use crate::gates::{q_from, through_cell};
 use crate::looking::guard_by;
 use crate::scene::{Scene, cell, instance};
 use crate::signal::Signal;
@@ -123,12 +122,23 @@ fn block<S: Signal>(base: Base<'_>, spot: Spot, below: u8, inst: usize, links: &
     let stored = base.storage.stored(inst);
     let first = links[spot.left as usize];
     let second = links[below as usize];
-    keep(links, spot, q_from(kind, preset, stored, base.now, first, second));
+    keep(
+        links,
+        spot,
+        q_from(kind, preset, stored, base.now, first, second),
+    );
 }
 
 /// Any gate, as its cell says.
 #[inline(never)]
-fn own<S: Signal>(base: Base<'_>, seen: &Signals<S>, spot: Spot, below: u8, rung: usize, links: &mut [S])
+fn own<S: Signal>(
+    base: Base<'_>,
+    seen: &Signals<S>,
+    spot: Spot,
+    below: u8,
+    rung: usize,
+    links: &mut [S],
+)
     requires program { IsSound (diagram_of base.program.now) }
     requires links { length links.old ≡ LINKS }
     requires spot { IsSpot spot }
@@ -160,7 +170,15 @@ fn store<S: Signal>(seen: &mut Signals<S>, guard: S, var: u16, new: S)
 
 /// What any cell writes.
 #[inline(never)]
-fn act<S: Signal>(base: Base<'_>, guard: S, links: &[S], rung: u8, place: u8, left: u8, seen: &mut Signals<S>)
+fn act<S: Signal>(
+    base: Base<'_>,
+    guard: S,
+    links: &[S],
+    rung: u8,
+    place: u8,
+    left: u8,
+    seen: &mut Signals<S>,
+)
     requires program { IsSound (diagram_of base.program.now) }
     requires rung { rung < base.program.now.rungs }
     requires place { place < PLACES }
