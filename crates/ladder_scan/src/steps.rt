@@ -108,8 +108,8 @@ fn falling<S: Signal>(base: Base<'_>, value: S, spot: Spot, memory: u16, links: 
     keep(links, spot, through);
 }
 
-/// The gate of a block: its Q in this evaluation, by its inputs. Out of line, for it is rare.
-#[inline(never)]
+/// The gate of a block: its Q in this evaluation, by its inputs.
+#[inline(always)]
 fn block<S: Signal>(base: Base<'_>, spot: Spot, below: u8, inst: usize, links: &mut [S])
     requires program { IsSound (diagram_of base.program.now) }
     requires links { length links.old ≡ LINKS }
