@@ -7,7 +7,7 @@ use std::env;
 use std::io::ErrorKind;
 use std::process::ExitCode;
 
-/// Words that are no text are wrong words; else memory was refused.
+/// Arguments that are not UTF-8 are refused as wrong usage; any other failure is out of memory.
 fn fault_of(kind: ErrorKind) -> (ToolFault, u8) {
     match kind {
         ErrorKind::InvalidData => (ToolFault::Usage, 2),

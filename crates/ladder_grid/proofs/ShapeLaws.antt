@@ -44,9 +44,6 @@ not_on false h on = absurd cc
 none_some : {A : Type 0} {x : A} → None ≡ Some x → ⊥
 none_some h = cc
 
-same_form : (a b : Form) → Some a ≡ Some b → a ≡ b
-same_form a b h = cc
-
 -- ---- a lower cell of the input
 
 lower_is : (p : Pin) (form : Option Form) → is_lower_for (Some p) form ≡ true → (linked : Bool) × (form ≡ Some (Lower p linked))

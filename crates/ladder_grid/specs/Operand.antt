@@ -1,4 +1,4 @@
--- What the text over a cell stands for (the profile; output variables of instances as in IEC 61131-3).
+-- What the text over a cell names (the profile; output variables of instances as in IEC 61131-3).
 use Rattle.std.specs.Prelude.{◌≡◌, ◌++◌, replicate, ℕ, ◌-◌, ◌==◌, nat_le, Bool, true, false, ◌&&◌, List, [], ◌∷◌, length, take, drop, codes, slice_get, Option, Some, None, option_map, if◌then◌else◌}
 use Rattle.std.specs.List.{prefix_len, suffix_len}
 use Rattle.ladder_vars.specs.Name.{is_name, same_letters}

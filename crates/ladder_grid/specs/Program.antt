@@ -140,7 +140,7 @@ has_second None = false
 has_second (Some i) = is_pin (traits_of i.kind).second_input
 
 -- What the rules of a drawing make sure of, and a scan rests on: each memory and each instance belongs to one cell; a rung has
--- one jump, to a later rung or past the last one; a lower cell stands under its block.
+-- one jump, to a later rung or past the last one; a lower cell is under its block.
 pub record IsWellFormed (d : Drawing) : Type 0 where
   pub one_memory : (number i j : ℕ) → memory_in (cell_in d i) ≡ Some number
       → memory_in (cell_in d j) ≡ Some number → i ≡ j

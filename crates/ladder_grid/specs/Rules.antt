@@ -85,7 +85,7 @@ BreaksAt rule.BlockShape page k r h c = (h ≡ half.Wire) × (c < COLUMNS) × Is
 -- G12: the block's instance was drawn at an earlier place, of this rung or of one before.
 BreaksAt rule.DrawnTwice page k r h c =
     (h ≡ half.Name) × (c < COLUMNS) × ((inst : ℕ) × (instance_at page k r c ≡ Some inst) × HoldsBefore (λ j q d. instance_at page j q d ≡ Some inst) k r c)
--- G14: a jump or a return stands before in the rung.
+-- G14: a jump or a return comes before it in the rung.
 BreaksAt rule.TwoJumps page k r h c =
     (h ≡ half.Wire) × (c < COLUMNS) × ((leaps (form_at page k r c) ≡ true) × HoldsBefore (λ j q d. (j ≡ k) × (leaps (form_at page k q d) ≡ true)) k r c)
 BreaksAt other page k r h c = ⊥

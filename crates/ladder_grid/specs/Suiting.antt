@@ -1,4 +1,4 @@
--- Private: what a text over a cell stands for, and whether a symbol may have it, as the code finds it.
+-- Private: what a text over a cell names, and whether a symbol may have it, as the code finds it.
 use Rattle.std.specs.Prelude.{ℕ, ◌-◌, List, length, take, option_map, if◌then◌else◌, Bool, true, false, not, ◌||◌, slice_get, Option, Some, None, is_some}
 use Rattle.ladder_vars.specs.Kind.{traits_of}
 use Rattle.ladder_vars.specs.Decls.{Declared, find}

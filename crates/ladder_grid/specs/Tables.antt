@@ -17,7 +17,7 @@ use Rattle.ladder_grid.specs.declared.operand.NameOver.{NameOver}
 abbrev pub over_with : Declared → List ℕ → NameOver
 over_with decls chars = record { written = has_text chars; name = refer_to decls (word_in chars) }
 
--- what stands over a cell of the k-th rung
+-- what is over a cell of the k-th rung
 unfoldable pub over_read : Declared → Lines → List Part → ℕ → ℕ → ℕ → NameOver
 over_read decls lines parts k r c = over_with decls (text_over (rung_of lines (part_in parts k)) r c)
 

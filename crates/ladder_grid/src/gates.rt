@@ -23,7 +23,7 @@ pub const OFF: usize = PLACES + 1;
 /// From here on is what each cell by itself lets through.
 pub const OWN: usize = PLACES + 2;
 
-/// So many links a rung has.
+/// How many links a rung has.
 pub const LINKS: usize = OWN + PLACES;
 
 /// The numbers of variables below this one go into a literal.

@@ -4,7 +4,7 @@ ghost use Rattle.std.specs.Prelude.{◌≡◌, ◌<◌};
 ghost use Rattle.ladder_grid.specs.Geometry.{place};
 ghost use Rattle.ladder_grid.specs.AllPlaces.{reading_place};
 
-/// So many rungs a program may have.
+/// The most rungs of a program.
 pub const RUNGS: usize = 100;
 
 /// The rows of a rung, each with a name line and a wire line.
@@ -16,7 +16,7 @@ pub const COLUMNS: usize = 10;
 /// The places of a rung.
 pub const PLACES: usize = ROWS * COLUMNS;
 
-/// So many lines a rung may have.
+/// The most lines of a rung.
 pub const LINES: usize = 2 * ROWS;
 
 /// The characters of a cell.

@@ -124,15 +124,6 @@ pub(crate) fn has_text(chars: &[u8]) -> bool
     chars.iter().any(|b| *b != b' ')
 }
 
-fn has_no_form(form: Option<Form>) -> bool
-    ensures { IsTrue result ↔ (form ≡ None) }
-{
-    match form {
-        None => true,
-        Some(_) => false,
-    }
-}
-
 fn lacks_name(page: PageView<'_, '_>, rung: usize, row: usize, column: usize) -> bool
     requires rungs { rung < length page.parts.now }
     requires few { rung < RUNGS }
@@ -153,15 +144,6 @@ fn has_idle_text(page: PageView<'_, '_>, rung: usize, row: usize, column: usize)
     !wants_name(form_at(page, rung, row, column)) && is_written_over(page, rung, row, column)
 }
 
-fn is_unknown(name: Option<Reference>) -> bool
-    ensures { IsTrue result ↔ (name ≡ None) }
-{
-    match name {
-        None => true,
-        Some(_) => false,
-    }
-}
-
 fn is_undeclared(page: PageView<'_, '_>, rung: usize, row: usize, column: usize) -> bool
     requires rungs { rung < length page.parts.now }
     requires few { rung < RUNGS }
@@ -169,7 +151,7 @@ fn is_undeclared(page: PageView<'_, '_>, rung: usize, row: usize, column: usize)
     requires columns { column < COLUMNS }
     ensures { IsTrue result ↔ ((wants_name (form_at (seen page.entry) rung row column) ≡ true) × (name_over (seen page.entry) rung row column ≡ None)) }
 {
-    wants_name(form_at(page, rung, row, column)) && is_unknown(name_over(page, rung, row, column))
+    wants_name(form_at(page, rung, row, column)) && name_over(page, rung, row, column).is_none()
 }
 
 fn has_odd_name(page: PageView<'_, '_>, rung: usize, row: usize, column: usize) -> bool
@@ -398,7 +380,7 @@ fn breaks(
     match rule {
         GridRule::BadCell => is_wire(half)
             && column < COLUMNS
-            && has_no_form(form_at(page, rung, row, column)),
+            && form_at(page, rung, row, column).is_none(),
         GridRule::BadJoint => column >= 1 && is_odd_joint(page, rung, row, half, column),
         GridRule::BrokenVertical => !is_wire(half)
             && column >= 1

@@ -1,8 +1,8 @@
 -- Records that are written line by line.
 use Rattle.std.proofs.Common.{◌≡◌, ◌∙◌, ℕ, List, [], ◌∷◌, ◌++◌, sym, ap, append-nil}
 use Rattle.ladder_text.specs.Block.{SendsAll}
-use Rattle.ladder_text.specs.Log.{PutsFront, WriteLog}
-use Rattle.ladder_text.proofs.Sending.{sends_front, sends_more, sends_same}
+use Rattle.ladder_text.specs.Log.{PutsPrefix, WriteLog}
+use Rattle.ladder_text.proofs.Sending.{sends_prefix, sends_more, sends_same}
 use Rattle.ladder_records.specs.Left.{Fields}
 use Rattle.ladder_records.specs.Text.{line_text, lines_text}
 use Rattle.ladder_records.proofs.Commas.{lines_text-append}
@@ -15,7 +15,7 @@ line_more a b c w0 w1 w2 rows longer r e p q =
     sends_same a c w0 w2 (lines_text rows ++ line_text r) (lines_text longer) (sym text) (sends_more a b c w0 w1 w2 (lines_text rows) (line_text r) p q)
 
 -- a line that is not written to its end
-pub line_front : (a b c : WriteLog) (w0 w1 : List ℕ) (rows all more : List Fields) (r : Fields) → all ≡ rows ++ r ∷ more → SendsAll a b w0 w1 (lines_text rows)
-    → PutsFront b c (w1 ++ line_text r) → PutsFront a c (w0 ++ lines_text all)
-line_front a b c w0 w1 rows all more r e p q =
-    sends_front a b c w0 w1 (lines_text all) (lines_text rows) (line_text r) (lines_text more) (ap lines_text e ∙ lines_text-append rows (r ∷ more)) p q
+pub line_prefix : (a b c : WriteLog) (w0 w1 : List ℕ) (rows all more : List Fields) (r : Fields) → all ≡ rows ++ r ∷ more → SendsAll a b w0 w1 (lines_text rows)
+    → PutsPrefix b c (w1 ++ line_text r) → PutsPrefix a c (w0 ++ lines_text all)
+line_prefix a b c w0 w1 rows all more r e p q =
+    sends_prefix a b c w0 w1 (lines_text all) (lines_text rows) (line_text r) (lines_text more) (ap lines_text e ∙ lines_text-append rows (r ∷ more)) p q

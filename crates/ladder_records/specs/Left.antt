@@ -9,7 +9,7 @@ use Rattle.csv.specs.declared.parser.State.TheVariants as st
 abbrev pub Fields : Type 0
 Fields = List (List ℕ)
 
--- a reader that gives the records as they stand, with any number of fields
+-- a reader that gives the records as they are, with any number of fields
 abbrev pub IsPlain : Reader (Bor (List ℕ)) → Type 0
 IsPlain r = (reader_trim r ≡ trim.None) × Ready r × (reader_config r ≡ default_config) × (is_flexible r ≡ true)
 

@@ -31,7 +31,7 @@ lines_text records = flat_map line_text records
 abbrev pub IsPlainField : List ℕ → Type 0
 IsPlainField f = list_any (needs_byte default_writer) f ≡ false
 
--- fields that stand in a text as they are
+-- fields that are written in a text as they are
 unfoldable pub ArePlainFields : Fields → Type 0
 ArePlainFields [] = ⊤
 ArePlainFields (f ∷ fs) = IsPlainField f × ArePlainFields fs
@@ -41,7 +41,7 @@ abbrev pub IsPlainRecord : Fields → Type 0
 IsPlainRecord [] = ⊥
 IsPlainRecord (f ∷ fs) = (0 < length f) × IsPlainField f × ArePlainFields fs
 
--- records that stand in a text line by line
+-- records that are written in a text line by line
 unfoldable pub ArePlainRecords : List Fields → Type 0
 ArePlainRecords [] = ⊤
 ArePlainRecords (r ∷ rs) = IsPlainRecord r × ArePlainRecords rs

@@ -6,6 +6,10 @@ ghost use Rattle.ladder_records.specs.Text.{after_commas, line_text};
 use ladder_text::{Block, Sink, WriteFault};
 
 /// Adds a comma and a field.
+///
+/// # Errors
+///
+/// `WriteFault` where the writer fails.
 pub fn add_field<W: Sink>(block: &mut Block, field: &[u8], writer: &mut W) -> Result<(), WriteFault>
     ensures { Sends (W.log writer.old) (W.log writer.new) block.old block.new result (codes "," ++ field.now) }
 {
@@ -31,6 +35,10 @@ fn add_fields<W: Sink>(
 }
 
 /// Adds the line of a record.
+///
+/// # Errors
+///
+/// `WriteFault` where the writer fails.
 pub fn add_line<W: Sink>(
     block: &mut Block,
     first: &[u8],

@@ -10,7 +10,7 @@ use std::alloc::{AllocError, Global};
 /// A reader of the records of a text.
 pub type Records<'a> = Reader<&'a [u8]>;
 
-/// A reader of all records of a text, with any number of fields. It allocates nothing.
+/// A reader of all records of a text, with any number of fields. It does not allocate.
 pub fn read_from<'a>(alloc: Global, text: &'a [u8]) -> Records<'a>
     ensures plain { IsPlain result }
     ensures all { Left result (records_of text.entry.now) }
@@ -21,7 +21,11 @@ pub fn read_from<'a>(alloc: Global, text: &'a [u8]) -> Records<'a>
         .from_reader(alloc, text)
 }
 
-/// Reads the next record into `row`, and answers whether there was one.
+/// Reads the next record into `row`. Returns whether there was one.
+///
+/// # Errors
+///
+/// An error when out of memory, which ends the reading.
 pub fn next(records: &mut Records<'_>, row: &mut ByteRecord) -> Result<bool, AllocError>
     requires { IsPlain records.old }
     ensures plain { IfOk result (λ _. IsPlain records.new) }
@@ -33,7 +37,7 @@ pub fn next(records: &mut Records<'_>, row: &mut ByteRecord) -> Result<bool, All
     }
 }
 
-// Over a text in memory a flexible reader of bytes fails for want of memory alone.
+// Over a text in memory, a flexible reader of bytes fails only when out of memory.
 fn refused(_error: &csv::Error) -> AllocError {
     AllocError
 }

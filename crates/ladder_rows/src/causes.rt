@@ -4,7 +4,7 @@ use ladder_causes::{CauseFault, Causes};
 use ladder_scan::{Memory, State, scan};
 use std::alloc::Global;
 
-/// Both coils stand in one rung, and the second one behind a contact on the first one's variable.
+/// Both coils are in one rung, the second one after a contact on the first one's variable.
 const BEHIND_ITS_COIL: &[u8] =
     b"VAR\n  A AT %IX0 : BOOL;\n  Y AT %QX0 : BOOL;\n  M : BOOL;\nEND_VAR\n\n|     A           M           M           Y\n|----| |---------( )---------| |---------( )----\n";
 

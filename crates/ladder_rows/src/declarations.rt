@@ -2,7 +2,7 @@
 use ladder_vars::{BlockKind, Decls, Name, Symbol, VarKind, read_decls, read_time};
 use std::test::Fail;
 
-/// How many variables and instances a text declares, and the place behind END_VAR.
+/// How many variables and instances a text declares, and the place after END_VAR.
 fn counts(rt: &HostRuntime, text: &[u8]) -> Result<(usize, usize, usize), Fail> {
     let (decls, place) = read_decls(rt.alloc(), text)?;
     Ok((decls.vars().len(), decls.instances().len(), place))

@@ -73,7 +73,7 @@ const LINES: [(ToolFault, &[u8]); 17] = [
 ];
 
 #[test]
-fn leaves_a_front_where_the_writer_fails(rt: HostRuntime) {
+fn leaves_a_prefix_where_the_writer_fails(rt: HostRuntime) {
     for (fault, line) in LINES {
         for end in ENDS {
             // No line is longer.

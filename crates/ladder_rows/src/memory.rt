@@ -5,7 +5,7 @@ use ladder_sim::Writing;
 use std::alloc::Global;
 use std::io::{self, ErrorKind, Read, Write};
 
-/// What a writer does once it has no room.
+/// What a writer does when it is full.
 #[derive(Clone, Copy, Debug, PartialEq, Eq)]
 pub(crate) enum End {
     /// It fails.
@@ -18,10 +18,10 @@ pub(crate) enum End {
     FailsOnce,
 }
 
-/// All that a writer can do at its end.
+/// All that a writer can do when it is full.
 pub(crate) const ENDS: [End; 4] = [End::Fails, End::Interrupts, End::TakesNone, End::FailsOnce];
 
-/// A writer that has room for so many bytes, takes at most `step` a call, and then comes to its end.
+/// A writer that takes so many bytes, at most `step` a call, and is then full.
 #[derive(Drop)]
 pub(crate) struct Narrow {
     pub bytes: Vec<u8>,
@@ -31,7 +31,7 @@ pub(crate) struct Narrow {
     pub calls: usize,
 }
 
-/// A writer that has room for so many bytes.
+/// A writer that takes so many bytes.
 pub(crate) fn with_room(alloc: Global, room: usize, step: usize, end: End) -> Writing<Narrow> {
     Writing::new(Narrow {
         bytes: Vec::new(alloc),

@@ -18,7 +18,7 @@ const HEADER: usize = 13;
 
 const FIRST_ROW: usize = 17;
 
-/// What a simulation answers, and the state after it: the moment, and the values of Start, Stop and Motor.
+/// What a simulation returns, and the state after it: the moment, and the values of Start, Stop and Motor.
 type Left = (Result<u64, SimFault>, u64, [bool; 3]);
 
 /// Simulates a stimulus of the motor from the fresh state, but with Stop stored as this.
@@ -158,7 +158,7 @@ fn a_stimulus_is_traced_up_to_its_first_fault(rt: HostRuntime) -> Result<(), Mem
 
 /// The state after a write that failed is that of the scan whose row was being written.
 #[test]
-fn a_front_of_the_trace_is_left_where_the_writer_fails(rt: HostRuntime) -> Result<(), Memory> {
+fn a_prefix_of_the_trace_is_left_where_the_writer_fails(rt: HostRuntime) -> Result<(), Memory> {
     for end in ENDS {
         for room in 0..BACK_TRACE.len() {
             for step in [1, 1000] {

@@ -24,10 +24,10 @@ const STEP: usize = 16;
 
 const RUNS: usize = 32_768;
 
-/// How many bytes a writer has room for.
+/// How many bytes a writer takes.
 const ROOM: usize = 256;
 
-/// A writer into a buffer of its own, which takes no memory.
+/// A writer into a buffer of its own, which does not allocate.
 #[derive(Clone, Copy)]
 struct Fixed {
     bytes: [u8; ROOM],
@@ -120,7 +120,7 @@ enum Outcome {
 const STIMULUS: &[u8] = b"moment,A\n0,1\n5,0\n18446744073709551615,1\n";
 
 /// The trace after each of its writes, with the state there: the moment, and the values of A and Lamp.
-const FRONTS: [(&[u8], u64, [bool; 2]); 5] = [
+const PREFIXES: [(&[u8], u64, [bool; 2]); 5] = [
     (b"", 0, [false, true]),
     (b"moment,Lamp\n", 0, [false, true]),
     (b"moment,Lamp\n0,1\n", 0, [true, true]),
@@ -244,10 +244,10 @@ fn reading_a_text(alloc: Global) -> Outcome {
     }
 }
 
-/// Whether a trace stands at one of its fronts, and the state there.
-fn is_front(trace: &[u8], moment: u64, values: [bool; 2]) -> bool {
-    for (front, then, left) in FRONTS {
-        if trace == front {
+/// Whether a trace is one of its prefixes, with the state that belongs to it.
+fn is_prefix_with_its_state(trace: &[u8], moment: u64, values: [bool; 2]) -> bool {
+    for (prefix, then, left) in PREFIXES {
+        if trace == prefix {
             return moment == then && values == left;
         }
     }
@@ -266,7 +266,7 @@ fn simulating(alloc: Global, program: &Program, fresh: &State) -> Outcome {
     let a = stored(program, &state, 0) == Some(true);
     let lamp = stored(program, &state, 1) == Some(true);
     let trace = writer.into_inner();
-    if !is_front(trace.taken(), state.moment(), [a, lamp]) {
+    if !is_prefix_with_its_state(trace.taken(), state.moment(), [a, lamp]) {
         return Outcome::Wrong;
     }
     match answer {
@@ -320,7 +320,7 @@ fn is_line(line: &[u8]) -> bool {
     false
 }
 
-/// How a request ended that writes these texts: where there was no memory it saved nothing, and wrote nothing but a front of its trace.
+/// How a request ended that writes these texts: where there was no memory it saved nothing, and wrote nothing but a prefix of its trace.
 fn judged(status: u8, out: &Fixed, save: &Fixed, err: &Fixed, wanted: [&[u8]; 3]) -> Outcome {
     if status == 0 {
         return right(
@@ -410,7 +410,7 @@ fn take_all(alloc: Global, blocks: &mut Vec<Vec<u8>>, size: usize) {
     }
 }
 
-/// Takes the small blocks that the allocator keeps apart once they were given back, size by size.
+/// Takes the small blocks that the allocator keeps apart after they were freed, size by size.
 fn take_small(alloc: Global, blocks: &mut Vec<Vec<u8>>) {
     for step in 0..66 {
         take_all(alloc, blocks, 1_056 - STEP * step);
@@ -434,14 +434,14 @@ fn is_starved(alloc: Global) -> bool {
     Vec::<u8>::with_capacity(alloc, 1).is_err()
 }
 
-/// Makes a call with more and more memory until it isn't refused. Answers how many times it was, and how it ended.
+/// Makes a call with more and more memory until it isn't refused. Returns how many times it was, and how it ended.
 fn refusals(
     alloc: Global,
     call: Call,
     program: &Program,
     state: &State,
 ) -> Result<(u64, Outcome), AllocError> {
-    // Once a larger block was given back, the allocator takes one of this size from its heap.
+    // After a larger block was freed, the allocator takes one of this size from its heap.
     drop(Vec::<u8>::with_capacity(alloc, 4 * RESERVE)?);
     let reserve = Vec::<u8>::with_capacity(alloc, RESERVE)?;
     let blocks = starve(alloc)?;
@@ -481,7 +481,7 @@ fn a_refusal_is_named_until_memory_suffices(rt: HostRuntime) -> Result<(), Memor
     Ok(())
 }
 
-/// A coil behind 24 inputs in series, over three rungs.
+/// A coil after 24 inputs in series, over three rungs.
 const CHAIN: [&[u8]; 4] = [
     b"VAR\nA0 AT %IX0 : BOOL; A1 AT %IX1 : BOOL; A2 AT %IX2 : BOOL; A3 AT %IX3 : BOOL; A4 AT %IX4 : BOOL; A5 AT %IX5 : BOOL; A6 AT %IX6 : BOOL; A7 AT %IX7 : BOOL; A8 AT %IX8 : BOOL; A9 AT %IX9 : BOOL; A10 AT %IX10 : BOOL; A11 AT %IX11 : BOOL; A12 AT %IX12 : BOOL; A13 AT %IX13 : BOOL; A14 AT %IX14 : BOOL; A15 AT %IX15 : BOOL; A16 AT %IX16 : BOOL; A17 AT %IX17 : BOOL; A18 AT %IX18 : BOOL; A19 AT %IX19 : BOOL; A20 AT %IX20 : BOOL; A21 AT %IX21 : BOOL; A22 AT %IX22 : BOOL; A23 AT %IX23 : BOOL; M : BOOL; N : BOOL; Y AT %QX0 : BOOL;\nEND_VAR\n\n",
     b"|    A0          A1          A2          A3          A4          A5          A6          A7          A8          M\n|----| |---------| |---------| |---------| |---------| |---------| |---------| |---------| |---------| |---------( )----\n\n",

@@ -171,7 +171,7 @@ fn the_first_bad_record_is_told(rt: HostRuntime) -> Result<(), AllocError> {
 }
 
 #[test]
-fn a_front_of_the_state_is_left_where_the_writer_fails(rt: HostRuntime) -> Result<(), Memory> {
+fn a_prefix_of_the_state_is_left_where_the_writer_fails(rt: HostRuntime) -> Result<(), Memory> {
     let program = program(rt.alloc(), EDGES)?;
     let state = State::fresh(rt.alloc(), &program)?;
     for end in ENDS {

@@ -12,7 +12,7 @@ pub(crate) const EDGES_USES: &[u8] =
     b"name,use,rung,row,column\nA,rise_contact,1,1,1\nA,fall_contact,1,2,1\nA,rise_contact,2,1,1\nLamp,rise_coil,1,1,2\nC1,unused,0,0,0\nWait,block,2,1,2\nB1,unused,0,0,0\n";
 
 #[test]
-fn uses_are_counted_and_a_front_is_left(rt: HostRuntime) -> Result<(), Memory> {
+fn uses_are_counted_and_a_prefix_is_left(rt: HostRuntime) -> Result<(), Memory> {
     for (drawing, text, rows) in [(MOTOR, MOTOR_USES, 4), (EDGES, EDGES_USES, 7)] {
         let program = program(rt.alloc(), drawing)?;
         let mut writer = without_end(rt.alloc());

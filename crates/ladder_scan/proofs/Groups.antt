@@ -8,11 +8,6 @@ both_true true true h = (refl, refl)
 both_true true false h = cc
 both_true false b h = cc
 
-both_of : (a b : Bool) → a ≡ true → b ≡ true → (a && b) ≡ true
-both_of true true h k = refl
-both_of true false h k = cc
-both_of false b h k = cc
-
 on_right : (a b : Bool) → b ≡ true → (a && b) ≡ a
 on_right true true h = refl
 on_right false b h = refl
@@ -60,12 +55,6 @@ module _ (p : Drawing) (j column : ℕ) where
       let whole : c - a ≡ (b - a) + (c - b) = omega arith in
       let middle : a + (b - a) ≡ b = omega arith in
       ap (joined p j a column) whole ∙ joined_split a (b - a) (c - b) ∙ ap (λ x. joined p j a column (b - a) && joined p j x column (c - b)) middle
-
-  joins_self : (a : ℕ) → Joins a a ≡ true
-  unfolding joined
-  joins_self a =
-      let none : max a a - min a a ≡ 0 = omega arith in
-      ap (joined p j (min a a) column) none
 
   -- a row that is joined to one of two joined rows is joined to the other
   joins_alike : (a b x : ℕ) → Joins a b ≡ true → Joins b x ≡ Joins a x

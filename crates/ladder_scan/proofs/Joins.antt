@@ -16,9 +16,6 @@ module _ {S : Type 0} (o : Algebra S) (V : S → Type 0) (l : LatticeLaws S V o)
       ap (o.join (v x)) (join_all-append v all xs ys)
       ∙ sym (l.join_assoc (v x) (join_all o (map v xs)) (join_all o (map v ys)) (all x) (join_all-value v all xs) (join_all-value v all ys))
 
-  join_off_right : (x : S) → V x → o.join x (o.known false) ≡ x
-  join_off_right x vx = l.join_comm x (o.known false) vx (l.known_value false) ∙ l.join_off x vx
-
   off_meet : (x : S) → V x → o.meet (o.known false) x ≡ o.known false
   off_meet x vx = ap (o.meet (o.known false)) (sym (l.join_off x vx)) ∙ l.meet_absorbs (o.known false) x (l.known_value false) vx
 

@@ -1,5 +1,5 @@
 -- The left links of a column by those of the column before, over any signal and from its laws alone.
-use Rattle.std.proofs.Common.{◌≡◌, ℕ, ◌+◌, ◌*◌, ◌/◌, ◌%◌, ◌<◌, Bool, true, false, cond, zero, suc, refl, ap, ap₂, ◌∙◌, arith}
+use Rattle.std.proofs.Common.{◌≡◌, ℕ, ◌+◌, ◌*◌, ◌/◌, ◌%◌, ◌<◌, Bool, true, false, cond, zero, suc, refl, ap, ◌∙◌, arith}
 use Rattle.ladder_vars.specs.declared.kind.BlockKind.{BlockKind}
 use Rattle.ladder_grid.specs.declared.cell.Mode.{Mode}
 use Rattle.ladder_grid.specs.declared.cell.Mode.TheVariants.{Plain, Negated, Rising, Falling}
@@ -91,9 +91,6 @@ module _ {S : Type 0} (o : Algebra S) (V : S → Type 0) (l : LatticeLaws S V o)
         (λ r c. closed-value f vs _ (l.known_value _) (d.cell j (6 * c + r)))
         (λ r c x y vx vy. q-value d k now (d.cell j (6 * c + r)) x _ vx (either_value (d.linked j (6 * c + r)) _ _ vy (l.known_value false)))
         row column
-
-    pub link_is : (row column : ℕ) → row < 6 → link o d k now j f (6 * column + row) ≡ left_link o (circuit o d k now j f) row column
-    link_is row column h = ap₂ (λ r c. left_link o (circuit o d k now j f) r c) (the_row row column h) (the_column row column h)
 
     pub first_column : (e : ℕ) → e < 6 → link o d k now j f e ≡ o.known true
     unfolding routes route_value join_all

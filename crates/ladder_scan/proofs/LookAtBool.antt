@@ -58,9 +58,6 @@ guard_more : (b : Bool) (leap : Option (ℕ × ℕ)) (links : ℕ → Bool) (n j
 guard_more b None links n j r h e = no_more b n j r h e
 guard_more b (Some (place, target)) links n j r h e = jump_more b (links place) n j r target h e
 
-more : Diagram → ℕ → ℕ → Scanned → Bool → Scanned
-more d now n s c = cond c s (record { held = evaluated d now n s.held; resume = next_rung d now n s.held })
-
 record Agree (d : Diagram) (now : ℕ) (h : Held) (n : ℕ) : Type 0 where
   same : (looked plain d h.kept now (frame_of h) n).frame ≡ frame_of (scanned d now h n).held
   guards : (j : ℕ) → n ≤ j → guard_upto plain d (looked plain d h.kept now (frame_of h) n).taken n j ≡ not (nat_lt j (scanned d now h n).resume)

@@ -77,11 +77,6 @@ off_zero false x e = refl
 start_possible : (runs : Bool) (since now : ℕ) → since ≤ now → (cond runs since 0 ≤ now) × (runs ≡ false → cond runs since 0 ≡ 0)
 start_possible runs since now h = (below runs since 0 now h (omega arith), λ e. off_zero runs since e)
 
--- CV stays in its range
-either : (b : Bool) (x y : ℤ) → FitsSigned w16 x → FitsSigned w16 y → FitsSigned w16 (cond b x y)
-either true x y h k = h
-either false x y h k = k
-
 up_one : (cv : ℤ) → FitsSigned w16 cv → FitsSigned w16 (cond (int_lt cv (pos 32767)) (cv +ℤ pos 1) cv)
 up_one cv h = grind (arith, ints, nat_tests)
 

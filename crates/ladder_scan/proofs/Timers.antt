@@ -55,9 +55,6 @@ tof_more preset false false second true false m before now h e =
     ∙ sym (ap (λ b. Timer false b (cond b m 0) b) (still_out preset m before now h e))
 tof_more preset false false second false r m before now h e = refl
 
-moved : (x y : StepInput) (older : List StepInput) → since false x.now (y ∷ older) ≡ cond y.on x.now (since false y.now older)
-moved x y older = refl
-
 tof_after : (preset : ℕ) (x : StepInput) (older : List StepInput) → NeverFalls (x ∷ older) → after Tof preset (x ∷ older) ≡ tof_is preset x.on (was_on older) (since false x.now older) x.now
 unfolding after
 tof_after preset x [] h = tof_more preset false x.on x.second false false 0 0 x.now (omega arith) refl

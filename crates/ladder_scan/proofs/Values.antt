@@ -1,18 +1,16 @@
 -- Every step leaves values of the signal: the relational law at the relation that the first is a value.
-use Rattle.std.proofs.Common.{ℕ, Bool, true, false, List, [], ◌∷◌, map, get_or, zero, suc, refl}
+use Rattle.std.proofs.Common.{ℕ, Bool, false, List, [], ◌∷◌, map, get_or, zero, suc, refl}
 use Rattle.ladder_scan.specs.Algebra.{Algebra, LatticeLaws}
 use Rattle.ladder_scan.specs.Truth.{plain}
 use Rattle.ladder_scan.specs.Routes.{left_link}
 use Rattle.ladder_scan.specs.Relations.{IsKept, Both, BothFrames}
 use Rattle.ladder_scan.specs.Cells.{Diagram, Frame, Kept}
-use Rattle.ladder_scan.specs.Rung.{circuit, link, after_rung}
+use Rattle.ladder_scan.specs.Rung.{circuit}
 use Rattle.ladder_scan.specs.SignalScan.{looked}
 use Rattle.ladder_scan.specs.Gating.{AreValues}
-use Rattle.ladder_scan.proofs.Kept.{left_kept, link_kept, rung_kept, frames_kept}
+use Rattle.ladder_scan.proofs.Kept.{left_kept, frames_kept}
 
 module _ {S : Type 0} (o : Algebra S) (V : S → Type 0) (l : LatticeLaws S V o) where
-  abbrev Valued : S → Bool → Type 0
-  Valued x u = V x
 
   values_kept : IsKept o plain (λ x u. V x)
   values_kept = record {
@@ -41,15 +39,6 @@ module _ {S : Type 0} (o : Algebra S) (V : S → Type 0) (l : LatticeLaws S V o)
 
   pub left_value : (d : Diagram) (k : Kept) (now j : ℕ) (f : Frame S) → AreValues o V f → (row column : ℕ) → V (left_link o (circuit o d k now j f) row column)
   left_value d k now j f h row column = left_kept o plain (λ x u. V x) values_kept d k k now j (λ i. (refl, refl)) f (shadow f) (shadowed f h) row column
-
-  pub link_value : (d : Diagram) (k : Kept) (now j : ℕ) (f : Frame S) → AreValues o V f → (e : ℕ) → V (link o d k now j f e)
-  link_value d k now j f h e = link_kept o plain (λ x u. V x) values_kept d k k now j (λ i. (refl, refl)) f (shadow f) (shadowed f h) e
-
-  pub rung_values : (d : Diagram) (k : Kept) (now j : ℕ) (guard : S) → V guard → (f : Frame S) → AreValues o V f → AreValues o V (after_rung o d k now j guard f)
-  rung_values d k now j guard vg f h =
-      let w : BothFrames (λ (x : S) (u : Bool). V x) (after_rung o d k now j guard f) (after_rung plain d k now j true (shadow f)) =
-      rung_kept o plain (λ x u. V x) values_kept d k k now j (λ i. (refl, refl)) guard true vg f (shadow f) (shadowed f h) in
-      record { values = of_both (o.known false) (l.known_value false) _ _ w.0; ends = of_both (o.known false) (l.known_value false) _ _ w.1 }
 
   pub looked_values : (d : Diagram) (k : Kept) (now : ℕ) (f : Frame S) → AreValues o V f → (n : ℕ) → AreValues o V (looked o d k now f n).frame
   looked_values d k now f h n =

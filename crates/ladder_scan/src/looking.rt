@@ -1,6 +1,6 @@
 //! One scan of a program over a signal, which leaves the state as it is.
 
-ghost use Rattle.std.specs.Prelude.{◌≡◌, ◌+◌, ◌-◌, ◌^◌, ◌<◌, ◌↔◌, ℕ, min, length, All, IfOk, IsTrue, slice_get, Some, slice_index_or, false, true, nat_lt, ◌&&◌, if◌then◌else◌};
+ghost use Rattle.std.specs.Prelude.{◌≡◌, ◌+◌, ◌-◌, ◌^◌, ◌<◌, ◌↔◌, ℕ, min, length, All, IfOk, IsTrue, slice_get, Some, slice_index_or, false, true};
 ghost use Rattle.ladder_grid.specs.declared.gates.TheConstants.{LINKS};
 ghost use Rattle.ladder_grid.specs.Program.{IsWellFormed};
 ghost use Rattle.ladder_scan.specs.SignalScan.{look_frame, looked, after_look};
@@ -8,9 +8,9 @@ ghost use Rattle.ladder_scan.specs.Rung.{SameSizes};
 ghost use Rattle.ladder_scan.specs.Programs.{diagram_of, IsSound};
 ghost use Rattle.ladder_scan.specs.Standing.{Fits};
 ghost use Rattle.ladder_scan.specs.Sheets.{HasRoom};
-ghost use Rattle.ladder_scan.specs.Gating.{among, guard_by, AreValues};
+ghost use Rattle.ladder_scan.specs.Gating.{AreValues};
 
-use crate::gates::{link_at, set_rails};
+use crate::gates::set_rails;
 use crate::memory::Memory;
 use crate::scene::checked;
 use crate::signal::Signal;
@@ -19,7 +19,7 @@ use crate::state::State;
 use crate::steps::{Base, go};
 use crate::storage::Storage;
 use ladder_grid::Program;
-use ladder_grid::gates::{LINKS, Leap};
+use ladder_grid::gates::LINKS;
 use std::alloc::Global;
 use std::marker::Model;
 
@@ -92,30 +92,6 @@ impl<S: Signal> Work<S> {
     {
         self.looks
     }
-}
-
-/// The guard so far, AND NOT that the jump is taken, where it passes over the rung.
-fn under<S: Signal>(leap: Leap, taken: &[S], rung: usize, all: S) -> S
-    ensures { result ≡ (if nat_lt leap.rung rung && nat_lt rung leap.target
-        then S.algebra.meet all (S.algebra.inverse (among S.algebra taken.now leap.rung)) else all) }
-{
-    if leap.rung < rung && rung < leap.target {
-        all.and(link_at(taken, leap.rung).not())
-    } else {
-        all
-    }
-}
-
-/// The AND, over the earlier rungs with a jump past the rung, of NOT that this jump is taken.
-#[tactic(auto, using(crate::proofs::Exits::guard_step))]
-pub(crate) fn guard_by<S: Signal>(leaps: &[Leap], taken: &[S], rung: usize) -> S
-    ensures { result ≡ guard_by S.algebra taken.now rung leaps.now (S.algebra.known true) }
-{
-    let mut all = S::known(true);
-    for leap in leaps {
-        all = under(*leap, taken, rung, all);
-    }
-    all
 }
 
 /// What the rungs of a look begin with: the given inputs, and all that is stored.

@@ -23,7 +23,7 @@ pub struct State {
     pub(crate) storage: Storage,
     pub(crate) kinds: Vec<BlockKind>,
     pub(crate) moment: u64,
-    // room for what contacts see from a rung's start on
+    // a buffer for what contacts see from a rung's start on
     pub(crate) start: Signals<bool>,
 }
 

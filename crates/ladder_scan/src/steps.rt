@@ -1,6 +1,6 @@
 //! A look over any signal, step by step.
 
-ghost use Rattle.std.specs.Prelude.{◌≡◌, ◌<◌, ◌+◌, length, slice_index_or, slice_set, false, true, All};
+ghost use Rattle.std.specs.Prelude.{◌≡◌, ◌<◌, ◌+◌, ◌&&◌, if◌then◌else◌, length, nat_lt, slice_index_or, slice_set, false, true, All};
 ghost use Rattle.ladder_vars.specs.declared.kind.BlockKind.TheVariants.{Ton};
 ghost use Rattle.ladder_grid.specs.declared.geometry.TheConstants.{PLACES};
 ghost use Rattle.ladder_grid.specs.declared.gates.TheConstants.{OFF, OWN, LINKS};
@@ -13,14 +13,13 @@ ghost use Rattle.ladder_scan.specs.Gating.{among, own, acted, guard_by};
 ghost use Rattle.ladder_scan.specs.Stepping.{keeping, passing, storing, links_after, frame_after, taken_after, guard_after, going, all_gone, IsSpot, IsWithin};
 
 use crate::effects::any_effect;
-use crate::gates::{q_from, through_cell};
-use crate::looking::guard_by;
+use crate::gates::{link_at, q_from, through_cell};
 use crate::scene::{Scene, cell, instance};
 use crate::signal::Signal;
 use crate::signals::Signals;
 use crate::storage::Storage;
 use ladder_grid::Program;
-use ladder_grid::gates::{Action, LINKS, OFF, OWN};
+use ladder_grid::gates::{Action, LINKS, Leap, OFF, OWN};
 use ladder_grid::steps::{Rare, Spot, Step};
 
 /// What a look goes by, and leaves as it is.
@@ -211,6 +210,30 @@ fn end<S: Signal>(seen: &mut Signals<S>, guard: S, inst: u16, new: S)
 {
     let old = seen.end(inst as usize);
     seen.put_end(inst as usize, S::choose(guard, new, old));
+}
+
+/// The guard so far, AND NOT that the jump is taken, where it passes over the rung.
+fn under<S: Signal>(leap: Leap, taken: &[S], rung: usize, all: S) -> S
+    ensures { result ≡ (if nat_lt leap.rung rung && nat_lt rung leap.target
+        then S.algebra.meet all (S.algebra.inverse (among S.algebra taken.now leap.rung)) else all) }
+{
+    if leap.rung < rung && rung < leap.target {
+        all.and(link_at(taken, leap.rung).not())
+    } else {
+        all
+    }
+}
+
+/// The AND, over the earlier rungs with a jump past the rung, of NOT that this jump is taken.
+#[tactic(auto, using(crate::proofs::Exits::guard_step))]
+pub(crate) fn guard_by<S: Signal>(leaps: &[Leap], taken: &[S], rung: usize) -> S
+    ensures { result ≡ guard_by S.algebra taken.now rung leaps.now (S.algebra.known true) }
+{
+    let mut all = S::known(true);
+    for leap in leaps {
+        all = under(*leap, taken, rung, all);
+    }
+    all
 }
 
 /// The guard of a rung, by the jumps before it. Out of line, for it is rare.

@@ -72,7 +72,7 @@ impl Storage {
         })
     }
 
-    /// Room for what contacts see.
+    /// A buffer for what contacts see.
     pub(crate) fn room(&self, alloc: Global) -> Result<Signals<bool>, Memory>
         ensures { IfOk result (λ f. SameSizes f self.now) }
     {

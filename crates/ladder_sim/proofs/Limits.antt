@@ -5,8 +5,8 @@ use Rattle.ladder_sim.specs.CauseText.{limited}
 use Rattle.ladder_sim.specs.Rows.{row, rows}
 use Rattle.ladder_text.specs.Block.{SendsAll}
 use Rattle.ladder_sim.specs.Limit.{limit_left}
-use Rattle.ladder_text.specs.Log.{PutsFront, WriteLog}
-use Rattle.ladder_text.proofs.Sending.{sends_front, sends_more, sends_none}
+use Rattle.ladder_text.specs.Log.{PutsPrefix, WriteLog}
+use Rattle.ladder_text.proofs.Sending.{sends_prefix, sends_more, sends_none}
 
 pub limited_next : (limit : Option ℕ) (count : ℕ) (xs : List ℕ) (n : ℕ) (rest : List ℕ) → xs ≡ n ∷ rest → limit ≢ Some count → IfSome limit (λ m. count ≤ m)
     → limited (limit_left limit count) xs ≡ n ∷ limited (limit_left limit (count + 1)) rest
@@ -59,11 +59,11 @@ added_more a b c w0 w1 w2 k count limit whole xs n rest so_far first short sent 
     }
 
 -- a row that is cut off
-pub added_front : (a b c : WriteLog) (w0 w1 : List ℕ) (k count : ℕ) (limit : Option ℕ) (whole xs : List ℕ) (n : ℕ) (rest : List ℕ)
-    → Added a b w0 w1 k count limit whole (limited (limit_left limit count) xs) → xs ≡ n ∷ rest → limit ≢ Some count → PutsFront b c (w1 ++ row k n)
-    → PutsFront a c (w0 ++ rows k whole)
-added_front a b c w0 w1 k count limit whole xs n rest so_far first short failed =
+pub added_prefix : (a b c : WriteLog) (w0 w1 : List ℕ) (k count : ℕ) (limit : Option ℕ) (whole xs : List ℕ) (n : ℕ) (rest : List ℕ)
+    → Added a b w0 w1 k count limit whole (limited (limit_left limit count) xs) → xs ≡ n ∷ rest → limit ≢ Some count → PutsPrefix b c (w1 ++ row k n)
+    → PutsPrefix a c (w0 ++ rows k whole)
+added_prefix a b c w0 w1 k count limit whole xs n rest so_far first short failed =
     let next = limited_next limit count xs n rest first short so_far.within in
     let left = limited (limit_left limit (count + 1)) rest in
-    sends_front a b c w0 w1 (rows k whole) so_far.done (row k n) (rows k left)
+    sends_prefix a b c w0 w1 (rows k whole) so_far.done (row k n) (rows k left)
     (so_far.split ∙ ap (λ ys. so_far.done ++ rows k ys) next) so_far.sent failed

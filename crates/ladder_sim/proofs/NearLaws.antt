@@ -10,10 +10,11 @@ use Rattle.std.proofs.Math.Nat.{div-div-eq-div-mul}
 use borrow.Rule.Slice.PartMut.{put_mid, post_of, take_put}
 use Rattle.ladder_causes.specs.Assignment.{bit_of}
 use Rattle.ladder_causes.proofs.SourceLaws.{range_with_len-add}
-use Rattle.ladder_records.specs.Text.{bit_text}
-use Rattle.ladder_sim.specs.Rows.{behind_commas, bits, row}
+use Rattle.ladder_records.specs.Text.{after_commas, bit_text}
+use Rattle.ladder_records.proofs.Commas.{after_commas-append}
+use Rattle.ladder_sim.specs.Rows.{bits, row}
 use Rattle.ladder_sim.specs.Kept.{ArePairs, AreTails, IsNear, pair_text, tail_text}
-use Rattle.ladder_sim.proofs.RowLaws.{behind_commas-append, bits_more}
+use Rattle.ladder_sim.proofs.RowLaws.{bits_more}
 
 same_map : {X : Type 0} (f g : ℕ → X) (a b n : ℕ) → ((i : ℕ) → i < n → f (a + i) ≡ g (b + i)) → map f (range_with_len a n) ≡ map g (range_with_len b n)
 same_map f g a b zero h = refl
@@ -45,28 +46,28 @@ last_bit m n i less =
     let places : m + 6 - (0 + m + i + 1) ≡ 6 - (0 + i + 1) = omega arith in
     ap (λ e. n / 2 ^ e % 2 == 1) places ∙ ap (λ d. d == 1) (six n (6 - (0 + i + 1)) (omega arith))
 
-bits_cut : (m n : ℕ) → behind_commas (bits (m + 6) n (m + 6)) ≡ behind_commas (bits m (n / 64) m) ++ behind_commas (bits 6 (n % 64) 6)
+bits_cut : (m n : ℕ) → after_commas (bits (m + 6) n (m + 6)) ≡ after_commas (bits m (n / 64) m) ++ after_commas (bits 6 (n % 64) 6)
 bits_cut m n =
     let f = λ (place : ℕ). bit_text (bit_of (m + 6) place n) in
-    ap (λ xs. behind_commas (map f xs)) (range_with_len-add 0 m 6)
-    ∙ ap behind_commas (map-append f (range_with_len 0 m) (range_with_len (0 + m) 6))
-    ∙ behind_commas-append (map f (range_with_len 0 m)) (map f (range_with_len (0 + m) 6))
-    ∙ ap (λ xs. behind_commas xs ++ behind_commas (map f (range_with_len (0 + m) 6)))
+    ap (λ xs. after_commas (map f xs)) (range_with_len-add 0 m 6)
+    ∙ ap after_commas (map-append f (range_with_len 0 m) (range_with_len (0 + m) 6))
+    ∙ after_commas-append (map f (range_with_len 0 m)) (map f (range_with_len (0 + m) 6))
+    ∙ ap (λ xs. after_commas xs ++ after_commas (map f (range_with_len (0 + m) 6)))
     (same_map f (λ place. bit_text (bit_of m place (n / 64))) 0 0 m (λ i less. ap bit_text (front_bit m n (0 + i) (omega arith))))
-    ∙ ap (λ xs. behind_commas (bits m (n / 64) m) ++ behind_commas xs)
+    ∙ ap (λ xs. after_commas (bits m (n / 64) m) ++ after_commas xs)
     (same_map f (λ place. bit_text (bit_of 6 place (n % 64))) (0 + m) 0 6 (λ i less. ap bit_text (last_bit m n i less)))
 
 bit_long : (b : Bool) → length (bit_text b) ≡ 1
 bit_long true = refl
 bit_long false = refl
 
-bits_long : (k n i : ℕ) → length (behind_commas (bits k n i)) ≡ 2 * i
+bits_long : (k n i : ℕ) → length (after_commas (bits k n i)) ≡ 2 * i
 bits_long k n zero = refl
 bits_long k n (suc i) =
-    ap (λ j. length (behind_commas (bits k n j))) (sym (add-one i))
+    ap (λ j. length (after_commas (bits k n j))) (sym (add-one i))
     ∙ ap length (bits_more k n i)
-    ∙ length-append (behind_commas (bits k n i)) (codes "," ++ bit_text (bit_of k i n))
-    ∙ ap (λ m. length (behind_commas (bits k n i)) + suc m) (bit_long (bit_of k i n))
+    ∙ length-append (after_commas (bits k n i)) (codes "," ++ bit_text (bit_of k i n))
+    ∙ ap (λ m. length (after_commas (bits k n i)) + suc m) (bit_long (bit_of k i n))
     ∙ ap (λ m. m + 2) (bits_long k n i)
     ∙ twice i
   where
@@ -91,17 +92,17 @@ decimal_cut n large fits =
 
 -- the bits in front of the last six
 abbrev pub front : ℕ → ℕ → List ℕ
-front k n = behind_commas (bits (k - 6) (n / 64) (k - 6))
+front k n = after_commas (bits (k - 6) (n / 64) (k - 6))
 
 pub row_cut : (k n : ℕ) → 6 ≤ k → 100 ≤ n → n < 2 ^ 64 → row k n ≡ decimal (n / 100) ++ (pair n ++ (front k n ++ tail_text (n % 64)))
 row_cut k n wide large fits =
     let many : k ≡ (k - 6) + 6 = omega arith in
-    let ends : behind_commas (bits k n k) ≡ front k n ++ behind_commas (bits 6 (n % 64) 6) =
-    ap (λ j. behind_commas (bits j n j)) many ∙ bits_cut (k - 6) n in
-    ap (λ xs. xs ++ (behind_commas (bits k n k) ++ codes "\n")) (decimal_cut n large fits)
-    ∙ append_assoc (decimal (n / 100)) (pair n) (behind_commas (bits k n k) ++ codes "\n")
+    let ends : after_commas (bits k n k) ≡ front k n ++ after_commas (bits 6 (n % 64) 6) =
+    ap (λ j. after_commas (bits j n j)) many ∙ bits_cut (k - 6) n in
+    ap (λ xs. xs ++ (after_commas (bits k n k) ++ codes "\n")) (decimal_cut n large fits)
+    ∙ append_assoc (decimal (n / 100)) (pair n) (after_commas (bits k n k) ++ codes "\n")
     ∙ ap (λ xs. decimal (n / 100) ++ (pair n ++ (xs ++ codes "\n"))) ends
-    ∙ ap (λ xs. decimal (n / 100) ++ (pair n ++ xs)) (append_assoc (front k n) (behind_commas (bits 6 (n % 64) 6)) (codes "\n"))
+    ∙ ap (λ xs. decimal (n / 100) ++ (pair n ++ xs)) (append_assoc (front k n) (after_commas (bits 6 (n % 64) 6)) (codes "\n"))
 
 -- a part in the middle is another one
 pub put_mid_is : (d m : ℕ) (xs p a q b : List ℕ) → xs ≡ a ++ (q ++ b) → length a ≡ d → length q ≡ m → put_mid d m xs p ≡ a ++ (p ++ b)
@@ -157,7 +158,7 @@ pairs_more text part at k i here room is so_far =
     parts_more (λ x. pair_text x) 2 2 text part at k i here (λ j low. omega (arith, low, here)) room (omega (arith, long)) so_far (ap (λ xs. take 2 xs) is)
 
 tail_long : (i : ℕ) → length (tail_text i) ≡ 13
-tail_long i = length-append (behind_commas (bits 6 i 6)) (codes "\n") ∙ ap (λ m. m + 1) (bits_long 6 i 6)
+tail_long i = length-append (after_commas (bits 6 i 6)) (codes "\n") ∙ ap (λ m. m + 1) (bits_long 6 i 6)
 
 -- The row of a number that is near a row that was copied onto the front of a text: its own last digits and bits are put over that one's.
 pub near_row : (text kept copied paired ends : List ℕ) (k n f start digits tail long : ℕ)
@@ -176,7 +177,7 @@ near_row text kept copied paired ends k n f start digits tail long near begins k
     let row_f : row k f ≡ A ++ (pair f ++ (F ++ T)) =
     row_cut k f near.wide f_large f_fits
     ∙ ap (λ q. decimal q ++ (pair f ++ (front k f ++ T))) (sym near.hundreds)
-    ∙ ap (λ q. A ++ (pair f ++ (behind_commas (bits (k - 6) q (k - 6)) ++ T))) (sym near.sixties) in
+    ∙ ap (λ q. A ++ (pair f ++ (after_commas (bits (k - 6) q (k - 6)) ++ T))) (sym near.sixties) in
     let rf = row k f in
     let D = drop start kept in
     let fits : 21 + 2 * k - start ≡ long = omega (arith, long_is) in

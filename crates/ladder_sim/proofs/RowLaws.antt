@@ -1,43 +1,37 @@
 -- The bits of a row, one after the other.
-use Rattle.std.proofs.Common.{◌≡◌, ◌∙◌, ℕ, ◌+◌, ◌-◌, ◌*◌, ◌<◌, ◌≤◌, List, [], ◌∷◌, ◌++◌, sym, refl, ap, append_assoc, append-nil, map, codes, arith, length, take, drop, get_or, set, length-append, length-set}
+use Rattle.std.proofs.Common.{◌≡◌, ◌∙◌, ℕ, ◌+◌, ◌-◌, ◌*◌, ◌<◌, ◌≤◌, List, [], ◌∷◌, ◌++◌, sym, ap, append_assoc, append-nil, map, codes, arith, length, take, drop, set, length-append, length-set}
 use Rattle.std.proofs.lemmas.Grind.{take-set_at}
 use Rattle.std.specs.List.{range_with_len, slice_range}
 use borrow.Rule.Slice.PartMut.{put_mid, post_of}
-use Rattle.std.proofs.lemmas.List.{drop_at, length-take-le, map-append, map_more, take-append-drop, take_at}
+use Rattle.std.proofs.lemmas.List.{drop_at, length-take-le, map-append, take-append-drop, take_at}
 use Rattle.ladder_causes.specs.Assignment.{bit_of}
 use Rattle.ladder_causes.proofs.SourceLaws.{range_with_len-add}
-use Rattle.ladder_records.specs.Text.{bit_text}
-use Rattle.ladder_sim.specs.Rows.{behind_commas, bits}
-
-pub behind_commas-append : (xs ys : List (List ℕ)) → behind_commas (xs ++ ys) ≡ behind_commas xs ++ behind_commas ys
-behind_commas-append [] ys = refl
-behind_commas-append (x ∷ xs) ys =
-    ap (λ t. codes "," ++ (x ++ t)) (behind_commas-append xs ys)
-    ∙ ap (λ t. codes "," ++ t) (sym (append_assoc x (behind_commas xs) (behind_commas ys)))
-    ∙ sym (append_assoc (codes ",") (x ++ behind_commas xs) (behind_commas ys))
+use Rattle.ladder_records.specs.Text.{after_commas, bit_text}
+use Rattle.ladder_records.proofs.Commas.{after_commas-append}
+use Rattle.ladder_sim.specs.Rows.{bits}
 
 -- one bit more
-pub bits_more : (k n i : ℕ) → behind_commas (bits k n (i + 1)) ≡ behind_commas (bits k n i) ++ (codes "," ++ bit_text (bit_of k i n))
+pub bits_more : (k n i : ℕ) → after_commas (bits k n (i + 1)) ≡ after_commas (bits k n i) ++ (codes "," ++ bit_text (bit_of k i n))
 bits_more k n i =
     let f = λ (place : ℕ). bit_text (bit_of k place n) in
     let here : 0 + i ≡ i = omega arith in
-    ap (λ xs. behind_commas (map f xs)) (range_with_len-add 0 i 1)
-    ∙ ap behind_commas (map-append f (range_with_len 0 i) (range_with_len (0 + i) 1))
-    ∙ behind_commas-append (bits k n i) (map f (range_with_len (0 + i) 1))
-    ∙ ap (λ j. behind_commas (bits k n i) ++ (codes "," ++ (f j ++ []))) here
-    ∙ ap (λ t. behind_commas (bits k n i) ++ (codes "," ++ t)) (append-nil (f i))
+    ap (λ xs. after_commas (map f xs)) (range_with_len-add 0 i 1)
+    ∙ ap after_commas (map-append f (range_with_len 0 i) (range_with_len (0 + i) 1))
+    ∙ after_commas-append (bits k n i) (map f (range_with_len (0 + i) 1))
+    ∙ ap (λ j. after_commas (bits k n i) ++ (codes "," ++ (f j ++ []))) here
+    ∙ ap (λ t. after_commas (bits k n i) ++ (codes "," ++ t)) (append-nil (f i))
 
 -- one bit more that is written on a text
-pub bit_more : (text : List ℕ) (k n i digit : ℕ) → 2 * i + 1 < length text → take (2 * i) text ≡ behind_commas (bits k n i)
+pub bit_more : (text : List ℕ) (k n i digit : ℕ) → 2 * i + 1 < length text → take (2 * i) text ≡ after_commas (bits k n i)
     → digit ∷ [] ≡ bit_text (bit_of k i n)
-    → take (2 * (i + 1)) (set (set text (2 * i) 44) (2 * i + 1) digit) ≡ behind_commas (bits k n (i + 1))
+    → take (2 * (i + 1)) (set (set text (2 * i) 44) (2 * i + 1) digit) ≡ after_commas (bits k n (i + 1))
 bit_more text k n i digit room so_far is =
     let first : take (2 * i + 1) (set text (2 * i) 44) ≡ take (2 * i) text ++ 44 ∷ [] = take-set_at text (2 * i) (2 * i + 1) 44 (omega arith) (omega arith) in
     let long : 2 * i + 1 < length (set text (2 * i) 44) = rw (length-set text (2 * i) 44) room in
     take-set_at (set text (2 * i) 44) (2 * i + 1) (2 * (i + 1)) digit (omega arith) long
     ∙ ap (λ t. t ++ digit ∷ []) (first ∙ ap (λ t. t ++ 44 ∷ []) so_far)
-    ∙ append_assoc (behind_commas (bits k n i)) (44 ∷ []) (digit ∷ [])
-    ∙ ap (λ t. behind_commas (bits k n i) ++ 44 ∷ t) is
+    ∙ append_assoc (after_commas (bits k n i)) (44 ∷ []) (digit ∷ [])
+    ∙ ap (λ t. after_commas (bits k n i) ++ 44 ∷ t) is
     ∙ sym (bits_more k n i)
 
 -- digits that end where the end of a row begins, which was written on the part of a text behind a place
@@ -59,20 +53,3 @@ row_is text part whole digits ends at k m n start room more is begins written st
 pub digits_fit : (text part : List ℕ) (at k : ℕ) → at ≤ length text → at ≤ length (put_mid at k text part)
 digits_fit text part at k room =
     omega (arith, length-append (take at text) (part ++ post_of at k text), length-take-le at text room)
-
--- one item more, each behind a comma
-pub behind_more : {A : Type 0} (f : A → List ℕ) (items : List A) (i : ℕ) (d : A) → i < length items
-    → behind_commas (map f (take (i + 1) items)) ≡ behind_commas (map f (take i items)) ++ (codes "," ++ f (get_or items i d))
-behind_more f items i d h =
-    ap behind_commas (map_more f items i d h)
-    ∙ behind_commas-append (map f (take i items)) (f (get_or items i d) ∷ [])
-    ∙ ap (λ t. behind_commas (map f (take i items)) ++ (codes "," ++ t)) (append-nil (f (get_or items i d)))
-
-pub behind_cut : {A : Type 0} (f : A → List ℕ) (items : List A) (i : ℕ) (d : A) → i < length items
-    → behind_commas (map f items) ≡ behind_commas (map f (take i items)) ++ ((codes "," ++ f (get_or items i d)) ++ behind_commas (map f (drop (i + 1) items)))
-behind_cut f items i d h =
-    ap (λ xs. behind_commas (map f xs)) (sym (take-append-drop (i + 1) items))
-    ∙ ap behind_commas (map-append f (take (i + 1) items) (drop (i + 1) items))
-    ∙ behind_commas-append (map f (take (i + 1) items)) (map f (drop (i + 1) items))
-    ∙ ap (λ t. t ++ behind_commas (map f (drop (i + 1) items))) (behind_more f items i d h)
-    ∙ append_assoc (behind_commas (map f (take i items))) (codes "," ++ f (get_or items i d)) (behind_commas (map f (drop (i + 1) items)))

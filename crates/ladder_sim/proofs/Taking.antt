@@ -1,9 +1,7 @@
 -- One cause more that a cursor has given.
-use Rattle.std.proofs.Common.{◌≡◌, ◌≢◌, ◌∙◌, ◌+◌, ◌<◌, ◌≤◌, ℕ, zero, suc, true, false, cond, List, [], ◌∷◌, ◌++◌, Option, Some, None, sym, refl, add-one, ap, arith, drop, length, length-drop, nat_lt, take}
-use Rattle.std.specs.Prelude.{IfSome}
-use Rattle.std.proofs.lemmas.Bool.Decides.{nat_tests}
-use Rattle.ladder_search.specs.Looks.{Search, looks_in_all, looks_until}
-use Rattle.ladder_causes.specs.Cursor.{Cursor, Takes, looks_given, looks_of, looks_through, searched}
+use Rattle.std.proofs.Common.{◌≡◌, ◌∙◌, ◌+◌, ◌≤◌, ℕ, zero, suc, List, [], ◌∷◌, ◌++◌, sym, refl, add-one, ap, arith, drop, length, take}
+use Rattle.ladder_search.specs.Looks.{Search, looks_until}
+use Rattle.ladder_causes.specs.Cursor.{Cursor, Takes, looks_of, looks_through, searched}
 
 -- So many causes were given, and so many looks were made for them.
 pub record Going (old new : Cursor) (count : ℕ) : Type 0 where
@@ -58,42 +56,3 @@ going_on old a b count n g first program listed search looks =
           ∙ until_last (searched old) (looks_of old) (take count old.rest) n);
       within = room_for_one old.rest b.rest n count left;
     }
-
--- the cursor came to its end
-pub at_end : (old a b : Cursor) (count : ℕ) → Going old a count → a.rest ≡ [] → b.rest ≡ [] → b.program ≡ a.program → b.listed ≡ a.listed
-    → searched b ≡ searched a → Takes old b count
-at_end old a b count g none ended program listed search = record {
-  program = program ∙ g.takes.program;
-  listed = listed ∙ g.takes.listed;
-  search = search ∙ g.takes.search;
-  rest = ended ∙ sym none ∙ g.takes.rest;
-}
-
-is_less : (a b : ℕ) → a < b → nat_lt a b ≡ true
-is_less a b h = grind (arith, nat_tests)
-
-not_less : (a b : ℕ) → b ≤ a → nat_lt a b ≡ false
-not_less a b h = grind (arith, nat_tests)
-
-all_given : (s : Search) (before count : ℕ) (limit : Option ℕ) (xs : List ℕ) → length xs ≡ count → limit ≢ Some count
-    → IfSome limit (λ m. count ≤ m) → looks_in_all s ≡ looks_given s before limit xs
-all_given s before count None xs e d h = refl
-all_given s before count (Some m) xs e d h =
-    let other : m ≢ count = λ q. d (ap (λ (x : ℕ). Some x) q) in
-    sym (ap (λ b. cond b (looks_in_all s) (looks_through s before (take m xs))) (is_less (length xs) m (omega (arith, e, h, other))))
-
-pub looks_at_end : (old a b : Cursor) (count : ℕ) (limit : Option ℕ) → Going old a count → a.rest ≡ [] → limit ≢ Some count
-    → IfSome limit (λ m. count ≤ m) → looks_of b ≡ looks_in_all (searched a)
-    → looks_of b ≡ looks_given (searched old) (looks_of old) limit old.rest
-looks_at_end old a b count limit g none short within looks =
-    let empty : length (drop count old.rest) ≡ 0 = ap length (sym g.takes.rest ∙ none) in
-    let all : length old.rest ≡ count = omega (arith, empty, length-drop count old.rest, g.within) in
-    looks ∙ ap (λ (s : Search). looks_in_all s) g.takes.search ∙ all_given (searched old) (looks_of old) count limit old.rest all short within
-
--- the limit is reached
-pub looks_at_limit : (old a : Cursor) (count : ℕ) (limit : Option ℕ) → Going old a count → limit ≡ Some count
-    → looks_of a ≡ looks_given (searched old) (looks_of old) limit old.rest
-looks_at_limit old a count limit g reached =
-    g.looks
-    ∙ sym (ap (λ l. looks_given (searched old) (looks_of old) l old.rest) reached
-    ∙ ap (λ b. cond b (looks_in_all (searched old)) (looks_through (searched old) (looks_of old) (take count old.rest))) (not_less (length old.rest) count g.within))

@@ -1,12 +1,13 @@
 -- Private to the writer of rows: a row that is kept, and the numbers whose rows differ from it in two digits and six bits alone.
 use Rattle.std.specs.Prelude.{◌≡◌, ◌+◌, ◌*◌, ◌/◌, ◌%◌, ◌<◌, ◌≤◌, ◌++◌, ◌∷◌, [], ℕ, List, codes, decimal, length, take, drop}
 use Rattle.std.specs.List.{slice_range}
-use Rattle.ladder_sim.specs.Rows.{behind_commas, bits, row}
+use Rattle.ladder_records.specs.Text.{after_commas}
+use Rattle.ladder_sim.specs.Rows.{bits, row}
 use Rattle.ladder_sim.specs.declared.kept.Kept.{Kept}
 
 -- the end of the row of a number below 64: six bits and the line feed
 abbrev pub tail_text : ℕ → List ℕ
-tail_text i = behind_commas (bits 6 i 6) ++ codes "\n"
+tail_text i = after_commas (bits 6 i 6) ++ codes "\n"
 
 -- the first so many tails, one in 16 bytes
 abbrev pub AreTails : List ℕ → ℕ → Type 0

@@ -1,7 +1,7 @@
 -- Private to the writer of causes: the lines of the text one by one, and the rows as far as they are written.
 use Rattle.std.specs.Prelude.{ℕ, List, [], map, Option, option_map, unwrap_or}
 use Rattle.std.specs.List.{range_with_len}
-use Rattle.ladder_records.specs.Text.{after_commas, bit_text, line_text, lines_text}
+use Rattle.ladder_records.specs.Text.{bit_text, line_text, lines_text}
 use Rattle.ladder_vars.specs.declared.decls.Var.{Var}
 use Rattle.ladder_grid.specs.Program.{Drawing}
 use Rattle.ladder_causes.specs.Assignment.{bit_of}
@@ -9,10 +9,6 @@ use Rattle.ladder_sim.specs.CauseText.{cause_record, header_record}
 
 abbrev pub name_in : Option Var → List ℕ
 name_in var = unwrap_or (option_map (λ (v : Var). v.name) var) []
-
--- each behind a comma
-abbrev pub behind_commas : List (List ℕ) → List ℕ
-behind_commas fields = after_commas fields
 
 abbrev pub header : Drawing → List ℕ → List ℕ
 header p listed = line_text (header_record p listed)

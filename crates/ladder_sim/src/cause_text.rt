@@ -4,9 +4,9 @@ ghost use Rattle.ladder_causes.specs.Assignment.{bit_of};
 ghost use Rattle.ladder_causes.specs.Cursor.{Takes, looks_given, looks_of, searched};
 ghost use Rattle.std.specs.List.{slice_range};
 ghost use Rattle.ladder_text.specs.Block.{Sends};
-ghost use Rattle.ladder_records.specs.Text.{bit_text};
+ghost use Rattle.ladder_records.specs.Text.{after_commas, bit_text};
 ghost use Rattle.ladder_sim.specs.CauseText.{cause_text, limited};
-ghost use Rattle.ladder_sim.specs.Rows.{behind_commas, bits, header, name_in, row, rows};
+ghost use Rattle.ladder_sim.specs.Rows.{bits, header, name_in, row, rows};
 ghost use Rattle.ladder_sim.specs.Kept.{IsKept};
 ghost use Rattle.ladder_text.specs.Log.{Puts};
 ghost use Rattle.ladder_sim.specs.declared.cause_text.TheConstants.{DIGITS, ROW};
@@ -22,7 +22,7 @@ use ladder_vars::Decls;
 /// How many digits a number has at most.
 pub(crate) const DIGITS: usize = 20;
 
-/// How many bytes a row has at most: a number, 64 bits, each behind a comma, and a line feed.
+/// How many bytes a row has at most: a number, 64 bits, each after a comma, and a line feed.
 pub(crate) const ROW: usize = 149;
 
 /// How a variable is spelled where it is declared.
@@ -55,7 +55,7 @@ fn add_names<W: Sink>(
     listed: &[usize],
     writer: &mut W,
 ) -> Result<(), WriteFault>
-    ensures { Sends (W.log writer.old) (W.log writer.new) block.old block.new result (behind_commas (map (λ v. name_in (slice_get decls.now.vars v)) listed.now)) }
+    ensures { Sends (W.log writer.old) (W.log writer.new) block.old block.new result (after_commas (map (λ v. name_in (slice_get decls.now.vars v)) listed.now)) }
 {
     for var in listed {
         let Ok(()) = add_name(block, decls, *var, writer) else {
@@ -97,11 +97,11 @@ fn bit_of(listed: usize, place: usize, number: u64) -> bool
     (number >> (listed - (place + 1))) & 1 == 1
 }
 
-/// Writes the end of a number's row on the front of a text: its bits, each behind a comma, and a line feed.
+/// Writes the end of a number's row over the first bytes of a text: its bits, each after a comma, and a line feed.
 pub(crate) fn fill_end(text: &mut [u8], listed: usize, number: u64)
     requires few { listed ≤ 64 }
     requires room { 2 * listed < length text.old }
-    ensures { take (2 * listed + 1) text.new ≡ behind_commas (bits listed number listed) ++ codes "\n" }
+    ensures { take (2 * listed + 1) text.new ≡ after_commas (bits listed number listed) ++ codes "\n" }
 {
     for place in 0..listed {
         text[2 * place] = b',';
@@ -110,7 +110,7 @@ pub(crate) fn fill_end(text: &mut [u8], listed: usize, number: u64)
     text[2 * listed] = b'\n';
 }
 
-/// Writes the row of a number into a text, and answers where it begins: its digits end at `DIGITS`, and the rest follows.
+/// Writes the row of a number into a text, and returns where it begins: its digits end at `DIGITS`, and the rest follows.
 pub(crate) fn write_row(text: &mut [u8], listed: usize, number: u64) -> usize
     requires few { listed ≤ 64 }
     requires room { length text.old ≡ ROW }
@@ -141,7 +141,7 @@ fn add_row<W: Sink>(
     block.add(kept.row(listed), writer)
 }
 
-/// How much of a list was written, and what it took.
+/// How much of a list was written, and how many looks it took.
 #[derive(Clone, Copy, Debug, PartialEq, Eq)]
 pub struct Summary {
     /// The rows after the header.

@@ -1,4 +1,4 @@
-//! A row that is kept: the rows of the numbers behind it differ from it, mostly, in the last digits and bits alone.
+//! A row that is kept: the rows of the next numbers mostly differ from it in the last digits and bits alone.
 ghost use Rattle.std.specs.Prelude.{◌≡◌, ◌+◌, ◌*◌, ◌<◌, ◌≤◌, ℕ, length, take};
 ghost use Rattle.std.specs.List.{slice_range};
 ghost use Rattle.ladder_sim.specs.Rows.{row};
@@ -104,7 +104,7 @@ impl Kept {
         &self.text[self.start..DIGITS + 2 * listed + 1]
     }
 
-    /// Writes the row of a number near the kept one on the front of a text, and answers how long it is.
+    /// Writes the row of a number near the kept one over the first bytes of a text, and returns how long it is.
     ///
     /// The copy is patched and never the kept row: a byte that was just written is slow to read again among its neighbours, and each
     /// row would wait for the one before it.
@@ -127,7 +127,7 @@ impl Kept {
         text[digits] = self.pairs[pair];
         text[digits + 1] = self.pairs[pair + 1];
 
-        // of the 16 bytes, 13 are the row's: the room and the tails have three more
+        // of the 16 bytes, 13 are the row's: the buffer and the tails have three more
         text[long - 13..long + 3].copy_from_slice(&self.tails[tail..tail + 16]);
         long
     }

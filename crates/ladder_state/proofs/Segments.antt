@@ -69,7 +69,7 @@ same_width has item (a ∷ xs) (b ∷ ys) [] (suc i) h k = absurd (omega (arith,
 same_width has item (a ∷ xs) (b ∷ ys) (c ∷ zs) (suc i) h k =
     width_more (has a) (item a b) (item a c) (each (some has item) (take i xs) ys) (each (some has item) (take i xs) zs) (same_width has item xs ys zs i (omega (arith, h)) (omega (arith, k)))
 
--- a record that is none of its item, behind a front of one length
+-- a record that is none of its item, behind a prefix of one length
 pub none_here : {A B : Type 0} (has : A → Bool) (item : A → B → Fields) (can : A → B → Type 0) (xs : List A) (ys zs : List B) (pre pre2 rows post : List Fields) (before n k : ℕ)
     → (h : IsStuck has item can xs ys rows before n) → length ys ≡ length xs → length zs ≡ length xs → length pre2 ≡ length pre
     → k ≡ length pre + length (each (some has item) (take h.at xs) ys)

@@ -9,7 +9,7 @@ use Rattle.ladder_scan.specs.Standing.{Standing}
 use Rattle.ladder_state.specs.ReadState.{Reads}
 use Rattle.ladder_state.specs.StateText.{HasRecords, IsStateOf, state_text}
 
--- What is written is read back: what the reading of the text of a state answers is that state, or want of memory.
+-- What is written is read back: the reading of the text of a state returns that state, or out of memory.
 abbrev pub ReadsBack : Drawing → Type 0
 ReadsBack p = (s : Standing) (r : Result Standing TextFault) → IsStateOf p s → Reads p (records_of (state_text p s)) r
     → (r ≡ Ok s) ⊎ (r ≡ Err fault.Memory)

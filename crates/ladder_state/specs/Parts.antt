@@ -83,7 +83,7 @@ ReadsPart has item can xs ys rows before new (Err fault.TooLong) = ⊥
 
 -- ---- all items
 
--- The first records behind the head are those of the state, and the next is that of no state with the same moment.
+-- The first records after the head are those of the state, and the next is that of no state with the same moment.
 pub record IsItemsBad (version : Version) (p : Drawing) (s : Standing) (rows : List Fields) (n : ℕ) : Type 0 where
   pub before : ℕ
   pub count : n ≡ 2 + before + 1
@@ -99,7 +99,7 @@ ReadsItems version p s rows (Err fault.TooLong) = ⊥
 
 -- ---- all records
 
--- what the reading of a state answers, where the state stands beside the answer
+-- what the reading of a state returns, where the state is given beside the result
 abbrev pub ReadsAll : {T : Type 0} → Drawing → Standing → List Fields → Result T TextFault → Type 0
 ReadsAll p s rows (Ok u) = HasRecords p s rows
 ReadsAll p s rows (Err (fault.BadRow n)) = IsFirstBad p rows n

@@ -1,4 +1,4 @@
--- What the reading of a state text answers.
+-- What the reading of a state text returns.
 use Rattle.std.specs.Prelude.{◌≡◌, ◌+◌, ⊤, ℕ, List, Result, Ok, Err, take}
 use Rattle.ladder_records.specs.Left.{Fields}
 use Rattle.ladder_grid.specs.Program.{Drawing}
@@ -24,7 +24,7 @@ pub record IsFirstBad (p : Drawing) (rows : List Fields) (n : ℕ) : Type 0 wher
   pub front : Begins p rows before
   pub none : Begins p rows n → ⊥
 
--- A state is answered for the records that are its, and otherwise the first bad one. The bytes are at hand: no reader can fail.
+-- The state whose records these are is returned, and otherwise the number of the first bad one. The bytes are in memory: no reader can fail.
 abbrev pub Reads : Drawing → List Fields → Result Standing TextFault → Type 0
 Reads p rows (Ok s) = IsStateOf p s × HasRecords p s rows
 Reads p rows (Err (fault.BadRow n)) = IsFirstBad p rows n

@@ -51,7 +51,7 @@ has_record version other = true
 abbrev pub told : {A B : Type 0} → (A → Bool) → (A → B → Fields) → List A → List B → List Fields
 told has row items values = flat_map (λ x. if has x.0 then row x.0 x.1 ∷ [] else []) (zip items values)
 
--- the places where an edge contact or edge coil stands: the n-th memory is that of the n-th of them, they go by rung, column and row
+-- the places that have an edge contact or edge coil: the n-th memory is that of the n-th of them, they go by rung, column and row
 abbrev pub memory_places : Drawing → List ℕ
 memory_places p = filter (λ place. has_memory (cell_in p place)) (range_with_len 0 (length p.sites))
 

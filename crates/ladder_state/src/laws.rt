@@ -23,7 +23,7 @@ fn named_instances(instances: &[Instance])
     }
 }
 
-/// What `write_state` writes, `read_state` reads as that state, unless memory is wanting.
+/// What `write_state` writes, `read_state` reads back as that state, unless out of memory.
 pub fn reads_back(program: &Program)
     ensures { ReadsBack program.now }
 {

@@ -37,7 +37,7 @@ fn next_value(
     Ok(read_var(var, row))
 }
 
-/// Reads the records of the variables, which begin behind the first `before`.
+/// Reads the records of the variables, which follow the first `before`.
 fn read_values(
     vars: &[Var],
     records: &mut Records<'_>,
@@ -77,7 +77,7 @@ fn has_memory(cell: Cell) -> bool
     }
 }
 
-/// Whether an edge contact or edge coil stands at a place. Places go by rung, column and row.
+/// Whether an edge contact or edge coil is at a place. Places go by rung, column and row.
 pub(crate) fn is_memory_place(program: &Program, place: usize) -> bool
     requires { place < PLACES * program.now.rungs }
     ensures { result ≡ has_memory (cell_in program.now place) }
@@ -105,7 +105,7 @@ fn next_memory(
     Ok(read_memory(place, row))
 }
 
-/// Reads the records of the memories, which begin behind the first `before`.
+/// Reads the records of the memories, which follow the first `before`.
 fn read_memories(
     program: &Program,
     records: &mut Records<'_>,
@@ -162,7 +162,7 @@ fn next_block(
     Ok(read_block(instance, moment, row))
 }
 
-/// Reads the records of the instances, which begin behind the first `before`, and answers the number of the last one.
+/// Reads the records of the instances, which follow the first `before`, and returns the number of the last one.
 fn read_blocks(
     version: Version,
     instances: &[Instance],
@@ -203,7 +203,7 @@ fn read_blocks(
     Ok(last)
 }
 
-/// Reads the records of all variables, memories and instances, and finds none behind them.
+/// Reads the records of all variables, memories and instances, and finds that none follow.
 pub(crate) fn read_parts(
     version: Version,
     program: &Program,

@@ -80,7 +80,7 @@ fn read_records(
     read_parts(version, program, records, row, state)
 }
 
-/// The state of a text. Records are read as they come: a bad one is answered before the next is read.
+/// Reads the state of a text. Records are judged as they come: the next one is read after the last one was found good.
 ///
 /// # Errors
 ///

@@ -240,7 +240,7 @@ fn add_blocks<W: Sink>(
     Ok(())
 }
 
-/// Adds the records behind the moment.
+/// Adds the records that follow the moment.
 fn add_items<W: Sink>(
     block: &mut Block,
     program: &Program,

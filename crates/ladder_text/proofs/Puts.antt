@@ -3,7 +3,7 @@ use Rattle.std.proofs.Common.{◌≡◌, ◌∙◌, ap, sym, refl, ℕ, List, []
 use Rattle.std.specs.Io.KnownBytes.{Appends}
 use Rattle.ladder_text.specs.declared.tally.Tally.{Tally}
 use Rattle.ladder_text.specs.Calls.{AllPass, LastFails, Passes}
-use Rattle.ladder_text.specs.Log.{PutsAll, PutsFront, WriteLog}
+use Rattle.ladder_text.specs.Log.{PutsAll, PutsPrefix, WriteLog}
 use Rattle.ladder_text.proofs.Bytes.{appends_more, appends_none}
 
 -- calls that passed, after calls that did
@@ -22,19 +22,15 @@ puts_more a b c xs ys p q = record {
   calls = passes_more a.tally b.tally c.tally p.calls q.calls;
 }
 
--- the same of a text that is spelled in another way
-pub puts_same : (a b : WriteLog) (xs ys : List ℕ) → xs ≡ ys → PutsAll a b xs → PutsAll a b ys
-puts_same a b xs ys e p = record { bytes = rw (← e) p.bytes; calls = p.calls }
-
 -- a call that failed after calls that did not
 pub fails_after : (a b c : Tally) → AllPass a b → LastFails b c → LastFails a c
 fails_after a b c (same, p) (inl q, last) = (inl (omega (arith, same, q)), last)
 fails_after a b c (same, p) (inr q, last) = (inr (q.0, q.1 ∙ same), last)
 
--- a front of the next part is a front of the whole
-pub front_after : (a b c : WriteLog) (text before next rest : List ℕ) → text ≡ (before ++ next) ++ rest
-    → PutsAll a b before → PutsFront b c next → PutsFront a c text
-front_after a b c text before next rest e p q =
+-- a prefix of the next part is a prefix of the whole
+pub prefix_after : (a b c : WriteLog) (text before next rest : List ℕ) → text ≡ (before ++ next) ++ rest
+    → PutsAll a b before → PutsPrefix b c next → PutsPrefix a c text
+prefix_after a b c text before next rest e p q =
     let f = q.bytes.0 in
     let r = q.bytes.1 in
     let cut : text ≡ (before ++ f) ++ (r ++ rest) =

@@ -1,6 +1,6 @@
 -- What a call does that writes through a block of bytes that wait.
 use Rattle.std.specs.Prelude.{◌≡◌, ◌++◌, ℕ, List, Result, MatchResult}
-use Rattle.ladder_text.specs.Log.{PutsAll, PutsFront, WriteLog}
+use Rattle.ladder_text.specs.Log.{PutsAll, PutsPrefix, WriteLog}
 
 -- Of what waited and the text, a part was written, and the rest waits.
 pub record SendsAll (old new : WriteLog) (waited waits text : List ℕ) : Type 0 where
@@ -10,4 +10,4 @@ pub record SendsAll (old new : WriteLog) (waited waits text : List ℕ) : Type 0
 
 -- So it was, or a prefix of both was written before a call failed.
 abbrev pub Sends : {T : Type 0} {E : Type 0} → WriteLog → WriteLog → List ℕ → List ℕ → Result T E → List ℕ → Type 0
-Sends old new waited waits r text = MatchResult r (λ _. SendsAll old new waited waits text) (λ _. PutsFront old new (waited ++ text))
+Sends old new waited waits r text = MatchResult r (λ _. SendsAll old new waited waits text) (λ _. PutsPrefix old new (waited ++ text))

@@ -15,8 +15,8 @@ pub record WriteLog : Type 0 where
   pub tally : Tally
 
 -- known bytes grew by a prefix of the text
-abbrev pub AppendsFront : Option (List ℕ) → Option (List ℕ) → List ℕ → Type 0
-AppendsFront old new text = (front : List ℕ) × (back : List ℕ) × (text ≡ front ++ back) × Appends old new front
+abbrev pub AppendsPrefix : Option (List ℕ) → Option (List ℕ) → List ℕ → Type 0
+AppendsPrefix old new text = (front : List ℕ) × (back : List ℕ) × (text ≡ front ++ back) × Appends old new front
 
 -- the whole text was written, and no call failed
 pub record PutsAll (old new : WriteLog) (text : List ℕ) : Type 0 where
@@ -24,10 +24,10 @@ pub record PutsAll (old new : WriteLog) (text : List ℕ) : Type 0 where
   pub calls : AllPass old.tally new.tally
 
 -- a prefix of the text was written, and then a call failed, the last one
-pub record PutsFront (old new : WriteLog) (text : List ℕ) : Type 0 where
-  pub bytes : AppendsFront old.contents new.contents text
+pub record PutsPrefix (old new : WriteLog) (text : List ℕ) : Type 0 where
+  pub bytes : AppendsPrefix old.contents new.contents text
   pub calls : LastFails old.tally new.tally
 
 -- what a function that writes a text did
 abbrev pub Puts : {T : Type 0} {E : Type 0} → WriteLog → WriteLog → Result T E → List ℕ → Type 0
-Puts old new r text = MatchResult r (λ _. PutsAll old new text) (λ _. PutsFront old new text)
+Puts old new r text = MatchResult r (λ _. PutsAll old new text) (λ _. PutsPrefix old new text)

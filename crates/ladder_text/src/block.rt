@@ -1,4 +1,4 @@
-//! Bytes that wait to be written, many at a call.
+//! A buffer of bytes to be written, many in one call.
 ghost use Rattle.std.specs.Prelude.{◌≡◌, ◌+◌, ◌≤◌, ◌++◌, [], IfOk, length, take};
 ghost use Rattle.ladder_text.specs.Block.{Sends};
 ghost use Rattle.ladder_text.specs.Log.{Puts};
@@ -9,11 +9,11 @@ use super::short::{SHORT, Short};
 use super::sink::{Sink, put};
 use std::marker::Model;
 
-/// How many bytes wait at most.
-const BLOCK: usize = 32768;
+/// How many bytes a block holds.
+const BLOCK: usize = 8192;
 
-/// Bytes that wait to be written, so that a long text takes few calls of its writer. A piece is never cut to fill the block. After a
-/// failed write the block is to be dropped: nothing more may be written.
+/// A buffer of bytes to be written, so that a long text takes few calls of its writer. A piece is never cut to fill the block. After
+/// a failed write the block is to be dropped: nothing more may be written.
 #[derive(Drop)]
 pub struct Block {
     bytes: [u8; BLOCK],
@@ -34,6 +34,7 @@ impl Model for Block {
 impl Block {
     ghost use Rattle.ladder_text.specs.declared.block.TheConstants.{BLOCK};
 
+    /// An empty block.
     pub fn new() -> Block
         ensures { result ≡ [] }
     {
@@ -43,7 +44,11 @@ impl Block {
         }
     }
 
-    /// Writes all that waits.
+    /// Writes all that the block holds.
+    ///
+    /// # Errors
+    ///
+    /// `WriteFault` where the writer fails.
     pub fn flush<W: Sink>(&mut self, writer: &mut W) -> Result<(), WriteFault>
         ensures wrote { Puts (W.log writer.old) (W.log writer.new) result self.old }
         ensures empty { self.new ≡ [] }
@@ -53,7 +58,7 @@ impl Block {
         put(writer, &self.bytes[..used])
     }
 
-    /// Takes a piece that there is room for.
+    /// Takes a piece that fits.
     fn take(&mut self, piece: &[u8])
         requires { length self.old + length piece.now ≤ BLOCK }
         ensures { self.new ≡ self.old ++ piece.now }
@@ -63,7 +68,7 @@ impl Block {
         self.used = end;
     }
 
-    /// Writes what waits and then the piece, for which there is no room.
+    /// Writes what the block holds, and then a piece that does not fit.
     fn write_through<W: Sink>(&mut self, piece: &[u8], writer: &mut W) -> Result<(), WriteFault>
         ensures { Sends (W.log writer.old) (W.log writer.new) self.old self.new result piece.now }
     {
@@ -77,7 +82,11 @@ impl Block {
         Ok(())
     }
 
-    /// Takes a piece, and writes where there is no room.
+    /// Takes a piece; where it does not fit, what the block holds is written first.
+    ///
+    /// # Errors
+    ///
+    /// `WriteFault` where the writer fails.
     pub fn add<W: Sink>(&mut self, piece: &[u8], writer: &mut W) -> Result<(), WriteFault>
         ensures { Sends (W.log writer.old) (W.log writer.new) self.old self.new result piece.now }
     {
@@ -88,7 +97,7 @@ impl Block {
         Ok(())
     }
 
-    /// Sees to it that there is room for a short text.
+    /// Makes a short text fit, by writing what the block holds where it would not.
     fn make_room<W: Sink>(&mut self, writer: &mut W) -> Result<(), WriteFault>
         ensures sends { Sends (W.log writer.old) (W.log writer.new) self.old self.new result [] }
         ensures room { IfOk result (λ _. length self.new + SHORT ≤ BLOCK) }
@@ -99,7 +108,7 @@ impl Block {
         Ok(())
     }
 
-    /// Takes a short text, for which there is room.
+    /// Takes a short text that fits.
     fn take_short<P: Short>(&mut self, piece: &P)
         requires { length self.old + SHORT ≤ BLOCK }
         ensures { self.new ≡ self.old ++ P.text piece.now }
@@ -109,7 +118,11 @@ impl Block {
         self.used = used + long;
     }
 
-    /// Takes a text that writes itself, and writes where there is no room.
+    /// Takes a text that writes itself; where it would not fit, what the block holds is written first.
+    ///
+    /// # Errors
+    ///
+    /// `WriteFault` where the writer fails.
     pub fn add_short<P: Short, W: Sink>(
         &mut self,
         piece: &P,

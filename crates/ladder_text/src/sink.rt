@@ -17,7 +17,7 @@ pub trait Sink {
     // The bytes that the writer took, where it tells them, and its calls so far.
     ghost log: { Self → WriteLog };
 
-    /// Writes a front of the piece, and answers how many bytes: at least one, where the piece has some.
+    /// Writes a prefix of the piece, and returns how many bytes it took: at least one, where the piece has some.
     fn write(&mut self, piece: &[u8]) -> Result<usize, WriteFailed>
         ensures bound { IfOk result (λ n. n ≤ length piece.now) }
         ensures takes { IfOk result (λ n. 0 < length piece.now → 0 < n) }
@@ -81,6 +81,10 @@ impl<W: Write> Sink for Writing<W> {
 }
 
 /// Writes the whole text, call by call.
+///
+/// # Errors
+///
+/// `WriteFault` where the writer fails. What was written is then a prefix of the text.
 pub fn put<W: Sink>(writer: &mut W, text: &[u8]) -> Result<(), WriteFault>
     ensures { Puts (W.log writer.old) (W.log writer.new) result text.now }
 {

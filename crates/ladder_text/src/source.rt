@@ -16,7 +16,7 @@ pub trait Source {
     // The bytes that are left, where the reader tells them, and its calls so far.
     ghost log: { Self → ReadLog };
 
-    /// Reads some bytes into the front of `buf`, and answers how many: 0 at the end.
+    /// Reads some bytes into the start of `buf`, and returns how many: 0 at the end.
     fn read(&mut self, buf: &mut [u8]) -> Result<usize, ReadFailed>
         ensures bound { IfOk result (λ n. n ≤ length buf.new) }
         ensures bytes { ReadConsumes (log self.old).remaining (log self.new).remaining result buf.new }

@@ -33,7 +33,7 @@ impl Tally {
         self.calls < u64::MAX
     }
 
-    /// Counts a call that did its work.
+    /// Counts a call that succeeded.
     pub(crate) fn pass(&mut self)
         requires { self.old.calls < 2 ^ 64 - 1 }
         ensures { Passes self.old self.new }

@@ -6,8 +6,13 @@ use super::fault::TextFault;
 use super::source::Source;
 use std::alloc::Global;
 
-/// All bytes of a reader, if they are at most `limit`. It stops at the first byte past the limit, so a
-/// reader without an end is read `limit + 2` times at most.
+/// Reads all bytes of a reader, at most `limit`. It stops at the first byte past the limit, so a reader
+/// without an end is read `limit + 2` times at most.
+///
+/// # Errors
+///
+/// `TooLong` where more than `limit` bytes came, `Read` where a call of the reader failed, `Memory` when
+/// out of memory.
 pub fn read_text<R: Source>(
     alloc: Global,
     reader: &mut R,
@@ -17,7 +22,7 @@ pub fn read_text<R: Source>(
     ensures within { IfOk result (λ text. vec_len text ≤ limit) }
     ensures long { IsErrOf result TextFault.TooLong → IfSome (R.log reader.old).remaining (λ all. limit < length all) }
 
-    // The reader failed in this call exactly where that is the answer.
+    // The reader failed in this call exactly where that is returned.
     ensures failed { IsErrOf result TextFault.Read → LastFails (R.log reader.old).tally (R.log reader.new).tally }
     ensures passed { IsErrOf result TextFault.Read ⊎ AllPass (R.log reader.old).tally (R.log reader.new).tally }
     ensures calls { (R.log reader.new).tally.calls ≤ (R.log reader.old).tally.calls + (limit + 2) }

@@ -12,7 +12,7 @@ use Rattle.ladder_causes.specs.Cursor.{Cursor, first_number, looks_given, looks_
 use Rattle.ladder_causes.specs.Prefixes.{search_of}
 use Rattle.ladder_causes.specs.Refusal.{reason}
 use Rattle.ladder_sim.specs.CauseText.{cause_text, limited}
-use Rattle.ladder_text.specs.Log.{PutsAll, PutsFront, WriteLog}
+use Rattle.ladder_text.specs.Log.{PutsAll, PutsPrefix, WriteLog}
 use Rattle.ladder_tool.specs.declared.fault.ToolFault.{ToolFault}
 use Rattle.ladder_tool.specs.declared.fault.ToolFault.TheVariants as fault
 use Rattle.ladder_tool.specs.Performs.{Asking, HasCauseFault, HasListFault, HasWordFault, IsAsked, causes_for, looks_for, refusal_of, rows_line, rows_text}
@@ -81,5 +81,5 @@ module _ (a : Asking) (q : Question) (c : Cursor) (of_program : c.program ≡ q.
 pub all_same : (a b : WriteLog) (xs ys : List ℕ) → xs ≡ ys → PutsAll a b xs → PutsAll a b ys
 all_same a b xs ys e h = rw e at h
 
-pub front_same : (a b : WriteLog) (xs ys : List ℕ) → xs ≡ ys → PutsFront a b xs → PutsFront a b ys
-front_same a b xs ys e h = rw e at h
+pub prefix_same : (a b : WriteLog) (xs ys : List ℕ) → xs ≡ ys → PutsPrefix a b xs → PutsPrefix a b ys
+prefix_same a b xs ys e h = rw e at h

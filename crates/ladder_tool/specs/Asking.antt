@@ -1,4 +1,4 @@
--- What a request asks, by the subcommand that the words name and the values of its arguments.
+-- What a request asks, by the subcommand and the values of its arguments.
 use Rattle.std.specs.Prelude.{◌≡◌, ◌<◌, ◌^◌, ℕ, List, Option, None, Some, map, codes, string_bytes, unwrap_or, option_map, []}
 use Rattle.std.specs.Str.Parse.{IsNumeral, digits_value, without_leading_plus}
 use Rattle.clap.specs.Words.{App, Row, Text, all_of, first_of, one_of, subcommand_of}
@@ -36,6 +36,6 @@ Asks name rows (Sim state save file stimulus) = (name ≡ codes "sim")
     × HasText (codes "stimulus") rows (string_bytes stimulus)
 Asks name rows (Uses file) = (name ≡ codes "uses") × HasText (codes "file") rows (string_bytes file)
 
--- the command takes the words, and they ask this
+-- the command takes the arguments, and they ask this
 abbrev pub AsksBy : App → List Text → Request → Type 0
 AsksBy app words r = (name : Text) × (rows : List Row) × (subcommand_of app words ≡ Some (name, rows)) × Asks name rows r

@@ -20,7 +20,7 @@ path_rule id = record (new_rule id) { long = Some id; value_names = 1 }
 abbrev pub number_rule : Text → Rule
 number_rule id = record (new_rule id) { long = Some id; value_names = 1; parser = Some (Unsigned 0 18446744073709551615) }
 
--- the words that are left
+-- the arguments that are left
 abbrev pub list_rule : Text → Rule
 list_rule id = record (new_rule id) { action = Some Append; value_names = 1 }
 

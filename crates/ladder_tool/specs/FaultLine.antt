@@ -33,7 +33,7 @@ var_number var.Memory = 9
 abbrev pub rule_line : ℕ → ℕ → List ℕ
 rule_line number line = codes "fault V" ++ (decimal number ++ (codes " line " ++ (decimal line ++ codes "\n")))
 
--- want of memory has no line of the text
+-- out of memory has no line of the text
 abbrev pub line_of_rule : VarRule → ℕ → List ℕ
 line_of_rule var.Memory line = codes "fault V9\n"
 line_of_rule rule line = rule_line (var_number rule) line

@@ -13,7 +13,7 @@ use Rattle.ladder_causes.specs.Prefixes.{search_of}
 use Rattle.ladder_causes.specs.Refusal.{refusal}
 use Rattle.ladder_sim.specs.CauseText.{cause_text, limited}
 use Rattle.ladder_state.specs.StateText.{state_text}
-use Rattle.ladder_text.specs.Log.{PutsAll, PutsFront, WriteLog}
+use Rattle.ladder_text.specs.Log.{PutsAll, PutsPrefix, WriteLog}
 use Rattle.ladder_trace.specs.declared.fault.SimFault.{SimFault}
 use Rattle.ladder_trace.specs.Simulation.{Simulates}
 use Rattle.ladder_uses.specs.Uses.{uses_text}
@@ -37,9 +37,9 @@ logs out save err = record { out = out; save = save; err = err }
 
 -- The line of the fault was written, or a prefix of it before the writer failed.
 abbrev pub IsReported : WriteLog → WriteLog → ToolFault → Type 0
-IsReported old new f = PutsAll old new (fault_line f) ⊎ PutsFront old new (fault_line f)
+IsReported old new f = PutsAll old new (fault_line f) ⊎ PutsPrefix old new (fault_line f)
 
--- Status 1, by a fault that the texts and words have: nothing was written on `out`.
+-- Status 1, by a fault that the texts and arguments have: nothing was written on `out`.
 pub record Refuses (Has : ToolFault → Type 0) (out out' err err' : WriteLog) : Type 0 where
   pub reason : ToolFault
   pub has : Has reason
@@ -76,7 +76,7 @@ pub record Prints (about : Drawing → List ℕ) (text : List ℕ) (out out' err
 pub record BreaksPrint (about : Drawing → List ℕ) (text : List ℕ) (out out' err err' : WriteLog) : Type 0 where
   pub program : Drawing
   pub drawn : IsProgram text program
-  pub wrote : PutsFront out out' (about program)
+  pub wrote : PutsPrefix out out' (about program)
   pub reported : IsReported err err' fault.Write
 
 abbrev pub FailsPrint : (Drawing → List ℕ) → List ℕ → WriteLog → WriteLog → WriteLog → WriteLog → Type 0
@@ -84,7 +84,7 @@ FailsPrint about text out out' err err' = Refuses (IsNoProgram text) out out' er
 
 -- ---- a list of causes
 
--- The words and numbers of a request for causes: the moment of the scan, the number to begin after, the limit of rows, the coil and
+-- The names and numbers of a request for causes: the moment of the scan, the number to begin after, the limit of rows, the coil and
 -- the inputs.
 pub record Asking : Type 0 where
   pub moment : Option ℕ
@@ -93,7 +93,7 @@ pub record Asking : Type 0 where
   pub coil : Text
   pub inputs : List Text
 
--- The texts tell the program and the state, and the words name the variables. Without a moment the scan is at the stored one.
+-- The texts tell the program and the state, and the names are those of the variables. Without a moment the scan is at the stored one.
 pub record IsAsked (g : Given) (a : Asking) (q : Question) : Type 0 where
   pub set : IsSet g q.program q.state
   pub at : q.now ≡ unwrap_or a.moment q.state.moment
@@ -123,7 +123,7 @@ HasWordFault decls words fault.Write = ⊥
 HasWordFault decls words fault.Memory = Unit {0}
 HasWordFault decls words fault.Usage = ⊥
 
--- Faults are looked for in this order: in the program text, in the state text, in the words, in what is asked.
+-- Faults are looked for in this order: in the program text, in the state text, in the names, in what is asked.
 abbrev pub HasListFault : Given → Asking → ToolFault → Type 0
 HasListFault g a (fault.Grid f) = HasSettingFault g (fault.Grid f)
 HasListFault g a (fault.Cause f) = (q : Question) × IsAsked g a q × HasCauseFault a q f
@@ -147,7 +147,7 @@ pub record BreaksList (g : Given) (a : Asking) (out out' err err' : WriteLog) : 
   pub question : Question
   pub asked : IsAsked g a question
   pub accepted : refusal_of a question ≡ None
-  pub rows : PutsFront out out' (cause_text question.program question.listed (causes_for a question))
+  pub rows : PutsPrefix out out' (cause_text question.program question.listed (causes_for a question))
   pub reported : IsReported err err' fault.Write
 
 -- ---- the count of a list's rows and of the looks for them
@@ -171,7 +171,7 @@ pub record CountsList (g : Given) (a : Asking) (out out' err err' : WriteLog) : 
 -- Status 1: the rows were listed, and then `err` failed.
 pub record BreaksCount (g : Given) (a : Asking) (out out' err err' : WriteLog) : Type 0 where
   pub list : ListsCauses g a out out'
-  pub count : PutsFront err err' (rows_text a list.question)
+  pub count : PutsPrefix err err' (rows_text a list.question)
 
 abbrev pub FailsList : Given → Asking → WriteLog → WriteLog → WriteLog → WriteLog → Type 0
 FailsList g a out out' err err' =
@@ -215,7 +215,7 @@ pub record BreaksSave (g : Given) (saves : Bool) (old new : Logs) : Type 0 where
   pub set : IsSet g program before
   pub trace : Simulates program before (stimulus_records g) after old.out new.out (Ok scans)
   pub asked : saves ≡ true
-  pub saved : PutsFront old.save new.save (state_text program after)
+  pub saved : PutsPrefix old.save new.save (state_text program after)
   pub reported : IsReported old.err new.err fault.Write
 
 -- a fault before the first scan: nothing was written but its line

@@ -1,4 +1,4 @@
--- The variables that the words COIL and INPUT.. name. A word names a variable whatever its letter case.
+-- The variables that the arguments COIL and INPUT.. name. An argument names a variable whatever its letter case.
 use Rattle.std.specs.Prelude.{◌≡◌, ℕ, ◌+◌, ◌<◌, List, Option, Some, None, length, map, take, slice_index_or, [], if◌then◌else◌}
 use Rattle.clap.specs.Words.{Text}
 use Rattle.ladder_vars.specs.declared.decls.Symbol.{Symbol}

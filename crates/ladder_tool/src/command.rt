@@ -11,7 +11,7 @@ use super::help::{
 use clap::{Arg, ArgAction, Command, value_parser};
 use std::alloc::{AllocError, Global};
 
-/// A word that must be there, by its place.
+/// A required argument, by its place.
 fn place<'a>(alloc: Global, id: &'a str, name: &'a str, help: &'a str) -> Arg<'a>
     ensures rule { rule_of result ≡ place_rule id.entry.now }
     ensures global { result.global ≡ false }
@@ -42,7 +42,7 @@ fn number<'a>(alloc: Global, id: &'a str, name: &'a str, help: &'a str) -> Arg<'
         .help(help)
 }
 
-/// The words that are left.
+/// The arguments that are left.
 fn list<'a>(alloc: Global, id: &'a str, name: &'a str, help: &'a str) -> Arg<'a>
     ensures rule { rule_of result ≡ list_rule id.entry.now }
     ensures global { result.global ≡ false }
@@ -61,7 +61,7 @@ fn add<'a>(command: Command<'a>, arg: Arg<'a>) -> Result<Command<'a>, AllocError
     command.arg(arg)
 }
 
-/// A subcommand, of which help says what it does.
+/// A subcommand, with what its help says.
 fn new<'a>(alloc: Global, name: &'a str, about: &'a str) -> Command<'a>
     ensures app { app_of result ≡ new_app name.entry.now }
     ensures globals { (out-Command result).has_globals ≡ false }

@@ -30,7 +30,7 @@ pub enum ToolFault {
     /// A text can't be read, or a record of it is bad.
     #[error("{1}")]
     Text(TextKind, TextFault),
-    /// A word names no variable; COIL is word 1, the first INPUT word 2.
+    /// An argument names no variable; COIL is word 1, the first INPUT word 2.
     #[error("word {number} names no variable")]
     Word { number: usize },
     /// A simulation ended before the end of its stimulus.
@@ -40,11 +40,15 @@ pub enum ToolFault {
     Write,
     #[error("out of memory")]
     Memory,
-    #[error("the words are not those of a request")]
+    #[error("the arguments are no request")]
     Usage,
 }
 
-/// Writes the line of a fault. It takes no memory.
+/// Writes the line of a fault. It does not allocate.
+///
+/// # Errors
+///
+/// `WriteFault` where the writer fails. What was written is then a prefix of the line.
 pub fn write_fault<W: Sink>(fault: &ToolFault, writer: &mut W) -> Result<(), WriteFault>
     ensures { Puts (W.log writer.old) (W.log writer.new) result (fault_line fault.now) }
 {

@@ -15,7 +15,7 @@ use ladder_sim::{Summary, write_causes};
 use ladder_text::{Piece, Sink, WriteFault, put_pieces};
 use std::alloc::Global;
 
-/// The words and numbers of a request for causes.
+/// The names and numbers of a request for causes.
 #[derive(Clone, Copy)]
 pub(crate) struct Asking<'a> {
     pub moment: Option<u64>,

@@ -1,4 +1,4 @@
-//! The whole work of the program on its words.
+//! The whole program, from its arguments to its status.
 ghost use Rattle.std.specs.Prelude.{◌≤◌};
 
 use super::fault::{TextKind, ToolFault, write_fault};
@@ -18,8 +18,8 @@ const TEXT_LIMIT: usize = 1_048_576;
 /// The largest stimulus, in bytes.
 const STIMULUS_LIMIT: usize = 16_777_216;
 
-/// Reads the words and the files that they name, performs the request over the standard streams, and answers
-/// the status: 0 done, 1 a fault in a file or while running, 2 wrong words. The first word is the program's name.
+/// Reads the arguments and the files that they name, and performs the request over the standard streams. Returns
+/// the status: 0 done, 1 a fault in a file or while running, 2 wrong usage. The first argument is the program's name.
 pub fn run(rt: &HostRuntime, alloc: Global, words: Vec<String>) -> u8
     ensures { result ≤ 2 }
 {

@@ -1,7 +1,7 @@
-//! What the words of a command line ask for.
+//! What the arguments of a command line ask for.
 use thiserror::Error;
 
-/// What the words ask for.
+/// What the arguments ask for.
 #[derive(Drop)]
 pub enum Request {
     /// Whether a program text breaks no rule, and what it has.
@@ -50,14 +50,14 @@ pub struct Texts {
     pub program: Vec<u8>,
     /// The text of the state, where the request names one.
     pub state: Option<Vec<u8>>,
-    /// The text of the stimulus, where the request names one; none is a text without records.
+    /// The text of the stimulus, where the request names one; where it is missing, there are no records.
     pub stimulus: Option<Vec<u8>>,
 }
 
-/// Why the words ask for nothing.
+/// Why the arguments are no request.
 #[derive(Debug, Drop, Error)]
 pub enum WordFault {
-    #[error("the words are not those of a request")]
+    #[error("the arguments are no request")]
     Usage,
     /// They ask for help, and this is its text.
     #[error("{0}")]

@@ -2,7 +2,7 @@
 ghost use Rattle.std.specs.Prelude.{◌≡◌, ◌≤◌, [], OnErr, OnOk, true, unwrap_or};
 ghost use Rattle.ladder_scan.specs.Standing.{Fits};
 ghost use Rattle.ladder_state.specs.StateText.{state_text};
-ghost use Rattle.ladder_text.specs.Log.{PutsFront};
+ghost use Rattle.ladder_text.specs.Log.{PutsPrefix};
 ghost use Rattle.ladder_tool.specs.Performs.{FailsTrace, IsSaved, IsTraced, logs};
 ghost use Rattle.ladder_tool.specs.Setting.{given_by};
 
@@ -26,7 +26,7 @@ fn save_state<S: Sink>(
     requires { Fits program.now state.now }
     ensures saved { OnOk result (IsSaved saves program.now state.now (S.log save.old) (S.log save.new)) }
     ensures asked { OnErr result (saves ≡ true) }
-    ensures broken { OnErr result (PutsFront (S.log save.old) (S.log save.new) (state_text program.now state.now)) }
+    ensures broken { OnErr result (PutsPrefix (S.log save.old) (S.log save.new) (state_text program.now state.now)) }
 {
     if saves {
         return write_state(program, state, save);

@@ -1,4 +1,4 @@
-//! The variables that words name.
+//! The variables that arguments name.
 ghost use Rattle.std.specs.Prelude.{◌≡◌, ◌∷◌, IfOk, IfErr, List, Some, ℕ, map, string_bytes};
 ghost use Rattle.ladder_tool.specs.Variables.{AreVariables, variable_of};
 ghost use Rattle.ladder_tool.specs.Performs.{HasWordFault};
@@ -14,7 +14,7 @@ pub(crate) struct Asked {
     pub inputs: Vec<usize>,
 }
 
-/// The variable that a word names. Letter case makes no difference.
+/// The variable that an argument names. Letter case makes no difference.
 fn variable(decls: &Decls, word: &str) -> Option<usize>
     ensures { result ≡ variable_of decls.now word.now }
 {
@@ -27,7 +27,7 @@ fn variable(decls: &Decls, word: &str) -> Option<usize>
     }
 }
 
-/// The variables of all words: COIL is word 1, the first INPUT word 2.
+/// The variables of all names: COIL is word 1, the first INPUT word 2.
 pub(crate) fn asked_variables(
     alloc: Global,
     decls: &Decls,
@@ -47,7 +47,7 @@ pub(crate) fn asked_variables(
     }
 }
 
-// The words stand behind a first one that names a variable.
+// The words after a first one that names a variable.
 fn input_variables(alloc: Global, decls: &Decls, words: &[String]) -> Result<Vec<usize>, ToolFault>
     ensures ok { IfOk result (λ v. AreVariables decls.now (map string_bytes words.now) v.items) }
     ensures fault { (first : List ℕ) (v : ℕ) → variable_of decls.now first ≡ Some v → IfErr result (HasWordFault decls.now (first ∷ map string_bytes words.now)) }

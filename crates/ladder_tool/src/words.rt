@@ -1,4 +1,4 @@
-//! From the words of a command line to a request.
+//! From the arguments of a command line to a request.
 ghost use Rattle.std.specs.Prelude.{◌≡◌, [], codes, IfSome, IsSome, OnOk, IfOk, IfErr, map, option_map, string_bytes, unwrap_or, Some};
 ghost use Rattle.clap.specs.Words.{all_of, first_of, found_of, rows_of, subcommand_rows_of};
 ghost use Rattle.clap.specs.Words.{fault_of as clap_fault};
@@ -11,11 +11,15 @@ use clap::ArgMatches;
 use clap::error::ErrorKind;
 use std::alloc::Global;
 
-/// What the words ask for, the first being the program's name.
+/// Reads the request of a command line, of which the first word is the program's name.
+///
+/// # Errors
+///
+/// `Usage` where `clap` finds a fault, `Help` with its text where help is asked for, `Memory` when out of memory.
 pub fn read_words(alloc: Global, words: Vec<String>) -> Result<Request, WordFault>
     ensures asks { IfOk result (AsksBy ladder_app (map string_bytes words.items)) }
 
-    // Only words that `clap` finds no fault with are a request.
+    // Only arguments in which `clap` finds no fault are a request.
     ensures accepted { OnOk result (clap_fault ladder_app (map string_bytes words.items) ≡ []) }
 {
     let Ok(command) = ladder(alloc) else {

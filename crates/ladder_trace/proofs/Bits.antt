@@ -14,10 +14,6 @@ bit_is_bit : (b : Bool) → is_bit (Some (bit_text b)) ≡ true
 bit_is_bit true = refl
 bit_is_bit false = refl
 
-bit_is_on : (b : Bool) → is_on (Some (bit_text b)) ≡ b
-bit_is_on true = refl
-bit_is_on false = refl
-
 texts_are_bits : (bits : List Bool) → are_bits (map bit_text bits) ≡ true
 texts_are_bits [] = refl
 texts_are_bits (b ∷ bits) = rw (bit_is_bit b) (texts_are_bits bits)
@@ -59,9 +55,6 @@ field_behind [] i h = absurd (omega (arith, h))
 field_behind (f ∷ fs) i h = field_here fs i (omega (arith, h))
 
 -- ---- a record
-
-pub row_length : (columns : List ℕ) (fs : Fields) (m : ℕ) (bits : List Bool) → IsRow columns fs m bits → length fs ≡ length columns + 1
-row_length columns fs m bits h = omega (arith, ap length h.same, length-map bits bit_text, h.count)
 
 pub row_first : (columns : List ℕ) (fs : Fields) (m : ℕ) (bits : List Bool) → IsRow columns fs m bits → field_at fs 0 ≡ Some (decimal m)
 unfolding field_at

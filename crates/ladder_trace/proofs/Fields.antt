@@ -4,8 +4,8 @@ use Rattle.std.proofs.lemmas.List.{map-append}
 use Rattle.ladder_records.specs.Text.{after_commas}
 use Rattle.ladder_records.proofs.Commas.{after_commas-append}
 use Rattle.ladder_text.specs.Block.{SendsAll}
-use Rattle.ladder_text.specs.Log.{PutsFront, WriteLog}
-use Rattle.ladder_text.proofs.Sending.{sends_front, sends_more, sends_same}
+use Rattle.ladder_text.specs.Log.{PutsPrefix, WriteLog}
+use Rattle.ladder_text.proofs.Sending.{sends_prefix, sends_more, sends_same}
 use Rattle.ladder_trace.specs.Trace.{chosen}
 use Rattle.ladder_trace.proofs.Lists.{chosen_apart, chosen_next}
 
@@ -31,12 +31,12 @@ field_none f marks xs i x a b w0 w1 e g p =
     (ap (λ l. after_commas (map f l)) (sym (append-nil (chosen (take i marks) xs)) ∙ sym (chosen_next marks xs i false x e g))) p
 
 -- a field that is not written to its end
-pub field_front : {A : Type 0} (f : A → List ℕ) (marks : List Bool) (xs : List A) (i : ℕ) (x : A) (a b c : WriteLog) (w0 w1 : List ℕ) → slice_get marks i ≡ Some true → slice_get xs i ≡ Some x
-    → SendsAll a b w0 w1 (fields f (take i marks) xs) → PutsFront b c (w1 ++ (codes "," ++ f x)) → PutsFront a c (w0 ++ fields f marks xs)
-field_front f marks xs i x a b c w0 w1 e g p q =
+pub field_prefix : {A : Type 0} (f : A → List ℕ) (marks : List Bool) (xs : List A) (i : ℕ) (x : A) (a b c : WriteLog) (w0 w1 : List ℕ) → slice_get marks i ≡ Some true → slice_get xs i ≡ Some x
+    → SendsAll a b w0 w1 (fields f (take i marks) xs) → PutsPrefix b c (w1 ++ (codes "," ++ f x)) → PutsPrefix a c (w0 ++ fields f marks xs)
+field_prefix f marks xs i x a b c w0 w1 e g p q =
     let more = chosen (drop (suc i) marks) (drop (suc i) xs) in
     let text : fields f marks xs ≡ fields f (take i marks) xs ++ ((codes "," ++ f x) ++ after_commas (map f more)) =
     ap (λ l. after_commas (map f l)) (chosen_apart marks xs i x e g)
     ∙ ap after_commas (map-append f (chosen (take i marks) xs) (x ∷ more))
     ∙ after_commas-append (map f (chosen (take i marks) xs)) (f x ∷ map f more) in
-    sends_front a b c w0 w1 (fields f marks xs) (fields f (take i marks) xs) (codes "," ++ f x) (after_commas (map f more)) text p q
+    sends_prefix a b c w0 w1 (fields f marks xs) (fields f (take i marks) xs) (codes "," ++ f x) (after_commas (map f more)) text p q

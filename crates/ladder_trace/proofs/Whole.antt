@@ -3,7 +3,7 @@ use Rattle.std.proofs.Common.{◌≡◌, ◌∷◌, [], ℕ, List, Result, Ok, E
 use Rattle.ladder_grid.specs.Program.{Drawing}
 use Rattle.ladder_records.specs.Left.{Fields}
 use Rattle.ladder_scan.specs.Standing.{Standing}
-use Rattle.ladder_text.specs.Log.{PutsAll, PutsFront, WriteLog}
+use Rattle.ladder_text.specs.Log.{PutsAll, PutsPrefix, WriteLog}
 use Rattle.ladder_trace.specs.declared.fault.SimFault.{SimFault}
 use Rattle.ladder_trace.specs.declared.fault.SimFault.TheVariants as fault
 use Rattle.ladder_trace.specs.Simulation.{EndsRows, HasNotBegun, IsBadHeader, Simulates}
@@ -28,7 +28,7 @@ pub bad_header : (p : Drawing) (s : Standing) (rows : List Fields) (fields : Fie
 bad_header p s rows fields behind a f e h = inr (subst (λ l. HasNotBegun p s l s a a f) (sym e) (not_begun p s fields behind a f h))
 
 pub cut_header : (p : Drawing) (s : Standing) (rows : List Fields) (fields : Fields) (behind : List Fields) (columns : List ℕ) (a b : WriteLog) → rows ≡ fields ∷ behind → IsHeader p.decls fields columns
-    → PutsFront a b (trace_header p) → Simulates p s rows s a b (Err fault.Write)
+    → PutsPrefix a b (trace_header p) → Simulates p s rows s a b (Err fault.Write)
 cut_header p s rows fields behind columns a b e h w = inr (refl, record { fields = fields; behind = behind; columns = columns; cut = e; header = h; wrote = w })
 
 pub begun : (p : Drawing) (s t : Standing) (rows : List Fields) (fields : Fields) (behind : List Fields) (columns : List ℕ) (a b c : WriteLog) (r : Result ℕ SimFault) → rows ≡ fields ∷ behind

@@ -1,11 +1,11 @@
--- Private to the simulation: what its inner functions make before a first write, and how they read a field.
+-- Private to the simulation: what its inner functions allocate before a first write, and how they read a field.
 use Rattle.std.specs.Prelude.{◌≡◌, ℕ, List, [], Bool, false, ◌||◌, Option, Some, None, codes, bytes_eq, drop, length, map}
 use Rattle.std.specs.List.{count_by, list_all}
 use Rattle.ladder_vars.specs.Decls.{is_input}
 use Rattle.ladder_grid.specs.Program.{Drawing}
 use Rattle.ladder_records.specs.Left.{Fields}
 
--- There is a place for each input, and nothing waits to be written.
+-- There is a place for each input, and the block is empty.
 pub record IsReady (p : Drawing) (image : List Bool) (waits : List ℕ) : Type 0 where
   pub room : length image ≡ count_by is_input p.decls.vars
   pub empty : waits ≡ []
@@ -29,6 +29,6 @@ is_bit None = false
 abbrev pub are_bits : Fields → Bool
 are_bits fields = list_all (λ f. is_bit (Some f)) fields
 
--- These are the bits of a record, behind its moment.
+-- These are the bits of a record, after its moment.
 abbrev pub bits_of : Fields → List Bool
 bits_of fields = map (λ f. is_on (Some f)) (drop 1 fields)

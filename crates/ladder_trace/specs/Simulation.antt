@@ -5,7 +5,7 @@ use Rattle.ladder_vars.specs.Decls.{Declared}
 use Rattle.ladder_grid.specs.Program.{Drawing}
 use Rattle.ladder_records.specs.Left.{Fields}
 use Rattle.ladder_scan.specs.Standing.{Standing}
-use Rattle.ladder_text.specs.Log.{PutsAll, PutsFront, WriteLog}
+use Rattle.ladder_text.specs.Log.{PutsAll, PutsPrefix, WriteLog}
 use Rattle.ladder_trace.specs.declared.fault.SimFault.{SimFault}
 use Rattle.ladder_trace.specs.declared.fault.SimFault.TheVariants as fault
 use Rattle.ladder_trace.specs.Stimulus.{AreColumns, IsHeader, IsRow, input_named}
@@ -21,9 +21,9 @@ IsNoRow columns fields = (moment : ℕ) (bits : List Bool) → IsRow columns fie
 abbrev pub GoesBack : List ℕ → Standing → Fields → Type 0
 GoesBack columns s fields = (moment : ℕ) × (bits : List Bool) × IsRow columns fields moment bits × (moment < s.moment)
 
--- ---- the records behind the header
+-- ---- the records after the header
 
--- This is how many records behind the header are taken at most.
+-- This is how many records after the header are taken at most.
 abbrev pub most : ℕ
 most = 1000000
 
@@ -52,9 +52,9 @@ pub record IsCutOff (p : Drawing) (columns : List ℕ) (s : Standing) (rows : Li
   pub taken : IsTaken p columns s rows state old log
   pub few : length taken.taken < most
   pub step : FirstOf (λ r. IsStep p columns state r t) taken.rest
-  pub wrote : PutsFront log new (trace_row p t)
+  pub wrote : PutsPrefix log new (trace_row p t)
 
--- All records behind the header were taken, or this fault stopped the simulation at one of them.
+-- All records after the header were taken, or this fault stopped the simulation at one of them.
 abbrev pub EndsRows : Drawing → List ℕ → Standing → List Fields → Standing → WriteLog → WriteLog → Result ℕ SimFault → Type 0
 EndsRows p columns s rows t old new (Ok n) = (h : IsTaken p columns s rows t old new) × (h.rest ≡ []) × (n ≡ length h.taken) × (n ≤ most)
 EndsRows p columns s rows t old new (Err (fault.BadRow n)) = StopsAt p columns s rows t old new (IsNoRow columns) n
@@ -76,7 +76,7 @@ pub record IsBadWord (d : Declared) (words : List (List ℕ)) (e : SimFault) : T
   pub bad : ((input_named d word ≡ None) × (e ≡ fault.UnknownName 1))
       ⊎ ((place : ℕ) × (input_named d word ≡ Some place) × (list_any (λ c. place == c) before ≡ true) × (e ≡ fault.BadRow 1))
 
--- There is no record, or the first one doesn't begin with the word for the moment, or has a bad word behind it.
+-- There is no record, or the first one doesn't begin with the word for the moment, or has a bad word after it.
 abbrev pub IsBadHeader : Declared → List Fields → SimFault → Type 0
 IsBadHeader d [] e = e ≡ fault.BadRow 1
 IsBadHeader d ([] ∷ rows) e = e ≡ fault.BadRow 1
@@ -84,7 +84,7 @@ IsBadHeader d ((first ∷ words) ∷ rows) e = ((first ≡ codes "moment" → �
 
 -- ---- the whole
 
--- The header is good, that of the trace was written, and so the records behind it ended.
+-- The header is good, that of the trace was written, and so the records after it ended.
 pub record HasBegun (p : Drawing) (s : Standing) (rows : List Fields) (t : Standing) (old new : WriteLog) (r : Result ℕ SimFault) : Type 0 where
   pub fields : Fields
   pub behind : List Fields
@@ -102,9 +102,9 @@ pub record IsHeaderCutOff (p : Drawing) (rows : List Fields) (old new : WriteLog
   pub columns : List ℕ
   pub cut : rows ≡ fields ∷ behind
   pub header : IsHeader p.decls fields columns
-  pub wrote : PutsFront old new (trace_header p)
+  pub wrote : PutsPrefix old new (trace_header p)
 
--- The simulation came to no record behind the header: nothing was scanned, and nothing written but a part of the trace's header.
+-- The simulation came to no record after the header: nothing was scanned, and nothing written but a part of the trace's header.
 abbrev pub HasNotBegun : Drawing → Standing → List Fields → Standing → WriteLog → WriteLog → SimFault → Type 0
 HasNotBegun p s rows t old new fault.Memory = (t ≡ s) × (new ≡ old)
 HasNotBegun p s rows t old new fault.Write = (t ≡ s) × IsHeaderCutOff p rows old new
@@ -113,7 +113,7 @@ HasNotBegun p s rows t old new (fault.UnknownName n) = (t ≡ s) × (new ≡ old
 HasNotBegun p s rows t old new (fault.MomentBack n) = ⊥
 HasNotBegun p s rows t old new (fault.TooLong n) = ⊥
 
--- From the state s and the records of a stimulus a simulation leads to t, writes, and answers r.
+-- From the state s and the records of a stimulus a simulation leads to t, writes, and returns r.
 abbrev pub Simulates : Drawing → Standing → List Fields → Standing → WriteLog → WriteLog → Result ℕ SimFault → Type 0
 Simulates p s rows t old new (Ok n) = HasBegun p s rows t old new (Ok n)
 Simulates p s rows t old new (Err e) = HasBegun p s rows t old new (Err e) ⊎ HasNotBegun p s rows t old new e

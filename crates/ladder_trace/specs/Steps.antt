@@ -4,7 +4,7 @@ use Rattle.ladder_vars.specs.Decls.{Declared}
 use Rattle.ladder_grid.specs.Program.{Drawing}
 use Rattle.ladder_records.specs.Left.{Fields}
 use Rattle.ladder_scan.specs.Standing.{Standing}
-use Rattle.ladder_text.specs.Log.{PutsAll, PutsFront, WriteLog}
+use Rattle.ladder_text.specs.Log.{PutsAll, PutsPrefix, WriteLog}
 use Rattle.ladder_trace.specs.declared.fault.SimFault.{SimFault}
 use Rattle.ladder_trace.specs.declared.fault.SimFault.TheVariants as fault
 use Rattle.ladder_trace.specs.Simulation.{GoesBack, IsBadHeader, IsNoRow}
@@ -21,10 +21,10 @@ StepsTo p columns number s fields t old new (Err (fault.BadRow n)) = (n ≡ numb
 StepsTo p columns number s fields t old new (Err (fault.UnknownName n)) = ⊥
 StepsTo p columns number s fields t old new (Err (fault.MomentBack n)) = (n ≡ number) × GoesBack columns s fields × Refuses s t old new
 StepsTo p columns number s fields t old new (Err (fault.TooLong n)) = ⊥
-StepsTo p columns number s fields t old new (Err fault.Write) = IsStep p columns s fields t × PutsFront old new (trace_row p t)
+StepsTo p columns number s fields t old new (Err fault.Write) = IsStep p columns s fields t × PutsPrefix old new (trace_row p t)
 StepsTo p columns number s fields t old new (Err fault.Memory) = ⊥
 
--- The header has no columns for this fault, whatever records stand behind it.
+-- The header has no columns for this fault, whatever records follow it.
 abbrev pub NoColumns : Declared → Fields → List Fields → SimFault → Type 0
 NoColumns d fields rows fault.Memory = Unit {0}
 NoColumns d fields rows fault.Write = ⊥

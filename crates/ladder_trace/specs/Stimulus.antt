@@ -37,7 +37,7 @@ pub record IsHeader (d : Declared) (fields : Fields) (columns : List ℕ) : Type
   pub same : fields ≡ codes "moment" ∷ words
   pub inputs : AreColumns d words columns
 
--- ---- the records behind it
+-- ---- the records after it
 
 -- The record is a moment, and a bit for each column.
 pub record IsRow (columns : List ℕ) (fields : Fields) (moment : ℕ) (bits : List Bool) : Type 0 where

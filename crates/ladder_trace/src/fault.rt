@@ -19,7 +19,7 @@ pub enum SimFault {
     /// X6: the writer failed.
     #[error("the writer failed")]
     Write,
-    /// X7.
+    /// X7: out of memory.
     #[error("out of memory")]
     Memory,
 }

@@ -1,4 +1,4 @@
-//! A record of a stimulus behind the header, and the input image that it asks for.
+//! A record of a stimulus after the header, and the input image that it asks for.
 ghost use Rattle.std.specs.Prelude.{◌≡◌, ◌<◌, ◌+◌, All, IfSome, None, count_by, drop, length, map};
 ghost use Rattle.csv.specs.Records.{field_at, fields_of};
 ghost use Rattle.ladder_vars.specs.Decls.{is_input};
@@ -31,7 +31,7 @@ fn is_bit(row: &ByteRecord, number: usize) -> bool
     }
 }
 
-/// Whether all fields behind the first are bits.
+/// Whether all fields after the first are bits.
 fn are_bits(row: &ByteRecord) -> bool
     ensures { result ≡ are_bits (drop 1 (fields_of row.now)) }
 {

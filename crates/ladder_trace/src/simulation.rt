@@ -20,10 +20,10 @@ use ladder_scan::{State, scan};
 use ladder_text::{Block, Sink};
 use std::alloc::Global;
 
-/// The most records behind the header.
+/// The most records after the header.
 const MOST: u64 = 1_000_000;
 
-/// What a simulation makes before its first write: a record, the input image, and the room for a row of the trace.
+/// What a simulation allocates before its first write: a record, the input image, and the buffer for a row of the trace.
 #[derive(Drop)]
 struct Room {
     row: ByteRecord,
@@ -61,7 +61,7 @@ fn step<W: Sink>(
     Ok(())
 }
 
-/// All records behind the header.
+/// Takes all records after the header.
 fn simulate_rows<W: Sink>(
     program: &Program,
     columns: &[usize],
@@ -94,8 +94,8 @@ fn simulate_rows<W: Sink>(
     Err(SimFault::Memory)
 }
 
-/// Scans a stimulus record by record from a state, and writes the trace: each row as one piece, before the next record is read. It
-/// answers how many scans there were.
+/// Scans a stimulus record by record from a state, and writes the trace: each row as one piece, before the next record is read.
+/// Returns how many scans there were.
 ///
 /// # Errors
 ///

@@ -22,7 +22,7 @@ fn is_output(var: &Var) -> bool
     }
 }
 
-/// Adds the names of the outputs, each behind a comma.
+/// Adds the names of the outputs, each after a comma.
 fn add_names<W: Sink>(block: &mut Block, vars: &[Var], writer: &mut W) -> Result<(), WriteFault>
     ensures { Sends (W.log writer.old) (W.log writer.new) block.old block.new result (after_commas (map (λ v. v.name) (outputs_among vars.now))) }
 {
@@ -73,7 +73,7 @@ pub(crate) fn write_header<W: Sink>(
     Ok(())
 }
 
-/// Adds the values of the outputs, each behind a comma.
+/// Adds the values of the outputs, each after a comma.
 fn add_bits<W: Sink>(
     block: &mut Block,
     vars: &[Var],

@@ -12,8 +12,8 @@ use Rattle.ladder_vars.specs.declared.decls.Symbol.{Symbol}
 use Rattle.ladder_vars.specs.declared.decls.Symbol.TheVariants as symbol
 use Rattle.ladder_grid.specs.Program.{Drawing, cell_in}
 use Rattle.ladder_text.specs.Block.{SendsAll}
-use Rattle.ladder_text.specs.Log.{PutsFront, WriteLog}
-use Rattle.ladder_text.proofs.Sending.{sends_front, sends_more, sends_same}
+use Rattle.ladder_text.specs.Log.{PutsPrefix, WriteLog}
+use Rattle.ladder_text.proofs.Sending.{sends_prefix, sends_more, sends_same}
 use Rattle.ladder_records.specs.Left.{Fields}
 use Rattle.ladder_records.specs.Text.{lines_text}
 use Rattle.ladder_records.proofs.Commas.{lines_text-append}
@@ -110,10 +110,10 @@ rows_sent a b c w0 w1 w2 rows longer more e p q =
     (sends_more a b c w0 w1 w2 (lines_text rows) (lines_text more) p q)
 
 -- rows that are not written to their end
-pub rows_front : (a b c : WriteLog) (w0 w1 : List ℕ) (rows all more rest : List Fields) → all ≡ rows ++ (more ++ rest) → SendsAll a b w0 w1 (lines_text rows)
-    → PutsFront b c (w1 ++ lines_text more) → PutsFront a c (w0 ++ lines_text all)
-rows_front a b c w0 w1 rows all more rest e p q =
-    sends_front a b c w0 w1 (lines_text all) (lines_text rows) (lines_text more) (lines_text rest)
+pub rows_prefix : (a b c : WriteLog) (w0 w1 : List ℕ) (rows all more rest : List Fields) → all ≡ rows ++ (more ++ rest) → SendsAll a b w0 w1 (lines_text rows)
+    → PutsPrefix b c (w1 ++ lines_text more) → PutsPrefix a c (w0 ++ lines_text all)
+rows_prefix a b c w0 w1 rows all more rest e p q =
+    sends_prefix a b c w0 w1 (lines_text all) (lines_text rows) (lines_text more) (lines_text rest)
     (ap lines_text e ∙ lines_text-append rows (more ++ rest) ∙ ap (λ t. lines_text rows ++ t) (lines_text-append more rest)) p q
 
 -- ---- a name without a place

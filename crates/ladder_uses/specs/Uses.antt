@@ -101,11 +101,11 @@ symbols_of declared =
 abbrev pub symbol_rows : Drawing → Symbol → List Fields
 symbol_rows p s = or_unused (name_of p.decls s) (place_rows p (name_of p.decls s) s)
 
--- the rows behind the header
+-- the rows after the header
 abbrev pub use_rows : Drawing → List Fields
 use_rows p = flat_map (symbol_rows p) (symbols_of p.decls)
 
--- what stands above them
+-- the header above them
 abbrev pub header : Fields
 header = codes "name" ∷ codes "use" ∷ codes "rung" ∷ codes "row" ∷ codes "column" ∷ []
 

@@ -61,7 +61,7 @@ fn add_unused<W: Sink>(block: &mut Block, name: &[u8], writer: &mut W) -> Result
     row_line(block, name, b"unused", b"0", b"0", b"0", writer)
 }
 
-/// Adds a row for each place where the symbol is drawn, and answers how many.
+/// Adds a row for each place where the symbol is drawn, and returns how many.
 fn add_places<W: Sink>(
     block: &mut Block,
     program: &Program,
@@ -102,7 +102,7 @@ fn name_of(decls: &Decls, symbol: Symbol) -> &[u8]
     }
 }
 
-/// Adds the rows of a symbol, one at least, and answers how many.
+/// Adds the rows of a symbol, one at least, and returns how many.
 fn add_symbol<W: Sink>(
     block: &mut Block,
     program: &Program,
@@ -133,7 +133,7 @@ fn symbol_count(decls: &Decls) -> usize
     decls.vars().len() + decls.instances().len()
 }
 
-/// What is declared with a number, where the instances are counted behind the variables.
+/// What is declared with a number, where the instances are counted after the variables.
 fn symbol_at(decls: &Decls, number: usize) -> Symbol
     requires { number < length (symbols_of decls.now) }
     ensures { slice_get (symbols_of decls.now) number ≡ Some result }
@@ -146,7 +146,7 @@ fn symbol_at(decls: &Decls, number: usize) -> Symbol
     }
 }
 
-/// Adds the rows of all that is declared, and answers how many.
+/// Adds the rows of all that is declared, and returns how many.
 fn add_symbols<W: Sink>(
     block: &mut Block,
     program: &Program,
@@ -166,7 +166,7 @@ fn add_symbols<W: Sink>(
     Ok(total)
 }
 
-/// Adds the header and all rows, and answers how many rows.
+/// Adds the header and all rows, and returns how many rows.
 fn add_uses<W: Sink>(
     block: &mut Block,
     program: &Program,
@@ -182,7 +182,7 @@ fn add_uses<W: Sink>(
 }
 
 /// Writes the cross-reference of a program: a header, and for each variable and then each instance a row for each place where it is
-/// drawn, or one row where there is none. It answers the number of rows behind the header, and allocates nothing.
+/// drawn, or one row where there is none. Returns the number of rows after the header. It does not allocate.
 ///
 /// # Errors
 ///

@@ -17,13 +17,6 @@ use Rattle.ladder_vars.proofs.PartLaws.{cap, part_reads, TakesPart, part_takes}
 
 -- ---- sums that are cut at a limit
 
-millis-some : (u : TimeUnit) → 1 ≤ millis_of u
-millis-some time_unit.Day = omega arith
-millis-some time_unit.Hour = omega arith
-millis-some time_unit.Minute = omega arith
-millis-some time_unit.Second = omega arith
-millis-some time_unit.Milli = omega arith
-
 range-le : (u : TimeUnit) → range_of u ≤ 1000
 range-le time_unit.Day = omega arith
 range-le time_unit.Hour = omega arith

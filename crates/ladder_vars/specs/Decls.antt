@@ -19,7 +19,7 @@ pub record Declared : Type 0 where
 abbrev pub is_input : Var → Bool
 is_input v = elim v.kind [ kind.Input ↦ true | _ ↦ false ]
 
--- What a name stands for: the variable or the instance that is declared with it, in any letter case.
+-- The variable or the instance that is declared with a name, in any letter case.
 abbrev pub find : Declared → List ℕ → Option Symbol
 find declared name =
     option_or (option_map symbol.Var (position (λ v. same_letters name v.name) declared.vars))

@@ -31,7 +31,7 @@ AreOf (Sort ∷ sorts) ts = (t : List ℕ) × (others : List (List ℕ)) × (ts 
 
 -- ---- addresses: % I 1 . 0
 
--- which variables stand at an address with this letter; 73, 81 and 77 are I, Q and M
+-- what the variables at an address with this letter are for; 73, 81 and 77 are I, Q and M
 abbrev pub kind_of : ℕ → Option VarKind
 kind_of letter = lookup (λ capital. letter == capital) ((73, var_kind.Input) ∷ (81, var_kind.Output) ∷ (77, var_kind.Memory) ∷ [])
 
@@ -63,7 +63,7 @@ preset_form None n = (λ word. ⊥) ∷ []
 
 -- ---- declarations
 
--- The front, and then `;`, which leaves the default, or `:=`, what is given, and `;`.
+-- These, and then `;`, which leaves the default, or `:=`, what is given, and `;`.
 abbrev pub AreGiven : List (List ℕ → Type 0) → List (List ℕ → Type 0) → Type 0 → List (List ℕ) → Type 0
 AreGiven front given Default ts =
     (AreOf (front ++ Is (codes ";") ∷ []) ts × Default) ⊎ AreOf (front ++ Is (codes ":=") ∷ (given ++ Is (codes ";") ∷ [])) ts

@@ -25,7 +25,7 @@ stored-spelling n h =
     let make : (List ℕ × ℕ) → Inside = λ p. record { bytes = p.0; len = p.1 } in
     ap make swapped
 
--- a word written over the front of eleven zeros
+-- a word written over the first of eleven zeros
 pub IsStored-written : (word : List ℕ) → length word ≤ 11 → is_name word ≡ true
     → IsStored (record { bytes = word ++ drop (length word) (replicate 11 0); len = length word })
 IsStored-written word short named =

@@ -36,7 +36,7 @@ skip_from within.Opening (b ∷ bs) = skip_from within.Comment bs
 skip_from within.Comment (b ∷ bs) = if b == 42 && begins_with 41 bs then skip_from within.Closing bs else skip_from within.Comment bs
 skip_from within.Closing (b ∷ bs) = skip_from within.Blanks bs
 
--- where no token stands
+-- where no token is
 abbrev pub no_token : List ℕ → Fault
 no_token [] = unfinished
 no_token (b ∷ bs) = record { rule = (if nat_le 33 b && nat_le b 126 then rule.BadToken else rule.BadByte); left = length (b ∷ bs) }

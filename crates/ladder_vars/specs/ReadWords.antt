@@ -28,7 +28,7 @@ or_else None other = other
 
 -- ---- numbers
 
--- the number of digits behind others that spell n
+-- the number of digits after others that spell n
 abbrev pub value_from : ℕ → List ℕ → ℕ
 value_from n digits = fold (λ m b. m * 10 + (b - 48)) n digits
 

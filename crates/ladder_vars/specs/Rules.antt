@@ -18,7 +18,7 @@ use Rattle.ladder_vars.specs.Decls.{names_of, addresses_of, same_address}
 use Rattle.ladder_vars.specs.Text.{begins_word, Gap, AreTokens, IsUnfinished, IsBadByte, IsStray}
 use Rattle.ladder_vars.specs.Grammar.{Is, Decl, IsBody, declared_by, IsHead, CanFollow}
 
--- The line, counted from 1, of what stands so many bytes before the end; 10 is LF.
+-- The line, counted from 1, of what is so many bytes before the end; 10 is LF.
 abbrev pub line_of : List ℕ → ℕ → ℕ
 line_of text left = 1 + count_by (λ b. b == 10) (take (length text - left) text)
 
@@ -28,7 +28,7 @@ pub record TokenDue (text : List ℕ) (tokens : List (List ℕ)) (due : List ℕ
   pub follows : CanFollow tokens next
   pub read : AreTokens tokens text due
 
--- This token stands there, with so many bytes behind it, and can't follow them.
+-- This token is there, with so many bytes after it, and can't follow them.
 pub record IsMisplaced (text : List ℕ) (tokens : List (List ℕ)) (token : List ℕ) (left : ℕ) : Type 0 where
   pub due : List ℕ
   pub after : List ℕ
@@ -37,17 +37,17 @@ pub record IsMisplaced (text : List ℕ) (tokens : List (List ℕ)) (token : Lis
   pub misfit : CanFollow tokens token → ⊥
   pub left_is : left ≡ length after
 
--- Where a name is due, behind VAR and whole declarations, the token has a name's form.
+-- Where a name is due, after VAR and whole declarations, the token has a name's form.
 abbrev pub IsForName : List (List ℕ) → List ℕ → Type 0
 IsForName tokens token = (ds : List Decl) × IsHead tokens ds × (has_name_form token ≡ true)
 
--- Where a value is due, behind `( PT :=` or `( PV :=`, the token is a word or begins with `%`.
+-- Where a value is due, after `( PT :=` or `( PV :=`, the token is a word or begins with `%`.
 abbrev pub IsForValue : List (List ℕ) → List ℕ → Type 0
 IsForValue tokens token =
     (before : List (List ℕ)) × (opening parameter assign : List ℕ) × (tokens ≡ before ++ opening ∷ parameter ∷ assign ∷ [])
     × Is (codes "(") opening × (begins_word token ≡ true)
 
--- One more whole declaration stands where a name is due.
+-- One more whole declaration is where a name is due.
 pub record DeclDue (text : List ℕ) (ds : List Decl) (name : List ℕ) (b : Body) (after : List ℕ) : Type 0 where
   pub head : List (List ℕ)
   pub behind : List (List ℕ)

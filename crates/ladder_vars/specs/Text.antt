@@ -33,12 +33,12 @@ token_len (b ∷ bs) =
     else (if b == 40 then (if begins_with 42 bs then 0 else 1)
     else (if b == 59 || b == 41 then 1 else 0))))
 
--- whether `*)` stands in it
+-- whether `*)` is in it
 abbrev pub closes : List ℕ → Bool
 closes [] = false
 closes (b ∷ bs) = (b == 42 && begins_with 41 bs) || closes bs
 
--- What stands between tokens, before the rest: blanks, and comments. A comment is `(*` to the first `*)`, or `//` to the end of its line.
+-- What is between tokens, before the rest: blanks, and comments. A comment is `(*` to the first `*)`, or `//` to the end of its line.
 pub data Gap : List ℕ → List ℕ → Type 0 where
   Nothing : {rest : List ℕ} → Gap rest rest
   Blank : {b : ℕ} {after rest : List ℕ} → is_blank b after ≡ true → Gap after rest → Gap (b ∷ after) rest
@@ -62,17 +62,17 @@ IsUnfinished (a ∷ b ∷ inside) = (a ≡ 40) × (b ≡ 42) × (closes inside �
 abbrev pub is_printed : ℕ → Bool
 is_printed b = nat_le 33 b && nat_le b 126
 
--- Neither a blank nor such a byte stands at the start.
+-- Neither a blank nor such a byte is at the start.
 abbrev pub IsBadByte : List ℕ → Type 0
 IsBadByte [] = ⊥
 IsBadByte (b ∷ after) = (is_blank b after ≡ false) × (is_printed b ≡ false)
 
--- `(*` or `//` stands at the start.
+-- `(*` or `//` is at the start.
 abbrev pub begins_comment : List ℕ → Bool
 begins_comment [] = false
 begins_comment (b ∷ after) = (b == 40 && begins_with 42 after) || (b == 47 && begins_with 47 after)
 
--- A printed byte stands at the start, and begins neither a token nor a comment.
+-- A printed byte is at the start, and begins neither a token nor a comment.
 abbrev pub IsStray : List ℕ → Type 0
 IsStray [] = ⊥
 IsStray (b ∷ after) = (is_printed b ≡ true) × (token_len (b ∷ after) ≡ 0) × (begins_comment (b ∷ after) ≡ false)

@@ -81,7 +81,7 @@ pub enum Symbol {
 pub struct Decls {
     vars: Vec<Var>,
     instances: Vec<Instance>,
-    /// How many inputs stand before the first variable that is none.
+    /// How many inputs are declared before the first variable that is none.
     leading: usize,
 }
 
@@ -110,7 +110,7 @@ fn instance_at(instances: &[Instance], name: &Name) -> Option<usize>
     instances.iter().position(|i| name.same(&i.name))
 }
 
-/// Whether a variable stands at the address.
+/// Whether a variable has the address.
 fn is_there(place: Option<Address>, address: Address) -> bool
     ensures { result ≡ is_there place address }
 {

@@ -33,7 +33,7 @@ pub enum VarRule {
     /// V8: the block and its comments end.
     #[error("V8: the text ends too early")]
     Unfinished,
-    /// V9: memory was refused; no rule of the text.
+    /// V9: out of memory; no rule of the text.
     #[error("V9: out of memory")]
     Memory,
 }

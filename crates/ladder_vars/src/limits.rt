@@ -1,9 +1,9 @@
 //! The limits of the declarations.
 
-/// So many variables a text may declare.
+/// The most variables that a text may declare.
 pub const MOST_VARS: usize = 256;
 
-/// So many function block instances a text may declare.
+/// The most function block instances that a text may declare.
 pub const MOST_INSTANCES: usize = 64;
 
 /// The characters of the longest name.

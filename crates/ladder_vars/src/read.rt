@@ -73,12 +73,14 @@ fn line_of(text: &[u8], left: usize) -> usize
     line
 }
 
-/// Reads the declarations of a program text, and gives the place right after END_VAR.
+/// Reads the declarations of a program text. Returns them with the place right after END_VAR.
 ///
-/// A refusal names a rule and the line where it is broken. V1, V2, V3 and V6 come at the token where
-/// the reading stops, V8 at the line after the last line end. Once a declaration has ended, V3 of
-/// an instance's length, V4, V5 and V7 follow in this order, at the line of its name. `Memory` comes
-/// where memory runs out.
+/// # Errors
+///
+/// A rule that the text breaks, and its line. V1, V2, V3 and V6 are reported at the token where the
+/// reading stops, V8 at the line after the last line end. When a declaration has ended, V3 of an
+/// instance's length, V4, V5 and V7 are tested in this order, and reported at the line of its name.
+/// V9 when out of memory.
 pub fn read_decls(alloc: Global, text: &[u8]) -> Result<(Decls, usize), VarFault>
     ensures found { IfOk result (λ x. (x.1 ≤ length text.now) × HasDecls text.now x.0 (drop x.1 text.now)) }
     // A text is refused for another reason than memory only where it has no declarations.

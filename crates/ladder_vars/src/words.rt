@@ -49,7 +49,7 @@ pub(crate) fn count_of(word: &[u8]) -> Option<u32>
     }
 }
 
-/// Which variables stand at an address with this letter.
+/// What the variables at an address with this letter are for.
 fn kind_of(letter: u8) -> Option<VarKind>
     ensures { result ≡ kind_of letter }
 {

@@ -2,7 +2,7 @@ use Rattle.std.proofs.Common.{◌+◌, ℕ, List, drop, map, sym, take, []}
 use Rattle.std.specs.Borrow.{Bor}
 use Rattle.ladder_records.specs.Text.{after_commas}
 use Rattle.ladder_records.proofs.Commas.{commas_cut, commas_more}
-use Rattle.ladder_text.proofs.Sending.{sends_front, sends_more, sends_same}
+use Rattle.ladder_text.proofs.Sending.{sends_prefix, sends_more, sends_same}
 use Rattle.ladder_records.proofs.line.add_fields.Goals as goal
 
 abbrev now : Bor (List ℕ) → List ℕ
@@ -22,5 +22,5 @@ pub returns-in_default : goal.returns-in_default
 returns-in_default g c =
     let fields = c.args.fields.now in
     let i = c.loop-field.field-index in
-    sends_front _ _ _ _ _ _ (after_commas (map now (take i fields))) _ (after_commas (map now (drop (i + 1) fields)))
+    sends_prefix _ _ _ _ _ _ (after_commas (map now (take i fields))) _ (after_commas (map now (drop (i + 1) fields)))
     (commas_cut now fields i none c.loop-field-test.true) c.loop-field.invariant c.in_default.ensures

@@ -1,7 +1,7 @@
 use Rattle.std.proofs.Common.{◌++◌, ◌∷◌, ℕ, List, [], codes, refl, sym, append_assoc, map}
 use Rattle.std.specs.Borrow.{Bor}
 use Rattle.ladder_records.specs.Text.{after_commas, line_text}
-use Rattle.ladder_text.proofs.Sending.{sends_front, sends_last, sends_more, sends_none}
+use Rattle.ladder_text.proofs.Sending.{sends_prefix, sends_last, sends_more, sends_none}
 use Rattle.ladder_records.proofs.line.add_line.Goals as goal
 
 abbrev now : Bor (List ℕ) → List ℕ
@@ -11,14 +11,14 @@ pub returns-in_default : goal.returns-in_default
 returns-in_default g c =
     let first = c.args.first.now in
     let others = map now c.args.others.now in
-    sends_front _ _ _ c.args.block.now c.args.block.now (line_text (first ∷ others)) [] first (after_commas others ++ codes "\n") refl
+    sends_prefix _ _ _ c.args.block.now c.args.block.now (line_text (first ∷ others)) [] first (after_commas others ++ codes "\n") refl
     (sends_none _ c.args.block.now) c.in_default.ensures
 
 pub returns-in_default-add_fields : goal.returns-in_default-add_fields
 returns-in_default-add_fields g c =
     let first = c.args.first.now in
     let others = map now c.args.others.now in
-    sends_front _ _ _ _ _ (line_text (first ∷ others)) first (after_commas others) (codes "\n") refl c.in-Ok.ensures c.in_default-add_fields.ensures
+    sends_prefix _ _ _ _ _ (line_text (first ∷ others)) first (after_commas others) (codes "\n") refl c.in-Ok.ensures c.in_default-add_fields.ensures
 
 pub returns : goal.returns
 returns g c =

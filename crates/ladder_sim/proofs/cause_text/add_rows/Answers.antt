@@ -1,5 +1,5 @@
 use Rattle.std.proofs.Common.{◌+◌, refl}
-use Rattle.ladder_sim.proofs.Limits.{added_front, added_more, added_none}
+use Rattle.ladder_sim.proofs.Limits.{added_prefix, added_more, added_none}
 use Rattle.ladder_sim.proofs.Taking.{going_none, going_on}
 use Rattle.ladder_sim.proofs.cause_text.add_rows.Goals as goal
 
@@ -22,7 +22,7 @@ loop-limit-preserved g c =
 
 pub returns-in_default-add_row-clause-sends : goal.returns-in_default-add_row-clause-sends
 returns-in_default-add_row-clause-sends g c =
-    added_front _ _ _ _ _ _ _ _ _ c.loop-limit.causes.rest c.in-Some.number _ c.loop-limit.invariant.added c.in-Some.ensures.steps.0
+    added_prefix _ _ _ _ _ _ _ _ _ c.loop-limit.causes.rest c.in-Some.number _ c.loop-limit.invariant.added c.in-Some.ensures.steps.0
     (c.if-is_reached.ensures.no refl) c.in_default-add_row.ensures.sends
 
 pub returns-in_default-add_row-clause-taken : goal.returns-in_default-add_row-clause-taken

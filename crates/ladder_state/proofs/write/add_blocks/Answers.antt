@@ -1,6 +1,6 @@
 use Rattle.std.proofs.Common.{arith, subst, take_all}
 use Rattle.ladder_records.specs.Text.{lines_text}
-use Rattle.ladder_records.proofs.Lines.{line_front, line_more}
+use Rattle.ladder_records.proofs.Lines.{line_prefix, line_more}
 use Rattle.ladder_state.specs.Parts.{block_item, block_records, each}
 use Rattle.ladder_state.specs.declared.version.Version.TheVariants.{Second}
 use Rattle.ladder_text.specs.Block.{SendsAll}
@@ -14,7 +14,7 @@ loop-number-preserved g c =
 
 pub returns-in_default : goal.returns-in_default
 returns-in_default g c =
-    line_front _ _ _ _ _ _ _ _ _ (written_apart block_item c.args.instances.now c.args.state.now.held.kept.blocks c.loop-number.number c.index-instances-number.result c.block.result
+    line_prefix _ _ _ _ _ _ _ _ _ (written_apart block_item c.args.instances.now c.args.state.now.held.kept.blocks c.loop-number.number c.index-instances-number.result c.block.result
     c.loop-number-test.true c.index-instances-number.is c.block.ensures) c.loop-number.invariant (rw (c.bytes-name.ensures.spelling, ← c.index-instances-number.is) at c.in_default.ensures)
 
 pub returns : goal.returns

@@ -1,7 +1,7 @@
 use Rattle.std.proofs.Common.{◌∙◌, ◌++◌, [], ap, length, sym, append_assoc}
 use Rattle.ladder_vars.specs.Decls.{Declared}
 use Rattle.ladder_records.specs.Text.{lines_text}
-use Rattle.ladder_text.proofs.Sending.{sends_front, sends_last, sends_more, sends_none}
+use Rattle.ladder_text.proofs.Sending.{sends_prefix, sends_last, sends_more, sends_none}
 use Rattle.ladder_state.specs.StateText.{item_records}
 use Rattle.ladder_state.specs.declared.version.Version.TheVariants.{Second}
 use Rattle.ladder_state.proofs.Segments.{block_count}
@@ -15,14 +15,14 @@ pub returns-in_default : goal.returns-in_default
 returns-in_default g c =
     let p = c.args.program.now in
     let s = c.args.state.now in
-    sends_front _ _ _ c.args.block.now c.args.block.now (lines_text (item_records Second p s)) [] (values_text p s) (memories_text p s ++ blocks_text p s) (items_text p s)
+    sends_prefix _ _ _ c.args.block.now c.args.block.now (lines_text (item_records Second p s)) [] (values_text p s) (memories_text p s ++ blocks_text p s) (items_text p s)
     (sends_none _ c.args.block.now) (rw (c.vars.ensures.value, c.decls.ensures) at c.in_default.ensures)
 
 pub returns-in_default-add_memories : goal.returns-in_default-add_memories
 returns-in_default-add_memories g c =
     let p = c.args.program.now in
     let s = c.args.state.now in
-    sends_front _ _ _ _ _ (lines_text (item_records Second p s)) (values_text p s) (memories_text p s) (blocks_text p s) (items_text p s)
+    sends_prefix _ _ _ _ _ (lines_text (item_records Second p s)) (values_text p s) (memories_text p s) (blocks_text p s) (items_text p s)
     (rw (c.vars.ensures.value, c.decls.ensures) at c.in-Ok.ensures) c.in_default-add_memories.ensures
 
 pub returns : goal.returns

@@ -1,6 +1,6 @@
 use Rattle.std.proofs.Common.{◌≡◌, ◌∙◌, ◌∷◌, [], arith, ap, length, length-append, slice_get, subst, sym}
 use Rattle.ladder_records.specs.Text.{lines_text}
-use Rattle.ladder_records.proofs.Lines.{line_front, line_more}
+use Rattle.ladder_records.proofs.Lines.{line_prefix, line_more}
 use Rattle.ladder_state.specs.StateText.{memory_record}
 use Rattle.ladder_state.specs.Parts.{each, memory_places_before, memory_records}
 use Rattle.ladder_text.specs.Block.{SendsAll}
@@ -42,7 +42,7 @@ returns-in_default g c =
     let memories = c.args.state.now.held.kept.memories in
     let cut = place_cut p place (sym c.is_memory_place.ensures ∙ c.if-not-is_memory_place.false)
     (omega (arith, c.loop-place-test.true, c.rungs-place-end.ensures.value, c.rungs-place-end.ensures.whole.size)) in
-    line_front _ _ _ _ _ _ _ _ _
+    line_prefix _ _ _ _ _ _ _ _ _
     (ap (λ l. each memory_records l memories) cut.1
     ∙ each_apart memory_record (memory_places_before p place) cut.0 memories place c.memory.result (ap (slice_get memories) inv.0 ∙ c.memory.ensures))
     inv.2 c.in_default.ensures

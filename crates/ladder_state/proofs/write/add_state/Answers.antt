@@ -1,6 +1,6 @@
 use Rattle.std.proofs.Common.{◌++◌, [], refl, sym, append_assoc}
 use Rattle.ladder_records.specs.Text.{line_text, lines_text}
-use Rattle.ladder_text.proofs.Sending.{sends_front, sends_last, sends_more, sends_none}
+use Rattle.ladder_text.proofs.Sending.{sends_prefix, sends_last, sends_more, sends_none}
 use Rattle.ladder_state.specs.StateText.{item_records, moment_record, state_text, version_record}
 use Rattle.ladder_state.specs.declared.version.Version.TheVariants.{Second}
 use Rattle.ladder_state.proofs.write.add_state.Goals as goal
@@ -9,14 +9,14 @@ pub returns-in_default : goal.returns-in_default
 returns-in_default g c =
     let p = c.args.program.now in
     let s = c.args.state.now in
-    sends_front _ _ _ c.args.block.now c.args.block.now (state_text p s) [] (line_text (version_record Second)) (line_text (moment_record s.moment) ++ lines_text (item_records Second p s)) refl
+    sends_prefix _ _ _ c.args.block.now c.args.block.now (state_text p s) [] (line_text (version_record Second)) (line_text (moment_record s.moment) ++ lines_text (item_records Second p s)) refl
     (sends_none _ c.args.block.now) c.in_default.ensures
 
 pub returns-in_default-add_moment : goal.returns-in_default-add_moment
 returns-in_default-add_moment g c =
     let p = c.args.program.now in
     let s = c.args.state.now in
-    sends_front _ _ _ _ _ (state_text p s) (line_text (version_record Second)) (line_text (moment_record s.moment)) (lines_text (item_records Second p s)) refl
+    sends_prefix _ _ _ _ _ (state_text p s) (line_text (version_record Second)) (line_text (moment_record s.moment)) (lines_text (item_records Second p s)) refl
     c.in-Ok.ensures (rw c.moment.ensures at c.in_default-add_moment.ensures)
 
 pub returns : goal.returns

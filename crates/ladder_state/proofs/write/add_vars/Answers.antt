@@ -1,6 +1,6 @@
 use Rattle.std.proofs.Common.{arith, subst, take_all}
 use Rattle.ladder_records.specs.Text.{lines_text}
-use Rattle.ladder_records.proofs.Lines.{line_front, line_more}
+use Rattle.ladder_records.proofs.Lines.{line_prefix, line_more}
 use Rattle.ladder_state.specs.StateText.{var_record}
 use Rattle.ladder_state.specs.Parts.{each, var_records}
 use Rattle.ladder_text.specs.Block.{SendsAll}
@@ -14,7 +14,7 @@ loop-number-preserved g c =
 
 pub returns-in_default : goal.returns-in_default
 returns-in_default g c =
-    line_front _ _ _ _ _ _ _ _ _ (written_apart var_record c.args.vars.now c.args.state.now.held.values c.loop-number.number c.index-vars-number.result c.value.result
+    line_prefix _ _ _ _ _ _ _ _ _ (written_apart var_record c.args.vars.now c.args.state.now.held.values c.loop-number.number c.index-vars-number.result c.value.result
     c.loop-number-test.true c.index-vars-number.is c.value.ensures) c.loop-number.invariant c.in_default.ensures
 
 pub returns : goal.returns

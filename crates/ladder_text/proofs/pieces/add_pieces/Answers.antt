@@ -1,7 +1,7 @@
 use Rattle.std.proofs.Common.{◌+◌, ◌∙◌, append_assoc, drop, get_or, sym, take}
 use Rattle.ladder_text.specs.Pieces.{piece_text, pieces_text}
 use Rattle.ladder_text.proofs.PieceLaws.{pieces_text-cut, pieces_text-take}
-use Rattle.ladder_text.proofs.Sending.{sends_front, sends_more, sends_same}
+use Rattle.ladder_text.proofs.Sending.{sends_prefix, sends_more, sends_same}
 use Rattle.ladder_text.proofs.pieces.add_pieces.Goals as goal
 
 pub loop-piece-preserved : goal.loop-piece-preserved
@@ -15,6 +15,6 @@ pub returns-in_default : goal.returns-in_default
 returns-in_default g c =
     let ps = c.args.pieces.now in
     let i = c.loop-piece.piece-index in
-    sends_front _ _ _ _ _ (pieces_text ps) (pieces_text (take i ps)) _ (pieces_text (drop (i + 1) ps))
+    sends_prefix _ _ _ _ _ (pieces_text ps) (pieces_text (take i ps)) _ (pieces_text (drop (i + 1) ps))
     (pieces_text-cut ps i _ c.loop-piece-test.true ∙ append_assoc (pieces_text (take i ps)) (piece_text (get_or ps i _)) (pieces_text (drop (i + 1) ps)))
     c.loop-piece.invariant c.in_default.ensures

@@ -2,7 +2,7 @@ use Rattle.std.proofs.Common.{◌≡◌, ℕ, List, ◌++◌, length}
 use Rattle.ladder_text.specs.Log.{PutsAll}
 use Rattle.ladder_text.proofs.sink.put.Given as goal
 
--- a front of the text was written, and the rest is left
+-- a prefix of the text was written, and the rest is left
 abbrev pub invariant-loop-rest : goal.invariant-loop-rest
 invariant-loop-rest g l = (front : List ℕ) × (l.text ≡ front ++ l.rest) × PutsAll (g.W.Sink.log l.fn.writer) (g.W.Sink.log l.writer) front
 

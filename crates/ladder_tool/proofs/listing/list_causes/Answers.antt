@@ -4,7 +4,7 @@ use Rattle.ladder_causes.specs.Causes.{question}
 use Rattle.ladder_tool.specs.declared.fault.ToolFault.TheVariants as fault
 use Rattle.ladder_tool.specs.Asked.{asking_of}
 use Rattle.ladder_tool.specs.Setting.{given_by}
-use Rattle.ladder_tool.proofs.Endings.{all_same, asked_by, cause_fault, front_same, line_is, setting_fault, text_is, word_fault}
+use Rattle.ladder_tool.proofs.Endings.{all_same, asked_by, cause_fault, prefix_same, line_is, setting_fault, text_is, word_fault}
 use Rattle.ladder_tool.proofs.listing.list_causes.Goals as goal
 
 pub returns-in-Err-clause-failed : goal.returns-in-Err-clause-failed
@@ -55,7 +55,7 @@ returns-in_default-clause-failed g c = λ status.
       question = q;
       asked = asked_by (given_by c.args.texts.now) a s.program s.state c.decls-decls.result.now c.moment-2.result asked.asked.coil asked.asked.inputs.items c.deref.result.now c.in-Ok.ensures.set c.decls-decls.ensures c.deref.ensures.value at asked.ensures.coil asked.ensures.inputs;
       accepted = made.accepted;
-      rows = front_same _ _ _ _ (text_is a q c.in-Ok-new.cursor made.program made.listed made.rest) c.in_default.ensures.bytes;
+      rows = prefix_same _ _ _ _ (text_is a q c.in-Ok-new.cursor made.program made.listed made.rest) c.in_default.ensures.bytes;
       reported = c.report-in_default.ensures.line;
     }))
 
@@ -75,7 +75,7 @@ returns-in_default-put_rows-clause-failed g c = λ status.
         accepted = made.accepted;
         rows = all_same _ _ _ _ (text_is a q c.in-Ok-new.cursor made.program made.listed made.rest) w.ensures.bytes;
       };
-      count = front_same _ _ _ _ (line_is a q c.in-Ok-new.cursor made.program made.listed made.rest w.summary.rows w.summary.looks made.search made.looks w.ensures.rows (w.ensures.looks ∙ w.ensures.counted)) c.in_default-put_rows.ensures;
+      count = prefix_same _ _ _ _ (line_is a q c.in-Ok-new.cursor made.program made.listed made.rest w.summary.rows w.summary.looks made.search made.looks w.ensures.rows (w.ensures.looks ∙ w.ensures.counted)) c.in_default-put_rows.ensures;
     }))
 
 pub returns-clause-done : goal.returns-clause-done

@@ -3,7 +3,7 @@ use Rattle.std.proofs.lemmas.List.{length-map}
 use Rattle.ladder_records.specs.Text.{bit_text}
 use Rattle.ladder_text.specs.Block.{SendsAll}
 use Rattle.ladder_trace.specs.Trace.{is_output}
-use Rattle.ladder_trace.proofs.Fields.{field_front, field_more, field_none, fields}
+use Rattle.ladder_trace.proofs.Fields.{field_prefix, field_more, field_none, fields}
 use Rattle.ladder_trace.proofs.Lists.{mark_at, there_at}
 use Rattle.ladder_trace.proofs.trace.add_bits.Goals as goal
 
@@ -31,7 +31,7 @@ returns-in_default g c =
     let n = c.loop-number.number in
     let x = c.index-vars-number.result in
     let mark = mark_at is_output vars n x c.loop-number-test.true c.index-vars-number.is ∙ ap Some (sym c.is_output.ensures ∙ c.if-not-is_output.false) in
-    field_front bit_text (map is_output vars) c.args.state.now.held.values n c.value.result _ _ _ _ _ mark c.value.ensures c.loop-number.invariant
+    field_prefix bit_text (map is_output vars) c.args.state.now.held.values n c.value.result _ _ _ _ _ mark c.value.ensures c.loop-number.invariant
     (rw c.bit_field.ensures at c.in_default.ensures)
 
 pub returns : goal.returns

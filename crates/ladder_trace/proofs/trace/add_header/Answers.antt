@@ -1,19 +1,19 @@
 use Rattle.std.proofs.Common.{◌++◌, [], codes, refl, sym, append_assoc, map}
 use Rattle.ladder_records.specs.Text.{after_commas}
-use Rattle.ladder_text.proofs.Sending.{sends_front, sends_last, sends_more, sends_none}
+use Rattle.ladder_text.proofs.Sending.{sends_prefix, sends_last, sends_more, sends_none}
 use Rattle.ladder_trace.specs.Trace.{outputs_among, trace_header}
 use Rattle.ladder_trace.proofs.trace.add_header.Goals as goal
 
 pub returns-in_default : goal.returns-in_default
 returns-in_default g c =
     let names = after_commas (map (λ v. v.name) (outputs_among c.args.program.now.decls.vars)) in
-    sends_front _ _ _ c.args.block.now c.args.block.now (trace_header c.args.program.now) [] (codes "moment") (names ++ codes "\n") refl
+    sends_prefix _ _ _ c.args.block.now c.args.block.now (trace_header c.args.program.now) [] (codes "moment") (names ++ codes "\n") refl
     (sends_none _ c.args.block.now) c.in_default.ensures
 
 pub returns-in_default-add_names : goal.returns-in_default-add_names
 returns-in_default-add_names g c =
     let names = after_commas (map (λ v. v.name) (outputs_among c.args.program.now.decls.vars)) in
-    sends_front _ _ _ _ _ (trace_header c.args.program.now) (codes "moment") names (codes "\n") refl c.in-Ok.ensures
+    sends_prefix _ _ _ _ _ (trace_header c.args.program.now) (codes "moment") names (codes "\n") refl c.in-Ok.ensures
     (rw (c.vars.ensures.value, c.decls.ensures) at c.in_default-add_names.ensures)
 
 pub returns : goal.returns

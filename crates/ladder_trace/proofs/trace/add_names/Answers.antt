@@ -3,7 +3,7 @@ use Rattle.std.proofs.lemmas.List.{length-map}
 use Rattle.ladder_vars.specs.declared.decls.Var.{Var}
 use Rattle.ladder_text.specs.Block.{SendsAll}
 use Rattle.ladder_trace.specs.Trace.{is_output}
-use Rattle.ladder_trace.proofs.Fields.{field_front, field_more, field_none, fields}
+use Rattle.ladder_trace.proofs.Fields.{field_prefix, field_more, field_none, fields}
 use Rattle.ladder_trace.proofs.Lists.{mark_at, some_at}
 use Rattle.ladder_trace.proofs.trace.add_names.Goals as goal
 
@@ -33,7 +33,7 @@ returns-in_default g c =
     let n = c.loop-number.number in
     let x = c.index-vars-number.result in
     let mark = mark_at is_output vars n x c.loop-number-test.true c.index-vars-number.is ∙ ap Some (sym c.is_output.ensures ∙ c.if-not-is_output.false) in
-    field_front name_of (map is_output vars) vars n x _ _ _ _ _ mark (some_at vars n x c.loop-number-test.true c.index-vars-number.is) c.loop-number.invariant
+    field_prefix name_of (map is_output vars) vars n x _ _ _ _ _ mark (some_at vars n x c.loop-number-test.true c.index-vars-number.is) c.loop-number.invariant
     (rw c.bytes.ensures.spelling at c.in_default.ensures)
 
 pub returns : goal.returns

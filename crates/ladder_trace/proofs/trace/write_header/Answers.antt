@@ -1,4 +1,4 @@
-use Rattle.ladder_text.proofs.Sending.{flush_all, flush_front}
+use Rattle.ladder_text.proofs.Sending.{flush_all, flush_prefix}
 use Rattle.ladder_trace.specs.Trace.{trace_header}
 use Rattle.ladder_trace.proofs.trace.write_header.Goals as goal
 
@@ -7,7 +7,7 @@ returns-in_default-clause-wrote g c = rw c.requires at c.in_default.ensures
 
 pub returns-in_default-flush-clause-wrote : goal.returns-in_default-flush-clause-wrote
 returns-in_default-flush-clause-wrote g c =
-    flush_front _ _ _ _ (trace_header c.args.program.now) (rw c.requires at c.in-Ok.ensures) c.in_default-flush.ensures.wrote
+    flush_prefix _ _ _ _ (trace_header c.args.program.now) (rw c.requires at c.in-Ok.ensures) c.in_default-flush.ensures.wrote
 
 pub returns-clause-wrote : goal.returns-clause-wrote
 returns-clause-wrote g c =

@@ -1,6 +1,6 @@
 use Rattle.std.proofs.Common.{◌≡◌, ◌∙◌, ◌<◌, ◌∷◌, [], None, Some, ap, append-nil, arith, length, length-append, subst, sym}
 use Rattle.ladder_records.specs.Text.{lines_text}
-use Rattle.ladder_records.proofs.Lines.{line_front, line_more}
+use Rattle.ladder_records.proofs.Lines.{line_prefix, line_more}
 use Rattle.ladder_text.specs.Block.{SendsAll}
 use Rattle.ladder_uses.specs.Uses.{use_row}
 use Rattle.ladder_uses.proofs.Rows.{places_all, places_apart, places_more, rows_before}
@@ -21,7 +21,7 @@ pub returns-in_default-add_row-clause-sends : goal.returns-in_default-add_row-cl
 returns-in_default-add_row-clause-sends g c =
     let h : c.loop-place.place < length c.args.program.now.sites = omega (arith, c.loop-place-test.true, c.rungs-place-end.ensures.value, c.rungs-place-end.ensures.whole.size) in
     let cut = places_apart c.args.program.now c.args.name.now c.args.symbol c.loop-place.place (Some c.in-Some.used) h (sym c.in-Some.is ∙ c.use_at.ensures) in
-    line_front _ _ _ _ _ _ _ _ _ cut.1 c.loop-place.invariant.0 c.in_default-add_row.ensures
+    line_prefix _ _ _ _ _ _ _ _ _ cut.1 c.loop-place.invariant.0 c.in_default-add_row.ensures
 
 pub loop-place-preserved : goal.loop-place-preserved
 loop-place-preserved g c =

@@ -3,14 +3,14 @@ use Rattle.std.specs.List.{flat_map}
 use Rattle.ladder_records.specs.Text.{lines_text}
 use Rattle.ladder_text.specs.Block.{SendsAll}
 use Rattle.ladder_uses.specs.Uses.{symbol_rows, symbols_of}
-use Rattle.ladder_uses.proofs.Rows.{rows_apart, rows_front, rows_more, rows_sent}
+use Rattle.ladder_uses.proofs.Rows.{rows_apart, rows_prefix, rows_more, rows_sent}
 use Rattle.ladder_uses.proofs.uses.add_symbols.Goals as goal
 
 pub returns-in_default-clause-sends : goal.returns-in_default-clause-sends
 returns-in_default-clause-sends g c =
     let p = c.args.program.now in
     let here = rw c.decls-decls.ensures at c.symbol_at.ensures in
-    rows_front _ _ _ _ _ _ _ _ _ (rows_apart (symbol_rows p) (symbols_of p.decls) c.loop-number.number c.symbol_at.result _ here refl) c.loop-number.invariant.0 c.in_default.ensures.sends
+    rows_prefix _ _ _ _ _ _ _ _ _ (rows_apart (symbol_rows p) (symbols_of p.decls) c.loop-number.number c.symbol_at.result _ here refl) c.loop-number.invariant.0 c.in_default.ensures.sends
 
 pub loop-number-preserved : goal.loop-number-preserved
 loop-number-preserved g c =

@@ -1,13 +1,13 @@
 use Rattle.std.proofs.Common.{[], refl}
 use Rattle.ladder_records.specs.Text.{line_text, lines_text}
-use Rattle.ladder_records.proofs.Lines.{line_front}
+use Rattle.ladder_records.proofs.Lines.{line_prefix}
 use Rattle.ladder_text.proofs.Sending.{sends_last, sends_none}
 use Rattle.ladder_uses.specs.Uses.{header, use_rows, uses_text}
 use Rattle.ladder_uses.proofs.uses.add_uses.Goals as goal
 
 pub returns-in_default-clause-sends : goal.returns-in_default-clause-sends
 returns-in_default-clause-sends g c =
-    line_front _ _ _ c.args.block.now c.args.block.now [] _ (use_rows c.args.program.now) header refl (sends_none _ c.args.block.now) c.in_default.ensures
+    line_prefix _ _ _ c.args.block.now c.args.block.now [] _ (use_rows c.args.program.now) header refl (sends_none _ c.args.block.now) c.in_default.ensures
 
 pub returns-clause-sends : goal.returns-clause-sends
 returns-clause-sends g c =

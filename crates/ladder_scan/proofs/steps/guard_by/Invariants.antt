@@ -1,6 +1,6 @@
 use Rattle.std.proofs.Common.{◌≡◌, drop, true}
 use Rattle.ladder_scan.specs.Gating.{guard_by}
-use Rattle.ladder_scan.proofs.looking.guard_by.Given as goal
+use Rattle.ladder_scan.proofs.steps.guard_by.Given as goal
 
 abbrev pub invariant-loop-leap : goal.invariant-loop-leap
 invariant-loop-leap g l =
