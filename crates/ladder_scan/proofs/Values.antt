@@ -11,7 +11,6 @@ use Rattle.ladder_scan.specs.Gating.{AreValues}
 use Rattle.ladder_scan.proofs.Kept.{left_kept, frames_kept}
 
 module _ {S : Type 0} (o : Algebra S) (V : S → Type 0) (l : LatticeLaws S V o) where
-
   values_kept : IsKept o plain (λ x u. V x)
   values_kept = record {
     known = λ c. l.known_value c;
