@@ -1,8 +1,8 @@
 //! Builds the program of a page on which no rule is broken.
 
-ghost use Rattle.std.specs.Prelude.{◌≡◌, ◌≤◌, ◌<◌, ◌+◌, ◌^◌, if◌then◌else◌, map, length, All, IfOk, IfErr};
+ghost use Rattle.std.specs.Prelude.{◌≡◌, ◌≤◌, ◌<◌, ◌+◌, ◌^◌, if◌then◌else◌, map, length, IfOk, IfErr};
 ghost use Rattle.ladder_grid.specs.declared.geometry.TheConstants.{RUNGS};
-ghost use Rattle.ladder_grid.specs.ReadLines.{IsWithin, page_of};
+ghost use Rattle.ladder_grid.specs.ReadLines.{page_of};
 ghost use Rattle.ladder_grid.specs.Seen.{seen};
 ghost use Rattle.ladder_grid.specs.Page.{labels_of};
 ghost use Rattle.ladder_grid.specs.Program.{has_memory};

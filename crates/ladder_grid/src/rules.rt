@@ -3,7 +3,6 @@
 ghost use Rattle.std.specs.Prelude.{◌≡◌, ◌≤◌, ◌<◌, ◌*◌, ◌↔◌, length, map, None, true, false, IsTrue, IfSome, IfNone};
 ghost use Rattle.ladder_grid.specs.declared.geometry.TheConstants.{RUNGS, ROWS, COLUMNS, LINES, PITCH};
 ghost use Rattle.std.specs.List.{AllByRecursion};
-ghost use Rattle.ladder_grid.specs.ReadLines.{IsWithin};
 ghost use Rattle.ladder_grid.specs.Seen.{seen};
 ghost use Rattle.ladder_grid.specs.Bytes.{is_upright};
 ghost use Rattle.ladder_grid.specs.AllPlaces.{reading_place};

@@ -1,10 +1,9 @@
 //! What a page has at a place of a rung.
 
-ghost use Rattle.std.specs.Prelude.{◌≡◌, ◌<◌, map, length, All, Some, None};
+ghost use Rattle.std.specs.Prelude.{◌≡◌, ◌<◌, map, length, Some, None};
 ghost use Rattle.ladder_vars.specs.declared.kind.BlockKind.{BlockKind};
 ghost use Rattle.ladder_grid.specs.declared.form.Form.TheVariants as form;
 ghost use Rattle.ladder_grid.specs.declared.geometry.TheConstants.{RUNGS, ROWS, COLUMNS};
-ghost use Rattle.ladder_grid.specs.ReadLines.{IsWithin};
 ghost use Rattle.ladder_grid.specs.Seen.{seen};
 ghost use Rattle.ladder_grid.specs.Page.{labels_of};
 ghost use Rattle.ladder_grid.specs.Reading.{contact_memory, coil_memory, cell_with, cell_drawn, joint_of, site_drawn};

@@ -1,6 +1,5 @@
 //! Scans and looks of small programs, by the calls below the command line.
 ghost use Rattle.std.specs.Prelude.{All};
-ghost use Rattle.ladder_scan.specs.Standing.{Fits};
 
 use ladder_causes::{Tri, Word64};
 use ladder_grid::{Program, read_program};

@@ -1,6 +1,6 @@
 //! One scan of a program over a signal, which leaves the state as it is.
 
-ghost use Rattle.std.specs.Prelude.{◌≡◌, ◌+◌, ◌-◌, ◌^◌, ◌<◌, ◌↔◌, ℕ, min, length, All, IfOk, IsTrue, slice_get, Some, slice_index_or, false, true};
+ghost use Rattle.std.specs.Prelude.{◌≡◌, ◌+◌, ◌-◌, ◌^◌, ◌<◌, ◌↔◌, ℕ, min, length, All, IfOk, IsTrue, slice_get, Some, slice_index_or, false};
 ghost use Rattle.ladder_grid.specs.declared.gates.TheConstants.{LINKS};
 ghost use Rattle.ladder_grid.specs.Program.{IsWellFormed};
 ghost use Rattle.ladder_scan.specs.SignalScan.{look_frame, looked, after_look};

@@ -1,6 +1,6 @@
 //! What a scan changes: the values of the variables, the memories of edges, and what the instances store.
 
-ghost use Rattle.std.specs.Prelude.{◌≡◌, length, map, slice_index_or, slice_set, false, IfOk};
+ghost use Rattle.std.specs.Prelude.{◌≡◌, map, slice_index_or, slice_set, false, IfOk};
 ghost use Rattle.ladder_vars.specs.Decls.{is_input};
 ghost use Rattle.ladder_vars.specs.declared.kind.BlockKind.TheVariants.{Ton};
 ghost use Rattle.ladder_scan.specs.Blocks.{new_block};

@@ -1,6 +1,5 @@
 //! A row that is kept: the rows of the next numbers mostly differ from it in the last digits and bits alone.
 ghost use Rattle.std.specs.Prelude.{◌≡◌, ◌+◌, ◌*◌, ◌<◌, ◌≤◌, ℕ, length, take};
-ghost use Rattle.std.specs.List.{slice_range};
 ghost use Rattle.ladder_sim.specs.Rows.{row};
 ghost use Rattle.ladder_sim.specs.Kept.{ArePairs, AreTails, IsKept, IsNear};
 ghost use Rattle.ladder_sim.specs.declared.cause_text.TheConstants.{DIGITS, ROW};

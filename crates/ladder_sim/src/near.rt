@@ -1,5 +1,5 @@
 //! The row of a number near the one whose row is kept.
-ghost use Rattle.std.specs.Prelude.{◌≡◌, ◌<◌, ◌≤◌, length, take};
+ghost use Rattle.std.specs.Prelude.{◌≡◌, ◌<◌, ◌≤◌};
 ghost use Rattle.ladder_sim.specs.Rows.{row};
 ghost use Rattle.ladder_sim.specs.Kept.{IsKept};
 

@@ -1,5 +1,5 @@
 //! The writing of a state.
-ghost use Rattle.std.specs.Prelude.{◌≡◌, ◌*◌, ◌<◌, ◌++◌, ◌∷◌, [], codes, length};
+ghost use Rattle.std.specs.Prelude.{◌≡◌, ◌*◌, ◌<◌, ◌∷◌, [], codes, length};
 ghost use Rattle.ladder_grid.specs.declared.geometry.TheConstants.{PLACES, RUNGS};
 ghost use Rattle.ladder_grid.specs.Program.{memories_of};
 ghost use Rattle.ladder_records.specs.Text.{line_text, lines_text};

@@ -1,5 +1,5 @@
 //! A request for the causes of a coil.
-ghost use Rattle.std.specs.Prelude.{◌≡◌, ◌≤◌, ◌⊎◌, map, string_bytes, unwrap_or};
+ghost use Rattle.std.specs.Prelude.{◌≡◌, ◌≤◌, unwrap_or};
 ghost use Rattle.ladder_text.specs.Log.{Puts};
 ghost use Rattle.ladder_tool.specs.Asked.{asking_of};
 ghost use Rattle.ladder_tool.specs.Performs.{CountsList, FailsList, rows_line};

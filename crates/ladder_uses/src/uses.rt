@@ -1,5 +1,5 @@
 //! The writing of a cross-reference.
-ghost use Rattle.std.specs.Prelude.{◌≡◌, ◌*◌, ◌+◌, ◌<◌, ◌≤◌, ◌∷◌, [], IfOk, Some, codes, length, slice_get};
+ghost use Rattle.std.specs.Prelude.{◌≡◌, ◌*◌, ◌+◌, ◌<◌, ◌≤◌, ◌∷◌, [], IfOk, Some, length, slice_get};
 ghost use Rattle.ladder_vars.specs.declared.limits.TheConstants.{MOST_INSTANCES, MOST_VARS};
 ghost use Rattle.ladder_grid.specs.declared.geometry.TheConstants.{PLACES, RUNGS};
 ghost use Rattle.ladder_records.specs.Text.{line_text, lines_text};

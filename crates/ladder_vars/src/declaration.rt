@@ -1,7 +1,7 @@
 //! Reads one declaration of a block.
 
-ghost use Rattle.std.specs.Prelude.{◌≡◌, ◌≤◌, ◌<◌, ◌||◌, ◌==◌, length, codes, Option, Some, None, IfOk, IfSome};
-ghost use Rattle.ladder_vars.specs.Text.{begins, is_word_byte};
+ghost use Rattle.std.specs.Prelude.{◌≡◌, ◌≤◌, ◌<◌, ◌||◌, ◌==◌, length, Option, Some, None, IfOk, IfSome};
+ghost use Rattle.ladder_vars.specs.Text.{is_word_byte};
 ghost use Rattle.ladder_vars.specs.Kind.{largest_value, largest_of, largest_preset};
 ghost use Rattle.ladder_vars.specs.ReadText.{Gives};
 ghost use Rattle.ladder_vars.specs.ReadWords.{value_of};

@@ -1,7 +1,7 @@
 //! The kinds of standard function blocks, and all that depends on the kind of a block.
 
-ghost use Rattle.std.specs.Prelude.{◌≡◌, ◌≤◌};
-ghost use Rattle.ladder_vars.specs.Kind.{traits_of, parameter_word, largest_value};
+ghost use Rattle.std.specs.Prelude.{◌≡◌};
+ghost use Rattle.ladder_vars.specs.Kind.{traits_of, parameter_word};
 
 use crate::limits::{LONGEST_BISTABLE, LONGEST_INSTANCE};
 

@@ -4,7 +4,7 @@ ghost use Rattle.std.specs.Prelude.{◌≡◌, ◌≤◌, ◌<◌, ◌+◌, ◌^
 ghost use Rattle.std.specs.List.{prefix_len};
 ghost use Rattle.std.specs.Char.{is_ascii_alphabetic};
 ghost use Rattle.ladder_vars.specs.Duration.{IsDuration};
-ghost use Rattle.ladder_vars.specs.ReadWords.{millis_of, range_of, unit_of, PartAt, part_at, after_underscore, with_part, may_follow, total_of, after_word, after_prefix, time_of, Gives};
+ghost use Rattle.ladder_vars.specs.ReadWords.{millis_of, range_of, unit_of, part_at, after_underscore, with_part, may_follow, total_of, after_word, after_prefix, time_of, Gives};
 
 use crate::digits::{CAP, digits_len, number};
 use crate::name::same_letters;
