@@ -1,5 +1,6 @@
 //! What a look is asked.
-use super::source::InputSource;
+
+use crate::source::InputSource;
 use ladder_grid::Program;
 use ladder_scan::State;
 

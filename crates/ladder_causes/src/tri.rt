@@ -1,4 +1,5 @@
 //! The signal of three values.
+
 ghost use Rattle.std.specs.Prelude.{◌≡◌};
 ghost use Rattle.ladder_scan.specs.Truth.{OnePlace};
 ghost use Rattle.ladder_causes.specs.Three.{AnyTri, three, three_agree, three_allows};

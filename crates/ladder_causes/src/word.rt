@@ -1,4 +1,5 @@
 //! The signal of 64 places in one word.
+
 ghost use Rattle.ladder_causes.specs.WordLaws.{words_allowed, words_lattice};
 ghost use Rattle.ladder_causes.specs.Words.{IsBit, IsWord, word_allows, words};
 

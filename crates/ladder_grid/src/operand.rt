@@ -7,7 +7,7 @@ ghost use Rattle.ladder_grid.specs.Texts.{after_spaces, text_len};
 ghost use Rattle.ladder_grid.specs.Suiting.{without_end, named, referred, same_kind, same_output, gives_output, is_odd_on_contact, is_odd_on_coil, is_odd_on_block, is_odd};
 
 use crate::form::Form;
-use ladder_vars::{BlockKind, Decls, Name, Output, Symbol, VarKind};
+use ladder_vars::{BlockKind, Decls, Name, Output, Symbol};
 
 /// A declared name, with `.Q` or `.Q1` or without them.
 #[derive(Clone, Copy, Debug, PartialEq, Eq)]
@@ -154,7 +154,7 @@ fn is_odd_on_coil(decls: &Decls, symbol: Symbol, output: Option<Output>) -> bool
                 return true;
             }
             match decls.vars().get(i) {
-                Some(var) => var.kind == VarKind::Input,
+                Some(var) => var.is_input(),
                 None => false,
             }
         }

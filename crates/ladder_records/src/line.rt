@@ -1,4 +1,5 @@
 //! The writing of records without quotes, line by line.
+
 ghost use Rattle.std.specs.Prelude.{◌++◌, ◌∷◌, codes, map};
 ghost use Rattle.ladder_text.specs.Block.{Sends};
 ghost use Rattle.ladder_records.specs.Text.{after_commas, line_text};
@@ -13,9 +14,7 @@ use ladder_text::{Block, Sink, WriteFault};
 pub fn add_field<W: Sink>(block: &mut Block, field: &[u8], writer: &mut W) -> Result<(), WriteFault>
     ensures { Sends (W.log writer.old) (W.log writer.new) block.old block.new result (codes "," ++ field.now) }
 {
-    let Ok(()) = block.add(b",", writer) else {
-        return Err(WriteFault);
-    };
+    block.add(b",", writer)?;
     block.add(field, writer)
 }
 
@@ -27,9 +26,7 @@ fn add_fields<W: Sink>(
     ensures { Sends (W.log writer.old) (W.log writer.new) block.old block.new result (after_commas (map (λ f. f.now) fields.now)) }
 {
     for field in fields {
-        let Ok(()) = add_field(block, field, writer) else {
-            return Err(WriteFault);
-        };
+        add_field(block, field, writer)?;
     }
     Ok(())
 }
@@ -47,11 +44,7 @@ pub fn add_line<W: Sink>(
 ) -> Result<(), WriteFault>
     ensures { Sends (W.log writer.old) (W.log writer.new) block.old block.new result (line_text (first.now ∷ map (λ f. f.now) others.now)) }
 {
-    let Ok(()) = block.add(first, writer) else {
-        return Err(WriteFault);
-    };
-    let Ok(()) = add_fields(block, others, writer) else {
-        return Err(WriteFault);
-    };
+    block.add(first, writer)?;
+    add_fields(block, others, writer)?;
     block.add(b"\n", writer)
 }

@@ -1,4 +1,5 @@
 //! The records of a text in memory.
+
 ghost use Rattle.std.specs.Prelude.{List, IfOk};
 ghost use Rattle.csv.specs.Records.{fields_of};
 ghost use Rattle.ladder_records.specs.Left.{Fields, IsPlain, Left, TakesFirst};

@@ -1,4 +1,5 @@
 //! A cursor over the causes of a coil, by its own calls.
+
 use crate::scans::{MOTOR, program};
 use ladder_causes::{CauseFault, Causes};
 use ladder_scan::{Memory, State, scan};

@@ -1,4 +1,5 @@
 //! Declarations, names and durations, by their own calls.
+
 use ladder_vars::{BlockKind, Decls, Name, Symbol, VarKind, read_decls, read_time};
 use std::test::Fail;
 

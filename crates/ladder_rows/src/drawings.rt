@@ -1,4 +1,5 @@
 //! What a program has at each place of its drawing.
+
 use crate::runs::{COUNT_UP, JUMP, RETURN};
 use crate::scans::{MOTOR, program};
 use ladder_grid::{Cell, CoilMode, Joint, Mode, Operand};

@@ -1,4 +1,5 @@
 //! The lines of faults, over writers that fail.
+
 use crate::memory::{ENDS, with_room};
 use ladder_causes::CauseFault;
 use ladder_grid::{GridFault, GridRule};

@@ -1,4 +1,5 @@
 //! Readers and writers over memory, with a chosen failure.
+
 ghost use Rattle.std.specs.Prelude.{Some};
 
 use ladder_sim::Writing;

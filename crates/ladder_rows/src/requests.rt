@@ -1,4 +1,5 @@
 //! Requests, performed over texts and writers in memory.
+
 use crate::memory::{ENDS, End, Narrow, with_room, without_end};
 use crate::scans::MOTOR;
 use crate::simulations::{BACK, BACK_TRACE};

@@ -1,4 +1,5 @@
 //! Looks at a moment between two scans, and through jumps that may be taken.
+
 use crate::scans::{looked, program};
 use ladder_causes::{Tri, Word64};
 use ladder_scan::{Memory, State, Work, look, scan};

@@ -1,4 +1,5 @@
 //! Scans and looks of small programs, by the calls below the command line.
+
 ghost use Rattle.std.specs.Prelude.{All};
 
 use ladder_causes::{Tri, Word64};

@@ -1,4 +1,5 @@
 //! Simulations of the motor, over stimuli and writers in memory.
+
 use crate::memory::{ENDS, Narrow, with_room, without_end};
 use crate::scans::{MOTOR, program, stored};
 use ladder_scan::{Memory, State};

@@ -1,4 +1,5 @@
 //! Calls whose memory runs out: the address space is used up, but for a reserve that is larger from run to run.
+
 use crate::memory::Hashes;
 use crate::requests::{request, texts};
 use crate::scans::{MOTOR, program, stored};

@@ -1,4 +1,5 @@
 //! Texts of states, read and written over memory.
+
 use crate::memory::{ENDS, with_room, without_end};
 use crate::scans::{MOTOR, program};
 use ladder_scan::{Memory, State};

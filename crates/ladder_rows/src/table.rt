@@ -1,4 +1,5 @@
 //! The search on a table of sixteen numbers.
+
 ghost use Rattle.std.specs.Prelude.{◌≡◌, ◌≤◌, ◌+◌, ◌^◌, IfOk, length, not};
 ghost use Rattle.std.specs.List.{list_all};
 ghost use Rattle.ladder_rows.specs.Table.{common, pair, part, table_search};

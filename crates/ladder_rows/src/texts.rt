@@ -1,4 +1,5 @@
 //! The reading of whole texts.
+
 use crate::memory::Hashes;
 use ladder_sim::{Reading, TextFault, read_text};
 

@@ -1,4 +1,5 @@
 //! Cross-references, written over memory.
+
 use crate::memory::{End, with_room, without_end};
 use crate::scans::{MOTOR, program};
 use crate::states::EDGES;

@@ -1,4 +1,5 @@
 //! What the arguments of a command line ask for.
+
 use ladder_tool::{Request, WordFault, read_words};
 use std::alloc::{AllocError, Global};
 

@@ -5,18 +5,13 @@ ghost use Rattle.ladder_vars.specs.Decls.{is_input};
 ghost use Rattle.ladder_scan.specs.Scan.{given};
 
 use crate::signal::Signal;
-use ladder_vars::{Decls, Var, VarKind};
+use ladder_vars::{Decls, Var};
 
 fn is_input_at(vars: &[Var], number: usize) -> bool
     ensures { result ≡ slice_index_or (map is_input vars.now) number false }
 {
     match vars.get(number) {
-        Some(var) => {
-            match var.kind {
-                VarKind::Input => true,
-                VarKind::Output | VarKind::Memory => false,
-            }
-        }
+        Some(var) => var.is_input(),
         None => false,
     }
 }

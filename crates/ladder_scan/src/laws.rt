@@ -1,4 +1,5 @@
 //! Laws over the definitions: each function does nothing, and its contract is the law.
+
 ghost use Rattle.ladder_scan.specs.Relations.{AllowsAt, IsKept, allows_kept};
 ghost use Rattle.ladder_scan.specs.Laws.{FollowsJumps, LookAllows, LookIsScan, LookKeeps};
 ghost use Rattle.ladder_scan.specs.Programs.{diagram_of};

@@ -132,21 +132,11 @@ fn know_ends<S: Signal>(blocks: &[Stored], ends: &mut [S])
     }
 }
 
-/// The Q of each instance.
-fn copy_ends(blocks: &[Stored], ends: &mut [bool])
-    requires { length ends.old ≡ length blocks.now }
-    ensures { ends.new ≡ map q_of blocks.now }
-{
-    for inst in 0..blocks.len() {
-        ends[inst] = blocks[inst].q();
-    }
-}
-
 /// What contacts see from the start of a rung on.
 pub(crate) fn copy_start(storage: &Storage, start: &mut Signals<bool>)
     requires { SameSizes start.old storage.now }
     ensures { start.new ≡ frame_of storage.now }
 {
     start.values.copy_from_slice(&storage.values);
-    copy_ends(&storage.blocks, &mut start.ends);
+    know_ends(&storage.blocks, &mut start.ends);
 }

@@ -1,5 +1,6 @@
 -- One cause more that a cursor has given.
-use Rattle.std.proofs.Common.{◌≡◌, ◌∙◌, ◌+◌, ◌≤◌, ℕ, zero, suc, List, [], ◌∷◌, ◌++◌, sym, refl, add-one, ap, arith, drop, length, take}
+use Rattle.std.proofs.Common.{◌≡◌, ◌∙◌, ◌+◌, ◌≤◌, ℕ, zero, suc, List, [], ◌∷◌, ◌++◌, sym, refl, add-one, ap, arith, drop, length, take, Result, Ok, Err}
+use Rattle.std.specs.Prelude.{IsErr, MatchResult}
 use Rattle.ladder_search.specs.Looks.{Search, looks_until}
 use Rattle.ladder_causes.specs.Cursor.{Cursor, Takes, looks_of, looks_through, searched}
 
@@ -56,3 +57,9 @@ going_on old a b count n g first program listed search looks =
           ∙ until_last (searched old) (looks_of old) (take count old.rest) n);
       within = room_for_one old.rest b.rest n count left;
     }
+
+-- what was taken before a fault
+pub takes_err : {E : Type 0} (old new : Cursor) (r : Result ℕ E) (count : ℕ) → IsErr r → Takes old new count
+    → MatchResult r (λ n. Takes old new n) (λ fault. (n : ℕ) × Takes old new n)
+takes_err old new (Ok n) count e h = cc
+takes_err old new (Err fault) count e h = (count, h)

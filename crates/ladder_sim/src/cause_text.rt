@@ -1,4 +1,5 @@
 //! The text of a list of causes.
+
 ghost use Rattle.std.specs.Prelude.{◌≡◌, ◌≢◌, ◌+◌, ◌*◌, ◌<◌, ◌≤◌, ◌++◌, ◌∷◌, ◌^◌, [], ℕ, IfOk, MatchResult, Some, codes, decimal, false, length, map, slice_get, take, true};
 ghost use Rattle.ladder_causes.specs.Assignment.{bit_of};
 ghost use Rattle.ladder_causes.specs.Cursor.{Takes, looks_given, looks_of, searched};
@@ -11,8 +12,8 @@ ghost use Rattle.ladder_sim.specs.Kept.{IsKept};
 ghost use Rattle.ladder_text.specs.Log.{Puts};
 ghost use Rattle.ladder_sim.specs.declared.cause_text.TheConstants.{DIGITS, ROW};
 
-use super::kept::Kept;
-use super::near::Near;
+use crate::kept::Kept;
+use crate::near::Near;
 use itoa::write_digits;
 use ladder_causes::Causes;
 use ladder_grid::Program;
@@ -43,9 +44,7 @@ fn add_name<W: Sink>(
 ) -> Result<(), WriteFault>
     ensures { Sends (W.log writer.old) (W.log writer.new) block.old block.new result (codes "," ++ name_in (slice_get decls.now.vars var)) }
 {
-    let Ok(()) = block.add(b",", writer) else {
-        return Err(WriteFault);
-    };
+    block.add(b",", writer)?;
     block.add(name_bytes(decls, var), writer)
 }
 
@@ -58,9 +57,7 @@ fn add_names<W: Sink>(
     ensures { Sends (W.log writer.old) (W.log writer.new) block.old block.new result (after_commas (map (λ v. name_in (slice_get decls.now.vars v)) listed.now)) }
 {
     for var in listed {
-        let Ok(()) = add_name(block, decls, *var, writer) else {
-            return Err(WriteFault);
-        };
+        add_name(block, decls, *var, writer)?;
     }
     Ok(())
 }
@@ -73,12 +70,8 @@ fn add_header<W: Sink>(
 ) -> Result<(), WriteFault>
     ensures { Sends (W.log writer.old) (W.log writer.new) block.old block.new result (header program.now listed.now) }
 {
-    let Ok(()) = block.add(b"number", writer) else {
-        return Err(WriteFault);
-    };
-    let Ok(()) = add_names(block, program.decls(), listed, writer) else {
-        return Err(WriteFault);
-    };
+    block.add(b"number", writer)?;
+    add_names(block, program.decls(), listed, writer)?;
     block.add(b"\n", writer)
 }
 
@@ -184,9 +177,7 @@ fn add_rows<W: Sink>(
         let Some(number) = causes.next() else {
             return Ok(count);
         };
-        let Ok(()) = add_row(block, &mut kept, listed, number, writer) else {
-            return Err(WriteFault);
-        };
+        add_row(block, &mut kept, listed, number, writer)?;
         count += 1;
     }
 }
@@ -215,15 +206,9 @@ pub fn write_causes<W: Sink>(
 {
     let mut block = Block::new();
     let listed = causes.free().len();
-    let Ok(()) = add_header(&mut block, causes.program(), causes.free(), writer) else {
-        return Err(WriteFault);
-    };
-    let Ok(rows) = add_rows(&mut block, causes, listed, limit, writer) else {
-        return Err(WriteFault);
-    };
-    let Ok(()) = block.flush(writer) else {
-        return Err(WriteFault);
-    };
+    add_header(&mut block, causes.program(), causes.free(), writer)?;
+    let rows = add_rows(&mut block, causes, listed, limit, writer)?;
+    block.flush(writer)?;
     Ok(Summary {
         rows,
         looks: causes.looks(),

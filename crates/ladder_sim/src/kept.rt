@@ -1,10 +1,11 @@
 //! A row that is kept: the rows of the next numbers mostly differ from it in the last digits and bits alone.
+
 ghost use Rattle.std.specs.Prelude.{◌≡◌, ◌+◌, ◌*◌, ◌<◌, ◌≤◌, ℕ, length, take};
 ghost use Rattle.ladder_sim.specs.Rows.{row};
 ghost use Rattle.ladder_sim.specs.Kept.{ArePairs, AreTails, IsKept, IsNear};
 ghost use Rattle.ladder_sim.specs.declared.cause_text.TheConstants.{DIGITS, ROW};
 
-use super::cause_text::{DIGITS, ROW, fill_end, write_row};
+use crate::cause_text::{DIGITS, ROW, fill_end, write_row};
 
 /// How many bytes of a row are copied, whatever its length: a copy of a fixed length needs no test. A longer row is near no other.
 const COPIED: usize = 80;

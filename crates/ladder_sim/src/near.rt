@@ -1,9 +1,10 @@
 //! The row of a number near the one whose row is kept.
+
 ghost use Rattle.std.specs.Prelude.{◌≡◌, ◌<◌, ◌≤◌};
 ghost use Rattle.ladder_sim.specs.Rows.{row};
 ghost use Rattle.ladder_sim.specs.Kept.{IsKept};
 
-use super::kept::Kept;
+use crate::kept::Kept;
 use ladder_text::Short;
 use std::marker::Model;
 

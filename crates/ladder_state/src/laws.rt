@@ -1,4 +1,5 @@
 //! Laws of the texts of states: each function changes nothing, and its contract is the law.
+
 ghost use Rattle.ladder_grid.specs.Program.{Drawing};
 ghost use Rattle.ladder_state.specs.Laws.{ReadsBack, TellsOneState};
 ghost use Rattle.ladder_state.specs.Named.{AreNamed};

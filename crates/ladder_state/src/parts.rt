@@ -1,4 +1,5 @@
 //! The records of all variables, memories and instances, one after the other.
+
 ghost use Rattle.std.specs.Prelude.{◌≡◌, ◌<◌, ◌≤◌, ◌+◌, ◌*◌, List, ⊤, length, map, IfOk, IfSome};
 ghost use Rattle.ladder_grid.specs.declared.geometry.TheConstants.{PLACES, RUNGS};
 ghost use Rattle.ladder_grid.specs.Program.{cell_in, has_memory, memories_of, IsWhole};
@@ -28,9 +29,7 @@ fn next_value(
     ensures plain { IfOk result (λ _. IsPlain records.new) }
     ensures takes { (rows : List Fields) → Left records.old rows → IfOk result (λ o. TakesItem (var_record var.now) (λ _. ⊤) rows records.new o) }
 {
-    let Ok(found) = next(records, row) else {
-        return Err(AllocError);
-    };
+    let found = next(records, row)?;
     if !found {
         return Ok(None);
     }
@@ -73,7 +72,12 @@ fn has_memory(cell: Cell) -> bool
 {
     match cell {
         Cell::Contact { memory, .. } | Cell::Coil { memory, .. } => memory.is_some(),
-        _ => false,
+        Cell::Empty
+        | Cell::Wire
+        | Cell::Block { .. }
+        | Cell::Lower { .. }
+        | Cell::Jump { .. }
+        | Cell::Return => false,
     }
 }
 
@@ -96,9 +100,7 @@ fn next_memory(
     ensures plain { IfOk result (λ _. IsPlain records.new) }
     ensures takes { (rows : List Fields) → Left records.old rows → IfOk result (λ o. TakesItem (memory_record place) (λ _. ⊤) rows records.new o) }
 {
-    let Ok(found) = next(records, row) else {
-        return Err(AllocError);
-    };
+    let found = next(records, row)?;
     if !found {
         return Ok(None);
     }
@@ -153,9 +155,7 @@ fn next_block(
     ensures can { IfOk result (λ o. IfSome o (CanStore instance.now.kind moment)) }
     ensures takes { (rows : List Fields) → Left records.old rows → IfOk result (λ o. TakesItem (block_record instance.now.name) (CanStore instance.now.kind moment) rows records.new o) }
 {
-    let Ok(found) = next(records, row) else {
-        return Err(AllocError);
-    };
+    let found = next(records, row)?;
     if !found {
         return Ok(None);
     }

@@ -1,4 +1,5 @@
 //! The reading of a state.
+
 ghost use Rattle.std.specs.Prelude.{◌≡◌, ◌<◌, ◌^◌, List, ⊤, IfOk};
 ghost use Rattle.ladder_records.specs.Left.{Fields, IsPlain, Left};
 ghost use Rattle.ladder_records.specs.Text.{records_of};
@@ -26,9 +27,7 @@ fn next_version(
     ensures plain { IfOk result (λ _. IsPlain records.new) }
     ensures takes { (rows : List Fields) → Left records.old rows → IfOk result (λ o. TakesItem version_record (λ _. ⊤) rows records.new o) }
 {
-    let Ok(found) = next(records, row) else {
-        return Err(AllocError);
-    };
+    let found = next(records, row)?;
     if !found {
         return Ok(None);
     }
@@ -41,9 +40,7 @@ fn next_moment(records: &mut Records<'_>, row: &mut ByteRecord) -> Result<Option
     ensures plain { IfOk result (λ _. IsPlain records.new) }
     ensures takes { (rows : List Fields) → Left records.old rows → IfOk result (λ o. TakesItem moment_record (λ n. n < 2 ^ 64) rows records.new o) }
 {
-    let Ok(found) = next(records, row) else {
-        return Err(AllocError);
-    };
+    let found = next(records, row)?;
     if !found {
         return Ok(None);
     }

@@ -1,4 +1,5 @@
 //! One record of a state.
+
 ghost use Rattle.std.specs.Prelude.{◌≡◌, ◌≢◌, ◌<◌, ◌≤◌, ◌*◌, ◌^◌, ◌∷◌, [], ℕ, Bool, None, IfSome, false, true, codes};
 ghost use Rattle.csv.specs.Records.{field_at, fields_of};
 ghost use Rattle.ladder_grid.specs.declared.geometry.TheConstants.{PLACES, RUNGS};

@@ -1,4 +1,5 @@
 //! The versions of the state text.
+
 ghost use Rattle.std.specs.Prelude.{◌≡◌, ◌≢◌, None, IfSome};
 ghost use Rattle.csv.specs.Records.{fields_of};
 ghost use Rattle.ladder_scan.specs.Blocks.{new_block};

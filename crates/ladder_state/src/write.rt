@@ -1,4 +1,5 @@
 //! The writing of a state.
+
 ghost use Rattle.std.specs.Prelude.{◌≡◌, ◌*◌, ◌<◌, ◌∷◌, [], codes, length};
 ghost use Rattle.ladder_grid.specs.declared.geometry.TheConstants.{PLACES, RUNGS};
 ghost use Rattle.ladder_grid.specs.Program.{memories_of};
@@ -66,9 +67,7 @@ fn add_vars<W: Sink>(
     ensures { Sends (W.log writer.old) (W.log writer.new) block.old block.new result (lines_text (each var_records vars.now state.now.held.values)) }
 {
     for number in 0..vars.len() {
-        let Ok(()) = add_var(block, &vars[number], state.value(number), writer) else {
-            return Err(WriteFault);
-        };
+        add_var(block, &vars[number], state.value(number), writer)?;
     }
     Ok(())
 }
@@ -108,9 +107,7 @@ fn add_memories<W: Sink>(
         if !is_memory_place(program, place) {
             continue;
         }
-        let Ok(()) = add_memory(block, place, state.memory(number), writer) else {
-            return Err(WriteFault);
-        };
+        add_memory(block, place, state.memory(number), writer)?;
         number += 1;
     }
     Ok(())
@@ -233,9 +230,7 @@ fn add_blocks<W: Sink>(
 {
     for number in 0..instances.len() {
         let name = instances[number].name.bytes();
-        let Ok(()) = add_block(block, name, state.block(number), writer) else {
-            return Err(WriteFault);
-        };
+        add_block(block, name, state.block(number), writer)?;
     }
     Ok(())
 }
@@ -250,12 +245,8 @@ fn add_items<W: Sink>(
     requires { IsStateOf program.now state.now }
     ensures { Sends (W.log writer.old) (W.log writer.new) block.old block.new result (lines_text (item_records Second program.now state.now)) }
 {
-    let Ok(()) = add_vars(block, program.decls().vars(), state, writer) else {
-        return Err(WriteFault);
-    };
-    let Ok(()) = add_memories(block, program, state, writer) else {
-        return Err(WriteFault);
-    };
+    add_vars(block, program.decls().vars(), state, writer)?;
+    add_memories(block, program, state, writer)?;
     add_blocks(block, program.decls().instances(), state, writer)
 }
 
@@ -268,12 +259,8 @@ fn add_state<W: Sink>(
     requires { IsStateOf program.now state.now }
     ensures { Sends (W.log writer.old) (W.log writer.new) block.old block.new result (state_text program.now state.now) }
 {
-    let Ok(()) = add_version(block, writer) else {
-        return Err(WriteFault);
-    };
-    let Ok(()) = add_moment(block, state.moment(), writer) else {
-        return Err(WriteFault);
-    };
+    add_version(block, writer)?;
+    add_moment(block, state.moment(), writer)?;
     add_items(block, program, state, writer)
 }
 
@@ -292,11 +279,7 @@ pub fn write_state<W: Sink>(
 {
     state.checked();
     let mut block = Block::new();
-    let Ok(()) = add_state(&mut block, program, state, writer) else {
-        return Err(WriteFault);
-    };
-    let Ok(()) = block.flush(writer) else {
-        return Err(WriteFault);
-    };
+    add_state(&mut block, program, state, writer)?;
+    block.flush(writer)?;
     Ok(())
 }

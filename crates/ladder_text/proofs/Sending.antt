@@ -1,5 +1,6 @@
 -- Texts that are written through a buffer, one after the other.
 use Rattle.std.proofs.Common.{◌≡◌, ◌∙◌, ℕ, List, [], ◌++◌, sym, subst, ap, append_assoc, append-nil, Result, Ok, Err}
+use Rattle.std.specs.Result.{IsErr}
 use Rattle.ladder_text.specs.Block.{Sends, SendsAll}
 use Rattle.ladder_text.specs.Log.{Puts, PutsAll, PutsPrefix, WriteLog}
 use Rattle.ladder_text.proofs.Puts.{prefix_after, puts_more, puts_none}
@@ -21,6 +22,15 @@ sends_more a b c w0 w1 w2 text more p q = record {
 
 pub sends_same : (a b : WriteLog) (w0 w1 text other : List ℕ) → text ≡ other → SendsAll a b w0 w1 text → SendsAll a b w0 w1 other
 sends_same a b w0 w1 text other e p = record { sent = p.sent; cut = rw (← e) p.cut; wrote = p.wrote }
+
+-- what a part left that failed, handed on with its fault
+pub sends_err : {T E : Type 0} (a b : WriteLog) (w0 w1 : List ℕ) (r : Result T E) (text : List ℕ) → IsErr r → PutsPrefix a b (w0 ++ text) → Sends a b w0 w1 r text
+sends_err a b w0 w1 (Ok x) text e p = cc
+sends_err a b w0 w1 (Err x) text e p = p
+
+pub puts_err : {T E : Type 0} (a b : WriteLog) (r : Result T E) (text : List ℕ) → IsErr r → PutsPrefix a b text → Puts a b r text
+puts_err a b (Ok x) text e p = cc
+puts_err a b (Err x) text e p = p
 
 -- a write that fails in the next part leaves a prefix of the whole
 pub sends_prefix : (a b c : WriteLog) (w0 w1 whole text more after : List ℕ) → whole ≡ text ++ (more ++ after) → SendsAll a b w0 w1 text → PutsPrefix b c (w1 ++ more)

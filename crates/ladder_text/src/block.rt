@@ -1,12 +1,13 @@
 //! A buffer of bytes to be written, many in one call.
+
 ghost use Rattle.std.specs.Prelude.{◌≡◌, ◌+◌, ◌≤◌, ◌++◌, [], IfOk, length, take};
 ghost use Rattle.ladder_text.specs.Block.{Sends};
 ghost use Rattle.ladder_text.specs.Log.{Puts};
 ghost use Rattle.ladder_text.specs.declared.short.TheConstants.{SHORT};
 
-use super::fault::WriteFault;
-use super::short::{SHORT, Short};
-use super::sink::{Sink, put};
+use crate::fault::WriteFault;
+use crate::short::{SHORT, Short};
+use crate::sink::{Sink, put};
 use std::marker::Model;
 
 /// How many bytes a block holds.
@@ -72,9 +73,7 @@ impl Block {
     fn write_through<W: Sink>(&mut self, piece: &[u8], writer: &mut W) -> Result<(), WriteFault>
         ensures { Sends (W.log writer.old) (W.log writer.new) self.old self.new result piece.now }
     {
-        let Ok(()) = self.flush(writer) else {
-            return Err(WriteFault);
-        };
+        self.flush(writer)?;
         if BLOCK < piece.len() {
             return put(writer, piece);
         }
@@ -130,9 +129,7 @@ impl Block {
     ) -> Result<(), WriteFault>
         ensures { Sends (W.log writer.old) (W.log writer.new) self.old self.new result (P.text piece.now) }
     {
-        let Ok(()) = self.make_room(writer) else {
-            return Err(WriteFault);
-        };
+        self.make_room(writer)?;
         self.take_short(piece);
         Ok(())
     }

@@ -1,4 +1,5 @@
 //! Why a text could not be read or written.
+
 use thiserror::Error;
 
 /// Why a text could not be read.

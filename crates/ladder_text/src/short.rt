@@ -1,4 +1,5 @@
 //! Short texts that write themselves into a buffer.
+
 ghost use Rattle.std.specs.Prelude.{◌≡◌, ◌≤◌, ℕ, List, length, take};
 
 /// The size of the buffer of a short text, in bytes. It is the same for each text, so that a text can copy more than its own

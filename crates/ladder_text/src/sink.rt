@@ -1,11 +1,12 @@
 //! Writers that count their calls, and the writing of a whole text.
+
 ghost use Rattle.std.specs.Prelude.{◌≡◌, ◌<◌, ◌≤◌, length, IfOk, OnOk, OnErr, false};
 ghost use Rattle.std.specs.Io.KnownBytes.{WriteAppends};
 ghost use Rattle.ladder_text.specs.Calls.{Fails, Passes};
 ghost use Rattle.ladder_text.specs.Log.{Puts, WriteLog};
 
-use super::fault::WriteFault;
-use super::tally::Tally;
+use crate::fault::WriteFault;
+use crate::tally::Tally;
 use std::io::Write;
 
 /// A call of a writer failed, or it took no byte of a piece that has some.

@@ -1,10 +1,11 @@
 //! Readers that count their calls.
+
 ghost use Rattle.std.specs.Prelude.{◌≡◌, ◌≤◌, length, IfOk, OnOk, OnErr, false};
 ghost use Rattle.std.specs.Io.KnownBytes.{ReadConsumes};
 ghost use Rattle.ladder_text.specs.Calls.{Fails, Passes};
 ghost use Rattle.ladder_text.specs.Log.{ReadLog};
 
-use super::tally::Tally;
+use crate::tally::Tally;
 use std::io::Read;
 
 /// A call of a reader failed: any error is a failure, an interruption too.

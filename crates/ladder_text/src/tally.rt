@@ -1,4 +1,5 @@
 //! The count of a reader's or writer's calls.
+
 ghost use Rattle.std.specs.Prelude.{◌≡◌, ◌<◌, ◌≤◌, ◌^◌, ◌-◌, ◌↔◌, IsTrue, false};
 
 /// How many calls of a reader or a writer there were, how many of them failed, and whether the last one did.

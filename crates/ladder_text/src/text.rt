@@ -1,9 +1,10 @@
 //! The reading of a whole text.
+
 ghost use Rattle.std.specs.Prelude.{◌≡◌, ◌⊎◌, ◌<◌, ◌≤◌, ◌+◌, length, vec_len, IfOk, IfSome, IsErrOf};
 ghost use Rattle.ladder_text.specs.Calls.{AllPass, LastFails};
 
-use super::fault::TextFault;
-use super::source::Source;
+use crate::fault::TextFault;
+use crate::source::Source;
 use std::alloc::Global;
 
 /// Reads all bytes of a reader, at most `limit`. It stops at the first byte past the limit, so a reader

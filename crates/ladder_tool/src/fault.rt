@@ -1,4 +1,5 @@
 //! What stops a request, and the line that says so.
+
 ghost use Rattle.std.specs.Prelude.{◌≡◌};
 ghost use Rattle.ladder_text.specs.Log.{Puts};
 ghost use Rattle.ladder_tool.specs.FaultLine.{bad_row_line, cause_number, fault_line, grid_number, kind_word, row_line, sim_line, text_line, var_line, var_number};

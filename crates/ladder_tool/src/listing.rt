@@ -1,15 +1,16 @@
 //! A request for the causes of a coil.
+
 ghost use Rattle.std.specs.Prelude.{◌≡◌, ◌≤◌, unwrap_or};
 ghost use Rattle.ladder_text.specs.Log.{Puts};
 ghost use Rattle.ladder_tool.specs.Asked.{asking_of};
 ghost use Rattle.ladder_tool.specs.Performs.{CountsList, FailsList, rows_line};
 ghost use Rattle.ladder_tool.specs.Setting.{given_by};
 
-use super::fault::ToolFault;
-use super::report::report;
-use super::request::Texts;
-use super::setting::read_setting;
-use super::variables::asked_variables;
+use crate::fault::ToolFault;
+use crate::report::report;
+use crate::request::Texts;
+use crate::setting::read_setting;
+use crate::variables::asked_variables;
 use ladder_causes::Causes;
 use ladder_sim::{Summary, write_causes};
 use ladder_text::{Piece, Sink, WriteFault, put_pieces};

@@ -1,12 +1,13 @@
 //! What is done for a request.
+
 ghost use Rattle.std.specs.Prelude.{◌≡◌, ◌≤◌};
 ghost use Rattle.ladder_tool.specs.Performs.{IsDone, IsFailed, logs};
 ghost use Rattle.ladder_tool.specs.Setting.{given_by};
 
-use super::listing::{Asking, list_causes};
-use super::printing::{About, print};
-use super::request::{Request, Texts};
-use super::tracing::trace;
+use crate::listing::{Asking, list_causes};
+use crate::printing::{About, print};
+use crate::request::{Request, Texts};
+use crate::tracing::trace;
 use ladder_text::Sink;
 use std::alloc::Global;
 

@@ -1,11 +1,12 @@
 //! A request for a text about a program alone: its check or its cross-reference.
+
 ghost use Rattle.std.specs.Prelude.{◌≡◌, ◌≤◌};
 ghost use Rattle.ladder_text.specs.Log.{Puts};
 ghost use Rattle.ladder_tool.specs.Asked.{about_text};
 ghost use Rattle.ladder_tool.specs.Performs.{FailsPrint, Prints, check_line};
 
-use super::fault::ToolFault;
-use super::report::report;
+use crate::fault::ToolFault;
+use crate::report::report;
 use ladder_grid::{Program, read_program};
 use ladder_sim::write_uses;
 use ladder_text::{Piece, Sink, WriteFault, put_pieces};

@@ -1,11 +1,12 @@
 //! The whole program, from its arguments to its status.
+
 ghost use Rattle.std.specs.Prelude.{◌≤◌};
 
-use super::fault::{TextKind, ToolFault, write_fault};
-use super::performing::perform;
-use super::request::{Request, Texts, WordFault};
-use super::saving::SavedFile;
-use super::words::read_words;
+use crate::fault::{TextKind, ToolFault, write_fault};
+use crate::performing::perform;
+use crate::request::{Request, Texts, WordFault};
+use crate::saving::SavedFile;
+use crate::words::read_words;
 use ladder_text::{Reading, TextFault, Writing, put, read_text};
 use std::alloc::Global;
 use std::fs::File;
@@ -60,7 +61,10 @@ fn run_request(rt: &HostRuntime, alloc: Global, request: &Request) -> u8
             &texts,
             SavedFile::new(rt, path.as_str()),
         ),
-        _ => perform_saving(rt, alloc, request, &texts, io::sink()),
+        Request::Sim { save: None, .. }
+        | Request::Check { .. }
+        | Request::Causes { .. }
+        | Request::Uses { .. } => perform_saving(rt, alloc, request, &texts, io::sink()),
     }
 }
 

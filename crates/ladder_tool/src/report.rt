@@ -1,8 +1,9 @@
 //! The report of a fault.
+
 ghost use Rattle.std.specs.Prelude.{◌≡◌};
 ghost use Rattle.ladder_tool.specs.Performs.{IsReported};
 
-use super::fault::{ToolFault, write_fault};
+use crate::fault::{ToolFault, write_fault};
 use ladder_text::Sink;
 
 /// Writes the line of a fault, as far as the writer takes it. Returns the status 1.

@@ -1,4 +1,5 @@
 //! What the arguments of a command line ask for.
+
 use thiserror::Error;
 
 /// What the arguments ask for.

@@ -1,4 +1,5 @@
 //! The file that a state is saved to.
+
 use std::fs::File;
 use std::io::Write;
 use std::{fs, io};

@@ -1,10 +1,11 @@
 //! The program and the state that the texts of a request tell.
+
 ghost use Rattle.std.specs.Prelude.{IfErr, IfOk, option_map, vec_items};
 ghost use Rattle.ladder_scan.specs.Standing.{Fits};
 ghost use Rattle.ladder_tool.specs.Setting.{HasSettingFault, HasState, IsNoState, IsSet, given_by};
 
-use super::fault::{TextKind, ToolFault};
-use super::request::Texts;
+use crate::fault::{TextKind, ToolFault};
+use crate::request::Texts;
 use ladder_grid::{Program, read_program};
 use ladder_scan::State;
 use ladder_sim::read_state;

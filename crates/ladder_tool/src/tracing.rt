@@ -1,4 +1,5 @@
 //! A request for the trace of a stimulus.
+
 ghost use Rattle.std.specs.Prelude.{◌≡◌, ◌≤◌, [], OnErr, OnOk, true, unwrap_or};
 ghost use Rattle.ladder_scan.specs.Standing.{Fits};
 ghost use Rattle.ladder_state.specs.StateText.{state_text};
@@ -6,10 +7,10 @@ ghost use Rattle.ladder_text.specs.Log.{PutsPrefix};
 ghost use Rattle.ladder_tool.specs.Performs.{FailsTrace, IsSaved, IsTraced, logs};
 ghost use Rattle.ladder_tool.specs.Setting.{given_by};
 
-use super::fault::ToolFault;
-use super::report::report;
-use super::request::Texts;
-use super::setting::read_setting;
+use crate::fault::ToolFault;
+use crate::report::report;
+use crate::request::Texts;
+use crate::setting::read_setting;
 use ladder_grid::Program;
 use ladder_scan::State;
 use ladder_sim::{simulate, write_state};

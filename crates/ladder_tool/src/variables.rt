@@ -1,15 +1,16 @@
 //! The variables that arguments name.
+
 ghost use Rattle.std.specs.Prelude.{◌≡◌, ◌∷◌, IfOk, IfErr, List, Some, ℕ, map, string_bytes};
 ghost use Rattle.ladder_tool.specs.Variables.{AreVariables, variable_of};
 ghost use Rattle.ladder_tool.specs.Performs.{HasWordFault};
 
-use super::fault::ToolFault;
+use crate::fault::ToolFault;
 use ladder_vars::{Decls, Name, Symbol};
 use std::alloc::Global;
 
 /// The variables that a request for causes is about, by their numbers in order of declaration.
 #[derive(Drop)]
-pub(crate) struct Asked {
+pub(crate) struct CauseVariables {
     pub coil: usize,
     pub inputs: Vec<usize>,
 }
@@ -21,7 +22,7 @@ fn variable(decls: &Decls, word: &str) -> Option<usize>
     match Name::new(word.as_bytes()) {
         Some(name) => match decls.find(&name) {
             Some(Symbol::Var(number)) => Some(number),
-            _ => None,
+            Some(Symbol::Instance(_)) | None => None,
         },
         None => None,
     }
@@ -33,7 +34,7 @@ pub(crate) fn asked_variables(
     decls: &Decls,
     coil: &str,
     inputs: &[String],
-) -> Result<Asked, ToolFault>
+) -> Result<CauseVariables, ToolFault>
     ensures coil { IfOk result (λ a. variable_of decls.now coil.now ≡ Some a.coil) }
     ensures inputs { IfOk result (λ a. AreVariables decls.now (map string_bytes inputs.now) a.inputs.items) }
     ensures fault { IfErr result (HasWordFault decls.now (coil.now ∷ map string_bytes inputs.now)) }
@@ -42,7 +43,7 @@ pub(crate) fn asked_variables(
         return Err(ToolFault::Word { number: 1 });
     };
     match input_variables(alloc, decls, inputs) {
-        Ok(inputs) => Ok(Asked { coil, inputs }),
+        Ok(inputs) => Ok(CauseVariables { coil, inputs }),
         Err(fault) => Err(fault),
     }
 }

@@ -1,12 +1,13 @@
 //! From the arguments of a command line to a request.
+
 ghost use Rattle.std.specs.Prelude.{◌≡◌, [], codes, IfSome, IsSome, OnOk, IfOk, IfErr, map, option_map, string_bytes, unwrap_or, Some};
 ghost use Rattle.clap.specs.Words.{all_of, first_of, found_of, rows_of, subcommand_rows_of};
 ghost use Rattle.clap.specs.Words.{fault_of as clap_fault};
 ghost use Rattle.ladder_tool.specs.CommandLine.{ladder_app};
 ghost use Rattle.ladder_tool.specs.Asking.{Asks, AsksBy, HasNumber, HasPath};
 
-use super::command::ladder;
-use super::request::{Request, WordFault};
+use crate::command::ladder;
+use crate::request::{Request, WordFault};
 use clap::ArgMatches;
 use clap::error::ErrorKind;
 use std::alloc::Global;

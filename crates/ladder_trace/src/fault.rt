@@ -1,4 +1,5 @@
 //! Why a simulation ends early.
+
 use thiserror::Error;
 
 /// Why a simulation ends before the end of its stimulus. Records are counted from 1, the header included.

@@ -1,4 +1,5 @@
 //! The header of a stimulus: the inputs that it names.
+
 ghost use Rattle.std.specs.Prelude.{◌≡◌, ◌<◌, ◌≤◌, ◌==◌, [], All, List, IfErr, IfOk, IfSome, count_by, length, slice_index_or, take};
 ghost use Rattle.std.specs.List.{list_any};
 ghost use Rattle.csv.specs.Records.{field_at, fields_of};
@@ -10,24 +11,15 @@ ghost use Rattle.ladder_trace.specs.Stimulus.{input_named, place_of, IsHeader};
 
 use crate::fault::SimFault;
 use csv::ByteRecord;
-use ladder_vars::{Decls, Name, Symbol, Var, VarKind};
+use ladder_vars::{Decls, Name, Symbol, Var};
 use std::alloc::Global;
-
-pub(crate) fn is_input(var: &Var) -> bool
-    ensures { result ≡ is_input var.now }
-{
-    match var.kind {
-        VarKind::Input => true,
-        VarKind::Output | VarKind::Memory => false,
-    }
-}
 
 /// How many inputs are declared before the variable of a number.
 fn inputs_before(vars: &[Var], number: usize) -> usize
     requires { number ≤ length vars.now }
     ensures { result ≡ count_by is_input (take number vars.now) }
 {
-    vars[..number].iter().filter(|var| is_input(var)).count()
+    vars[..number].iter().filter(|var| var.is_input()).count()
 }
 
 /// The place of a variable among the inputs, where it is one.
@@ -38,7 +30,7 @@ fn place_of(vars: &[Var], number: usize) -> Option<usize>
     if vars.len() <= number {
         return None;
     }
-    if !is_input(&vars[number]) {
+    if !vars[number].is_input() {
         return None;
     }
     Some(inputs_before(vars, number))

@@ -1,4 +1,5 @@
 //! A record of a stimulus after the header, and the input image that it asks for.
+
 ghost use Rattle.std.specs.Prelude.{◌≡◌, ◌<◌, ◌+◌, All, IfSome, None, count_by, drop, length, map};
 ghost use Rattle.csv.specs.Records.{field_at, fields_of};
 ghost use Rattle.ladder_vars.specs.Decls.{is_input};
@@ -7,7 +8,6 @@ ghost use Rattle.ladder_trace.specs.Simulation.{IsNoRow};
 ghost use Rattle.ladder_trace.specs.Stimulus.{given_by, IsRow};
 ghost use Rattle.ladder_trace.specs.Trace.{chosen};
 
-use crate::header::is_input;
 use csv::ByteRecord;
 use ladder_records::read_number;
 use ladder_scan::State;
@@ -68,7 +68,7 @@ pub(crate) fn fill_inputs(vars: &[Var], state: &State, image: &mut [bool])
 {
     let mut place = 0;
     for number in 0..vars.len() {
-        if !is_input(&vars[number]) {
+        if !vars[number].is_input() {
             continue;
         }
         image[place] = state.value(number);

@@ -1,4 +1,5 @@
 //! The simulation of a stimulus, record by record.
+
 ghost use Rattle.std.specs.Prelude.{◌<◌, All, List, OnOk, count_by};
 ghost use Rattle.csv.specs.Records.{fields_of};
 ghost use Rattle.ladder_records.specs.Left.{Fields, IsPlain, Left};

@@ -1,4 +1,5 @@
 //! The writing of a trace.
+
 ghost use Rattle.std.specs.Prelude.{◌≡◌, [], OnOk, decimal, map, length};
 ghost use Rattle.ladder_records.specs.Text.{after_commas, bit_text};
 ghost use Rattle.ladder_scan.specs.Standing.{Fits};
@@ -31,9 +32,7 @@ fn add_names<W: Sink>(block: &mut Block, vars: &[Var], writer: &mut W) -> Result
         if !is_output(var) {
             continue;
         }
-        let Ok(()) = add_field(block, var.name.bytes(), writer) else {
-            return Err(WriteFault);
-        };
+        add_field(block, var.name.bytes(), writer)?;
     }
     Ok(())
 }
@@ -45,12 +44,8 @@ fn add_header<W: Sink>(
 ) -> Result<(), WriteFault>
     ensures { Sends (W.log writer.old) (W.log writer.new) block.old block.new result (trace_header program.now) }
 {
-    let Ok(()) = block.add(b"moment", writer) else {
-        return Err(WriteFault);
-    };
-    let Ok(()) = add_names(block, program.decls().vars(), writer) else {
-        return Err(WriteFault);
-    };
+    block.add(b"moment", writer)?;
+    add_names(block, program.decls().vars(), writer)?;
     block.add(b"\n", writer)
 }
 
@@ -64,12 +59,8 @@ pub(crate) fn write_header<W: Sink>(
     ensures wrote { Puts (W.log writer.old) (W.log writer.new) result (trace_header program.now) }
     ensures empty { OnOk result (block.new ≡ []) }
 {
-    let Ok(()) = add_header(block, program, writer) else {
-        return Err(WriteFault);
-    };
-    let Ok(()) = block.flush(writer) else {
-        return Err(WriteFault);
-    };
+    add_header(block, program, writer)?;
+    block.flush(writer)?;
     Ok(())
 }
 
@@ -87,9 +78,7 @@ fn add_bits<W: Sink>(
         if !is_output(&vars[number]) {
             continue;
         }
-        let Ok(()) = add_field(block, bit_field(state.value(number)), writer) else {
-            return Err(WriteFault);
-        };
+        add_field(block, bit_field(state.value(number)), writer)?;
     }
     Ok(())
 }
@@ -110,12 +99,8 @@ fn add_row<W: Sink>(
     requires { Fits program.now state.now }
     ensures { Sends (W.log writer.old) (W.log writer.new) block.old block.new result (trace_row program.now state.now) }
 {
-    let Ok(()) = add_moment(block, state.moment(), writer) else {
-        return Err(WriteFault);
-    };
-    let Ok(()) = add_bits(block, program.decls().vars(), state, writer) else {
-        return Err(WriteFault);
-    };
+    add_moment(block, state.moment(), writer)?;
+    add_bits(block, program.decls().vars(), state, writer)?;
     block.add(b"\n", writer)
 }
 
@@ -131,11 +116,7 @@ pub(crate) fn write_row<W: Sink>(
     ensures wrote { Puts (W.log writer.old) (W.log writer.new) result (trace_row program.now state.now) }
     ensures empty { OnOk result (block.new ≡ []) }
 {
-    let Ok(()) = add_row(block, program, state, writer) else {
-        return Err(WriteFault);
-    };
-    let Ok(()) = block.flush(writer) else {
-        return Err(WriteFault);
-    };
+    add_row(block, program, state, writer)?;
+    block.flush(writer)?;
     Ok(())
 }

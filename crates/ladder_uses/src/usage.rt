@@ -1,4 +1,5 @@
 //! What a cell uses, and how.
+
 ghost use Rattle.std.specs.Prelude.{◌≡◌, ◌*◌, ◌<◌};
 ghost use Rattle.ladder_grid.specs.declared.geometry.TheConstants.{PLACES};
 ghost use Rattle.ladder_grid.specs.Program.{cell_in};
@@ -58,7 +59,7 @@ fn same_symbol(a: Symbol, b: Symbol) -> bool
 {
     match (a, b) {
         (Symbol::Var(a), Symbol::Var(b)) | (Symbol::Instance(a), Symbol::Instance(b)) => a == b,
-        _ => false,
+        (Symbol::Var(_), Symbol::Instance(_)) | (Symbol::Instance(_), Symbol::Var(_)) => false,
     }
 }
 
@@ -68,7 +69,7 @@ fn use_of(symbol: Symbol, cell: Cell) -> Option<Use>
 {
     match use_in(cell) {
         Some((other, used)) if same_symbol(symbol, other) => Some(used),
-        _ => None,
+        Some(_) | None => None,
     }
 }
 

@@ -1,4 +1,5 @@
 //! The writing of a cross-reference.
+
 ghost use Rattle.std.specs.Prelude.{◌≡◌, ◌*◌, ◌+◌, ◌<◌, ◌≤◌, ◌∷◌, [], IfOk, Some, length, slice_get};
 ghost use Rattle.ladder_vars.specs.declared.limits.TheConstants.{MOST_INSTANCES, MOST_VARS};
 ghost use Rattle.ladder_grid.specs.declared.geometry.TheConstants.{PLACES, RUNGS};
@@ -78,9 +79,7 @@ fn add_places<W: Sink>(
         let Some(used) = use_at(program, symbol, place) else {
             continue;
         };
-        let Ok(()) = add_row(block, name, used, place, writer) else {
-            return Err(WriteFault);
-        };
+        add_row(block, name, used, place, writer)?;
         rows += 1;
     }
     Ok(rows)
@@ -114,15 +113,11 @@ fn add_symbol<W: Sink>(
     ensures few { IfOk result (λ n. n ≤ PLACES * RUNGS) }
 {
     let name = name_of(program.decls(), symbol);
-    let Ok(rows) = add_places(block, program, name, symbol, writer) else {
-        return Err(WriteFault);
-    };
+    let rows = add_places(block, program, name, symbol, writer)?;
     if 0 < rows {
         return Ok(rows);
     }
-    let Ok(()) = add_unused(block, name, writer) else {
-        return Err(WriteFault);
-    };
+    add_unused(block, name, writer)?;
     Ok(1)
 }
 
@@ -158,9 +153,7 @@ fn add_symbols<W: Sink>(
     let decls = program.decls();
     let mut total = 0u64;
     for number in 0..symbol_count(decls) {
-        let Ok(rows) = add_symbol(block, program, symbol_at(decls, number), writer) else {
-            return Err(WriteFault);
-        };
+        let rows = add_symbol(block, program, symbol_at(decls, number), writer)?;
         total += rows;
     }
     Ok(total)
@@ -175,9 +168,7 @@ fn add_uses<W: Sink>(
     ensures sends { Sends (W.log writer.old) (W.log writer.new) block.old block.new result (uses_text program.now) }
     ensures count { IfOk result (λ n. n ≡ length (use_rows program.now)) }
 {
-    let Ok(()) = add_header(block, writer) else {
-        return Err(WriteFault);
-    };
+    add_header(block, writer)?;
     add_symbols(block, program, writer)
 }
 
@@ -192,11 +183,7 @@ pub fn write_uses<W: Sink>(program: &Program, writer: &mut W) -> Result<u64, Wri
     ensures rows { IfOk result (λ n. n ≡ length (use_rows program.now)) }
 {
     let mut block = Block::new();
-    let Ok(rows) = add_uses(&mut block, program, writer) else {
-        return Err(WriteFault);
-    };
-    let Ok(()) = block.flush(writer) else {
-        return Err(WriteFault);
-    };
+    let rows = add_uses(&mut block, program, writer)?;
+    block.flush(writer)?;
     Ok(rows)
 }

@@ -42,6 +42,15 @@ pub struct Var {
     pub initial: bool,
 }
 
+impl Var {
+    /// Whether the variable is an input.
+    pub fn is_input(&self) -> bool
+        ensures { result ≡ is_input self.now }
+    {
+        self.kind == VarKind::Input
+    }
+}
+
 /// An instance of a function block.
 #[derive(Clone, Copy)]
 pub struct Instance {
@@ -277,10 +286,7 @@ impl Decls {
     pub fn inputs(&self) -> usize
         ensures { result ≡ count_by is_input self.now.vars }
     {
-        self.vars
-            .iter()
-            .filter(|v| v.kind == VarKind::Input)
-            .count()
+        self.vars.iter().filter(|var| var.is_input()).count()
     }
 
     /// How many inputs are declared before the first variable that is none.

@@ -1,6 +1,7 @@
 use Rattle.std.proofs.Common.{◌+◌, refl}
 use Rattle.ladder_sim.proofs.Limits.{added_prefix, added_more, added_none}
-use Rattle.ladder_sim.proofs.Taking.{going_none, going_on}
+use Rattle.ladder_sim.proofs.Taking.{going_none, going_on, takes_err}
+use Rattle.ladder_text.proofs.Sending.{sends_err}
 use Rattle.ladder_sim.proofs.cause_text.add_rows.Goals as goal
 
 pub loop-limit-init : goal.loop-limit-init
@@ -15,19 +16,18 @@ loop-limit-preserved g c =
     let steps = c.in-Some.ensures.steps in
     record {
       added = added_more _ _ _ _ _ _ _ _ _ _ c.loop-limit.causes.rest c.in-Some.number _ c.loop-limit.invariant.added steps.0
-          (c.if-is_reached.ensures.no refl) c.in-Ok.ensures.sends;
+          (c.if-is_reached.ensures.no refl) c.in_ok-add_row.ensures.sends;
       going = going_on c.args.causes.now c.loop-limit.causes _ c.loop-limit.count c.in-Some.number c.loop-limit.invariant.going steps.0 steps.1 steps.2 steps.3 steps.4;
-      kept = c.in-Ok.ensures.kept;
+      kept = c.in_ok-add_row.ensures.kept;
     }
 
-pub returns-in_default-add_row-clause-sends : goal.returns-in_default-add_row-clause-sends
-returns-in_default-add_row-clause-sends g c =
-    added_prefix _ _ _ _ _ _ _ _ _ c.loop-limit.causes.rest c.in-Some.number _ c.loop-limit.invariant.added c.in-Some.ensures.steps.0
-    (c.if-is_reached.ensures.no refl) c.in_default-add_row.ensures.sends
+pub returns-in_err-add_row-clause-sends : goal.returns-in_err-add_row-clause-sends
+returns-in_err-add_row-clause-sends g c = sends_err _ _ _ _ _ _ c.from_residual.ensures.0
+    (added_prefix _ _ _ _ _ _ _ _ _ c.loop-limit.causes.rest c.in-Some.number _ c.loop-limit.invariant.added c.in-Some.ensures.steps.0
+    (c.if-is_reached.ensures.no refl) c.in_err-add_row.ensures.sends)
 
-pub returns-in_default-add_row-clause-taken : goal.returns-in_default-add_row-clause-taken
-returns-in_default-add_row-clause-taken g c =
-    let steps = c.in-Some.ensures.steps in (
-      c.loop-limit.count + 1,
-      (going_on c.args.causes.now c.loop-limit.causes _ c.loop-limit.count c.in-Some.number c.loop-limit.invariant.going steps.0 steps.1 steps.2 steps.3 steps.4).takes,
-    )
+pub returns-in_err-add_row-clause-taken : goal.returns-in_err-add_row-clause-taken
+returns-in_err-add_row-clause-taken g c =
+    let steps = c.in-Some.ensures.steps in
+    takes_err _ _ _ (c.loop-limit.count + 1) c.from_residual.ensures.0
+    (going_on c.args.causes.now c.loop-limit.causes _ c.loop-limit.count c.in-Some.number c.loop-limit.invariant.going steps.0 steps.1 steps.2 steps.3 steps.4).takes

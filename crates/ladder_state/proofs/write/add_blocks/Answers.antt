@@ -5,17 +5,18 @@ use Rattle.ladder_state.specs.Parts.{block_item, block_records, each}
 use Rattle.ladder_state.specs.declared.version.Version.TheVariants.{Second}
 use Rattle.ladder_text.specs.Block.{SendsAll}
 use Rattle.ladder_state.proofs.Written.{one_written, written_apart}
+use Rattle.ladder_text.proofs.Sending.{sends_err}
 use Rattle.ladder_state.proofs.write.add_blocks.Goals as goal
 
 pub loop-number-preserved : goal.loop-number-preserved
 loop-number-preserved g c =
     line_more _ _ _ _ _ _ _ _ _ (one_written block_item c.args.instances.now c.args.state.now.held.kept.blocks c.loop-number.number c.index-instances-number.result c.block.result
-    c.loop-number-test.true c.index-instances-number.is c.block.ensures) c.loop-number.invariant (rw (c.bytes-name.ensures.spelling, ← c.index-instances-number.is) at c.in-Ok.ensures)
+    c.loop-number-test.true c.index-instances-number.is c.block.ensures) c.loop-number.invariant (rw (c.bytes-name.ensures.spelling, ← c.index-instances-number.is) at c.in_ok-add_block.ensures)
 
-pub returns-in_default : goal.returns-in_default
-returns-in_default g c =
-    line_prefix _ _ _ _ _ _ _ _ _ (written_apart block_item c.args.instances.now c.args.state.now.held.kept.blocks c.loop-number.number c.index-instances-number.result c.block.result
-    c.loop-number-test.true c.index-instances-number.is c.block.ensures) c.loop-number.invariant (rw (c.bytes-name.ensures.spelling, ← c.index-instances-number.is) at c.in_default.ensures)
+pub returns-in_err-add_block : goal.returns-in_err-add_block
+returns-in_err-add_block g c = sends_err _ _ _ _ _ _ c.from_residual.ensures.0
+    (line_prefix _ _ _ _ _ _ _ _ _ (written_apart block_item c.args.instances.now c.args.state.now.held.kept.blocks c.loop-number.number c.index-instances-number.result c.block.result
+    c.loop-number-test.true c.index-instances-number.is c.block.ensures) c.loop-number.invariant (rw (c.bytes-name.ensures.spelling, ← c.index-instances-number.is) at c.in_err-add_block.ensures))
 
 pub returns : goal.returns
 returns g c =

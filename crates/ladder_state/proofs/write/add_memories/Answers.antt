@@ -4,7 +4,7 @@ use Rattle.ladder_records.proofs.Lines.{line_prefix, line_more}
 use Rattle.ladder_state.specs.StateText.{memory_record}
 use Rattle.ladder_state.specs.Parts.{each, memory_places_before, memory_records}
 use Rattle.ladder_text.specs.Block.{SendsAll}
-use Rattle.ladder_text.proofs.Sending.{sends_none}
+use Rattle.ladder_text.proofs.Sending.{sends_none, sends_err}
 use Rattle.ladder_state.proofs.Places.{one_not, one_there, place_cut, place_number, places_none}
 use Rattle.ladder_state.proofs.Written.{each_apart}
 use Rattle.ladder_state.proofs.write.add_memories.Goals as goal
@@ -34,9 +34,9 @@ memory-requires g c =
     (omega (arith, c.loop-place-test.true, c.rungs-place-end.ensures.value, c.rungs-place-end.ensures.whole.size)) in
     omega (arith, inv.0, below, c.requires)
 
-pub returns-in_default : goal.returns-in_default
-returns-in_default g c =
-    let inv = c.loop-place.invariant in
+pub returns-in_err-add_memory : goal.returns-in_err-add_memory
+returns-in_err-add_memory g c = sends_err _ _ _ _ _ _ c.from_residual.ensures.0
+    (let inv = c.loop-place.invariant in
     let p = c.args.program.now in
     let place = c.loop-place.place in
     let memories = c.args.state.now.held.kept.memories in
@@ -45,7 +45,7 @@ returns-in_default g c =
     line_prefix _ _ _ _ _ _ _ _ _
     (ap (λ l. each memory_records l memories) cut.1
     ∙ each_apart memory_record (memory_places_before p place) cut.0 memories place c.memory.result (ap (slice_get memories) inv.0 ∙ c.memory.ensures))
-    inv.2 c.in_default.ensures
+    inv.2 c.in_err-add_memory.ensures)
 
 pub loop-place-preserved : goal.loop-place-preserved
 loop-place-preserved g c =
@@ -59,7 +59,7 @@ loop-place-preserved g c =
       line_more _ _ _ _ _ _ _ _ _
           (ap (λ l. each memory_records l memories) there
           ∙ each_apart memory_record (memory_places_before p place) [] memories place c.memory.result (ap (slice_get memories) inv.0 ∙ c.memory.ensures))
-          inv.2 c.in-Ok.ensures,
+          inv.2 c.in_ok-add_memory.ensures,
     )
 
 pub returns : goal.returns

@@ -1,23 +1,23 @@
 use Rattle.std.proofs.Common.{◌++◌, [], refl, sym, append_assoc}
 use Rattle.ladder_records.specs.Text.{line_text, lines_text}
-use Rattle.ladder_text.proofs.Sending.{sends_prefix, sends_last, sends_more, sends_none}
+use Rattle.ladder_text.proofs.Sending.{sends_prefix, sends_last, sends_more, sends_none, sends_err}
 use Rattle.ladder_state.specs.StateText.{item_records, moment_record, state_text, version_record}
 use Rattle.ladder_state.specs.declared.version.Version.TheVariants.{Second}
 use Rattle.ladder_state.proofs.write.add_state.Goals as goal
 
-pub returns-in_default : goal.returns-in_default
-returns-in_default g c =
-    let p = c.args.program.now in
+pub returns-in_err-add_version : goal.returns-in_err-add_version
+returns-in_err-add_version g c = sends_err _ _ _ _ _ _ c.from_residual.ensures.0
+    (let p = c.args.program.now in
     let s = c.args.state.now in
     sends_prefix _ _ _ c.args.block.now c.args.block.now (state_text p s) [] (line_text (version_record Second)) (line_text (moment_record s.moment) ++ lines_text (item_records Second p s)) refl
-    (sends_none _ c.args.block.now) c.in_default.ensures
+    (sends_none _ c.args.block.now) c.in_err-add_version.ensures)
 
-pub returns-in_default-add_moment : goal.returns-in_default-add_moment
-returns-in_default-add_moment g c =
-    let p = c.args.program.now in
+pub returns-in_err-add_moment : goal.returns-in_err-add_moment
+returns-in_err-add_moment g c = sends_err _ _ _ _ _ _ c.from_residual-in_err-add_moment.ensures.0
+    (let p = c.args.program.now in
     let s = c.args.state.now in
     sends_prefix _ _ _ _ _ (state_text p s) (line_text (version_record Second)) (line_text (moment_record s.moment)) (lines_text (item_records Second p s)) refl
-    c.in-Ok.ensures (rw c.moment.ensures at c.in_default-add_moment.ensures)
+    c.in_ok-add_version.ensures (rw c.moment.ensures at c.in_err-add_moment.ensures))
 
 pub returns : goal.returns
 returns g c =
@@ -27,4 +27,4 @@ returns g c =
     let moment = line_text (moment_record s.moment) in
     let items = lines_text (item_records Second p s) in
     sends_last _ _ _ _ _ _ (state_text p s) (version ++ moment) items _ (sym (append_assoc version moment items))
-    (sends_more _ _ _ _ _ _ version moment c.in-Ok.ensures (rw c.moment.ensures at c.in-Ok-add_moment.ensures)) c.add_items.ensures
+    (sends_more _ _ _ _ _ _ version moment c.in_ok-add_version.ensures (rw c.moment.ensures at c.in_ok-add_moment.ensures)) c.add_items.ensures

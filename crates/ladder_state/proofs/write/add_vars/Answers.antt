@@ -5,17 +5,18 @@ use Rattle.ladder_state.specs.StateText.{var_record}
 use Rattle.ladder_state.specs.Parts.{each, var_records}
 use Rattle.ladder_text.specs.Block.{SendsAll}
 use Rattle.ladder_state.proofs.Written.{one_written, written_apart}
+use Rattle.ladder_text.proofs.Sending.{sends_err}
 use Rattle.ladder_state.proofs.write.add_vars.Goals as goal
 
 pub loop-number-preserved : goal.loop-number-preserved
 loop-number-preserved g c =
     line_more _ _ _ _ _ _ _ _ _ (one_written var_record c.args.vars.now c.args.state.now.held.values c.loop-number.number c.index-vars-number.result c.value.result
-    c.loop-number-test.true c.index-vars-number.is c.value.ensures) c.loop-number.invariant c.in-Ok.ensures
+    c.loop-number-test.true c.index-vars-number.is c.value.ensures) c.loop-number.invariant c.in_ok-add_var.ensures
 
-pub returns-in_default : goal.returns-in_default
-returns-in_default g c =
-    line_prefix _ _ _ _ _ _ _ _ _ (written_apart var_record c.args.vars.now c.args.state.now.held.values c.loop-number.number c.index-vars-number.result c.value.result
-    c.loop-number-test.true c.index-vars-number.is c.value.ensures) c.loop-number.invariant c.in_default.ensures
+pub returns-in_err-add_var : goal.returns-in_err-add_var
+returns-in_err-add_var g c = sends_err _ _ _ _ _ _ c.from_residual.ensures.0
+    (line_prefix _ _ _ _ _ _ _ _ _ (written_apart var_record c.args.vars.now c.args.state.now.held.values c.loop-number.number c.index-vars-number.result c.value.result
+    c.loop-number-test.true c.index-vars-number.is c.value.ensures) c.loop-number.invariant c.in_err-add_var.ensures)
 
 pub returns : goal.returns
 returns g c =

@@ -5,6 +5,7 @@ use Rattle.ladder_text.specs.Block.{SendsAll}
 use Rattle.ladder_trace.specs.Trace.{is_output}
 use Rattle.ladder_trace.proofs.Fields.{field_prefix, field_more, field_none, fields}
 use Rattle.ladder_trace.proofs.Lists.{mark_at, there_at}
+use Rattle.ladder_text.proofs.Sending.{sends_err}
 use Rattle.ladder_trace.proofs.trace.add_bits.Goals as goal
 
 pub loop-number-preserved-then-not-is_output : goal.loop-number-preserved-then-not-is_output
@@ -23,16 +24,16 @@ loop-number-preserved g c =
     let x = c.index-vars-number.result in
     let mark = mark_at is_output vars n x c.loop-number-test.true c.index-vars-number.is ∙ ap Some (sym c.is_output.ensures ∙ c.if-not-is_output.false) in
     field_more bit_text (map is_output vars) c.args.state.now.held.values n c.value.result _ _ _ _ _ _ mark c.value.ensures c.loop-number.invariant
-    (rw c.bit_field.ensures at c.in-Ok.ensures)
+    (rw c.bit_field.ensures at c.in_ok-add_field.ensures)
 
-pub returns-in_default : goal.returns-in_default
-returns-in_default g c =
-    let vars = c.args.vars.now in
+pub returns-in_err-add_field : goal.returns-in_err-add_field
+returns-in_err-add_field g c = sends_err _ _ _ _ _ _ c.from_residual.ensures.0
+    (let vars = c.args.vars.now in
     let n = c.loop-number.number in
     let x = c.index-vars-number.result in
     let mark = mark_at is_output vars n x c.loop-number-test.true c.index-vars-number.is ∙ ap Some (sym c.is_output.ensures ∙ c.if-not-is_output.false) in
     field_prefix bit_text (map is_output vars) c.args.state.now.held.values n c.value.result _ _ _ _ _ mark c.value.ensures c.loop-number.invariant
-    (rw c.bit_field.ensures at c.in_default.ensures)
+    (rw c.bit_field.ensures at c.in_err-add_field.ensures))
 
 pub returns : goal.returns
 returns g c =

@@ -5,6 +5,7 @@ use Rattle.ladder_text.specs.Block.{SendsAll}
 use Rattle.ladder_trace.specs.Trace.{is_output}
 use Rattle.ladder_trace.proofs.Fields.{field_prefix, field_more, field_none, fields}
 use Rattle.ladder_trace.proofs.Lists.{mark_at, some_at}
+use Rattle.ladder_text.proofs.Sending.{sends_err}
 use Rattle.ladder_trace.proofs.trace.add_names.Goals as goal
 
 abbrev name_of : Var → List ℕ
@@ -25,16 +26,16 @@ loop-number-preserved g c =
     let x = c.index-vars-number.result in
     let mark = mark_at is_output vars n x c.loop-number-test.true c.index-vars-number.is ∙ ap Some (sym c.is_output.ensures ∙ c.if-not-is_output.false) in
     field_more name_of (map is_output vars) vars n x _ _ _ _ _ _ mark (some_at vars n x c.loop-number-test.true c.index-vars-number.is) c.loop-number.invariant
-    (rw c.bytes.ensures.spelling at c.in-Ok.ensures)
+    (rw c.bytes.ensures.spelling at c.in_ok-add_field.ensures)
 
-pub returns-in_default : goal.returns-in_default
-returns-in_default g c =
-    let vars = c.args.vars.now in
+pub returns-in_err-add_field : goal.returns-in_err-add_field
+returns-in_err-add_field g c = sends_err _ _ _ _ _ _ c.from_residual.ensures.0
+    (let vars = c.args.vars.now in
     let n = c.loop-number.number in
     let x = c.index-vars-number.result in
     let mark = mark_at is_output vars n x c.loop-number-test.true c.index-vars-number.is ∙ ap Some (sym c.is_output.ensures ∙ c.if-not-is_output.false) in
     field_prefix name_of (map is_output vars) vars n x _ _ _ _ _ mark (some_at vars n x c.loop-number-test.true c.index-vars-number.is) c.loop-number.invariant
-    (rw c.bytes.ensures.spelling at c.in_default.ensures)
+    (rw c.bytes.ensures.spelling at c.in_err-add_field.ensures))
 
 pub returns : goal.returns
 returns g c =

@@ -1,14 +1,13 @@
-use Rattle.ladder_text.proofs.Sending.{flush_all, flush_prefix}
+use Rattle.ladder_text.proofs.Sending.{flush_all, flush_prefix, puts_err}
 use Rattle.ladder_trace.specs.Trace.{trace_row}
 use Rattle.ladder_trace.proofs.trace.write_row.Goals as goal
 
-pub returns-in_default-clause-wrote : goal.returns-in_default-clause-wrote
-returns-in_default-clause-wrote g c = rw c.requires.empty at c.in_default.ensures
+pub returns-in_err-add_row-clause-wrote : goal.returns-in_err-add_row-clause-wrote
+returns-in_err-add_row-clause-wrote g c = puts_err _ _ _ _ c.from_residual.ensures.0 (rw c.requires.empty at c.in_err-add_row.ensures)
 
-pub returns-in_default-flush-clause-wrote : goal.returns-in_default-flush-clause-wrote
-returns-in_default-flush-clause-wrote g c =
-    flush_prefix _ _ _ _ (trace_row c.args.program.now c.args.state.now) (rw c.requires.empty at c.in-Ok.ensures) c.in_default-flush.ensures.wrote
+pub returns-in_err-flush-clause-wrote : goal.returns-in_err-flush-clause-wrote
+returns-in_err-flush-clause-wrote g c = puts_err _ _ _ _ c.from_residual-in_err-flush.ensures.0 (flush_prefix _ _ _ _ (trace_row c.args.program.now c.args.state.now) (rw c.requires.empty at c.in_ok-add_row.ensures) c.in_err-flush.ensures.wrote)
 
 pub returns-clause-wrote : goal.returns-clause-wrote
 returns-clause-wrote g c =
-    flush_all _ _ _ _ (trace_row c.args.program.now c.args.state.now) (rw c.requires.empty at c.in-Ok.ensures) c.in-Ok-flush.ensures.wrote
+    flush_all _ _ _ _ (trace_row c.args.program.now c.args.state.now) (rw c.requires.empty at c.in_ok-add_row.ensures) c.in_ok-flush.ensures.wrote

@@ -4,6 +4,7 @@ use Rattle.ladder_records.proofs.Lines.{line_prefix, line_more}
 use Rattle.ladder_text.specs.Block.{SendsAll}
 use Rattle.ladder_uses.specs.Uses.{use_row}
 use Rattle.ladder_uses.proofs.Rows.{places_all, places_apart, places_more, rows_before}
+use Rattle.ladder_text.proofs.Sending.{sends_err}
 use Rattle.ladder_uses.proofs.uses.add_places.Goals as goal
 
 pub loop-place-preserved-in_default : goal.loop-place-preserved-in_default
@@ -17,11 +18,11 @@ loop-place-preserved-in_default g c =
       omega (arith, inv.2),
     )
 
-pub returns-in_default-add_row-clause-sends : goal.returns-in_default-add_row-clause-sends
-returns-in_default-add_row-clause-sends g c =
-    let h : c.loop-place.place < length c.args.program.now.sites = omega (arith, c.loop-place-test.true, c.rungs-place-end.ensures.value, c.rungs-place-end.ensures.whole.size) in
+pub returns-in_err-add_row-clause-sends : goal.returns-in_err-add_row-clause-sends
+returns-in_err-add_row-clause-sends g c = sends_err _ _ _ _ _ _ c.from_residual.ensures.0
+    (let h : c.loop-place.place < length c.args.program.now.sites = omega (arith, c.loop-place-test.true, c.rungs-place-end.ensures.value, c.rungs-place-end.ensures.whole.size) in
     let cut = places_apart c.args.program.now c.args.name.now c.args.symbol c.loop-place.place (Some c.in-Some.used) h (sym c.in-Some.is ∙ c.use_at.ensures) in
-    line_prefix _ _ _ _ _ _ _ _ _ cut.1 c.loop-place.invariant.0 c.in_default-add_row.ensures
+    line_prefix _ _ _ _ _ _ _ _ _ cut.1 c.loop-place.invariant.0 c.in_err-add_row.ensures)
 
 pub loop-place-preserved : goal.loop-place-preserved
 loop-place-preserved g c =
@@ -29,7 +30,7 @@ loop-place-preserved g c =
     let h : c.loop-place.place < length c.args.program.now.sites = omega (arith, c.loop-place-test.true, c.rungs-place-end.ensures.value, c.rungs-place-end.ensures.whole.size) in
     let before = rows_before c.args.program.now c.args.name.now c.args.symbol c.loop-place.place in
     let there = places_more c.args.program.now c.args.name.now c.args.symbol c.loop-place.place (Some c.in-Some.used) h (sym c.in-Some.is ∙ c.use_at.ensures) in (
-      line_more _ _ _ _ _ _ _ _ _ there inv.0 c.in-Ok.ensures,
+      line_more _ _ _ _ _ _ _ _ _ there inv.0 c.in_ok-add_row.ensures,
       omega (arith, ap length there, length-append before (use_row c.args.name.now c.in-Some.used c.loop-place.place ∷ []), inv.1),
       omega (arith, inv.2),
     )

@@ -4,13 +4,14 @@ use Rattle.ladder_records.specs.Text.{lines_text}
 use Rattle.ladder_text.specs.Block.{SendsAll}
 use Rattle.ladder_uses.specs.Uses.{symbol_rows, symbols_of}
 use Rattle.ladder_uses.proofs.Rows.{rows_apart, rows_prefix, rows_more, rows_sent}
+use Rattle.ladder_text.proofs.Sending.{sends_err}
 use Rattle.ladder_uses.proofs.uses.add_symbols.Goals as goal
 
-pub returns-in_default-clause-sends : goal.returns-in_default-clause-sends
-returns-in_default-clause-sends g c =
-    let p = c.args.program.now in
+pub returns-in_err-rows-clause-sends : goal.returns-in_err-rows-clause-sends
+returns-in_err-rows-clause-sends g c = sends_err _ _ _ _ _ _ c.from_residual.ensures.0
+    (let p = c.args.program.now in
     let here = rw c.decls-decls.ensures at c.symbol_at.ensures in
-    rows_prefix _ _ _ _ _ _ _ _ _ (rows_apart (symbol_rows p) (symbols_of p.decls) c.loop-number.number c.symbol_at.result _ here refl) c.loop-number.invariant.0 c.in_default.ensures.sends
+    rows_prefix _ _ _ _ _ _ _ _ _ (rows_apart (symbol_rows p) (symbols_of p.decls) c.loop-number.number c.symbol_at.result _ here refl) c.loop-number.invariant.0 c.in_err-rows.ensures.sends)
 
 pub loop-number-preserved : goal.loop-number-preserved
 loop-number-preserved g c =
@@ -18,15 +19,15 @@ loop-number-preserved g c =
     let p = c.args.program.now in
     let here = rw c.decls-decls.ensures at c.symbol_at.ensures in
     let more = rows_more (symbol_rows p) (symbols_of p.decls) c.loop-number.number c.symbol_at.result _ here refl in (
-      rows_sent _ _ _ _ _ _ _ _ _ more inv.0 c.in-Ok.ensures.sends,
+      rows_sent _ _ _ _ _ _ _ _ _ more inv.0 c.in_ok-rows.ensures.sends,
       omega (
         arith,
         ap length more,
         length-append (flat_map (symbol_rows p) (take c.loop-number.number (symbols_of p.decls))) (symbol_rows p c.symbol_at.result),
         inv.1,
-        c.in-Ok.ensures.count,
+        c.in_ok-rows.ensures.count,
       ),
-      omega (arith, inv.2, c.in-Ok.ensures.few),
+      omega (arith, inv.2, c.in_ok-rows.ensures.few),
     )
 
 pub returns-clause-sends : goal.returns-clause-sends
