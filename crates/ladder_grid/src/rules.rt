@@ -20,7 +20,7 @@ use crate::feeding::{is_unfed, right_link};
 use crate::firsts::{first_of, is_before};
 use crate::form::Form;
 use crate::geometry::{COLUMNS, PITCH, ROWS, reading_place};
-use crate::operand::{Reference, is_odd};
+use crate::operand::is_odd;
 use crate::page::{form_at, instance_at, is_written_over, name_over, rung_at};
 use crate::picture::{Half, ch, joint, line_of};
 use crate::view::PageView;

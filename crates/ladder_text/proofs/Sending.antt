@@ -70,7 +70,3 @@ flush_all a b c w1 whole p q = subst (λ text. PutsAll a c text) (sym p.cut) (pu
 pub flush_last : {T E : Type 0} (a b c : WriteLog) (w1 whole : List ℕ) (r : Result T E) → SendsAll a b [] w1 whole → Puts b c r w1 → Puts a c r whole
 flush_last a b c w1 whole (Ok x) p q = flush_all a b c w1 whole p q
 flush_last a b c w1 whole (Err x) p q = flush_prefix a b c w1 whole p q
-
--- no room could be made
-pub prefix_room : (a b : WriteLog) (w0 text : List ℕ) → PutsPrefix a b (w0 ++ []) → PutsPrefix a b (w0 ++ text)
-prefix_room a b w0 text p = prefix_after a a b (w0 ++ text) [] (w0 ++ []) text (ap (λ xs. xs ++ text) (sym (append-nil w0))) (puts_none a) p
