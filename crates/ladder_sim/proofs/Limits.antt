@@ -58,6 +58,14 @@ added_more a b c w0 w1 w2 k count limit whole xs n rest so_far first short sent 
       within = below limit count short so_far.within;
     }
 
+-- the row that comes next is one of the whole list
+pub added_within : (a b : WriteLog) (w0 w1 : List ℕ) (k count : ℕ) (limit : Option ℕ) (whole xs : List ℕ) (n : ℕ) (rest : List ℕ)
+    → Added a b w0 w1 k count limit whole (limited (limit_left limit count) xs) → xs ≡ n ∷ rest → limit ≢ Some count → count + 1 ≤ length whole
+added_within a b w0 w1 k count limit whole xs n rest so_far first short =
+    let next = limited_next limit count xs n rest first short so_far.within in
+    let counts : count + suc (length (limited (limit_left limit (count + 1)) rest)) ≡ length whole = ap (λ ys. count + length ys) (sym next) ∙ so_far.counted in
+    omega (arith, counts)
+
 -- a row that is cut off
 pub added_prefix : (a b c : WriteLog) (w0 w1 : List ℕ) (k count : ℕ) (limit : Option ℕ) (whole xs : List ℕ) (n : ℕ) (rest : List ℕ)
     → Added a b w0 w1 k count limit whole (limited (limit_left limit count) xs) → xs ≡ n ∷ rest → limit ≢ Some count → PutsPrefix b c (w1 ++ row k n)

@@ -3,6 +3,7 @@ use Rattle.std.proofs.Common.{◌≡◌, ◌∙◌, ◌+◌, ◌≤◌, ℕ, zer
 use Rattle.std.specs.Prelude.{IsErr, MatchResult}
 use Rattle.ladder_search.specs.Looks.{Search, looks_until}
 use Rattle.ladder_causes.specs.Cursor.{Cursor, Takes, looks_of, looks_through, searched}
+use Rattle.ladder_sim.specs.CauseText.{TakesAtMost}
 
 -- So many causes were given, and so many looks were made for them.
 pub record Going (old new : Cursor) (count : ℕ) : Type 0 where
@@ -59,7 +60,7 @@ going_on old a b count n g first program listed search looks =
     }
 
 -- what was taken before a fault
-pub takes_err : {E : Type 0} (old new : Cursor) (r : Result ℕ E) (count : ℕ) → IsErr r → Takes old new count
-    → MatchResult r (λ n. Takes old new n) (λ fault. (n : ℕ) × Takes old new n)
-takes_err old new (Ok n) count e h = cc
-takes_err old new (Err fault) count e h = (count, h)
+pub takes_err : {E : Type 0} (old new : Cursor) (r : Result ℕ E) (count most : ℕ) → IsErr r → count ≤ most → Takes old new count
+    → MatchResult r (λ n. Takes old new n) (λ fault. TakesAtMost old new most)
+takes_err old new (Ok n) count most e few h = cc
+takes_err old new (Err fault) count most e few h = (count, few, h)

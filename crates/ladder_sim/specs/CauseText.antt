@@ -1,11 +1,12 @@
 -- The text of a list of causes: a record with the names of the listed inputs, and one for each cause.
-use Rattle.std.specs.Prelude.{ℕ, List, [], ◌∷◌, length, map, slice_get, Option, Some, None, codes, decimal, option_map, take, unwrap_or}
+use Rattle.std.specs.Prelude.{◌≤◌, ℕ, List, [], ◌∷◌, length, map, slice_get, Option, Some, None, codes, decimal, option_map, take, unwrap_or}
 use Rattle.std.specs.List.{range_with_len}
 use Rattle.ladder_records.specs.Left.{Fields}
 use Rattle.ladder_records.specs.Text.{bit_text, lines_text}
 use Rattle.ladder_vars.specs.declared.decls.Var.{Var}
 use Rattle.ladder_grid.specs.Program.{Drawing}
 use Rattle.ladder_causes.specs.Assignment.{bit_of}
+use Rattle.ladder_causes.specs.Cursor.{Cursor, Takes}
 
 -- the name of a variable, spelled as declared
 abbrev pub name_of : Drawing → ℕ → List ℕ
@@ -25,3 +26,7 @@ cause_text p listed causes = lines_text (header_record p listed ∷ map (cause_r
 abbrev pub limited : Option ℕ → List ℕ → List ℕ
 limited None causes = causes
 limited (Some limit) causes = take limit causes
+
+-- The cursor has given some of its causes, at most this many.
+abbrev pub TakesAtMost : Cursor → Cursor → ℕ → Type 0
+TakesAtMost old new most = (n : ℕ) × (n ≤ most) × Takes old new n

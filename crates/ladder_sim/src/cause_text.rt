@@ -1,12 +1,12 @@
 //! The text of a list of causes.
 
-ghost use Rattle.std.specs.Prelude.{◌≡◌, ◌≢◌, ◌+◌, ◌*◌, ◌<◌, ◌≤◌, ◌++◌, ◌∷◌, ◌^◌, [], ℕ, IfOk, MatchResult, Some, codes, decimal, false, length, map, slice_get, take, true};
+ghost use Rattle.std.specs.Prelude.{◌≡◌, ◌≢◌, ◌+◌, ◌*◌, ◌<◌, ◌≤◌, ◌++◌, ◌∷◌, ◌^◌, [], IfOk, MatchResult, Some, codes, decimal, false, length, map, slice_get, take, true};
 ghost use Rattle.ladder_causes.specs.Assignment.{bit_of};
 ghost use Rattle.ladder_causes.specs.Cursor.{Takes, looks_given, looks_of, searched};
 ghost use Rattle.std.specs.List.{slice_range};
 ghost use Rattle.ladder_text.specs.Block.{Sends};
 ghost use Rattle.ladder_records.specs.Text.{after_commas, bit_text};
-ghost use Rattle.ladder_sim.specs.CauseText.{cause_text, limited};
+ghost use Rattle.ladder_sim.specs.CauseText.{cause_text, limited, TakesAtMost};
 ghost use Rattle.ladder_sim.specs.Rows.{bits, header, name_in, row, rows};
 ghost use Rattle.ladder_sim.specs.Kept.{IsKept};
 ghost use Rattle.ladder_text.specs.Log.{Puts};
@@ -165,7 +165,7 @@ fn add_rows<W: Sink>(
     requires finite { length causes.old.rest < 2 ^ 64 }
     ensures sends { Sends (W.log writer.old) (W.log writer.new) block.old block.new result (rows listed (limited limit causes.old.rest)) }
     ensures count { IfOk result (λ n. n ≡ length (limited limit causes.old.rest)) }
-    ensures taken { MatchResult result (λ n. Takes causes.old causes.new n) (λ _. (n : ℕ) × Takes causes.old causes.new n) }
+    ensures taken { MatchResult result (λ n. Takes causes.old causes.new n) (λ _. TakesAtMost causes.old causes.new (length (limited limit causes.old.rest))) }
     ensures looks { IfOk result (λ _. looks_of causes.new ≡ looks_given (searched causes.old) (looks_of causes.old) limit causes.old.rest) }
 {
     let mut kept = Kept::new(listed);
@@ -187,8 +187,8 @@ fn add_rows<W: Sink>(
 ///
 /// # Errors
 ///
-/// X6: the writer failed. What was written is a prefix of that text, and the cursor may have given causes that were not written in
-/// full; one goes on after the last whole row.
+/// X6: the writer failed. What was written is a prefix of that text. The cursor may have given causes, within the limit, that were not
+/// written in full; a new cursor goes on after the last whole row.
 pub fn write_causes<W: Sink>(
     causes: &mut Causes<'_>,
     limit: Option<u64>,
@@ -197,8 +197,8 @@ pub fn write_causes<W: Sink>(
     ensures bytes { Puts (W.log writer.old) (W.log writer.new) result (cause_text causes.old.program causes.old.listed (limited limit causes.old.rest)) }
     ensures rows { IfOk result (λ s. s.rows ≡ length (limited limit causes.old.rest)) }
 
-    // Where the cursor then is: it has given the rows that were written, and more only after a fault.
-    ensures taken { MatchResult result (λ s. Takes causes.old causes.new s.rows) (λ _. (n : ℕ) × Takes causes.old causes.new n) }
+    // Where the cursor then is: it has given the rows that were written. After a fault it may have given more, but none past the limit.
+    ensures taken { MatchResult result (λ s. Takes causes.old causes.new s.rows) (λ _. TakesAtMost causes.old causes.new (length (limited limit causes.old.rest))) }
 
     // The looks are the cursor's count, which is that of the search as far as it was gone through.
     ensures looks { IfOk result (λ s. s.looks ≡ looks_of causes.new) }

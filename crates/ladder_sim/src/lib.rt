@@ -6,9 +6,9 @@ mod kept;
 mod near;
 
 pub use cause_text::{Summary, write_causes};
-pub use ladder_state::{read_state, write_state};
+pub use ladder_state::{StateFault, read_state, write_state};
 pub use ladder_text::{
-    Piece, ReadFailed, Reading, Sink, Source, Tally, TextFault, WriteFailed, WriteFault, Writing,
+    Piece, ReadFailed, ReadFault, Reading, Sink, Source, Tally, WriteFailed, WriteFault, Writing,
     put, put_pieces, read_text,
 };
 pub use ladder_trace::{SimFault, simulate};

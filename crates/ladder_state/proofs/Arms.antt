@@ -8,8 +8,8 @@ use Rattle.ladder_vars.specs.declared.decls.Var.{Var}
 use Rattle.ladder_grid.specs.Program.{Drawing, memories_of}
 use Rattle.ladder_records.specs.Left.{Fields, TakesFirst}
 use Rattle.ladder_scan.specs.Standing.{Fits, Standing, with_blocks, with_memories, with_values}
-use Rattle.ladder_text.specs.declared.fault.TextFault.{TextFault}
-use Rattle.ladder_text.specs.declared.fault.TextFault.TheVariants as fault
+use Rattle.ladder_state.specs.declared.fault.StateFault.{StateFault}
+use Rattle.ladder_state.specs.declared.fault.StateFault.TheVariants as fault
 use Rattle.ladder_state.specs.declared.version.Version.{Version}
 use Rattle.ladder_state.specs.Parts.{CanHold, IsRead, IsStuck, ReadsItems, ReadsPart, block_item, block_records, each, every, memory_records, tells, var_records}
 use Rattle.ladder_state.specs.StateText.{IsStateOf, item_records, memory_places, memory_record, var_record}
@@ -28,12 +28,10 @@ fits_blocks p a n f e = record {
   kinds = ap (λ (x : Standing). x.kinds) e ∙ f.kinds;
 }
 
-pub values_arm : (v : Version) (p : Drawing) (s : Standing) (vars : List Var) (rows : List Fields) (new : Reader (Bor (List ℕ))) (f : TextFault) → vars ≡ p.decls.vars → IsStateOf p s
+pub values_arm : (v : Version) (p : Drawing) (s : Standing) (vars : List Var) (rows : List Fields) (new : Reader (Bor (List ℕ))) (f : StateFault) → vars ≡ p.decls.vars → IsStateOf p s
     → ReadsPart {T = ⊤} every var_record (λ _ _. ⊤) vars s.held.values rows 2 new (Err f) → ReadsItems {T = ⊤} v p s rows (Err f)
 values_arm v p s vars rows new (fault.BadRow n) e ok h = values_bad v p s rows n ok (subst (λ l. IsStuck every var_record (λ _ _. ⊤) l s.held.values rows 2 n) e h)
 values_arm v p s vars rows new fault.Memory e ok h = tt
-values_arm v p s vars rows new fault.Read e ok h = h
-values_arm v p s vars rows new fault.TooLong e ok h = h
 
 -- what is read of the values stands in the states after them
 pub values_cut : (p : Drawing) (a : Standing) (vars : List Var) (rows : List Fields) (new : Reader (Bor (List ℕ))) → vars ≡ p.decls.vars → (h : IsRead var_records vars a.held.values rows new)
@@ -41,14 +39,12 @@ pub values_cut : (p : Drawing) (a : Standing) (vars : List Var) (rows : List Fie
 values_cut p a vars rows new e h s same =
     h.cut ∙ ap (λ l. each var_records l a.held.values ++ h.rest) e ∙ ap (λ l. each var_records p.decls.vars l ++ h.rest) (sym (ap (λ (x : Standing). x.held.values) same))
 
-pub memories_arm : (v : Version) (p : Drawing) (s : Standing) (rows rest : List Fields) (new : Reader (Bor (List ℕ))) (before : ℕ) (f : TextFault) → IsStateOf p s
+pub memories_arm : (v : Version) (p : Drawing) (s : Standing) (rows rest : List Fields) (new : Reader (Bor (List ℕ))) (before : ℕ) (f : StateFault) → IsStateOf p s
     → before ≡ 2 + length p.decls.vars → rows ≡ values_of p s ++ rest
     → ReadsPart {T = ⊤} every memory_record (λ _ _. ⊤) (memory_places p) s.held.kept.memories rest before new (Err f) → ReadsItems {T = ⊤} v p s rows (Err f)
 memories_arm v p s rows rest new before (fault.BadRow n) ok b cut h =
     memories_bad v p s rows rest n ok cut (subst (λ k. IsStuck every memory_record (λ _ _. ⊤) (memory_places p) s.held.kept.memories rest k n) b h)
 memories_arm v p s rows rest new before fault.Memory ok b cut h = tt
-memories_arm v p s rows rest new before fault.Read ok b cut h = h
-memories_arm v p s rows rest new before fault.TooLong ok b cut h = h
 
 pub both_cut : (p : Drawing) (a b s : Standing) (rows rest : List Fields) (new : Reader (Bor (List ℕ))) → rows ≡ values_of p a ++ rest → (h : IsRead memory_records (memory_places p) a.held.kept.memories rest new)
     → s ≡ with_blocks a s.held.kept.blocks → rows ≡ (values_of p s ++ memories_in p s) ++ h.rest
@@ -56,7 +52,7 @@ both_cut p a b s rows rest new cut h same =
     cut ∙ ap (λ l. values_of p a ++ l) h.cut ∙ sym (append_assoc (values_of p a) (memories_in p a) h.rest)
     ∙ ap (λ (x : Standing). (values_of p x ++ memories_in p x) ++ h.rest) (sym same)
 
-pub blocks_arm : (v : Version) (p : Drawing) (s : Standing) (instances : List Instance) (rows rest : List Fields) (new : Reader (Bor (List ℕ))) (moment before : ℕ) (f : TextFault)
+pub blocks_arm : (v : Version) (p : Drawing) (s : Standing) (instances : List Instance) (rows rest : List Fields) (new : Reader (Bor (List ℕ))) (moment before : ℕ) (f : StateFault)
     → IsStateOf p s → instances ≡ p.decls.instances → moment ≡ s.moment → before ≡ 2 + length p.decls.vars + memories_of p
     → rows ≡ (values_of p s ++ memories_in p s) ++ rest
     → ReadsPart {T = ℕ} (tells v) block_item (CanHold moment) instances s.held.kept.blocks rest before new (Err f) → ReadsItems {T = ⊤} v p s rows (Err f)
@@ -65,8 +61,6 @@ blocks_arm v p s instances rows rest new moment before (fault.BadRow n) ok i m b
     let h = subst (λ l. IsStuck (tells v) block_item (CanHold moment) l s.held.kept.blocks rest (2 + length p.decls.vars + memories_of p) n) i h in
     blocks_bad v p s rows rest n ok cut (subst (λ t. IsStuck (tells v) block_item (CanHold t) p.decls.instances s.held.kept.blocks rest (2 + length p.decls.vars + memories_of p) n) m h)
 blocks_arm v p s instances rows rest new moment before fault.Memory ok i m b cut h = tt
-blocks_arm v p s instances rows rest new moment before fault.Read ok i m b cut h = h
-blocks_arm v p s instances rows rest new moment before fault.TooLong ok i m b cut h = h
 
 pub all_cut : (v : Version) (p : Drawing) (s : Standing) (instances : List Instance) (rows rest : List Fields) (new : Reader (Bor (List ℕ))) → instances ≡ p.decls.instances
     → rows ≡ (values_of p s ++ memories_in p s) ++ rest → (h : IsRead (block_records v) instances s.held.kept.blocks rest new) → rows ≡ item_records v p s ++ h.rest

@@ -9,8 +9,8 @@ use Rattle.ladder_records.specs.Left.{Fields, Left}
 use Rattle.ladder_vars.specs.declared.decls.Instance.{Instance}
 use Rattle.ladder_scan.specs.declared.block.Stored.{Stored}
 use Rattle.ladder_scan.specs.Standing.{Standing, fresh}
-use Rattle.ladder_text.specs.declared.fault.TextFault.{TextFault}
-use Rattle.ladder_text.specs.declared.fault.TextFault.TheVariants as fault
+use Rattle.ladder_state.specs.declared.fault.StateFault.{StateFault}
+use Rattle.ladder_state.specs.declared.fault.StateFault.TheVariants as fault
 use Rattle.ladder_state.specs.declared.version.Version.{Version}
 use Rattle.ladder_state.specs.declared.version.Version.TheVariants.{First, Second}
 use Rattle.ladder_state.specs.Parts.{ReadsAll, ReadsItems, TakesItem}
@@ -72,13 +72,11 @@ tails k v w m n a b h j e =
     let rest : take k a ≡ take k b = cc in
     (version_same v w first, moment_same m n h j second, rest)
 
-pub items_arm : (p : Drawing) (s : Standing) (v : Version) (rows rest : List Fields) (r : Result ⊤ TextFault) → IsStateOf p s
+pub items_arm : (p : Drawing) (s : Standing) (v : Version) (rows rest : List Fields) (r : Result ⊤ StateFault) → IsStateOf p s
     → AreTold v p.decls.instances s.held.kept.blocks → rows ≡ version_record v ∷ moment_record s.moment ∷ rest
     → ReadsItems {T = ⊤} v p s rest r → ReadsAll {T = ⊤} p s rows r
 items_arm p s v rows rest (Ok u) ok told cut h = record { version = v; told = told; same = cut ∙ ap (λ l. version_record v ∷ moment_record s.moment ∷ l) h }
 items_arm p s v rows rest (Err fault.Memory) ok told cut h = tt
-items_arm p s v rows rest (Err fault.Read) ok told cut h = h
-items_arm p s v rows rest (Err fault.TooLong) ok told cut h = h
 items_arm p s v rows rest (Err (fault.BadRow n)) ok told cut h = record {
   before = suc (suc h.before);
   count = omega (arith, h.count);
@@ -97,8 +95,6 @@ items_arm p s v rows rest (Err (fault.BadRow n)) ok told cut h = record {
       h.none t b.good (sym q.1) (q.2 ∙ ap (λ w. take (suc h.before) (item_records w p t)) (sym q.0));
 }
 
-pub err_arm : (p : Drawing) (s : Standing) (rows : List Fields) (f : TextFault) → ReadsAll {T = ⊤} p s rows (Err f) → Reads p rows (Err f)
+pub err_arm : (p : Drawing) (s : Standing) (rows : List Fields) (f : StateFault) → ReadsAll {T = ⊤} p s rows (Err f) → Reads p rows (Err f)
 err_arm p s rows fault.Memory h = tt
-err_arm p s rows fault.Read h = h
-err_arm p s rows fault.TooLong h = h
 err_arm p s rows (fault.BadRow n) h = h

@@ -3,7 +3,7 @@ use Rattle.std.proofs.Common.{◌≡◌, ◌<◌, ◌∙◌, ◌^◌, ◌∷◌,
 use Rattle.std.proofs.lemmas.Fmt.{decimal_injective, signed_decimal_injective}
 use Rattle.ladder_records.specs.Left.{Fields}
 use Rattle.ladder_records.specs.Text.{bit_text, records_of}
-use Rattle.ladder_text.specs.declared.fault.TextFault.TheVariants as fault
+use Rattle.ladder_state.specs.declared.fault.StateFault.TheVariants as fault
 use Rattle.ladder_vars.specs.declared.decls.Instance.{Instance}
 use Rattle.ladder_vars.specs.declared.decls.Var.{Var}
 use Rattle.ladder_grid.specs.Program.{Drawing}
@@ -149,5 +149,3 @@ read_back p rows s (Ok t) ok h =
 read_back p rows s (Err fault.Memory) ok h = inr refl
 read_back p rows s (Err (fault.BadRow n)) ok h =
     absurd (h.none (record { state = s; version = Second; good = ok; told = told_second p.decls.instances s.held.kept.blocks; same = ap (take n) (rows s ok) }))
-read_back p rows s (Err fault.Read) ok h = absurd h
-read_back p rows s (Err fault.TooLong) ok h = absurd h

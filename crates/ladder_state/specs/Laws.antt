@@ -2,8 +2,8 @@
 use Rattle.std.specs.Prelude.{◌≡◌, ◌⊎◌, List, Result, Ok, Err}
 use Rattle.ladder_records.specs.Left.{Fields}
 use Rattle.ladder_records.specs.Text.{records_of}
-use Rattle.ladder_text.specs.declared.fault.TextFault.{TextFault}
-use Rattle.ladder_text.specs.declared.fault.TextFault.TheVariants as fault
+use Rattle.ladder_state.specs.declared.fault.StateFault.{StateFault}
+use Rattle.ladder_state.specs.declared.fault.StateFault.TheVariants as fault
 use Rattle.ladder_grid.specs.Program.{Drawing}
 use Rattle.ladder_scan.specs.Standing.{Standing}
 use Rattle.ladder_state.specs.ReadState.{Reads}
@@ -11,7 +11,7 @@ use Rattle.ladder_state.specs.StateText.{HasRecords, IsStateOf, state_text}
 
 -- What is written is read back: the reading of the text of a state returns that state, or out of memory.
 abbrev pub ReadsBack : Drawing → Type 0
-ReadsBack p = (s : Standing) (r : Result Standing TextFault) → IsStateOf p s → Reads p (records_of (state_text p s)) r
+ReadsBack p = (s : Standing) (r : Result Standing StateFault) → IsStateOf p s → Reads p (records_of (state_text p s)) r
     → (r ≡ Ok s) ⊎ (r ≡ Err fault.Memory)
 
 -- Records are those of one state at most, whatever their version.

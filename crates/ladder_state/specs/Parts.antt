@@ -10,8 +10,8 @@ use Rattle.ladder_scan.specs.Blocks.{new_block}
 use Rattle.ladder_scan.specs.declared.block.Stored.{Stored}
 use Rattle.ladder_scan.specs.Standing.{CanStore, Standing}
 use Rattle.ladder_grid.specs.Program.{Drawing, cell_in, has_memory}
-use Rattle.ladder_text.specs.declared.fault.TextFault.{TextFault}
-use Rattle.ladder_text.specs.declared.fault.TextFault.TheVariants as fault
+use Rattle.ladder_state.specs.declared.fault.StateFault.{StateFault}
+use Rattle.ladder_state.specs.declared.fault.StateFault.TheVariants as fault
 use Rattle.ladder_state.specs.ReadState.{IsFirstBad}
 use Rattle.ladder_state.specs.StateText.{HasRecords, IsStateOf, block_record, has_record, item_records, memory_record, var_record}
 use Rattle.ladder_state.specs.declared.version.Version.{Version}
@@ -74,12 +74,10 @@ pub record IsStuck {A B : Type 0} (has : A → Bool) (item : A → B → Fields)
   pub count : n ≡ before + length (each (some has item) (take at xs) ys) + 1
   pub bad : (y : B) → can next y → take 1 rest ≢ item next y ∷ []
 
-abbrev pub ReadsPart : {A B T : Type 0} → (A → Bool) → (A → B → Fields) → (A → B → Type 0) → List A → List B → List Fields → ℕ → Reader (Bor (List ℕ)) → Result T TextFault → Type 0
+abbrev pub ReadsPart : {A B T : Type 0} → (A → Bool) → (A → B → Fields) → (A → B → Type 0) → List A → List B → List Fields → ℕ → Reader (Bor (List ℕ)) → Result T StateFault → Type 0
 ReadsPart has item can xs ys rows before new (Ok u) = IsRead (some has item) xs ys rows new
 ReadsPart has item can xs ys rows before new (Err (fault.BadRow n)) = IsStuck has item can xs ys rows before n
 ReadsPart has item can xs ys rows before new (Err fault.Memory) = ⊤
-ReadsPart has item can xs ys rows before new (Err fault.Read) = ⊥
-ReadsPart has item can xs ys rows before new (Err fault.TooLong) = ⊥
 
 -- ---- all items
 
@@ -90,19 +88,15 @@ pub record IsItemsBad (version : Version) (p : Drawing) (s : Standing) (rows : L
   pub front : take before rows ≡ take before (item_records version p s)
   pub none : (t : Standing) → IsStateOf p t → t.moment ≡ s.moment → take (suc before) rows ≢ take (suc before) (item_records version p t)
 
-abbrev pub ReadsItems : {T : Type 0} → Version → Drawing → Standing → List Fields → Result T TextFault → Type 0
+abbrev pub ReadsItems : {T : Type 0} → Version → Drawing → Standing → List Fields → Result T StateFault → Type 0
 ReadsItems version p s rows (Ok u) = rows ≡ item_records version p s
 ReadsItems version p s rows (Err (fault.BadRow n)) = IsItemsBad version p s rows n
 ReadsItems version p s rows (Err fault.Memory) = ⊤
-ReadsItems version p s rows (Err fault.Read) = ⊥
-ReadsItems version p s rows (Err fault.TooLong) = ⊥
 
 -- ---- all records
 
 -- what the reading of a state returns, where the state is given beside the result
-abbrev pub ReadsAll : {T : Type 0} → Drawing → Standing → List Fields → Result T TextFault → Type 0
+abbrev pub ReadsAll : {T : Type 0} → Drawing → Standing → List Fields → Result T StateFault → Type 0
 ReadsAll p s rows (Ok u) = HasRecords p s rows
 ReadsAll p s rows (Err (fault.BadRow n)) = IsFirstBad p rows n
 ReadsAll p s rows (Err fault.Memory) = ⊤
-ReadsAll p s rows (Err fault.Read) = ⊥
-ReadsAll p s rows (Err fault.TooLong) = ⊥

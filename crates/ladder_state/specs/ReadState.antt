@@ -3,8 +3,8 @@ use Rattle.std.specs.Prelude.{◌≡◌, ◌+◌, ⊤, ℕ, List, Result, Ok, Er
 use Rattle.ladder_records.specs.Left.{Fields}
 use Rattle.ladder_grid.specs.Program.{Drawing}
 use Rattle.ladder_scan.specs.Standing.{Standing}
-use Rattle.ladder_text.specs.declared.fault.TextFault.{TextFault}
-use Rattle.ladder_text.specs.declared.fault.TextFault.TheVariants as fault
+use Rattle.ladder_state.specs.declared.fault.StateFault.{StateFault}
+use Rattle.ladder_state.specs.declared.fault.StateFault.TheVariants as fault
 use Rattle.ladder_state.specs.declared.version.Version.{Version}
 use Rattle.ladder_state.specs.StateText.{AreTold, HasRecords, IsStateOf, state_records}
 
@@ -24,10 +24,8 @@ pub record IsFirstBad (p : Drawing) (rows : List Fields) (n : ℕ) : Type 0 wher
   pub front : Begins p rows before
   pub none : Begins p rows n → ⊥
 
--- The state whose records these are is returned, and otherwise the number of the first bad one. The bytes are in memory: no reader can fail.
-abbrev pub Reads : Drawing → List Fields → Result Standing TextFault → Type 0
+-- The state whose records these are is returned, and otherwise the number of the first bad one.
+abbrev pub Reads : Drawing → List Fields → Result Standing StateFault → Type 0
 Reads p rows (Ok s) = IsStateOf p s × HasRecords p s rows
 Reads p rows (Err (fault.BadRow n)) = IsFirstBad p rows n
 Reads p rows (Err fault.Memory) = ⊤
-Reads p rows (Err fault.Read) = ⊥
-Reads p rows (Err fault.TooLong) = ⊥

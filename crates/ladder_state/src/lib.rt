@@ -1,6 +1,7 @@
 //! The text of a state: its records, their reading and their writing.
 #![tactic(auto)]
 
+mod fault;
 pub mod laws;
 mod parts;
 mod read;
@@ -8,6 +9,7 @@ mod row;
 mod version;
 mod write;
 
+pub use fault::StateFault;
 pub use read::read_state;
 pub use version::Version;
 pub use write::write_state;

@@ -8,6 +8,7 @@ ghost use Rattle.ladder_scan.specs.Standing.{CanStore, Fits, IsStanding, with_bl
 ghost use Rattle.ladder_state.specs.Parts.{CanHold, ReadsItems, ReadsPart, TakesItem, block_item, block_records, each, every, tells};
 ghost use Rattle.ladder_state.specs.StateText.{block_record, memory_places, memory_record, var_record, AreTold};
 
+use crate::fault::StateFault;
 use crate::row::{read_block, read_memory, read_var};
 use crate::version::Version;
 use csv::ByteRecord;
@@ -15,7 +16,6 @@ use ladder_grid::geometry::{PLACES, ROWS};
 use ladder_grid::{Cell, Program};
 use ladder_records::{Records, next};
 use ladder_scan::{State, Stored};
-use ladder_text::TextFault;
 use ladder_vars::{Instance, Var};
 use std::alloc::AllocError;
 
@@ -43,7 +43,7 @@ fn read_values(
     row: &mut ByteRecord,
     before: u64,
     state: &mut State,
-) -> Result<(), TextFault>
+) -> Result<(), StateFault>
     requires plain { IsPlain records.old }
     requires few { length vars.now ≤ 256 }
     requires small { before ≤ 10000 }
@@ -55,10 +55,10 @@ fn read_values(
 {
     for number in 0..vars.len() {
         let Ok(value) = next_value(&vars[number], records, row) else {
-            return Err(TextFault::Memory);
+            return Err(StateFault::Memory);
         };
         let Some(value) = value else {
-            return Err(TextFault::BadRow {
+            return Err(StateFault::BadRow {
                 row: before + number as u64 + 1,
             });
         };
@@ -114,7 +114,7 @@ fn read_memories(
     row: &mut ByteRecord,
     before: u64,
     state: &mut State,
-) -> Result<(), TextFault>
+) -> Result<(), StateFault>
     requires plain { IsPlain records.old }
     requires small { before ≤ 10000 }
     requires memories { length state.old.held.kept.memories ≡ memories_of program.now }
@@ -130,10 +130,10 @@ fn read_memories(
             continue;
         }
         let Ok(value) = next_memory(place, records, row) else {
-            return Err(TextFault::Memory);
+            return Err(StateFault::Memory);
         };
         let Some(value) = value else {
-            return Err(TextFault::BadRow {
+            return Err(StateFault::BadRow {
                 row: before + number as u64 + 1,
             });
         };
@@ -170,7 +170,7 @@ fn read_blocks(
     row: &mut ByteRecord,
     before: u64,
     state: &mut State,
-) -> Result<u64, TextFault>
+) -> Result<u64, StateFault>
     requires plain { IsPlain records.old }
     requires few { length instances.now ≤ 64 }
     requires small { before ≤ 10000 }
@@ -192,10 +192,10 @@ fn read_blocks(
             continue;
         }
         let Ok(stored) = next_block(instance, state.moment(), records, row) else {
-            return Err(TextFault::Memory);
+            return Err(StateFault::Memory);
         };
         let Some(stored) = stored else {
-            return Err(TextFault::BadRow { row: last + 1 });
+            return Err(StateFault::BadRow { row: last + 1 });
         };
         state.set_block(number, stored);
         last += 1;
@@ -210,7 +210,7 @@ pub(crate) fn read_parts(
     records: &mut Records<'_>,
     row: &mut ByteRecord,
     state: &mut State,
-) -> Result<(), TextFault>
+) -> Result<(), StateFault>
     requires plain { IsPlain records.old }
     requires fits { Fits program.now state.old }
     requires told { AreTold version program.now.decls.instances state.old.held.kept.blocks }
@@ -235,11 +235,11 @@ pub(crate) fn read_parts(
         Err(fault) => return Err(fault),
     };
     let Ok(found) = next(records, row) else {
-        return Err(TextFault::Memory);
+        return Err(StateFault::Memory);
     };
     let beyond = last + 1;
     if found {
-        return Err(TextFault::BadRow { row: beyond });
+        return Err(StateFault::BadRow { row: beyond });
     }
     Ok(())
 }

@@ -8,6 +8,7 @@ ghost use Rattle.ladder_state.specs.Parts.{ReadsAll, TakesItem};
 ghost use Rattle.ladder_state.specs.ReadState.{Reads};
 ghost use Rattle.ladder_state.specs.StateText.{moment_record, version_record};
 
+use crate::fault::StateFault;
 use crate::parts::read_parts;
 use crate::row::read_moment;
 use crate::version::{Version, read_version};
@@ -15,7 +16,6 @@ use csv::ByteRecord;
 use ladder_grid::Program;
 use ladder_records::{Records, next, read_from};
 use ladder_scan::{Memory, State};
-use ladder_text::TextFault;
 use std::alloc::{AllocError, Global};
 
 /// The version in the next record, where that tells one.
@@ -53,7 +53,7 @@ fn read_records(
     records: &mut Records<'_>,
     row: &mut ByteRecord,
     state: &mut State,
-) -> Result<(), TextFault>
+) -> Result<(), StateFault>
     requires plain { IsPlain records.old }
     requires fresh { state.old ≡ fresh program.now }
     requires fits { Fits program.now state.old }
@@ -62,16 +62,16 @@ fn read_records(
     ensures reads { (rows : List Fields) → Left records.old rows → IsStanding state.new → ReadsAll program.now state.new rows result }
 {
     let Ok(version) = next_version(records, row) else {
-        return Err(TextFault::Memory);
+        return Err(StateFault::Memory);
     };
     let Some(version) = version else {
-        return Err(TextFault::BadRow { row: 1 });
+        return Err(StateFault::BadRow { row: 1 });
     };
     let Ok(moment) = next_moment(records, row) else {
-        return Err(TextFault::Memory);
+        return Err(StateFault::Memory);
     };
     let Some(moment) = moment else {
-        return Err(TextFault::BadRow { row: 2 });
+        return Err(StateFault::BadRow { row: 2 });
     };
     state.set_moment(moment);
     read_parts(version, program, records, row, state)
@@ -81,14 +81,13 @@ fn read_records(
 ///
 /// # Errors
 ///
-/// `BadRow` with the number of the first record that isn't of its form, `Memory` when out of memory. The bytes are at hand, so no
-/// other fault occurs.
-pub fn read_state(alloc: Global, program: &Program, text: &[u8]) -> Result<State, TextFault>
+/// `BadRow` with the number of the first record that isn't of its form, `Memory` when out of memory.
+pub fn read_state(alloc: Global, program: &Program, text: &[u8]) -> Result<State, StateFault>
     ensures { Reads program.now (records_of text.now) result }
 {
     let mut state = match State::fresh(alloc, program) {
         Ok(state) => state,
-        Err(Memory) => return Err(TextFault::Memory),
+        Err(Memory) => return Err(StateFault::Memory),
     };
     state.checked();
     let mut records = read_from(alloc, text);

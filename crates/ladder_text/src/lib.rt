@@ -11,7 +11,7 @@ mod tally;
 mod text;
 
 pub use block::Block;
-pub use fault::{TextFault, WriteFault};
+pub use fault::{ReadFault, WriteFault};
 pub use pieces::{Piece, put_pieces};
 pub use short::{SHORT, Short};
 pub use sink::{Sink, WriteFailed, Writing, put};

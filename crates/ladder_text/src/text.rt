@@ -3,7 +3,7 @@
 ghost use Rattle.std.specs.Prelude.{◌≡◌, ◌⊎◌, ◌<◌, ◌≤◌, ◌+◌, length, vec_len, IfOk, IfSome, IsErrOf};
 ghost use Rattle.ladder_text.specs.Calls.{AllPass, LastFails};
 
-use crate::fault::TextFault;
+use crate::fault::ReadFault;
 use crate::source::Source;
 use std::alloc::Global;
 
@@ -18,30 +18,30 @@ pub fn read_text<R: Source>(
     alloc: Global,
     reader: &mut R,
     limit: usize,
-) -> Result<Vec<u8>, TextFault>
+) -> Result<Vec<u8>, ReadFault>
     ensures whole { IfOk result (λ text. IfSome (R.log reader.old).remaining (λ all. text.items ≡ all)) }
     ensures within { IfOk result (λ text. vec_len text ≤ limit) }
-    ensures long { IsErrOf result TextFault.TooLong → IfSome (R.log reader.old).remaining (λ all. limit < length all) }
+    ensures long { IsErrOf result ReadFault.TooLong → IfSome (R.log reader.old).remaining (λ all. limit < length all) }
 
     // The reader failed in this call exactly where that is returned.
-    ensures failed { IsErrOf result TextFault.Read → LastFails (R.log reader.old).tally (R.log reader.new).tally }
-    ensures passed { IsErrOf result TextFault.Read ⊎ AllPass (R.log reader.old).tally (R.log reader.new).tally }
+    ensures failed { IsErrOf result ReadFault.Read → LastFails (R.log reader.old).tally (R.log reader.new).tally }
+    ensures passed { IsErrOf result ReadFault.Read ⊎ AllPass (R.log reader.old).tally (R.log reader.new).tally }
     ensures calls { (R.log reader.new).tally.calls ≤ (R.log reader.old).tally.calls + (limit + 2) }
 {
     let mut text = Vec::new(alloc);
     let mut piece = [0u8; 16384];
     loop {
         let Ok(count) = reader.read(&mut piece) else {
-            return Err(TextFault::Read);
+            return Err(ReadFault::Read);
         };
         if count == 0 {
             return Ok(text);
         }
         if limit - text.len() < count {
-            return Err(TextFault::TooLong);
+            return Err(ReadFault::TooLong);
         }
         if text.extend_from_slice(&piece[..count]).is_err() {
-            return Err(TextFault::Memory);
+            return Err(ReadFault::Memory);
         }
     }
 }

@@ -1,5 +1,5 @@
 -- How a request for causes ends, from what each step of it ensures.
-use Rattle.std.proofs.Common.{◌≡◌, ◌∙◌, ap, refl, ℕ, List, ◌∷◌, Some, inl, inr, length}
+use Rattle.std.proofs.Common.{◌≡◌, ◌⊎◌, ◌∙◌, ap, refl, ℕ, List, ◌∷◌, Some, inl, inr, length}
 use Rattle.std.specs.Prelude.{unwrap_or}
 use Rattle.ladder_vars.specs.Decls.{Declared}
 use Rattle.ladder_grid.specs.Program.{Drawing}
@@ -13,10 +13,9 @@ use Rattle.ladder_causes.specs.Prefixes.{search_of}
 use Rattle.ladder_causes.specs.Refusal.{reason}
 use Rattle.ladder_sim.specs.CauseText.{cause_text, limited}
 use Rattle.ladder_text.specs.Log.{PutsAll, PutsPrefix, WriteLog}
-use Rattle.ladder_tool.specs.declared.fault.ToolFault.{ToolFault}
 use Rattle.ladder_tool.specs.declared.fault.ToolFault.TheVariants as fault
-use Rattle.ladder_tool.specs.Performs.{Asking, HasCauseFault, HasListFault, HasWordFault, IsAsked, causes_for, looks_for, refusal_of, rows_line, rows_text}
-use Rattle.ladder_tool.specs.Setting.{Given, HasSettingFault, IsSet}
+use Rattle.ladder_tool.specs.Performs.{Asking, HasCauseFault, IsAsked, causes_for, looks_for, refusal_of, rows_line, rows_text}
+use Rattle.ladder_tool.specs.Setting.{Given, IsSet}
 use Rattle.ladder_tool.specs.Variables.{AreVariables, variable_of}
 
 pub asked_by : (g : Given) (a : Asking) (p : Drawing) (s : Standing) (decls : Declared) (now var : ℕ) (listed given : List ℕ)
@@ -25,28 +24,7 @@ pub asked_by : (g : Given) (a : Asking) (p : Drawing) (s : Standing) (decls : De
 asked_by g a p s decls now var listed given set same as_given at on among =
     record { set = set; at = at; on = rw same at on; among = rw as_given (rw same at among) }
 
-pub setting_fault : (g : Given) (a : Asking) (e : ToolFault) → HasSettingFault g e → HasListFault g a e
-setting_fault g a (fault.Grid f) h = h
-setting_fault g a (fault.Cause f) h = absurd h
-setting_fault g a (fault.Text k f) h = h
-setting_fault g a (fault.Word number) h = absurd h
-setting_fault g a (fault.Sim f) h = absurd h
-setting_fault g a fault.Write h = absurd h
-setting_fault g a fault.Memory h = tt
-setting_fault g a fault.Usage h = absurd h
-
-pub word_fault : (g : Given) (a : Asking) (p : Drawing) (s : Standing) (decls : Declared) (e : ToolFault)
-    → IsSet g p s → decls ≡ p.decls → HasWordFault decls (a.coil ∷ a.inputs) e → HasListFault g a e
-word_fault g a p s decls (fault.Grid f) set same h = absurd h
-word_fault g a p s decls (fault.Cause f) set same h = absurd h
-word_fault g a p s decls (fault.Text k f) set same h = absurd h
-word_fault g a p s decls (fault.Word number) set same h = (p, s, set, rw same at h)
-word_fault g a p s decls (fault.Sim f) set same h = absurd h
-word_fault g a p s decls fault.Write set same h = absurd h
-word_fault g a p s decls fault.Memory set same h = tt
-word_fault g a p s decls fault.Usage set same h = absurd h
-
-pub cause_fault : (a : Asking) (q : Question) (f : CauseFault) → refusal_of a q ≡ reason f → HasCauseFault a q f
+pub cause_fault : (a : Asking) (q : Question) (f : CauseFault) → refusal_of a q ≡ reason f → HasCauseFault a q (fault.Cause f)
 cause_fault a q cause.MomentBack h = inr h
 cause_fault a q cause.NotACoil h = inr h
 cause_fault a q cause.TooManyFree h = inr h
@@ -83,3 +61,12 @@ all_same a b xs ys e h = rw e at h
 
 pub prefix_same : (a b : WriteLog) (xs ys : List ℕ) → xs ≡ ys → PutsPrefix a b xs → PutsPrefix a b ys
 prefix_same a b xs ys e h = rw e at h
+
+-- What holds in each case holds beside the second one.
+pub with_second : {A B C D : Type 0} → D → A ⊎ (B × C) → A ⊎ (B × D × C)
+with_second d (inl a) = inl a
+with_second d (inr b) = inr (b.0, d, b.1)
+
+pub with_third : {A B D : Type 0} → D → A ⊎ B → A ⊎ (B × D)
+with_third d (inl a) = inl a
+with_third d (inr b) = inr (b, d)

@@ -1,6 +1,6 @@
 -- Faults and simulations of a text that is given by another name.
 use Rattle.std.proofs.Common.{◌≡◌, ℕ, List, Result}
-use Rattle.ladder_grid.specs.declared.fault.GridFault.{GridFault}
+use Rattle.ladder_tool.specs.declared.fault.ToolFault.{ToolFault}
 use Rattle.ladder_grid.specs.Program.{Drawing}
 use Rattle.ladder_records.specs.Text.{records_of}
 use Rattle.ladder_scan.specs.Standing.{Standing}
@@ -9,7 +9,7 @@ use Rattle.ladder_trace.specs.declared.fault.SimFault.{SimFault}
 use Rattle.ladder_trace.specs.Simulation.{Simulates}
 use Rattle.ladder_tool.specs.Setting.{HasProgramFault}
 
-pub program_fault : (a b : List ℕ) (f : GridFault) → a ≡ b → HasProgramFault a f → HasProgramFault b f
+pub program_fault : (a b : List ℕ) (f : ToolFault) → a ≡ b → HasProgramFault a f → HasProgramFault b f
 program_fault a b f e h = rw e at h
 
 pub same_stimulus : (p : Drawing) (s t : Standing) (a b : List ℕ) (old new : WriteLog) (r : Result ℕ SimFault) → a ≡ b

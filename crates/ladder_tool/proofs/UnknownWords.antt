@@ -1,5 +1,7 @@
 -- The first word that names no variable.
-use Rattle.std.proofs.Common.{◌≡◌, ◌∙◌, ap, sym, refl, ℕ, ◌+◌, ◌<◌, ◌≤◌, List, [], ◌∷◌, length, take, map, Some, None, get_or, slice_index_or, arith, add-one}
+use Rattle.std.proofs.Common.{◌≡◌, ◌∙◌, ap, sym, refl, ℕ, zero, suc, Bool, true, ◌+◌, ◌<◌, ◌≤◌, List, [], ◌∷◌, cond, length, take, map, position, Some, None, get_or, slice_index_or, arith, add-one, is_none, nat_lt}
+use Rattle.std.specs.List.{position_or_len}
+use Rattle.std.proofs.lemmas.Bool.{lt-ltb}
 use Rattle.std.proofs.lemmas.List.{get_or-map, length-map, length-take-le, take-map}
 use Rattle.clap.specs.Words.{Text}
 use Rattle.ladder_vars.specs.Decls.{Declared}
@@ -13,22 +15,31 @@ known_count decls words i vars h known =
     ∙ length-map (take i words) (variable_of decls)
     ∙ length-take-le i words h
 
+-- the words before it are known
+first_at : (decls : Declared) (words : List Text) (i : ℕ) (vars : List ℕ) → i < length words → variable_of decls (slice_index_or words i []) ≡ None
+    → AreVariables decls (take i words) vars → position_or_len (λ word. is_none (variable_of decls word)) words ≡ i
+first_at decls [] i vars there unknown known = absurd (omega (arith, there))
+first_at decls (w ∷ words) zero vars there unknown known = rw unknown refl
+first_at decls (w ∷ words) (suc i) [] there unknown known = cc
+first_at decls (w ∷ words) (suc i) (v ∷ vars) there unknown known =
+    let is_known : variable_of decls w ≡ Some v = cc in
+    let others : AreVariables decls (take i words) vars = cc in
+    let one_more : 1 + i ≡ suc i = omega arith in
+    rw is_known (ap (λ n. 1 + n) (first_at decls words i vars (omega (arith, there)) unknown others) ∙ one_more)
+
+position_there : {A : Type 0} (p : A → Bool) (xs : List A) (i : ℕ) → i < length xs → position_or_len p xs ≡ i → position p xs ≡ Some i
+position_there p xs i there is =
+    let below : nat_lt i (length xs) ≡ true = lt-ltb i (length xs) there in
+    rw (is, below) refl
+
 -- behind a first word that names a variable
 pub unknown_behind : (decls : Declared) (first : Text) (v : ℕ) (words : List Text) (i : ℕ) (vars : List ℕ)
     → variable_of decls first ≡ Some v → i < length words → variable_of decls (slice_index_or words i []) ≡ None
     → AreVariables decls (take i words) vars → IsUnknownWord decls (first ∷ words) (length vars + 2)
 unknown_behind decls first v words i vars is_first there unknown known =
     let counted = known_count decls words i vars (omega arith) known in
-    record {
-      at = i + 1;
-      counted = omega arith;
-      first = rw (add-one i) (record {
-        there = omega arith;
-        unknown = unknown;
-        before = v ∷ vars;
-        known = rw (is_first, known) refl;
-      });
-    }
+    let known_first : AreVariables decls (take (suc i) (first ∷ words)) (v ∷ vars) = rw (is_first, known) refl in
+    (suc i, position_there (λ word. is_none (variable_of decls word)) (first ∷ words) (suc i) (omega arith) (first_at decls (first ∷ words) (suc i) (v ∷ vars) (omega arith) unknown known_first), omega arith)
 
 -- the same of words that are the texts of items
 pub unknown_item : {A : Type 0} (decls : Declared) (first : Text) (v : ℕ) (show : A → Text) (items : List A) (i : ℕ) (item : A) (vars : List ℕ)
@@ -38,3 +49,8 @@ unknown_item decls first v show items i item vars is_first there is unknown know
     let same : slice_index_or (map show items) i [] ≡ show item = get_or-map show items i item [] there ∙ sym (ap show is) in
     let front : take i (map show items) ≡ map show (take i items) = take-map show i items in
     unknown_behind decls first v (map show items) i vars is_first (rw (length-map items show) there) (rw same unknown) (rw front known)
+
+-- a first word that names no variable
+pub unknown_first : (decls : Declared) (first : Text) (words : List Text) → variable_of decls first ≡ None → IsUnknownWord decls (first ∷ words) 1
+unknown_first decls first words unknown =
+    (0, position_there (λ word. is_none (variable_of decls word)) (first ∷ words) 0 (omega arith) (rw unknown refl), refl)

@@ -9,8 +9,9 @@ use Rattle.ladder_grid.specs.declared.fault.GridRule.{GridRule}
 use Rattle.ladder_grid.specs.declared.fault.GridRule.TheVariants as rule
 use Rattle.ladder_causes.specs.declared.fault.CauseFault.{CauseFault}
 use Rattle.ladder_causes.specs.declared.fault.CauseFault.TheVariants as cause
-use Rattle.ladder_text.specs.declared.fault.TextFault.{TextFault}
-use Rattle.ladder_text.specs.declared.fault.TextFault.TheVariants as text
+use Rattle.ladder_text.specs.declared.fault.ReadFault.{ReadFault}
+use Rattle.ladder_text.specs.declared.fault.ReadFault.TheVariants as read
+use Rattle.ladder_state.specs.declared.fault.StateFault.TheVariants as state
 use Rattle.ladder_trace.specs.declared.fault.SimFault.{SimFault}
 use Rattle.ladder_trace.specs.declared.fault.SimFault.TheVariants as sim
 use Rattle.ladder_tool.specs.declared.fault.TextKind.{TextKind}
@@ -83,11 +84,11 @@ kind_word kind.Stimulus = codes "stimulus"
 abbrev pub bad_row_line : TextKind → ℕ → List ℕ
 bad_row_line k row = codes "fault X2 " ++ (kind_word k ++ (codes " row " ++ (decimal row ++ codes "\n")))
 
-abbrev pub text_line : TextKind → TextFault → List ℕ
-text_line k text.Read = codes "fault X1 " ++ (kind_word k ++ codes "\n")
-text_line k text.TooLong = codes "fault X5 " ++ (kind_word k ++ codes "\n")
-text_line k (text.BadRow row) = bad_row_line k row
-text_line k text.Memory = codes "fault X7\n"
+-- a text that can't be read
+abbrev pub read_line : TextKind → ReadFault → List ℕ
+read_line k read.Read = codes "fault X1 " ++ (kind_word k ++ codes "\n")
+read_line k read.TooLong = codes "fault X5 " ++ (kind_word k ++ codes "\n")
+read_line k read.Memory = codes "fault X7\n"
 
 abbrev pub row_line : List ℕ → ℕ → List ℕ
 row_line rule row = rule ++ (decimal row ++ codes "\n")
@@ -104,7 +105,9 @@ sim_line sim.Memory = codes "fault X7\n"
 abbrev pub fault_line : ToolFault → List ℕ
 fault_line (fault.Grid f) = grid_line f
 fault_line (fault.Cause f) = codes "fault C" ++ (decimal (cause_number f) ++ codes "\n")
-fault_line (fault.Text k f) = text_line k f
+fault_line (fault.Read k f) = read_line k f
+fault_line (fault.State (state.BadRow row)) = bad_row_line kind.State row
+fault_line (fault.State state.Memory) = codes "fault X7\n"
 fault_line (fault.Word number) = codes "fault X3 word " ++ (decimal number ++ codes "\n")
 fault_line (fault.Sim f) = sim_line f
 fault_line fault.Write = codes "fault X6\n"

@@ -5,3 +5,4 @@ pub mod FaultLine
 pub mod Variables
 pub mod Setting
 pub mod Performs
+pub mod Files

@@ -1,5 +1,5 @@
 -- How a request ends: all is written, or a fault stops it.
-use Rattle.std.specs.Prelude.{◌≡◌, ◌⊎◌, ◌++◌, ◌∷◌, ℕ, List, Bool, true, false, Option, None, Some, Ok, Err, codes, decimal, is_some, length, map, string_bytes, unwrap_or}
+use Rattle.std.specs.Prelude.{◌≡◌, ◌⊎◌, ◌++◌, ◌∷◌, ℕ, List, Bool, true, false, Option, None, Some, Result, Ok, Err, codes, decimal, is_some, length, map, string_bytes, unwrap_or}
 use Rattle.clap.specs.Words.{Text}
 use Rattle.ladder_vars.specs.Decls.{Declared}
 use Rattle.ladder_grid.specs.Program.{Drawing}
@@ -39,12 +39,13 @@ logs out save err = record { out = out; save = save; err = err }
 abbrev pub IsReported : WriteLog → WriteLog → ToolFault → Type 0
 IsReported old new f = PutsAll old new (fault_line f) ⊎ PutsPrefix old new (fault_line f)
 
--- Status 1, by a fault that the texts and arguments have: nothing was written on `out`.
-pub record Refuses (Has : ToolFault → Type 0) (out out' err err' : WriteLog) : Type 0 where
+-- Status 1, by a fault that the texts and arguments have: nothing was written but its line on `err`.
+pub record Refuses (Has : ToolFault → Type 0) (old new : Logs) : Type 0 where
   pub reason : ToolFault
   pub has : Has reason
-  pub unwritten : out' ≡ out
-  pub reported : IsReported err err' reason
+  pub unwritten : new.out ≡ old.out
+  pub unsaved : new.save ≡ old.save
+  pub reported : IsReported old.err new.err reason
 
 -- ---- a text about the program alone
 
@@ -54,33 +55,9 @@ check_line p =
     codes "rungs " ++ (decimal p.rungs ++ (codes " variables " ++ (decimal (length p.decls.vars) ++ (codes " instances "
     ++ (decimal (length p.decls.instances) ++ codes "\n")))))
 
--- a fault of the program text
-abbrev pub IsNoProgram : List ℕ → ToolFault → Type 0
-IsNoProgram text (fault.Grid f) = HasProgramFault text f
-IsNoProgram text (fault.Cause f) = ⊥
-IsNoProgram text (fault.Text k f) = ⊥
-IsNoProgram text (fault.Word number) = ⊥
-IsNoProgram text (fault.Sim f) = ⊥
-IsNoProgram text fault.Write = ⊥
-IsNoProgram text fault.Memory = ⊥
-IsNoProgram text fault.Usage = ⊥
-
--- Status 0: the text about the program was written.
-pub record Prints (about : Drawing → List ℕ) (text : List ℕ) (out out' err err' : WriteLog) : Type 0 where
-  pub program : Drawing
-  pub drawn : IsProgram text program
-  pub wrote : PutsAll out out' (about program)
-  pub silent : err' ≡ err
-
--- Status 1: `out` failed at that text.
-pub record BreaksPrint (about : Drawing → List ℕ) (text : List ℕ) (out out' err err' : WriteLog) : Type 0 where
-  pub program : Drawing
-  pub drawn : IsProgram text program
-  pub wrote : PutsPrefix out out' (about program)
-  pub reported : IsReported err err' fault.Write
-
-abbrev pub FailsPrint : (Drawing → List ℕ) → List ℕ → WriteLog → WriteLog → WriteLog → WriteLog → Type 0
-FailsPrint about text out out' err err' = Refuses (IsNoProgram text) out out' err err' ⊎ BreaksPrint about text out out' err err'
+-- The text about the program is written: whole, or as far as `Written` says.
+abbrev pub Prints : (Drawing → List ℕ) → List ℕ → (List ℕ → Type 0) → Type 0
+Prints about text Written = (p : Drawing) × IsProgram text p × Written (about p)
 
 -- ---- a list of causes
 
@@ -93,7 +70,7 @@ pub record Asking : Type 0 where
   pub coil : Text
   pub inputs : List Text
 
--- The texts tell the program and the state, and the names are those of the variables. Without a moment the scan is at the stored one.
+-- The texts describe the program and the state, and the names are those of the variables. Without a moment the scan is at the stored one.
 pub record IsAsked (g : Given) (a : Asking) (q : Question) : Type 0 where
   pub set : IsSet g q.program q.state
   pub at : q.now ≡ unwrap_or a.moment q.state.moment
@@ -108,47 +85,33 @@ refusal_of a q = refusal q.program q.state.moment q.now q.coil q.listed a.after
 abbrev pub causes_for : Asking → Question → List ℕ
 causes_for a q = limited a.limit (causes_after a.after q)
 
--- The question breaks this rule first; being out of memory has no reason in it.
-abbrev pub HasCauseFault : Asking → Question → CauseFault → Type 0
-HasCauseFault a q f = (f ≡ cause.Memory) ⊎ (refusal_of a q ≡ Some f)
+-- The text of the causes is written, whole or as far as `Written` says: all rows that are asked for, and no other.
+pub record Lists (g : Given) (a : Asking) (Written : List ℕ → Type 0) : Type 0 where
+  pub question : Question
+  pub asked : IsAsked g a question
+  pub accepted : refusal_of a question ≡ None
+  pub rows : Written (cause_text question.program question.listed (causes_for a question))
+
+abbrev pub ListsCauses : Given → Asking → WriteLog → WriteLog → Type 0
+ListsCauses g a out out' = Lists g a (PutsAll out out')
 
 -- The first word that names no variable, or being out of memory.
 abbrev pub HasWordFault : Declared → List Text → ToolFault → Type 0
-HasWordFault decls words (fault.Grid f) = ⊥
-HasWordFault decls words (fault.Cause f) = ⊥
-HasWordFault decls words (fault.Text k f) = ⊥
 HasWordFault decls words (fault.Word number) = IsUnknownWord decls words number
-HasWordFault decls words (fault.Sim f) = ⊥
-HasWordFault decls words fault.Write = ⊥
 HasWordFault decls words fault.Memory = Unit {0}
-HasWordFault decls words fault.Usage = ⊥
+HasWordFault decls words other = ⊥
+
+-- The question breaks this rule first; being out of memory has no reason in it.
+abbrev pub HasCauseFault : Asking → Question → ToolFault → Type 0
+HasCauseFault a q (fault.Cause f) = (f ≡ cause.Memory) ⊎ (refusal_of a q ≡ Some f)
+HasCauseFault a q other = ⊥
 
 -- Faults are looked for in this order: in the program text, in the state text, in the names, in what is asked.
 abbrev pub HasListFault : Given → Asking → ToolFault → Type 0
-HasListFault g a (fault.Grid f) = HasSettingFault g (fault.Grid f)
-HasListFault g a (fault.Cause f) = (q : Question) × IsAsked g a q × HasCauseFault a q f
-HasListFault g a (fault.Text k f) = HasSettingFault g (fault.Text k f)
-HasListFault g a (fault.Word number) =
-    (p : Drawing) × (s : Standing) × IsSet g p s × IsUnknownWord p.decls (a.coil ∷ a.inputs) number
-HasListFault g a (fault.Sim f) = ⊥
-HasListFault g a fault.Write = ⊥
-HasListFault g a fault.Memory = Unit {0}
-HasListFault g a fault.Usage = ⊥
-
--- The text of the causes was written: all rows that are asked for, and no other.
-pub record ListsCauses (g : Given) (a : Asking) (out out' : WriteLog) : Type 0 where
-  pub question : Question
-  pub asked : IsAsked g a question
-  pub accepted : refusal_of a question ≡ None
-  pub rows : PutsAll out out' (cause_text question.program question.listed (causes_for a question))
-
--- Status 1: `out` failed at that text, and X6 is on `err`.
-pub record BreaksList (g : Given) (a : Asking) (out out' err err' : WriteLog) : Type 0 where
-  pub question : Question
-  pub asked : IsAsked g a question
-  pub accepted : refusal_of a question ≡ None
-  pub rows : PutsPrefix out out' (cause_text question.program question.listed (causes_for a question))
-  pub reported : IsReported err err' fault.Write
+HasListFault g a f =
+    HasSettingFault g f
+    ⊎ (((p : Drawing) × (s : Standing) × IsSet g p s × HasWordFault p.decls (a.coil ∷ a.inputs) f)
+    ⊎ ((q : Question) × IsAsked g a q × HasCauseFault a q f))
 
 -- ---- the count of a list's rows and of the looks for them
 
@@ -163,67 +126,42 @@ rows_line rows looks = codes "rows " ++ (decimal rows ++ (codes " looks " ++ (de
 abbrev pub rows_text : Asking → Question → List ℕ
 rows_text a q = rows_line (length (causes_for a q)) (looks_for a q)
 
--- Status 0: the rows were listed, and then counted with the looks for them.
-pub record CountsList (g : Given) (a : Asking) (out out' err err' : WriteLog) : Type 0 where
+-- The rows were listed, and then their number and that of the looks for them is written: whole, or as far as `Counted` says.
+pub record CountsList (g : Given) (a : Asking) (out out' : WriteLog) (Counted : List ℕ → Type 0) : Type 0 where
   pub list : ListsCauses g a out out'
-  pub count : PutsAll err err' (rows_text a list.question)
+  pub count : Counted (rows_text a list.question)
 
--- Status 1: the rows were listed, and then `err` failed.
-pub record BreaksCount (g : Given) (a : Asking) (out out' err err' : WriteLog) : Type 0 where
-  pub list : ListsCauses g a out out'
-  pub count : PutsPrefix err err' (rows_text a list.question)
-
-abbrev pub FailsList : Given → Asking → WriteLog → WriteLog → WriteLog → WriteLog → Type 0
-FailsList g a out out' err err' =
-    Refuses (HasListFault g a) out out' err err' ⊎ (BreaksList g a out out' err err' ⊎ BreaksCount g a out out' err err')
+-- Status 1: `out` failed at the rows, or `err` at their count.
+abbrev pub BreaksList : Given → Asking → Logs → Logs → Type 0
+BreaksList g a old new =
+    (Lists g a (PutsPrefix old.out new.out) × IsReported old.err new.err fault.Write) ⊎ CountsList g a old.out new.out (PutsPrefix old.err new.err)
 
 -- ---- a simulation
 
+-- The stimulus was simulated from the state that is given, with this result, and this holds of the state after its last scan.
+pub record Traces (g : Given) (out out' : WriteLog) (r : Result ℕ SimFault) (Saved : Drawing → Standing → Type 0) : Type 0 where
+  pub program : Drawing
+  pub before : Standing
+  pub after : Standing
+  pub set : IsSet g program before
+  pub trace : Simulates program before (stimulus_records g) after out out' r
+  pub saved : Saved program after
+
 -- The state is written where it is to be saved.
-abbrev pub IsSaved : Bool → Drawing → Standing → WriteLog → WriteLog → Type 0
-IsSaved true p s save save' = PutsAll save save' (state_text p s)
-IsSaved false p s save save' = save' ≡ save
+abbrev pub IsSaved : Bool → WriteLog → WriteLog → Drawing → Standing → Type 0
+IsSaved true save save' p s = PutsAll save save' (state_text p s)
+IsSaved false save save' p s = save' ≡ save
 
--- Status 0: the trace of the whole stimulus was written, and the state after its last scan.
-pub record IsTraced (g : Given) (saves : Bool) (old new : Logs) : Type 0 where
-  pub program : Drawing
-  pub before : Standing
-  pub after : Standing
-  pub scans : ℕ
-  pub set : IsSet g program before
-  pub trace : Simulates program before (stimulus_records g) after old.out new.out (Ok scans)
-  pub saved : IsSaved saves program after old.save new.save
-  pub silent : new.err ≡ old.err
+-- Status 0: the trace of the whole stimulus was written.
+abbrev pub IsTraced : Given → Bool → Logs → Logs → Type 0
+IsTraced g saves old new = (scans : ℕ) × Traces g old.out new.out (Ok scans) (IsSaved saves old.save new.save) × (new.err ≡ old.err)
 
--- Status 1, by a fault while running: the trace was written as far as `Simulates` says, and no state.
-pub record StopsTrace (g : Given) (old new : Logs) : Type 0 where
-  pub program : Drawing
-  pub before : Standing
-  pub after : Standing
-  pub reason : SimFault
-  pub set : IsSet g program before
-  pub trace : Simulates program before (stimulus_records g) after old.out new.out (Err reason)
-  pub unsaved : new.save ≡ old.save
-  pub reported : IsReported old.err new.err (fault.Sim reason)
-
--- Status 1: the trace was written, and then `save` failed.
-pub record BreaksSave (g : Given) (saves : Bool) (old new : Logs) : Type 0 where
-  pub program : Drawing
-  pub before : Standing
-  pub after : Standing
-  pub scans : ℕ
-  pub set : IsSet g program before
-  pub trace : Simulates program before (stimulus_records g) after old.out new.out (Ok scans)
-  pub asked : saves ≡ true
-  pub saved : PutsPrefix old.save new.save (state_text program after)
-  pub reported : IsReported old.err new.err fault.Write
-
--- a fault before the first scan: nothing was written but its line
-abbrev pub RefusesTrace : Given → Logs → Logs → Type 0
-RefusesTrace g old new = Refuses (HasSettingFault g) old.out new.out old.err new.err × (new.save ≡ old.save)
-
-abbrev pub FailsTrace : Given → Bool → Logs → Logs → Type 0
-FailsTrace g saves old new = RefusesTrace g old new ⊎ (StopsTrace g old new ⊎ BreaksSave g saves old new)
+-- Status 1: a fault stopped the simulation, and no state was saved; or the state was to be saved, and `save` failed.
+abbrev pub BreaksTrace : Given → Bool → Logs → Logs → Type 0
+BreaksTrace g saves old new =
+    ((f : SimFault) × Traces g old.out new.out (Err f) (λ p s. new.save ≡ old.save) × IsReported old.err new.err (fault.Sim f))
+    ⊎ ((scans : ℕ) × (saves ≡ true) × Traces g old.out new.out (Ok scans) (λ p s. PutsPrefix old.save new.save (state_text p s))
+    × IsReported old.err new.err fault.Write)
 
 -- ---- all requests
 
@@ -231,18 +169,33 @@ FailsTrace g saves old new = RefusesTrace g old new ⊎ (StopsTrace g old new �
 abbrev pub asking : Option ℕ → Option ℕ → Option ℕ → Text → List Text → Asking
 asking moment after limit coil inputs = record { moment = moment; after = after; limit = limit; coil = coil; inputs = inputs }
 
--- Status 0. Only a simulation writes on `save`.
+-- Status 0. Only a simulation writes on `save`, and only a list on `err`.
 abbrev pub IsDone : Request → Given → Logs → Logs → Type 0
-IsDone (Check file) g old new = Prints check_line g.program old.out new.out old.err new.err × (new.save ≡ old.save)
+IsDone (Check file) g old new = Prints check_line g.program (PutsAll old.out new.out) × (new.save ≡ old.save) × (new.err ≡ old.err)
 IsDone (Causes state moment after limit file coil inputs) g old new =
-    CountsList g (asking moment after limit (string_bytes coil) (map string_bytes inputs.items)) old.out new.out old.err new.err × (new.save ≡ old.save)
+    CountsList g (asking moment after limit (string_bytes coil) (map string_bytes inputs.items)) old.out new.out (PutsAll old.err new.err)
+    × (new.save ≡ old.save)
 IsDone (Sim state save file stimulus) g old new = IsTraced g (is_some save) old new
-IsDone (Uses file) g old new = Prints uses_text g.program old.out new.out old.err new.err × (new.save ≡ old.save)
+IsDone (Uses file) g old new = Prints uses_text g.program (PutsAll old.out new.out) × (new.save ≡ old.save) × (new.err ≡ old.err)
+
+-- the faults that the texts and arguments of a request can have
+abbrev pub HasFault : Request → Given → ToolFault → Type 0
+HasFault (Check file) g = HasProgramFault g.program
+HasFault (Causes state moment after limit file coil inputs) g =
+    HasListFault g (asking moment after limit (string_bytes coil) (map string_bytes inputs.items))
+HasFault (Sim state save file stimulus) g = HasSettingFault g
+HasFault (Uses file) g = HasProgramFault g.program
+
+-- Status 1, by a fault while running.
+abbrev pub Breaks : Request → Given → Logs → Logs → Type 0
+Breaks (Check file) g old new =
+    Prints check_line g.program (PutsPrefix old.out new.out) × (new.save ≡ old.save) × IsReported old.err new.err fault.Write
+Breaks (Causes state moment after limit file coil inputs) g old new =
+    BreaksList g (asking moment after limit (string_bytes coil) (map string_bytes inputs.items)) old new × (new.save ≡ old.save)
+Breaks (Sim state save file stimulus) g old new = BreaksTrace g (is_some save) old new
+Breaks (Uses file) g old new =
+    Prints uses_text g.program (PutsPrefix old.out new.out) × (new.save ≡ old.save) × IsReported old.err new.err fault.Write
 
 -- Status 1.
 abbrev pub IsFailed : Request → Given → Logs → Logs → Type 0
-IsFailed (Check file) g old new = FailsPrint check_line g.program old.out new.out old.err new.err × (new.save ≡ old.save)
-IsFailed (Causes state moment after limit file coil inputs) g old new =
-    FailsList g (asking moment after limit (string_bytes coil) (map string_bytes inputs.items)) old.out new.out old.err new.err × (new.save ≡ old.save)
-IsFailed (Sim state save file stimulus) g old new = FailsTrace g (is_some save) old new
-IsFailed (Uses file) g old new = FailsPrint uses_text g.program old.out new.out old.err new.err × (new.save ≡ old.save)
+IsFailed r g old new = Refuses (HasFault r g) old new ⊎ Breaks r g old new

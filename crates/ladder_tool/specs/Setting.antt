@@ -1,16 +1,13 @@
--- What a request is about: the bytes of its texts, and the program and the state that they tell.
-use Rattle.std.specs.Prelude.{◌≡◌, ℕ, List, [], Option, None, Some, option_map, unwrap_or, vec_items}
-use Rattle.ladder_grid.specs.declared.fault.GridFault.{GridFault}
+-- What a request is about: the bytes of its texts, and the program and the state that they describe.
+use Rattle.std.specs.Prelude.{◌≡◌, ◌⊎◌, ℕ, List, [], Option, None, Some, option_map, unwrap_or, vec_items}
 use Rattle.ladder_grid.specs.Program.{Drawing}
 use Rattle.ladder_grid.specs.Reading.{IsMemory, IsProgram, IsRight}
 use Rattle.ladder_records.specs.Left.{Fields}
 use Rattle.ladder_records.specs.Text.{records_of}
 use Rattle.ladder_scan.specs.Standing.{Standing, fresh}
+use Rattle.ladder_state.specs.declared.fault.StateFault.TheVariants as state
 use Rattle.ladder_state.specs.ReadState.{IsFirstBad}
 use Rattle.ladder_state.specs.StateText.{HasRecords, IsStateOf}
-use Rattle.ladder_text.specs.declared.fault.TextFault.{TextFault}
-use Rattle.ladder_text.specs.declared.fault.TextFault.TheVariants as text
-use Rattle.ladder_tool.specs.declared.fault.TextKind.TheVariants as kind
 use Rattle.ladder_tool.specs.declared.fault.ToolFault.{ToolFault}
 use Rattle.ladder_tool.specs.declared.fault.ToolFault.TheVariants as fault
 use Rattle.ladder_tool.specs.declared.request.Texts.{Texts}
@@ -24,12 +21,12 @@ pub record Given : Type 0 where
 abbrev pub given_by : Texts → Given
 given_by t = record { program = t.program.items; state = option_map vec_items t.state; stimulus = option_map vec_items t.stimulus }
 
--- The state that a text tells, or the fresh one where there is no text.
+-- The state that a text describes, or the fresh one where there is no text.
 abbrev pub HasState : Drawing → Option (List ℕ) → Standing → Type 0
 HasState p None s = s ≡ fresh p
 HasState p (Some text) s = IsStateOf p s × HasRecords p s (records_of text)
 
--- The texts tell this program and this state of it.
+-- The texts describe this program and this state of it.
 pub record IsSet (g : Given) (p : Drawing) (s : Standing) : Type 0 where
   pub drawn : IsProgram g.program p
   pub stored : HasState p g.state s
@@ -41,37 +38,17 @@ stimulus_records g = records_of (unwrap_or g.stimulus [])
 -- ---- faults of the program text, and then of the state text
 
 -- The text is no program, and breaks the rule that is named; being out of memory has no reason in the text.
-abbrev pub HasProgramFault : List ℕ → GridFault → Type 0
-HasProgramFault text f = (¬ (IsMemory f) → (p : Drawing) → IsProgram text p → ⊥) × IsRight text f
+abbrev pub HasProgramFault : List ℕ → ToolFault → Type 0
+HasProgramFault text (fault.Grid f) = (¬ (IsMemory f) → (p : Drawing) → IsProgram text p → ⊥) × IsRight text f
+HasProgramFault text other = ⊥
 
--- The record of this number is the first bad one of the state text; being out of memory has no reason in the text.
-abbrev pub HasStateFault : Drawing → Option (List ℕ) → TextFault → Type 0
-HasStateFault p None f = ⊥
-HasStateFault p (Some t) text.Read = ⊥
-HasStateFault p (Some t) text.TooLong = ⊥
-HasStateFault p (Some t) (text.BadRow row) = IsFirstBad p (records_of t) row
-HasStateFault p (Some t) text.Memory = Unit {0}
-
--- what no state can be had for
-abbrev pub IsNoState : Drawing → Option (List ℕ) → ToolFault → Type 0
-IsNoState p state (fault.Grid f) = ⊥
-IsNoState p state (fault.Cause f) = ⊥
-IsNoState p state (fault.Text kind.Program f) = ⊥
-IsNoState p state (fault.Text kind.State f) = HasStateFault p state f
-IsNoState p state (fault.Text kind.Stimulus f) = ⊥
-IsNoState p state (fault.Word number) = ⊥
-IsNoState p state (fault.Sim f) = ⊥
-IsNoState p state fault.Write = ⊥
-IsNoState p state fault.Memory = Unit {0}
-IsNoState p state fault.Usage = ⊥
+-- The record of this number is the first bad one of the state text, or a state was out of memory.
+abbrev pub HasStateFault : Drawing → Option (List ℕ) → ToolFault → Type 0
+HasStateFault p (Some text) (fault.State (state.BadRow row)) = IsFirstBad p (records_of text) row
+HasStateFault p (Some text) (fault.State state.Memory) = Unit {0}
+HasStateFault p None fault.Memory = Unit {0}
+HasStateFault p text other = ⊥
 
 -- A fault of the program text, or of the state text of a good program.
 abbrev pub HasSettingFault : Given → ToolFault → Type 0
-HasSettingFault g (fault.Grid f) = HasProgramFault g.program f
-HasSettingFault g (fault.Cause f) = ⊥
-HasSettingFault g (fault.Text k f) = (p : Drawing) × IsProgram g.program p × IsNoState p g.state (fault.Text k f)
-HasSettingFault g (fault.Word number) = ⊥
-HasSettingFault g (fault.Sim f) = ⊥
-HasSettingFault g fault.Write = ⊥
-HasSettingFault g fault.Memory = Unit {0}
-HasSettingFault g fault.Usage = ⊥
+HasSettingFault g f = HasProgramFault g.program f ⊎ ((p : Drawing) × IsProgram g.program p × HasStateFault p g.state f)

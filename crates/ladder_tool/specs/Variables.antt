@@ -1,5 +1,5 @@
 -- The variables that the arguments COIL and INPUT.. name. An argument names a variable whatever its letter case.
-use Rattle.std.specs.Prelude.{◌≡◌, ℕ, ◌+◌, ◌<◌, List, Option, Some, None, length, map, take, slice_index_or, [], if◌then◌else◌}
+use Rattle.std.specs.Prelude.{◌≡◌, ℕ, ◌+◌, List, Option, Some, None, is_none, map, position, if◌then◌else◌}
 use Rattle.clap.specs.Words.{Text}
 use Rattle.ladder_vars.specs.declared.decls.Symbol.{Symbol}
 use Rattle.ladder_vars.specs.declared.decls.Symbol.TheVariants as symbol
@@ -17,15 +17,6 @@ variable_of decls word = if is_name word then var_in (find decls word) else None
 abbrev pub AreVariables : Declared → List Text → List ℕ → Type 0
 AreVariables decls words vars = map (variable_of decls) words ≡ map Some vars
 
--- the word at i, counted from 0, names no variable, and all before it do
-pub record IsUnknownAt (decls : Declared) (words : List Text) (i : ℕ) : Type 0 where
-  pub there : i < length words
-  pub unknown : variable_of decls (slice_index_or words i []) ≡ None
-  pub before : List ℕ
-  pub known : AreVariables decls (take i words) before
-
--- the word of this number, counted from 1, is the first that names no variable
-pub record IsUnknownWord (decls : Declared) (words : List Text) (number : ℕ) : Type 0 where
-  pub at : ℕ
-  pub counted : number ≡ at + 1
-  pub first : IsUnknownAt decls words at
+-- The word of this number, counted from 1, is the first that names no variable.
+abbrev pub IsUnknownWord : Declared → List Text → ℕ → Type 0
+IsUnknownWord decls words number = (at : ℕ) × (position (λ word. is_none (variable_of decls word)) words ≡ Some at) × (number ≡ at + 1)

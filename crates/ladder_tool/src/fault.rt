@@ -2,12 +2,12 @@
 
 ghost use Rattle.std.specs.Prelude.{◌≡◌};
 ghost use Rattle.ladder_text.specs.Log.{Puts};
-ghost use Rattle.ladder_tool.specs.FaultLine.{bad_row_line, cause_number, fault_line, grid_number, kind_word, row_line, sim_line, text_line, var_line, var_number};
+ghost use Rattle.ladder_tool.specs.FaultLine.{bad_row_line, cause_number, fault_line, grid_number, kind_word, read_line, row_line, sim_line, var_line, var_number};
 
 use ladder_causes::CauseFault;
 use ladder_grid::{GridFault, GridRule};
-use ladder_sim::SimFault;
-use ladder_text::{Piece, Sink, TextFault, WriteFault, put, put_pieces};
+use ladder_sim::{SimFault, StateFault};
+use ladder_text::{Piece, ReadFault, Sink, WriteFault, put, put_pieces};
 use ladder_vars::{VarFault, VarRule};
 use thiserror::Error;
 
@@ -28,9 +28,12 @@ pub enum ToolFault {
     /// There is no list of causes.
     #[error("{0}")]
     Cause(CauseFault),
-    /// A text can't be read, or a record of it is bad.
+    /// A text can't be read.
     #[error("{1}")]
-    Text(TextKind, TextFault),
+    Read(TextKind, ReadFault),
+    /// The state text has a bad record.
+    #[error("{0}")]
+    State(StateFault),
     /// An argument names no variable; COIL is word 1, the first INPUT word 2.
     #[error("word {number} names no variable")]
     Word { number: usize },
@@ -75,7 +78,11 @@ pub fn write_fault<W: Sink>(fault: &ToolFault, writer: &mut W) -> Result<(), Wri
             ];
             put_pieces(writer, pieces.as_slice())
         }
-        ToolFault::Text(kind, fault) => write_text_fault(kind, fault, writer),
+        ToolFault::Read(kind, fault) => write_read_fault(kind, fault, writer),
+        ToolFault::State(StateFault::BadRow { row }) => {
+            write_bad_row(TextKind::State, row, writer)
+        }
+        ToolFault::State(StateFault::Memory) => put(writer, b"fault X7\n"),
         ToolFault::Word { number } => {
             let pieces = [
                 Piece::Text(b"fault X3 word "),
@@ -107,18 +114,17 @@ fn write_var_fault<W: Sink>(fault: VarFault, writer: &mut W) -> Result<(), Write
     put_pieces(writer, pieces.as_slice())
 }
 
-fn write_text_fault<W: Sink>(
+fn write_read_fault<W: Sink>(
     kind: TextKind,
-    fault: TextFault,
+    fault: ReadFault,
     writer: &mut W,
 ) -> Result<(), WriteFault>
-    ensures { Puts (W.log writer.old) (W.log writer.new) result (text_line kind fault) }
+    ensures { Puts (W.log writer.old) (W.log writer.new) result (read_line kind fault) }
 {
     let rule: &[u8] = match fault {
-        TextFault::Read => b"fault X1 ",
-        TextFault::TooLong => b"fault X5 ",
-        TextFault::BadRow { row } => return write_bad_row(kind, row, writer),
-        TextFault::Memory => return put(writer, b"fault X7\n"),
+        ReadFault::Read => b"fault X1 ",
+        ReadFault::TooLong => b"fault X5 ",
+        ReadFault::Memory => return put(writer, b"fault X7\n"),
     };
     let pieces = [
         Piece::Text(rule),

@@ -3,8 +3,10 @@
 
 mod command;
 mod fault;
+mod files;
 mod help;
 mod listing;
+mod opening;
 mod performing;
 mod printing;
 mod program;
@@ -17,6 +19,7 @@ mod variables;
 mod words;
 
 pub use fault::{TextKind, ToolFault, write_fault};
+pub use files::{Readers, perform_files};
 pub use performing::perform;
 pub use program::run;
 pub use request::{Request, Texts, WordFault};

@@ -1,9 +1,9 @@
 //! A request for the causes of a coil.
 
-ghost use Rattle.std.specs.Prelude.{◌≡◌, ◌≤◌, unwrap_or};
-ghost use Rattle.ladder_text.specs.Log.{Puts};
+ghost use Rattle.std.specs.Prelude.{◌≡◌, ◌≤◌, ◌⊎◌, unwrap_or};
+ghost use Rattle.ladder_text.specs.Log.{Puts, PutsAll, WriteLog};
 ghost use Rattle.ladder_tool.specs.Asked.{asking_of};
-ghost use Rattle.ladder_tool.specs.Performs.{CountsList, FailsList, rows_line};
+ghost use Rattle.ladder_tool.specs.Performs.{BreaksList, CountsList, HasListFault, Refuses, logs, rows_line};
 ghost use Rattle.ladder_tool.specs.Setting.{given_by};
 
 use crate::fault::ToolFault;
@@ -55,8 +55,10 @@ pub(crate) fn list_causes<O: Sink, E: Sink>(
     err: &mut E,
 ) -> u8
     ensures status { result ≤ 1 }
-    ensures done { result ≡ 0 → CountsList (given_by texts.now) (asking_of asking.entry) (O.log out.old) (O.log out.new) (E.log err.old) (E.log err.new) }
-    ensures failed { result ≡ 1 → FailsList (given_by texts.now) (asking_of asking.entry) (O.log out.old) (O.log out.new) (E.log err.old) (E.log err.new) }
+    ensures done { result ≡ 0 → CountsList (given_by texts.now) (asking_of asking.entry) (O.log out.old) (O.log out.new) (PutsAll (E.log err.old) (E.log err.new)) }
+    ensures failed { (save : WriteLog) → result ≡ 1
+        → Refuses (HasListFault (given_by texts.now) (asking_of asking.entry)) (logs (O.log out.old) save (E.log err.old)) (logs (O.log out.new) save (E.log err.new))
+        ⊎ BreaksList (given_by texts.now) (asking_of asking.entry) (logs (O.log out.old) save (E.log err.old)) (logs (O.log out.new) save (E.log err.new)) }
 {
     let setting = match read_setting(alloc, texts) {
         Ok(setting) => setting,

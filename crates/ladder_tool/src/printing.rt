@@ -1,9 +1,10 @@
 //! A request for a text about a program alone: its check or its cross-reference.
 
-ghost use Rattle.std.specs.Prelude.{◌≡◌, ◌≤◌};
-ghost use Rattle.ladder_text.specs.Log.{Puts};
+ghost use Rattle.std.specs.Prelude.{◌≡◌, ◌≤◌, ◌⊎◌};
+ghost use Rattle.ladder_text.specs.Log.{Puts, PutsAll, PutsPrefix, WriteLog};
+ghost use Rattle.ladder_tool.specs.Setting.{HasProgramFault};
 ghost use Rattle.ladder_tool.specs.Asked.{about_text};
-ghost use Rattle.ladder_tool.specs.Performs.{FailsPrint, Prints, check_line};
+ghost use Rattle.ladder_tool.specs.Performs.{Prints, Refuses, IsReported, check_line, logs};
 
 use crate::fault::ToolFault;
 use crate::report::report;
@@ -58,8 +59,9 @@ pub(crate) fn print<O: Sink, E: Sink>(
     err: &mut E,
 ) -> u8
     ensures status { result ≤ 1 }
-    ensures done { result ≡ 0 → Prints (about_text about) text.now (O.log out.old) (O.log out.new) (E.log err.old) (E.log err.new) }
-    ensures failed { result ≡ 1 → FailsPrint (about_text about) text.now (O.log out.old) (O.log out.new) (E.log err.old) (E.log err.new) }
+    ensures done { result ≡ 0 → Prints (about_text about) text.now (PutsAll (O.log out.old) (O.log out.new)) × (E.log err.new ≡ E.log err.old) }
+    ensures failed { (save : WriteLog) → result ≡ 1 → Refuses (HasProgramFault text.now) (logs (O.log out.old) save (E.log err.old)) (logs (O.log out.new) save (E.log err.new))
+        ⊎ (Prints (about_text about) text.now (PutsPrefix (O.log out.old) (O.log out.new)) × IsReported (E.log err.old) (E.log err.new) ToolFault.Write) }
 {
     let program = match read_program(alloc, text) {
         Ok(program) => program,

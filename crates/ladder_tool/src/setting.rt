@@ -1,10 +1,10 @@
-//! The program and the state that the texts of a request tell.
+//! The program and the state that the texts of a request describe.
 
 ghost use Rattle.std.specs.Prelude.{IfErr, IfOk, option_map, vec_items};
 ghost use Rattle.ladder_scan.specs.Standing.{Fits};
-ghost use Rattle.ladder_tool.specs.Setting.{HasSettingFault, HasState, IsNoState, IsSet, given_by};
+ghost use Rattle.ladder_tool.specs.Setting.{HasSettingFault, HasState, HasStateFault, IsSet, given_by};
 
-use crate::fault::{TextKind, ToolFault};
+use crate::fault::ToolFault;
 use crate::request::Texts;
 use ladder_grid::{Program, read_program};
 use ladder_scan::State;
@@ -26,12 +26,12 @@ fn starting_state(
 ) -> Result<State, ToolFault>
     ensures fits { IfOk result (Fits program.now) }
     ensures state { IfOk result (HasState program.now (option_map vec_items text.now)) }
-    ensures fault { IfErr result (IsNoState program.now (option_map vec_items text.now)) }
+    ensures fault { IfErr result (HasStateFault program.now (option_map vec_items text.now)) }
 {
     match text {
         Some(text) => match read_state(alloc, program, text) {
             Ok(state) => Ok(state),
-            Err(fault) => Err(ToolFault::Text(TextKind::State, fault)),
+            Err(fault) => Err(ToolFault::State(fault)),
         },
         None => match State::fresh(alloc, program) {
             Ok(state) => Ok(state),

@@ -1,11 +1,11 @@
 //! A request for the trace of a stimulus.
 
-ghost use Rattle.std.specs.Prelude.{◌≡◌, ◌≤◌, [], OnErr, OnOk, true, unwrap_or};
+ghost use Rattle.std.specs.Prelude.{◌≡◌, ◌≤◌, ◌⊎◌, [], OnErr, OnOk, true, unwrap_or};
 ghost use Rattle.ladder_scan.specs.Standing.{Fits};
 ghost use Rattle.ladder_state.specs.StateText.{state_text};
 ghost use Rattle.ladder_text.specs.Log.{PutsPrefix};
-ghost use Rattle.ladder_tool.specs.Performs.{FailsTrace, IsSaved, IsTraced, logs};
-ghost use Rattle.ladder_tool.specs.Setting.{given_by};
+ghost use Rattle.ladder_tool.specs.Performs.{BreaksTrace, IsSaved, IsTraced, Refuses, logs};
+ghost use Rattle.ladder_tool.specs.Setting.{HasSettingFault, given_by};
 
 use crate::fault::ToolFault;
 use crate::report::report;
@@ -25,7 +25,7 @@ fn save_state<S: Sink>(
     save: &mut S,
 ) -> Result<(), WriteFault>
     requires { Fits program.now state.now }
-    ensures saved { OnOk result (IsSaved saves program.now state.now (S.log save.old) (S.log save.new)) }
+    ensures saved { OnOk result (IsSaved saves (S.log save.old) (S.log save.new) program.now state.now) }
     ensures asked { OnErr result (saves ≡ true) }
     ensures broken { OnErr result (PutsPrefix (S.log save.old) (S.log save.new) (state_text program.now state.now)) }
 {
@@ -56,7 +56,9 @@ pub(crate) fn trace<O: Sink, S: Sink, E: Sink>(
 ) -> u8
     ensures status { result ≤ 1 }
     ensures done { result ≡ 0 → IsTraced (given_by texts.now) saves (logs (O.log out.old) (S.log save.old) (E.log err.old)) (logs (O.log out.new) (S.log save.new) (E.log err.new)) }
-    ensures failed { result ≡ 1 → FailsTrace (given_by texts.now) saves (logs (O.log out.old) (S.log save.old) (E.log err.old)) (logs (O.log out.new) (S.log save.new) (E.log err.new)) }
+    ensures failed { result ≡ 1
+        → Refuses (HasSettingFault (given_by texts.now)) (logs (O.log out.old) (S.log save.old) (E.log err.old)) (logs (O.log out.new) (S.log save.new) (E.log err.new))
+        ⊎ BreaksTrace (given_by texts.now) saves (logs (O.log out.old) (S.log save.old) (E.log err.old)) (logs (O.log out.new) (S.log save.new) (E.log err.new)) }
 {
     let mut setting = match read_setting(alloc, texts) {
         Ok(setting) => setting,

@@ -1,5 +1,5 @@
 use Rattle.std.proofs.Common.{◌+◌, refl}
-use Rattle.ladder_sim.proofs.Limits.{added_prefix, added_more, added_none}
+use Rattle.ladder_sim.proofs.Limits.{added_prefix, added_more, added_none, added_within}
 use Rattle.ladder_sim.proofs.Taking.{going_none, going_on, takes_err}
 use Rattle.ladder_text.proofs.Sending.{sends_err}
 use Rattle.ladder_sim.proofs.cause_text.add_rows.Goals as goal
@@ -29,5 +29,6 @@ returns-in_err-add_row-clause-sends g c = sends_err _ _ _ _ _ _ c.from_residual.
 pub returns-in_err-add_row-clause-taken : goal.returns-in_err-add_row-clause-taken
 returns-in_err-add_row-clause-taken g c =
     let steps = c.in-Some.ensures.steps in
-    takes_err _ _ _ (c.loop-limit.count + 1) c.from_residual.ensures.0
+    takes_err _ _ _ (c.loop-limit.count + 1) _ c.from_residual.ensures.0
+    (added_within _ _ _ _ _ _ _ _ c.loop-limit.causes.rest c.in-Some.number _ c.loop-limit.invariant.added steps.0 (c.if-is_reached.ensures.no refl))
     (going_on c.args.causes.now c.loop-limit.causes _ c.loop-limit.count c.in-Some.number c.loop-limit.invariant.going steps.0 steps.1 steps.2 steps.3 steps.4).takes

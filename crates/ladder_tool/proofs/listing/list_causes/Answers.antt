@@ -4,29 +4,31 @@ use Rattle.ladder_causes.specs.Causes.{question}
 use Rattle.ladder_tool.specs.declared.fault.ToolFault.TheVariants as fault
 use Rattle.ladder_tool.specs.Asked.{asking_of}
 use Rattle.ladder_tool.specs.Setting.{given_by}
-use Rattle.ladder_tool.proofs.Endings.{all_same, asked_by, cause_fault, prefix_same, line_is, setting_fault, text_is, word_fault}
+use Rattle.ladder_tool.proofs.Endings.{all_same, asked_by, cause_fault, prefix_same, line_is, text_is}
 use Rattle.ladder_tool.proofs.listing.list_causes.Goals as goal
 
 pub returns-in-Err-clause-failed : goal.returns-in-Err-clause-failed
-returns-in-Err-clause-failed g c = λ status. inl (record {
+returns-in-Err-clause-failed g c = λ save status. inl (record {
   reason = c.in-Err.fault;
-  has = setting_fault (given_by c.args.texts.now) (asking_of c.args.asking) c.in-Err.fault c.in-Err.ensures.fault;
-  unwritten = refl;
+  has = inl c.in-Err.ensures.fault;
+  unwritten = refl {a = g.O.Sink.log c.args.out.now};
+  unsaved = refl {a = save};
   reported = c.report.ensures.line;
 })
 
 pub returns-in-Err-asked_variables-clause-failed : goal.returns-in-Err-asked_variables-clause-failed
-returns-in-Err-asked_variables-clause-failed g c = λ status.
+returns-in-Err-asked_variables-clause-failed g c = λ save status.
     let s = c.in-Ok.setting in
     inl (record {
       reason = c.in-Err-asked_variables.fault;
-      has = word_fault (given_by c.args.texts.now) (asking_of c.args.asking) s.program s.state c.decls-decls.result.now c.in-Err-asked_variables.fault c.in-Ok.ensures.set c.decls-decls.ensures c.in-Err-asked_variables.ensures.fault;
-      unwritten = refl;
+      has = inr (inl (s.program, s.state, c.in-Ok.ensures.set, rw c.decls-decls.ensures at c.in-Err-asked_variables.ensures.fault));
+      unwritten = refl {a = g.O.Sink.log c.args.out.now};
+      unsaved = refl {a = save};
       reported = c.report-in-Err-asked_variables.ensures.line;
     })
 
 pub returns-in-Err-new-clause-failed : goal.returns-in-Err-new-clause-failed
-returns-in-Err-new-clause-failed g c = λ status.
+returns-in-Err-new-clause-failed g c = λ save status.
     let a = asking_of c.args.asking in
     let s = c.in-Ok.setting in
     let asked = c.in-Ok-asked_variables in
@@ -34,33 +36,33 @@ returns-in-Err-new-clause-failed g c = λ status.
     let q = question s.program s.state c.moment-2.result asked.asked.coil c.deref.result.now in
     inl (record {
       reason = fault.Cause c.in-Err-new.fault;
-      has = (
+      has = inr (inr (
         q,
         asked_by (given_by c.args.texts.now) a s.program s.state c.decls-decls.result.now c.moment-2.result asked.asked.coil asked.asked.inputs.items c.deref.result.now c.in-Ok.ensures.set c.decls-decls.ensures c.deref.ensures.value at asked.ensures.coil asked.ensures.inputs,
         cause_fault a q c.in-Err-new.fault c.in-Err-new.ensures.refused,
-      );
-      unwritten = refl;
+      ));
+      unwritten = refl {a = g.O.Sink.log c.args.out.now};
+      unsaved = refl {a = save};
       reported = c.report-in-Err-new.ensures.line;
     })
 
 pub returns-in_default-clause-failed : goal.returns-in_default-clause-failed
-returns-in_default-clause-failed g c = λ status.
+returns-in_default-clause-failed g c = λ save status.
     let a = asking_of c.args.asking in
     let s = c.in-Ok.setting in
     let asked = c.in-Ok-asked_variables in
     let at = c.moment-2.ensures ∙ ap (unwrap_or a.moment) c.moment.ensures in
     let q = question s.program s.state c.moment-2.result asked.asked.coil c.deref.result.now in
     let made = c.in-Ok-new.ensures in
-    inr (inl (record {
+    inr (inl ((record {
       question = q;
       asked = asked_by (given_by c.args.texts.now) a s.program s.state c.decls-decls.result.now c.moment-2.result asked.asked.coil asked.asked.inputs.items c.deref.result.now c.in-Ok.ensures.set c.decls-decls.ensures c.deref.ensures.value at asked.ensures.coil asked.ensures.inputs;
       accepted = made.accepted;
       rows = prefix_same _ _ _ _ (text_is a q c.in-Ok-new.cursor made.program made.listed made.rest) c.in_default.ensures.bytes;
-      reported = c.report-in_default.ensures.line;
-    }))
+    }, c.report-in_default.ensures.line)))
 
 pub returns-in_default-put_rows-clause-failed : goal.returns-in_default-put_rows-clause-failed
-returns-in_default-put_rows-clause-failed g c = λ status.
+returns-in_default-put_rows-clause-failed g c = λ save status.
     let a = asking_of c.args.asking in
     let s = c.in-Ok.setting in
     let asked = c.in-Ok-asked_variables in

@@ -1,0 +1,111 @@
+//! The reading of a request's files, and its performance on them.
+
+ghost use Rattle.std.specs.Prelude.{◌≡◌, ◌≤◌, ◌⊎◌, IfErr, IfOk, option_map, vec_items};
+ghost use Rattle.ladder_tool.specs.Files.{AreRead, AreUnread, AreWhole, IsUnread, IsWhole, StopsAt, files, largest};
+ghost use Rattle.ladder_text.specs.declared.fault.ReadFault.{ReadFault};
+ghost use Rattle.ladder_tool.specs.Performs.{IsDone, IsFailed, Refuses, logs};
+ghost use Rattle.ladder_tool.specs.Setting.{Given, given_by};
+
+use crate::fault::{TextKind, ToolFault};
+use crate::performing::perform;
+use crate::report::report;
+use crate::request::{Request, Texts};
+use ladder_text::{Sink, Source, read_text};
+use std::alloc::Global;
+
+/// The largest program or state text, in bytes.
+pub(crate) const TEXT_LIMIT: usize = 1_048_576;
+
+/// The largest stimulus, in bytes.
+pub(crate) const STIMULUS_LIMIT: usize = 16_777_216;
+
+/// The readers of a request's files: of the program, and of the state and the stimulus where the request names them.
+#[derive(Drop)]
+pub struct Readers<R: Source> {
+    pub program: R,
+    pub state: Option<R>,
+    pub stimulus: Option<R>,
+}
+
+/// The largest text of a kind, in bytes.
+fn limit(kind: TextKind) -> usize
+    ensures { result ≡ largest kind }
+{
+    match kind {
+        TextKind::Program | TextKind::State => TEXT_LIMIT,
+        TextKind::Stimulus => STIMULUS_LIMIT,
+    }
+}
+
+/// Reads a text of a kind, within its limit.
+fn read_one<R: Source>(
+    alloc: Global,
+    kind: TextKind,
+    reader: &mut R,
+) -> Result<Vec<u8>, ToolFault>
+    ensures whole { IfOk result (λ text. IsWhole kind (R.log reader.old) text.items) }
+    ensures fault { IfErr result (λ e. (f : ReadFault) × (e ≡ ToolFault.Read kind f) × IsUnread kind (R.log reader.old) (R.log reader.new) f) }
+{
+    match read_text(alloc, reader, limit(kind)) {
+        Ok(text) => Ok(text),
+        Err(fault) => Err(ToolFault::Read(kind, fault)),
+    }
+}
+
+/// Reads a text of a kind, where the request names one.
+fn read_named<R: Source>(
+    alloc: Global,
+    kind: TextKind,
+    reader: &mut Option<R>,
+) -> Result<Option<Vec<u8>>, ToolFault>
+    ensures whole { IfOk result (λ text. AreWhole kind (option_map R.log reader.old) (option_map vec_items text)) }
+    ensures fault { IfErr result (λ e. (f : ReadFault) × (e ≡ ToolFault.Read kind f) × AreUnread kind (option_map R.log reader.old) (option_map R.log reader.new) f) }
+{
+    match reader {
+        Some(reader) => {
+            let text = read_one(alloc, kind, reader)?;
+            Ok(Some(text))
+        }
+        None => Ok(None),
+    }
+}
+
+/// Reads the texts of a request, up to the first that can't be read: the program, then the state, then the stimulus.
+fn read_texts<R: Source>(alloc: Global, readers: &mut Readers<R>) -> Result<Texts, ToolFault>
+    ensures read { IfOk result (λ texts. AreRead (files (R.log readers.old.program) (option_map R.log readers.old.state) (option_map R.log readers.old.stimulus)) (given_by texts)) }
+    ensures fault { IfErr result (StopsAt (files (R.log readers.old.program) (option_map R.log readers.old.state) (option_map R.log readers.old.stimulus)) (files (R.log readers.new.program) (option_map R.log readers.new.state) (option_map R.log readers.new.stimulus))) }
+{
+    let program = read_one(alloc, TextKind::Program, &mut readers.program)?;
+    let state = read_named(alloc, TextKind::State, &mut readers.state)?;
+    let stimulus = read_named(alloc, TextKind::Stimulus, &mut readers.stimulus)?;
+    Ok(Texts {
+        program,
+        state,
+        stimulus,
+    })
+}
+
+/// Reads the texts of a request and performs it on them, as `perform` does. A text that can't be read is a fault, whose line is on `err`.
+/// Returns the status: 0 where all was written, 1 where a fault stopped it.
+pub fn perform_files<R: Source, O: Sink, S: Sink, E: Sink>(
+    alloc: Global,
+    request: &Request,
+    readers: &mut Readers<R>,
+    out: &mut O,
+    save: &mut S,
+    err: &mut E,
+) -> u8
+    ensures status { result ≤ 1 }
+    ensures done { result ≡ 0 → (g : Given)
+        × AreRead (files (R.log readers.old.program) (option_map R.log readers.old.state) (option_map R.log readers.old.stimulus)) g
+        × IsDone request.now g (logs (O.log out.old) (S.log save.old) (E.log err.old)) (logs (O.log out.new) (S.log save.new) (E.log err.new)) }
+    ensures failed { result ≡ 1 → Refuses (StopsAt (files (R.log readers.old.program) (option_map R.log readers.old.state) (option_map R.log readers.old.stimulus)) (files (R.log readers.new.program) (option_map R.log readers.new.state) (option_map R.log readers.new.stimulus)))
+            (logs (O.log out.old) (S.log save.old) (E.log err.old)) (logs (O.log out.new) (S.log save.new) (E.log err.new))
+        ⊎ ((g : Given) × AreRead (files (R.log readers.old.program) (option_map R.log readers.old.state) (option_map R.log readers.old.stimulus)) g
+        × IsFailed request.now g (logs (O.log out.old) (S.log save.old) (E.log err.old)) (logs (O.log out.new) (S.log save.new) (E.log err.new))) }
+{
+    match read_texts(alloc, readers) {
+        Ok(texts) => perform(alloc, request, &texts, out, save, err),
+        Err(fault) => report(&fault, err),
+    }
+}

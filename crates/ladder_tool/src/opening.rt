@@ -1,0 +1,76 @@
+//! The files that a request reads.
+
+use crate::files::Readers;
+use crate::request::Request;
+use ladder_text::Reading;
+use std::fs::File;
+use std::io::Read;
+use std::{fs, io};
+
+/// A file that is opened at the first read of it. One that doesn't open is a failed read.
+#[derive(Drop)]
+pub(crate) struct NamedFile<'a> {
+    rt: &'a HostRuntime,
+    path: &'a str,
+    file: Option<File>,
+}
+
+impl Read for NamedFile<'_> {
+    fn read(&mut self, bytes: &mut [u8]) -> io::Result<usize> {
+        if let Some(file) = &mut self.file {
+            return file.read(bytes);
+        }
+        let mut file = fs::open(self.rt, self.path)?;
+        let count = file.read(bytes);
+        self.file = Some(file);
+        count
+    }
+}
+
+fn reading<'a>(rt: &'a HostRuntime, path: &'a str) -> Reading<NamedFile<'a>> {
+    Reading::new(NamedFile {
+        rt,
+        path,
+        file: None,
+    })
+}
+
+/// The reader of an option's file, where the option was given.
+fn reading_named<'a>(
+    rt: &'a HostRuntime,
+    path: &'a Option<String>,
+) -> Option<Reading<NamedFile<'a>>> {
+    match path {
+        Some(path) => Some(reading(rt, path.as_str())),
+        None => None,
+    }
+}
+
+/// The readers of the files that a request names, none of which was opened yet.
+pub(crate) fn readers_of<'a>(
+    rt: &'a HostRuntime,
+    request: &'a Request,
+) -> Readers<Reading<NamedFile<'a>>> {
+    match request {
+        Request::Check { file } | Request::Uses { file } => Readers {
+            program: reading(rt, file.as_str()),
+            state: None,
+            stimulus: None,
+        },
+        Request::Causes { state, file, .. } => Readers {
+            program: reading(rt, file.as_str()),
+            state: reading_named(rt, state),
+            stimulus: None,
+        },
+        Request::Sim {
+            state,
+            file,
+            stimulus,
+            ..
+        } => Readers {
+            program: reading(rt, file.as_str()),
+            state: reading_named(rt, state),
+            stimulus: Some(reading(rt, stimulus.as_str())),
+        },
+    }
+}
