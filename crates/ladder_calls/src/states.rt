@@ -3,7 +3,7 @@
 use crate::memory::{ENDS, with_room, without_end};
 use crate::scans::{MOTOR, program};
 use ladder_scan::{Memory, State};
-use ladder_sim::{TextFault, WriteFault, read_state, write_state};
+use ladder_sim::{StateFault, WriteFault, read_state, write_state};
 use std::alloc::{AllocError, Global};
 
 /// Edge contacts and edge coils in two rungs, and an instance of each shape.
@@ -28,26 +28,26 @@ pub(crate) const EDGES_LATER: &[u8] =
     b"version,2\nmoment,18446744073709551615\nvar,A,1\nvar,Lamp,0\nmemory,1,1,1,1\nmemory,1,2,1,0\nmemory,1,1,2,1\nmemory,2,1,1,1\ncounter,C1,1,-32768,1\ntimer,Wait,1,1,18446744073709551615,0\nbistable,B1,1\n";
 
 /// The text of a state, as it is written.
-fn written(alloc: Global, drawing: &[u8], text: Option<&[u8]>) -> Result<Vec<u8>, TextFault> {
+fn written(alloc: Global, drawing: &[u8], text: Option<&[u8]>) -> Result<Vec<u8>, StateFault> {
     let Ok(program) = program(alloc, drawing) else {
-        return Err(TextFault::Memory);
+        return Err(StateFault::Memory);
     };
     let mut writer = without_end(alloc);
     let wrote = match text {
         Some(text) => write_state(&program, &read_state(alloc, &program, text)?, &mut writer),
         None => match State::fresh(alloc, &program) {
             Ok(state) => write_state(&program, &state, &mut writer),
-            Err(Memory) => return Err(TextFault::Memory),
+            Err(Memory) => return Err(StateFault::Memory),
         },
     };
     match wrote {
         Ok(()) => Ok(writer.into_inner().bytes),
-        Err(WriteFault) => Err(TextFault::Memory),
+        Err(WriteFault) => Err(StateFault::Memory),
     }
 }
 
 #[test]
-fn a_state_is_written_as_it_is_read(rt: HostRuntime) -> Result<(), TextFault> {
+fn a_state_is_written_as_it_is_read(rt: HostRuntime) -> Result<(), StateFault> {
     let table = [
         (MOTOR, None, MOTOR_FRESH),
         (MOTOR, Some(MOTOR_FRESH), MOTOR_FRESH),
@@ -165,7 +165,7 @@ fn the_first_bad_record_is_told(rt: HostRuntime) -> Result<(), AllocError> {
     for (number, (drawing, pieces, row)) in BAD_TEXTS.iter().enumerate() {
         let text = joined(rt.alloc(), pieces.as_slice())?;
         let fault = written(rt.alloc(), drawing, Some(&text)).err();
-        let wanted = Some(TextFault::BadRow { row: *row });
+        let wanted = Some(StateFault::BadRow { row: *row });
         assert_eq!(rt; fault, wanted, "in row {number}");
     }
     Ok(())

@@ -1,8 +1,8 @@
 use Rattle.std.proofs.Common.{◌≡◌, length}
 use Rattle.ladder_search.specs.Path.{Walking}
 use Rattle.ladder_search.specs.Trees.{IsPlan}
-use Rattle.ladder_rows.specs.Table.{table_search}
-use Rattle.ladder_rows.proofs.table.found.Given as goal
+use Rattle.ladder_calls.specs.Table.{table_search}
+use Rattle.ladder_calls.proofs.table.found.Given as goal
 
 abbrev pub invariant-loop : goal.invariant-loop
 invariant-loop l = record {

@@ -2,13 +2,13 @@
 
 ghost use Rattle.std.specs.Prelude.{Some};
 
-use ladder_sim::Writing;
+use ladder_text::Writing;
 use std::alloc::Global;
 use std::io::{self, ErrorKind, Read, Write};
 
 /// What a writer does when it is full.
 #[derive(Clone, Copy, Debug, PartialEq, Eq)]
-pub(crate) enum End {
+pub enum End {
     /// It fails.
     Fails,
     /// It fails by an interruption.
@@ -20,11 +20,11 @@ pub(crate) enum End {
 }
 
 /// All that a writer can do when it is full.
-pub(crate) const ENDS: [End; 4] = [End::Fails, End::Interrupts, End::TakesNone, End::FailsOnce];
+pub const ENDS: [End; 4] = [End::Fails, End::Interrupts, End::TakesNone, End::FailsOnce];
 
 /// A writer that takes so many bytes, at most `step` a call, and is then full.
 #[derive(Drop)]
-pub(crate) struct Narrow {
+pub struct Narrow {
     pub bytes: Vec<u8>,
     pub room: usize,
     pub step: usize,
@@ -33,7 +33,7 @@ pub(crate) struct Narrow {
 }
 
 /// A writer that takes so many bytes.
-pub(crate) fn with_room(alloc: Global, room: usize, step: usize, end: End) -> Writing<Narrow> {
+pub fn with_room(alloc: Global, room: usize, step: usize, end: End) -> Writing<Narrow> {
     Writing::new(Narrow {
         bytes: Vec::new(alloc),
         room,
@@ -44,7 +44,7 @@ pub(crate) fn with_room(alloc: Global, room: usize, step: usize, end: End) -> Wr
 }
 
 /// A writer that takes all bytes, each piece at one call.
-pub(crate) fn without_end(alloc: Global) -> Writing<Narrow> {
+pub fn without_end(alloc: Global) -> Writing<Narrow> {
     with_room(alloc, usize::MAX, usize::MAX, End::Fails)
 }
 
@@ -77,7 +77,7 @@ impl Write for Narrow {
 
 /// A reader that gives `left` times the byte `#`, at most `step` a call, and fails at the call number `failing`.
 #[derive(Drop)]
-pub(crate) struct Hashes {
+pub struct Hashes {
     pub left: usize,
     pub step: usize,
     pub calls: usize,

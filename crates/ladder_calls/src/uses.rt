@@ -1,6 +1,6 @@
 //! Cross-references, written over memory.
 
-use crate::memory::{End, with_room, without_end};
+use crate::memory::{ENDS, with_room, without_end};
 use crate::scans::{MOTOR, program};
 use crate::states::EDGES;
 use ladder_scan::Memory;
@@ -9,7 +9,7 @@ use ladder_sim::{WriteFault, write_uses};
 const MOTOR_USES: &[u8] =
     b"name,use,rung,row,column\nStart,contact,1,1,1\nStop,not_contact,1,1,2\nMotor,contact,1,2,1\nMotor,coil,1,1,3\n";
 
-pub(crate) const EDGES_USES: &[u8] =
+const EDGES_USES: &[u8] =
     b"name,use,rung,row,column\nA,rise_contact,1,1,1\nA,fall_contact,1,2,1\nA,rise_contact,2,1,1\nLamp,rise_coil,1,1,2\nC1,unused,0,0,0\nWait,block,2,1,2\nB1,unused,0,0,0\n";
 
 #[test]
@@ -19,17 +19,21 @@ fn uses_are_counted_and_a_prefix_is_left(rt: HostRuntime) -> Result<(), Memory> 
         let mut writer = without_end(rt.alloc());
         assert_eq!(rt; write_uses(&program, &mut writer), Ok(rows));
         assert!(rt; writer.into_inner().bytes.as_slice() == text);
-        for room in 0..text.len() {
-            let mut writer = with_room(rt.alloc(), room, 7, End::FailsOnce);
-            assert_eq!(rt;
-                write_uses(&program, &mut writer),
-                Err(WriteFault),
-                "at {room}"
-            );
-            assert!(rt;
-                writer.into_inner().bytes.as_slice() == &text[..room],
-                "at {room}"
-            );
+        for end in ENDS {
+            for room in 0..text.len() {
+                for step in [1, 1000] {
+                    let mut writer = with_room(rt.alloc(), room, step, end);
+                    assert_eq!(rt;
+                        write_uses(&program, &mut writer),
+                        Err(WriteFault),
+                        "at {room}"
+                    );
+                    assert!(rt;
+                        writer.into_inner().bytes.as_slice() == &text[..room],
+                        "at {room}"
+                    );
+                }
+            }
         }
     }
     Ok(())

@@ -1,9 +1,9 @@
 //! The lines of faults, over writers that fail.
 
-use crate::memory::{ENDS, with_room};
+use ladder_calls::memory::{ENDS, with_room};
 use ladder_causes::CauseFault;
 use ladder_grid::{GridFault, GridRule};
-use ladder_sim::{SimFault, TextFault, WriteFault};
+use ladder_sim::{ReadFault, SimFault, StateFault, WriteFault};
 use ladder_tool::{TextKind, ToolFault, write_fault};
 use ladder_vars::{VarFault, VarRule};
 
@@ -32,23 +32,20 @@ const LINES: [(ToolFault, &[u8]); 17] = [
     (ToolFault::Grid(LABEL), b"fault G13 rung 2 line 14\n"),
     (ToolFault::Cause(CauseFault::NotACoil), b"fault C2\n"),
     (
-        ToolFault::Text(TextKind::Program, TextFault::Read),
+        ToolFault::Read(TextKind::Program, ReadFault::Read),
         b"fault X1 program\n",
     ),
     (
-        ToolFault::Text(TextKind::State, TextFault::TooLong),
+        ToolFault::Read(TextKind::State, ReadFault::TooLong),
         b"fault X5 state\n",
     ),
     (
-        ToolFault::Text(TextKind::Stimulus, TextFault::Read),
+        ToolFault::Read(TextKind::Stimulus, ReadFault::Read),
         b"fault X1 stimulus\n",
     ),
+    (ToolFault::State(StateFault::Memory), b"fault X7\n"),
     (
-        ToolFault::Text(TextKind::State, TextFault::Memory),
-        b"fault X7\n",
-    ),
-    (
-        ToolFault::Text(TextKind::State, TextFault::BadRow { row: 3 }),
+        ToolFault::State(StateFault::BadRow { row: 3 }),
         b"fault X2 state row 3\n",
     ),
     (

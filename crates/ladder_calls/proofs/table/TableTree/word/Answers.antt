@@ -1,9 +1,9 @@
 use Rattle.std.proofs.Common.{◌∙◌, ap, arith}
 use Rattle.std.specs.Int.{bit_at}
 use Rattle.ladder_search.proofs.WalkLaws.{span-is}
-use Rattle.ladder_rows.specs.Table.{table_search}
-use Rattle.ladder_rows.proofs.TableLaws.{pair_bits, part_within}
-use Rattle.ladder_rows.proofs.table.TableTree.word.Goals as goal
+use Rattle.ladder_calls.specs.Table.{table_search}
+use Rattle.ladder_calls.proofs.TableLaws.{pair_bits, part_within}
+use Rattle.ladder_calls.proofs.table.TableTree.word.Goals as goal
 
 pub pair-requires-clause-within : goal.pair-requires-clause-within
 pair-requires-clause-within c =

@@ -1,19 +1,16 @@
 //! Calls whose memory runs out: the address space is used up, but for a reserve that is larger from run to run.
 
 use crate::memory::Hashes;
-use crate::requests::{request, texts};
 use crate::scans::{MOTOR, program, stored};
+use crate::simulations::{BACK, BACK_TRACE};
 use crate::states::{EDGES, EDGES_FRESH, EDGES_LATER, joined};
-use crate::uses::EDGES_USES;
-use crate::words::{asks_for_the_motor, is_help, strings};
 use ladder_causes::{CauseFault, Causes};
 use ladder_grid::{GridFault, Program, read_program};
 use ladder_scan::{Memory, State, Work};
 use ladder_sim::{
-    Reading, SimFault, Summary, TextFault, Writing, read_state, read_text, simulate, write_causes,
-    write_state,
+    ReadFault, Reading, SimFault, StateFault, Summary, Writing, read_state, read_text, simulate,
+    write_causes, write_state,
 };
-use ladder_tool::{Request, WordFault, perform, read_words};
 use ladder_vars::{VarFault, VarRule, read_decls};
 use std::alloc::{AllocError, Global};
 use std::io::{self, ErrorKind, Write};
@@ -79,15 +76,10 @@ enum Call {
     ReadText,
     ReadState,
     Simulate,
-    ReadWords,
-    ReadHelp,
-    PerformCheck,
-    PerformUses,
-    PerformCauses,
-    PerformSim,
+    SimulateBack,
 }
 
-const CALLS: [Call; 15] = [
+const CALLS: [Call; 10] = [
     Call::ReadDecls,
     Call::ReadProgram,
     Call::FreshState,
@@ -97,12 +89,7 @@ const CALLS: [Call; 15] = [
     Call::ReadText,
     Call::ReadState,
     Call::Simulate,
-    Call::ReadWords,
-    Call::ReadHelp,
-    Call::PerformCheck,
-    Call::PerformUses,
-    Call::PerformCauses,
-    Call::PerformSim,
+    Call::SimulateBack,
 ];
 
 /// How a call ended.
@@ -130,22 +117,6 @@ const PREFIXES: [(&[u8], u64, [bool; 2]); 5] = [
 ];
 
 const TRACE: &[u8] = b"moment,Lamp\n0,1\n5,0\n18446744073709551615,0\n";
-
-/// What each kind of request writes: on `out`, on `save` and on `err`.
-const CHECKED: [&[u8]; 3] = [b"rungs 2 variables 2 instances 3\n", b"", b""];
-
-const USED: [&[u8]; 3] = [EDGES_USES, b"", b""];
-
-const LISTED: [&[u8]; 3] = [b"number,A\n1,1\n", b"", b"rows 1 looks 1\n"];
-
-const TRACED: [&[u8]; 3] = [
-    TRACE,
-    b"version,2\nmoment,18446744073709551615\nvar,A,1\nvar,Lamp,0\nmemory,1,1,1,1\nmemory,1,2,1,1\nmemory,1,1,2,1\nmemory,2,1,1,1\ncounter,C1,0,0,0\ntimer,Wait,1,1,18446744073709551615,0\nbistable,B1,0\n",
-    b"",
-];
-
-/// The lines of a request for which there was no memory.
-const LINES: [&[u8]; 3] = [b"fault V9\n", b"fault C7\n", b"fault X7\n"];
 
 fn right(is: bool) -> Outcome {
     if is { Outcome::Right } else { Outcome::Wrong }
@@ -207,7 +178,7 @@ fn copying_a_state(alloc: Global, program: &Program, state: &State) -> Outcome {
 fn reading_a_state(alloc: Global, program: &Program) -> Outcome {
     match read_state(alloc, program, EDGES_LATER) {
         Ok(state) => right(is_told(program, &state, EDGES_LATER)),
-        Err(fault) => refused(fault == TextFault::Memory),
+        Err(fault) => refused(fault == StateFault::Memory),
     }
 }
 
@@ -241,7 +212,7 @@ fn reading_a_text(alloc: Global) -> Outcome {
     });
     match read_text(alloc, &mut reader, 600) {
         Ok(text) => right(text.as_slice() == [b'#'; 600].as_slice()),
-        Err(fault) => refused(fault == TextFault::Memory),
+        Err(fault) => refused(fault == ReadFault::Memory),
     }
 }
 
@@ -276,106 +247,30 @@ fn simulating(alloc: Global, program: &Program, fresh: &State) -> Outcome {
     }
 }
 
-fn reading_words(alloc: Global) -> Outcome {
-    let words = [
-        "ladder",
-        "causes",
-        "--at",
-        "5",
-        "--limit=18446744073709551615",
-        "motor.ld",
-        "Motor",
-        "Start",
-        "Stop",
-    ];
-    let Ok(words) = strings(alloc, words.as_slice()) else {
+/// Whether a trace is a prefix of one that ends where a moment goes back, with the moment that belongs to it.
+fn is_prefix_back(trace: &[u8], moment: u64) -> bool {
+    let late = trace.len() == BACK_TRACE.len();
+    BACK_TRACE.starts_with(trace) && moment == if late { 10 } else { 0 }
+}
+
+fn simulating_back(alloc: Global) -> Outcome {
+    let Ok(program) = program(alloc, MOTOR) else {
         return Outcome::Unasked;
     };
-    match read_words(alloc, words) {
-        Ok(request) => right(asks_for_the_motor(&request)),
-        Err(fault) => refused(matches!(fault, WordFault::Memory)),
-    }
-}
-
-fn reading_help(alloc: Global) -> Outcome {
-    let Ok(words) = strings(alloc, ["ladder", "--help"].as_slice()) else {
+    let Ok(mut state) = State::fresh(alloc, &program) else {
         return Outcome::Unasked;
     };
-    match read_words(alloc, words) {
-        Ok(_) => Outcome::Wrong,
-        Err(fault) => {
-            if is_help(&fault) {
-                return Outcome::Right;
-            }
-            refused(matches!(fault, WordFault::Memory))
-        }
-    }
-}
-
-fn is_line(line: &[u8]) -> bool {
-    for told in LINES {
-        if line == told {
-            return true;
-        }
-    }
-    false
-}
-
-/// How a request ended that writes these texts: where there was no memory it saved nothing, and wrote nothing but a prefix of its trace.
-fn judged(status: u8, out: &Fixed, save: &Fixed, err: &Fixed, wanted: [&[u8]; 3]) -> Outcome {
-    if status == 0 {
-        return right(
-            out.taken() == wanted[0] && save.taken() == wanted[1] && err.taken() == wanted[2],
-        );
-    }
-    if out.calls != 0 && wanted[1].is_empty() {
+    let mut writer = empty();
+    let answer = simulate(alloc, &program, &mut state, BACK, &mut writer);
+    let trace = writer.into_inner();
+    if !is_prefix_back(trace.taken(), state.moment()) {
         return Outcome::Wrong;
     }
-    refused(save.calls == 0 && is_line(err.taken()) && wanted[0].starts_with(out.taken()))
-}
-
-fn performing(alloc: Global, request: &Request, wanted: [&[u8]; 3]) -> Outcome {
-    let Ok(texts) = texts(alloc, EDGES, Some(EDGES_FRESH), STIMULUS) else {
-        return Outcome::Unasked;
-    };
-    let mut out = empty();
-    let mut save = empty();
-    let mut err = empty();
-    let status = perform(alloc, request, &texts, &mut out, &mut save, &mut err);
-    judged(
-        status,
-        &out.into_inner(),
-        &save.into_inner(),
-        &err.into_inner(),
-        wanted,
-    )
-}
-
-fn checking(alloc: Global) -> Outcome {
-    let file = String::new(alloc);
-    performing(alloc, &Request::Check { file }, CHECKED)
-}
-
-fn using(alloc: Global) -> Outcome {
-    let file = String::new(alloc);
-    performing(alloc, &Request::Uses { file }, USED)
-}
-
-fn listing(alloc: Global) -> Outcome {
-    let Ok(request) = request(alloc, ["Lamp", "A"].as_slice()) else {
-        return Outcome::Unasked;
-    };
-    performing(alloc, &request, LISTED)
-}
-
-fn tracing(alloc: Global) -> Outcome {
-    let request = Request::Sim {
-        state: None,
-        save: Some(String::new(alloc)),
-        file: String::new(alloc),
-        stimulus: String::new(alloc),
-    };
-    performing(alloc, &request, TRACED)
+    match answer {
+        Ok(_) => Outcome::Wrong,
+        Err(SimFault::MomentBack { row }) => right(row == 4 && trace.taken() == BACK_TRACE),
+        Err(fault) => refused(fault == SimFault::Memory),
+    }
 }
 
 /// Makes a call; the program is that of the edges, and the state its fresh one.
@@ -390,12 +285,7 @@ fn ended(alloc: Global, call: Call, program: &Program, state: &State) -> Outcome
         Call::ReadText => reading_a_text(alloc),
         Call::ReadState => reading_a_state(alloc, program),
         Call::Simulate => simulating(alloc, program, state),
-        Call::ReadWords => reading_words(alloc),
-        Call::ReadHelp => reading_help(alloc),
-        Call::PerformCheck => checking(alloc),
-        Call::PerformUses => using(alloc),
-        Call::PerformCauses => listing(alloc),
-        Call::PerformSim => tracing(alloc),
+        Call::SimulateBack => simulating_back(alloc),
     }
 }
 

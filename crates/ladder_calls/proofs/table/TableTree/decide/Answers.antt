@@ -1,5 +1,5 @@
-use Rattle.ladder_rows.proofs.TableLaws.{part_within, table_tells}
-use Rattle.ladder_rows.proofs.table.TableTree.decide.Goals as goal
+use Rattle.ladder_calls.proofs.TableLaws.{part_within, table_tells}
+use Rattle.ladder_calls.proofs.table.TableTree.decide.Goals as goal
 
 pub common_part-requires-clause-within : goal.common_part-requires-clause-within
 common_part-requires-clause-within c =

@@ -1,7 +1,7 @@
 //! The reading of whole texts.
 
 use crate::memory::Hashes;
-use ladder_sim::{Reading, TextFault, read_text};
+use ladder_text::{ReadFault, Reading, read_text};
 
 #[test]
 fn fails_at_each_read(rt: HostRuntime) {
@@ -15,7 +15,7 @@ fn fails_at_each_read(rt: HostRuntime) {
         });
         let read = read_text(rt.alloc(), &mut reader, 8);
         assert_eq!(rt;
-            matches!(read, Err(TextFault::Read)),
+            matches!(read, Err(ReadFault::Read)),
             failing <= 4,
             "at {failing}"
         );
@@ -35,7 +35,7 @@ fn reads_an_endless_reader_no_further_than_the_limit(rt: HostRuntime) {
         });
         let read = read_text(rt.alloc(), &mut reader, limit);
         assert!(rt;
-            matches!(read, Err(TextFault::TooLong)),
+            matches!(read, Err(ReadFault::TooLong)),
             "in steps of {step}"
         );
         assert_eq!(rt; reader.into_inner().calls, calls, "in steps of {step}");
@@ -57,7 +57,7 @@ fn reads_a_text_up_to_the_limit(rt: HostRuntime) {
             }
             Err(fault) => {
                 assert!(rt; !fits, "with limit {limit}");
-                assert_eq!(rt; fault, TextFault::TooLong, "with limit {limit}");
+                assert_eq!(rt; fault, ReadFault::TooLong, "with limit {limit}");
             }
         }
     }

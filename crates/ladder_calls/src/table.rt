@@ -2,7 +2,7 @@
 
 ghost use Rattle.std.specs.Prelude.{◌≡◌, ◌≤◌, ◌+◌, ◌^◌, IfOk, length, not};
 ghost use Rattle.std.specs.List.{list_all};
-ghost use Rattle.ladder_rows.specs.Table.{common, pair, part, table_search};
+ghost use Rattle.ladder_calls.specs.Table.{common, pair, part, table_search};
 ghost use Rattle.ladder_search.specs.Trees.{digit};
 
 use ladder_search::{Plan, Tree, advance, begin};

@@ -1,4 +1,4 @@
-//! Tests of the public calls over readers and writers in memory, and of the calls below the command line.
+//! Tests of the public calls below the command line, over readers and writers in memory.
 #![tactic(auto)]
 
 #[cfg(test)]
@@ -7,12 +7,7 @@ mod causes;
 mod declarations;
 #[cfg(test)]
 mod drawings;
-#[cfg(test)]
-mod faults;
-#[cfg(test)]
-mod memory;
-#[cfg(test)]
-mod requests;
+pub mod memory;
 #[cfg(test)]
 mod runs;
 #[cfg(test)]
@@ -29,5 +24,3 @@ mod table;
 mod texts;
 #[cfg(test)]
 mod uses;
-#[cfg(test)]
-mod words;

@@ -2,8 +2,8 @@ use Rattle.std.proofs.Common.{ℕ, arith, rules, subst, sym, refl}
 use Rattle.ladder_search.specs.Path.{IsWalking}
 use Rattle.ladder_search.specs.Trees.{IsPlan}
 use Rattle.ladder_search.proofs.WalkLaws.{span-is}
-use Rattle.ladder_rows.specs.Table.{table_search}
-use Rattle.ladder_rows.proofs.table.found.Goals as goal
+use Rattle.ladder_calls.specs.Table.{table_search}
+use Rattle.ladder_calls.proofs.table.found.Goals as goal
 
 pub loop-init : goal.loop-init
 loop-init c =

@@ -8,7 +8,7 @@ use Rattle.std.proofs.lemmas.List.Sums.{AllPass-from_list_all}
 use Rattle.ladder_search.specs.Looks.{span}
 use Rattle.ladder_search.specs.Trees.{Tells, digit}
 use Rattle.ladder_search.proofs.WalkLaws.{span-is}
-use Rattle.ladder_rows.specs.Table.{common, pair, part, table_search}
+use Rattle.ladder_calls.specs.Table.{common, pair, part, table_search}
 
 -- an entry of a part
 entry : (chosen : List Bool) (base w n : ℕ) → base ≤ n → n < base + w → get_or (take w (drop base chosen)) (n - base) false ≡ get_or chosen n false

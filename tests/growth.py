@@ -1,0 +1,91 @@
+#!/usr/bin/env python3
+"""Refuses each growth of memory in turn: growth.py PROGRAM.
+
+Each request below is first made whole, which counts its growths (refuse_growth.c, loaded before the C library), and then once for
+each of them, with that one refused. A request is answered whole in spite of it, or it ends by one of the lines for being out of
+memory, with nothing written but whole lines of a trace, and nothing saved. The last record of long.csv is longer than the ones before
+it, so memory grows in the middle of its trace. Needs a C compiler; without one it is passed over.
+"""
+import collections
+import os
+import pathlib
+import shutil
+import subprocess
+import sys
+import tempfile
+from concurrent.futures import ThreadPoolExecutor
+
+HERE = pathlib.Path(__file__).resolve().parent
+TEXTS = {
+    "motor.ld": (HERE / "programs" / "motor.ld").read_bytes(),
+    "running.csv": b"version,2\nmoment,0\nvar,Start,1\nvar,Stop,0\nvar,Motor,1\n",
+    "back.csv": b"moment,Start,Stop\n0,1,0\n10,0,0\n5,0,0\n",
+    "long.csv": b"moment,Start,Stop\n0,1,0\n5,0,0\n18446744073709551615,1,1\n",
+}
+LINES = ("fault V9\n", "fault C7\n", "fault X7\n")
+# With each request the lines that must come, among others.
+REQUESTS = (
+    (("check", "motor.ld"), ("fault V9\n",)),
+    (("uses", "motor.ld"), ("fault V9\n",)),
+    (("causes", "motor.ld", "Motor", "Start", "Stop"), LINES),
+    (("causes", "--state", "running.csv", "motor.ld", "Motor", "Start", "Stop"), LINES),
+    (("sim", "motor.ld", "back.csv"), ("fault V9\n", "fault X7\n")),
+    (("sim", "--save", "saved.csv", "motor.ld", "long.csv"), ("fault V9\n", "fault X7\n")),
+    (("sim", "--state", "running.csv", "--save", "saved.csv", "motor.ld", "long.csv"), ("fault V9\n", "fault X7\n")),
+    (("--help",), ("fault X7\n",)),
+)
+Ending = collections.namedtuple("Ending", "out err status saved")
+
+
+def ended(program, library, words, refused, counted=None):
+    """How the request ends with that growth refused."""
+    with tempfile.TemporaryDirectory() as folder:
+        for name, text in TEXTS.items():
+            (pathlib.Path(folder) / name).write_bytes(text)
+        told = {"LD_PRELOAD": library, "REFUSE": str(refused)} | ({"COUNTED": counted} if counted else {})
+        done = subprocess.run([program, *words], cwd=folder, env=os.environ | told, stdin=subprocess.DEVNULL, capture_output=True, check=False, timeout=60)
+        saved = pathlib.Path(folder) / "saved.csv"
+        return Ending(done.stdout.decode(), done.stderr.decode(), done.returncode, saved.read_bytes() if saved.exists() else None)
+
+
+def is_refused(words, whole, ending):
+    """Whether the request ended by a line for being out of memory, and left what it must."""
+    is_prefix = whole.out.startswith(ending.out) and ending.out[-1:] in ("", "\n") if words[0] == "sim" else not ending.out
+    return ending.status == 1 and ending.err in LINES and is_prefix and ending.saved is None
+
+
+def tried(program, library, words, wanted, counted):
+    """How many growths there were, how often each line came, and what is wrong."""
+    whole = ended(program, library, words, 0, counted)
+    growths = int(pathlib.Path(counted).read_text("ascii"))
+    with ThreadPoolExecutor(os.cpu_count()) as pool:
+        endings = list(pool.map(lambda number: ended(program, library, words, number), range(1, growths + 1)))
+    wrong = [f"{' '.join(words)}, growth {number}: {ending}"
+             for number, ending in enumerate(endings, 1) if ending != whole and not is_refused(words, whole, ending)]
+    lines = collections.Counter(ending.err for ending in endings if ending != whole)
+    wrong += [f"{' '.join(words)}: {line.strip()} never comes" for line in wanted if not lines[line]]
+    if "long.csv" in words and not any(ending.out for ending in endings if ending != whole):
+        wrong.append(f"{' '.join(words)}: no growth is refused in the middle of the trace")
+    return growths, lines, wrong
+
+
+def main():
+    program, compiler = os.path.abspath(sys.argv[1]), shutil.which("cc")
+    if not compiler:
+        print("no C compiler: the test of refused growths is passed over")
+        return 0
+    total, wrong = 0, []
+    with tempfile.TemporaryDirectory() as folder:
+        library, counted = os.path.join(folder, "refuse_growth.so"), os.path.join(folder, "counted")
+        subprocess.run([compiler, "-shared", "-fPIC", "-O1", "-o", library, HERE / "refuse_growth.c"], check=True)
+        for words, wanted in REQUESTS:
+            growths, lines, faults = tried(program, library, words, wanted, counted)
+            total, wrong = total + growths, wrong + faults
+            print(f"{' '.join(words):72}{growths:5} growths, " + ", ".join(f"{line.strip()[6:]} {count}" for line, count in sorted(lines.items())))
+    print(*wrong[:20], sep="\n", end="\n" if wrong else "")
+    print(f"{total - len(wrong)} of {total} refused growths are answered as they must be")
+    return 1 if wrong else 0
+
+
+if __name__ == "__main__":
+    sys.exit(main())
