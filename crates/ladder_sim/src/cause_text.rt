@@ -183,7 +183,7 @@ fn add_rows<W: Sink>(
 }
 
 /// Writes the text of the causes that are left, or of the first ones where there is a limit: a header, and a row for each cause.
-/// It does not allocate. With a limit of n rows the cursor is asked at most n times.
+/// It needs no memory. With a limit of n rows the cursor is asked at most n times.
 ///
 /// # Errors
 ///

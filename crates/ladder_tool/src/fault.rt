@@ -48,7 +48,7 @@ pub enum ToolFault {
     Usage,
 }
 
-/// Writes the line of a fault. It does not allocate.
+/// Writes the line of a fault. It needs no memory.
 ///
 /// # Errors
 ///
