@@ -1,12 +1,12 @@
 -- The steps of the loop over the records.
-use Rattle.std.proofs.Common.{◌≡◌, ◌+◌, ◌<◌, ◌≤◌, ◌∙◌, ◌++◌, ◌∷◌, [], ℕ, suc, zero, List, Bool, true, false, Some, Ok, Err, refl, sym, ap, subst, arith, add-one, append_assoc, inl, inr, drop, length, length-append, slice_get}
+use Rattle.std.proofs.Common.{◌≡◌, ◌+◌, ◌<◌, ◌≤◌, ◌∙◌, ◌++◌, ◌∷◌, [], ℕ, suc, zero, List, Bool, true, false, Some, Ok, Err, refl, sym, ap, subst, arith, add-one, append_assoc, inl, drop, length, length-append, slice_get}
 use Rattle.std.specs.Prelude.{⊤}
 use Rattle.std.specs.Borrow.{Bor}
 use Rattle.csv.specs.declared.reader.Reader.{Reader}
 use Rattle.ladder_grid.specs.Program.{Drawing}
 use Rattle.ladder_records.specs.Left.{Fields, Left, TakesFirst}
 use Rattle.ladder_scan.specs.Standing.{Standing}
-use Rattle.ladder_text.specs.Log.{PutsAll, PutsPrefix, WriteLog}
+use Rattle.ladder_text.specs.Log.{PutsAll, WriteLog}
 use Rattle.ladder_text.proofs.Bytes.{appends_more}
 use Rattle.ladder_text.proofs.Puts.{fails_after, puts_more}
 use Rattle.ladder_trace.specs.declared.fault.SimFault.{SimFault}

@@ -21,8 +21,12 @@ returns-in_default-clause-refused c = λ rows.
     let number = c.loop-number.number in
     let columns = c.loop-number.columns.items in (
       refl,
-      (number, columns, header_to c.args.decls.now fs number columns inv.1 inv.0 inv.2,
-      (get_or fs number [], there_at fs number [] (omega (arith, c.loop-number-test.true)), sym c.input_at.ensures.place ∙ c.in_default.is)),
+      (
+        number,
+        columns,
+        header_to c.args.decls.now fs number columns inv.1 inv.0 inv.2,
+        (get_or fs number [], there_at fs number [] (omega (arith, c.loop-number-test.true)), sym c.input_at.ensures.place ∙ c.in_default.is),
+      ),
     )
 
 pub returns-then-is_named-clause-refused : goal.returns-then-is_named-clause-refused
@@ -33,8 +37,16 @@ returns-then-is_named-clause-refused c = λ rows.
     let columns = c.loop-number.columns.items in
     let again : list_any (λ k. c.in-Some.place == k) columns ≡ true = ap (list_any (λ k. c.in-Some.place == k)) (sym c.deref.ensures.value) ∙ sym c.is_named.ensures ∙ c.if-is_named.true in (
       refl,
-      inr (fs, refl, (number, columns, header_to c.args.decls.now fs number columns inv.1 inv.0 inv.2,
-      (get_or fs number [], there_at fs number [] (omega (arith, c.loop-number-test.true)), (c.in-Some.place, sym c.input_at.ensures.place ∙ c.in-Some.is, contains c.in-Some.place columns again)))),
+      inr (
+        fs,
+        refl,
+        (
+          number,
+          columns,
+          header_to c.args.decls.now fs number columns inv.1 inv.0 inv.2,
+          (get_or fs number [], there_at fs number [] (omega (arith, c.loop-number-test.true)), (c.in-Some.place, sym c.input_at.ensures.place ∙ c.in-Some.is, contains c.in-Some.place columns again)),
+        ),
+      ),
     )
 
 pub loop-number-preserved : goal.loop-number-preserved
