@@ -13,7 +13,7 @@ use Rattle.ladder_state.specs.declared.fault.StateFault.TheVariants as fault
 use Rattle.ladder_state.specs.declared.version.Version.{Version}
 use Rattle.ladder_state.specs.Parts.{CanHold, IsRead, IsStuck, ReadsItems, ReadsPart, block_item, block_records, each, every, memory_records, tells, var_records}
 use Rattle.ladder_state.specs.StateText.{IsStateOf, item_records, memory_places, memory_record, var_record}
-use Rattle.ladder_state.proofs.Segments.{blocks_bad, blocks_in, further_bad, memories_bad, memories_in, values_bad, values_of}
+use Rattle.ladder_state.proofs.Segments.{blocks_bad, blocks_in, further_bad, in_parts, memories_bad, memories_in, values_bad, values_of}
 
 pub fits_values : (p : Drawing) (a n : Standing) → Fits p a → n ≡ with_values a n.held.values → length n.held.values ≡ length p.decls.vars → Fits p n
 fits_values p a n f e h = record { values = h; memories = ap (λ (x : Standing). length x.held.kept.memories) e ∙ f.memories; kinds = ap (λ (x : Standing). x.kinds) e ∙ f.kinds }
@@ -67,7 +67,7 @@ pub all_cut : (v : Version) (p : Drawing) (s : Standing) (instances : List Insta
 all_cut v p s instances rows rest new i cut h =
     let parts = values_of p s ++ memories_in p s in
     cut ∙ ap (λ l. parts ++ l) h.cut ∙ ap (λ l. parts ++ (each (block_records v) l s.held.kept.blocks ++ h.rest)) i
-    ∙ sym (append_assoc parts (blocks_in v p s) h.rest) ∙ ap (λ l. l ++ h.rest) (append_assoc (values_of p s) (memories_in p s) (blocks_in v p s))
+    ∙ sym (append_assoc parts (blocks_in v p s) h.rest) ∙ ap (λ l. l ++ h.rest) (append_assoc (values_of p s) (memories_in p s) (blocks_in v p s) ∙ sym (in_parts v p s))
 
 pub further_arm : (v : Version) (p : Drawing) (s : Standing) (rows rest : List Fields) (found : Bool) (fields : Fields) (new : Reader (Bor (List ℕ))) (n : ℕ) → IsStateOf p s
     → rows ≡ item_records v p s ++ rest → found ≡ true → TakesFirst rest found fields new → n ≡ 2 + (length p.decls.vars + memories_of p + length (blocks_in v p s)) + 1

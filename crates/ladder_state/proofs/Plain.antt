@@ -1,5 +1,5 @@
 -- The records of a state stand in a text as they are: their fields hold no comma, quote or line end.
-use Rattle.std.proofs.Common.{◌≡◌, ◌<◌, ◌≤◌, ◌*◌, ◌==◌, ◌||◌, ◌&&◌, ◌∙◌, ◌^◌, ◌∷◌, ◌++◌, [], if◌then◌else◌, ℕ, ℤ, pos, negsuc, suc, Bool, true, false, List, Some, refl, sym, ap, arith, decimal, length, slice_get}
+use Rattle.std.proofs.Common.{◌≡◌, ◌<◌, ◌≤◌, ◌*◌, ◌==◌, ◌||◌, ◌&&◌, ◌∙◌, ◌^◌, ◌∷◌, ◌++◌, [], if◌then◌else◌, ℕ, ℤ, pos, negsuc, suc, Bool, true, false, List, Some, refl, sym, ap, arith, decimal, length, slice_get, subst}
 use Rattle.std.specs.List.{list_all}
 use Rattle.std.specs.Fmt.{signed_decimal}
 use Rattle.std.specs.Char.{is_ascii_alphabetic}
@@ -26,7 +26,7 @@ use Rattle.ladder_state.specs.Parts.{block_item, each, every, some, tells}
 use Rattle.ladder_state.specs.StateText.{IsStateOf, block_record, memory_places, memory_record, state_records, state_text, var_record}
 use Rattle.ladder_state.specs.declared.version.Version.TheVariants.{Second}
 use Rattle.ladder_state.proofs.Places.{place_below}
-use Rattle.ladder_state.proofs.Segments.{blocks_in, can_hold, memories_in, values_of}
+use Rattle.ladder_state.proofs.Segments.{blocks_in, can_hold, in_parts, memories_in, values_of}
 
 -- ---- one field
 
@@ -121,7 +121,8 @@ state_plain p s whole vars instances ok =
       (omega arith, refl, (refl, tt)),
       (
         (omega arith, refl, (decimal_plain s.moment ok.standing.small, tt)),
-        append_plain (values_of p s) (memories_in p s ++ blocks_in Second p s) values (append_plain (memories_in p s) (blocks_in Second p s) memories blocks),
+        subst ArePlainRecords (sym (in_parts Second p s))
+            (append_plain (values_of p s) (memories_in p s ++ blocks_in Second p s) values (append_plain (memories_in p s) (blocks_in Second p s) memories blocks)),
       ),
     )
 

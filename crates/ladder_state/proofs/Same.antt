@@ -17,7 +17,7 @@ use Rattle.ladder_state.specs.declared.version.Version.{Version}
 use Rattle.ladder_state.specs.declared.version.Version.TheVariants.{Second}
 use Rattle.ladder_state.proofs.Heads.{moment_same, told_second, version_same}
 use Rattle.ladder_state.proofs.Items.{some_same}
-use Rattle.ladder_state.proofs.Segments.{block_count, blocks_in, can_hold, memories_count, memories_in, memory_count, value_count, values_of}
+use Rattle.ladder_state.proofs.Segments.{block_count, blocks_in, can_hold, in_parts, memories_count, memories_in, memory_count, value_count, values_of}
 
 -- ---- one record
 
@@ -112,7 +112,7 @@ values_same : (v : Version) (p : Drawing) (s t : Standing) → IsStateOf p s →
     → (s.held.values ≡ t.held.values) × (memories_in p s ++ blocks_in v p s ≡ memories_in p t ++ blocks_in v p t)
 values_same v p s t ok fine e =
     let parts = same_front (values_of p s) (values_of p t) (memories_in p s ++ blocks_in v p s) (memories_in p t ++ blocks_in v p t)
-    (value_count p s ok ∙ sym (value_count p t fine)) (ap (drop 2) e) in
+    (value_count p s ok ∙ sym (value_count p t fine)) (sym (in_parts v p s) ∙ ap (drop 2) e ∙ in_parts v p t) in
     (each_same every var_record p.decls.vars s.held.values t.held.values ok.fits.values fine.fits.values (λ i x y z a b c same. var_same x y z (same refl)) parts.0, parts.1)
 
 memories_same : (v : Version) (p : Drawing) (s t : Standing) → IsStateOf p s → IsStateOf p t → memories_in p s ++ blocks_in v p s ≡ memories_in p t ++ blocks_in v p t

@@ -1,6 +1,7 @@
 -- The records of a state, part by part.
-use Rattle.std.proofs.Common.{◌≡◌, ◌≢◌, ◌+◌, ◌∙◌, ◌++◌, ◌∷◌, [], ℕ, suc, zero, Bool, true, false, if◌then◌else◌, List, Some, refl, sym, ap, ap₂, subst, arith, append_assoc, append-nil, length, length-append, get_or, map, take, slice_get, take_all}
-use Rattle.std.specs.Prelude.{⊤}
+use Rattle.std.proofs.Common.{◌≡◌, ◌≢◌, ◌+◌, ◌∙◌, ◌++◌, ◌∷◌, [], ℕ, suc, zero, Bool, true, false, if◌then◌else◌, List, Some, refl, sym, ap, ap₂, subst, arith, append_assoc, append-nil, length, length-append, get_or, map, take, slice_get, take_all, inl, inr}
+use Rattle.std.specs.Prelude.{filter, zip, ⊤}
+use Rattle.std.proofs.lemmas.Bool.{cases_Bool}
 use Rattle.std.proofs.lemmas.List.{length-map, take_at}
 use Rattle.ladder_vars.specs.declared.decls.Instance.{Instance}
 use Rattle.ladder_vars.specs.declared.kind.BlockKind.TheVariants.{Ton}
@@ -131,6 +132,27 @@ memories_in p t = each memory_records (memory_places p) t.held.kept.memories
 abbrev pub blocks_in : Version → Drawing → Standing → List Fields
 blocks_in v p t = each (block_records v) p.decls.instances t.held.kept.blocks
 
+-- ---- the three parts one after the other
+
+each_map : {A B : Type 0} (item : A → B → Fields) (xs : List A) (ys : List B) → map (λ x. item x.0 x.1) (zip xs ys) ≡ each (one item) xs ys
+each_map item [] ys = refl
+each_map item (a ∷ xs) [] = refl
+each_map item (a ∷ xs) (b ∷ ys) = ap (λ l. item a b ∷ l) (each_map item xs ys)
+
+each_filter : {A B : Type 0} (has : A → Bool) (item : A → B → Fields) (xs : List A) (ys : List B)
+    → map (λ x. item x.0 x.1) (filter (λ x. has x.0) (zip xs ys)) ≡ each (some has item) xs ys
+each_filter has item [] ys = refl
+each_filter has item (a ∷ xs) [] = refl
+each_filter has item (a ∷ xs) (b ∷ ys) = elim (cases_Bool (has a)) [
+  | inl holds ↦ rw holds (ap (λ l. item a b ∷ l) (each_filter has item xs ys))
+  | inr lacks ↦ rw lacks (each_filter has item xs ys)
+]
+
+pub in_parts : (v : Version) (p : Drawing) (t : Standing) → item_records v p t ≡ values_of p t ++ (memories_in p t ++ blocks_in v p t)
+in_parts v p t =
+    ap₂ (λ (a b : List Fields). a ++ b) (each_map var_record p.decls.vars t.held.values)
+    (ap₂ (λ (a b : List Fields). a ++ b) (each_map memory_record (memory_places p) t.held.kept.memories) (each_filter (tells v) block_item p.decls.instances t.held.kept.blocks))
+
 all_of : {A B : Type 0} (item : A → B → Fields) (xs : List A) (ys : List B) → length ys ≡ length xs → length (each (one item) xs ys) ≡ length xs
 all_of item [] ys h = refl
 all_of item (a ∷ xs) [] h = absurd (omega (arith, h))
@@ -177,20 +199,20 @@ pub values_bad : (v : Version) (p : Drawing) (s : Standing) (rows : List Fields)
     → IsItemsBad v p s rows n
 values_bad v p s rows n ok h =
     part_bad every var_record (λ _ _. ⊤) p.decls.vars (λ t. t.held.values) (λ _. []) (λ t. memories_in p t ++ blocks_in v p t) v p s rows rows 0 2 n
-    (λ t. refl) (λ t o. refl) (λ t o. o.fits.values) (λ t o e i x z a b. tt) ok refl refl h
+    (in_parts v p) (λ t o. refl) (λ t o. o.fits.values) (λ t o e i x z a b. tt) ok refl refl h
 
 pub memories_bad : (v : Version) (p : Drawing) (s : Standing) (rows rest : List Fields) (n : ℕ) → IsStateOf p s → rows ≡ values_of p s ++ rest
     → IsStuck every memory_record (λ _ _. ⊤) (memory_places p) s.held.kept.memories rest (2 + length p.decls.vars) n → IsItemsBad v p s rows n
 memories_bad v p s rows rest n ok cut h =
     part_bad every memory_record (λ _ _. ⊤) (memory_places p) (λ t. t.held.kept.memories) (values_of p) (blocks_in v p) v p s rows rest (length p.decls.vars) _ n
-    (λ t. refl) (value_count p) (λ t o. memory_count p t o) (λ t o e i x z a b. tt) ok refl cut h
+    (in_parts v p) (value_count p) (λ t o. memory_count p t o) (λ t o e i x z a b. tt) ok refl cut h
 
 pub blocks_bad : (v : Version) (p : Drawing) (s : Standing) (rows rest : List Fields) (n : ℕ) → IsStateOf p s
     → rows ≡ (values_of p s ++ memories_in p s) ++ rest
     → IsStuck (tells v) block_item (CanHold s.moment) p.decls.instances s.held.kept.blocks rest (2 + length p.decls.vars + memories_of p) n → IsItemsBad v p s rows n
 blocks_bad v p s rows rest n ok cut h =
     part_bad (tells v) block_item (CanHold s.moment) p.decls.instances (λ t. t.held.kept.blocks) (λ t. values_of p t ++ memories_in p t) (λ _. []) v p s rows rest (length p.decls.vars + memories_of p) _ n
-    (λ t. sym (append_assoc (values_of p t) (memories_in p t) (blocks_in v p t)) ∙ ap (λ l. (values_of p t ++ memories_in p t) ++ l) (sym (append-nil (blocks_in v p t))))
+    (λ t. in_parts v p t ∙ sym (append_assoc (values_of p t) (memories_in p t) (blocks_in v p t)) ∙ ap (λ l. (values_of p t ++ memories_in p t) ++ l) (sym (append-nil (blocks_in v p t))))
     (λ t o. length-append (values_of p t) (memories_in p t) ∙ ap₂ (λ (a b : ℕ). a + b) (value_count p t o) (memories_count p t o))
     (block_count p) (λ t o e. can_hold p t s.moment o e) ok (omega arith) cut h
 
@@ -206,6 +228,7 @@ pub item_count : (v : Version) (p : Drawing) (s t : Standing) → IsStateOf p s 
     → length (item_records v p t) ≡ length p.decls.vars + memories_of p + length (blocks_in v p s)
 item_count v p s t a b = omega (
   arith,
+  ap length (in_parts v p t),
   length-append (values_of p t) (memories_in p t ++ blocks_in v p t),
   length-append (memories_in p t) (blocks_in v p t),
   value_count p t b,

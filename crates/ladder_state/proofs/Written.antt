@@ -9,7 +9,7 @@ use Rattle.ladder_scan.specs.Standing.{Standing}
 use Rattle.ladder_records.specs.Text.{lines_text}
 use Rattle.ladder_records.proofs.Commas.{lines_text-append}
 use Rattle.ladder_state.proofs.ItemByItem.{one}
-use Rattle.ladder_state.proofs.Segments.{blocks_in, memories_in, values_of}
+use Rattle.ladder_state.proofs.Segments.{blocks_in, in_parts, memories_in, values_of}
 
 some_same : {A : Type 0} {x y : A} → Some x ≡ Some y → x ≡ y
 some_same e = cc
@@ -64,4 +64,4 @@ blocks_text p s = lines_text (blocks_in Second p s)
 
 pub items_text : (p : Drawing) (s : Standing) → lines_text (item_records Second p s) ≡ values_text p s ++ (memories_text p s ++ blocks_text p s)
 items_text p s =
-    lines_text-append (values_of p s) (memories_in p s ++ blocks_in Second p s) ∙ ap (λ t. values_text p s ++ t) (lines_text-append (memories_in p s) (blocks_in Second p s))
+    ap lines_text (in_parts Second p s) ∙ lines_text-append (values_of p s) (memories_in p s ++ blocks_in Second p s) ∙ ap (λ t. values_text p s ++ t) (lines_text-append (memories_in p s) (blocks_in Second p s))

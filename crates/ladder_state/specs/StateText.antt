@@ -1,6 +1,6 @@
 -- The records of a state (the profile): the version of the text, the moment, and then one for each variable, each memory and each instance.
 -- Version 2 is written; versions 1 and 2 are read.
-use Rattle.std.specs.Prelude.{◌≡◌, ◌++◌, ◌∷◌, ◌+◌, ℕ, List, [], Bool, true, false, Some, if◌then◌else◌, codes, decimal, slice_get, length, filter, flat_map, zip}
+use Rattle.std.specs.Prelude.{◌≡◌, ◌++◌, ◌∷◌, ◌+◌, ℕ, List, [], Bool, true, false, Some, codes, decimal, slice_get, length, filter, map, zip}
 use Rattle.std.specs.List.{range_with_len}
 use Rattle.std.specs.Fmt.{signed_decimal}
 use Rattle.ladder_records.specs.Left.{Fields}
@@ -47,20 +47,17 @@ has_record version other = true
 
 -- ---- all of them
 
--- the records of those items that have one, each with its value, in order
-abbrev pub told : {A B : Type 0} → (A → Bool) → (A → B → Fields) → List A → List B → List Fields
-told has row items values = flat_map (λ x. if has x.0 then row x.0 x.1 ∷ [] else []) (zip items values)
-
 -- the places that have an edge contact or edge coil: the n-th memory is that of the n-th of them, they go by rung, column and row
 abbrev pub memory_places : Drawing → List ℕ
 memory_places p = filter (λ place. has_memory (cell_in p place)) (range_with_len 0 (length p.sites))
 
--- variables and instances as they are declared, memories by their places
+-- A record for each variable and its value, as they are declared; for each memory, by its place; and for each instance that has one in this
+-- version, as they are declared.
 abbrev pub item_records : Version → Drawing → Standing → List Fields
 item_records version p s =
-    told (λ _. true) var_record p.decls.vars s.held.values
-    ++ (told (λ _. true) memory_record (memory_places p) s.held.kept.memories
-    ++ told (λ i. has_record version (new_block i.kind)) (λ i. block_record i.name) p.decls.instances s.held.kept.blocks)
+    map (λ x. var_record x.0 x.1) (zip p.decls.vars s.held.values)
+    ++ (map (λ x. memory_record x.0 x.1) (zip (memory_places p) s.held.kept.memories)
+    ++ map (λ x. block_record x.0.name x.1) (filter (λ x. has_record version (new_block x.0.kind)) (zip p.decls.instances s.held.kept.blocks)))
 
 abbrev pub state_records : Version → Drawing → Standing → List Fields
 state_records version p s = version_record version ∷ moment_record s.moment ∷ item_records version p s

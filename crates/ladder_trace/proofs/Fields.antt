@@ -1,12 +1,12 @@
 -- The fields of chosen elements, each behind a comma.
-use Rattle.std.proofs.Common.{◌≡◌, ◌∙◌, ◌+◌, ◌++◌, ◌∷◌, [], ℕ, suc, true, false, Bool, List, Some, sym, ap, append-nil, codes, drop, map, slice_get, take}
+use Rattle.std.proofs.Common.{◌≡◌, ◌∙◌, ◌+◌, ◌≤◌, ◌++◌, ◌∷◌, [], ℕ, suc, true, false, Bool, List, Some, sym, ap, append-nil, codes, drop, length, map, slice_get, take, take_all}
 use Rattle.std.proofs.lemmas.List.{map-append}
 use Rattle.ladder_records.specs.Text.{after_commas}
 use Rattle.ladder_records.proofs.Commas.{after_commas-append}
 use Rattle.ladder_text.specs.Block.{SendsAll}
 use Rattle.ladder_text.specs.Log.{PutsPrefix, WriteLog}
 use Rattle.ladder_text.proofs.Sending.{sends_prefix, sends_more, sends_same}
-use Rattle.ladder_trace.specs.Trace.{chosen}
+use Rattle.ladder_trace.specs.Room.{chosen}
 use Rattle.ladder_trace.proofs.Lists.{chosen_apart, chosen_next}
 
 abbrev pub fields : {A : Type 0} → (A → List ℕ) → List Bool → List A → List ℕ
@@ -30,13 +30,19 @@ field_none f marks xs i x a b w0 w1 e g p =
     sends_same a b w0 w1 _ (fields f (take (i + 1) marks) xs)
     (ap (λ l. after_commas (map f l)) (sym (append-nil (chosen (take i marks) xs)) ∙ sym (chosen_next marks xs i false x e g))) p
 
+-- all fields, of elements that are said otherwise
+pub field_all : {A : Type 0} (f : A → List ℕ) (marks : List Bool) (xs ys : List A) (i : ℕ) (a b : WriteLog) (w0 w1 : List ℕ) → length marks ≤ i → chosen marks xs ≡ ys
+    → SendsAll a b w0 w1 (fields f (take i marks) xs) → SendsAll a b w0 w1 (after_commas (map f ys))
+field_all f marks xs ys i a b w0 w1 all same p =
+    sends_same a b w0 w1 _ (after_commas (map f ys)) (ap (λ m. fields f m xs) (take_all i marks all) ∙ ap (λ l. after_commas (map f l)) same) p
+
 -- a field that is not written to its end
-pub field_prefix : {A : Type 0} (f : A → List ℕ) (marks : List Bool) (xs : List A) (i : ℕ) (x : A) (a b c : WriteLog) (w0 w1 : List ℕ) → slice_get marks i ≡ Some true → slice_get xs i ≡ Some x
-    → SendsAll a b w0 w1 (fields f (take i marks) xs) → PutsPrefix b c (w1 ++ (codes "," ++ f x)) → PutsPrefix a c (w0 ++ fields f marks xs)
-field_prefix f marks xs i x a b c w0 w1 e g p q =
+pub field_prefix : {A : Type 0} (f : A → List ℕ) (marks : List Bool) (xs ys : List A) (i : ℕ) (x : A) (a b c : WriteLog) (w0 w1 : List ℕ) → slice_get marks i ≡ Some true → slice_get xs i ≡ Some x
+    → chosen marks xs ≡ ys → SendsAll a b w0 w1 (fields f (take i marks) xs) → PutsPrefix b c (w1 ++ (codes "," ++ f x)) → PutsPrefix a c (w0 ++ after_commas (map f ys))
+field_prefix f marks xs ys i x a b c w0 w1 e g same p q =
     let more = chosen (drop (suc i) marks) (drop (suc i) xs) in
-    let text : fields f marks xs ≡ fields f (take i marks) xs ++ ((codes "," ++ f x) ++ after_commas (map f more)) =
-    ap (λ l. after_commas (map f l)) (chosen_apart marks xs i x e g)
+    let text : after_commas (map f ys) ≡ fields f (take i marks) xs ++ ((codes "," ++ f x) ++ after_commas (map f more)) =
+    ap (λ l. after_commas (map f l)) (sym same ∙ chosen_apart marks xs i x e g)
     ∙ ap after_commas (map-append f (chosen (take i marks) xs) (x ∷ more))
     ∙ after_commas-append (map f (chosen (take i marks) xs)) (f x ∷ map f more) in
-    sends_prefix a b c w0 w1 (fields f marks xs) (fields f (take i marks) xs) (codes "," ++ f x) (after_commas (map f more)) text p q
+    sends_prefix a b c w0 w1 (after_commas (map f ys)) (fields f (take i marks) xs) (codes "," ++ f x) (after_commas (map f more)) text p q

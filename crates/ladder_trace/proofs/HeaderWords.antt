@@ -1,31 +1,43 @@
 -- The words of a header, one after the other.
-use Rattle.std.proofs.Common.{◌≡◌, ◌∙◌, ◌-◌, ◌<◌, ◌++◌, ◌∷◌, ◌==◌, ◌||◌, [], ℕ, suc, zero, Bool, true, false, List, Some, All, inl, inr, refl, sym, ap, ap₂, arith, codes, drop, take, length, map, slice_get, get_or}
-use Rattle.std.specs.List.{AllByRecursion, IsDistinct, list_any}
+use Rattle.std.proofs.Common.{◌≡◌, ◌∙◌, ◌-◌, ◌<◌, ◌≤◌, ◌++◌, ◌∷◌, ◌==◌, ◌||◌, [], ℕ, suc, zero, Bool, true, false, List, Some, All, inl, refl, sym, subst, ap, ap₂, arith, codes, drop, take, length, map, slice_get, get_or}
+use Rattle.std.specs.List.{AllByRecursion, Contains, IsDistinct, list_any}
 use Rattle.std.specs.Cmp.Lexicographic.{other_text, same_text}
 use Rattle.std.proofs.lemmas.Cmp.{nat_eq_equiv}
 use Rattle.std.proofs.lemmas.List.{map-append}
+use Rattle.std.proofs.lemmas.Map.Views.{Contains-from_any, exact_unsigned_eq}
 use Rattle.csv.specs.Records.{field_at}
 use Rattle.ladder_records.specs.Left.{Fields}
 use Rattle.ladder_vars.specs.Decls.{Declared}
-use Rattle.ladder_trace.specs.declared.fault.SimFault.{SimFault}
-use Rattle.ladder_trace.specs.declared.fault.SimFault.TheVariants as fault
 use Rattle.ladder_trace.specs.Room.{is_moment}
-use Rattle.ladder_trace.specs.Simulation.{IsBadHeader, IsBadWord}
-use Rattle.ladder_trace.specs.Stimulus.{AreColumns, input_named}
+use Rattle.ladder_trace.specs.Simulation.{IsBadHeader}
+use Rattle.ladder_trace.specs.Stimulus.{AreColumns, IsHeader, input_named}
+use Rattle.ladder_trace.proofs.Lists.{some_same}
 
 pub is_headed : (fs : Fields) → is_moment (field_at fs 0) ≡ true → fs ≡ codes "moment" ∷ drop 1 fs
 unfolding field_at
 is_headed [] e = let bad : false ≡ true = e in cc
 is_headed (f ∷ fs) e = ap (λ x. x ∷ fs) (same_text f (codes "moment") (sym e))
 
-pub bad_first : (d : Declared) (fs : Fields) (rows : List Fields) → is_moment (field_at fs 0) ≡ false → IsBadHeader d (fs ∷ rows) (fault.BadRow 1)
+headed : (fs : Fields) (word : List ℕ) → slice_get fs 0 ≡ Some word → word ≡ codes "moment" → is_moment (field_at fs 0) ≡ false → ⊥
 unfolding field_at
-bad_first d [] rows e = refl
-bad_first d (f ∷ fs) rows e = inl (λ same. other_text f (codes "moment") (sym e) same, refl)
+headed [] word there same e = cc
+headed (f ∷ fs) word there same e = other_text f (codes "moment") (sym e) (some_same there ∙ same)
 
-pub bad_word : (d : Declared) (fs : Fields) (rows : List Fields) (e : SimFault) → fs ≡ codes "moment" ∷ drop 1 fs → IsBadWord d (drop 1 fs) e → IsBadHeader d (fs ∷ rows) e
-bad_word d [] rows e same h = cc
-bad_word d (f ∷ fs) rows e same h = let first : f ≡ codes "moment" = cc in inr (first, h)
+pub bad_first : (d : Declared) (fs : Fields) (rows : List Fields) → is_moment (field_at fs 0) ≡ false → IsBadHeader d (fs ∷ rows)
+bad_first d fs rows e = inl (λ (r, here, (word, there, same)). headed fs word (subst (λ (x : Fields). slice_get x 0 ≡ Some word) (sym (some_same here)) there) same e)
+
+-- the fields before a place, of which the first is the word for the moment
+pub header_to : (d : Declared) (fs : Fields) (number : ℕ) (columns : List ℕ) → fs ≡ codes "moment" ∷ drop 1 fs → 1 ≤ number → AreColumns d (take (number - 1) (drop 1 fs)) columns
+    → IsHeader d (take number fs) columns
+header_to d [] number columns e h k = cc
+header_to d (f ∷ fs) zero columns e h k = absurd (omega (arith, h))
+header_to d (f ∷ fs) (suc n) columns e h k =
+    let first : f ≡ codes "moment" = cc in
+    let at : suc n - 1 ≡ n = omega arith in
+    record { words = take n fs; same = ap (λ x. x ∷ take n fs) first; inputs = subst (λ i. AreColumns d (take i fs) columns) at k }
+
+pub contains : (c : ℕ) (xs : List ℕ) → list_any (λ k. c == k) xs ≡ true → Contains xs c
+contains c xs h = Contains-from_any {eq = λ (a b : ℕ). a == b} (λ x y e. exact_unsigned_eq x y e) c xs h
 
 -- the word at a place
 pub word_at : (fs : Fields) (number : ℕ) → number < length fs → 0 < number → slice_get (drop 1 fs) (number - 1) ≡ Some (get_or fs number [])

@@ -1,10 +1,12 @@
 -- Lists that are gone through place by place.
 use Rattle.std.proofs.Common.{◌≡◌, ◌∙◌, ◌+◌, ◌-◌, ◌<◌, ◌≤◌, ◌++◌, ◌∷◌, ◌&&◌, [], ℕ, suc, zero, Bool, true, false, List, Some, if◌then◌else◌, inl, inr, refl, sym, ap, arith, length, add-one, get_or, set, take, drop, take_all, map, slice_get}
-use Rattle.std.specs.List.{count_by, list_all}
+use Rattle.std.specs.List.{count_by, filter, list_all}
 use Rattle.std.proofs.lemmas.Bool.{cases_Bool}
 use Rattle.std.proofs.lemmas.List.Sums.{count_by_more_no, count_by_more_yes}
+use Rattle.ladder_vars.specs.declared.decls.Var.{Var}
 use Rattle.ladder_trace.specs.Stimulus.{given_by}
-use Rattle.ladder_trace.specs.Trace.{chosen}
+use Rattle.ladder_trace.specs.Room.{chosen}
+use Rattle.ladder_trace.specs.Trace.{values_of}
 
 pub some_same : {A : Type 0} {x y : A} → Some x ≡ Some y → x ≡ y
 some_same e = cc
@@ -84,6 +86,21 @@ chosen_apart (false ∷ marks) (y ∷ xs) (suc i) x e g = chosen_apart marks xs 
 pub chosen_next : {A : Type 0} (marks : List Bool) (xs : List A) (i : ℕ) (m : Bool) (x : A) → slice_get marks i ≡ Some m → slice_get xs i ≡ Some x
     → chosen (take (i + 1) marks) xs ≡ chosen (take i marks) xs ++ (if m then x ∷ [] else [])
 chosen_next marks xs i m x e g = rw (add-one i) (chosen_more marks xs i m x e g)
+
+pub chosen_filter : {A : Type 0} (p : A → Bool) (xs : List A) → chosen (map p xs) xs ≡ filter p xs
+chosen_filter p [] = refl
+chosen_filter p (x ∷ xs) = elim (cases_Bool (p x)) [
+  | inl holds ↦ rw holds (ap (λ l. x ∷ l) (chosen_filter p xs))
+  | inr lacks ↦ rw lacks (chosen_filter p xs)
+]
+
+pub chosen_values : (p : Var → Bool) (vars : List Var) (values : List Bool) → chosen (map p vars) values ≡ values_of p vars values
+chosen_values p [] values = refl
+chosen_values p (v ∷ vars) [] = refl
+chosen_values p (v ∷ vars) (b ∷ values) = elim (cases_Bool (p v)) [
+  | inl holds ↦ rw holds (ap (λ l. b ∷ l) (chosen_values p vars values))
+  | inr lacks ↦ rw lacks (chosen_values p vars values)
+]
 
 -- ---- an image
 

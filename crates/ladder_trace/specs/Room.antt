@@ -1,5 +1,5 @@
--- Private to the simulation: what its inner functions allocate before a first write, and how they read a field.
-use Rattle.std.specs.Prelude.{◌≡◌, ℕ, List, [], Bool, false, ◌||◌, Option, Some, None, codes, bytes_eq, drop, length, map}
+-- Private to the simulation: what its inner functions allocate before a first write, how they read a field, and choose variables.
+use Rattle.std.specs.Prelude.{◌≡◌, ◌∷◌, ℕ, List, [], Bool, true, false, ◌||◌, Option, Some, None, codes, bytes_eq, drop, length, map}
 use Rattle.std.specs.List.{count_by, list_all}
 use Rattle.ladder_vars.specs.Decls.{is_input}
 use Rattle.ladder_grid.specs.Program.{Drawing}
@@ -32,3 +32,10 @@ are_bits fields = list_all (λ f. is_bit (Some f)) fields
 -- These are the bits of a record, after its moment.
 abbrev pub bits_of : Fields → List Bool
 bits_of fields = map (λ f. is_on (Some f)) (drop 1 fields)
+
+-- These are the elements of a list that are marked.
+abbrev pub chosen : {A : Type 0} → List Bool → List A → List A
+chosen [] xs = []
+chosen (b ∷ marks) [] = []
+chosen (true ∷ marks) (x ∷ xs) = x ∷ chosen marks xs
+chosen (false ∷ marks) (x ∷ xs) = chosen marks xs

@@ -1,6 +1,6 @@
--- How a simulation ends (the profile). Records are counted from 1, the header included.
-use Rattle.std.specs.Prelude.{◌≡◌, ◌⊎◌, ◌++◌, ◌∷◌, ◌+◌, ◌<◌, ◌≤◌, ◌==◌, ℕ, List, [], Bool, true, Some, None, Result, Ok, Err, length, take, slice_get, codes}
-use Rattle.std.specs.List.{list_any}
+-- How a simulation ends (the profile): with the course of the first records of a stimulus, and with what comes after them.
+-- Records are counted from 1 in a fault, the header included; a place in a list is counted from 0.
+use Rattle.std.specs.Prelude.{◌≡◌, ◌⊎◌, ◌++◌, ◌+◌, ◌<◌, ◌≤◌, ℕ, zero, suc, Bool, List, [], Contains, Option, None, Some, Result, Ok, Err, codes, length, slice_get, take}
 use Rattle.ladder_vars.specs.Decls.{Declared}
 use Rattle.ladder_grid.specs.Program.{Drawing}
 use Rattle.ladder_records.specs.Left.{Fields}
@@ -8,8 +8,44 @@ use Rattle.ladder_scan.specs.Standing.{Standing}
 use Rattle.ladder_text.specs.Log.{PutsAll, PutsPrefix, WriteLog}
 use Rattle.ladder_trace.specs.declared.fault.SimFault.{SimFault}
 use Rattle.ladder_trace.specs.declared.fault.SimFault.TheVariants as fault
-use Rattle.ladder_trace.specs.Stimulus.{AreColumns, IsHeader, IsRow, input_named}
-use Rattle.ladder_trace.specs.Trace.{IsStep, Runs, trace_header, trace_row}
+use Rattle.ladder_trace.specs.Stimulus.{IsHeader, IsRow, input_named}
+use Rattle.ladder_trace.specs.Trace.{IsStep, trace_header, trace_row}
+
+-- There is an element at this place, and it is such a one.
+abbrev pub HasAt : {A : Type 0} → List A → ℕ → (A → Type 0) → Type 0
+HasAt xs n P = (x : _) × (slice_get xs n ≡ Some x) × P x
+
+-- ---- the course of a stimulus
+
+-- The header is good, and so are the first k records after it; one after the other they lead from s to t. Their trace is a text and a
+-- last line: the header of the trace, and then a row for each record.
+unfoldable pub Runs : Drawing → List ℕ → Standing → List Fields → ℕ → List ℕ → List ℕ → Standing → Type 0
+Runs p columns s rows zero text line t = HasAt rows 0 (λ r. IsHeader p.decls r columns) × (text ≡ []) × (line ≡ trace_header p) × (t ≡ s)
+Runs p columns s rows (suc k) text line t =
+    (before last : List ℕ) × (u : Standing) × Runs p columns s rows k before last u × (text ≡ before ++ last)
+    × HasAt rows (suc k) (λ r. IsStep p columns u r t) × (line ≡ trace_row p t)
+
+-- This is how many records after the header are taken at most.
+abbrev pub most : ℕ
+most = 1000000
+
+-- So the first k records lead from s to t, and they are not too many.
+pub record Course (p : Drawing) (s : Standing) (rows : List Fields) (k : ℕ) (t : Standing) : Type 0 where
+  pub columns : List ℕ
+  pub text : List ℕ
+  pub line : List ℕ
+  pub runs : Runs p columns s rows k text line t
+  pub few : k ≤ most
+
+-- They were taken: the whole trace of their course was written.
+pub record IsTaken (p : Drawing) (s : Standing) (rows : List Fields) (k : ℕ) (t : Standing) (old new : WriteLog) : Type 0 where
+  pub course : Course p s rows k t
+  pub wrote : PutsAll old new (course.text ++ course.line)
+
+-- Some first records were taken, and the next one, which is not past the most, is such a one for the columns of the header.
+abbrev pub StopsAt : Drawing → Standing → List Fields → Standing → WriteLog → WriteLog → (List ℕ → Fields → Type 0) → ℕ → Type 0
+StopsAt p s rows t old new P n =
+    (k : ℕ) × (h : IsTaken p s rows k t old new) × HasAt rows (k + 1) (P h.course.columns) × (k < most) × (n ≡ k + 2)
 
 -- ---- a record that isn't good
 
@@ -18,102 +54,42 @@ abbrev pub IsNoRow : List ℕ → Fields → Type 0
 IsNoRow columns fields = (moment : ℕ) (bits : List Bool) → IsRow columns fields moment bits → ⊥
 
 -- The record is a moment with a bit for each column, and the moment is before that of the state.
-abbrev pub GoesBack : List ℕ → Standing → Fields → Type 0
-GoesBack columns s fields = (moment : ℕ) × (bits : List Bool) × IsRow columns fields moment bits × (moment < s.moment)
+abbrev pub GoesBack : Standing → List ℕ → Fields → Type 0
+GoesBack s columns fields = (moment : ℕ) × (bits : List Bool) × IsRow columns fields moment bits × (moment < s.moment)
 
--- ---- the records after the header
+-- ---- a header that isn't good
 
--- This is how many records after the header are taken at most.
-abbrev pub most : ℕ
-most = 1000000
+-- Some first fields are a good header with these columns, and the next one names such a thing: an input by its place, or none.
+abbrev pub HasWord : (List ℕ → Option ℕ → Type 0) → Declared → Fields → Type 0
+HasWord P d fields =
+    (n : ℕ) × (columns : List ℕ) × IsHeader d (take n fields) columns × HasAt fields n (λ word. P columns (input_named d word))
 
--- The records are some good ones and a rest; the good ones lead from s to t, and their trace was written.
-pub record IsTaken (p : Drawing) (columns : List ℕ) (s : Standing) (rows : List Fields) (t : Standing) (old new : WriteLog) : Type 0 where
-  pub taken : List Fields
-  pub rest : List Fields
-  pub text : List ℕ
-  pub cut : rows ≡ taken ++ rest
-  pub runs : Runs p columns s taken text t
-  pub wrote : PutsAll old new text
+-- A word is no input's name.
+abbrev pub HasUnknownName : Declared → Fields → Type 0
+HasUnknownName = HasWord (λ columns place. place ≡ None)
 
--- There is a first record, and it is such a one.
-abbrev pub FirstOf : (Fields → Type 0) → List Fields → Type 0
-FirstOf P [] = ⊥
-FirstOf P (r ∷ rows) = P r
+-- A word names an input again.
+abbrev pub HasNameTwice : Declared → Fields → Type 0
+HasNameTwice = HasWord (λ columns place. (c : ℕ) × (place ≡ Some c) × Contains columns c)
 
--- Records were taken, and at the next one, which is such a one and not past the most, the simulation stopped.
-abbrev pub StopsAt : Drawing → List ℕ → Standing → List Fields → Standing → WriteLog → WriteLog → (Fields → Type 0) → ℕ → Type 0
-StopsAt p columns s rows t old new P n = (h : IsTaken p columns s rows t old new) × FirstOf P h.rest × (length h.taken < most) × (n ≡ length h.taken + 2)
-
--- Records were taken, the next one was scanned, and its row was written in part.
-pub record IsCutOff (p : Drawing) (columns : List ℕ) (s : Standing) (rows : List Fields) (t : Standing) (old new : WriteLog) : Type 0 where
-  pub state : Standing
-  pub log : WriteLog
-  pub taken : IsTaken p columns s rows state old log
-  pub few : length taken.taken < most
-  pub step : FirstOf (λ r. IsStep p columns state r t) taken.rest
-  pub wrote : PutsPrefix log new (trace_row p t)
-
--- All records after the header were taken, or this fault stopped the simulation at one of them.
-abbrev pub EndsRows : Drawing → List ℕ → Standing → List Fields → Standing → WriteLog → WriteLog → Result ℕ SimFault → Type 0
-EndsRows p columns s rows t old new (Ok n) = (h : IsTaken p columns s rows t old new) × (h.rest ≡ []) × (n ≡ length h.taken) × (n ≤ most)
-EndsRows p columns s rows t old new (Err (fault.BadRow n)) = StopsAt p columns s rows t old new (IsNoRow columns) n
-EndsRows p columns s rows t old new (Err (fault.UnknownName n)) = ⊥
-EndsRows p columns s rows t old new (Err (fault.MomentBack n)) = StopsAt p columns s rows t old new (GoesBack columns t) n
-EndsRows p columns s rows t old new (Err (fault.TooLong n)) = (h : IsTaken p columns s rows t old new) × FirstOf (λ r. Unit {0}) h.rest × (length h.taken ≡ most) × (n ≡ most + 2)
-EndsRows p columns s rows t old new (Err fault.Write) = IsCutOff p columns s rows t old new
-EndsRows p columns s rows t old new (Err fault.Memory) = (h : IsTaken p columns s rows t old new) × (length h.taken ≤ most)
-
--- ---- the header
-
--- The words before this one are good, and it is no input's name, or names an input again.
-pub record IsBadWord (d : Declared) (words : List (List ℕ)) (e : SimFault) : Type 0 where
-  pub at : ℕ
-  pub word : List ℕ
-  pub there : slice_get words at ≡ Some word
-  pub before : List ℕ
-  pub good : AreColumns d (take at words) before
-  pub bad : ((input_named d word ≡ None) × (e ≡ fault.UnknownName 1))
-      ⊎ ((place : ℕ) × (input_named d word ≡ Some place) × (list_any (λ c. place == c) before ≡ true) × (e ≡ fault.BadRow 1))
-
--- There is no record, or the first one doesn't begin with the word for the moment, or has a bad word after it.
-abbrev pub IsBadHeader : Declared → List Fields → SimFault → Type 0
-IsBadHeader d [] e = e ≡ fault.BadRow 1
-IsBadHeader d ([] ∷ rows) e = e ≡ fault.BadRow 1
-IsBadHeader d ((first ∷ words) ∷ rows) e = ((first ≡ codes "moment" → ⊥) × (e ≡ fault.BadRow 1)) ⊎ ((first ≡ codes "moment") × IsBadWord d words e)
+-- There is no first record that begins with the word for the moment, or it names an input twice.
+abbrev pub IsBadHeader : Declared → List Fields → Type 0
+IsBadHeader d rows = (HasAt rows 0 (λ r. HasAt r 0 (λ word. word ≡ codes "moment")) → ⊥) ⊎ HasAt rows 0 (HasNameTwice d)
 
 -- ---- the whole
 
--- The header is good, that of the trace was written, and so the records after it ended.
-pub record HasBegun (p : Drawing) (s : Standing) (rows : List Fields) (t : Standing) (old new : WriteLog) (r : Result ℕ SimFault) : Type 0 where
-  pub fields : Fields
-  pub behind : List Fields
-  pub columns : List ℕ
-  pub cut : rows ≡ fields ∷ behind
-  pub header : IsHeader p.decls fields columns
-  pub log : WriteLog
-  pub wrote : PutsAll old log (trace_header p)
-  pub ends : EndsRows p columns s behind t log new r
+-- The state is as it was, and nothing was written.
+abbrev pub IsUntouched : Standing → Standing → WriteLog → WriteLog → Type 0
+IsUntouched s t old new = (t ≡ s) × (new ≡ old)
 
--- The header is good, and that of the trace was written in part.
-pub record IsHeaderCutOff (p : Drawing) (rows : List Fields) (old new : WriteLog) : Type 0 where
-  pub fields : Fields
-  pub behind : List Fields
-  pub columns : List ℕ
-  pub cut : rows ≡ fields ∷ behind
-  pub header : IsHeader p.decls fields columns
-  pub wrote : PutsPrefix old new (trace_header p)
-
--- The simulation came to no record after the header: nothing was scanned, and nothing written but a part of the trace's header.
-abbrev pub HasNotBegun : Drawing → Standing → List Fields → Standing → WriteLog → WriteLog → SimFault → Type 0
-HasNotBegun p s rows t old new fault.Memory = (t ≡ s) × (new ≡ old)
-HasNotBegun p s rows t old new fault.Write = (t ≡ s) × IsHeaderCutOff p rows old new
-HasNotBegun p s rows t old new (fault.BadRow n) = (t ≡ s) × (new ≡ old) × IsBadHeader p.decls rows (fault.BadRow n)
-HasNotBegun p s rows t old new (fault.UnknownName n) = (t ≡ s) × (new ≡ old) × IsBadHeader p.decls rows (fault.UnknownName n)
-HasNotBegun p s rows t old new (fault.MomentBack n) = ⊥
-HasNotBegun p s rows t old new (fault.TooLong n) = ⊥
-
--- From the state s and the records of a stimulus a simulation leads to t, writes, and returns r.
+-- From the state s and the records of a stimulus a simulation leads to t, writes, and returns the number of scans or a fault.
+-- Where the writer failed, the trace was written with a prefix of its last line.
 abbrev pub Simulates : Drawing → Standing → List Fields → Standing → WriteLog → WriteLog → Result ℕ SimFault → Type 0
-Simulates p s rows t old new (Ok n) = HasBegun p s rows t old new (Ok n)
-Simulates p s rows t old new (Err e) = HasBegun p s rows t old new (Err e) ⊎ HasNotBegun p s rows t old new e
+Simulates p s rows t old new (Ok n) = IsTaken p s rows n t old new × (length rows ≡ n + 1)
+Simulates p s rows t old new (Err (fault.BadRow n)) = StopsAt p s rows t old new IsNoRow n ⊎ ((n ≡ 1) × IsBadHeader p.decls rows × IsUntouched s t old new)
+Simulates p s rows t old new (Err (fault.UnknownName n)) = (n ≡ 1) × HasAt rows 0 (HasUnknownName p.decls) × IsUntouched s t old new
+Simulates p s rows t old new (Err (fault.MomentBack n)) = StopsAt p s rows t old new (GoesBack t) n
+Simulates p s rows t old new (Err (fault.TooLong n)) = IsTaken p s rows most t old new × (most + 1 < length rows) × (n ≡ most + 2)
+Simulates p s rows t old new (Err fault.Write) =
+    (k : ℕ) × (c : Course p s rows k t) × (cut : PutsPrefix old new (c.text ++ c.line)) × (length c.text ≤ length cut.bytes.0)
+Simulates p s rows t old new (Err fault.Memory) = ((k : ℕ) × IsTaken p s rows k t old new) ⊎ IsUntouched s t old new

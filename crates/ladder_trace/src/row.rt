@@ -6,7 +6,7 @@ ghost use Rattle.ladder_vars.specs.Decls.{is_input};
 ghost use Rattle.ladder_trace.specs.Room.{are_bits, bits_of, is_bit, is_on};
 ghost use Rattle.ladder_trace.specs.Simulation.{IsNoRow};
 ghost use Rattle.ladder_trace.specs.Stimulus.{given_by, IsRow};
-ghost use Rattle.ladder_trace.specs.Trace.{chosen};
+ghost use Rattle.ladder_trace.specs.Trace.{values_of};
 
 use csv::ByteRecord;
 use ladder_records::read_number;
@@ -64,7 +64,7 @@ pub(crate) fn read_row(columns: &[usize], row: &ByteRecord) -> Option<u64>
 pub(crate) fn fill_inputs(vars: &[Var], state: &State, image: &mut [bool])
     requires values { length state.now.held.values ≡ length vars.now }
     requires room { length image.old ≡ count_by is_input vars.now }
-    ensures { image.new ≡ chosen (map is_input vars.now) state.now.held.values }
+    ensures { image.new ≡ values_of is_input vars.now state.now.held.values }
 {
     let mut place = 0;
     for number in 0..vars.len() {

@@ -2,13 +2,14 @@
 
 ghost use Rattle.std.specs.Prelude.{◌<◌, All, List, OnOk, count_by};
 ghost use Rattle.csv.specs.Records.{fields_of};
-ghost use Rattle.ladder_records.specs.Left.{Fields, IsPlain, Left};
+ghost use Rattle.ladder_records.specs.Left.{Fields, IsPlain};
 ghost use Rattle.ladder_records.specs.Text.{records_of};
 ghost use Rattle.ladder_scan.specs.Standing.{Fits};
+ghost use Rattle.ladder_text.specs.Log.{WriteLog};
 ghost use Rattle.ladder_vars.specs.Decls.{is_input};
 ghost use Rattle.ladder_trace.specs.Room.{IsReady};
-ghost use Rattle.ladder_trace.specs.Simulation.{EndsRows, Simulates};
-ghost use Rattle.ladder_trace.specs.Steps.{StepsTo};
+ghost use Rattle.ladder_trace.specs.Simulation.{Simulates};
+ghost use Rattle.ladder_trace.specs.Steps.{IsGoing, StepsTo};
 
 use crate::fault::SimFault;
 use crate::header::columns;
@@ -62,7 +63,7 @@ fn step<W: Sink>(
     Ok(())
 }
 
-/// Takes all records after the header.
+/// Takes all records after the header, whose line is written.
 fn simulate_rows<W: Sink>(
     program: &Program,
     columns: &[usize],
@@ -76,7 +77,7 @@ fn simulate_rows<W: Sink>(
     requires ready { IsReady program.now room.old.image.items room.old.block }
     requires below { All (λ c. c < count_by is_input program.now.decls.vars) columns.now }
     ensures fits { Fits program.now state.new }
-    ensures ends { (rows : List Fields) → Left records.old rows → EndsRows program.now columns.now state.old rows state.new (W.log writer.old) (W.log writer.new) result }
+    ensures ends { (rows : List Fields) (log : WriteLog) → IsGoing program.now columns.now state.old rows 0 state.old log (W.log writer.old) records.old → Simulates program.now state.old rows state.new log (W.log writer.new) result }
 {
     for number in 0..u64::MAX {
         let Ok(found) = next(records, &mut room.row) else {

@@ -1,11 +1,11 @@
 //! The writing of a trace.
 
-ghost use Rattle.std.specs.Prelude.{◌≡◌, [], OnOk, decimal, map, length};
+ghost use Rattle.std.specs.Prelude.{◌≡◌, [], OnOk, decimal, filter, map, length};
 ghost use Rattle.ladder_records.specs.Text.{after_commas, bit_text};
 ghost use Rattle.ladder_scan.specs.Standing.{Fits};
 ghost use Rattle.ladder_text.specs.Block.{Sends};
 ghost use Rattle.ladder_text.specs.Log.{Puts};
-ghost use Rattle.ladder_trace.specs.Trace.{chosen, is_output, outputs_among, trace_header, trace_row};
+ghost use Rattle.ladder_trace.specs.Trace.{is_output, trace_header, trace_row, values_of};
 
 use itoa::Buffer;
 use ladder_grid::Program;
@@ -25,7 +25,7 @@ fn is_output(var: &Var) -> bool
 
 /// Adds the names of the outputs, each after a comma.
 fn add_names<W: Sink>(block: &mut Block, vars: &[Var], writer: &mut W) -> Result<(), WriteFault>
-    ensures { Sends (W.log writer.old) (W.log writer.new) block.old block.new result (after_commas (map (λ v. v.name) (outputs_among vars.now))) }
+    ensures { Sends (W.log writer.old) (W.log writer.new) block.old block.new result (after_commas (map (λ v. v.name) (filter is_output vars.now))) }
 {
     for number in 0..vars.len() {
         let var = &vars[number];
@@ -72,7 +72,7 @@ fn add_bits<W: Sink>(
     writer: &mut W,
 ) -> Result<(), WriteFault>
     requires { length state.now.held.values ≡ length vars.now }
-    ensures { Sends (W.log writer.old) (W.log writer.new) block.old block.new result (after_commas (map bit_text (chosen (map is_output vars.now) state.now.held.values))) }
+    ensures { Sends (W.log writer.old) (W.log writer.new) block.old block.new result (after_commas (map bit_text (values_of is_output vars.now state.now.held.values))) }
 {
     for number in 0..vars.len() {
         if !is_output(&vars[number]) {

@@ -1,6 +1,7 @@
 -- The rows of items, one after the other.
-use Rattle.std.proofs.Common.{◌≡◌, ◌∙◌, ◌+◌, ◌-◌, ◌<◌, ◌≤◌, ◌++◌, ◌∷◌, [], ℕ, suc, List, Some, sym, ap, arith, refl, append-nil, length, length-append, map, get_or, take, take_all, drop, slice_get, add-one, Option}
-use Rattle.std.specs.List.{flat_map, range_with_len}
+use Rattle.std.proofs.Common.{◌≡◌, ◌∙◌, ◌+◌, ◌-◌, ◌<◌, ◌≤◌, ◌++◌, ◌∷◌, [], ℕ, suc, List, None, Some, sym, ap, arith, refl, append-nil, length, length-append, map, get_or, take, take_all, drop, slice_get, add-one, Option}
+use Rattle.std.specs.Prelude.{filter_map, option_map}
+use Rattle.std.specs.List.{cons_option, flat_map, range_with_len}
 use Rattle.std.proofs.Math.Seq.{take-suc, drop-cons}
 use Rattle.std.proofs.lemmas.Grind.{flat_map-append}
 use Rattle.std.proofs.lemmas.List.{get_or-append-add, get_or_append_left, take-append-drop}
@@ -10,6 +11,9 @@ use Rattle.std.proofs.lemmas.Option.{get_or_from_slice_get, slice_get_read, slic
 use Rattle.ladder_vars.specs.Decls.{Declared}
 use Rattle.ladder_vars.specs.declared.decls.Symbol.{Symbol}
 use Rattle.ladder_vars.specs.declared.decls.Symbol.TheVariants as symbol
+use Rattle.ladder_grid.specs.declared.cell.Cell.{Cell}
+use Rattle.ladder_grid.specs.declared.cell.Cell.TheVariants as cell
+use Rattle.ladder_grid.specs.declared.cell.Operand.TheVariants as operand
 use Rattle.ladder_grid.specs.Program.{Drawing, cell_in}
 use Rattle.ladder_text.specs.Block.{SendsAll}
 use Rattle.ladder_text.specs.Log.{PutsPrefix, WriteLog}
@@ -18,7 +22,8 @@ use Rattle.ladder_records.specs.Left.{Fields}
 use Rattle.ladder_records.specs.Text.{lines_text}
 use Rattle.ladder_records.proofs.Commas.{lines_text-append}
 use Rattle.ladder_uses.specs.declared.usage.Use.{Use}
-use Rattle.ladder_uses.specs.Uses.{or_unused, place_rows, row_of, unused_row, symbols_of, use_of}
+use Rattle.ladder_uses.specs.Usage.{if_of, row_of, use_in}
+use Rattle.ladder_uses.specs.Uses.{or_unused, place_rows, unused_row, symbols_of, use_of, use_row}
 
 -- one item more
 pub rows_more : {A : Type 0} (f : A → List Fields) (xs : List A) (i : ℕ) (x : A) (ys : List Fields) → slice_get xs i ≡ Some x → f x ≡ ys
@@ -77,6 +82,39 @@ instance_at d n h past =
 
 -- ---- the places of a symbol
 
+-- what the code asks of a cell is how it uses the symbol
+pub use_same : (s : Symbol) (c : Cell) → if_of s (use_in c) ≡ use_of s c
+use_same (symbol.Var v) cell.Empty = refl
+use_same (symbol.Var v) cell.Wire = refl
+use_same (symbol.Var v) (cell.Contact m (operand.Var var) memory) = refl
+use_same (symbol.Var v) (cell.Contact m (operand.Output inst) memory) = refl
+use_same (symbol.Var v) (cell.Coil m var memory) = refl
+use_same (symbol.Var v) (cell.Block inst) = refl
+use_same (symbol.Var v) (cell.Lower inst linked) = refl
+use_same (symbol.Var v) (cell.Jump target) = refl
+use_same (symbol.Var v) cell.Return = refl
+use_same (symbol.Instance i) cell.Empty = refl
+use_same (symbol.Instance i) cell.Wire = refl
+use_same (symbol.Instance i) (cell.Contact m (operand.Var var) memory) = refl
+use_same (symbol.Instance i) (cell.Contact m (operand.Output inst) memory) = refl
+use_same (symbol.Instance i) (cell.Coil m var memory) = refl
+use_same (symbol.Instance i) (cell.Block inst) = refl
+use_same (symbol.Instance i) (cell.Lower inst linked) = refl
+use_same (symbol.Instance i) (cell.Jump target) = refl
+use_same (symbol.Instance i) cell.Return = refl
+
+one_row : (name : List ℕ) (place : ℕ) (o : Option Use) (rows : List Fields) → cons_option (option_map (λ used. use_row name used place) o) rows ≡ row_of name place o ++ rows
+one_row name place None rows = refl
+one_row name place (Some used) rows = refl
+
+rows_flat : (name : List ℕ) (used : ℕ → Option Use) (places : List ℕ)
+    → filter_map (λ place. option_map (λ u. use_row name u place) (used place)) places ≡ flat_map (λ place. row_of name place (used place)) places
+rows_flat name used [] = refl
+rows_flat name used (x ∷ places) =
+    one_row name x (used x) (filter_map (λ place. option_map (λ u. use_row name u place) (used place)) places)
+    ∙ ap (λ t. row_of name x (used x) ++ t) (rows_flat name used places)
+    ∙ sym (flat_map-cons (λ place. row_of name place (used place)) x places)
+
 -- the rows of the first n places
 abbrev pub rows_before : Drawing → List ℕ → Symbol → ℕ → List Fields
 rows_before p name s n = flat_map (λ place. row_of name place (use_of s (cell_in p place))) (take n (range_with_len 0 (length p.sites)))
@@ -91,7 +129,8 @@ pub places_apart : (p : Drawing) (name : List ℕ) (s : Symbol) (i : ℕ) (o : O
     → (rest : List Fields) × (place_rows p name s ≡ rows_before p name s i ++ (row_of name i o ++ rest))
 places_apart p name s i o h is = (
   _,
-  rows_apart (λ place. row_of name place (use_of s (cell_in p place))) (range_with_len 0 (length p.sites)) i i (row_of name i o)
+  rows_flat name (λ place. use_of s (cell_in p place)) (range_with_len 0 (length p.sites))
+      ∙ rows_apart (λ place. row_of name place (use_of s (cell_in p place))) (range_with_len 0 (length p.sites)) i i (row_of name i o)
       (number_at (length p.sites) i h) (ap (row_of name i) (sym is)),
 )
 
@@ -99,6 +138,7 @@ pub places_all : (p : Drawing) (name : List ℕ) (s : Symbol) (n : ℕ) → n �
 places_all p name s n e =
     ap (flat_map (λ place. row_of name place (use_of s (cell_in p place))))
     (take_all n (range_with_len 0 (length p.sites)) (omega (arith, e, length-range_with_len 0 (length p.sites))))
+    ∙ sym (rows_flat name (λ place. use_of s (cell_in p place)) (range_with_len 0 (length p.sites)))
 
 -- ---- rows that are written
 

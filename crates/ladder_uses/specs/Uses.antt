@@ -1,5 +1,5 @@
 -- The cross-reference of a program (the profile): each name with the places where it is drawn.
-use Rattle.std.specs.Prelude.{◌++◌, ◌∷◌, ◌+◌, ◌==◌, ℕ, List, [], Bool, false, if◌then◌else◌, Option, Some, None, codes, decimal, length, map, slice_get}
+use Rattle.std.specs.Prelude.{◌++◌, ◌∷◌, ◌+◌, ◌==◌, ℕ, List, [], if◌then◌else◌, Option, Some, None, codes, decimal, filter_map, length, map, option_map, slice_get}
 use Rattle.std.specs.List.{flat_map, range_with_len}
 use Rattle.std.specs.Option.{option_map_or}
 use Rattle.ladder_vars.specs.Decls.{Declared}
@@ -19,17 +19,14 @@ use Rattle.ladder_uses.specs.declared.usage.Use.TheVariants.{Contact, Coil, Bloc
 
 -- ---- one cell
 
--- What a cell uses, and how. A contact on an output uses the instance; a lower cell belongs to the block above it.
-abbrev pub use_in : Cell → Option (Symbol × Use)
-use_in cell.Empty = None
-use_in cell.Wire = None
-use_in (cell.Contact m (operand.Var var) memory) = Some (symbol.Var var, Contact m)
-use_in (cell.Contact m (operand.Output inst) memory) = Some (symbol.Instance inst, Contact m)
-use_in (cell.Coil m var memory) = Some (symbol.Var var, Coil m)
-use_in (cell.Block inst) = Some (symbol.Instance inst, Block)
-use_in (cell.Lower inst linked) = None
-use_in (cell.Jump target) = None
-use_in cell.Return = None
+-- How a cell uses a variable or an instance, where it does. A contact on an output uses the instance; a lower cell belongs to the block
+-- above it.
+abbrev pub use_of : Symbol → Cell → Option Use
+use_of (symbol.Var v) (cell.Contact m (operand.Var var) memory) = if v == var then Some (Contact m) else None
+use_of (symbol.Instance i) (cell.Contact m (operand.Output inst) memory) = if i == inst then Some (Contact m) else None
+use_of (symbol.Var v) (cell.Coil m var memory) = if v == var then Some (Coil m) else None
+use_of (symbol.Instance i) (cell.Block inst) = if i == inst then Some Block else None
+use_of other c = None
 
 -- the word of a use
 abbrev pub use_word : Use → List ℕ
@@ -45,22 +42,6 @@ use_word (Coil coil.Rising) = codes "rise_coil"
 use_word (Coil coil.Falling) = codes "fall_coil"
 use_word Block = codes "block"
 
--- whether two variables or two instances are the same
-abbrev pub same_symbol : Symbol → Symbol → Bool
-same_symbol (symbol.Var a) (symbol.Var b) = a == b
-same_symbol (symbol.Instance a) (symbol.Instance b) = a == b
-same_symbol (symbol.Var a) (symbol.Instance b) = false
-same_symbol (symbol.Instance a) (symbol.Var b) = false
-
--- the use where it is one of this symbol
-abbrev pub if_of : Symbol → Option (Symbol × Use) → Option Use
-if_of s None = None
-if_of s (Some used) = if same_symbol s used.0 then Some used.1 else None
-
--- how a cell uses this symbol, where it does
-abbrev pub use_of : Symbol → Cell → Option Use
-use_of s c = if_of s (use_in c)
-
 -- ---- one name
 
 -- The row of a name at a place. Rungs, rows and columns are counted from 1.
@@ -71,14 +52,10 @@ use_row name used = at_place (λ rung row column. name ∷ use_word used ∷ dec
 abbrev pub unused_row : List ℕ → Fields
 unused_row name = name ∷ codes "unused" ∷ codes "0" ∷ codes "0" ∷ codes "0" ∷ []
 
--- one row where a cell uses the name, and else none
-abbrev pub row_of : List ℕ → ℕ → Option Use → List Fields
-row_of name place None = []
-row_of name place (Some used) = use_row name used place ∷ []
-
 -- a row for each place where the symbol is drawn, by rung, column and row
 abbrev pub place_rows : Drawing → List ℕ → Symbol → List Fields
-place_rows p name s = flat_map (λ place. row_of name place (use_of s (cell_in p place))) (range_with_len 0 (length p.sites))
+place_rows p name s =
+    filter_map (λ place. option_map (λ used. use_row name used place) (use_of s (cell_in p place))) (range_with_len 0 (length p.sites))
 
 -- these rows, or the one row of a name that has none
 abbrev pub or_unused : List ℕ → List Fields → List Fields

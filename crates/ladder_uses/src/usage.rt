@@ -3,7 +3,8 @@
 ghost use Rattle.std.specs.Prelude.{◌≡◌, ◌*◌, ◌<◌};
 ghost use Rattle.ladder_grid.specs.declared.geometry.TheConstants.{PLACES};
 ghost use Rattle.ladder_grid.specs.Program.{cell_in};
-ghost use Rattle.ladder_uses.specs.Uses.{same_symbol, use_in, use_of, use_word};
+ghost use Rattle.ladder_uses.specs.Usage.{if_of, same_symbol, use_in};
+ghost use Rattle.ladder_uses.specs.Uses.{use_of, use_word};
 
 use ladder_grid::geometry::{PLACES, ROWS};
 use ladder_grid::{Cell, CoilMode, Mode, Operand, Program};
@@ -63,14 +64,21 @@ fn same_symbol(a: Symbol, b: Symbol) -> bool
     }
 }
 
+/// The use, if it is one of the symbol.
+fn if_of(symbol: Symbol, used: Option<(Symbol, Use)>) -> Option<Use>
+    ensures { result ≡ if_of symbol used }
+{
+    match used {
+        Some((other, used)) if same_symbol(symbol, other) => Some(used),
+        Some(_) | None => None,
+    }
+}
+
 /// How a cell uses the symbol, if it does.
 fn use_of(symbol: Symbol, cell: Cell) -> Option<Use>
     ensures { result ≡ use_of symbol cell }
 {
-    match use_in(cell) {
-        Some((other, used)) if same_symbol(symbol, other) => Some(used),
-        Some(_) | None => None,
-    }
+    if_of(symbol, use_in(cell))
 }
 
 /// How the cell at a place uses the symbol, if it does. Places go by rung, column and row.

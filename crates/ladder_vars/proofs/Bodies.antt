@@ -12,7 +12,7 @@ use Rattle.ladder_vars.specs.declared.decls.Body.{Body}
 use Rattle.ladder_vars.specs.declared.decls.Body.TheVariants as body
 use Rattle.ladder_vars.specs.Name.{same_letters}
 use Rattle.ladder_vars.specs.Kind.{traits_of, parameter_word}
-use Rattle.ladder_vars.specs.Grammar.{Is, AreOf, IsAddress, IsBody, bit_of, preset_form}
+use Rattle.ladder_vars.specs.Grammar.{Is, AreOf, IsAddress, IsBody, bit_word, preset_form}
 use Rattle.ladder_vars.specs.ReadWords.{IsValue, block_of}
 use Rattle.ladder_vars.proofs.PartLaws.{same_bytes}
 use Rattle.ladder_vars.proofs.Steps.{chosen}
@@ -26,7 +26,7 @@ IsPlace ts kind (Some address) = (at word : List ℕ) × (ts ≡ at ∷ word ∷
 abbrev pub IsInitial : List (List ℕ) → Bool → Type 0
 IsInitial ts value =
     ((ts ≡ []) × (value ≡ false))
-    ⊎ ((assign bit : List ℕ) × (ts ≡ assign ∷ bit ∷ []) × Is (codes ":=") assign × (bit_of bit ≡ Some value))
+    ⊎ ((assign bit : List ℕ) × (ts ≡ assign ∷ bit ∷ []) × Is (codes ":=") assign × (bit_word bit ≡ Some value))
 
 pub record HasPreset (ts : List (List ℕ)) (kind : BlockKind) (n : ℕ) : Type 0 where
   pub form : Parameter

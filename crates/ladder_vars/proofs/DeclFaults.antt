@@ -17,7 +17,7 @@ use Rattle.ladder_vars.specs.Text.{AreTokens}
 use Rattle.ladder_vars.specs.Kind.{traits_of}
 use Rattle.ladder_vars.specs.Grammar.{Decl, IsHead, declared_by}
 use Rattle.ladder_vars.specs.ReadDecls.{name_of, is_declared, is_taken, refusal, with_decl, refused, added}
-use Rattle.ladder_vars.specs.Rules.{IsMisplaced, DeclDue, Breaks}
+use Rattle.ladder_vars.specs.Rules.{DeclDue, Breaks}
 use Rattle.ladder_vars.proofs.Steps.{chosen}
 use Rattle.ladder_vars.proofs.Lists.{list_any-map}
 use Rattle.ladder_vars.proofs.Keeping.{used-addresses, AreFew}
@@ -36,7 +36,7 @@ taken_breaks : (text : List ℕ) (ds : List Decl) (name : List ℕ) (kind : VarK
     → DeclDue text ds name (body.Var kind address initial) after → is_taken (declared_by ds) address ≡ true → Breaks rule.DuplicateAddress text (length after)
 taken_breaks text ds name kind None initial after due taken = absurd cc
 taken_breaks text ds name kind (Some a) initial after due taken =
-    (ds, name, after, kind, a, initial, due, sym (used-addresses (declared_by ds).vars a) ∙ taken, refl)
+    (ds, name, after, body.Var kind (Some a) initial, due, sym (used-addresses (declared_by ds).vars a) ∙ taken, refl)
 
 refusal_breaks : (text : List ℕ) (ds : List Decl) (name : List ℕ) (b : Body) (after : List ℕ) (r : VarRule) → AreFew (declared_by ds)
     → DeclDue text ds name b after → refusal (declared_by ds) name b ≡ Some r → Breaks r text (length after)
@@ -64,7 +64,7 @@ refusal_breaks text ds name (body.Instance kind preset) after r few due h =
     elim (chosen (nat_lt (traits_of kind).longest_name (length name)) _ _ _ h) [
       | inl long ↦
           let e : rule.BadName ≡ r = cc in
-          subst (λ x. Breaks x text (length after)) e (inr (ds, name, after, kind, preset, due, ltb-true (traits_of kind).longest_name (length name) long.0, refl))
+          subst (λ x. Breaks x text (length after)) e (inr (ds, name, after, body.Instance kind preset, due, ltb-true (traits_of kind).longest_name (length name) long.0, refl))
       | inr short ↦ elim (chosen (is_declared d name) _ _ _ short.1) [
         | inl twice ↦
             let e : rule.Duplicate ≡ r = cc in
@@ -118,16 +118,10 @@ name_breaks text ds due w after f h word no_end e =
           elim (chosen (has_name_form w) _ _ _ other.1) [
             | inl form ↦
                 let leads : run NeedVar (h.opening ∷ h.tokens) ≡ Some NeedName = head_leads text ds due h in
-                let misplaced_ : IsMisplaced text (h.opening ∷ h.tokens) w (length after) = record {
-                  due = due;
-                  after = after;
-                  token_due = is_due text due (h.opening ∷ h.tokens) NeedName h.read leads (λ z. cc);
-                  read = word;
-                  misfit = none_follows (h.opening ∷ h.tokens) w NeedName leads none;
-                  left_is = refl;
-                } in
+                let due_then = is_due text due (h.opening ∷ h.tokens) NeedName h.read leads (λ z. cc) in
+                let misfit = none_follows (h.opening ∷ h.tokens) w NeedName leads none in
                 let same : record { rule = rule.BadName; left = length after } ≡ f = cc in
-                subst (λ g. Breaks g.rule text g.left) same (inl (h.opening ∷ h.tokens, w, misplaced_, (ds, head_is text ds due h, form.0)))
+                subst (λ g. Breaks g.rule text g.left) same (inl (h.opening ∷ h.tokens, w, due, after, due_then, word, misfit, refl, (ds, head_is text ds due h, form.0)))
             | inr wrong ↦ later_breaks text ds due f h (misplaced NeedName due w after f (λ z. cc) word none (rw wrong.0 refl) cc)
           ]
     ]

@@ -8,7 +8,7 @@ use Rattle.ladder_vars.specs.declared.decls.Body.TheVariants as body
 use Rattle.ladder_vars.specs.Name.{same_letters, is_name, has_name_form}
 use Rattle.ladder_vars.specs.Decls.{Declared, AreKept}
 use Rattle.ladder_vars.specs.Text.{AreTokens}
-use Rattle.ladder_vars.specs.Grammar.{Is, Decl, IsBody, AreDecls, var_of, instance_of, declared_by, IsBlock, HasDecls}
+use Rattle.ladder_vars.specs.Grammar.{Is, Decl, IsBody, AreDecls, declared_var, declared_instance, declared_by, IsBlock, HasDecls}
 use Rattle.ladder_vars.specs.ReadText.{token_at}
 use Rattle.ladder_vars.specs.ReadDecls.{expect, name_of, refusal, with_decl, refused, added, body_at, nothing, decls_from, all_of}
 use Rattle.ladder_vars.proofs.Steps.{bind_ok, chosen}
@@ -52,10 +52,10 @@ unfolding added
 accepted_is a name b left more h = (refused-ok (refusal a name b) left (with_decl a name b) more h).0
 
 vars-push : (ds : List Decl) (d : Decl) → (declared_by (ds ++ d ∷ [])).vars ≡ (declared_by ds).vars ++ (declared_by (d ∷ [])).vars
-vars-push ds d = filter_map-append (λ x. var_of x.name x.body) ds (d ∷ [])
+vars-push ds d = filter_map-append declared_var ds (d ∷ [])
 
 instances-push : (ds : List Decl) (d : Decl) → (declared_by (ds ++ d ∷ [])).instances ≡ (declared_by ds).instances ++ (declared_by (d ∷ [])).instances
-instances-push ds d = filter_map-append (λ x. instance_of x.name x.body) ds (d ∷ [])
+instances-push ds d = filter_map-append declared_instance ds (d ∷ [])
 
 pub declared_by-push : (ds : List Decl) (d : Decl) → declared_by (ds ++ d ∷ []) ≡ with_decl (declared_by ds) d.name d.body
 declared_by-push ds d =

@@ -9,7 +9,7 @@ use Rattle.std.proofs.lemmas.List.Sums.{sum_by-cons}
 use Rattle.ladder_vars.specs.declared.time.Unit.{Unit as TimeUnit}
 use Rattle.ladder_vars.specs.declared.time.Unit.TheVariants as time_unit
 use Rattle.ladder_vars.specs.Text.{begins}
-use Rattle.ladder_vars.specs.Duration.{number_of, Part, IsPart, AreParts}
+use Rattle.ladder_vars.specs.Duration.{number_of, Time, IsTime, AreTimes}
 use Rattle.ladder_vars.specs.ReadWords.{millis_of, range_of, PartAt, part_at, after_underscore, with_part, may_follow, total_from, total_of}
 use Rattle.ladder_vars.proofs.Steps.{chosen}
 use Rattle.ladder_vars.proofs.Runs.{bind_some}
@@ -32,34 +32,34 @@ with_part-cut t v time_unit.Minute = omega arith
 with_part-cut t v time_unit.Second = omega arith
 with_part-cut t v time_unit.Milli = omega arith
 
-abbrev pub sum_of : List Part → ℕ
+abbrev pub sum_of : List Time → ℕ
 sum_of ps = sum_by (λ p. number_of p.digits * millis_of p.unit) ps
 
-sum_of-cons : (p : Part) (ps : List Part) → sum_of (p ∷ ps) ≡ number_of p.digits * millis_of p.unit + sum_of ps
+sum_of-cons : (p : Time) (ps : List Time) → sum_of (p ∷ ps) ≡ number_of p.digits * millis_of p.unit + sum_of ps
 sum_of-cons p ps = sum_by-cons (λ x. number_of x.digits * millis_of x.unit) p ps
 
 -- ---- what follows a part
 
 -- behind the part p come these parts
-abbrev Follows : Part → List Part → List ℕ → Type 0
+abbrev Follows : Time → List Time → List ℕ → Type 0
 Follows p [] rest = rest ≡ []
 Follows p (q ∷ ps) rest =
     (between after : List ℕ) × (rest ≡ between ++ after) × ((between ≡ []) ⊎ (between ≡ 95 ∷ [])) × (millis_of q.unit < millis_of p.unit)
-    × (number_of q.digits < range_of q.unit) × AreParts (q ∷ ps) after
+    × (number_of q.digits < range_of q.unit) × AreTimes (q ∷ ps) after
 
-record FirstPart (p : Part) (ps : List Part) (text : List ℕ) : Type 0 where
-  is_part : IsPart p
+record FirstPart (p : Time) (ps : List Time) (text : List ℕ) : Type 0 where
+  is_part : IsTime p
   rest : List ℕ
   parts : text ≡ p.digits ++ (p.letters ++ rest)
   follows : Follows p ps rest
 
-first_part : (p : Part) (ps : List Part) (text : List ℕ) → AreParts (p ∷ ps) text → FirstPart p ps text
+first_part : (p : Time) (ps : List Time) (text : List ℕ) → AreTimes (p ∷ ps) text → FirstPart p ps text
 first_part p [] text h =
     record { is_part = h.0; rest = []; parts = h.1 ∙ ap (λ z. p.digits ++ z) (sym (append-nil p.letters)); follows = refl }
 first_part p (q ∷ ps) text h =
     record { is_part = h.2; rest = h.0 ++ h.1; parts = h.3; follows = (h.0, h.1, refl, h.4, h.5, h.6, h.7) }
 
-make_parts : (p : Part) (ps : List Part) (text rest : List ℕ) → IsPart p → text ≡ p.digits ++ (p.letters ++ rest) → Follows p ps rest → AreParts (p ∷ ps) text
+make_parts : (p : Time) (ps : List Time) (text rest : List ℕ) → IsTime p → text ≡ p.digits ++ (p.letters ++ rest) → Follows p ps rest → AreTimes (p ∷ ps) text
 make_parts p [] text rest is_part parts f = (is_part, parts ∙ ap (λ z. p.digits ++ z) (ap (λ z. p.letters ++ z) f ∙ append-nil p.letters))
 make_parts p (q ∷ ps) text rest is_part parts f =
     (f.0, f.1, is_part, parts ∙ ap (λ z. p.digits ++ (p.letters ++ z)) f.2, f.3, f.4, f.5, f.6)
@@ -76,7 +76,7 @@ digits_start [] rest some all = absurd (omega arith)
 digits_start (d ∷ ds) rest some all =
     record { digit = d; others = ds ++ rest; text_is = refl; is_digit = (and_parts (is_ascii_digit d) (list_all is_ascii_digit ds) all).0 }
 
-starts : (p : Part) (ps : List Part) (text : List ℕ) → FirstPart p ps text → Starts text
+starts : (p : Time) (ps : List Time) (text : List ℕ) → FirstPart p ps text → Starts text
 starts p ps text f = rw f.parts (digits_start p.digits (p.letters ++ f.rest) f.is_part.0 f.is_part.1)
 
 digit_no_letter : (d : ℕ) → is_ascii_digit d ≡ true → is_ascii_alphabetic d ≡ false
@@ -85,7 +85,7 @@ digit_no_letter d h = grind (arith, nat_tests)
 digit_no_underscore : (d : ℕ) → is_ascii_digit d ≡ true → (d == 95) ≡ false
 digit_no_underscore d h = grind (arith, nat_tests)
 
-no_letter : (p : Part) (ps : List Part) (rest : List ℕ) → Follows p ps rest → begins is_ascii_alphabetic rest ≡ false
+no_letter : (p : Time) (ps : List Time) (rest : List ℕ) → Follows p ps rest → begins is_ascii_alphabetic rest ≡ false
 no_letter p [] rest h = ap (begins is_ascii_alphabetic) h
 no_letter p (q ∷ ps) rest (between, after, parts, inl none, smaller, range, more) =
     let s = starts q ps after (first_part q ps after more) in
@@ -119,7 +119,7 @@ cut_end total c small = omega arith
 from_zero : (x c : ℕ) → min (0 + x) c ≡ min x c
 from_zero x c = omega arith
 
-follows_test : (p q : Part) → millis_of q.unit < millis_of p.unit → number_of q.digits < range_of q.unit → may_follow p.unit (min (number_of q.digits) cap) q.unit ≡ true
+follows_test : (p q : Time) → millis_of q.unit < millis_of p.unit → number_of q.digits < range_of q.unit → may_follow p.unit (min (number_of q.digits) cap) q.unit ≡ true
 follows_test p q smaller range =
     rw (lt-ltb (millis_of q.unit) (millis_of p.unit) smaller) (lt-ltb (min (number_of q.digits) cap) (range_of q.unit) (omega arith))
 
@@ -132,7 +132,7 @@ total_end : (n : ℕ) (last : TimeUnit) (total : ℕ) → total_from (suc n) las
 unfolding total_from
 total_end n last total = refl
 
-total_reads : (ps : List Part) (p : Part) (n total : ℕ) (rest : List ℕ) → length rest < n → total ≤ cap → Follows p ps rest
+total_reads : (ps : List Time) (p : Time) (n total : ℕ) (rest : List ℕ) → length rest < n → total ≤ cap → Follows p ps rest
     → total_from n p.unit total rest ≡ Some (min (total + sum_of ps) cap)
 total_reads ps p zero total rest enough small h = absurd (omega arith)
 total_reads [] p (suc n) total rest enough small h =
@@ -167,12 +167,12 @@ after_underscore_is (b ∷ bs) =
 in_range : (v number range : ℕ) → number ≡ min v cap → range ≤ 1000 → number < range → v < range
 in_range v number range cut small less = omega arith
 
-record TakesParts (p : Part) (total : ℕ) (rest : List ℕ) (m : ℕ) : Type 0 where
-  others : List Part
+record TakesParts (p : Time) (total : ℕ) (rest : List ℕ) (m : ℕ) : Type 0 where
+  others : List Time
   follows : Follows p others rest
   sum : m ≡ min (total + sum_of others) cap
 
-total_takes : (n : ℕ) (p : Part) (total : ℕ) (rest : List ℕ) (m : ℕ) → total ≤ cap → total_from n p.unit total rest ≡ Some m → TakesParts p total rest m
+total_takes : (n : ℕ) (p : Time) (total : ℕ) (rest : List ℕ) (m : ℕ) → total ≤ cap → total_from n p.unit total rest ≡ Some m → TakesParts p total rest m
 unfolding total_from
 total_takes zero p total rest m small h = absurd cc
 total_takes (suc n) p total [] m small h =
@@ -215,7 +215,7 @@ total_takes (suc n) p total (b ∷ bs) m small h =
           }
     ]
 
-pub all_reads : (p : Part) (ps : List Part) (text : List ℕ) → AreParts (p ∷ ps) text → total_of text ≡ Some (min (sum_of (p ∷ ps)) cap)
+pub all_reads : (p : Time) (ps : List Time) (text : List ℕ) → AreTimes (p ∷ ps) text → total_of text ≡ Some (min (sum_of (p ∷ ps)) cap)
 unfolding total_of
 all_reads p ps text h =
     let f : FirstPart p ps text = first_part p ps text h in
@@ -230,8 +230,8 @@ all_reads p ps text h =
     rw part same
 
 pub record TakesAll (text : List ℕ) (m : ℕ) : Type 0 where
-  pub parts : List Part
-  pub are_parts : AreParts parts text
+  pub parts : List Time
+  pub are_parts : AreTimes parts text
   pub sum : m ≡ min (sum_of parts) cap
 
 pub all_takes : (text : List ℕ) (m : ℕ) → total_of text ≡ Some m → TakesAll text m

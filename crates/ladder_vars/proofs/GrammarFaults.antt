@@ -6,7 +6,7 @@ use Rattle.ladder_vars.specs.declared.decls.VarKind.{VarKind}
 use Rattle.ladder_vars.specs.declared.decls.Address.{Address}
 use Rattle.ladder_vars.specs.Name.{same_letters}
 use Rattle.ladder_vars.specs.Text.{AreTokens}
-use Rattle.ladder_vars.specs.Grammar.{bit_of}
+use Rattle.ladder_vars.specs.Grammar.{bit_word}
 use Rattle.ladder_vars.specs.ReadText.{token_at}
 use Rattle.ladder_vars.specs.ReadWords.{address_of}
 use Rattle.ladder_vars.specs.ReadDecls.{at, some_or, given_bit, initial_at, bool_at, placed}
@@ -27,12 +27,12 @@ given_bit_meets text f h =
       | inl none ↦ token_meets NeedBit text f (λ e. cc) none
       | inr (x, found, then) ↦
           let read : AreTokens (x.0 ∷ []) text x.1 = token_takes text x.0 x.1 found in
-          elim (bind_err (some_or (at rule.BadToken x.1) (bit_of x.0)) _ f then) [
+          elim (bind_err (some_or (at rule.BadToken x.1) (bit_word x.0)) _ f then) [
             | inl none ↦
-                let e = some_or-err (at rule.BadToken x.1) f (bit_of x.0) none in
+                let e = some_or-err (at rule.BadToken x.1) f (bit_word x.0) none in
                 misplaced NeedBit text x.0 x.1 f (λ z. cc) read (rw e.0 refl) refl e.1
             | inr (v, is, rest) ↦
-                let is_bit : bit_of x.0 ≡ Some v = some_or-ok _ (bit_of x.0) v is in
+                let is_bit : bit_word x.0 ≡ Some v = some_or-ok _ (bit_word x.0) v is in
                 behind x.0 NeedBit NeedSemicolon text x.1 f (rw is_bit refl) read
                 (then_expect NeedSemicolon NeedName (codes ";") x.1 _ f (λ z. cc) (λ t. (refl, refl)) (λ r e. absurd cc) rest)
           ]

@@ -12,7 +12,7 @@ use Rattle.ladder_vars.specs.declared.decls.Body.{Body}
 use Rattle.ladder_vars.specs.declared.decls.Body.TheVariants as body
 use Rattle.ladder_vars.specs.Name.{same_letters}
 use Rattle.ladder_vars.specs.Text.{AreTokens}
-use Rattle.ladder_vars.specs.Grammar.{Is, IsBody, bit_of}
+use Rattle.ladder_vars.specs.Grammar.{Is, IsBody, bit_word}
 use Rattle.ladder_vars.specs.Kind.{parameter_word}
 use Rattle.ladder_vars.specs.ReadWords.{address_of, value_of, block_of}
 use Rattle.ladder_vars.specs.ReadDecls.{expect, given_bit, initial_at, preset_word, given_preset, preset_at, bool_at, placed, block_at, typed, body_at}
@@ -38,7 +38,7 @@ expect_reads word w ts text rest same h =
     let first = first_token w ts text rest h in
     (first.0, rw (first.1, same) refl, first.2, first.3)
 
-given_bit_reads : (bit semicolon : List ℕ) (us : List (List ℕ)) (value : Bool) (text rest : List ℕ) → bit_of bit ≡ Some value → Is (codes ";") semicolon
+given_bit_reads : (bit semicolon : List ℕ) (us : List (List ℕ)) (value : Bool) (text rest : List ℕ) → bit_word bit ≡ Some value → Is (codes ";") semicolon
     → AreTokens (bit ∷ semicolon ∷ us) text rest → Reads given_bit value text us rest
 unfolding given_bit
 given_bit_reads bit semicolon us value text rest is_bit is_semicolon h =

@@ -10,7 +10,7 @@ use Rattle.ladder_vars.specs.declared.decls.Body.{Body}
 use Rattle.ladder_vars.specs.declared.decls.Body.TheVariants as body
 use Rattle.ladder_vars.specs.Name.{same_letters}
 use Rattle.ladder_vars.specs.Text.{AreTokens}
-use Rattle.ladder_vars.specs.Grammar.{Is, IsBody, bit_of}
+use Rattle.ladder_vars.specs.Grammar.{Is, IsBody, bit_word}
 use Rattle.ladder_vars.specs.Kind.{traits_of, parameter_word}
 use Rattle.ladder_vars.specs.ReadText.{token_at}
 use Rattle.ladder_vars.specs.ReadWords.{address_of, value_of, block_of}
@@ -79,11 +79,11 @@ initial_takes value text rest h =
             let w : List ℕ = bit.0.0 in
             let b : List ℕ = bit.0.1 in
             let second : AreTokens (w ∷ []) a b = token_takes a w b bit.1 in
-            let v = bind_ok (some_or _ (bit_of w)) _ (value, rest) bit.2 in
+            let v = bind_ok (some_or _ (bit_word w)) _ (value, rest) bit.2 in
             let end = bind_ok (expect (codes ";") b) _ (value, rest) v.2 in
             let semi = expect_takes (codes ";") b end.0 end.1 in
             let parts : (v.0 ≡ value) × (end.0 ≡ rest) = halves v.0 value end.0 rest end.2 in
-            let is_bit : bit_of w ≡ Some value = some_or-ok _ (bit_of w) v.0 v.1 ∙ ap Some parts.0 in
+            let is_bit : bit_word w ≡ Some value = some_or-ok _ (bit_word w) v.0 v.1 ∙ ap Some parts.0 in
             let two : AreTokens (m ∷ w ∷ []) text b = then (m ∷ []) (w ∷ []) text a b first second in
             let three : AreTokens (m ∷ w ∷ semi.0 ∷ []) text end.0 = then (m ∷ w ∷ []) (semi.0 ∷ []) text b end.0 two semi.2 in
             record {

@@ -105,4 +105,4 @@ breaks_on rule.DuplicateAddress text left h = (left, h, refl)
 breaks_on rule.BadPreset text left h = (left, h, refl)
 breaks_on rule.TooMany text left h = (left, h, refl)
 breaks_on rule.Unfinished text left h = (left, h, refl)
-breaks_on rule.Memory text left h = absurd h
+breaks_on rule.Memory text left (ds, name, after, b, due, never, same) = absurd never

@@ -5,7 +5,7 @@ use Rattle.ladder_vars.specs.declared.fault.Fault.{Fault}
 use Rattle.ladder_vars.specs.declared.fault.VarRule.TheVariants as rule
 use Rattle.ladder_vars.specs.Name.{same_letters}
 use Rattle.ladder_vars.specs.Text.{AreTokens}
-use Rattle.ladder_vars.specs.Rules.{TokenDue, IsMisplaced, IsForName, IsForValue, Breaks}
+use Rattle.ladder_vars.specs.Rules.{TokenDue, IsForName, IsForValue, Breaks}
 use Rattle.ladder_vars.specs.ReadText.{◌>>=◌, token_at}
 use Rattle.ladder_vars.specs.ReadWords as word
 use Rattle.ladder_vars.specs.ReadDecls.{at, expect}
@@ -38,7 +38,7 @@ pub is_due : (text due : List ℕ) (tokens : List (List ℕ)) (last : State) →
     → TokenDue text tokens due
 is_due text due tokens last read leads other =
     let follow = some_follows tokens last leads other in
-    record { next = follow.0; follows = follow.1; read = read }
+    (follow.0, follow.1, read)
 
 no_name_due : (tokens : List (List ℕ)) (token : List ℕ) (last : State) → run NeedVar tokens ≡ Some last → broken_by last token ≡ rule.BadToken
     → IsForName tokens token → ⊥
@@ -60,24 +60,17 @@ pub meets_breaks : (f : Fault) (text : List ℕ) → Meets f NeedVar text → Br
 meets_breaks f text m =
     let due : TokenDue text m.tokens m.due = is_due text m.due m.tokens m.last m.read m.leads m.goes_on in
     elim m.shows [
-      | inl (stop, gap, inl (is, bad, left)) ↦ subst (λ r. Breaks r text f.left) (sym is) (m.tokens, m.due, stop, due, gap, bad, left)
-      | inl (stop, gap, inr (inl (is, stray, left))) ↦ subst (λ r. Breaks r text f.left) (sym is) (inl (m.tokens, m.due, stop, due, gap, stray, left))
-      | inl (stop, gap, inr (inr (is, ends, left))) ↦ subst (λ r. Breaks r text f.left) (sym is) (m.tokens, m.due, stop, due, gap, ends, left)
+      | inl (stop, gap, inl (is, bad, left)) ↦ subst (λ r. Breaks r text f.left) (sym is) (m.tokens, m.due, stop, due, gap, (bad, left))
+      | inl (stop, gap, inr (inl (is, stray, left))) ↦ subst (λ r. Breaks r text f.left) (sym is) (inl (m.tokens, m.due, stop, due, gap, (stray, left)))
+      | inl (stop, gap, inr (inr (is, ends, left))) ↦ subst (λ r. Breaks r text f.left) (sym is) (m.tokens, m.due, stop, due, gap, (ends, left))
       | inr p ↦
-          let misplaced : IsMisplaced text m.tokens p.token f.left = record {
-            due = m.due;
-            after = p.after;
-            token_due = due;
-            read = p.read;
-            misfit = none_follows m.tokens p.token m.last m.leads p.none;
-            left_is = p.left_is;
-          } in
+          let misfit = none_follows m.tokens p.token m.last m.leads p.none in
           elim p.breaks [
             | inl (is, breaks) ↦
                 let no_name : IsForName m.tokens p.token → ⊥ = no_name_due m.tokens p.token m.last m.leads breaks in
                 let no_value : IsForValue m.tokens p.token → ⊥ = no_value_due m.tokens p.token m.last m.leads breaks in
-                subst (λ r. Breaks r text f.left) (sym is) (inr (m.tokens, p.token, misplaced, no_name, no_value))
-            | inr (is, value) ↦ subst (λ r. Breaks r text f.left) (sym is) (m.tokens, p.token, misplaced, value)
+                subst (λ r. Breaks r text f.left) (sym is) (inr (m.tokens, p.token, m.due, p.after, due, p.read, misfit, p.left_is, (no_name, no_value)))
+            | inr (is, value) ↦ subst (λ r. Breaks r text f.left) (sym is) (m.tokens, p.token, m.due, p.after, due, p.read, misfit, p.left_is, value)
           ]
     ]
 

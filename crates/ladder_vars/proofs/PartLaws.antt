@@ -11,7 +11,7 @@ use Rattle.ladder_vars.specs.declared.time.Unit.{Unit as TimeUnit}
 use Rattle.ladder_vars.specs.declared.time.Unit.TheVariants as time_unit
 use Rattle.ladder_vars.specs.Name.{same_letters}
 use Rattle.ladder_vars.specs.Text.{begins}
-use Rattle.ladder_vars.specs.Duration.{number_of, Part, IsPart}
+use Rattle.ladder_vars.specs.Duration.{number_of, Time, IsTime}
 use Rattle.ladder_vars.specs.ReadWords.{letters_of, unit_of, PartAt, part_at}
 use Rattle.ladder_vars.proofs.Steps.{chosen}
 use Rattle.ladder_vars.proofs.Runs.{bind_some, take_run, drop_run, run_passes}
@@ -99,7 +99,7 @@ spelled_some time_unit.Milli = omega arith
 abbrev pub cap : ℕ
 cap = 2 ^ 32
 
-pub part_reads : (p : Part) (after : List ℕ) → IsPart p → begins is_ascii_alphabetic after ≡ false
+pub part_reads : (p : Time) (after : List ℕ) → IsTime p → begins is_ascii_alphabetic after ≡ false
     → part_at (p.digits ++ (p.letters ++ after)) ≡ Some (record { number = min (number_of p.digits) cap; unit = p.unit; rest = after })
 unfolding part_at
 part_reads p after h end =
@@ -116,8 +116,8 @@ part_reads p after h end =
     ) refl
 
 pub record TakesPart (q : PartAt) (text : List ℕ) : Type 0 where
-  pub part : Part
-  pub is_part : IsPart part
+  pub part : Time
+  pub is_part : IsTime part
   pub parts : text ≡ part.digits ++ (part.letters ++ q.rest)
   pub number : q.number ≡ min (number_of part.digits) cap
   pub unit : q.unit ≡ part.unit
@@ -134,7 +134,7 @@ part_takes q text h =
           let u = bind_some (unit_of (take m after)) _ q some.1 in
           let made : PartAt = record { number = min (number_of (take n text)) cap; unit = u.0; rest = drop m after } in
           let same : made ≡ q = cc in
-          let p : Part = record { digits = take n text; letters = take m after; unit = u.0 } in
+          let p : Time = record { digits = take n text; letters = take m after; unit = u.0 } in
           let spelled : text ≡ take n text ++ (take m after ++ drop m after)
           = sym (take-append-drop n text) ∙ ap (λ z. take n text ++ z) (sym (take-append-drop m after)) in
           let taken : TakesPart made text = record {

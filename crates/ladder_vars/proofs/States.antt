@@ -15,7 +15,7 @@ use Rattle.ladder_vars.specs.declared.decls.Body.{Body}
 use Rattle.ladder_vars.specs.declared.decls.Body.TheVariants as body
 use Rattle.ladder_vars.specs.Name.{same_letters, is_name, has_name_form}
 use Rattle.ladder_vars.specs.Kind.{traits_of, parameter_word}
-use Rattle.ladder_vars.specs.Grammar.{Is, IsAddress, Decl, AreDecls, IsHead, IsBlock, CanFollow, bit_of}
+use Rattle.ladder_vars.specs.Grammar.{Is, IsAddress, Decl, AreDecls, IsHead, IsBlock, CanFollow, bit_word}
 use Rattle.ladder_vars.specs.ReadWords.{IsValue, ◌>>=◌, numbers_of, address_of, part_at, total_from, total_of, time_of, value_of, block_of}
 use Rattle.ladder_vars.specs.ReadDecls.{preset_fault}
 use Rattle.ladder_vars.proofs.Bodies.{IsInitial, IsPreset, IsVarBody, HasBody, has_body, is_body}
@@ -57,7 +57,7 @@ next AfterAddress t = on (same_letters t (codes ":")) NeedBool
 next NeedBool t = on (same_letters t (codes "BOOL")) AfterBool
 next AfterColon t = if same_letters t (codes "BOOL") then Some AfterBool else (block_of t >>= λ kind. Some (AfterBlock kind))
 next AfterBool t = if same_letters t (codes ";") then Some NeedName else on (same_letters t (codes ":=")) NeedBit
-next NeedBit t = bit_of t >>= λ _. Some NeedSemicolon
+next NeedBit t = bit_word t >>= λ _. Some NeedSemicolon
 next (AfterBlock kind) t =
     if same_letters t (codes ";") then Some NeedName
     else (if same_letters t (codes ":=") then ((traits_of kind).parameter >>= λ form. Some (NeedOpening form)) else None)
@@ -195,7 +195,7 @@ abbrev SemicolonPart : List (List ℕ) → Type 0
 SemicolonPart = Led (Is (codes ";")) (λ ts. ts ≡ [])
 
 abbrev BitPart : List (List ℕ) → Type 0
-BitPart = Led (λ t. (value : Bool) × (bit_of t ≡ Some value)) SemicolonPart
+BitPart = Led (λ t. (value : Bool) × (bit_word t ≡ Some value)) SemicolonPart
 
 abbrev InitialPart : List (List ℕ) → Type 0
 InitialPart ts = (initial : List (List ℕ)) × (value : Bool) × (semicolon : List ℕ) × (ts ≡ initial ++ semicolon ∷ []) × IsInitial initial value × Is (codes ";") semicolon
@@ -422,7 +422,7 @@ runs_block (t ∷ ts) AfterBool h =
       | inr other ↦ let go = goes _ NeedBit ts other.1 in bit_before t ts go.0 (runs_block ts NeedBit go.1)
     ]
 runs_block (t ∷ ts) NeedBit h =
-    let found = finds (bit_of t) (λ _. Some NeedSemicolon) ts h in
+    let found = finds (bit_word t) (λ _. Some NeedSemicolon) ts h in
     lead _ SemicolonPart t ts (found.0, found.1) (runs_block ts NeedSemicolon found.2)
 runs_block (t ∷ ts) (AfterBlock kind) h =
     elim (either (same_letters t (codes ";")) (Some NeedName) (if same_letters t (codes ":=") then ((traits_of kind).parameter >>= λ form. Some (NeedOpening form)) else None) ts h) [

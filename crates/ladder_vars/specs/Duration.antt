@@ -28,26 +28,26 @@ measure unit.Second = record { letters = codes "s"; millis = 1000; range = 60 }
 measure unit.Milli = record { letters = codes "ms"; millis = 1; range = 1000 }
 
 -- Digits and a unit, whose letters may be small or capital.
-pub record Part : Type 0 where
+pub record Time : Type 0 where
   pub digits : List ℕ
   pub letters : List ℕ
   pub unit : unit.the_data
 
-abbrev pub IsPart : Part → Type 0
-IsPart p = (1 ≤ length p.digits) × (list_all is_ascii_digit p.digits ≡ true) × (same_letters p.letters (measure p.unit).letters ≡ true)
+abbrev pub IsTime : Time → Type 0
+IsTime p = (1 ≤ length p.digits) × (list_all is_ascii_digit p.digits ≡ true) × (same_letters p.letters (measure p.unit).letters ≡ true)
 
 -- The text is these parts, from larger units to smaller ones; one underscore (95) may stand between two of them.
 -- Any unit after the first one counts to less than the next larger unit.
-abbrev pub AreParts : List Part → List ℕ → Type 0
-AreParts [] text = ⊥
-AreParts (p ∷ []) text = IsPart p × (text ≡ p.digits ++ p.letters)
-AreParts (p ∷ q ∷ ps) text =
-    (between after : List ℕ) × IsPart p × (text ≡ p.digits ++ (p.letters ++ (between ++ after)))
+abbrev pub AreTimes : List Time → List ℕ → Type 0
+AreTimes [] text = ⊥
+AreTimes (p ∷ []) text = IsTime p × (text ≡ p.digits ++ p.letters)
+AreTimes (p ∷ q ∷ ps) text =
+    (between after : List ℕ) × IsTime p × (text ≡ p.digits ++ (p.letters ++ (between ++ after)))
     × ((between ≡ []) ⊎ (between ≡ 95 ∷ [])) × ((measure q.unit).millis < (measure p.unit).millis)
-    × (number_of q.digits < (measure q.unit).range) × AreParts (q ∷ ps) after
+    × (number_of q.digits < (measure q.unit).range) × AreTimes (q ∷ ps) after
 
 -- The literal: `T#` or `TIME#`, then the parts; its value in milliseconds is their sum, and below 2 ^ 32 (the profile).
 abbrev pub IsDuration : List ℕ → ℕ → Type 0
 IsDuration text n =
-    (prefix after : List ℕ) × (parts : List Part) × (text ≡ prefix ++ after) × (list_any (same_letters prefix) (codes "T#" ∷ codes "TIME#" ∷ []) ≡ true)
-    × AreParts parts after × (n ≡ sum_by (λ p. number_of p.digits * (measure p.unit).millis) parts) × (n ≤ LARGEST_TIME)
+    (prefix after : List ℕ) × (parts : List Time) × (text ≡ prefix ++ after) × (list_any (same_letters prefix) (codes "T#" ∷ codes "TIME#" ∷ []) ≡ true)
+    × AreTimes parts after × (n ≡ sum_by (λ p. number_of p.digits * (measure p.unit).millis) parts) × (n ≤ LARGEST_TIME)

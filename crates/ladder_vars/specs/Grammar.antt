@@ -48,8 +48,8 @@ IsAddress word kind address =
 
 -- ---- initial values and presets
 
-abbrev pub bit_of : List ℕ → Option Bool
-bit_of word = lookup (same_letters word) ((codes "TRUE", true) ∷ (codes "FALSE", false) ∷ (codes "1", true) ∷ (codes "0", false) ∷ [])
+abbrev pub bit_word : List ℕ → Option Bool
+bit_word word = lookup (same_letters word) ((codes "TRUE", true) ∷ (codes "FALSE", false) ∷ (codes "1", true) ∷ (codes "0", false) ∷ [])
 
 -- ( word := value )
 abbrev pub bracketed : List ℕ → (List ℕ → Type 0) → List (List ℕ → Type 0)
@@ -72,10 +72,10 @@ AreGiven front given Default ts =
 -- and that of an instance, `: type [:= preset] ;`, whose preset is 0 without one.
 abbrev pub IsBody : List (List ℕ) → Body → Type 0
 IsBody ts (body.Var kind None value) =
-    AreGiven (Is (codes ":") ∷ Is (codes "BOOL") ∷ []) ((λ word. bit_of word ≡ Some value) ∷ []) (value ≡ false) ts × (kind ≡ var_kind.Memory)
+    AreGiven (Is (codes ":") ∷ Is (codes "BOOL") ∷ []) ((λ word. bit_word word ≡ Some value) ∷ []) (value ≡ false) ts × (kind ≡ var_kind.Memory)
 IsBody ts (body.Var kind (Some address) value) =
     AreGiven (Is (codes "AT") ∷ (λ word. IsAddress word kind address) ∷ Is (codes ":") ∷ Is (codes "BOOL") ∷ [])
-    ((λ word. bit_of word ≡ Some value) ∷ []) (value ≡ false) ts
+    ((λ word. bit_word word ≡ Some value) ∷ []) (value ≡ false) ts
 IsBody ts (body.Instance kind n) =
     AreGiven (Is (codes ":") ∷ Is (traits_of kind).word ∷ []) (preset_form (traits_of kind).parameter n) (n ≡ 0) ts
 
@@ -90,16 +90,14 @@ AreDecls ts (d ∷ ds) =
     (behind back : List (List ℕ)) × (ts ≡ d.name ∷ (behind ++ back)) × (is_name d.name ≡ true) × IsBody behind d.body × AreDecls back ds
 
 -- the variables among declarations, and the instances
-abbrev pub var_of : List ℕ → Body → Option Var
-var_of name (body.Var kind address initial) = Some (record { name = name; kind = kind; address = address; initial = initial })
-var_of name other = None
+abbrev pub declared_var : Decl → Option Var
+declared_var d = elim d.body [ body.Var kind address initial ↦ Some (record { name = d.name; kind = kind; address = address; initial = initial }) | _ ↦ None ]
 
-abbrev pub instance_of : List ℕ → Body → Option Instance
-instance_of name (body.Instance kind preset) = Some (record { name = name; kind = kind; preset = preset })
-instance_of name other = None
+abbrev pub declared_instance : Decl → Option Instance
+declared_instance d = elim d.body [ body.Instance kind preset ↦ Some (record { name = d.name; kind = kind; preset = preset }) | _ ↦ None ]
 
 abbrev pub declared_by : List Decl → Declared
-declared_by ds = record { vars = filter_map (λ d. var_of d.name d.body) ds; instances = filter_map (λ d. instance_of d.name d.body) ds }
+declared_by ds = record { vars = filter_map declared_var ds; instances = filter_map declared_instance ds }
 
 -- VAR and declarations; and these with END_VAR
 abbrev pub IsHead : List (List ℕ) → List Decl → Type 0

@@ -19,7 +19,7 @@ use Rattle.ladder_vars.specs.Name.{same_letters, is_name, has_name_form}
 use Rattle.ladder_vars.specs.Kind.{traits_of, parameter_word, largest_preset}
 use Rattle.ladder_vars.specs.Decls.{Declared, same_address}
 use Rattle.ladder_vars.specs.Text.{begins_word}
-use Rattle.ladder_vars.specs.Grammar.{bit_of}
+use Rattle.ladder_vars.specs.Grammar.{bit_word}
 use Rattle.ladder_vars.specs.ReadText.{◌>>=◌, token_at, unfinished}
 use Rattle.ladder_vars.specs.ReadWords.{address_of, value_of, block_of}
 
@@ -49,7 +49,7 @@ expect word text = do
 unfoldable pub given_bit : List ℕ → Result (Bool × List ℕ) Fault
 given_bit text = do
   x ← token_at text
-  value ← some_or (at rule.BadToken x.1) (bit_of x.0)
+  value ← some_or (at rule.BadToken x.1) (bit_word x.0)
   rest ← expect (codes ";") x.1
   Ok (value, rest)
 

@@ -13,7 +13,7 @@ use crate::kind::{BlockKind, Parameter};
 use crate::name::same_letters;
 use crate::text::{is_word_byte, token};
 use crate::time::time_of;
-use crate::words::{address_of, bit_of, block_of, count_of};
+use crate::words::{address_of, bit_word, block_of, count_of};
 
 /// The fault of a token that has no place where it stands, with what follows it.
 fn bad_token(rest: &[u8]) -> Fault
@@ -46,7 +46,7 @@ fn given_bit(text: &[u8]) -> Result<(bool, &[u8]), Fault>
     ensures shorter { IfOk result (λ x. length x.1.now < length text.now) }
 {
     let (word, rest) = token(text)?;
-    let value = bit_of(word).ok_or(bad_token(rest))?;
+    let value = bit_word(word).ok_or(bad_token(rest))?;
     let rest = expect(b";", rest)?;
     Ok((value, rest))
 }

@@ -1,7 +1,7 @@
 //! What the words of a declaration spell.
 
 ghost use Rattle.std.specs.Prelude.{◌≡◌, ◌≤◌, IfSome};
-ghost use Rattle.ladder_vars.specs.Grammar.{kind_of, bit_of};
+ghost use Rattle.ladder_vars.specs.Grammar.{kind_of, bit_word};
 ghost use Rattle.ladder_vars.specs.declared.limits.TheConstants.{LARGEST_COUNT};
 ghost use Rattle.ladder_vars.specs.ReadWords.{block_of, count_of, after_size, second_of, numbers_of, placed_at, address_of};
 
@@ -12,8 +12,8 @@ use crate::limits::LARGEST_COUNT;
 use crate::name::same_letters;
 
 /// The truth value that a word spells.
-pub(crate) fn bit_of(word: &[u8]) -> Option<bool>
-    ensures { result ≡ bit_of word.now }
+pub(crate) fn bit_word(word: &[u8]) -> Option<bool>
+    ensures { result ≡ bit_word word.now }
 {
     if same_letters(word, b"TRUE") {
         Some(true)

@@ -1,15 +1,15 @@
-use Rattle.std.proofs.Common.{◌≡◌, ◌∙◌, ◌+◌, ◌-◌, ◌<◌, ◌==◌, [], suc, IfSome, true, false, inl, inr, ap, arith, drop, get_or, length, length-drop, refl, subst, sym, take_all}
+use Rattle.std.proofs.Common.{◌≡◌, ◌∙◌, ◌+◌, ◌-◌, ◌<◌, ◌==◌, [], suc, IfSome, true, false, inr, ap, arith, drop, get_or, length, length-drop, refl, subst, sym, take_all}
 use Rattle.std.specs.List.{count_by, list_any}
 use Rattle.csv.specs.Records.{fields_of}
 use Rattle.ladder_vars.specs.Decls.{is_input}
-use Rattle.ladder_trace.specs.declared.fault.SimFault.TheVariants as fault
-use Rattle.ladder_trace.specs.Simulation.{IsBadWord}
 use Rattle.ladder_trace.specs.Stimulus.{AreColumns}
-use Rattle.ladder_trace.proofs.HeaderWords.{all_more, bad_first, bad_word, columns_more, columns_none, is_headed, word_at}
+use Rattle.ladder_trace.proofs.HeaderWords.{all_more, bad_first, columns_more, columns_none, contains, header_to, is_headed, word_at}
+use Rattle.ladder_trace.proofs.Lists.{there_at}
 use Rattle.ladder_trace.proofs.header.columns.Goals as goal
 
 pub returns-then-not-is_moment-clause-refused : goal.returns-then-not-is_moment-clause-refused
-returns-then-not-is_moment-clause-refused c = λ rows. bad_first c.args.decls.now (fields_of c.args.row.now) rows (sym c.is_moment.ensures ∙ c.if-not-is_moment.true)
+returns-then-not-is_moment-clause-refused c = λ rows.
+    (refl, bad_first c.args.decls.now (fields_of c.args.row.now) rows (sym c.is_moment.ensures ∙ c.if-not-is_moment.true))
 
 pub loop-number-init : goal.loop-number-init
 loop-number-init c = (omega arith, is_headed (fields_of c.args.row.now) (sym c.is_moment.ensures ∙ c.if-not-is_moment.false), subst (AreColumns c.args.decls.now []) (sym c.new-columns.ensures.items) (columns_none c.args.decls.now), λ k d h. absurd (omega (arith, h, ap length c.new-columns.ensures.items)))
@@ -19,31 +19,35 @@ returns-in_default-clause-refused c = λ rows.
     let inv = c.loop-number.invariant in
     let fs = fields_of c.args.row.now in
     let number = c.loop-number.number in
-    let word : IsBadWord c.args.decls.now (drop 1 fs) (fault.UnknownName 1) = record {
-      at = number - 1;
-      word = get_or fs number [];
-      there = word_at fs number (omega (arith, c.loop-number-test.true)) (omega (arith, inv.0));
-      before = c.loop-number.columns.items;
-      good = inv.2;
-      bad = inl (sym c.input_at.ensures.place ∙ c.in_default.is, refl);
-    } in
-    bad_word c.args.decls.now fs rows (fault.UnknownName 1) inv.1 word
+    let columns = c.loop-number.columns.items in (
+      refl,
+      (
+        number,
+        columns,
+        header_to c.args.decls.now fs number columns inv.1 inv.0 inv.2,
+        (get_or fs number [], there_at fs number [] (omega (arith, c.loop-number-test.true)), sym c.input_at.ensures.place ∙ c.in_default.is),
+      ),
+    )
 
 pub returns-then-is_named-clause-refused : goal.returns-then-is_named-clause-refused
 returns-then-is_named-clause-refused c = λ rows.
     let inv = c.loop-number.invariant in
     let fs = fields_of c.args.row.now in
     let number = c.loop-number.number in
-    let again : list_any (λ k. c.in-Some.place == k) c.loop-number.columns.items ≡ true = ap (list_any (λ k. c.in-Some.place == k)) (sym c.deref.ensures.value) ∙ sym c.is_named.ensures ∙ c.if-is_named.true in
-    let word : IsBadWord c.args.decls.now (drop 1 fs) (fault.BadRow 1) = record {
-      at = number - 1;
-      word = get_or fs number [];
-      there = word_at fs number (omega (arith, c.loop-number-test.true)) (omega (arith, inv.0));
-      before = c.loop-number.columns.items;
-      good = inv.2;
-      bad = inr (c.in-Some.place, sym c.input_at.ensures.place ∙ c.in-Some.is, again, refl);
-    } in
-    bad_word c.args.decls.now fs rows (fault.BadRow 1) inv.1 word
+    let columns = c.loop-number.columns.items in
+    let again : list_any (λ k. c.in-Some.place == k) columns ≡ true = ap (list_any (λ k. c.in-Some.place == k)) (sym c.deref.ensures.value) ∙ sym c.is_named.ensures ∙ c.if-is_named.true in (
+      refl,
+      inr (
+        fs,
+        refl,
+        (
+          number,
+          columns,
+          header_to c.args.decls.now fs number columns inv.1 inv.0 inv.2,
+          (get_or fs number [], there_at fs number [] (omega (arith, c.loop-number-test.true)), (c.in-Some.place, sym c.input_at.ensures.place ∙ c.in-Some.is, contains c.in-Some.place columns again)),
+        ),
+      ),
+    )
 
 pub loop-number-preserved : goal.loop-number-preserved
 loop-number-preserved c =

@@ -1,9 +1,11 @@
-use Rattle.std.proofs.Common.{◌∙◌, ◌+◌, ◌++◌, ◌∷◌, [], false, true, Some, get_or, ap, append-nil, arith, length-set, map, refl, sym, take}
+use Rattle.std.proofs.Common.{◌∙◌, ◌+◌, ◌++◌, ◌∷◌, [], false, true, Some, get_or, ap, append-nil, arith, length-set, map, refl, sym, take, take_all}
 use Rattle.std.proofs.lemmas.Grind.{take-set_at}
+use Rattle.std.proofs.lemmas.List.{length-map}
 use Rattle.std.proofs.lemmas.List.Sums.{count_by_more_no, count_by_more_yes}
+use Rattle.std.specs.List.{count_by}
 use Rattle.ladder_vars.specs.Decls.{is_input}
-use Rattle.ladder_trace.specs.Trace.{chosen}
-use Rattle.ladder_trace.proofs.Lists.{chosen_next, count_below, mark_at, there_at}
+use Rattle.ladder_trace.specs.Room.{chosen}
+use Rattle.ladder_trace.proofs.Lists.{chosen_next, chosen_values, count_below, mark_at, there_at}
 use Rattle.ladder_trace.proofs.row.fill_inputs.Goals as goal
 
 pub loop-number-init : goal.loop-number-init
@@ -49,3 +51,13 @@ loop-number-preserved c =
       ap (λ k. k + 1) inv.1 ∙ sym (count_by_more_yes is_input vars n x c.loop-number-test.true (ap is_input (sym c.index-vars-number.is) ∙ holds)),
       take-set_at c.loop-number.image place (place + 1) v (omega arith) (omega (arith, below, inv.0, inv.1)) ∙ ap (λ l. l ++ v ∷ []) inv.2 ∙ sym more,
     )
+
+pub returns : goal.returns
+returns c =
+    let inv = c.loop-number.invariant in
+    let vars = c.args.vars.now in
+    let values = c.args.state.now.held.values in
+    let n = c.loop-number.number in
+    let counted = ap (count_by is_input) (take_all n vars (omega arith)) in
+    let whole = take_all c.loop-number.place c.loop-number.image (omega (arith, inv.0, inv.1, counted)) in
+    sym whole ∙ inv.2 ∙ ap (λ m. chosen m values) (take_all n (map is_input vars) (omega (arith, length-map vars is_input))) ∙ chosen_values is_input vars values

@@ -1,6 +1,6 @@
 use Rattle.std.specs.Prelude.{◌≡◌, count_by, length, map, take}
 use Rattle.ladder_vars.specs.Decls.{is_input}
-use Rattle.ladder_trace.specs.Trace.{chosen}
+use Rattle.ladder_trace.specs.Room.{chosen}
 use Rattle.ladder_trace.proofs.row.fill_inputs.Given as goal
 
 abbrev pub invariant-loop-number : goal.invariant-loop-number

@@ -1,16 +1,9 @@
-use Rattle.std.proofs.Common.{arith}
-use Rattle.ladder_trace.proofs.Taking.{going_done, going_many, going_more, going_none, going_starved, going_stops}
+use Rattle.std.proofs.Common.{◌+◌, arith, drop}
+use Rattle.ladder_trace.proofs.Taking.{going_done, going_many, going_more, going_starved, going_stops}
 use Rattle.ladder_trace.proofs.simulation.simulate_rows.Goals as goal
 
 pub loop-number-init : goal.loop-number-init
-loop-number-init g c = (
-  c.requires.plain,
-  c.requires.fits,
-  c.requires.ready,
-  omega arith,
-  λ rows left.
-      going_none c.args.program.now c.args.columns.now c.args.state.now rows (g.W.Sink.log c.args.writer.now) c.args.records.now left,
-)
+loop-number-init g c = (c.requires.plain, c.requires.fits, c.requires.ready, omega arith, λ rows log going. going)
 
 pub loop-number-preserved : goal.loop-number-preserved
 loop-number-preserved g c =
@@ -19,30 +12,30 @@ loop-number-preserved g c =
       ok.fits,
       ok.ready,
       omega (arith, c.if-number-eq-MOST.false, c.loop-number.invariant.3),
-      λ rows left.
-          let h = c.loop-number.invariant.4 rows left in
+      λ rows log going.
+          let h = c.loop-number.invariant.4 rows log going in
           going_more c.args.program.now c.args.columns.now c.args.state.now c.loop-number.state c.step.new.state rows c.in-Ok.found _ _ _ _ c.loop-number.number c.loop-number.records c.next.new.records
-          h c.if-not-found.false (c.in-Ok.ensures.takes h.taken.rest h.left) ok.steps.0 ok.steps.1,
+          h c.if-not-found.false (c.in-Ok.ensures.takes (drop (c.loop-number.number + 1) rows) h.left) ok.steps.0 ok.steps.1,
     )
 
 pub returns-in_default-clause-ends : goal.returns-in_default-clause-ends
-returns-in_default-clause-ends g c = λ rows left.
-    going_starved c.args.program.now c.args.columns.now c.args.state.now c.loop-number.state rows _ _ c.loop-number.number c.loop-number.records (c.loop-number.invariant.4 rows left) c.loop-number.invariant.3
+returns-in_default-clause-ends g c = λ rows log going.
+    going_starved c.args.program.now c.args.columns.now c.args.state.now c.loop-number.state rows _ _ c.loop-number.number c.loop-number.records (c.loop-number.invariant.4 rows log going) c.loop-number.invariant.3
 
 pub returns-then-not-found-clause-ends : goal.returns-then-not-found-clause-ends
-returns-then-not-found-clause-ends g c = λ rows left.
-    let h = c.loop-number.invariant.4 rows left in
+returns-then-not-found-clause-ends g c = λ rows log going.
+    let h = c.loop-number.invariant.4 rows log going in
     going_done c.args.program.now c.args.columns.now c.args.state.now c.loop-number.state rows c.in-Ok.found _ _ _ c.loop-number.number c.loop-number.records c.next.new.records
-    h c.if-not-found.true (c.in-Ok.ensures.takes h.taken.rest h.left) c.loop-number.invariant.3
+    h c.if-not-found.true (c.in-Ok.ensures.takes (drop (c.loop-number.number + 1) rows) h.left) c.loop-number.invariant.3
 
 pub returns-then-number-eq-MOST-clause-ends : goal.returns-then-number-eq-MOST-clause-ends
-returns-then-number-eq-MOST-clause-ends g c = λ rows left.
-    let h = c.loop-number.invariant.4 rows left in
+returns-then-number-eq-MOST-clause-ends g c = λ rows log going.
+    let h = c.loop-number.invariant.4 rows log going in
     going_many c.args.program.now c.args.columns.now c.args.state.now c.loop-number.state rows c.in-Ok.found _ _ _ c.loop-number.number c.loop-number.records c.next.new.records
-    h c.if-not-found.false (c.in-Ok.ensures.takes h.taken.rest h.left) c.if-number-eq-MOST.true
+    h c.if-not-found.false (c.in-Ok.ensures.takes (drop (c.loop-number.number + 1) rows) h.left) c.if-number-eq-MOST.true
 
 pub returns-in-Err-clause-ends : goal.returns-in-Err-clause-ends
-returns-in-Err-clause-ends g c = λ rows left.
-    let h = c.loop-number.invariant.4 rows left in
+returns-in-Err-clause-ends g c = λ rows log going.
+    let h = c.loop-number.invariant.4 rows log going in
     going_stops c.args.program.now c.args.columns.now c.args.state.now c.loop-number.state c.step.new.state rows c.in-Ok.found _ c.in-Err.fault _ _ _ c.loop-number.number c.loop-number.records c.next.new.records
-    h (omega (arith, c.if-number-eq-MOST.false, c.loop-number.invariant.3)) c.if-not-found.false (c.in-Ok.ensures.takes h.taken.rest h.left) c.in-Err.ensures.steps
+    h (omega (arith, c.if-number-eq-MOST.false, c.loop-number.invariant.3)) c.if-not-found.false (c.in-Ok.ensures.takes (drop (c.loop-number.number + 1) rows) h.left) c.in-Err.ensures.steps

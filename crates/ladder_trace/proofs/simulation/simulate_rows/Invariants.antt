@@ -1,9 +1,10 @@
 use Rattle.std.specs.Prelude.{◌≤◌, List}
-use Rattle.ladder_records.specs.Left.{Fields, IsPlain, Left}
+use Rattle.ladder_records.specs.Left.{Fields, IsPlain}
 use Rattle.ladder_scan.specs.Standing.{Fits}
+use Rattle.ladder_text.specs.Log.{WriteLog}
 use Rattle.ladder_trace.specs.Room.{IsReady}
 use Rattle.ladder_trace.specs.Simulation.{most}
-use Rattle.ladder_trace.proofs.Taking.{IsGoing}
+use Rattle.ladder_trace.specs.Steps.{IsGoing}
 use Rattle.ladder_trace.proofs.simulation.simulate_rows.Given as goal
 
 abbrev pub invariant-loop-number : goal.invariant-loop-number
@@ -12,5 +13,5 @@ invariant-loop-number g l =
     × Fits l.program l.state
     × IsReady l.program l.room.image.items l.room.block
     × (l.number ≤ most)
-    × ((rows : List Fields) → Left l.fn.records rows
-    → IsGoing l.program l.columns l.fn.state rows l.state (g.W.Sink.log l.fn.writer) (g.W.Sink.log l.writer) l.number l.records)
+    × ((rows : List Fields) (log : WriteLog) → IsGoing l.program l.columns l.fn.state rows 0 l.fn.state log (g.W.Sink.log l.fn.writer) l.fn.records
+    → IsGoing l.program l.columns l.fn.state rows l.number l.state log (g.W.Sink.log l.writer) l.records)

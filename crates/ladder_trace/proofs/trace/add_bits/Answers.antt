@@ -1,10 +1,9 @@
-use Rattle.std.proofs.Common.{◌∙◌, false, Some, ap, arith, get_or, map, subst, sym, take_all}
+use Rattle.std.proofs.Common.{◌∙◌, false, Some, ap, arith, get_or, map, sym}
 use Rattle.std.proofs.lemmas.List.{length-map}
 use Rattle.ladder_records.specs.Text.{bit_text}
-use Rattle.ladder_text.specs.Block.{SendsAll}
 use Rattle.ladder_trace.specs.Trace.{is_output}
-use Rattle.ladder_trace.proofs.Fields.{field_prefix, field_more, field_none, fields}
-use Rattle.ladder_trace.proofs.Lists.{mark_at, there_at}
+use Rattle.ladder_trace.proofs.Fields.{field_all, field_prefix, field_more, field_none}
+use Rattle.ladder_trace.proofs.Lists.{chosen_values, mark_at, there_at}
 use Rattle.ladder_text.proofs.Sending.{sends_err}
 use Rattle.ladder_trace.proofs.trace.add_bits.Goals as goal
 
@@ -32,11 +31,10 @@ returns-in_err-add_field g c = sends_err _ _ _ _ _ _ c.from_residual.ensures.0
     let n = c.loop-number.number in
     let x = c.index-vars-number.result in
     let mark = mark_at is_output vars n x c.loop-number-test.true c.index-vars-number.is ∙ ap Some (sym c.is_output.ensures ∙ c.if-not-is_output.false) in
-    field_prefix bit_text (map is_output vars) c.args.state.now.held.values n c.value.result _ _ _ _ _ mark c.value.ensures c.loop-number.invariant
+    field_prefix bit_text (map is_output vars) c.args.state.now.held.values _ n c.value.result _ _ _ _ _ mark c.value.ensures (chosen_values is_output vars c.args.state.now.held.values) c.loop-number.invariant
     (rw c.bit_field.ensures at c.in_err-add_field.ensures))
 
 pub returns : goal.returns
 returns g c =
     let vars = c.args.vars.now in
-    let all = take_all c.loop-number.number (map is_output vars) (omega (arith, length-map vars is_output)) in
-    subst (λ marks. SendsAll (g.W.Sink.log c.args.writer.now) (g.W.Sink.log c.loop-number.writer) c.args.block.now c.loop-number.block (fields bit_text marks c.args.state.now.held.values)) all c.loop-number.invariant
+    field_all bit_text (map is_output vars) c.args.state.now.held.values _ c.loop-number.number _ _ _ _ (omega (arith, length-map vars is_output)) (chosen_values is_output vars c.args.state.now.held.values) c.loop-number.invariant

@@ -1,10 +1,9 @@
-use Rattle.std.proofs.Common.{◌∙◌, ℕ, List, Some, ap, arith, map, subst, sym, take_all}
+use Rattle.std.proofs.Common.{◌∙◌, ℕ, List, Some, ap, arith, map, sym}
 use Rattle.std.proofs.lemmas.List.{length-map}
 use Rattle.ladder_vars.specs.declared.decls.Var.{Var}
-use Rattle.ladder_text.specs.Block.{SendsAll}
 use Rattle.ladder_trace.specs.Trace.{is_output}
-use Rattle.ladder_trace.proofs.Fields.{field_prefix, field_more, field_none, fields}
-use Rattle.ladder_trace.proofs.Lists.{mark_at, some_at}
+use Rattle.ladder_trace.proofs.Fields.{field_all, field_prefix, field_more, field_none}
+use Rattle.ladder_trace.proofs.Lists.{chosen_filter, mark_at, some_at}
 use Rattle.ladder_text.proofs.Sending.{sends_err}
 use Rattle.ladder_trace.proofs.trace.add_names.Goals as goal
 
@@ -34,11 +33,10 @@ returns-in_err-add_field g c = sends_err _ _ _ _ _ _ c.from_residual.ensures.0
     let n = c.loop-number.number in
     let x = c.index-vars-number.result in
     let mark = mark_at is_output vars n x c.loop-number-test.true c.index-vars-number.is ∙ ap Some (sym c.is_output.ensures ∙ c.if-not-is_output.false) in
-    field_prefix name_of (map is_output vars) vars n x _ _ _ _ _ mark (some_at vars n x c.loop-number-test.true c.index-vars-number.is) c.loop-number.invariant
+    field_prefix name_of (map is_output vars) vars _ n x _ _ _ _ _ mark (some_at vars n x c.loop-number-test.true c.index-vars-number.is) (chosen_filter is_output vars) c.loop-number.invariant
     (rw c.bytes.ensures.spelling at c.in_err-add_field.ensures))
 
 pub returns : goal.returns
 returns g c =
     let vars = c.args.vars.now in
-    let all = take_all c.loop-number.number (map is_output vars) (omega (arith, length-map vars is_output)) in
-    subst (λ marks. SendsAll (g.W.Sink.log c.args.writer.now) (g.W.Sink.log c.loop-number.writer) c.args.block.now c.loop-number.block (fields name_of marks vars)) all c.loop-number.invariant
+    field_all name_of (map is_output vars) vars _ c.loop-number.number _ _ _ _ (omega (arith, length-map vars is_output)) (chosen_filter is_output vars) c.loop-number.invariant

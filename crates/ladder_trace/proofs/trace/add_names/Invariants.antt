@@ -1,7 +1,8 @@
 use Rattle.std.specs.Prelude.{map, take}
 use Rattle.ladder_records.specs.Text.{after_commas}
 use Rattle.ladder_text.specs.Block.{SendsAll}
-use Rattle.ladder_trace.specs.Trace.{chosen, is_output}
+use Rattle.ladder_trace.specs.Room.{chosen}
+use Rattle.ladder_trace.specs.Trace.{is_output}
 use Rattle.ladder_trace.proofs.trace.add_names.Given as goal
 
 abbrev pub invariant-loop-number : goal.invariant-loop-number
