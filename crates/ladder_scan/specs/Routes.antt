@@ -1,7 +1,6 @@
 -- Power flow through one rung (IEC 61131-3): power flows from the left rail to the right, along routes. Rows and columns count from 0.
-use Rattle.std.specs.Prelude.{ℕ, ◌+◌, Bool, true, false, List, [], ◌∷◌, map, filter, flat_map, if◌then◌else◌, ◌==◌}
+use Rattle.std.specs.Prelude.{ℕ, ◌+◌, Bool, true, false, List, [], ◌∷◌, map, filter, flat_map, if◌then◌else◌, ◌==◌, zero, suc}
 use Rattle.std.specs.List.{range_with_len}
-use Rattle.std.proofs.Common.{zero, suc}
 use Rattle.ladder_grid.specs.declared.geometry.TheConstants.{ROWS}
 use Rattle.ladder_scan.specs.Algebra.{Algebra}
 

@@ -1,7 +1,6 @@
 -- The scan over any signal. A jump may be taken at one place of a signal and not at another, so every rung is evaluated, each under a
 -- guard: where the guard allows ON, the rung may be evaluated, and where it allows OFF, passed over.
-use Rattle.std.specs.Prelude.{ℕ, Bool, true, false, if◌then◌else◌, List, [], ◌∷◌, ◌++◌, map, nat_lt, Option, Some, None}
-use Rattle.std.proofs.Common.{get_or, zero, suc}
+use Rattle.std.specs.Prelude.{ℕ, Bool, true, false, if◌then◌else◌, List, [], ◌∷◌, ◌++◌, map, nat_lt, Option, Some, None, slice_index_or, zero, suc}
 use Rattle.ladder_scan.specs.Algebra.{Algebra}
 use Rattle.ladder_scan.specs.Blocks.{q_of}
 use Rattle.ladder_scan.specs.Cells.{Diagram, Frame, Kept}
@@ -25,7 +24,7 @@ passes_over (Some (place, target)) j = nat_lt j target
 
 -- The guard of rung j: the AND, over the earlier rungs with a jump that passes over j, of NOT that this jump is taken.
 abbrev pub guard_of : {S : Type 0} → Algebra S → Diagram → List S → ℕ → S
-guard_of o d taken j = meet_where o (λ i. passes_over (d.jump i) j) (λ i. o.inverse (get_or taken i (o.known false))) j
+guard_of o d taken j = meet_where o (λ i. passes_over (d.jump i) j) (λ i. o.inverse (slice_index_or taken i (o.known false))) j
 
 -- A jump is taken where its rung is evaluated and its left link is ON.
 abbrev pub taken_by : {S : Type 0} → Algebra S → Option (ℕ × ℕ) → S → (ℕ → S) → S

@@ -10,12 +10,12 @@ use Rattle.ladder_causes.specs.declared.fault.CauseFault.TheVariants as cause
 use Rattle.ladder_causes.specs.Causes.{Question, causes_after, question}
 use Rattle.ladder_causes.specs.Cursor.{Cursor, first_number, looks_given, looks_of, searched}
 use Rattle.ladder_causes.specs.Prefixes.{search_of}
-use Rattle.ladder_causes.specs.Refusal.{reason}
+use Rattle.ladder_causes.specs.Refusal.{reason, refusal}
 use Rattle.ladder_sim.specs.CauseText.{cause_text, limited}
 use Rattle.ladder_text.specs.Log.{PutsAll, PutsPrefix, WriteLog}
 use Rattle.ladder_tool.specs.declared.fault.ToolFault.{ToolFault}
 use Rattle.ladder_tool.specs.declared.fault.ToolFault.TheVariants as fault
-use Rattle.ladder_tool.specs.Performs.{Asking, HasCauseFault, HasListFault, HasWordFault, IsAsked, causes_for, looks_for, refusal_of, rows_line, rows_text}
+use Rattle.ladder_tool.specs.Performs.{Asking, HasCauseFault, HasListFault, HasWordFault, IsAsked, causes_for, looks_for, rows_line, rows_text}
 use Rattle.ladder_tool.specs.Setting.{Given, HasSettingFault, IsSet}
 use Rattle.ladder_tool.specs.Variables.{AreVariables, variable_of}
 
@@ -46,7 +46,7 @@ word_fault g a p s decls fault.Write set same h = absurd h
 word_fault g a p s decls fault.Memory set same h = tt
 word_fault g a p s decls fault.Usage set same h = absurd h
 
-pub cause_fault : (a : Asking) (q : Question) (f : CauseFault) → refusal_of a q ≡ reason f → HasCauseFault a q f
+pub cause_fault : (a : Asking) (q : Question) (f : CauseFault) → refusal q a.after ≡ reason f → HasCauseFault a q f
 cause_fault a q cause.MomentBack h = inr h
 cause_fault a q cause.NotACoil h = inr h
 cause_fault a q cause.TooManyFree h = inr h

@@ -100,17 +100,13 @@ pub record IsAsked (g : Given) (a : Asking) (q : Question) : Type 0 where
   pub on : variable_of q.program.decls a.coil ≡ Some q.coil
   pub among : AreVariables q.program.decls a.inputs q.listed
 
--- the first rule that the question breaks
-abbrev pub refusal_of : Asking → Question → Option CauseFault
-refusal_of a q = refusal q.program q.state.moment q.now q.coil q.listed a.after
-
 -- the causes that are listed
 abbrev pub causes_for : Asking → Question → List ℕ
 causes_for a q = limited a.limit (causes_after a.after q)
 
 -- The question breaks this rule first; being out of memory has no reason in it.
 abbrev pub HasCauseFault : Asking → Question → CauseFault → Type 0
-HasCauseFault a q f = (f ≡ cause.Memory) ⊎ (refusal_of a q ≡ Some f)
+HasCauseFault a q f = (f ≡ cause.Memory) ⊎ (refusal q a.after ≡ Some f)
 
 -- The first word that names no variable, or being out of memory.
 abbrev pub HasWordFault : Declared → List Text → ToolFault → Type 0
@@ -139,14 +135,14 @@ HasListFault g a fault.Usage = ⊥
 pub record ListsCauses (g : Given) (a : Asking) (out out' : WriteLog) : Type 0 where
   pub question : Question
   pub asked : IsAsked g a question
-  pub accepted : refusal_of a question ≡ None
+  pub accepted : refusal question a.after ≡ None
   pub rows : PutsAll out out' (cause_text question.program question.listed (causes_for a question))
 
 -- Status 1: `out` failed at that text, and X6 is on `err`.
 pub record BreaksList (g : Given) (a : Asking) (out out' err err' : WriteLog) : Type 0 where
   pub question : Question
   pub asked : IsAsked g a question
-  pub accepted : refusal_of a question ≡ None
+  pub accepted : refusal question a.after ≡ None
   pub rows : PutsPrefix out out' (cause_text question.program question.listed (causes_for a question))
   pub reported : IsReported err err' fault.Write
 
