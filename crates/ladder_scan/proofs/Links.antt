@@ -54,9 +54,7 @@ module _ {S : Type 0} (o : Algebra S) (V : S → Type 0) (l : LatticeLaws S V o)
 
   from-value : (kind : BlockKind) (preset : ℕ) (s : Stored) (now : ℕ) (x y : S) → V x → V y → V (q_from o kind preset s now x y)
   from-value kind preset s now x y vx vy =
-      either_value (is_some (traits_of kind).second_input) _ _
-      (l.choice_value _ _ _ vx (l.choice_value _ _ _ vy (l.known_value _) (l.known_value _)) (l.choice_value _ _ _ vy (l.known_value _) (l.known_value _)))
-      (l.choice_value _ _ _ vx (l.known_value _) (l.known_value _))
+      l.choice_value _ _ _ vx (l.choice_value _ _ _ vy (l.known_value _) (l.known_value _)) (l.choice_value _ _ _ vy (l.known_value _) (l.known_value _))
 
   pub q-value : (d : Diagram) (k : Kept) (now : ℕ) (c : Cell) (x y : S) → V x → V y → V (q_here o d k now c x y)
   q-value d k now Empty x y vx vy = l.known_value false

@@ -1,8 +1,7 @@
 -- What each cell of a rung reads and writes, over any signal.
-use Rattle.std.specs.Prelude.{ℕ, ◌+◌, ◌*◌, Bool, true, false, if◌then◌else◌, List, Option, Some, None, is_some, slice_index_or, slice_set}
+use Rattle.std.specs.Prelude.{ℕ, ◌+◌, ◌*◌, Bool, true, false, List, Option, Some, None, slice_index_or, slice_set}
 use Rattle.ladder_vars.specs.declared.kind.BlockKind.{BlockKind}
 use Rattle.ladder_vars.specs.declared.kind.BlockKind.TheVariants.{Ton}
-use Rattle.ladder_vars.specs.Kind.{traits_of}
 use Rattle.ladder_grid.specs.declared.geometry.TheConstants.{ROWS}
 use Rattle.ladder_grid.specs.declared.cell.Mode.{Mode}
 use Rattle.ladder_grid.specs.declared.cell.Mode.TheVariants.{Plain, Negated, Rising, Falling}
@@ -21,7 +20,8 @@ use Rattle.ladder_scan.specs.Blocks.{step, q_of, new_block}
 abbrev pub place_at : ℕ → ℕ → ℕ
 place_at row column = ROWS * column + row
 
--- A program as the scan sees it. A cell goes by its rung and its place in it; past the last place it is Empty.
+-- A program as the scan sees it. Each field is what the drawing has (`diagram_of` in Programs). A cell is addressed by its rung and its
+-- place in it; past the last place it is Empty.
 pub record Diagram : Type 0 where
   pub rungs : ℕ
   pub cell : ℕ → ℕ → Cell
@@ -86,13 +86,11 @@ closed o f m (Contact mode operand memory) = contact o mode (operand_value o f o
 closed o f m (Coil mode var memory) = o.known true
 closed o f m other = o.known false
 
--- The Q of a block's step over any signal: by its inputs x and y, the choice among the Qs for known inputs. A timer has no second input.
+-- The Q of a block's step over any signal: by its inputs x and y, the choice among the Qs for known inputs.
 abbrev pub q_from : {S : Type 0} → Algebra S → BlockKind → ℕ → Stored → ℕ → S → S → S
 q_from o kind preset stored now x y =
     let q = λ (first second : Bool). o.known (q_of (step kind preset stored first second now)) in
-    if is_some (traits_of kind).second_input
-    then o.choice x (o.choice y (q true true) (q true false)) (o.choice y (q false true) (q false false))
-    else o.choice x (q true false) (q false false)
+    o.choice x (o.choice y (q true true) (q true false)) (o.choice y (q false true) (q false false))
 
 -- The Q of the block in a cell, in this evaluation; other cells have none. Past the last instance a new TON is read.
 abbrev pub q_here : {S : Type 0} → Algebra S → Diagram → Kept → ℕ → Cell → S → S → S

@@ -20,7 +20,7 @@ pub record Circuit (S : Type 0) : Type 0 where
   pub q : ℕ → ℕ → S → S → S
 
 -- All routes to the left link of the cell at a row and column: the rail in the first column, and otherwise those up to each right link
--- of the column before that feeds it. Up to the right link of a cell there is the end of the block, where one is there, and otherwise
+-- of the column before that feeds it. Up to the right link of a cell there is the right end of the block, where one is there, and otherwise
 -- each route to its left link with the cell added.
 unfoldable pub routes : (ℕ → ℕ → ℕ → Bool) → (ℕ → ℕ → Bool) → ℕ → ℕ → List Route
 routes feeds is_block row zero = rail ∷ []

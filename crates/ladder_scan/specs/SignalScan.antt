@@ -31,18 +31,14 @@ abbrev pub taken_by : {S : Type 0} → Algebra S → Option (ℕ × ℕ) → S �
 taken_by o None guard links = o.known false
 taken_by o (Some (place, target)) guard links = o.meet guard (links place)
 
-abbrev pub taken_at : {S : Type 0} → Algebra S → Diagram → Kept → ℕ → S → ℕ → Frame S → S
-taken_at o d k now guard j f = taken_by o (d.jump j) guard (link o d k now j f)
-
-abbrev pub looked_more : {S : Type 0} → Algebra S → Diagram → Kept → ℕ → ℕ → Looked S → Looked S
-looked_more o d k now j s =
-    let guard = guard_of o d s.taken j in
-    record { frame = after_rung o d k now j guard s.frame; taken = s.taken ++ (taken_at o d k now guard j s.frame ∷ []) }
-
 -- After the first n rungs.
 unfoldable pub looked : {S : Type 0} → Algebra S → Diagram → Kept → ℕ → Frame S → ℕ → Looked S
 looked o d k now f zero = record { frame = f; taken = [] }
-looked o d k now f (suc j) = looked_more o d k now j (looked o d k now f j)
+looked o d k now f (suc j) =
+    let s = looked o d k now f j in
+    let guard = guard_of o d s.taken j in
+    let taken = taken_by o (d.jump j) guard (link o d k now j s.frame) in
+    record { frame = after_rung o d k now j guard s.frame; taken = s.taken ++ (taken ∷ []) }
 
 -- What the rungs begin with: the given inputs, and all that is stored, which is known.
 abbrev pub look_frame : {S : Type 0} → Algebra S → Diagram → List S → Held → Frame S

@@ -83,7 +83,7 @@ all_gone o p k now (s ∷ ss) g = all_gone o p k now ss (gone o p k now s g)
 abbrev pub IsSpot : Spot → Type 0
 IsSpot spot = (spot.place < PLACES) × (spot.left < OWN) × (spot.other < OWN)
 
--- What a step looks at is there, in a program of so many rungs and variables.
+-- What a step looks at is there, in a program with this many rungs and variables.
 abbrev pub IsWithin : ℕ → ℕ → Step → Type 0
 IsWithin rungs vars (Is spot var) = IsSpot spot × (var < vars)
 IsWithin rungs vars (Not spot var) = IsSpot spot × (var < vars)
