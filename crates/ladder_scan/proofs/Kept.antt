@@ -1,7 +1,5 @@
 -- The relational law, definition by definition; memories and blocks may differ where no cell of the rung reads them.
 use Rattle.std.proofs.Common.{◌≡◌, ℕ, ◌+◌, ◌*◌, ◌/◌, ◌%◌, ◌<◌, Bool, true, false, cond, List, [], ◌∷◌, ◌++◌, map, get_or, set, zero, suc, nat_eq, Option, Some, None, refl, subst, arith}
-use Rattle.std.specs.Prelude.{is_some}
-use Rattle.ladder_vars.specs.Kind.{traits_of}
 use Rattle.ladder_scan.specs.Algebra.{Algebra}
 use Rattle.ladder_scan.specs.Relations.{IsKept, Both, BothFrames}
 use Rattle.ladder_scan.specs.Routes.{join_all, Route, rail, block_end, through, routes, route_value, ends_below, left_link}

@@ -8,8 +8,6 @@ use Rattle.ladder_grid.specs.declared.cell.Operand.TheVariants.{Var, Output}
 use Rattle.ladder_grid.specs.declared.cell.Cell.{Cell}
 use Rattle.ladder_grid.specs.declared.cell.Cell.TheVariants.{Empty, Wire, Contact, Coil, Block, Lower, Jump, Return}
 use Rattle.ladder_scan.specs.declared.block.Stored.{Stored}
-use Rattle.std.specs.Prelude.{is_some}
-use Rattle.ladder_vars.specs.Kind.{traits_of}
 use Rattle.ladder_scan.specs.Algebra.{Algebra, LatticeLaws}
 use Rattle.ladder_scan.specs.Routes.{join_all, left_link, routes, route_value}
 use Rattle.ladder_grid.specs.Program.{is_block}

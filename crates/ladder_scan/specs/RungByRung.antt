@@ -1,5 +1,5 @@
 -- Private: the scan as the code does it, through all rungs, where `resume` is the next rung to be evaluated.
-use Rattle.std.specs.Prelude.{◌≡◌, ◌≤◌, ℕ, Bool, false, List, FitsSigned, if◌then◌else◌, nat_lt, pos, slice_index_or, zero, suc}
+use Rattle.std.specs.Prelude.{◌≡◌, ◌≤◌, ℕ, false, List, FitsSigned, if◌then◌else◌, nat_lt, pos, slice_index_or, zero, suc}
 use Rattle.std.specs.Int.{w16}
 use Rattle.ladder_vars.specs.declared.kind.BlockKind.TheVariants.{Ton}
 use Rattle.ladder_scan.specs.declared.block.Stored.{Stored}

@@ -1,13 +1,11 @@
 -- The records of a state, part by part.
-use Rattle.std.proofs.Common.{◌≡◌, ◌≢◌, ◌+◌, ◌∙◌, ◌++◌, ◌∷◌, [], ℕ, suc, zero, Bool, true, false, if◌then◌else◌, List, Some, refl, sym, ap, ap₂, subst, arith, append_assoc, append-nil, length, length-append, get_or, map, take, slice_get, take_all}
+use Rattle.std.proofs.Common.{◌≡◌, ◌≢◌, ◌+◌, ◌∙◌, ◌++◌, ◌∷◌, [], ℕ, suc, zero, Bool, true, false, if◌then◌else◌, List, Some, refl, sym, ap, ap₂, subst, arith, append_assoc, append-nil, length, length-append, map, take, slice_get, take_all}
 use Rattle.std.specs.Prelude.{⊤}
 use Rattle.std.proofs.lemmas.List.{length-map, take_at}
 use Rattle.ladder_vars.specs.declared.decls.Instance.{Instance}
-use Rattle.ladder_vars.specs.declared.kind.BlockKind.TheVariants.{Ton}
 use Rattle.ladder_grid.specs.Program.{Drawing, memories_of}
 use Rattle.ladder_records.specs.Left.{Fields}
 use Rattle.ladder_scan.specs.declared.block.Stored.{Stored}
-use Rattle.ladder_scan.specs.Blocks.{new_block}
 use Rattle.ladder_scan.specs.Standing.{CanStore, Standing}
 use Rattle.ladder_state.specs.declared.version.Version.{Version}
 use Rattle.ladder_state.specs.Parts.{CanHold, IsItemsBad, IsStuck, block_item, block_records, each, every, memory_records, some, tells, var_records}

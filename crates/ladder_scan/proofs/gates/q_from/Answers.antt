@@ -30,7 +30,6 @@ module _ {S : Type 0} (o : Algebra S) (V : S → Type 0) (l : LatticeLaws S V o)
   same_side : (y : S) (a b : Bool) → V y → a ≡ b → o.known b ≡ o.choice y (o.known a) (o.known b)
   same_side y a b v e = sym (ap (λ z. o.choice y (o.known z) (o.known b)) e ∙ l.choice_equal y (o.known b) v (l.known_value b))
 
-
 pub returns-else-has_second : goal.returns-else-has_second
 returns-else-has_second g c =
     let a = c.args in
