@@ -13,16 +13,14 @@ abbrev pub three_join : Tri → Tri → Tri
 three_join On y = On
 three_join Off y = y
 three_join Unsure On = On
-three_join Unsure Off = Unsure
-three_join Unsure Unsure = Unsure
+three_join Unsure y = Unsure
 
 -- OFF where a side is OFF, ON where both are ON, otherwise OPEN
 abbrev pub three_meet : Tri → Tri → Tri
 three_meet Off y = Off
 three_meet On y = y
 three_meet Unsure Off = Off
-three_meet Unsure On = Unsure
-three_meet Unsure Unsure = Unsure
+three_meet Unsure y = Unsure
 
 -- NOT keeps OPEN
 abbrev pub three_inverse : Tri → Tri
@@ -30,21 +28,13 @@ three_inverse Off = On
 three_inverse On = Off
 three_inverse Unsure = Unsure
 
--- what two sides agree on, otherwise OPEN
-abbrev pub three_agree : Tri → Tri → Tri
-three_agree On On = On
-three_agree On Off = Unsure
-three_agree On Unsure = Unsure
-three_agree Off On = Unsure
-three_agree Off Off = Off
-three_agree Off Unsure = Unsure
-three_agree Unsure y = Unsure
-
--- with an OPEN condition, what the two sides agree on
+-- with an OPEN condition, what both sides agree on, otherwise OPEN
 abbrev pub three_choice : Tri → Tri → Tri → Tri
 three_choice On x y = x
 three_choice Off x y = y
-three_choice Unsure x y = three_agree x y
+three_choice Unsure On On = On
+three_choice Unsure Off Off = Off
+three_choice Unsure x y = Unsure
 
 abbrev pub three : Algebra Tri
 three = record { known = three_known; join = three_join; meet = three_meet; inverse = three_inverse; choice = three_choice }

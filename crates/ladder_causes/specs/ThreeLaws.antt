@@ -3,7 +3,7 @@ use Rattle.std.specs.Prelude.{◌≡◌, ℕ, Bool, true, false, not, ◌&&◌, 
 use Rattle.std.proofs.Common.{arith}
 use Rattle.ladder_scan.specs.Algebra.{LatticeLaws, AllowsLaws}
 use Rattle.ladder_scan.specs.Truth.{OnePlace}
-use Rattle.ladder_causes.specs.Three.{AnyTri, three, three_agree, three_allows, three_choice, three_inverse, three_join, three_known, three_meet}
+use Rattle.ladder_causes.specs.Three.{AnyTri, three, three_allows, three_choice, three_inverse, three_join, three_known, three_meet}
 use Rattle.ladder_causes.specs.declared.tri.Tri.{Tri}
 use Rattle.ladder_causes.specs.declared.tri.Tri.TheVariants.{Off, On, Unsure}
 
@@ -102,14 +102,16 @@ inverse_allowed On p a h = grind arith
 inverse_allowed Off p a h = grind arith
 inverse_allowed Unsure p a h = tt
 
-agree_allowed : (y z : Tri) (p : ℕ) (a b c : Bool) → three_allows y p b → three_allows z p c → three_allows (three_agree y z) p (if a then b else c)
+agree_allowed : (y z : Tri) (p : ℕ) (a b c : Bool) → three_allows y p b → three_allows z p c → three_allows (three_choice Unsure y z) p (if a then b else c)
 agree_allowed On On p a b c h k = grind arith
 agree_allowed On Off p a b c h k = tt
 agree_allowed On Unsure p a b c h k = tt
 agree_allowed Off On p a b c h k = tt
 agree_allowed Off Off p a b c h k = grind arith
 agree_allowed Off Unsure p a b c h k = tt
-agree_allowed Unsure z p a b c h k = tt
+agree_allowed Unsure On p a b c h k = tt
+agree_allowed Unsure Off p a b c h k = tt
+agree_allowed Unsure Unsure p a b c h k = tt
 
 choice_allowed : (x y z : Tri) (p : ℕ) (a b c : Bool) → three_allows x p a → three_allows y p b → three_allows z p c → three_allows (three_choice x y z) p (if a then b else c)
 choice_allowed On y z p a b c g h k = rw g h

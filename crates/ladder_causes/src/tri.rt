@@ -2,7 +2,8 @@
 
 ghost use Rattle.std.specs.Prelude.{◌≡◌};
 ghost use Rattle.ladder_scan.specs.Truth.{OnePlace};
-ghost use Rattle.ladder_causes.specs.Three.{AnyTri, three, three_agree, three_allows};
+ghost use Rattle.ladder_causes.specs.Three.{AnyTri, three, three_allows, three_choice};
+ghost use Rattle.ladder_causes.specs.declared.tri.Tri.TheVariants.{Unsure};
 ghost use Rattle.ladder_causes.specs.ThreeLaws.{three_allowed, three_lattice};
 
 use ladder_scan::Signal;
@@ -74,7 +75,7 @@ impl Signal for Tri {
 
 /// What two values agree on; otherwise it stays open.
 fn agree(on: Tri, off: Tri) -> Tri
-    ensures { result ≡ three_agree on off }
+    ensures { result ≡ three_choice Unsure on off }
 {
     if on == off { on } else { Tri::Unsure }
 }

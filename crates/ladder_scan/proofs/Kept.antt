@@ -1,7 +1,5 @@
 -- The relational law, definition by definition; memories and blocks may differ where no cell of the rung reads them.
 use Rattle.std.proofs.Common.{◌≡◌, ℕ, ◌+◌, ◌*◌, ◌/◌, ◌%◌, ◌<◌, Bool, true, false, cond, List, [], ◌∷◌, ◌++◌, map, get_or, set, zero, suc, nat_eq, Option, Some, None, refl, subst, arith}
-use Rattle.std.specs.Prelude.{is_some}
-use Rattle.ladder_vars.specs.Kind.{traits_of}
 use Rattle.ladder_scan.specs.Algebra.{Algebra}
 use Rattle.ladder_scan.specs.Relations.{IsKept, Both, BothFrames}
 use Rattle.ladder_scan.specs.Routes.{join_all, Route, rail, block_end, through, routes, route_value, ends_below, left_link}
@@ -121,9 +119,7 @@ module _ {A B : Type 0} (a : Algebra A) (b : Algebra B) (R : A → B → Type 0)
   from_kept : (kind : BlockKind) (preset : ℕ) (s t : Stored) (now : ℕ) → s ≡ t → (x y : A) (u v : B) → R x u → R y v → R (q_from a kind preset s now x y) (q_from b kind preset t now u v)
   from_kept kind preset s t now e x y u v r w =
       subst (λ (z : Stored). R (q_from a kind preset s now x y) (q_from b kind preset z now u v)) e
-      (either (is_some (traits_of kind).second_input) _ _ _ _
       (k.choice _ _ _ _ _ _ r (k.choice _ _ _ _ _ _ w (k.known _) (k.known _)) (k.choice _ _ _ _ _ _ w (k.known _) (k.known _)))
-      (k.choice _ _ _ _ _ _ r (k.known _) (k.known _)))
 
   q_kept : (d : Diagram) (p h : Kept) (now : ℕ) (c : Cell) → AlikeCell p h c → (x y : A) (u v : B) → R x u → R y v → R (q_here a d p now c x y) (q_here b d h now c u v)
   q_kept d p h now Empty e x y u v r s = k.known false

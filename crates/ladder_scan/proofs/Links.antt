@@ -8,8 +8,6 @@ use Rattle.ladder_grid.specs.declared.cell.Operand.TheVariants.{Var, Output}
 use Rattle.ladder_grid.specs.declared.cell.Cell.{Cell}
 use Rattle.ladder_grid.specs.declared.cell.Cell.TheVariants.{Empty, Wire, Contact, Coil, Block, Lower, Jump, Return}
 use Rattle.ladder_scan.specs.declared.block.Stored.{Stored}
-use Rattle.std.specs.Prelude.{is_some}
-use Rattle.ladder_vars.specs.Kind.{traits_of}
 use Rattle.ladder_scan.specs.Algebra.{Algebra, LatticeLaws}
 use Rattle.ladder_scan.specs.Routes.{join_all, left_link, routes, route_value}
 use Rattle.ladder_grid.specs.Program.{is_block}
@@ -54,9 +52,7 @@ module _ {S : Type 0} (o : Algebra S) (V : S → Type 0) (l : LatticeLaws S V o)
 
   from-value : (kind : BlockKind) (preset : ℕ) (s : Stored) (now : ℕ) (x y : S) → V x → V y → V (q_from o kind preset s now x y)
   from-value kind preset s now x y vx vy =
-      either_value (is_some (traits_of kind).second_input) _ _
-      (l.choice_value _ _ _ vx (l.choice_value _ _ _ vy (l.known_value _) (l.known_value _)) (l.choice_value _ _ _ vy (l.known_value _) (l.known_value _)))
-      (l.choice_value _ _ _ vx (l.known_value _) (l.known_value _))
+      l.choice_value _ _ _ vx (l.choice_value _ _ _ vy (l.known_value _) (l.known_value _)) (l.choice_value _ _ _ vy (l.known_value _) (l.known_value _))
 
   pub q-value : (d : Diagram) (k : Kept) (now : ℕ) (c : Cell) (x y : S) → V x → V y → V (q_here o d k now c x y)
   q-value d k now Empty x y vx vy = l.known_value false

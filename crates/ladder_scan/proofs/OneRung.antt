@@ -5,9 +5,8 @@ use Rattle.ladder_scan.specs.Algebra.{Algebra}
 use Rattle.ladder_scan.specs.Truth.{plain}
 use Rattle.ladder_scan.specs.Relations.{IsKept, Both, BothFrames}
 use Rattle.ladder_vars.specs.declared.kind.BlockKind.{BlockKind}
-use Rattle.ladder_vars.specs.declared.kind.BlockKind.TheVariants.{Ton, Tof, Tp, Ctu, Ctd, Sr, Rs}
+use Rattle.ladder_vars.specs.declared.kind.BlockKind.TheVariants.{Ton}
 use Rattle.ladder_scan.specs.declared.block.Stored.{Stored}
-use Rattle.ladder_scan.specs.declared.block.Stored.TheVariants.{Timer, Counter, Bistable}
 use Rattle.ladder_scan.specs.Blocks.{step, q_of, new_block}
 use Rattle.ladder_grid.specs.declared.cell.Cell.{Cell}
 use Rattle.ladder_grid.specs.declared.cell.Cell.TheVariants.{Empty, Wire, Contact, Coil, Block, Lower, Jump, Return}
@@ -58,41 +57,10 @@ cell_stays d once now j start links h n j' e' apart = (
 
 -- ---- one cell
 q_plain : (kind : BlockKind) (preset : ℕ) (s : Stored) (now : ℕ) (x y : Bool) → q_from plain kind preset s now x y ≡ q_of (step kind preset s x y now)
-unfolding step
-q_plain Ton preset (Timer last running start q) now true y = refl
-q_plain Ton preset (Timer last running start q) now false y = refl
-q_plain Ton preset (Counter last cv q) now true y = refl
-q_plain Ton preset (Counter last cv q) now false y = refl
-q_plain Ton preset (Bistable q) now true y = refl
-q_plain Ton preset (Bistable q) now false y = refl
-q_plain Tof preset (Timer last running start q) now true y = refl
-q_plain Tof preset (Timer last running start q) now false y = refl
-q_plain Tof preset (Counter last cv q) now true y = refl
-q_plain Tof preset (Counter last cv q) now false y = refl
-q_plain Tof preset (Bistable q) now true y = refl
-q_plain Tof preset (Bistable q) now false y = refl
-q_plain Tp preset (Timer last running start q) now true y = refl
-q_plain Tp preset (Timer last running start q) now false y = refl
-q_plain Tp preset (Counter last cv q) now true y = refl
-q_plain Tp preset (Counter last cv q) now false y = refl
-q_plain Tp preset (Bistable q) now true y = refl
-q_plain Tp preset (Bistable q) now false y = refl
-q_plain Ctu preset s now true true = refl
-q_plain Ctu preset s now true false = refl
-q_plain Ctu preset s now false true = refl
-q_plain Ctu preset s now false false = refl
-q_plain Ctd preset s now true true = refl
-q_plain Ctd preset s now true false = refl
-q_plain Ctd preset s now false true = refl
-q_plain Ctd preset s now false false = refl
-q_plain Sr preset s now true true = refl
-q_plain Sr preset s now true false = refl
-q_plain Sr preset s now false true = refl
-q_plain Sr preset s now false false = refl
-q_plain Rs preset s now true true = refl
-q_plain Rs preset s now true false = refl
-q_plain Rs preset s now false true = refl
-q_plain Rs preset s now false false = refl
+q_plain kind preset s now true true = refl
+q_plain kind preset s now true false = refl
+q_plain kind preset s now false true = refl
+q_plain kind preset s now false false = refl
 
 -- what the step makes of the stored block, and what is written to its Q
 ends_step : (d : Diagram) (now : ℕ) (k h : Kept) (c : Cell) → AlikeCell k h c → (x y : Bool) →

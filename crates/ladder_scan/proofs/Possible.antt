@@ -1,5 +1,5 @@
 -- What instances store belongs to their kind and is possible at the moment.
-use Rattle.std.proofs.Common.{length, ◌≡◌, ℕ, ◌≤◌, Bool, true, false, cond, List, [], ◌∷◌, map, get_or, set, zero, suc, nat_lt, sym, subst, ap, ap₂, ◌∙◌, refl, arith, ℤ, pos, negsuc, ◌+ℤ◌, ◌-ℤ◌, int_lt}
+use Rattle.std.proofs.Common.{length, slice_get, Some, ◌≡◌, ℕ, ◌≤◌, Bool, true, false, cond, List, [], ◌∷◌, map, get_or, set, zero, suc, nat_lt, sym, subst, ap, ap₂, ◌∙◌, refl, arith, ℤ, pos, negsuc, ◌+ℤ◌, ◌-ℤ◌, int_lt}
 use Rattle.std.specs.Prelude.{FitsSigned}
 use Rattle.std.specs.Int.{w16}
 use Rattle.std.proofs.lemmas.Int.{ints}
@@ -24,8 +24,68 @@ use Rattle.ladder_scan.specs.Rung.{Held, second, changes, frame_of, link_at, eva
 use Rattle.ladder_scan.specs.Scan.{next_rung}
 use Rattle.ladder_scan.specs.Programs.{IsSound}
 use Rattle.ladder_scan.specs.RungByRung.{Scanned, scanned}
-use Rattle.ladder_scan.specs.Standing.{fresh, IsPossible, AreSound, shape}
-use Rattle.ladder_scan.specs.RungByRung.{ArePossible}
+use Rattle.ladder_scan.specs.Standing.{fresh, AreSound, CanStore}
+use Rattle.ladder_scan.specs.RungByRung.{ArePossible, IsPossible, shape}
+
+-- ---- what an instance can store: its shape, and what is possible
+
+pub can_shape : (kind : BlockKind) (moment : ℕ) (s : Stored) → CanStore kind moment s → shape s ≡ new_block kind
+can_shape kind moment (Timer last running start q) h = sym h.0
+can_shape kind moment (Counter last cv q) h = sym h.0
+can_shape kind moment (Bistable q) h = sym h
+
+pub can_possible : (kind : BlockKind) (moment : ℕ) (s : Stored) → CanStore kind moment s → IsPossible moment s
+can_possible kind moment (Timer last running start q) h = (h.1, h.2)
+can_possible kind moment (Counter last cv q) h = h.1
+can_possible kind moment (Bistable q) h = tt
+
+pub can_store : (kind : BlockKind) (moment : ℕ) (s : Stored) → shape s ≡ new_block kind → IsPossible moment s → CanStore kind moment s
+can_store kind moment (Timer last running start q) e p = (sym e, p.0, p.1)
+can_store kind moment (Counter last cv q) e p = (sym e, p)
+can_store kind moment (Bistable q) e p = sym e
+
+abbrev EachCan : List BlockKind → List Stored → ℕ → Type 0
+EachCan kinds blocks moment = (i : ℕ) (kind : BlockKind) (s : Stored) → slice_get kinds i ≡ Some kind → slice_get blocks i ≡ Some s → CanStore kind moment s
+
+each_shape : (kinds : List BlockKind) (blocks : List Stored) (moment : ℕ) → length blocks ≡ length kinds → EachCan kinds blocks moment → map shape blocks ≡ map new_block kinds
+each_shape [] [] moment h e = refl
+each_shape [] (b ∷ bs) moment h e = absurd (omega (arith, h))
+each_shape (k ∷ ks) [] moment h e = absurd (omega (arith, h))
+each_shape (k ∷ ks) (b ∷ bs) moment h e =
+    ap₂ (λ (a : Stored) (l : List Stored). a ∷ l) (can_shape k moment b (e 0 k b refl refl))
+    (each_shape ks bs moment (omega (arith, h)) (λ i x y p q. e (suc i) x y p q))
+
+each_possible : (kinds : List BlockKind) (blocks : List Stored) (moment : ℕ) → length blocks ≡ length kinds → EachCan kinds blocks moment → ArePossible moment blocks
+each_possible kinds [] moment h e i = (omega arith, λ o. refl)
+each_possible [] (b ∷ bs) moment h e i = absurd (omega (arith, h))
+each_possible (k ∷ ks) (b ∷ bs) moment h e zero = can_possible k moment b (e 0 k b refl refl)
+each_possible (k ∷ ks) (b ∷ bs) moment h e (suc i) = each_possible ks bs moment (omega (arith, h)) (λ j x y p q. e (suc j) x y p q) i
+
+pub sound_shapes : (kinds : List BlockKind) (blocks : List Stored) (moment : ℕ) → AreSound kinds blocks moment → map shape blocks ≡ map new_block kinds
+sound_shapes kinds blocks moment s = each_shape kinds blocks moment s.as_many s.each
+
+pub sound_possible : (kinds : List BlockKind) (blocks : List Stored) (moment : ℕ) → AreSound kinds blocks moment → ArePossible moment blocks
+sound_possible kinds blocks moment s = each_possible kinds blocks moment s.as_many s.each
+
+some_same : {A : Type 0} {x y : A} → Some x ≡ Some y → x ≡ y
+some_same e = cc
+
+each_can : (kinds : List BlockKind) (blocks : List Stored) (moment : ℕ) → map shape blocks ≡ map new_block kinds → ArePossible moment blocks → EachCan kinds blocks moment
+each_can [] blocks moment s p i k b e f = cc
+each_can (x ∷ ks) [] moment s p i k b e f = cc
+each_can (x ∷ ks) (y ∷ bs) moment s p zero k b e f =
+    let t : shape y ≡ new_block x = cc in
+    subst (λ z. CanStore z moment b) (some_same e) (subst (λ z. CanStore x moment z) (some_same f) (can_store x moment y t (p 0)))
+each_can (x ∷ ks) (y ∷ bs) moment s p (suc i) k b e f =
+    let t : map shape bs ≡ map new_block ks = cc in each_can ks bs moment t (λ j. p (suc j)) i k b e f
+
+pub are_sound : (kinds : List BlockKind) (blocks : List Stored) (moment : ℕ) → map shape blocks ≡ map new_block kinds → ArePossible moment blocks → AreSound kinds blocks moment
+are_sound kinds blocks moment s p = record {
+  as_many = sym (length-map blocks shape) ∙ ap length s ∙ length-map kinds new_block;
+  each = each_can kinds blocks moment s p;
+}
+
+-- ---- before the first scan
 
 zero_fits : FitsSigned w16 (pos 0)
 zero_fits = grind (arith, ints, nat_tests)
@@ -60,10 +120,9 @@ new_shapes (x ∷ xs) = ap₂ (λ (a : Stored) (l : List Stored). a ∷ l) (new_
 pub fresh_sound : (p : Drawing) (h : Held) (kinds : List BlockKind) → h ≡ (fresh p).held → kinds ≡ map (λ i. i.kind) p.decls.instances → AreSound kinds h.kept.blocks 0
 fresh_sound p h kinds e k =
     let b : h.kept.blocks ≡ map (λ i. new_block i.kind) p.decls.instances = ap (λ (x : Held). x.kept.blocks) e in
-    record {
-      shapes = rw (b, k) (new_shapes p.decls.instances);
-      possible = subst (λ (bs : List Stored). ArePossible 0 bs) (sym b) (new_possible p.decls.instances);
-    }
+    are_sound kinds h.kept.blocks 0 (rw (b, k) (new_shapes p.decls.instances)) (subst (λ (bs : List Stored). ArePossible 0 bs) (sym b) (new_possible p.decls.instances))
+
+-- ---- a step
 
 below : (b : Bool) (x y now : ℕ) → x ≤ now → y ≤ now → cond b x y ≤ now
 below true x y now h k = h
@@ -76,6 +135,20 @@ off_zero false x e = refl
 
 start_possible : (runs : Bool) (since now : ℕ) → since ≤ now → (cond runs since 0 ≤ now) × (runs ≡ false → cond runs since 0 ≡ 0)
 start_possible runs since now h = (below runs since 0 now h (omega arith), λ e. off_zero runs since e)
+
+ton_possible : (on q : Bool) (since now : ℕ) → since ≤ now → IsPossible now (cond on (Timer true true since q) (Timer false false 0 false))
+ton_possible true q since now h = (h, λ e. cc)
+ton_possible false q since now h = (omega arith, λ e. refl)
+
+tof_possible : (on runs : Bool) (since now : ℕ) → since ≤ now → IsPossible now (cond on (Timer true false 0 true) (Timer false runs (cond runs since 0) runs))
+tof_possible true runs since now h = (omega arith, λ e. refl)
+tof_possible false runs since now h = start_possible runs since now h
+
+tp_possible : (stays begins on : Bool) (start now : ℕ) → start ≤ now
+    → IsPossible now (cond stays (Timer on true start true) (cond begins (Timer on true now true) (Timer on false 0 false)))
+tp_possible true begins on start now h = (h, λ e. cc)
+tp_possible false true on start now h = (omega arith, λ e. cc)
+tp_possible false false on start now h = (omega arith, λ e. refl)
 
 up_one : (cv : ℤ) → FitsSigned w16 cv → FitsSigned w16 (cond (int_lt cv (pos 32767)) (cv +ℤ pos 1) cv)
 up_one cv h = grind (arith, ints, nat_tests)
@@ -98,9 +171,9 @@ down_fits preset false true false cv p h = down_one cv h
 step_possible : (kind : BlockKind) (preset : ℕ) (s : Stored) (on second : Bool) (now : ℕ) → preset ≤ largest_preset kind
     → IsPossible now s → IsPossible now (step kind preset s on second now)
 unfolding step
-step_possible Ton preset (Timer last running start q) on second now p h = start_possible on _ now (below running start now now h.0 (omega arith))
-step_possible Tof preset (Timer last running start q) on second now p h = start_possible _ _ now (below last now start now (omega arith) h.0)
-step_possible Tp preset (Timer last running start q) on second now p h = start_possible _ _ now (below _ start now now h.0 (omega arith))
+step_possible Ton preset (Timer last running start q) on second now p h = ton_possible on _ _ now (below running start now now h.0 (omega arith))
+step_possible Tof preset (Timer last running start q) on second now p h = tof_possible on _ _ now (below last now start now (omega arith) h.0)
+step_possible Tp preset (Timer last running start q) on second now p h = tp_possible _ _ on start now h.0
 step_possible Ctu preset (Timer last running start q) on second now p h = h
 step_possible Ctd preset (Timer last running start q) on second now p h = h
 step_possible Sr preset (Timer last running start q) on second now p h = h
@@ -120,12 +193,22 @@ step_possible Ctd preset (Bistable q) on second now p h = tt
 step_possible Sr preset (Bistable q) on second now p h = tt
 step_possible Rs preset (Bistable q) on second now p h = tt
 
+either_shape : (b : Bool) (x y z : Stored) → shape x ≡ z → shape y ≡ z → shape (cond b x y) ≡ z
+either_shape true x y z h k = h
+either_shape false x y z h k = k
+
+tp_shape : (stays begins on : Bool) (start now : ℕ)
+    → shape (cond stays (Timer on true start true) (cond begins (Timer on true now true) (Timer on false 0 false))) ≡ Timer false false 0 false
+tp_shape true begins on start now = refl
+tp_shape false true on start now = refl
+tp_shape false false on start now = refl
+
 -- a step keeps the shape
 step_shape : (kind : BlockKind) (preset : ℕ) (s : Stored) (on second : Bool) (now : ℕ) → shape (step kind preset s on second now) ≡ shape s
 unfolding step
-step_shape Ton preset (Timer last running start q) on second now = refl
-step_shape Tof preset (Timer last running start q) on second now = refl
-step_shape Tp preset (Timer last running start q) on second now = refl
+step_shape Ton preset (Timer last running start q) on second now = either_shape on _ _ _ refl refl
+step_shape Tof preset (Timer last running start q) on second now = either_shape on _ _ _ refl refl
+step_shape Tp preset (Timer last running start q) on second now = tp_shape _ _ on start now
 step_shape Ctu preset (Timer last running start q) on second now = refl
 step_shape Ctd preset (Timer last running start q) on second now = refl
 step_shape Sr preset (Timer last running start q) on second now = refl
@@ -238,7 +321,8 @@ later m now bs h t i = later_one m now (get_or bs i (new_block Ton)) h (t i)
 -- what a scan leaves
 pub after_sound : (m now : ℕ) (kinds : List BlockKind) (bs cs : List Stored) → AreSound kinds bs m → m ≤ now → map shape cs ≡ map shape bs
     → (ArePossible now bs → ArePossible now cs) → AreSound kinds cs now
-after_sound m now kinds bs cs s h e f = record { shapes = e ∙ s.shapes; possible = f (later m now bs h s.possible) }
+after_sound m now kinds bs cs s h e f = are_sound kinds cs now (e ∙ sound_shapes kinds bs m s) (f (later m now bs h (sound_possible kinds bs m s)))
 
-pub as_many : (kinds : List BlockKind) (blocks : List Stored) (moment : ℕ) → AreSound kinds blocks moment → length blocks ≡ length kinds
-as_many kinds blocks moment s = sym (length-map blocks shape) ∙ ap length s.shapes ∙ length-map kinds new_block
+-- a later moment
+pub later_sound : (m now : ℕ) (kinds : List BlockKind) (bs : List Stored) → AreSound kinds bs m → m ≤ now → AreSound kinds bs now
+later_sound m now kinds bs s h = after_sound m now kinds bs bs s h refl (λ p. p)

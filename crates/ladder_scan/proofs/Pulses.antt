@@ -55,22 +55,20 @@ time_is : (on last p : Bool) → (on && (not last && p)) ≡ true → p ≡ true
 time_is on last p h = grind arith
 
 -- the three cases of a step
-pulse_more : (preset : ℕ) (x : StepInput) (older : List StepInput) (before : ℕ) (last running : Bool) (start : ℕ) (stays begins : Bool) →
+pulse_more : (preset : ℕ) (x : StepInput) (older : List StepInput) (last running : Bool) (start : ℕ) (stays begins : Bool) →
     (running ≡ true → rose_at start older ≡ true) → last ≡ last_on older →
     (running && nat_lt (x.now - start) preset) ≡ stays → (x.on && (not last && nat_lt 0 preset)) ≡ begins →
-    (stays || begins) ≡ true → (rose_at (cond (stays || begins) (cond stays start x.now) 0) (x ∷ older) ≡ true)
-    × (nat_lt (x.now - cond (stays || begins) (cond stays start x.now) 0) preset ≡ true)
-pulse_more preset x older before last running start true begins f l s b h = (or_right _ _ (f (stay_1 _ _ s)), stay_2 _ _ s)
-pulse_more preset x older before last running start false true f l s b h =
-    (or_left (is_rise x older) _ _ (ap (λ y. x.on && not y) (sym l) ∙ rise_is x.on last (nat_lt 0 preset) b) (same_moment x.now), no_time preset x.now (time_is x.on last (nat_lt 0 preset) b))
-pulse_more preset x older before last running start false false f l s b h = cc
+    IsPulse preset x.now (x ∷ older) (cond stays (Timer x.on true start true) (cond begins (Timer x.on true x.now true) (Timer x.on false 0 false)))
+pulse_more preset x older last running start true begins f l s b = (refl, (refl, λ r. (or_right _ _ (f (stay_1 _ _ s)), stay_2 _ _ s)))
+pulse_more preset x older last running start false true f l s b =
+    (refl, (refl, λ r. (or_left (is_rise x older) _ _ (ap (λ y. x.on && not y) (sym l) ∙ rise_is x.on last (nat_lt 0 preset) b) (same_moment x.now), no_time preset x.now (time_is x.on last (nat_lt 0 preset) b))))
+pulse_more preset x older last running start false false f l s b = (refl, (refl, λ r. cc))
 
 pulse_step : (preset : ℕ) (x : StepInput) (older : List StepInput) (before : ℕ) (s : Stored) → IsPulse preset before older s → IsPulse preset x.now (x ∷ older) (step Tp preset s x.on x.second x.now)
 unfolding step
 pulse_step preset x older before (Counter last cv q) h = absurd h
 pulse_step preset x older before (Bistable q) h = absurd h
-pulse_step preset x older before (Timer last running start q) h =
-    (refl, (refl, λ r. pulse_more preset x older before last running start _ _ (λ e. (h.1.1 e).0) h.0 refl refl r))
+pulse_step preset x older before (Timer last running start q) h = pulse_more preset x older last running start _ _ (λ e. (h.1.1 e).0) h.0 refl refl
 
 pulse_none : (preset : ℕ) → IsPulse preset 0 [] (new_block Tp)
 pulse_none preset = (refl, (refl, λ e. cc))

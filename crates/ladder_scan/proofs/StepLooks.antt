@@ -10,7 +10,8 @@ use Rattle.ladder_grid.specs.Gates.{gates_of, actions_of, exit_of}
 use Rattle.ladder_grid.specs.Steps.{gate_step, action_step, turned_by, turns_before, turn_steps, exit_steps, rung_steps, steps_below}
 use Rattle.ladder_scan.specs.Algebra.{Algebra, LatticeLaws}
 use Rattle.ladder_scan.specs.Cells.{Frame, Kept}
-use Rattle.ladder_scan.specs.SignalScan.{meet_where, passes_over, guard_of, taken_at, looked}
+use Rattle.ladder_scan.specs.Rung.{link}
+use Rattle.ladder_scan.specs.SignalScan.{meet_where, passes_over, guard_of, taken_by, looked}
 use Rattle.ladder_scan.specs.Programs.{diagram_of, IsSound}
 use Rattle.ladder_scan.specs.Gating.{among, ran, taken_by_exit, AreLinks, AreValues}
 use Rattle.ladder_scan.specs.Stepping.{Going, going, all_gone}
@@ -191,7 +192,7 @@ module _ {S : Type 0} (o : Algebra S) (V : S → Type 0) (l : LatticeLaws S V o)
       let are : AreLinks o p k now n h R = links_are o V l p k now n h values at.links at.rails.long at.rails.on at.rails.off in
       let exit : Option Exit = exit_of p n in
       let ts : List S = leaves n at.taken R guard exit in
-      let is_taken : taken_by_exit o exit guard R ≡ taken_at o d k now guard n h =
+      let is_taken : taken_by_exit o exit guard R ≡ taken_by o (d.jump n) guard (link o d k now n h) =
       taken_of p n o guard R exit refl ∙ taken_same o (d.jump n) guard _ _ (λ place target e. are.left place (sound.jumps n place target e).0) in
       let gates : List Step = map (gate_step p n) (gates_of p n) in
       let acts : List Step = filter_map (λ a. action_step n a a.cell) (actions_of p n) in

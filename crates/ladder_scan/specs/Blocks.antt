@@ -1,8 +1,8 @@
 -- One step of a standard function block: a bistable, a counter or a timer (IEC 61131-3:2013, 6.6.3.5). PT and PV are the preset;
 -- moments are whole milliseconds.
--- What the standard's timing diagrams leave open is the profile's choice: at equal moments a timer with PT 0 is through at once, a rise
--- during a pulse does nothing, a TP with PT 0 never begins, a reset or load goes before a rise, and CV stops at the ends of its range.
-use Rattle.std.specs.Prelude.{ℕ, ◌-◌, Bool, false, not, if◌then◌else◌, ◌&&◌, ◌||◌, nat_lt, nat_le, pos, negsuc, ◌+ℤ◌, ◌-ℤ◌, int_lt, int_le}
+-- What the standard's timing diagrams leave open is the profile's choice: a timer with PT 0 expires immediately, a rise during a pulse
+-- does nothing, a TP with PT 0 never begins, a reset or load goes before a rise, and CV stops at the ends of its range.
+use Rattle.std.specs.Prelude.{ℕ, ◌-◌, Bool, true, false, not, if◌then◌else◌, ◌&&◌, ◌||◌, nat_lt, nat_le, pos, negsuc, ◌+ℤ◌, ◌-ℤ◌, int_lt, int_le}
 use Rattle.ladder_vars.specs.declared.kind.BlockKind.{BlockKind}
 use Rattle.ladder_vars.specs.declared.kind.BlockKind.TheVariants.{Ton, Tof, Tp, Ctu, Ctd, Sr, Rs}
 use Rattle.ladder_scan.specs.declared.block.Stored.{Stored}
@@ -23,24 +23,22 @@ new_block Sr = Bistable false
 new_block Rs = Bistable false
 new_block timer = Timer false false 0 false
 
--- A timer after a step: its IN, whether it runs, since when (0 where it doesn't), and its Q.
-abbrev pub timed : Bool → Bool → ℕ → Bool → Stored
-timed on runs since q = Timer on runs (if runs then since else 0) q
-
 -- The step of a block: its kind and preset, what it stored, its two inputs and the moment. The first input is IN, CU, CD, S1 or S,
 -- the second R, LD or R1. A timer has no second input.
 unfoldable pub step : BlockKind → ℕ → Stored → Bool → Bool → ℕ → Stored
--- TON, the on-delay: it runs while IN is ON, from now on where it didn't, and Q is ON once PT has passed.
+-- TON, the on-delay: it runs while IN is ON, from now on where it did not run, and Q is ON once PT has passed.
 step Ton preset (Timer last running start q) on second now =
-    let since = if running then start else now in timed on on since (on && nat_le preset (now - since))
--- TOF, the off-delay: it runs from the fall of IN until PT has passed or IN is ON, and Q is whether IN is ON or it runs.
+    let since = if running then start else now in
+    if on then Timer true true since (nat_le preset (now - since)) else Timer false false 0 false
+-- TOF, the off-delay: a fall of IN starts it, and it runs until PT has passed or IN is ON. Q is ON while IN is ON or it runs.
 step Tof preset (Timer last running start q) on second now =
     let since = if last then now else start in
-    let runs = not on && ((last || running) && nat_lt (now - since) preset) in timed on runs since (on || runs)
--- TP, the pulse: it stays until PT has passed, whatever IN does; where none stays, a rise of IN begins one. Q is whether one runs.
+    let runs = (last || running) && nat_lt (now - since) preset in
+    if on then Timer true false 0 true else Timer false runs (if runs then since else 0) runs
+-- TP, the pulse: it runs until PT has passed, whatever IN does; where it does not run, a rise of IN starts it. Q is ON while it runs.
 step Tp preset (Timer last running start q) on second now =
-    let stays = running && nat_lt (now - start) preset in
-    let runs = stays || (on && (not last && nat_lt 0 preset)) in timed on runs (if stays then start else now) runs
+    if running && nat_lt (now - start) preset then Timer on true start true
+    else (if on && (not last && nat_lt 0 preset) then Timer on true now true else Timer on false 0 false)
 -- CTU. R ON: CV is 0; otherwise a rise of the count input adds 1 below 32767. Q is CV >= PV.
 step Ctu preset (Counter last cv q) on reset now =
     let value = if reset then pos 0 else (if on && (not last && int_lt cv (pos 32767)) then cv +ℤ pos 1 else cv) in

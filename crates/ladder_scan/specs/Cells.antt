@@ -1,9 +1,7 @@
 -- What each cell of a rung reads and writes, over any signal.
-use Rattle.std.specs.Prelude.{ℕ, ◌+◌, ◌*◌, Bool, true, false, if◌then◌else◌, List, Option, Some, None, is_some}
-use Rattle.std.proofs.Common.{get_or, set}
+use Rattle.std.specs.Prelude.{ℕ, ◌+◌, ◌*◌, Bool, true, false, List, Option, Some, None, slice_index_or, slice_set}
 use Rattle.ladder_vars.specs.declared.kind.BlockKind.{BlockKind}
 use Rattle.ladder_vars.specs.declared.kind.BlockKind.TheVariants.{Ton}
-use Rattle.ladder_vars.specs.Kind.{traits_of}
 use Rattle.ladder_grid.specs.declared.geometry.TheConstants.{ROWS}
 use Rattle.ladder_grid.specs.declared.cell.Mode.{Mode}
 use Rattle.ladder_grid.specs.declared.cell.Mode.TheVariants.{Plain, Negated, Rising, Falling}
@@ -22,7 +20,8 @@ use Rattle.ladder_scan.specs.Blocks.{step, q_of, new_block}
 abbrev pub place_at : ℕ → ℕ → ℕ
 place_at row column = ROWS * column + row
 
--- A program as the scan sees it. A cell goes by its rung and its place in it; past the last place it is Empty.
+-- A program as the scan sees it. Each field is what the drawing has (`diagram_of` in Programs). A cell is addressed by its rung and its
+-- place in it; past the last place it is Empty.
 pub record Diagram : Type 0 where
   pub rungs : ℕ
   pub cell : ℕ → ℕ → Cell
@@ -54,11 +53,11 @@ pub record Kept : Type 0 where
 -- The entry of a list at an optional number, and the list with that entry replaced.
 abbrev pub at : {A : Type 0} → List A → Option ℕ → A → A
 at xs None otherwise = otherwise
-at xs (Some i) otherwise = get_or xs i otherwise
+at xs (Some i) otherwise = slice_index_or xs i otherwise
 
 abbrev pub put_in : {A : Type 0} → List A → Option ℕ → A → List A
 put_in xs None x = xs
-put_in xs (Some i) x = set xs i x
+put_in xs (Some i) x = slice_set xs i x
 
 -- A cell writes at most one variable; it has at most one memory (`memory_in`) and steps at most one instance (`block_in`).
 abbrev pub var_in : Cell → Option ℕ
@@ -69,8 +68,8 @@ abbrev pub memory_of : Kept → Cell → Bool
 memory_of k c = at k.memories (memory_in c) false
 
 abbrev pub operand_value : {S : Type 0} → Algebra S → Frame S → Operand → S
-operand_value o f (Var var) = get_or f.values var (o.known false)
-operand_value o f (Output inst) = get_or f.ends inst (o.known false)
+operand_value o f (Var var) = slice_index_or f.values var (o.known false)
+operand_value o f (Output inst) = slice_index_or f.ends inst (o.known false)
 
 -- How far a contact is closed, by its operand's value x and its memory m, which is the value that the operand had:
 -- `| |` where x is ON, `|/|` where it is OFF, `|P|` where it has become ON, `|N|` where it has become OFF.
@@ -87,17 +86,15 @@ closed o f m (Contact mode operand memory) = contact o mode (operand_value o f o
 closed o f m (Coil mode var memory) = o.known true
 closed o f m other = o.known false
 
--- The Q of a block's step over any signal: by its inputs x and y, the choice among the Qs for known inputs. A timer has no second input.
+-- The Q of a block's step over any signal: by its inputs x and y, the choice among the Qs for known inputs.
 abbrev pub q_from : {S : Type 0} → Algebra S → BlockKind → ℕ → Stored → ℕ → S → S → S
 q_from o kind preset stored now x y =
     let q = λ (first second : Bool). o.known (q_of (step kind preset stored first second now)) in
-    if is_some (traits_of kind).second_input
-    then o.choice x (o.choice y (q true true) (q true false)) (o.choice y (q false true) (q false false))
-    else o.choice x (q true false) (q false false)
+    o.choice x (o.choice y (q true true) (q true false)) (o.choice y (q false true) (q false false))
 
 -- The Q of the block in a cell, in this evaluation; other cells have none. Past the last instance a new TON is read.
 abbrev pub q_here : {S : Type 0} → Algebra S → Diagram → Kept → ℕ → Cell → S → S → S
-q_here o d k now (Block inst) x y = q_from o (d.kind inst) (d.preset inst) (get_or k.blocks inst (new_block Ton)) now x y
+q_here o d k now (Block inst) x y = q_from o (d.kind inst) (d.preset inst) (slice_index_or k.blocks inst (new_block Ton)) now x y
 q_here o d k now other x y = o.known false
 
 -- What a coil writes, by its left link, its memory m, which is the link that it had, and the old value of its variable:

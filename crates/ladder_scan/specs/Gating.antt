@@ -1,6 +1,5 @@
 -- Private: a rung as the code evaluates it, by its gates and then by its actions.
-use Rattle.std.specs.Prelude.{◌≡◌, ℕ, ◌+◌, ◌<◌, Bool, true, false, if◌then◌else◌, List, [], ◌∷◌, nat_lt, ◌&&◌, Option, Some, None}
-use Rattle.std.proofs.Common.{get_or, set, zero, suc}
+use Rattle.std.specs.Prelude.{◌≡◌, ℕ, ◌+◌, ◌<◌, Bool, true, false, if◌then◌else◌, List, [], ◌∷◌, nat_lt, ◌&&◌, Option, Some, None, slice_index_or, slice_set, zero, suc}
 use Rattle.ladder_grid.specs.declared.geometry.TheConstants.{PLACES}
 use Rattle.ladder_grid.specs.declared.gates.TheConstants.{OWN}
 use Rattle.ladder_grid.specs.declared.cell.Cell.{Cell}
@@ -25,7 +24,7 @@ join_where o passes f (suc n) = if passes n then o.join (join_where o passes f n
 
 -- The signal at a number of a list, OFF past its end.
 abbrev pub among : {S : Type 0} → Algebra S → List S → ℕ → S
-among o xs i = get_or xs i (o.known false)
+among o xs i = slice_index_or xs i (o.known false)
 
 -- ---- gates
 
@@ -35,8 +34,8 @@ own o d k now f c x y = if is_block c then q_here o d k now c x y else o.meet x 
 
 -- The same by the literal of its gate.
 abbrev pub through : {S : Type 0} → Algebra S → Diagram → Kept → ℕ → Frame S → Literal → Cell → S → S → S
-through o d k now f (Is var) c x y = o.meet x (get_or f.values var (o.known false))
-through o d k now f (Not var) c x y = o.meet x (o.inverse (get_or f.values var (o.known false)))
+through o d k now f (Is var) c x y = o.meet x (slice_index_or f.values var (o.known false))
+through o d k now f (Not var) c x y = o.meet x (o.inverse (slice_index_or f.values var (o.known false)))
 through o d k now f Other c x y = own o d k now f c x y
 
 abbrev pub is_other : Literal → Bool
@@ -50,7 +49,7 @@ let_through o d k now j f links g = through o d k now f g.literal (d.cell j g.pl
 
 -- The links after a gate that lets x through.
 abbrev pub kept_by : {S : Type 0} → Algebra S → List S → Gate → S → List S
-kept_by o links g x = set (if is_other g.literal then set links (OWN + g.place) x else links) g.place (o.join x (among o links g.other))
+kept_by o links g x = slice_set (if is_other g.literal then slice_set links (OWN + g.place) x else links) g.place (o.join x (among o links g.other))
 
 -- The links after a gate of rung j.
 abbrev pub passed : {S : Type 0} → Algebra S → Diagram → Kept → ℕ → ℕ → Frame S → List S → Gate → List S
@@ -112,5 +111,5 @@ guard_by o taken j (l ∷ ls) all =
 
 -- All values and all Qs are values of the signal.
 pub record AreValues {S : Type 0} (o : Algebra S) (V : S → Type 0) (f : Frame S) : Type 0 where
-  pub values : (i : ℕ) → V (get_or f.values i (o.known false))
-  pub ends : (i : ℕ) → V (get_or f.ends i (o.known false))
+  pub values : (i : ℕ) → V (slice_index_or f.values i (o.known false))
+  pub ends : (i : ℕ) → V (slice_index_or f.ends i (o.known false))

@@ -1,5 +1,6 @@
 pub mod Algebra
 pub mod Truth
+pub mod TruthLaws
 pub mod Routes
 pub mod Blocks
 pub mod Histories

@@ -13,7 +13,7 @@ use Rattle.ladder_scan.specs.Laws.{Once, Forward}
 abbrev pub cell_at : Drawing → ℕ → ℕ → Cell
 cell_at p rung place = if nat_lt place PLACES then cell_of p rung place else Empty
 
--- An instance past the last one, which no cell names, is a TON with preset 0. A jump's cell goes by its place.
+-- An instance past the last one, which no cell names, is a TON with preset 0. A jump's cell is addressed by its place.
 unfoldable pub diagram_of : Drawing → Diagram
 diagram_of p = record {
   rungs = p.rungs;

@@ -1,7 +1,6 @@
 -- Power flow through one rung (IEC 61131-3): power flows from the left rail to the right, along routes. Rows and columns count from 0.
-use Rattle.std.specs.Prelude.{ℕ, ◌+◌, Bool, true, false, List, [], ◌∷◌, map, filter, flat_map, if◌then◌else◌, ◌==◌}
+use Rattle.std.specs.Prelude.{ℕ, ◌+◌, Bool, true, false, List, [], ◌∷◌, map, filter, flat_map, if◌then◌else◌, ◌==◌, zero, suc}
 use Rattle.std.specs.List.{range_with_len}
-use Rattle.std.proofs.Common.{zero, suc}
 use Rattle.ladder_grid.specs.declared.geometry.TheConstants.{ROWS}
 use Rattle.ladder_scan.specs.Algebra.{Algebra}
 
@@ -21,7 +20,7 @@ pub record Circuit (S : Type 0) : Type 0 where
   pub q : ℕ → ℕ → S → S → S
 
 -- All routes to the left link of the cell at a row and column: the rail in the first column, and otherwise those up to each right link
--- of the column before that feeds it. Up to the right link of a cell there is the end of the block, where one is there, and otherwise
+-- of the column before that feeds it. Up to the right link of a cell there is the right end of the block, where one is there, and otherwise
 -- each route to its left link with the cell added.
 unfoldable pub routes : (ℕ → ℕ → ℕ → Bool) → (ℕ → ℕ → Bool) → ℕ → ℕ → List Route
 routes feeds is_block row zero = rail ∷ []

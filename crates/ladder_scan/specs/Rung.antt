@@ -1,7 +1,6 @@
 -- The evaluation of one rung: its power flow, from the values at its start, and then its effects by column, then row, each seeing what
 -- the ones before it left. First over any signal, under a guard, and then over truth values, where memories and blocks change too.
-use Rattle.std.specs.Prelude.{◌≡◌, ℕ, ◌+◌, ◌/◌, ◌%◌, Bool, false, if◌then◌else◌, List, length, map}
-use Rattle.std.proofs.Common.{get_or, set, zero, suc}
+use Rattle.std.specs.Prelude.{◌≡◌, ℕ, ◌+◌, ◌/◌, ◌%◌, Bool, false, if◌then◌else◌, List, length, map, slice_index_or, slice_set, zero, suc}
 use Rattle.ladder_grid.specs.declared.geometry.TheConstants.{ROWS, PLACES}
 use Rattle.ladder_grid.specs.declared.cell.Cell.{Cell}
 use Rattle.ladder_grid.specs.declared.cell.Cell.TheVariants.{Contact, Coil, Block}
@@ -88,11 +87,11 @@ pub record SameLengths (g h : Held) : Type 0 where
 abbrev pub changed : Diagram → ℕ → Frame Bool → Cell → Bool → Bool → Held → Held
 changed d now start (Contact mode operand memory) x y h = held h.values (put_in h.kept.memories memory (operand_value plain start operand)) h.kept.blocks
 changed d now start (Coil mode var memory) x y h =
-    let value = stored_by plain mode x (at h.kept.memories memory false) (get_or h.values var false) in
-    held (set h.values var value) (put_in h.kept.memories memory x) h.kept.blocks
+    let value = stored_by plain mode x (at h.kept.memories memory false) (slice_index_or h.values var false) in
+    held (slice_set h.values var value) (put_in h.kept.memories memory x) h.kept.blocks
 changed d now start (Block inst) x y h =
-    let stored = step (d.kind inst) (d.preset inst) (get_or h.kept.blocks inst (new_block Ton)) x y now in
-    held h.values h.kept.memories (set h.kept.blocks inst stored)
+    let stored = step (d.kind inst) (d.preset inst) (slice_index_or h.kept.blocks inst (new_block Ton)) x y now in
+    held h.values h.kept.memories (slice_set h.kept.blocks inst stored)
 changed d now start other x y h = h
 
 -- After the cells at the places below n.

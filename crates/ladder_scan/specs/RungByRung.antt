@@ -1,13 +1,13 @@
 -- Private: the scan as the code does it, through all rungs, where `resume` is the next rung to be evaluated.
-use Rattle.std.specs.Prelude.{ℕ, List, if◌then◌else◌, nat_lt}
-use Rattle.std.proofs.Common.{get_or, zero, suc}
+use Rattle.std.specs.Prelude.{◌≡◌, ◌≤◌, ℕ, false, List, FitsSigned, if◌then◌else◌, nat_lt, pos, slice_index_or, zero, suc}
+use Rattle.std.specs.Int.{w16}
 use Rattle.ladder_vars.specs.declared.kind.BlockKind.TheVariants.{Ton}
 use Rattle.ladder_scan.specs.declared.block.Stored.{Stored}
+use Rattle.ladder_scan.specs.declared.block.Stored.TheVariants.{Timer, Counter, Bistable}
 use Rattle.ladder_scan.specs.Blocks.{new_block}
 use Rattle.ladder_scan.specs.Cells.{Diagram}
 use Rattle.ladder_scan.specs.Rung.{Held, evaluated}
 use Rattle.ladder_scan.specs.Scan.{next_rung}
-use Rattle.ladder_scan.specs.Standing.{IsPossible}
 
 pub record Scanned : Type 0 where
   pub held : Held
@@ -20,6 +20,18 @@ unfoldable pub scanned : Diagram → ℕ → Held → ℕ → Scanned
 scanned d now h zero = record { held = h; resume = 0 }
 scanned d now h (suc j) = scanned_more d now j (scanned d now h j)
 
+-- What is stored with all that steps change at its beginning.
+abbrev pub shape : Stored → Stored
+shape (Timer last running start q) = Timer false false 0 false
+shape (Counter last cv q) = Counter false (pos 0) false
+shape (Bistable q) = Bistable false
+
+-- What can be stored at a moment, by an instance of some kind.
+abbrev pub IsPossible : ℕ → Stored → Type 0
+IsPossible moment (Timer last running start q) = (start ≤ moment) × (running ≡ false → start ≡ 0)
+IsPossible moment (Counter last cv q) = FitsSigned w16 cv
+IsPossible moment (Bistable q) = Unit {0}
+
 -- Each instance stores what can be stored at the moment.
 abbrev pub ArePossible : ℕ → List Stored → Type 0
-ArePossible moment blocks = (i : ℕ) → IsPossible moment (get_or blocks i (new_block Ton))
+ArePossible moment blocks = (i : ℕ) → IsPossible moment (slice_index_or blocks i (new_block Ton))

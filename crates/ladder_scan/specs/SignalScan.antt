@@ -1,7 +1,6 @@
 -- The scan over any signal. A jump may be taken at one place of a signal and not at another, so every rung is evaluated, each under a
 -- guard: where the guard allows ON, the rung may be evaluated, and where it allows OFF, passed over.
-use Rattle.std.specs.Prelude.{ℕ, Bool, true, false, if◌then◌else◌, List, [], ◌∷◌, ◌++◌, map, nat_lt, Option, Some, None}
-use Rattle.std.proofs.Common.{get_or, zero, suc}
+use Rattle.std.specs.Prelude.{ℕ, Bool, true, false, if◌then◌else◌, List, [], ◌∷◌, ◌++◌, map, nat_lt, Option, Some, None, slice_index_or, zero, suc}
 use Rattle.ladder_scan.specs.Algebra.{Algebra}
 use Rattle.ladder_scan.specs.Blocks.{q_of}
 use Rattle.ladder_scan.specs.Cells.{Diagram, Frame, Kept}
@@ -25,25 +24,21 @@ passes_over (Some (place, target)) j = nat_lt j target
 
 -- The guard of rung j: the AND, over the earlier rungs with a jump that passes over j, of NOT that this jump is taken.
 abbrev pub guard_of : {S : Type 0} → Algebra S → Diagram → List S → ℕ → S
-guard_of o d taken j = meet_where o (λ i. passes_over (d.jump i) j) (λ i. o.inverse (get_or taken i (o.known false))) j
+guard_of o d taken j = meet_where o (λ i. passes_over (d.jump i) j) (λ i. o.inverse (slice_index_or taken i (o.known false))) j
 
 -- A jump is taken where its rung is evaluated and its left link is ON.
 abbrev pub taken_by : {S : Type 0} → Algebra S → Option (ℕ × ℕ) → S → (ℕ → S) → S
 taken_by o None guard links = o.known false
 taken_by o (Some (place, target)) guard links = o.meet guard (links place)
 
-abbrev pub taken_at : {S : Type 0} → Algebra S → Diagram → Kept → ℕ → S → ℕ → Frame S → S
-taken_at o d k now guard j f = taken_by o (d.jump j) guard (link o d k now j f)
-
-abbrev pub looked_more : {S : Type 0} → Algebra S → Diagram → Kept → ℕ → ℕ → Looked S → Looked S
-looked_more o d k now j s =
-    let guard = guard_of o d s.taken j in
-    record { frame = after_rung o d k now j guard s.frame; taken = s.taken ++ (taken_at o d k now guard j s.frame ∷ []) }
-
 -- After the first n rungs.
 unfoldable pub looked : {S : Type 0} → Algebra S → Diagram → Kept → ℕ → Frame S → ℕ → Looked S
 looked o d k now f zero = record { frame = f; taken = [] }
-looked o d k now f (suc j) = looked_more o d k now j (looked o d k now f j)
+looked o d k now f (suc j) =
+    let s = looked o d k now f j in
+    let guard = guard_of o d s.taken j in
+    let taken = taken_by o (d.jump j) guard (link o d k now j s.frame) in
+    record { frame = after_rung o d k now j guard s.frame; taken = s.taken ++ (taken ∷ []) }
 
 -- What the rungs begin with: the given inputs, and all that is stored, which is known.
 abbrev pub look_frame : {S : Type 0} → Algebra S → Diagram → List S → Held → Frame S

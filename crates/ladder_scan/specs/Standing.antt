@@ -1,9 +1,7 @@
 -- The state that is kept from scan to scan.
-use Rattle.std.specs.Prelude.{◌≡◌, ℕ, ◌<◌, ◌≤◌, ◌^◌, Bool, false, List, length, map, replicate, FitsSigned, pos}
+use Rattle.std.specs.Prelude.{◌≡◌, ℕ, ◌<◌, ◌≤◌, ◌^◌, Bool, false, List, length, map, replicate, FitsSigned, pos, Some, slice_get}
 use Rattle.std.specs.Int.{w16}
-use Rattle.std.proofs.Common.{get_or}
 use Rattle.ladder_vars.specs.declared.kind.BlockKind.{BlockKind}
-use Rattle.ladder_vars.specs.declared.kind.BlockKind.TheVariants.{Ton}
 use Rattle.ladder_grid.specs.Program.{Drawing, memories_of}
 use Rattle.ladder_scan.specs.declared.block.Stored.{Stored}
 use Rattle.ladder_scan.specs.declared.block.Stored.TheVariants.{Timer, Counter, Bistable}
@@ -30,28 +28,17 @@ pub record Fits (p : Drawing) (s : Standing) : Type 0 where
   pub memories : length s.held.kept.memories ≡ memories_of p
   pub kinds : s.kinds ≡ map (λ i. i.kind) p.decls.instances
 
--- What is stored with all that steps change at its beginning. What belongs to a kind of instance has the shape of a new block of the kind.
-abbrev pub shape : Stored → Stored
-shape (Timer last running start q) = Timer false false 0 false
-shape (Counter last cv q) = Counter false (pos 0) false
-shape (Bistable q) = Bistable false
+-- What an instance of a kind can store at a moment. It is in the form of a new block of the kind; a timer that runs did not begin to after
+-- the moment, and one that does not run has start 0; CV is a whole number of 16 bits.
+abbrev pub CanStore : BlockKind → ℕ → Stored → Type 0
+CanStore kind moment (Timer last running start q) = (new_block kind ≡ Timer false false 0 false) × (start ≤ moment) × (running ≡ false → start ≡ 0)
+CanStore kind moment (Counter last cv q) = (new_block kind ≡ Counter false (pos 0) false) × FitsSigned w16 cv
+CanStore kind moment (Bistable q) = new_block kind ≡ Bistable false
 
--- What can be stored at a moment: a timer that runs did not begin to after the moment, and one that does not has start 0;
--- CV is a whole number of 16 bits.
-abbrev pub IsPossible : ℕ → Stored → Type 0
-IsPossible moment (Timer last running start q) = (start ≤ moment) × (running ≡ false → start ≡ 0)
-IsPossible moment (Counter last cv q) = FitsSigned w16 cv
-IsPossible moment (Bistable q) = Unit {0}
-
--- What an instance of this kind can store at this moment.
-pub record CanStore (kind : BlockKind) (moment : ℕ) (s : Stored) : Type 0 where
-  pub shape : shape s ≡ new_block kind
-  pub possible : IsPossible moment s
-
--- Each instance stores what belongs to its kind, and what can be stored at the moment.
+-- There are as many stored blocks as instances, and each instance stores what it can at the moment.
 pub record AreSound (kinds : List BlockKind) (blocks : List Stored) (moment : ℕ) : Type 0 where
-  pub shapes : map shape blocks ≡ map new_block kinds
-  pub possible : (i : ℕ) → IsPossible moment (get_or blocks i (new_block Ton))
+  pub as_many : length blocks ≡ length kinds
+  pub each : (i : ℕ) (kind : BlockKind) (s : Stored) → slice_get kinds i ≡ Some kind → slice_get blocks i ≡ Some s → CanStore kind moment s
 
 -- What holds of every state.
 pub record IsStanding (s : Standing) : Type 0 where

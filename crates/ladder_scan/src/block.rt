@@ -1,6 +1,6 @@
 //! The steps of the standard function blocks.
 
-ghost use Rattle.std.specs.Prelude.{◌≡◌, ◌≤◌, ℕ, Bool, is_some};
+ghost use Rattle.std.specs.Prelude.{◌≡◌, ◌≤◌, ℕ, Bool, true, is_some};
 ghost use Rattle.ladder_vars.specs.declared.kind.BlockKind.TheVariants as kind;
 ghost use Rattle.ladder_vars.specs.Kind.{largest_preset, traits_of};
 ghost use Rattle.ladder_vars.specs.declared.limits.TheConstants.{LARGEST_COUNT};
@@ -109,20 +109,30 @@ fn tp(preset: u32, last: bool, running: bool, start: u64, on: bool, now: u64) ->
     ensures { (q second : Bool) → result ≡ step kind.Tp preset (Timer last running start q) on second now }
 {
     let stays = running & (now.saturating_sub(start) < u64::from(preset));
-    let begins = !stays & on & !last & (0 < preset);
-    let start = if stays {
-        start
+    let begins = on & !last & (0 < preset);
+    if stays {
+        pulse(on, start)
     } else if begins {
-        now
+        pulse(on, now)
     } else {
-        0
-    };
-    let runs = stays | begins;
+        Stored::Timer {
+            last: on,
+            running: false,
+            start: 0,
+            q: false,
+        }
+    }
+}
+
+/// A TP that runs.
+fn pulse(on: bool, start: u64) -> Stored
+    ensures { result ≡ Timer on true start true }
+{
     Stored::Timer {
         last: on,
-        running: runs,
+        running: true,
         start,
-        q: runs,
+        q: true,
     }
 }
 

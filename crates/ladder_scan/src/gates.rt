@@ -87,6 +87,8 @@ pub(crate) fn q_from<S: Signal>(
             S::choose(second, S::known(other), S::known(off)),
         )
     } else {
+        // whatever the second signal is, the Q is the same
+        let _is_value = second.is_value();
         S::choose(first, S::known(on), S::known(off))
     }
 }

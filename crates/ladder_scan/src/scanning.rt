@@ -7,9 +7,8 @@ ghost use Rattle.ladder_grid.specs.Gates.{left_of};
 ghost use Rattle.ladder_scan.specs.Rung.{evaluated, SameSizes, SameLengths};
 ghost use Rattle.ladder_scan.specs.Scan.{rung_after, next_rung, after_scan};
 ghost use Rattle.ladder_scan.specs.Programs.{diagram_of, IsSound};
-ghost use Rattle.ladder_scan.specs.Standing.{Fits, shape};
-ghost use Rattle.ladder_scan.specs.RungByRung.{ArePossible};
-ghost use Rattle.ladder_scan.specs.RungByRung.{scanned};
+ghost use Rattle.ladder_scan.specs.Standing.{Fits};
+ghost use Rattle.ladder_scan.specs.RungByRung.{ArePossible, scanned, shape};
 ghost use Rattle.ladder_scan.specs.Gating.{among};
 ghost use Rattle.ladder_scan.specs.Truth.{plain};
 
@@ -111,7 +110,6 @@ fn scan_storage(
 /// # Errors
 ///
 /// `MomentBack` where `now` is before the moment of the state, which is then unchanged.
-#[tactic(auto, using(crate::proofs::Possible::after_sound))]
 pub fn scan(
     program: &Program,
     state: &mut State,

@@ -2,7 +2,8 @@
 
 ghost use Rattle.std.specs.Prelude.{◌≡◌, ℕ, Bool, true};
 ghost use Rattle.ladder_scan.specs.Algebra.{Algebra, LatticeLaws, AllowsLaws};
-ghost use Rattle.ladder_scan.specs.Truth.{plain, AnyBool, OnePlace, plain_allows, plain_lattice, plain_allowed};
+ghost use Rattle.ladder_scan.specs.Truth.{plain, AnyBool, OnePlace, plain_allows};
+ghost use Rattle.ladder_scan.specs.TruthLaws.{plain_lattice, plain_allowed};
 
 /// What travels through a diagram in place of a truth value: at each of its places it allows OFF, ON or both.
 ///

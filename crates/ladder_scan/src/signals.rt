@@ -33,7 +33,7 @@ impl<S> Model for Signals<S> {
 }
 
 impl<S: Signal> Signals<S> {
-    /// Buffers for the signals of so many variables and instances.
+    /// Buffers for the signals of this many variables and instances.
     pub(crate) fn new(
         alloc: Global,
         variables: usize,

@@ -22,7 +22,7 @@ use ladder_grid::Program;
 use ladder_grid::gates::{Action, LINKS, Leap, OFF, OWN};
 use ladder_grid::steps::{Rare, Spot, Step};
 
-/// What a look goes by, and leaves as it is.
+/// What a look reads, and leaves as it is.
 #[derive(Clone, Copy)]
 pub(crate) struct Base<'a> {
     pub program: &'a Program,

@@ -2,7 +2,7 @@
 use Rattle.std.proofs.Common.{◌≡◌, ◌∙◌, ◌+◌, ◌≤◌, ℕ, zero, suc, List, [], ◌∷◌, ◌++◌, sym, refl, add-one, ap, arith, drop, length, take, Result, Ok, Err}
 use Rattle.std.specs.Prelude.{IsErr, MatchResult}
 use Rattle.ladder_search.specs.Looks.{Search, looks_until}
-use Rattle.ladder_causes.specs.Cursor.{Cursor, Takes, looks_of, looks_through, searched}
+use Rattle.ladder_causes.specs.Cursor.{Cursor, KeepsQuestion, Takes, looks_of, looks_through, searched}
 use Rattle.ladder_sim.specs.CauseText.{TakesAtMost}
 
 -- So many causes were given, and so many looks were made for them.
@@ -13,7 +13,7 @@ pub record Going (old new : Cursor) (count : ℕ) : Type 0 where
 
 pub going_none : (c : Cursor) → Going c c 0
 going_none c = record {
-  takes = record { program = refl; listed = refl; search = refl; rest = refl };
+  takes = record { question = refl; rest = refl };
   looks = refl;
   within = omega arith;
 }
@@ -42,18 +42,16 @@ until_last : (s : Search) (before : ℕ) (xs : List ℕ) (n : ℕ) → looks_thr
 until_last s before [] n = refl
 until_last s before (x ∷ xs) n = until_last s (looks_until s x) xs n
 
-pub going_on : (old a b : Cursor) (count n : ℕ) → Going old a count → a.rest ≡ n ∷ b.rest → b.program ≡ a.program → b.listed ≡ a.listed
-    → searched b ≡ searched a → looks_of b ≡ looks_until (searched a) n → Going old b (count + 1)
-going_on old a b count n g first program listed search looks =
+pub going_on : (old a b : Cursor) (count n : ℕ) → Going old a count → a.rest ≡ n ∷ b.rest → KeepsQuestion a b
+    → looks_of b ≡ looks_until (searched a) n → Going old b (count + 1)
+going_on old a b count n g first same looks =
     let left : drop count old.rest ≡ n ∷ b.rest = sym g.takes.rest ∙ first in
     record {
       takes = record {
-        program = program ∙ g.takes.program;
-        listed = listed ∙ g.takes.listed;
-        search = search ∙ g.takes.search;
+        question = same ∙ ap (λ (c : Cursor). record c { rest = b.rest; tri = b.tri; words = b.words }) g.takes.question;
         rest = dropped_one old.rest b.rest n count left ∙ ap (λ m. drop m old.rest) (sym (add-one count));
       };
-      looks = looks ∙ ap (λ (s : Search). looks_until s n) g.takes.search
+      looks = looks ∙ ap (λ (c : Cursor). looks_until (searched c) n) g.takes.question
           ∙ sym (ap (looks_through (searched old) (looks_of old)) (ap (λ m. take m old.rest) (add-one count) ∙ taken_one old.rest b.rest n count left)
           ∙ until_last (searched old) (looks_of old) (take count old.rest) n);
       within = room_for_one old.rest b.rest n count left;

@@ -1,11 +1,14 @@
 -- What the fields of a block's record say.
-use Rattle.std.proofs.Common.{◌≡◌, ◌≤◌, ℕ, List, [], ◌∷◌, Option, Some, Bool, true, false, ℤ, refl, codes, decimal}
+use Rattle.std.proofs.Common.{◌≡◌, ◌∙◌, sym, ◌≤◌, ℕ, List, [], ◌∷◌, Option, Some, Bool, true, false, ℤ, refl, codes, decimal}
 use Rattle.std.specs.Fmt.{signed_decimal}
 use Rattle.std.specs.Int.{w16}
 use Rattle.std.specs.Prelude.{FitsSigned, IfSome, None}
 use Rattle.csv.specs.Records.{field_at}
 use Rattle.ladder_records.specs.Left.{Fields}
+use Rattle.ladder_vars.specs.declared.kind.BlockKind.{BlockKind}
 use Rattle.ladder_vars.specs.declared.kind.BlockKind.TheVariants.{Ton, Ctu, Sr}
+use Rattle.ladder_scan.specs.Standing.{CanStore}
+use Rattle.ladder_scan.proofs.Possible.{can_possible, can_shape, can_store}
 use Rattle.ladder_scan.specs.Blocks.{new_block}
 use Rattle.ladder_scan.specs.declared.block.Stored.{Stored}
 use Rattle.ladder_scan.specs.declared.block.Stored.TheVariants.{Timer, Counter, Bistable}
@@ -114,3 +117,13 @@ same_bistable name q q2 qt a b = rw (a, b) refl
 pub record_of : (o : Option Stored) (name : List ℕ) (wanted : Stored) (fs : Fields) → IfSome o (λ s. (moment : ℕ) → IsBlockRecord name wanted moment fs s) → IfSome o (λ s. fs ≡ block_record name s)
 record_of None name wanted fs h = tt
 record_of (Some s) name wanted fs h = (h 0).same
+
+-- what a record says, as what the instance can store
+pub can_of : (o : Option Stored) (kind : BlockKind) (name : List ℕ) (wanted : Stored) (moment : ℕ) (fs : Fields) → new_block kind ≡ wanted
+    → IfSome o (λ s. (moment : ℕ) → IsBlockRecord name wanted moment fs s) → IfSome o (λ s. CanStore kind moment s)
+can_of None kind name wanted moment fs e h = tt
+can_of (Some s) kind name wanted moment fs e h = let r = h moment in can_store kind moment s (r.shape ∙ sym e) r.possible
+
+pub record_with : (kind : BlockKind) (name : List ℕ) (wanted : Stored) (moment : ℕ) (fs : Fields) (s : Stored) → new_block kind ≡ wanted
+    → CanStore kind moment s → fs ≡ block_record name s → IsBlockRecord name wanted moment fs s
+record_with kind name wanted moment fs s e can same = record { same = same; shape = can_shape kind moment s can ∙ e; possible = can_possible kind moment s can }

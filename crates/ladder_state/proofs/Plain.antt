@@ -20,7 +20,9 @@ use Rattle.ladder_grid.specs.declared.geometry.TheConstants.{PLACES, RUNGS}
 use Rattle.ladder_grid.specs.Program.{Drawing, IsWhole}
 use Rattle.ladder_scan.specs.declared.block.Stored.{Stored}
 use Rattle.ladder_scan.specs.declared.block.Stored.TheVariants.{Timer, Counter, Bistable}
-use Rattle.ladder_scan.specs.Standing.{IsPossible, Standing}
+use Rattle.ladder_scan.specs.RungByRung.{IsPossible}
+use Rattle.ladder_scan.specs.Standing.{Standing}
+use Rattle.ladder_scan.proofs.Possible.{can_possible}
 use Rattle.ladder_state.specs.Named.{AreNamed}
 use Rattle.ladder_state.specs.Parts.{block_item, each, every, some, tells}
 use Rattle.ladder_state.specs.StateText.{IsStateOf, block_record, memory_places, memory_record, state_records, state_text, var_record}
@@ -117,7 +119,7 @@ state_plain p s whole vars instances ok =
     let memories = each_plain every memory_record (memory_places p) s.held.kept.memories
     (λ i place b e f. memory_plain place b (omega (arith, whole.few, whole.size, place_below p (length p.sites) i place e))) in
     let blocks = each_plain (tells Second) block_item p.decls.instances s.held.kept.blocks
-    (λ i x z e f. block_plain x.name s.moment z (instances i x e) ok.standing.small (can_hold p s s.moment ok refl i x z e f).possible) in (
+    (λ i x z e f. block_plain x.name s.moment z (instances i x e) ok.standing.small (can_possible x.kind s.moment z (can_hold p s s.moment ok refl i x z e f))) in (
       (omega arith, refl, (refl, tt)),
       (
         (omega arith, refl, (decimal_plain s.moment ok.standing.small, tt)),

@@ -9,7 +9,9 @@ use Rattle.ladder_vars.specs.declared.decls.Var.{Var}
 use Rattle.ladder_grid.specs.Program.{Drawing}
 use Rattle.ladder_scan.specs.declared.block.Stored.{Stored}
 use Rattle.ladder_scan.specs.declared.block.Stored.TheVariants.{Timer, Counter, Bistable}
-use Rattle.ladder_scan.specs.Standing.{IsPossible, Standing, shape}
+use Rattle.ladder_scan.specs.RungByRung.{IsPossible, shape}
+use Rattle.ladder_scan.specs.Standing.{Standing}
+use Rattle.ladder_scan.proofs.Possible.{can_possible, can_shape}
 use Rattle.ladder_state.specs.Laws.{ReadsBack, TellsOneState}
 use Rattle.ladder_state.specs.Parts.{block_item, each, every, some, tells}
 use Rattle.ladder_state.specs.StateText.{AreTold, IsStateOf, block_record, memory_places, memory_record, state_records, state_text, var_record}
@@ -96,7 +98,7 @@ stored_same : (v : Version) (p : Drawing) (s t : Standing) (ok : IsStateOf p s) 
 stored_same v p s t ok fine m told known true i x y z has e f g same =
     let can = can_hold p s s.moment ok refl i x y e f in
     let may = can_hold p t s.moment fine m i x z e g in
-    block_same x.name s.moment y z ok.standing.small (can.shape ∙ sym may.shape) can.possible may.possible (same refl)
+    block_same x.name s.moment y z ok.standing.small (can_shape x.kind s.moment y can ∙ sym (can_shape x.kind s.moment z may)) (can_possible x.kind s.moment y can) (can_possible x.kind s.moment z may) (same refl)
 stored_same v p s t ok fine m told known false i x y z lacks e f g same =
     some_same (sym f ∙ told i x e lacks ∙ sym (known i x e lacks) ∙ g)
 

@@ -1,15 +1,13 @@
 -- The records of a state, part by part.
-use Rattle.std.proofs.Common.{◌≡◌, ◌≢◌, ◌+◌, ◌∙◌, ◌++◌, ◌∷◌, [], ℕ, suc, zero, Bool, true, false, if◌then◌else◌, List, Some, refl, sym, ap, ap₂, subst, arith, append_assoc, append-nil, length, length-append, get_or, map, take, slice_get, take_all, inl, inr}
+use Rattle.std.proofs.Common.{◌≡◌, ◌≢◌, ◌+◌, ◌∙◌, ◌++◌, ◌∷◌, [], ℕ, suc, zero, Bool, true, false, if◌then◌else◌, List, Some, refl, sym, ap, ap₂, subst, arith, append_assoc, append-nil, length, length-append, map, take, slice_get, take_all, inl, inr}
 use Rattle.std.specs.Prelude.{filter, zip, ⊤}
 use Rattle.std.proofs.lemmas.Bool.{cases_Bool}
 use Rattle.std.proofs.lemmas.List.{length-map, take_at}
 use Rattle.ladder_vars.specs.declared.decls.Instance.{Instance}
-use Rattle.ladder_vars.specs.declared.kind.BlockKind.TheVariants.{Ton}
 use Rattle.ladder_grid.specs.Program.{Drawing, memories_of}
 use Rattle.ladder_records.specs.Left.{Fields}
 use Rattle.ladder_scan.specs.declared.block.Stored.{Stored}
-use Rattle.ladder_scan.specs.Blocks.{new_block}
-use Rattle.ladder_scan.specs.Standing.{IsPossible, Standing, shape}
+use Rattle.ladder_scan.specs.Standing.{CanStore, Standing}
 use Rattle.ladder_state.specs.declared.version.Version.{Version}
 use Rattle.ladder_state.specs.Parts.{CanHold, IsItemsBad, IsStuck, block_item, block_records, each, every, memory_records, some, tells, var_records}
 use Rattle.ladder_state.specs.StateText.{IsStateOf, item_records, memory_places, memory_record, var_record}
@@ -169,31 +167,18 @@ memories_count p t ok = all_of memory_record (memory_places p) t.held.kept.memor
 
 pub block_count : (p : Drawing) (t : Standing) → IsStateOf p t → length t.held.kept.blocks ≡ length p.decls.instances
 block_count p t ok =
-    sym (length-map t.held.kept.blocks shape) ∙ ap length ok.standing.sound.shapes ∙ length-map t.kinds new_block ∙ ap length ok.fits.kinds
-    ∙ length-map p.decls.instances (λ i. i.kind)
+    ok.standing.sound.as_many ∙ ap length ok.fits.kinds ∙ length-map p.decls.instances (λ i. i.kind)
 
 -- each instance of a state stores what it can
-shape_at : (instances : List Instance) (blocks : List Stored) (i : ℕ) (x : Instance) (z : Stored) → map shape blocks ≡ map new_block (map (λ (j : Instance). j.kind) instances)
-    → slice_get instances i ≡ Some x → slice_get blocks i ≡ Some z → shape z ≡ new_block x.kind
-shape_at [] blocks i x z e a b = cc
-shape_at (j ∷ js) [] i x z e a b = cc
-shape_at (j ∷ js) (s ∷ ss) zero x z e a b =
-    let h : shape s ≡ new_block j.kind = cc in
-    ap shape (sym (some_same b)) ∙ h ∙ ap (λ (k : Instance). new_block k.kind) (some_same a)
-shape_at (j ∷ js) (s ∷ ss) (suc i) x z e a b =
-    let t : map shape ss ≡ map new_block (map (λ (k : Instance). k.kind) js) = cc in shape_at js ss i x z t a b
-
-stored_at : (blocks : List Stored) (i : ℕ) (z : Stored) → slice_get blocks i ≡ Some z → get_or blocks i (new_block Ton) ≡ z
-stored_at [] i z e = cc
-stored_at (s ∷ ss) zero z e = some_same e
-stored_at (s ∷ ss) (suc i) z e = stored_at ss i z e
+kind_at : (instances : List Instance) (i : ℕ) (x : Instance) → slice_get instances i ≡ Some x → slice_get (map (λ (j : Instance). j.kind) instances) i ≡ Some x.kind
+kind_at [] i x e = cc
+kind_at (j ∷ js) zero x e = ap (λ (k : Instance). Some k.kind) (some_same e)
+kind_at (j ∷ js) (suc i) x e = kind_at js i x e
 
 pub can_hold : (p : Drawing) (t : Standing) (m : ℕ) → IsStateOf p t → t.moment ≡ m → (i : ℕ) (x : Instance) (z : Stored)
     → slice_get p.decls.instances i ≡ Some x → slice_get t.held.kept.blocks i ≡ Some z → CanHold m x z
-can_hold p t m ok e i x z a b = record {
-  shape = shape_at p.decls.instances t.held.kept.blocks i x z (ok.standing.sound.shapes ∙ ap (map new_block) ok.fits.kinds) a b;
-  possible = subst (λ k. IsPossible k z) e (subst (IsPossible t.moment) (stored_at t.held.kept.blocks i z b) (ok.standing.sound.possible i));
-}
+can_hold p t m ok e i x z a b =
+    subst (λ k. CanStore x.kind k z) e (ok.standing.sound.each i x.kind z (ap (λ l. slice_get l i) ok.fits.kinds ∙ kind_at p.decls.instances i x a) b)
 
 pub values_bad : (v : Version) (p : Drawing) (s : Standing) (rows : List Fields) (n : ℕ) → IsStateOf p s → IsStuck every var_record (λ _ _. ⊤) p.decls.vars s.held.values rows 2 n
     → IsItemsBad v p s rows n

@@ -2,7 +2,7 @@
 use Rattle.std.specs.Prelude.{◌≡◌, ℕ, List, Option, Some, None, Bool, false, codes, bytes_eq}
 use Rattle.ladder_records.specs.Left.{Fields}
 use Rattle.ladder_scan.specs.declared.block.Stored.{Stored}
-use Rattle.ladder_scan.specs.Standing.{IsPossible, shape}
+use Rattle.ladder_scan.specs.RungByRung.{IsPossible, shape}
 use Rattle.ladder_state.specs.StateText.{block_record}
 
 abbrev pub is_on : Option (List ℕ) → Bool

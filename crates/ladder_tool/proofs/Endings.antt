@@ -10,11 +10,11 @@ use Rattle.ladder_causes.specs.declared.fault.CauseFault.TheVariants as cause
 use Rattle.ladder_causes.specs.Causes.{Question, causes_after, question}
 use Rattle.ladder_causes.specs.Cursor.{Cursor, first_number, looks_given, looks_of, searched}
 use Rattle.ladder_causes.specs.Prefixes.{search_of}
-use Rattle.ladder_causes.specs.Refusal.{reason}
+use Rattle.ladder_causes.specs.Refusal.{reason, refusal}
 use Rattle.ladder_sim.specs.CauseText.{cause_text, limited}
 use Rattle.ladder_text.specs.Log.{PutsAll, PutsPrefix, WriteLog}
 use Rattle.ladder_tool.specs.declared.fault.ToolFault.TheVariants as fault
-use Rattle.ladder_tool.specs.Performs.{Asking, HasCauseFault, IsAsked, causes_for, looks_for, refusal_of, rows_line, rows_text}
+use Rattle.ladder_tool.specs.Performs.{Asking, HasCauseFault, IsAsked, causes_for, looks_for, rows_line, rows_text}
 use Rattle.ladder_tool.specs.Setting.{Given, IsSet}
 use Rattle.ladder_tool.specs.Variables.{AreVariables, variable_of}
 
@@ -24,7 +24,7 @@ pub asked_by : (g : Given) (a : Asking) (p : Drawing) (s : Standing) (decls : De
 asked_by g a p s decls now var listed given set same as_given at on among =
     record { set = set; at = at; on = rw same at on; among = rw as_given (rw same at among) }
 
-pub cause_fault : (a : Asking) (q : Question) (f : CauseFault) → refusal_of a q ≡ reason f → HasCauseFault a q (fault.Cause f)
+pub cause_fault : (a : Asking) (q : Question) (f : CauseFault) → refusal q a.after ≡ reason f → HasCauseFault a q (fault.Cause f)
 cause_fault a q cause.MomentBack h = inr h
 cause_fault a q cause.NotACoil h = inr h
 cause_fault a q cause.TooManyFree h = inr h

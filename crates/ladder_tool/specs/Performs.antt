@@ -77,10 +77,6 @@ pub record IsAsked (g : Given) (a : Asking) (q : Question) : Type 0 where
   pub on : variable_of q.program.decls a.coil ≡ Some q.coil
   pub among : AreVariables q.program.decls a.inputs q.listed
 
--- the first rule that the question breaks
-abbrev pub refusal_of : Asking → Question → Option CauseFault
-refusal_of a q = refusal q.program q.state.moment q.now q.coil q.listed a.after
-
 -- the causes that are listed
 abbrev pub causes_for : Asking → Question → List ℕ
 causes_for a q = limited a.limit (causes_after a.after q)
@@ -89,7 +85,7 @@ causes_for a q = limited a.limit (causes_after a.after q)
 pub record Lists (g : Given) (a : Asking) (Written : List ℕ → Type 0) : Type 0 where
   pub question : Question
   pub asked : IsAsked g a question
-  pub accepted : refusal_of a question ≡ None
+  pub accepted : refusal question a.after ≡ None
   pub rows : Written (cause_text question.program question.listed (causes_for a question))
 
 abbrev pub ListsCauses : Given → Asking → WriteLog → WriteLog → Type 0
@@ -103,7 +99,7 @@ HasWordFault decls words other = ⊥
 
 -- The question breaks this rule first; being out of memory has no reason in it.
 abbrev pub HasCauseFault : Asking → Question → ToolFault → Type 0
-HasCauseFault a q (fault.Cause f) = (f ≡ cause.Memory) ⊎ (refusal_of a q ≡ Some f)
+HasCauseFault a q (fault.Cause f) = (f ≡ cause.Memory) ⊎ (refusal q a.after ≡ Some f)
 HasCauseFault a q other = ⊥
 
 -- Faults are looked for in this order: in the program text, in the state text, in the names, in what is asked.

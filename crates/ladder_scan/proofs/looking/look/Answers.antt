@@ -3,7 +3,6 @@ use Rattle.std.proofs.lemmas.List.{length-map, with_items_is}
 use Rattle.ladder_scan.specs.Programs.{diagram_of}
 use Rattle.ladder_scan.specs.Standing.{Standing}
 use Rattle.ladder_scan.specs.SignalScan.{after_look}
-use Rattle.ladder_scan.proofs.Possible.{as_many}
 use Rattle.ladder_scan.proofs.Sizes.{begin_size, look_sizes}
 use Rattle.ladder_scan.proofs.Starts.{begin_values, by_looks}
 use Rattle.ladder_scan.proofs.looking.look.Goals as goal
@@ -33,7 +32,7 @@ returns-clause-fits g c =
       values = sizes.values ∙ ap (λ (s : Standing). length s.held.values) c.state.view_is ∙ c.requires.state.values;
       instances =
           sizes.ends
-          ∙ as_many _ _ _ c.state.invariant.1
+          ∙ c.state.invariant.1.as_many
           ∙ ap (λ (s : Standing). length s.kinds) c.state.view_is
           ∙ ap length c.requires.state.kinds
           ∙ length-map c.args.program.now.decls.instances (λ i. i.kind);

@@ -1,5 +1,6 @@
-use Rattle.std.proofs.Common.{◌∙◌, ap, length}
+use Rattle.std.proofs.Common.{◌∙◌, ap, arith, length}
 use Rattle.ladder_scan.specs.Standing.{Standing}
+use Rattle.ladder_scan.proofs.Possible.{after_sound}
 use Rattle.ladder_scan.proofs.scanning.scan.Goals as goal
 
 pub returns-clause-fits : goal.returns-clause-fits
@@ -8,3 +9,9 @@ returns-clause-fits c = λ fits. record {
   memories = c.scan_storage.ensures.lengths.memories ∙ ap (λ (s : Standing). length s.held.kept.memories) c.state.view_is ∙ fits.memories;
   kinds = ap (λ (s : Standing). s.kinds) c.state.view_is ∙ fits.kinds;
 }
+
+pub invariant_of-state : goal.invariant_of-state
+invariant_of-state c = (
+  c.scan_storage.ensures.sizes,
+  after_sound c.state.inside.moment c.args.now _ _ _ c.state.invariant.1 (omega (arith, c.if-now-state.false)) c.scan_storage.ensures.shapes c.scan_storage.ensures.possible,
+)

@@ -2,8 +2,7 @@ use Rattle.std.proofs.Common.{◌∙◌, ap, sym, subst, map, length}
 use Rattle.ladder_vars.specs.Decls.{Declared, is_input}
 use Rattle.ladder_scan.specs.Scan.{given}
 use Rattle.ladder_scan.specs.Rung.{Held}
-use Rattle.ladder_scan.specs.Standing.{shape}
-use Rattle.ladder_scan.specs.RungByRung.{ArePossible}
+use Rattle.ladder_scan.specs.RungByRung.{ArePossible, shape}
 use Rattle.ladder_scan.specs.Programs.{diagram_of}
 use Rattle.ladder_scan.proofs.Possible.{scanned_possible, scanned_shapes}
 use Rattle.ladder_scan.proofs.Scanned.{by_rungs}

@@ -17,7 +17,7 @@ loop-limit-preserved g c =
     record {
       added = added_more _ _ _ _ _ _ _ _ _ _ c.loop-limit.causes.rest c.in-Some.number _ c.loop-limit.invariant.added steps.0
           (c.if-is_reached.ensures.no refl) c.in_ok-add_row.ensures.sends;
-      going = going_on c.args.causes.now c.loop-limit.causes _ c.loop-limit.count c.in-Some.number c.loop-limit.invariant.going steps.0 steps.1 steps.2 steps.3 steps.4;
+      going = going_on c.args.causes.now c.loop-limit.causes _ c.loop-limit.count c.in-Some.number c.loop-limit.invariant.going steps.0 steps.1 steps.2;
       kept = c.in_ok-add_row.ensures.kept;
     }
 
@@ -31,4 +31,4 @@ returns-in_err-add_row-clause-taken g c =
     let steps = c.in-Some.ensures.steps in
     takes_err _ _ _ (c.loop-limit.count + 1) _ c.from_residual.ensures.0
     (added_within _ _ _ _ _ _ _ _ c.loop-limit.causes.rest c.in-Some.number _ c.loop-limit.invariant.added steps.0 (c.if-is_reached.ensures.no refl))
-    (going_on c.args.causes.now c.loop-limit.causes _ c.loop-limit.count c.in-Some.number c.loop-limit.invariant.going steps.0 steps.1 steps.2 steps.3 steps.4).takes
+    (going_on c.args.causes.now c.loop-limit.causes _ c.loop-limit.count c.in-Some.number c.loop-limit.invariant.going steps.0 steps.1 steps.2).takes

@@ -2,9 +2,9 @@ use Rattle.std.proofs.Common.{ap, length, map, sym, subst, get_or, ◌∙◌}
 use Rattle.std.proofs.lemmas.List.{length-set}
 use Rattle.ladder_vars.specs.declared.kind.BlockKind.TheVariants.{Ton}
 use Rattle.ladder_scan.specs.Rung.{Held}
-use Rattle.ladder_scan.specs.Standing.{CanStore, Standing, shape}
-use Rattle.ladder_scan.specs.RungByRung.{ArePossible}
-use Rattle.ladder_scan.proofs.Possible.{set_possible, set_shapes}
+use Rattle.ladder_scan.specs.Standing.{CanStore, Standing}
+use Rattle.ladder_scan.specs.RungByRung.{ArePossible, shape}
+use Rattle.ladder_scan.proofs.Possible.{are_sound, can_possible, can_shape, set_possible, set_shapes, sound_possible, sound_shapes}
 use Rattle.ladder_scan.proofs.state.State.set_block.Goals as goal
 
 pub invariant_of-self : goal.invariant_of-self
@@ -15,8 +15,8 @@ invariant_of-self c =
         values = inv.0.values ∙ sym (ap (λ (h : Held). length h.values) c.put_block.ensures);
         ends = inv.0.ends ∙ sym (ap (λ (h : Held). length h.kept.blocks) c.put_block.ensures ∙ length-set c.self.inside.storage.kept.blocks c.args.inst c.args.stored);
       },
-      record {
-        shapes = ap (λ (h : Held). map shape h.kept.blocks) c.put_block.ensures ∙ set_shapes _ _ c.args.inst _ inv.1.shapes can.shape;
-        possible = subst (λ (h : Held). ArePossible c.self.inside.moment h.kept.blocks) (sym c.put_block.ensures) (set_possible _ _ c.args.inst _ inv.1.possible can.possible);
-      },
+      are_sound _ _ c.self.inside.moment
+          (ap (λ (h : Held). map shape h.kept.blocks) c.put_block.ensures ∙ set_shapes _ _ c.args.inst _ (sound_shapes _ _ _ inv.1) (can_shape _ _ _ can))
+          (subst (λ (h : Held). ArePossible c.self.inside.moment h.kept.blocks) (sym c.put_block.ensures)
+          (set_possible _ _ c.args.inst _ (sound_possible _ _ _ inv.1) (can_possible _ _ _ can))),
     )

@@ -1,0 +1,44 @@
+use Rattle.std.proofs.Common.{◌≡◌, ◌∙◌, ℕ, Bool, true, false, refl, sym, ap, ap₂, is_some}
+use Rattle.ladder_vars.specs.declared.kind.BlockKind.{BlockKind}
+use Rattle.ladder_vars.specs.declared.kind.BlockKind.TheVariants.{Ton, Tof, Tp, Ctu, Ctd, Sr, Rs}
+use Rattle.ladder_vars.specs.Kind.{traits_of}
+use Rattle.ladder_scan.specs.declared.block.Stored.{Stored}
+use Rattle.ladder_scan.specs.declared.block.Stored.TheVariants.{Timer, Counter, Bistable}
+use Rattle.ladder_scan.specs.Algebra.{Algebra, LatticeLaws}
+use Rattle.ladder_scan.specs.Blocks.{step, q_of}
+use Rattle.ladder_scan.proofs.gates.q_from.Goals as goal
+
+-- a block without a second input
+one_input : (kind : BlockKind) → is_some (traits_of kind).second_input ≡ false → (preset : ℕ) (s : Stored) (first a b : Bool) (now : ℕ)
+    → step kind preset s first a now ≡ step kind preset s first b now
+unfolding step
+one_input Ton h preset (Timer last running start q) first a b now = refl
+one_input Ton h preset (Counter last cv q) first a b now = refl
+one_input Ton h preset (Bistable q) first a b now = refl
+one_input Tof h preset (Timer last running start q) first a b now = refl
+one_input Tof h preset (Counter last cv q) first a b now = refl
+one_input Tof h preset (Bistable q) first a b now = refl
+one_input Tp h preset (Timer last running start q) first a b now = refl
+one_input Tp h preset (Counter last cv q) first a b now = refl
+one_input Tp h preset (Bistable q) first a b now = refl
+one_input Ctu h preset s first a b now = cc
+one_input Ctd h preset s first a b now = cc
+one_input Sr h preset s first a b now = cc
+one_input Rs h preset s first a b now = cc
+
+module _ {S : Type 0} (o : Algebra S) (V : S → Type 0) (l : LatticeLaws S V o) where
+  same_side : (y : S) (a b : Bool) → V y → a ≡ b → o.known b ≡ o.choice y (o.known a) (o.known b)
+  same_side y a b v e = sym (ap (λ z. o.choice y (o.known z) (o.known b)) e ∙ l.choice_equal y (o.known b) v (l.known_value b))
+
+pub returns-else-has_second : goal.returns-else-has_second
+returns-else-has_second g c =
+    let a = c.args in
+    let s = g.S.Signal in
+    let o = s.algebra in
+    let none : is_some (traits_of a.kind).second_input ≡ false = sym c.has_second.ensures ∙ c.if-has_second.false in
+    let side = same_side o s.value g.met.S.Signal.lattice a.second in
+    let on = c.known-else-has_second.ensures ∙ ap o.known c.q_after-on.ensures
+    ∙ side (q_of (step a.kind a.preset a.stored true true a.now)) _ c.is_value-is_value.ensures.is (ap q_of (one_input a.kind none a.preset a.stored true true false a.now)) in
+    let off = c.known-else-has_second-2.ensures ∙ ap o.known c.q_after-off.ensures
+    ∙ side (q_of (step a.kind a.preset a.stored false true a.now)) _ c.is_value-is_value.ensures.is (ap q_of (one_input a.kind none a.preset a.stored false true false a.now)) in
+    c.choose-else-has_second.ensures ∙ ap₂ (o.choice a.first) on off
