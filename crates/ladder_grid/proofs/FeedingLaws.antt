@@ -175,7 +175,7 @@ module _ (page : Page) (d : Drawing) (drawn : IsDrawn page d) where
           judged,
           2 * r + 1,
           refl,
-          (r, half.Wire, rows, refl, (c, high, (refl, columns, (some, dashed, unfed)))),
+          (r, half.Wire, rows, refl, (c, high, (columns, (some, dashed, unfed)))),
         )),
       ))
 
