@@ -35,7 +35,8 @@ use Rattle.ladder_grid.proofs.ShapeLaws.{torn}
 use Rattle.ladder_grid.specs.PageRules.{PartBreaks, target_of}
 use Rattle.ladder_grid.specs.Stops.{IsSoundPage}
 use Rattle.ladder_grid.proofs.TargetLaws.{target_is}
-use Rattle.ladder_grid.specs.Program.{drawing, blank_site, memory_in, block_in, goes_to, has_memory, Fits, has_second, IsWellFormed}
+use Rattle.ladder_grid.specs.Sheet.{blank_site}
+use Rattle.ladder_grid.specs.Program.{drawing, memory_in, block_in, goes_to, has_memory, Fits, has_second, IsWellFormed}
 use Rattle.ladder_grid.specs.Geometry.{place}
 use Rattle.ladder_grid.specs.Reading.{cell_with, cell_drawn, site_drawn, memories_before}
 use Rattle.ladder_grid.specs.Geometry.{at_place}

@@ -27,12 +27,9 @@ pub record Drawing : Type 0 where
 abbrev pub drawing : Declared → ℕ → List Site → Drawing
 drawing decls rungs sites = record { decls = decls; rungs = rungs; sites = sites }
 
-abbrev pub blank_site : Site
-blank_site = record { cell = cell.Empty; right_link = false; joint = joint.Blank; vertical = false }
-
--- what is at a place
+-- what is at a place, nothing past the last
 abbrev pub site_in : Drawing → ℕ → Site
-site_in d i = slice_index_or d.sites i blank_site
+site_in d i = slice_index_or d.sites i (record { cell = cell.Empty; right_link = false; joint = joint.Blank; vertical = false })
 
 abbrev pub site_at : Drawing → ℕ → ℕ → ℕ → Site
 site_at d rung row column = site_in d (place rung row column)
