@@ -71,8 +71,7 @@ goes_to rungs other = None
 -- the last of the first places of a rung whose cell leads out of it: its row and column, and where to
 unfoldable pub jump_before : Drawing → ℕ → ℕ → Option (ℕ × ℕ × ℕ)
 jump_before d rung zero = None
-jump_before d rung (suc at) =
-    option_or (option_map (λ target. (at % ROWS, at / ROWS, target)) (goes_to d.rungs (cell_of d rung at))) (jump_before d rung at)
+jump_before d rung (suc at) = option_or (option_map (λ target. (at % ROWS, at / ROWS, target)) (goes_to d.rungs (cell_of d rung at))) (jump_before d rung at)
 
 -- The row and the column of the rung's jump or return, and its target. A rung has at most one.
 unfoldable pub jump_of : Drawing → ℕ → Option (ℕ × ℕ × ℕ)
