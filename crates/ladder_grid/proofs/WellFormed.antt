@@ -26,7 +26,7 @@ use Rattle.ladder_grid.proofs.OddLaws.{odd_is}
 use Rattle.ladder_grid.proofs.BlockLaws.{block_may}
 use Rattle.ladder_grid.specs.Rules.{IsDrawnAt}
 use Rattle.ladder_grid.specs.Page.{Page, labels_of, form_at, name_over, instance_at, instance_above}
-use Rattle.ladder_grid.specs.Geometry.{reading_place}
+use Rattle.ladder_grid.specs.AllPlaces.{reading_place}
 use Rattle.ladder_vars.specs.Kind.{traits_of}
 use Rattle.ladder_grid.specs.Form.{leaps}
 use Rattle.ladder_grid.specs.Checks.{part_at, label_of, later, target_to, jump_label}
@@ -43,7 +43,7 @@ use Rattle.ladder_grid.specs.Geometry.{at_place}
 use Rattle.ladder_grid.specs.Build.{sites_of}
 use Rattle.ladder_grid.proofs.FitLaws.{SymbolFits, refer_fits, instance_fits, cell_fits, fits_numbered}
 use Rattle.ladder_grid.proofs.LowerLaws.{kind_second, lower_found, block_even}
-use Rattle.ladder_grid.proofs.ReadingOrder.{rung_of_place, row_of_place, column_of_place}
+use Rattle.ladder_grid.proofs.ReadingOrder.{rung_of_place, row_of_place, column_of_place, earlier}
 use Rattle.ladder_grid.proofs.PlaceLaws.{length-all_places, first_places-at}
 use Rattle.ladder_grid.proofs.NumberLaws.{numbered, drawn_numbered, number_is, before_yes, before_more, count-sites}
 
@@ -330,7 +330,7 @@ module _ (page : Page) (rungs : ℕ) (sites : List Site)
   never_twice : (number k r c j q b : ℕ) → k < rungs → r < 6 → c < 10 → j < rungs → q < 6 → b < 10
       → instance_at page k r c ≡ Some number → instance_at page j q b ≡ Some number → reading_place j q b < reading_place k r c → ⊥
   unfolding PartBreaks
-  never_twice number k r c j q b below rows columns other_below other_rows other_columns here there earlier =
+  never_twice number k r c j q b below rows columns other_below other_rows other_columns here there less =
       let high : c ≤ 10 = omega arith in
       let inside : k < length page.parts = omega (arith, below, count) in
       let judged : k < 100 = omega (arith, below, few) in
@@ -353,7 +353,7 @@ module _ (page : Page) (rungs : ℕ) (sites : List Site)
                 (
                   number,
                   drawn_at k r c number below rows columns here,
-                  (j, q, b, other_rows, other_columns, earlier, drawn_at j q b number other_below other_rows other_columns there),
+                  (j, q, b, other_rows, other_columns, earlier j q b k r c other_columns columns other_rows rows less, drawn_at j q b number other_below other_rows other_columns there),
                 ),
               ),
             ),
@@ -365,18 +365,18 @@ module _ (page : Page) (rungs : ℕ) (sites : List Site)
   never_two : (k r c q b : ℕ) → k < rungs → r < 6 → c < 10 → q < 6 → b < 10
       → leaps (form_at page k r c) ≡ true → leaps (form_at page k q b) ≡ true → 10 * q + b < 10 * r + c → ⊥
   unfolding PartBreaks
-  never_two k r c q b below rows columns other_rows other_columns here there earlier =
+  never_two k r c q b below rows columns other_rows other_columns here there less =
       let high : c ≤ 10 = omega arith in
       let inside : k < length page.parts = omega (arith, below, count) in
       let judged : k < 100 = omega (arith, below, few) in
-      let before : reading_place k q b < reading_place k r c = omega (arith, earlier) in
+      let before : reading_place k q b < reading_place k r c = omega (arith, less) in
       sound (Grid rule.TwoJumps) k ((part_at page k).start + (2 * r + 1)) (inl (
         inside,
         inr (inr (
           judged,
           2 * r + 1,
           refl,
-          (r, half.Wire, rows, refl, (c, high, (columns, (here, (k, q, b, other_rows, other_columns, before, (refl, there)))))),
+          (r, half.Wire, rows, refl, (c, high, (columns, (here, (k, q, b, other_rows, other_columns, earlier k q b k r c other_columns columns other_rows rows before, (refl, there)))))),
         )),
       ))
 

@@ -1,7 +1,11 @@
--- Private: lists with an entry for each place.
-use Rattle.std.specs.Prelude.{ℕ, zero, suc, ◌*◌, List, [], ◌∷◌, ◌++◌}
-use Rattle.ladder_grid.specs.declared.geometry.TheConstants.{PLACES}
+-- Private: places as the code counts them, and lists with an entry for each.
+use Rattle.std.specs.Prelude.{ℕ, zero, suc, ◌+◌, ◌*◌, List, [], ◌∷◌, ◌++◌}
+use Rattle.ladder_grid.specs.declared.geometry.TheConstants.{COLUMNS, PLACES}
 use Rattle.ladder_grid.specs.Geometry.{at_place}
+
+-- The number of a place in the order of reading: by rung, row and column.
+abbrev pub reading_place : ℕ → ℕ → ℕ → ℕ
+reading_place rung row column = PLACES * rung + (COLUMNS * row + column)
 
 -- f 0, f 1 and so on, n of them
 unfoldable pub first_places : {A : Type 0} → (ℕ → A) → ℕ → List A

@@ -1,14 +1,10 @@
 -- The geometry of a drawing. Rungs, rows and columns are counted from 0.
 use Rattle.std.specs.Prelude.{ℕ, ◌+◌, ◌*◌, ◌/◌, ◌%◌}
-use Rattle.ladder_grid.specs.declared.geometry.TheConstants.{ROWS, COLUMNS, PLACES}
+use Rattle.ladder_grid.specs.declared.geometry.TheConstants.{ROWS, PLACES}
 
 -- The number of a place among all, by rung, column and row.
 abbrev pub place : ℕ → ℕ → ℕ → ℕ
 place rung row column = PLACES * rung + (ROWS * column + row)
-
--- Its number in the order of reading: by rung, row and column.
-abbrev pub reading_place : ℕ → ℕ → ℕ → ℕ
-reading_place rung row column = PLACES * rung + (COLUMNS * row + column)
 
 -- at the n-th place of all, by rung, column and row
 abbrev pub at_place : {A : Type 0} → (ℕ → ℕ → ℕ → A) → ℕ → A

@@ -4,7 +4,6 @@ use Rattle.std.specs.Prelude.{◌≡◌, ◌⊎◌, ℕ, ◌+◌, ◌-◌, ◌*�
 use Rattle.std.specs.List.{list_any}
 use Rattle.ladder_vars.specs.Kind.{traits_of}
 use Rattle.ladder_grid.specs.declared.geometry.TheConstants.{ROWS, COLUMNS, PITCH}
-use Rattle.ladder_grid.specs.Geometry.{reading_place}
 use Rattle.ladder_grid.specs.Bytes.{space, dash, plus, bar, is_upright}
 use Rattle.ladder_vars.specs.declared.kind.Pin.{Pin}
 use Rattle.ladder_vars.specs.declared.kind.BlockKind.{BlockKind}
@@ -57,7 +56,7 @@ IsTorn page k r c =
 
 -- It holds at a place before this one, in the order of reading: by rung, row and column.
 abbrev pub HoldsBefore : (ℕ → ℕ → ℕ → Type 0) → ℕ → ℕ → ℕ → Type 0
-HoldsBefore P k r c = (j q d : ℕ) × (q < ROWS) × (d < COLUMNS) × (reading_place j q d < reading_place k r c) × P j q d
+HoldsBefore P k r c = (j q d : ℕ) × (q < ROWS) × (d < COLUMNS) × ((j < k) ⊎ ((j ≡ k) × ((q < r) ⊎ ((q ≡ r) × (d < c))))) × P j q d
 
 -- The block at the place is the instance, by a name that the block may have.
 abbrev pub IsDrawnAt : Page → ℕ → ℕ → ℕ → ℕ → Type 0

@@ -2,7 +2,7 @@
 
 ghost use Rattle.std.specs.Prelude.{◌≡◌, ◌<◌};
 ghost use Rattle.ladder_grid.specs.Geometry.{place};
-ghost use Rattle.ladder_grid.specs.Geometry.{reading_place};
+ghost use Rattle.ladder_grid.specs.AllPlaces.{reading_place};
 
 /// The most rungs of a program.
 pub const RUNGS: usize = 100;

@@ -5,7 +5,7 @@ ghost use Rattle.ladder_grid.specs.declared.geometry.TheConstants.{RUNGS, ROWS, 
 ghost use Rattle.std.specs.List.{AllByRecursion};
 ghost use Rattle.ladder_grid.specs.Seen.{seen};
 ghost use Rattle.ladder_grid.specs.Bytes.{is_upright};
-ghost use Rattle.ladder_grid.specs.Geometry.{reading_place};
+ghost use Rattle.ladder_grid.specs.AllPlaces.{reading_place};
 ghost use Rattle.ladder_grid.specs.Rules.{is_joint, fits_joint, wants_name, has_text, IsTorn, IsDrawnAt, CellBreaks, BreaksAt};
 ghost use Rattle.ladder_grid.specs.Form.{leaps};
 ghost use Rattle.ladder_grid.specs.Checks.{is_loose, IsDrawnBefore, IsBrokenAlong, IsBrokenOn, IsKept};
