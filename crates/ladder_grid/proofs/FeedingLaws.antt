@@ -10,7 +10,8 @@ use Rattle.ladder_grid.specs.declared.fault.Rule.TheVariants.{Grid}
 use Rattle.ladder_grid.specs.declared.fault.GridRule.TheVariants as rule
 use Rattle.ladder_grid.specs.declared.picture.Half.TheVariants as half
 use Rattle.ladder_vars.specs.declared.decls.Symbol.{Symbol}
-use Rattle.ladder_grid.specs.Form.{whole_cells, HasForm, IsFormOf}
+use Rattle.ladder_grid.proofs.DrawingLaws.{few_rungs}
+use Rattle.ladder_grid.specs.Form.{whole_cells, HasForm}
 use Rattle.ladder_grid.specs.ReadForm.{Table, Lists}
 use Rattle.ladder_grid.proofs.FormLaws.{lists_of}
 use Rattle.ladder_grid.specs.Picture.{Lines, ch, joint, vertical, text_at, SameGroup}
@@ -148,7 +149,7 @@ module _ (page : Page) (d : Drawing) (drawn : IsDrawn page d) where
         | true ↦ λ e. refl
         | false ↦ λ e.
             let inside : k < length page.parts = omega (arith, below, drawn.rungs) in
-            let judged : k < 100 = omega (arith, below, drawn.whole.few) in
+            let judged : k < 100 = omega (arith, below, drawn.rungs, few_rungs page drawn.sound) in
             let high : c ≤ 10 = omega (arith, columns) in
             absurd (drawn.sound (Grid rule.BadJoint) k ((part_at page k).start + (2 * r + 1)) (inl (
               inside,
@@ -167,7 +168,7 @@ module _ (page : Page) (d : Drawing) (drawn : IsDrawn page d) where
   unfolding PartBreaks
   never_unfed k r c below rows some columns dashed unfed =
       let inside : k < length page.parts = omega (arith, below, drawn.rungs) in
-      let judged : k < 100 = omega (arith, below, drawn.whole.few) in
+      let judged : k < 100 = omega (arith, below, drawn.rungs, few_rungs page drawn.sound) in
       let high : c ≤ 10 = omega (arith, columns) in
       drawn.sound (Grid rule.Unfed) k ((part_at page k).start + (2 * r + 1)) (inl (
         inside,
@@ -175,7 +176,7 @@ module _ (page : Page) (d : Drawing) (drawn : IsDrawn page d) where
           judged,
           2 * r + 1,
           refl,
-          (r, half.Wire, rows, refl, (c, high, (refl, columns, (some, dashed, unfed)))),
+          (r, half.Wire, rows, refl, (c, high, (columns, (some, dashed, unfed)))),
         )),
       ))
 
@@ -264,8 +265,8 @@ first_dash rung r c h = eqb-true (ch rung (2 * r + 1) (12 * c + 1)) dash h
 pub feeds_cells : (text : List ℕ) (d : Drawing) → IsProgram text d → FeedsCells d
 feeds_cells text d p k r c below rows some columns linked =
     let page : Page = p.page in
-    let inside : k < min (length page.parts) 100 = omega (arith, below, p.drawn.rungs, p.drawn.whole.few) in
+    let inside : k < min (length page.parts) 100 = omega (arith, below, p.drawn.rungs, few_rungs page p.drawn.sound) in
     let f = form_wants _ (form_at page k r c) _ _ _ (ap (λ s. has_left_link s.cell) (sym (p.drawn.sites k r c below rows columns)) ∙ linked) in
     let has : HasForm (cell_text (rung_at page k) r c) f.0
-    = subst (IsFormOf (cell_text (rung_at page k) r c)) f.1 (p.reads.forms k r c inside rows columns) in
+    = (p.reads.forms k r c inside rows columns f.0).0 f.1 in
     feeds_dashes page d p.drawn k r c below rows some columns (first_dash (rung_at page k) r c (form_dash _ f.0 has f.2))

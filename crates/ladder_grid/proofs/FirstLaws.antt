@@ -9,15 +9,17 @@ use Rattle.ladder_grid.specs.declared.lines.Part.{Part}
 use Rattle.ladder_grid.specs.declared.operand.NameOver.{NameOver}
 use Rattle.ladder_grid.specs.Geometry.{place}
 use Rattle.ladder_grid.specs.AllPlaces.{reading_place}
-use Rattle.ladder_grid.specs.Operand.{instance_on}
+use Rattle.ladder_grid.specs.Suiting.{block_drawn}
+use Rattle.ladder_grid.specs.Rules.{IsDrawnAt}
 use Rattle.ladder_grid.specs.Page.{Page, form_at, name_over, instance_at}
 use Rattle.ladder_grid.specs.Picture.{Lines}
 use Rattle.ladder_grid.specs.ReadLines.{page}
 use Rattle.ladder_grid.specs.Checks.{IsDrawnBefore}
 use Rattle.ladder_grid.specs.Tables.{place_read, block_in, noted_at, noted, firsts_of, overs_of, IsBefore}
+use Rattle.ladder_grid.proofs.BlockLaws.{drawn_is}
 use Rattle.ladder_grid.proofs.FitLaws.{refer_fits, instance_fits}
 use Rattle.ladder_grid.proofs.OverLaws.{over_at}
-use Rattle.ladder_grid.proofs.ReadingOrder.{rung_of_place, row_of_place, column_of_place}
+use Rattle.ladder_grid.proofs.ReadingOrder.{rung_of_place, row_of_place, column_of_place, earlier, less_place}
 
 -- ---- the table
 
@@ -112,45 +114,54 @@ module _ (decls : Declared) (lines : Lines) (unclosed : Option ℕ) (parts : Lis
   drawn_on = page decls lines unclosed parts forms
 
   abbrev block : ℕ → Option ℕ
-  block = block_in forms overs
+  block = block_in decls forms overs
 
   abbrev count : ℕ
   count = 60 * min (length parts) 100
 
   -- the table of names has that of each cell
-  block_at : (k r c : ℕ) → k < length parts → k < 100 → r < 6 → c < 10 → block (reading_place k r c) ≡ instance_at drawn_on k r c
-  unfolding instance_at
+  block_at : (k r c : ℕ) → k < length parts → k < 100 → r < 6 → c < 10
+      → block (reading_place k r c) ≡ block_drawn decls (form_at drawn_on k r c) (name_over drawn_on k r c)
   block_at k r c below few rows columns =
       let here : place_read (reading_place k r c) ≡ place k r c
       = rw (rung_of_place k r c rows columns, row_of_place k r c rows columns, column_of_place k r c rows columns) refl in
-      ap (λ n. instance_on (slice_index_or forms n None) (slice_index_or overs n (record { written = false; name = None })).name) here
-      ∙ ap (λ o. instance_on (form_at drawn_on k r c) o.name)
+      ap (λ n. block_drawn decls (slice_index_or forms n None) (slice_index_or overs n (record { written = false; name = None })).name) here
+      ∙ ap (λ o. block_drawn decls (form_at drawn_on k r c) o.name)
       (over_at decls lines parts overs (place k r c) (record { written = false; name = None }) k r c told refl below few rows columns)
+
+  -- the table has the instance exactly where there is a block of it
+  block_is : (k r c inst : ℕ) → k < length parts → k < 100 → r < 6 → c < 10
+      → (block (reading_place k r c) ≡ Some inst) ↔ IsDrawnAt drawn_on inst k r c
+  unfolding instance_at
+  block_is k r c inst below few rows columns =
+      let law = drawn_is decls (form_at drawn_on k r c) (name_over drawn_on k r c) inst in
+      let at = block_at k r c below few rows columns in
+      (λ h. law.0 (sym at ∙ h), λ d. at ∙ law.1 d)
 
   declared_only : (k r c inst : ℕ) → instance_at drawn_on k r c ≡ Some inst → inst < length decls.instances
   unfolding instance_at
   declared_only k r c inst is = instance_fits decls (form_at drawn_on k r c) (name_over drawn_on k r c) inst (λ x e. refer_fits decls _ x e) is
 
-  drawn_there : (k r c inst first : ℕ) → first < count → first < reading_place k r c → block first ≡ Some inst → IsDrawnBefore drawn_on inst k r c
-  drawn_there k r c inst first below before is =
+  drawn_there : (k r c inst first : ℕ) → r < 6 → c < 10 → first < count → first < reading_place k r c → block first ≡ Some inst → IsDrawnBefore drawn_on inst k r c
+  drawn_there k r c inst first rows columns below before is =
       let rung : first / 60 < length parts = omega (arith, below) in
       let few : first / 60 < 100 = omega (arith, below) in
       let row : first % 60 / 10 < 6 = omega arith in
       let column : first % 60 % 10 < 10 = omega arith in
       let here : reading_place (first / 60) (first % 60 / 10) (first % 60 % 10) ≡ first = omega arith in
-      let earlier : reading_place (first / 60) (first % 60 / 10) (first % 60 % 10) < reading_place k r c = omega (arith, here, before) in (
+      let less : reading_place (first / 60) (first % 60 / 10) (first % 60 % 10) < reading_place k r c = omega (arith, here, before) in (
         first / 60,
         first % 60 / 10,
         first % 60 % 10,
         row,
         column,
-        earlier,
-        sym (block_at (first / 60) (first % 60 / 10) (first % 60 % 10) rung few row column) ∙ ap block here ∙ is,
+        earlier (first / 60) (first % 60 / 10) (first % 60 % 10) k r c column columns row rows less,
+        (block_is (first / 60) (first % 60 / 10) (first % 60 % 10) inst rung few row column).0 (ap block here ∙ is),
       )
 
-  before_here : (k r c inst : ℕ) (o : Option ℕ) → FirstIn block count inst o → IsBefore o (reading_place k r c) → IsDrawnBefore drawn_on inst k r c
-  before_here k r c inst None says before = absurd before
-  before_here k r c inst (Some first) says before = drawn_there k r c inst first says.0 before says.1
+  before_here : (k r c inst : ℕ) (o : Option ℕ) → r < 6 → c < 10 → FirstIn block count inst o → IsBefore o (reading_place k r c) → IsDrawnBefore drawn_on inst k r c
+  before_here k r c inst None rows columns says before = absurd before
+  before_here k r c inst (Some first) rows columns says before = drawn_there k r c inst first rows columns says.0 before says.1
 
   found_before : (inst n here : ℕ) (o : Option ℕ) → FirstIn block count inst o → n < count → n < here → block n ≡ Some inst → IsBefore o here
   found_before inst n here None says within before is = absurd (says n within is)
@@ -173,19 +184,20 @@ module _ (decls : Declared) (lines : Lines) (unclosed : Option ℕ) (parts : Lis
     λ before. elim (cases_lt inst (length decls.instances)) [
       | inl declared ↦
           let says = first_in block (length decls.instances) count inst declared in
-          before_here k r c inst _ says (subst (λ xs. IsBefore (slice_index_or xs inst None) (reading_place k r c)) table before)
+          before_here k r c inst _ rows columns says (subst (λ xs. IsBefore (slice_index_or xs inst None) (reading_place k r c)) table before)
       | inr past ↦ absurd (no_entry inst _ past (subst (λ xs. IsBefore (slice_index_or xs inst None) (reading_place k r c)) table before))
     ],
     λ d.
-        let declared : inst < length decls.instances = declared_only d.0 d.1 d.2 inst d.6 in
-        let rung : d.0 ≤ k = omega (arith, d.5, d.3, d.4, rows, columns) in
+        let declared : inst < length decls.instances = declared_only d.0 d.1 d.2 inst d.6.0 in
+        let less : reading_place d.0 d.1 d.2 < reading_place k r c = less_place d.0 d.1 d.2 k r c d.4 d.3 d.5 in
+        let rung : d.0 ≤ k = omega (arith, less, d.3, d.4, rows, columns) in
         let in_parts : d.0 < length parts = omega (arith, rung, below) in
         let in_limit : d.0 < 100 = omega (arith, rung, few) in
         let within : reading_place d.0 d.1 d.2 < count = omega (arith, in_parts, in_limit, d.3, d.4) in
-        let is : block (reading_place d.0 d.1 d.2) ≡ Some inst = block_at d.0 d.1 d.2 in_parts in_limit d.3 d.4 ∙ d.6 in
+        let is : block (reading_place d.0 d.1 d.2) ≡ Some inst = (block_is d.0 d.1 d.2 inst in_parts in_limit d.3 d.4).1 d.6 in
         let says = first_in block (length decls.instances) count inst declared in
         subst (λ xs. IsBefore (slice_index_or xs inst None) (reading_place k r c)) (sym table)
-        (found_before inst (reading_place d.0 d.1 d.2) (reading_place k r c) _ says within d.5 is),
+        (found_before inst (reading_place d.0 d.1 d.2) (reading_place k r c) _ says within less is),
   )
 
   pub drawn_by : (firsts : List (Option ℕ)) → firsts ≡ firsts_of block (length decls.instances) count

@@ -18,7 +18,7 @@ use Rattle.ladder_grid.specs.declared.form.Form.TheVariants.{Empty, Wire, Contac
 use Rattle.ladder_vars.specs.declared.kind.Output.{Output}
 use Rattle.ladder_vars.specs.declared.kind.Output.TheVariants as output
 use Rattle.ladder_grid.specs.declared.operand.Reference.{Reference}
-use Rattle.ladder_grid.specs.Operand.{refer_to, ends_in, is_input_at, instance_of, instance_on}
+use Rattle.ladder_grid.specs.Operand.{refer_to, ends_in, is_input_at, instance_on}
 use Rattle.ladder_grid.specs.Suiting.{named, referred, without_end, is_odd_on_coil, is_odd}
 use Rattle.ladder_grid.specs.Program.{Fits}
 use Rattle.ladder_grid.specs.Reading.{cell_with}
@@ -87,19 +87,20 @@ refer_fits decls word x h =
     (referred_fits decls (Some output.Q1) (named decls (without_end 3 word)) x (named_fits decls (without_end 3 word)))
     (referred_fits decls None (named decls word) x (named_fits decls word))) h
 
-instance_symbol : (decls : Declared) (s : Symbol) (n : ℕ) → SymbolFits decls s → instance_of s ≡ Some n → n < length decls.instances
-instance_symbol decls (Var i) n fits h = absurd (none_some h)
-instance_symbol decls (Instance i) n fits h = subst (λ m. m < length decls.instances) (some_number i n h) fits
+instance_symbol : (decls : Declared) (kind : BlockKind) (s : Symbol) (n : ℕ) → SymbolFits decls s → instance_on (Some (Block kind)) (Some s) ≡ Some n
+    → n < length decls.instances
+instance_symbol decls kind (Var i) n fits h = absurd (none_some h)
+instance_symbol decls kind (Instance i) n fits h = subst (λ m. m < length decls.instances) (some_number i n h) fits
 
 pub instance_fits : (decls : Declared) (form : Option Form) (name : Option Reference) (n : ℕ) → ((x : Reference) → name ≡ Some x → SymbolFits decls x.symbol)
-    → instance_on form name ≡ Some n → n < length decls.instances
+    → instance_on form (option_map (λ (x : Reference). x.symbol) name) ≡ Some n → n < length decls.instances
 instance_fits decls None name n fits h = absurd (none_some h)
 instance_fits decls (Some Empty) name n fits h = absurd (none_some h)
 instance_fits decls (Some Wire) name n fits h = absurd (none_some h)
 instance_fits decls (Some (Contact m)) name n fits h = absurd (none_some h)
 instance_fits decls (Some (Coil m)) name n fits h = absurd (none_some h)
 instance_fits decls (Some (Block kind)) None n fits h = absurd (none_some h)
-instance_fits decls (Some (Block kind)) (Some x) n fits h = instance_symbol decls x.symbol n (fits x refl) h
+instance_fits decls (Some (Block kind)) (Some x) n fits h = instance_symbol decls kind x.symbol n (fits x refl) h
 instance_fits decls (Some (Lower pin linked)) name n fits h = absurd (none_some h)
 instance_fits decls (Some (Jump label)) name n fits h = absurd (none_some h)
 instance_fits decls (Some Return) name n fits h = absurd (none_some h)

@@ -8,14 +8,14 @@ use Rattle.std.proofs.lemmas.List.{take-append-drop}
 use Rattle.std.proofs.Math.Seq.{take-append_seam, drop-append_seam}
 use Rattle.ladder_vars.specs.Name.{is_name, is_name_byte, has_name_form}
 use Rattle.ladder_grid.specs.Form.{is_label_name}
-use Rattle.ladder_grid.specs.Gap.{is_blank, first_word, label_in, IsLabelIn}
+use Rattle.ladder_grid.specs.Gap.{is_gap_blank, first_word, label_in, IsLabelIn}
 use Rattle.ladder_grid.specs.Labels.{is_blank_line, after_blanks, word_at, behind_word, ends_label, is_label, label_read}
 use Rattle.ladder_grid.proofs.FormLaws.{prefix_stops, form_bytes, label_bytes}
 
 blanks_taken : (text : List ℕ) → (before : List ℕ) × (text ≡ before ++ after_blanks text) × (is_blank_line before ≡ true)
 blanks_taken [] = ([], refl, refl)
 blanks_taken (b ∷ bs) =
-    elim (is_blank b) as (λ t. is_blank b ≡ t → (before : List ℕ) × (b ∷ bs ≡ before ++ cond t (after_blanks bs) (b ∷ bs)) × (is_blank_line before ≡ true)) [
+    elim (is_gap_blank b) as (λ t. is_gap_blank b ≡ t → (before : List ℕ) × (b ∷ bs ≡ before ++ cond t (after_blanks bs) (b ∷ bs)) × (is_blank_line before ≡ true)) [
       | true ↦ λ e. let t = blanks_taken bs in (b ∷ t.0, ap (λ z. b ∷ z) t.1, rw (e, t.2) refl)
       | false ↦ λ e. ([], refl, refl)
     ] refl
@@ -57,14 +57,14 @@ read_known text label h =
 
 blanks_off : (before text : List ℕ) → is_blank_line before ≡ true → after_blanks (before ++ text) ≡ after_blanks text
 blanks_off [] text h = refl
-blanks_off (b ∷ bs) text h = let parts = and_parts (is_blank b) (is_blank_line bs) h in rw parts.0 (blanks_off bs text parts.1)
+blanks_off (b ∷ bs) text h = let parts = and_parts (is_gap_blank b) (is_blank_line bs) h in rw parts.0 (blanks_off bs text parts.1)
 
 abbrev is_name_start : ℕ → Bool
 is_name_start b = is_ascii_alphabetic b || b == 95
 
 start_stays : (b : ℕ) (bs : List ℕ) → is_name_start b ≡ true → after_blanks (b ∷ bs) ≡ b ∷ bs
 start_stays b bs h =
-    elim (is_blank b) as (λ t. is_blank b ≡ t → cond t (after_blanks bs) (b ∷ bs) ≡ b ∷ bs) [
+    elim (is_gap_blank b) as (λ t. is_gap_blank b ≡ t → cond t (after_blanks bs) (b ∷ bs) ≡ b ∷ bs) [
       | false ↦ λ _. refl
       | true ↦ λ e. elim (or_cases (b == 32) (b == 9) e) [
         | inl space ↦ absurd (true≢false (sym h ∙ ap is_name_start (eqb-true b 32 space)))
@@ -81,7 +81,7 @@ name_stays label tail h = named label tail (and_parts (has_name_form label) _ (a
 no_name_blank : (middle after : List ℕ) → is_blank_line middle ≡ true → prefix_len is_name_byte (middle ++ (58 ∷ after)) ≡ 0
 no_name_blank [] after h = refl
 no_name_blank (b ∷ bs) after h =
-    elim (or_cases (b == 32) (b == 9) (and_parts (is_blank b) (is_blank_line bs) h).0) [
+    elim (or_cases (b == 32) (b == 9) (and_parts (is_gap_blank b) (is_blank_line bs) h).0) [
       | inl space ↦ rw (eqb-true b 32 space) refl
       | inr tab ↦ rw (eqb-true b 9 tab) refl
     ]
@@ -102,25 +102,25 @@ read_found text label h =
 
 -- ---- the same in one test
 
-blanks_dropped : (text : List ℕ) → drop (prefix_len is_blank text) text ≡ after_blanks text
+blanks_dropped : (text : List ℕ) → drop (prefix_len is_gap_blank text) text ≡ after_blanks text
 blanks_dropped [] = refl
 blanks_dropped (b ∷ bs) =
-    elim (is_blank b) as (λ t. drop (cond t (1 + prefix_len is_blank bs) 0) (b ∷ bs) ≡ cond t (after_blanks bs) (b ∷ bs)) [
+    elim (is_gap_blank b) as (λ t. drop (cond t (1 + prefix_len is_gap_blank bs) 0) (b ∷ bs) ≡ cond t (after_blanks bs) (b ∷ bs)) [
       | true ↦ rw one-add (blanks_dropped bs)
       | false ↦ refl
     ]
 
 inked : List ℕ → List ℕ
-inked text = filter (λ b. not (is_blank b)) text
+inked text = filter (λ b. not (is_gap_blank b)) text
 
 inked_blanks : (bs tail : List ℕ) → is_blank_line bs ≡ true → inked (bs ++ tail) ≡ inked tail
 unfolding inked
 inked_blanks [] tail h = refl
-inked_blanks (b ∷ bs) tail h = let parts = and_parts (is_blank b) (is_blank_line bs) h in rw parts.0 (inked_blanks bs tail parts.1)
+inked_blanks (b ∷ bs) tail h = let parts = and_parts (is_gap_blank b) (is_blank_line bs) h in rw parts.0 (inked_blanks bs tail parts.1)
 
-name_inked : (b : ℕ) → is_name_byte b ≡ true → is_blank b ≡ false
+name_inked : (b : ℕ) → is_name_byte b ≡ true → is_gap_blank b ≡ false
 name_inked b h =
-    elim (is_blank b) as (λ t. is_blank b ≡ t → t ≡ false) [
+    elim (is_gap_blank b) as (λ t. is_gap_blank b ≡ t → t ≡ false) [
       | false ↦ λ _. refl
       | true ↦ λ e. elim (or_cases (b == 32) (b == 9) e) [
         | inl space ↦ absurd (true≢false (sym h ∙ ap is_name_byte (eqb-true b 32 space)))
@@ -143,7 +143,7 @@ none_inked : (bs : List ℕ) → is_blank_line bs ≡ bytes_eq (inked bs) []
 unfolding inked
 none_inked [] = refl
 none_inked (b ∷ bs) =
-    elim (is_blank b) as (λ t. (t && is_blank_line bs) ≡ bytes_eq (cond (not t) (b ∷ filter (λ x. not (is_blank x)) bs) (filter (λ x. not (is_blank x)) bs)) []) [
+    elim (is_gap_blank b) as (λ t. (t && is_blank_line bs) ≡ bytes_eq (cond (not t) (b ∷ filter (λ x. not (is_gap_blank x)) bs) (filter (λ x. not (is_gap_blank x)) bs)) []) [
       | true ↦ none_inked bs
       | false ↦ refl
     ]
@@ -152,8 +152,8 @@ colon_inked : (text : List ℕ) → ends_label (after_blanks text) ≡ bytes_eq 
 unfolding inked
 colon_inked [] = refl
 colon_inked (b ∷ bs) =
-    elim (is_blank b) as (λ t. ends_label (cond t (after_blanks bs) (b ∷ bs))
-    ≡ bytes_eq (cond (not t) (b ∷ filter (λ x. not (is_blank x)) bs) (filter (λ x. not (is_blank x)) bs)) (58 ∷ [])) [
+    elim (is_gap_blank b) as (λ t. ends_label (cond t (after_blanks bs) (b ∷ bs))
+    ≡ bytes_eq (cond (not t) (b ∷ filter (λ x. not (is_gap_blank x)) bs) (filter (λ x. not (is_gap_blank x)) bs)) (58 ∷ [])) [
       | true ↦ colon_inked bs
       | false ↦ ap (λ t. (b == 58) && t) (none_inked bs)
     ]

@@ -1,5 +1,5 @@
 -- Blocks with a second input and their lower cells.
-use Rattle.std.proofs.Common.{◌≡◌, ℕ, Bool, true, false, not, ◌||◌, slice_get, is_some, Option, Some, None, refl, ap, subst, ◌∙◌}
+use Rattle.std.proofs.Common.{◌≡◌, ℕ, Bool, true, false, not, ◌||◌, slice_get, is_some, option_map, Option, Some, None, refl, ap, subst, ◌∙◌}
 use Rattle.ladder_vars.specs.Decls.{Declared}
 use Rattle.ladder_vars.specs.declared.decls.Instance.{Instance}
 use Rattle.ladder_vars.specs.declared.kind.BlockKind.{BlockKind}
@@ -11,7 +11,7 @@ use Rattle.ladder_grid.specs.declared.form.Form.TheVariants.{Empty, Wire, Contac
 use Rattle.ladder_vars.specs.declared.kind.Output.{Output}
 use Rattle.ladder_grid.specs.declared.operand.Reference.{Reference}
 use Rattle.ladder_vars.specs.Kind.{traits_of}
-use Rattle.ladder_grid.specs.Operand.{instance_of, instance_on}
+use Rattle.ladder_grid.specs.Operand.{instance_on}
 use Rattle.ladder_grid.specs.Suiting.{same_kind, is_of_kind, is_odd_on_block, is_odd}
 use Rattle.ladder_grid.specs.Shapes.{lacks_lower}
 use Rattle.ladder_grid.specs.Program.{is_pin, has_second}
@@ -56,14 +56,14 @@ lower_found (Some p) (Some (Block k)) h l = absurd (on_off l)
 lower_found (Some p) (Some (Jump label)) h l = absurd (on_off l)
 lower_found (Some p) (Some Return) h l = absurd (on_off l)
 
-symbol_even : (decls : Declared) (k : BlockKind) (s : Symbol) (o : Option Output) (inst : ℕ) → instance_of s ≡ Some inst → is_odd_on_block decls k s o ≡ false
+symbol_even : (decls : Declared) (k : BlockKind) (s : Symbol) (o : Option Output) (inst : ℕ) → instance_on (Some (Block k)) (Some s) ≡ Some inst → is_odd_on_block decls k s o ≡ false
     → is_of_kind k (slice_get decls.instances inst) ≡ true
 symbol_even decls k (symbol.Var i) o inst h even = absurd (none_some h)
 symbol_even decls k (symbol.Instance i) o inst h even =
     subst (λ n. is_of_kind k (slice_get decls.instances n) ≡ true) (some_number i inst h)
     (not_false (is_of_kind k (slice_get decls.instances i)) (or_false (is_some o) (not (is_of_kind k (slice_get decls.instances i))) even))
 
-pub block_even : (decls : Declared) (form : Option Form) (name : Option Reference) (inst : ℕ) → instance_on form name ≡ Some inst → is_odd decls form name ≡ false
+pub block_even : (decls : Declared) (form : Option Form) (name : Option Reference) (inst : ℕ) → instance_on form (option_map (λ (x : Reference). x.symbol) name) ≡ Some inst → is_odd decls form name ≡ false
     → (k : BlockKind) × (form ≡ Some (Block k)) × (is_of_kind k (slice_get decls.instances inst) ≡ true)
 block_even decls None name inst h even = absurd (none_some h)
 block_even decls (Some (Block k)) None inst h even = absurd (none_some h)

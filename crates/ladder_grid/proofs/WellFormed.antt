@@ -20,9 +20,11 @@ use Rattle.ladder_grid.specs.declared.fault.GridRule.TheVariants as rule
 use Rattle.ladder_grid.specs.declared.picture.Half.TheVariants as half
 use Rattle.ladder_grid.specs.declared.operand.Reference.{Reference}
 use Rattle.ladder_grid.specs.Gap.{Labels, is_named}
-use Rattle.ladder_grid.specs.Operand.{instance_of, instance_on}
+use Rattle.ladder_grid.specs.Operand.{instance_on}
 use Rattle.ladder_grid.specs.Suiting.{is_odd}
 use Rattle.ladder_grid.proofs.OddLaws.{odd_is}
+use Rattle.ladder_grid.proofs.BlockLaws.{block_may}
+use Rattle.ladder_grid.specs.Rules.{IsDrawnAt}
 use Rattle.ladder_grid.specs.Page.{Page, labels_of, form_at, name_over, instance_at, instance_above}
 use Rattle.ladder_grid.specs.AllPlaces.{reading_place}
 use Rattle.ladder_vars.specs.Kind.{traits_of}
@@ -30,16 +32,18 @@ use Rattle.ladder_grid.specs.Form.{leaps}
 use Rattle.ladder_grid.specs.Checks.{part_at, label_of, later, target_to, jump_label}
 use Rattle.ladder_grid.specs.Shapes.{lacks_lower, is_apart, form_above, form_below}
 use Rattle.ladder_grid.proofs.ShapeLaws.{torn}
-use Rattle.ladder_grid.specs.PageRules.{PartBreaks, IsSoundPage, target_of}
+use Rattle.ladder_grid.specs.PageRules.{PartBreaks, target_of}
+use Rattle.ladder_grid.specs.Stops.{IsSoundPage}
 use Rattle.ladder_grid.proofs.TargetLaws.{target_is}
-use Rattle.ladder_grid.specs.Program.{drawing, blank_site, memory_in, block_in, goes_to, has_memory, Fits, has_second, IsWellFormed}
+use Rattle.ladder_grid.specs.Sheet.{blank_site}
+use Rattle.ladder_grid.specs.Program.{drawing, memory_in, block_in, goes_to, has_memory, Fits, has_second, IsWellFormed}
 use Rattle.ladder_grid.specs.Geometry.{place}
 use Rattle.ladder_grid.specs.Reading.{cell_with, cell_drawn, site_drawn, memories_before}
 use Rattle.ladder_grid.specs.Geometry.{at_place}
 use Rattle.ladder_grid.specs.Build.{sites_of}
 use Rattle.ladder_grid.proofs.FitLaws.{SymbolFits, refer_fits, instance_fits, cell_fits, fits_numbered}
 use Rattle.ladder_grid.proofs.LowerLaws.{kind_second, lower_found, block_even}
-use Rattle.ladder_grid.proofs.ReadingOrder.{rung_of_place, row_of_place, column_of_place}
+use Rattle.ladder_grid.proofs.ReadingOrder.{rung_of_place, row_of_place, column_of_place, earlier}
 use Rattle.ladder_grid.proofs.PlaceLaws.{length-all_places, first_places-at}
 use Rattle.ladder_grid.proofs.NumberLaws.{numbered, drawn_numbered, number_is, before_yes, before_more, count-sites}
 
@@ -110,11 +114,11 @@ coil_no_block : (m : CoilMode) (s : Symbol) (above target : Option ℕ) → bloc
 coil_no_block m (Var number) above target = refl
 coil_no_block m (Instance number) above target = refl
 
-block_block : (kind : BlockKind) (s : Symbol) (above target : Option ℕ) → block_in (cell_with 0 (Some (Block kind)) (Some s) above target) ≡ instance_of s
+block_block : (kind : BlockKind) (s : Symbol) (above target : Option ℕ) → block_in (cell_with 0 (Some (Block kind)) (Some s) above target) ≡ instance_on (Some (Block kind)) (Some s)
 block_block kind (Var number) above target = refl
 block_block kind (Instance inst) above target = refl
 
-drawn_block : (form : Option Form) (name : Option Reference) (above target : Option ℕ) → block_in (cell_with 0 form (option_map (λ (x : Reference). x.symbol) name) above target) ≡ instance_on form name
+drawn_block : (form : Option Form) (name : Option Reference) (above target : Option ℕ) → block_in (cell_with 0 form (option_map (λ (x : Reference). x.symbol) name) above target) ≡ instance_on form (option_map (λ (x : Reference). x.symbol) name)
 drawn_block None name above target = refl
 drawn_block (Some Empty) name above target = refl
 drawn_block (Some Wire) name above target = refl
@@ -296,11 +300,37 @@ module _ (page : Page) (rungs : ℕ) (sites : List Site)
             absurd (none_some (sym (ap f none ∙ empty) ∙ h))
       ]
 
+  -- G10: no name is one that its symbol can't have
+  never_odd : (k r c : ℕ) → k < rungs → r < 6 → c < 10 → is_odd page.decls (form_at page k r c) (name_over page k r c) ≡ false
+  unfolding PartBreaks
+  never_odd k r c below rows columns =
+      elim (is_odd page.decls (form_at page k r c) (name_over page k r c)) as (λ b. is_odd page.decls (form_at page k r c) (name_over page k r c) ≡ b → b ≡ false) [
+        | false ↦ λ _. refl
+        | true ↦ λ odd.
+            let high : c ≤ 10 = omega arith in
+            let inside : k < length page.parts = omega (arith, below, count) in
+            let judged : k < 100 = omega (arith, below, few) in
+            absurd (sound (Grid rule.WrongKind) k ((part_at page k).start + 2 * r) (inl (
+              inside,
+              inr (inr (
+                judged,
+                2 * r,
+                refl,
+                (r, half.Name, rows, refl, (c, high, (columns, (odd_is _ _ _).0 odd))),
+              )),
+            )))
+      ] refl
+
+  -- a block is drawn by a name that it may have
+  drawn_at : (k r c inst : ℕ) → k < rungs → r < 6 → c < 10 → instance_at page k r c ≡ Some inst → IsDrawnAt page inst k r c
+  unfolding instance_at
+  drawn_at k r c inst below rows columns h = block_may page.decls (form_at page k r c) (name_over page k r c) inst h (never_odd k r c below rows columns)
+
   -- G12: an instance is drawn once
-  never_twice : (number k r c j q b : ℕ) → k < rungs → r < 6 → c < 10 → q < 6 → b < 10
+  never_twice : (number k r c j q b : ℕ) → k < rungs → r < 6 → c < 10 → j < rungs → q < 6 → b < 10
       → instance_at page k r c ≡ Some number → instance_at page j q b ≡ Some number → reading_place j q b < reading_place k r c → ⊥
   unfolding PartBreaks
-  never_twice number k r c j q b below rows columns other_rows other_columns here there earlier =
+  never_twice number k r c j q b below rows columns other_below other_rows other_columns here there less =
       let high : c ≤ 10 = omega arith in
       let inside : k < length page.parts = omega (arith, below, count) in
       let judged : k < 100 = omega (arith, below, few) in
@@ -310,7 +340,24 @@ module _ (page : Page) (rungs : ℕ) (sites : List Site)
           judged,
           2 * r,
           refl,
-          (r, half.Name, rows, refl, (c, high, (refl, columns, (number, here, (j, q, b, other_rows, other_columns, earlier, there))))),
+          (
+            r,
+            half.Name,
+            rows,
+            refl,
+            (
+              c,
+              high,
+              (
+                columns,
+                (
+                  number,
+                  drawn_at k r c number below rows columns here,
+                  (j, q, b, other_rows, other_columns, earlier j q b k r c other_columns columns other_rows rows less, drawn_at j q b number other_below other_rows other_columns there),
+                ),
+              ),
+            ),
+          ),
         )),
       ))
 
@@ -318,18 +365,18 @@ module _ (page : Page) (rungs : ℕ) (sites : List Site)
   never_two : (k r c q b : ℕ) → k < rungs → r < 6 → c < 10 → q < 6 → b < 10
       → leaps (form_at page k r c) ≡ true → leaps (form_at page k q b) ≡ true → 10 * q + b < 10 * r + c → ⊥
   unfolding PartBreaks
-  never_two k r c q b below rows columns other_rows other_columns here there earlier =
+  never_two k r c q b below rows columns other_rows other_columns here there less =
       let high : c ≤ 10 = omega arith in
       let inside : k < length page.parts = omega (arith, below, count) in
       let judged : k < 100 = omega (arith, below, few) in
-      let before : reading_place k q b < reading_place k r c = omega (arith, earlier) in
+      let before : reading_place k q b < reading_place k r c = omega (arith, less) in
       sound (Grid rule.TwoJumps) k ((part_at page k).start + (2 * r + 1)) (inl (
         inside,
         inr (inr (
           judged,
           2 * r + 1,
           refl,
-          (r, half.Wire, rows, refl, (c, high, (refl, columns, (here, (k, q, b, other_rows, other_columns, before, (refl, there)))))),
+          (r, half.Wire, rows, refl, (c, high, (columns, (here, (k, q, b, other_rows, other_columns, earlier k q b k r c other_columns columns other_rows rows before, (refl, there)))))),
         )),
       ))
 
@@ -353,9 +400,9 @@ module _ (page : Page) (rungs : ℕ) (sites : List Site)
       let a = block_place i number h in
       let b = block_place j number k in
       elim (cases_lt (reading_place a.rung a.row a.column) (reading_place b.rung b.row b.column)) [
-        | inl first ↦ absurd (never_twice number b.rung b.row b.column a.rung a.row a.column b.below b.in_rung b.in_row a.in_rung a.in_row b.holds a.holds first)
+        | inl first ↦ absurd (never_twice number b.rung b.row b.column a.rung a.row a.column b.below b.in_rung b.in_row a.below a.in_rung a.in_row b.holds a.holds first)
         | inr more ↦ elim (cases_lt (reading_place b.rung b.row b.column) (reading_place a.rung a.row a.column)) [
-          | inl second ↦ absurd (never_twice number a.rung a.row a.column b.rung b.row b.column a.below a.in_rung a.in_row b.in_rung b.in_row a.holds b.holds second)
+          | inl second ↦ absurd (never_twice number a.rung a.row a.column b.rung b.row b.column a.below a.in_rung a.in_row b.below b.in_rung b.in_row a.holds b.holds second)
           | inr less ↦
               let e : reading_place a.rung a.row a.column ≡ reading_place b.rung b.row b.column = omega (arith, more, less) in
               let rung : a.rung ≡ b.rung
@@ -467,28 +514,6 @@ module _ (page : Page) (rungs : ℕ) (sites : List Site)
       let before : i - 1 ≡ place s.rung (s.row - 1) s.column = omega (arith, s.at, up.0) in
       (omega (arith, s.at, up.0, s.in_rung), ap cell_i before ∙ block_cell s.rung (s.row - 1) s.column inst s.below row s.in_row up.1)
 
-  -- G10: no name is one that its symbol can't have
-  never_odd : (k r c : ℕ) → k < rungs → r < 6 → c < 10 → is_odd page.decls (form_at page k r c) (name_over page k r c) ≡ false
-  unfolding PartBreaks
-  never_odd k r c below rows columns =
-      elim (is_odd page.decls (form_at page k r c) (name_over page k r c)) as (λ b. is_odd page.decls (form_at page k r c) (name_over page k r c) ≡ b → b ≡ false) [
-        | false ↦ λ _. refl
-        | true ↦ λ odd.
-            let high : c ≤ 10 = omega arith in
-            let inside : k < length page.parts = omega (arith, below, count) in
-            let judged : k < 100 = omega (arith, below, few) in
-            let judged : k < 100 = omega (arith, below, few) in
-            absurd (sound (Grid rule.WrongKind) k ((part_at page k).start + 2 * r) (inl (
-              inside,
-              inr (inr (
-                judged,
-                2 * r,
-                refl,
-                (r, half.Name, rows, refl, (c, high, (refl, columns, (odd_is _ _ _).0 odd))),
-              )),
-            )))
-      ] refl
-
   name_fits : (k r c : ℕ) (x : Reference) → name_over page k r c ≡ Some x → SymbolFits page.decls x.symbol
   name_fits k r c x h = refer_fits page.decls _ x h
 
@@ -529,7 +554,7 @@ module _ (page : Page) (rungs : ℕ) (sites : List Site)
                 judged,
                 2 * r + 1,
                 refl,
-                (r, half.Wire, rows, refl, (c, high, (refl, columns, torn page k r c rows apart_here))),
+                (r, half.Wire, rows, refl, (c, high, (columns, torn page k r c rows apart_here))),
               )),
             )))
       ] refl

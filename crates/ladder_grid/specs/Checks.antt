@@ -4,7 +4,7 @@ use Rattle.std.specs.List.{list_any}
 use Rattle.ladder_grid.specs.declared.geometry.TheConstants.{ROWS, COLUMNS, PITCH, RAIL}
 use Rattle.ladder_grid.specs.declared.lines.Part.{Part}
 use Rattle.ladder_grid.specs.Bytes.{space, bar, is_upright}
-use Rattle.ladder_grid.specs.Picture.{Lines, line_at, line_of, ch, joint}
+use Rattle.ladder_grid.specs.Picture.{Lines, line_at, half_line, ch, joint}
 use Rattle.ladder_grid.specs.Lines.{part_in}
 use Rattle.ladder_grid.specs.Gap.{Labels, is_named, label_in, label_before}
 use Rattle.ladder_vars.specs.Decls.{Declared}
@@ -14,10 +14,9 @@ use Rattle.ladder_grid.specs.declared.operand.Reference.{Reference}
 use Rattle.ladder_grid.specs.declared.picture.Half.{Half}
 use Rattle.ladder_grid.specs.declared.fault.GridRule.{GridRule}
 use Rattle.ladder_grid.specs.Operand.{MayHave}
-use Rattle.ladder_grid.specs.Page.{Page, form_at, instance_at}
+use Rattle.ladder_grid.specs.Page.{Page}
 use Rattle.ladder_grid.specs.PageRules.{target_of}
-use Rattle.ladder_grid.specs.Form.{leaps}
-use Rattle.ladder_grid.specs.Rules.{has_text, wants_name, HoldsBefore, BreaksAt}
+use Rattle.ladder_grid.specs.Rules.{has_text, HoldsBefore, IsDrawnAt, BreaksAt, wants_name}
 
 abbrev pub part_at : Page → ℕ → Part
 part_at page k = part_in page.parts k
@@ -52,20 +51,14 @@ abbrev pub IsOdd : Declared → Option Form → Option Reference → Type 0
 IsOdd decls form name = (wants_name form ≡ true) × (x : Reference) × (name ≡ Some x) × ¬ (MayHave decls form x.symbol x.output)
 
 abbrev pub IsDrawnBefore : Page → ℕ → ℕ → ℕ → ℕ → Type 0
-IsDrawnBefore page inst k r c = HoldsBefore (λ j q d. instance_at page j q d ≡ Some inst) k r c
-
-abbrev pub IsDrawnTwice : Page → ℕ → ℕ → ℕ → Type 0
-IsDrawnTwice page k r c = (inst : ℕ) × (instance_at page k r c ≡ Some inst) × IsDrawnBefore page inst k r c
-
-abbrev pub IsSecondJump : Page → ℕ → ℕ → ℕ → Type 0
-IsSecondJump page k r c = (leaps (form_at page k r c) ≡ true) × HoldsBefore (λ j q d. (j ≡ k) × (leaps (form_at page k q d) ≡ true)) k r c
+IsDrawnBefore page inst k r c = HoldsBefore (IsDrawnAt page inst) k r c
 
 -- on a line of a row, and on a line of the rung
 abbrev pub IsBrokenAlong : GridRule → Page → ℕ → ℕ → Half → Type 0
 IsBrokenAlong rule page k r h = (c : ℕ) × (c ≤ COLUMNS) × BreaksAt rule page k r h c
 
 abbrev pub IsBrokenOn : GridRule → Page → ℕ → ℕ → Type 0
-IsBrokenOn rule page k line = (r : ℕ) × (h : Half) × (r < ROWS) × (line ≡ line_of r h) × IsBrokenAlong rule page k r h
+IsBrokenOn rule page k line = (r : ℕ) × (h : Half) × (r < ROWS) × (line ≡ half_line r h) × IsBrokenAlong rule page k r h
 
 -- nowhere in the rung
 abbrev pub IsKept : Page → ℕ → GridRule → Type 0

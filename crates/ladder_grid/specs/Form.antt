@@ -1,6 +1,6 @@
 -- The forms of a cell: what its eleven characters are, before the name over it is looked up.
 -- The symbols are those of IEC 61131-3:2013, 8.2 (contacts, coils) and 6.6.3 (blocks); their places in the cell are the profile's.
-use Rattle.std.specs.Prelude.{Contains, ◌≡◌, ℕ, ◌≤◌, ◌⊎◌, ◌&&◌, nat_le, Bool, List, [], ◌∷◌, ◌++◌, length, replicate, codes, true, false, Option, Some, None}
+use Rattle.std.specs.Prelude.{Contains, ◌≡◌, ◌↔◌, ℕ, ◌≤◌, ◌⊎◌, ◌&&◌, nat_le, Bool, List, [], ◌∷◌, ◌++◌, length, replicate, codes, true, false, Option, Some}
 use Rattle.ladder_vars.specs.Name.{is_name}
 use Rattle.ladder_vars.specs.declared.kind.BlockKind.TheVariants as kind
 use Rattle.ladder_grid.specs.Bytes.{dash, space}
@@ -49,8 +49,7 @@ HasForm chars form = Contains whole_cells (chars, form) ⊎ HasMark chars form
 
 -- What the characters of a cell are: this form, or none.
 abbrev pub IsFormOf : List ℕ → Option Form → Type 0
-IsFormOf chars None = (form : Form) → HasForm chars form → ⊥
-IsFormOf chars (Some form) = HasForm chars form
+IsFormOf chars o = (form : Form) → (o ≡ Some form) ↔ HasForm chars form
 
 -- The cell leads out of its rung.
 abbrev pub leaps : Option Form → Bool

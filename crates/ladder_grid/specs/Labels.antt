@@ -2,14 +2,14 @@
 use Rattle.std.specs.Prelude.{ℕ, nat_le, Bool, false, ◌&&◌, ◌==◌, List, [], ◌∷◌, length, take, drop, Option, Some, None, if◌then◌else◌}
 use Rattle.std.specs.List.{list_all, prefix_len}
 use Rattle.ladder_vars.specs.Name.{is_name, is_name_byte}
-use Rattle.ladder_grid.specs.Gap.{is_blank}
+use Rattle.ladder_grid.specs.Gap.{is_gap_blank}
 
 abbrev pub is_blank_line : List ℕ → Bool
-is_blank_line text = list_all is_blank text
+is_blank_line text = list_all is_gap_blank text
 
 abbrev pub after_blanks : List ℕ → List ℕ
 after_blanks [] = []
-after_blanks (b ∷ bs) = if is_blank b then after_blanks bs else b ∷ bs
+after_blanks (b ∷ bs) = if is_gap_blank b then after_blanks bs else b ∷ bs
 
 -- the word at the start, and what follows it and after blanks
 unfoldable pub word_at : List ℕ → List ℕ

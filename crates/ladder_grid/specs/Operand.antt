@@ -56,11 +56,7 @@ MayHave decls (Some (Coil mode)) (symbol.Var i) None = ¬ (option_map is_input (
 MayHave decls (Some (Block kind)) (symbol.Instance i) None = option_map (λ x. x.kind) (slice_get decls.instances i) ≡ Some kind
 MayHave decls form symbol output = ⊥
 
-abbrev pub instance_of : Symbol → Option ℕ
-instance_of (symbol.Var i) = None
-instance_of (symbol.Instance i) = Some i
-
--- the instance that a block with this text over it is
-abbrev pub instance_on : Option Form → Option Reference → Option ℕ
-instance_on (Some (Block k)) (Some x) = instance_of x.symbol
+-- the instance that a block with this name over it is
+abbrev pub instance_on : Option Form → Option Symbol → Option ℕ
+instance_on (Some (Block k)) (Some (symbol.Instance i)) = Some i
 instance_on _ _ = None

@@ -27,12 +27,9 @@ pub record Drawing : Type 0 where
 abbrev pub drawing : Declared → ℕ → List Site → Drawing
 drawing decls rungs sites = record { decls = decls; rungs = rungs; sites = sites }
 
-abbrev pub blank_site : Site
-blank_site = record { cell = cell.Empty; right_link = false; joint = joint.Blank; vertical = false }
-
--- what is at a place
+-- what is at a place, nothing past the last
 abbrev pub site_in : Drawing → ℕ → Site
-site_in d i = slice_index_or d.sites i blank_site
+site_in d i = slice_index_or d.sites i (record { cell = cell.Empty; right_link = false; joint = joint.Blank; vertical = false })
 
 abbrev pub site_at : Drawing → ℕ → ℕ → ℕ → Site
 site_at d rung row column = site_in d (place rung row column)
@@ -74,8 +71,7 @@ goes_to rungs other = None
 -- the last of the first places of a rung whose cell leads out of it: its row and column, and where to
 unfoldable pub jump_before : Drawing → ℕ → ℕ → Option (ℕ × ℕ × ℕ)
 jump_before d rung zero = None
-jump_before d rung (suc at) =
-    option_or (option_map (λ target. (at % ROWS, at / ROWS, target)) (goes_to d.rungs (cell_of d rung at))) (jump_before d rung at)
+jump_before d rung (suc at) = option_or (option_map (λ target. (at % ROWS, at / ROWS, target)) (goes_to d.rungs (cell_of d rung at))) (jump_before d rung at)
 
 -- The row and the column of the rung's jump or return, and its target. A rung has at most one.
 unfoldable pub jump_of : Drawing → ℕ → Option (ℕ × ℕ × ℕ)

@@ -13,7 +13,7 @@ use Rattle.ladder_vars.specs.declared.kind.Output.TheVariants as output
 use Rattle.ladder_grid.specs.declared.form.Form.{Form}
 use Rattle.ladder_grid.specs.declared.form.Form.TheVariants.{Contact, Coil, Block}
 use Rattle.ladder_grid.specs.declared.operand.Reference.{Reference}
-use Rattle.ladder_grid.specs.Operand.{is_input_at}
+use Rattle.ladder_grid.specs.Operand.{is_input_at, instance_on}
 
 abbrev pub without_end : ℕ → List ℕ → List ℕ
 without_end n word = take (length word - n) word
@@ -70,3 +70,7 @@ is_odd decls (Some (Contact mode)) (Some x) = is_odd_on_contact decls x.symbol x
 is_odd decls (Some (Coil mode)) (Some x) = is_odd_on_coil decls x.symbol x.output
 is_odd decls (Some (Block k)) (Some x) = is_odd_on_block decls k x.symbol x.output
 is_odd decls _ _ = false
+
+-- the instance of which this form and this name draw a block
+abbrev pub block_drawn : Declared → Option Form → Option Reference → Option ℕ
+block_drawn decls form name = if is_odd decls form name then None else instance_on form (option_map (λ x. x.symbol) name)

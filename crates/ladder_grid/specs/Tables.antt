@@ -5,7 +5,8 @@ use Rattle.ladder_grid.specs.declared.geometry.TheConstants.{RUNGS, COLUMNS, PLA
 use Rattle.ladder_grid.specs.Picture.{Lines}
 use Rattle.ladder_grid.specs.Texts.{text_over}
 use Rattle.ladder_grid.specs.Lines.{part_in, rung_of}
-use Rattle.ladder_grid.specs.Operand.{word_in, refer_to, instance_on}
+use Rattle.ladder_grid.specs.Operand.{word_in, refer_to}
+use Rattle.ladder_grid.specs.Suiting.{block_drawn}
 use Rattle.ladder_grid.specs.Rules.{has_text}
 use Rattle.ladder_grid.specs.AllPlaces.{all_places}
 use Rattle.ladder_grid.specs.Geometry.{place}
@@ -30,10 +31,10 @@ overs_of decls lines parts = all_places (over_read decls lines parts) (min (leng
 abbrev pub place_read : ℕ → ℕ
 place_read n = place (n / PLACES) (n % PLACES / COLUMNS) (n % PLACES % COLUMNS)
 
--- the instance that the block at the n-th place is
-abbrev pub block_in : List (Option Form) → List NameOver → ℕ → Option ℕ
-block_in forms overs n =
-    instance_on (slice_index_or forms (place_read n) None) (slice_index_or overs (place_read n) (record { written = false; name = None })).name
+-- the instance of which the n-th place has a block
+abbrev pub block_in : Declared → List (Option Form) → List NameOver → ℕ → Option ℕ
+block_in decls forms overs n =
+    block_drawn decls (slice_index_or forms (place_read n) None) (slice_index_or overs (place_read n) (record { written = false; name = None })).name
 
 -- with an entry of this instance, the n-th place where it has none; an instance that isn't declared gets none
 abbrev pub noted_at : ℕ → ℕ → Option ℕ → List (Option ℕ) → List (Option ℕ)

@@ -83,7 +83,7 @@ fn read_sites(alloc: Global, decls: &Decls, text: &[u8]) -> Result<(usize, Vec<S
     let forms = forms(alloc, &lines, &parts)?;
     let overs = overs(alloc, decls, &lines, &parts)?;
     let rungs = parts.len().min(RUNGS);
-    let firsts = firsts(alloc, decls.instances().len(), rungs, &forms, &overs)?;
+    let firsts = firsts(alloc, decls, rungs, &forms, &overs)?;
     checked_sites(
         alloc,
         PageView {

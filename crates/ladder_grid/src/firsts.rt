@@ -1,12 +1,13 @@
 //! Where each instance is drawn first. Places are counted in the order of reading.
 
-ghost use Rattle.std.specs.Prelude.{◌≡◌, ◌≤◌, ◌<◌, ◌*◌, ◌↔◌, slice_index_or, false, None, IsTrue, IfOk};
+ghost use Rattle.std.specs.Prelude.{◌≡◌, ◌≤◌, ◌<◌, ◌*◌, ◌↔◌, length, slice_index_or, false, None, IsTrue, IfOk};
 ghost use Rattle.ladder_grid.specs.declared.geometry.TheConstants.{RUNGS, PLACES};
 ghost use Rattle.ladder_grid.specs.Tables.{place_read, block_in, noted, firsts_of, IsBefore};
 
 use crate::form::Form;
 use crate::geometry::{COLUMNS, PLACES, place};
-use crate::operand::{NameOver, Reference, instance_on};
+use crate::operand::{NameOver, Reference, block_drawn};
+use ladder_vars::Decls;
 use std::alloc::{AllocError, Global};
 
 fn place_read(n: usize) -> usize
@@ -32,13 +33,13 @@ fn form_in(forms: &[Option<Form>], at: usize) -> Option<Form>
     if at < forms.len() { forms[at] } else { None }
 }
 
-/// The instance that the block at a place is.
-fn block_in(forms: &[Option<Form>], overs: &[NameOver], n: usize) -> Option<usize>
+/// The instance of which a place has a block.
+fn block_in(decls: &Decls, forms: &[Option<Form>], overs: &[NameOver], n: usize) -> Option<usize>
     requires { n < PLACES * RUNGS }
-    ensures { result ≡ block_in forms.now overs.now n }
+    ensures { result ≡ block_in decls.now forms.now overs.now n }
 {
     let at = place_read(n);
-    instance_on(form_in(forms, at), name_in(overs, at))
+    block_drawn(decls, &form_in(forms, at), &name_in(overs, at))
 }
 
 fn note(firsts: &mut Vec<Option<usize>>, n: usize, inst: Option<usize>)
@@ -54,17 +55,17 @@ fn note(firsts: &mut Vec<Option<usize>>, n: usize, inst: Option<usize>)
 /// The place where each instance is drawn first in so many rungs, by its number.
 pub(crate) fn firsts(
     alloc: Global,
-    instances: usize,
+    decls: &Decls,
     rungs: usize,
     forms: &[Option<Form>],
     overs: &[NameOver],
 ) -> Result<Vec<Option<usize>>, AllocError>
     requires { rungs ≤ RUNGS }
-    ensures { IfOk result (λ v. v.items ≡ firsts_of (block_in forms.now overs.now) instances (PLACES * rungs)) }
+    ensures { IfOk result (λ v. v.items ≡ firsts_of (block_in decls.now forms.now overs.now) (length decls.now.instances) (PLACES * rungs)) }
 {
-    let mut firsts: Vec<Option<usize>> = vec![in alloc; None; instances]?;
+    let mut firsts: Vec<Option<usize>> = vec![in alloc; None; decls.instances().len()]?;
     for n in 0..PLACES * rungs {
-        note(&mut firsts, n, block_in(forms, overs, n));
+        note(&mut firsts, n, block_in(decls, forms, overs, n));
     }
     Ok(firsts)
 }

@@ -1,10 +1,10 @@
 //! What the text over a cell stands for.
 
-ghost use Rattle.std.specs.Prelude.{◌≡◌, ◌≤◌, ◌-◌, length, drop, slice_get};
+ghost use Rattle.std.specs.Prelude.{◌≡◌, ◌≤◌, ◌-◌, length, drop, slice_get, option_map};
 ghost use Rattle.ladder_vars.specs.Name.{same_letters};
-ghost use Rattle.ladder_grid.specs.Operand.{word_in, ends_in, refer_to, instance_of, instance_on};
+ghost use Rattle.ladder_grid.specs.Operand.{word_in, ends_in, refer_to, instance_on};
 ghost use Rattle.ladder_grid.specs.Texts.{after_spaces, text_len};
-ghost use Rattle.ladder_grid.specs.Suiting.{without_end, named, referred, same_kind, same_output, gives_output, is_odd_on_contact, is_odd_on_coil, is_odd_on_block, is_odd};
+ghost use Rattle.ladder_grid.specs.Suiting.{without_end, named, referred, same_kind, same_output, gives_output, is_odd_on_contact, is_odd_on_coil, is_odd_on_block, is_odd, block_drawn};
 
 use crate::form::Form;
 use ladder_vars::{BlockKind, Decls, Name, Output, Symbol};
@@ -195,22 +195,15 @@ pub(crate) fn is_odd(decls: &Decls, form: Option<Form>, name: Option<Reference>)
     }
 }
 
-/// The instance that a symbol is.
-pub(crate) fn instance_of(symbol: Symbol) -> Option<usize>
-    ensures { result ≡ instance_of symbol }
-{
-    match symbol {
-        Symbol::Var(_) => None,
-        Symbol::Instance(i) => Some(i),
-    }
-}
-
 /// The instance that a block with this text over it is.
 pub(crate) fn instance_on(form: Option<Form>, name: Option<Reference>) -> Option<usize>
-    ensures { result ≡ instance_on form name }
+    ensures { result ≡ instance_on form (option_map (λ x. x.symbol) name) }
 {
     match (form, name) {
-        (Some(Form::Block(_)), Some(name)) => instance_of(name.symbol),
+        (Some(Form::Block(_)), Some(name)) => match name.symbol {
+            Symbol::Instance(inst) => Some(inst),
+            Symbol::Var(_) => None,
+        },
         (Some(Form::Block(_)), None)
         | (
             None
@@ -225,5 +218,20 @@ pub(crate) fn instance_on(form: Option<Form>, name: Option<Reference>) -> Option
             ),
             _,
         ) => None,
+    }
+}
+
+/// The instance of which this form and this name draw a block: none by a name that the block can't have.
+pub(crate) fn block_drawn(
+    decls: &Decls,
+    form: &Option<Form>,
+    name: &Option<Reference>,
+) -> Option<usize>
+    ensures { result ≡ block_drawn decls.now form.now name.now }
+{
+    if is_odd(decls, *form, *name) {
+        None
+    } else {
+        instance_on(*form, *name)
     }
 }

@@ -1,28 +1,30 @@
 //! The rules of cells, joints and names.
 
-ghost use Rattle.std.specs.Prelude.{◌≡◌, ◌≤◌, ◌<◌, ◌*◌, ◌↔◌, length, map, None, true, false, IsTrue, IfSome, IfNone};
+ghost use Rattle.std.specs.Prelude.{◌≡◌, ◌≤◌, ◌<◌, ◌*◌, ◌↔◌, ℕ, length, map, Some, true, false, IsTrue, IfSome, IfNone};
 ghost use Rattle.ladder_grid.specs.declared.geometry.TheConstants.{RUNGS, ROWS, COLUMNS, LINES, PITCH};
 ghost use Rattle.std.specs.List.{AllByRecursion};
 ghost use Rattle.ladder_grid.specs.Seen.{seen};
 ghost use Rattle.ladder_grid.specs.Bytes.{is_upright};
 ghost use Rattle.ladder_grid.specs.AllPlaces.{reading_place};
-ghost use Rattle.ladder_grid.specs.Rules.{is_joint, fits_joint, wants_name, has_text, IsTorn, BreaksAt};
+ghost use Rattle.ladder_grid.specs.Rules.{is_joint, fits_joint, wants_name, has_text, IsTorn, IsDrawnAt, CellBreaks, BreaksAt};
 ghost use Rattle.ladder_grid.specs.Form.{leaps};
-ghost use Rattle.ladder_grid.specs.Checks.{is_loose, IsOdd, IsDrawnBefore, IsDrawnTwice, IsSecondJump, IsBrokenAlong, IsBrokenOn, IsKept};
+ghost use Rattle.ladder_grid.specs.Checks.{is_loose, IsDrawnBefore, IsBrokenAlong, IsBrokenOn, IsKept};
 ghost use Rattle.ladder_grid.specs.Shapes.{same_pin, is_lower_for, takes_second, is_block_for, lacks_lower, is_apart, form_above, form_below};
 ghost use Rattle.ladder_grid.specs.Page.{rung_at, form_at, name_over};
-ghost use Rattle.ladder_grid.specs.Picture.{ch, line_of};
+ghost use Rattle.ladder_grid.specs.Picture.{ch, half_line};
 ghost use Rattle.ladder_grid.specs.Texts.{text_over};
 ghost use Rattle.ladder_grid.specs.declared.fault.GridRule.{GridRule};
+ghost use Rattle.ladder_grid.specs.declared.fault.GridRule.TheVariants as rule;
+ghost use Rattle.ladder_grid.specs.declared.picture.Half.TheVariants as half;
 
 use crate::fault::GridRule;
 use crate::feeding::{is_unfed, right_link};
 use crate::firsts::{first_of, is_before};
 use crate::form::Form;
 use crate::geometry::{COLUMNS, PITCH, ROWS, reading_place};
-use crate::operand::is_odd;
-use crate::page::{form_at, instance_at, is_written_over, name_over, rung_at};
-use crate::picture::{Half, ch, joint, line_of};
+use crate::operand::{block_drawn, is_odd};
+use crate::page::{form_at, is_written_over, name_over, rung_at};
+use crate::picture::{Half, ch, half_line, joint};
 use crate::view::PageView;
 use ladder_vars::Pin;
 
@@ -67,7 +69,11 @@ fn fits_joint(
             half,
             right_link(page, rung, row, column.saturating_sub(1)),
             b,
-            ch(rung_at(page, rung), line_of(row, half), PITCH * column + 1),
+            ch(
+                rung_at(page, rung),
+                half_line(row, half),
+                PITCH * column + 1,
+            ),
         )
     }
 }
@@ -76,7 +82,7 @@ fn is_odd_joint(page: PageView<'_, '_>, rung: usize, row: usize, half: Half, col
     requires rungs { rung < length page.parts.now }
     requires rows { row < ROWS }
     requires columns { column ≤ COLUMNS }
-    ensures { IsTrue result ↔ (fits_joint (seen page.entry) rung row half column (ch (rung_at (seen page.entry) rung) (line_of row half) (PITCH * column)) ≡ false) }
+    ensures { IsTrue result ↔ (fits_joint (seen page.entry) rung row half column (ch (rung_at (seen page.entry) rung) (half_line row half) (PITCH * column)) ≡ false) }
 {
     !fits_joint(
         page,
@@ -84,7 +90,7 @@ fn is_odd_joint(page: PageView<'_, '_>, rung: usize, row: usize, half: Half, col
         row,
         half,
         column,
-        ch(rung_at(page, rung), line_of(row, half), PITCH * column),
+        ch(rung_at(page, rung), half_line(row, half), PITCH * column),
     )
 }
 
@@ -128,7 +134,7 @@ fn lacks_name(page: PageView<'_, '_>, rung: usize, row: usize, column: usize) ->
     requires few { rung < RUNGS }
     requires rows { row < ROWS }
     requires columns { column < COLUMNS }
-    ensures { IsTrue result ↔ ((wants_name (form_at (seen page.entry) rung row column) ≡ true) × (has_text (text_over (rung_at (seen page.entry) rung) row column) ≡ false)) }
+    ensures { IsTrue result ↔ CellBreaks rule.NameMissing half.Name (seen page.entry) rung row column }
 {
     wants_name(form_at(page, rung, row, column)) && !is_written_over(page, rung, row, column)
 }
@@ -138,7 +144,7 @@ fn has_idle_text(page: PageView<'_, '_>, rung: usize, row: usize, column: usize)
     requires few { rung < RUNGS }
     requires rows { row < ROWS }
     requires columns { column < COLUMNS }
-    ensures { IsTrue result ↔ ((wants_name (form_at (seen page.entry) rung row column) ≡ false) × (has_text (text_over (rung_at (seen page.entry) rung) row column) ≡ true)) }
+    ensures { IsTrue result ↔ CellBreaks rule.NameWithoutSymbol half.Name (seen page.entry) rung row column }
 {
     !wants_name(form_at(page, rung, row, column)) && is_written_over(page, rung, row, column)
 }
@@ -148,9 +154,11 @@ fn is_undeclared(page: PageView<'_, '_>, rung: usize, row: usize, column: usize)
     requires few { rung < RUNGS }
     requires rows { row < ROWS }
     requires columns { column < COLUMNS }
-    ensures { IsTrue result ↔ ((wants_name (form_at (seen page.entry) rung row column) ≡ true) × (name_over (seen page.entry) rung row column ≡ None)) }
+    ensures { IsTrue result ↔ CellBreaks rule.Undeclared half.Name (seen page.entry) rung row column }
 {
-    wants_name(form_at(page, rung, row, column)) && name_over(page, rung, row, column).is_none()
+    wants_name(form_at(page, rung, row, column))
+        && is_written_over(page, rung, row, column)
+        && name_over(page, rung, row, column).is_none()
 }
 
 fn has_odd_name(page: PageView<'_, '_>, rung: usize, row: usize, column: usize) -> bool
@@ -158,7 +166,7 @@ fn has_odd_name(page: PageView<'_, '_>, rung: usize, row: usize, column: usize) 
     requires few { rung < RUNGS }
     requires rows { row < ROWS }
     requires columns { column < COLUMNS }
-    ensures { IsTrue result ↔ IsOdd page.entry.decls.now (form_at (seen page.entry) rung row column) (name_over (seen page.entry) rung row column) }
+    ensures { IsTrue result ↔ CellBreaks rule.WrongKind half.Name (seen page.entry) rung row column }
 {
     is_odd(
         page.decls,
@@ -304,14 +312,26 @@ fn is_drawn_before(
     )
 }
 
-fn is_drawn_twice(page: PageView<'_, '_>, rung: usize, row: usize, column: usize) -> bool
+/// The instance of which there is a block at the place.
+fn drawn_at(page: PageView<'_, '_>, rung: usize, row: usize, column: usize) -> Option<usize>
     requires rungs { rung < length page.parts.now }
+    requires few { rung < RUNGS }
     requires rows { row < ROWS }
     requires columns { column < COLUMNS }
-    requires few { rung < RUNGS }
-    ensures { IsTrue result ↔ IsDrawnTwice (seen page.entry) rung row column }
+    ensures { (inst : ℕ) → (result ≡ Some inst) ↔ IsDrawnAt (seen page.entry) inst rung row column }
 {
-    match instance_at(page, rung, row, column) {
+    let name = name_over(page, rung, row, column);
+    block_drawn(page.decls, &form_at(page, rung, row, column), &name)
+}
+
+fn is_drawn_twice(page: PageView<'_, '_>, rung: usize, row: usize, column: usize) -> bool
+    requires rungs { rung < length page.parts.now }
+    requires few { rung < RUNGS }
+    requires rows { row < ROWS }
+    requires columns { column < COLUMNS }
+    ensures { IsTrue result ↔ CellBreaks rule.DrawnTwice half.Name (seen page.entry) rung row column }
+{
+    match drawn_at(page, rung, row, column) {
         Some(inst) => is_drawn_before(page, inst, rung, row, column),
         None => false,
     }
@@ -338,7 +358,7 @@ fn is_second_jump(page: PageView<'_, '_>, rung: usize, row: usize, column: usize
     requires rungs { rung < length page.parts.now }
     requires rows { row < ROWS }
     requires columns { column < COLUMNS }
-    ensures { IsTrue result ↔ IsSecondJump (seen page.entry) rung row column }
+    ensures { IsTrue result ↔ CellBreaks rule.TwoJumps half.Wire (seen page.entry) rung row column }
 {
     if !leaps(form_at(page, rung, row, column)) {
         return false;
@@ -351,13 +371,69 @@ fn is_second_jump(page: PageView<'_, '_>, rung: usize, row: usize, column: usize
     false
 }
 
-fn is_wire(half: Half) -> bool
-    ensures wire { IsTrue result ↔ (half ≡ Half.Wire) }
-    ensures name { (result ≡ false) ↔ (half ≡ Half.Name) }
+/// Whether the cell at the place breaks the rule on its wire line.
+fn wire_breaks(
+    rule: GridRule,
+    page: PageView<'_, '_>,
+    rung: usize,
+    row: usize,
+    column: usize,
+) -> bool
+    requires rungs { rung < length page.parts.now }
+    requires few { rung < RUNGS }
+    requires rows { row < ROWS }
+    requires columns { column < COLUMNS }
+    ensures { IsTrue result ↔ CellBreaks rule half.Wire (seen page.entry) rung row column }
 {
-    match half {
-        Half::Name => false,
-        Half::Wire => true,
+    match rule {
+        GridRule::BadCell => form_at(page, rung, row, column).is_none(),
+        GridRule::Unfed => is_unfed(page, rung, row, column),
+        GridRule::BlockShape => is_torn(page, rung, row, column),
+        GridRule::TwoJumps => is_second_jump(page, rung, row, column),
+        GridRule::TooWide
+        | GridRule::TooTall
+        | GridRule::BadJoint
+        | GridRule::BrokenVertical
+        | GridRule::NameMissing
+        | GridRule::NameWithoutSymbol
+        | GridRule::Undeclared
+        | GridRule::WrongKind
+        | GridRule::DrawnTwice
+        | GridRule::LabelFault
+        | GridRule::TooManyRungs => false,
+    }
+}
+
+/// Whether what is over the cell at the place, or the bar on its left, breaks the rule on the name line.
+fn name_breaks(
+    rule: GridRule,
+    page: PageView<'_, '_>,
+    rung: usize,
+    row: usize,
+    column: usize,
+) -> bool
+    requires rungs { rung < length page.parts.now }
+    requires few { rung < RUNGS }
+    requires rows { row < ROWS }
+    requires columns { column < COLUMNS }
+    ensures { IsTrue result ↔ CellBreaks rule half.Name (seen page.entry) rung row column }
+{
+    match rule {
+        GridRule::BrokenVertical => column >= 1 && is_loose(rung_at(page, rung), row, column),
+        GridRule::NameMissing => lacks_name(page, rung, row, column),
+        GridRule::NameWithoutSymbol => has_idle_text(page, rung, row, column),
+        GridRule::Undeclared => is_undeclared(page, rung, row, column),
+        GridRule::WrongKind => has_odd_name(page, rung, row, column),
+        GridRule::DrawnTwice => is_drawn_twice(page, rung, row, column),
+        GridRule::TooWide
+        | GridRule::TooTall
+        | GridRule::BadCell
+        | GridRule::BadJoint
+        | GridRule::Unfed
+        | GridRule::BlockShape
+        | GridRule::TwoJumps
+        | GridRule::LabelFault
+        | GridRule::TooManyRungs => false,
     }
 }
 
@@ -376,41 +452,14 @@ fn breaks(
     requires few { rung < RUNGS }
     ensures { IsTrue result ↔ BreaksAt rule (seen page.entry) rung row half column }
 {
-    match rule {
-        GridRule::BadCell => is_wire(half)
-            && column < COLUMNS
-            && form_at(page, rung, row, column).is_none(),
-        GridRule::BadJoint => column >= 1 && is_odd_joint(page, rung, row, half, column),
-        GridRule::BrokenVertical => !is_wire(half)
-            && column >= 1
-            && column < COLUMNS
-            && is_loose(rung_at(page, rung), row, column),
-        GridRule::Unfed => is_wire(half) && column < COLUMNS && is_unfed(page, rung, row, column),
-        GridRule::NameMissing => !is_wire(half)
-            && column < COLUMNS
-            && lacks_name(page, rung, row, column),
-        GridRule::NameWithoutSymbol => !is_wire(half)
-            && column < COLUMNS
-            && has_idle_text(page, rung, row, column),
-        GridRule::Undeclared => !is_wire(half)
-            && column < COLUMNS
-            && is_undeclared(page, rung, row, column),
-        GridRule::WrongKind => !is_wire(half)
-            && column < COLUMNS
-            && has_odd_name(page, rung, row, column),
-        GridRule::BlockShape => is_wire(half)
-            && column < COLUMNS
-            && is_torn(page, rung, row, column),
-        GridRule::DrawnTwice => !is_wire(half)
-            && column < COLUMNS
-            && is_drawn_twice(page, rung, row, column),
-        GridRule::TwoJumps => is_wire(half)
-            && column < COLUMNS
-            && is_second_jump(page, rung, row, column),
-        GridRule::TooWide | GridRule::TooTall | GridRule::LabelFault | GridRule::TooManyRungs => {
-            false
-        }
+    if rule == GridRule::BadJoint {
+        return column >= 1 && is_odd_joint(page, rung, row, half, column);
     }
+    column < COLUMNS
+        && match half {
+            Half::Wire => wire_breaks(rule, page, rung, row, column),
+            Half::Name => name_breaks(rule, page, rung, row, column),
+        }
 }
 
 /// Whether the rule is broken on this line of a row.
@@ -444,10 +493,10 @@ fn broken_line(rule: GridRule, page: PageView<'_, '_>, rung: usize) -> Option<us
 {
     for row in 0..ROWS {
         if is_broken_along(rule, page, rung, row, Half::Name) {
-            return Some(line_of(row, Half::Name));
+            return Some(half_line(row, Half::Name));
         }
         if is_broken_along(rule, page, rung, row, Half::Wire) {
-            return Some(line_of(row, Half::Wire));
+            return Some(half_line(row, Half::Wire));
         }
     }
     None

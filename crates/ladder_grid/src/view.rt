@@ -23,5 +23,5 @@ pub(crate) struct PageView<'a, 'b> {
     pub firsts: &'a [Option<usize>],
     ghost within: { All (IsWithin (length lines.now)) parts.now },
     ghost told: { overs.now ≡ overs_of decls.now (map (λ l. l.now) lines.now) parts.now },
-    ghost drawn: { firsts.now ≡ firsts_of (block_in forms.now overs.now) (length decls.now.instances) (PLACES * min (length parts.now) RUNGS) },
+    ghost drawn: { firsts.now ≡ firsts_of (block_in decls.now forms.now overs.now) (length decls.now.instances) (PLACES * min (length parts.now) RUNGS) },
 }

@@ -5,7 +5,8 @@ use Rattle.std.proofs.lemmas.List.{append-nil}
 use Rattle.std.proofs.lemmas.List.Elements.{filter-append}
 use Rattle.std.proofs.lemmas.List.Sums.{count_by_more_no, count_by_more_yes}
 use Rattle.ladder_grid.specs.declared.site.Site.{Site}
-use Rattle.ladder_grid.specs.Program.{Drawing, blank_site, cell_in, has_memory, memories_of}
+use Rattle.ladder_grid.specs.Program.{Drawing, cell_in, has_memory, memories_of}
+use Rattle.ladder_grid.specs.Sheet.{blank_site}
 use Rattle.ladder_state.specs.StateText.{memory_places}
 use Rattle.ladder_state.specs.Parts.{memory_places_before}
 use Rattle.ladder_state.proofs.Items.{some_same}
