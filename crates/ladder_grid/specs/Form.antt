@@ -53,6 +53,4 @@ IsFormOf chars o = (form : Form) → (o ≡ Some form) ↔ HasForm chars form
 
 -- The cell leads out of its rung.
 abbrev pub leaps : Option Form → Bool
-leaps (Some (Jump label)) = true
-leaps (Some Return) = true
-leaps form = false
+leaps form = elim form [ Some (Jump label) ↦ true | Some Return ↦ true | _ ↦ false ]

@@ -43,9 +43,7 @@ cell_of d rung at = cell_in d (PLACES * rung + at)
 
 -- Power goes from a right link into the group of a joint where the joint is `-` or `+` (IEC 61131-3, power flow).
 abbrev pub takes_power : Joint → Bool
-takes_power joint.Dash = true
-takes_power joint.Plus = true
-takes_power other = false
+takes_power j = elim j [ joint.Dash ↦ true | joint.Plus ↦ true | _ ↦ false ]
 
 -- vertical links on the left of the column join the n + 1 rows from this one on
 unfoldable pub joined : Drawing → ℕ → ℕ → ℕ → ℕ → Bool
@@ -64,9 +62,7 @@ is_empty other = false
 
 -- where a cell leads out of its rung: past the last one by a return
 abbrev pub goes_to : ℕ → Cell → Option ℕ
-goes_to rungs (cell.Jump target) = Some target
-goes_to rungs cell.Return = Some rungs
-goes_to rungs other = None
+goes_to rungs c = elim c [ cell.Jump target ↦ Some target | cell.Return ↦ Some rungs | _ ↦ None ]
 
 -- the last of the first places of a rung whose cell leads out of it: its row and column, and where to
 unfoldable pub jump_before : Drawing → ℕ → ℕ → Option (ℕ × ℕ × ℕ)
@@ -78,9 +74,7 @@ unfoldable pub jump_of : Drawing → ℕ → Option (ℕ × ℕ × ℕ)
 jump_of d rung = jump_before d rung PLACES
 
 abbrev pub memory_in : Cell → Option ℕ
-memory_in (cell.Contact mode operand memory) = memory
-memory_in (cell.Coil mode var memory) = memory
-memory_in other = None
+memory_in c = elim c [ cell.Contact mode operand memory ↦ memory | cell.Coil mode var memory ↦ memory | _ ↦ None ]
 
 abbrev pub has_memory : Cell → Bool
 has_memory c = is_some (memory_in c)
@@ -90,8 +84,7 @@ abbrev pub memories_of : Drawing → ℕ
 memories_of d = count_by (λ s. has_memory s.cell) d.sites
 
 abbrev pub is_coil_of : ℕ → Cell → Bool
-is_coil_of var (cell.Coil mode v memory) = v == var
-is_coil_of var other = false
+is_coil_of var c = elim c [ cell.Coil mode v memory ↦ v == var | _ ↦ false ]
 
 -- whether a coil writes the variable
 abbrev pub has_coil : ℕ → Drawing → Bool
@@ -103,16 +96,14 @@ pub record IsWhole (d : Drawing) : Type 0 where
   pub size : length d.sites ≡ PLACES * d.rungs
 
 abbrev pub block_in : Cell → Option ℕ
-block_in (cell.Block inst) = Some inst
-block_in other = None
+block_in c = elim c [ cell.Block inst ↦ Some inst | _ ↦ None ]
 
 abbrev pub is_block : Cell → Bool
 is_block c = is_some (block_in c)
 
 -- a lower cell that has a left link
 abbrev pub is_linked : Cell → Bool
-is_linked (cell.Lower inst linked) = linked
-is_linked other = false
+is_linked c = elim c [ cell.Lower inst linked ↦ linked | _ ↦ false ]
 
 abbrev pub OperandFits : Declared → Operand → Type 0
 OperandFits decls (operand.Var number) = number < length decls.vars

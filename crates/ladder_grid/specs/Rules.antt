@@ -33,10 +33,7 @@ fits_joint page k r h c b =
 
 -- the forms that have a name over them
 abbrev pub wants_name : Option Form → Bool
-wants_name (Some (Contact mode)) = true
-wants_name (Some (Coil mode)) = true
-wants_name (Some (Block k)) = true
-wants_name form = false
+wants_name form = elim form [ Some (Contact mode) ↦ true | Some (Coil mode) ↦ true | Some (Block k) ↦ true | _ ↦ false ]
 
 abbrev pub has_text : List ℕ → Bool
 has_text chars = list_any (λ b. not (b == space)) chars

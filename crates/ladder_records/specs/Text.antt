@@ -11,8 +11,7 @@ records_of text = records default_config (strip_bom text)
 
 -- the field of a bit: 1 for ON, 0 for OFF
 abbrev pub bit_text : Bool → List ℕ
-bit_text true = codes "1"
-bit_text false = codes "0"
+bit_text bit = if bit then codes "1" else codes "0"
 
 -- fields with a comma before each
 abbrev pub after_commas : Fields → List ℕ

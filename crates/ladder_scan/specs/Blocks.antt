@@ -11,17 +11,13 @@ use Rattle.ladder_scan.specs.declared.block.Stored.TheVariants.{Timer, Counter, 
 -- A timer stores the last IN, whether it runs, the moment at which it began to (0 where it doesn't run) and Q;
 -- a counter the last count input, CV and Q; a bistable Q1.
 abbrev pub q_of : Stored → Bool
-q_of (Timer last running start q) = q
-q_of (Counter last cv q) = q
-q_of (Bistable q) = q
+q_of stored = elim stored [ Timer last running start q ↦ q | Counter last cv q ↦ q | Bistable q ↦ q ]
 
 -- What an instance stores before its first step.
 abbrev pub new_block : BlockKind → Stored
-new_block Ctu = Counter false (pos 0) false
-new_block Ctd = Counter false (pos 0) false
-new_block Sr = Bistable false
-new_block Rs = Bistable false
-new_block timer = Timer false false 0 false
+new_block kind = elim kind [
+    | Ctu ↦ Counter false (pos 0) false | Ctd ↦ Counter false (pos 0) false | Sr ↦ Bistable false | Rs ↦ Bistable false | _ ↦ Timer false false 0 false
+  ]
 
 -- The step of a block: its kind and preset, what it stored, its two inputs and the moment. The first input is IN, CU, CD, S1 or S,
 -- the second R, LD or R1. A timer has no second input.

@@ -52,24 +52,20 @@ pub record Kept : Type 0 where
 
 -- The entry of a list at an optional number, and the list with that entry replaced.
 abbrev pub at : {A : Type 0} → List A → Option ℕ → A → A
-at xs None otherwise = otherwise
-at xs (Some i) otherwise = slice_index_or xs i otherwise
+at xs i otherwise = elim i [ Some i ↦ slice_index_or xs i otherwise | None ↦ otherwise ]
 
 abbrev pub put_in : {A : Type 0} → List A → Option ℕ → A → List A
-put_in xs None x = xs
-put_in xs (Some i) x = slice_set xs i x
+put_in xs i x = elim i [ Some i ↦ slice_set xs i x | None ↦ xs ]
 
 -- A cell writes at most one variable; it has at most one memory (`memory_in`) and steps at most one instance (`block_in`).
 abbrev pub var_in : Cell → Option ℕ
-var_in (Coil mode var memory) = Some var
-var_in other = None
+var_in c = elim c [ Coil mode var memory ↦ Some var | _ ↦ None ]
 
 abbrev pub memory_of : Kept → Cell → Bool
 memory_of k c = at k.memories (memory_in c) false
 
 abbrev pub operand_value : {S : Type 0} → Algebra S → Frame S → Operand → S
-operand_value o f (Var var) = slice_index_or f.values var (o.known false)
-operand_value o f (Output inst) = slice_index_or f.ends inst (o.known false)
+operand_value o f x = elim x [ Var var ↦ slice_index_or f.values var (o.known false) | Output inst ↦ slice_index_or f.ends inst (o.known false) ]
 
 -- How far a contact is closed, by its operand's value x and its memory m, which is the value that the operand had:
 -- `| |` where x is ON, `|/|` where it is OFF, `|P|` where it has become ON, `|N|` where it has become OFF.

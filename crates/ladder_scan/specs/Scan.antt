@@ -15,8 +15,7 @@ given (is_input ∷ more) xs (v ∷ values) = v ∷ given more xs values
 -- The rung after rung j, by its jump and its left links: the target of the jump, where the jump's left link is ON, and otherwise
 -- the rung below.
 abbrev pub rung_after : ℕ → Option (ℕ × ℕ) → (ℕ → Bool) → ℕ
-rung_after j None links = j + 1
-rung_after j (Some (place, target)) links = if links place then target else j + 1
+rung_after j jump links = elim jump [ Some (place, target) ↦ if links place then target else j + 1 | None ↦ j + 1 ]
 
 -- The rung after an evaluated one, by the left links that it had.
 abbrev pub next_rung : Diagram → ℕ → ℕ → Held → ℕ

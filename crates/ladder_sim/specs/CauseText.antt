@@ -24,8 +24,7 @@ cause_text p listed causes = lines_text (header_record p listed ∷ map (cause_r
 
 -- the first causes, where there is a limit
 abbrev pub limited : Option ℕ → List ℕ → List ℕ
-limited None causes = causes
-limited (Some limit) causes = take limit causes
+limited limit causes = elim limit [ Some most ↦ take most causes | None ↦ causes ]
 
 -- The cursor has given some of its causes, at most this many.
 abbrev pub TakesAtMost : Cursor → Cursor → ℕ → Type 0

@@ -19,8 +19,7 @@ use Rattle.ladder_state.specs.declared.version.Version.TheVariants.{First, Secon
 -- ---- one record
 
 abbrev pub version_record : Version → Fields
-version_record First = codes "version" ∷ codes "1" ∷ []
-version_record Second = codes "version" ∷ codes "2" ∷ []
+version_record version = codes "version" ∷ elim version [ First ↦ codes "1" | Second ↦ codes "2" ] ∷ []
 
 abbrev pub moment_record : ℕ → Fields
 moment_record moment = codes "moment" ∷ decimal moment ∷ []

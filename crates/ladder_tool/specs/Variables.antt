@@ -7,8 +7,7 @@ use Rattle.ladder_vars.specs.Decls.{Declared, find}
 use Rattle.ladder_vars.specs.Name.{is_name}
 
 abbrev pub var_in : Option Symbol → Option ℕ
-var_in (Some (symbol.Var number)) = Some number
-var_in other = None
+var_in found = elim found [ Some (symbol.Var number) ↦ Some number | _ ↦ None ]
 
 -- the variable with this name, by its number in order of declaration
 abbrev pub variable_of : Declared → List ℕ → Option ℕ

@@ -21,8 +21,7 @@ abbrev pub is_name_byte : ℕ → Bool
 is_name_byte b = is_ascii_alphanumeric b || (b == 95)
 
 abbrev pub has_name_form : List ℕ → Bool
-has_name_form [] = false
-has_name_form (b ∷ bs) = (is_ascii_alphabetic b || b == 95) && list_all is_name_byte bs
+has_name_form word = elim word [ b ∷ bs ↦ (is_ascii_alphabetic b || b == 95) && list_all is_name_byte bs | [] ↦ false ]
 
 abbrev pub is_name : List ℕ → Bool
 is_name word = has_name_form word && (nat_le (length word) LONGEST_NAME && not (list_any (same_letters word) keywords))

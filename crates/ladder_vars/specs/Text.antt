@@ -4,8 +4,7 @@ use Rattle.std.specs.List.{prefix_len, list_all}
 use Rattle.std.specs.Char.{is_ascii_alphanumeric}
 
 abbrev pub begins : (ℕ → Bool) → List ℕ → Bool
-begins test [] = false
-begins test (b ∷ bs) = test b
+begins test text = elim text [ b ∷ bs ↦ test b | [] ↦ false ]
 
 abbrev pub begins_with : ℕ → List ℕ → Bool
 begins_with byte = begins (λ b. b == byte)
@@ -69,8 +68,7 @@ IsBadByte (b ∷ after) = (is_blank b after ≡ false) × (is_printed b ≡ fals
 
 -- `(*` or `//` is at the start.
 abbrev pub begins_comment : List ℕ → Bool
-begins_comment [] = false
-begins_comment (b ∷ after) = (b == 40 && begins_with 42 after) || (b == 47 && begins_with 47 after)
+begins_comment text = elim text [ b ∷ after ↦ (b == 40 && begins_with 42 after) || (b == 47 && begins_with 47 after) | [] ↦ false ]
 
 -- A printed byte is at the start, and begins neither a token nor a comment.
 abbrev pub IsStray : List ℕ → Type 0
