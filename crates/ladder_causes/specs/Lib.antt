@@ -14,3 +14,4 @@ pub mod Three
 pub mod ThreeLaws
 pub mod WordLaws
 pub mod Words
+pub mod Tests

@@ -23,8 +23,7 @@ given_by t = record { program = t.program.items; state = option_map vec_items t.
 
 -- The state that a text describes, or the fresh one where there is no text.
 abbrev pub HasState : Drawing → Option (List ℕ) → Standing → Type 0
-HasState p None s = s ≡ fresh p
-HasState p (Some text) s = IsStateOf p s × HasRecords p s (records_of text)
+HasState p state s = elim state [ Some text ↦ IsStateOf p s × HasRecords p s (records_of text) | None ↦ s ≡ fresh p ]
 
 -- The texts describe this program and this state of it.
 pub record IsSet (g : Given) (p : Drawing) (s : Standing) : Type 0 where

@@ -37,8 +37,7 @@ kind_of letter = lookup (λ capital. letter == capital) ((73, var_kind.Input) �
 
 -- a point (46) and the second number, or nothing
 abbrev pub IsSecond : List ℕ → Option ℕ → Type 0
-IsSecond text None = text ≡ []
-IsSecond text (Some n) = (digits : List ℕ) × (text ≡ 46 ∷ digits) × IsNumber digits n
+IsSecond text second = elim second [ Some n ↦ (digits : List ℕ) × (text ≡ 46 ∷ digits) × IsNumber digits n | None ↦ text ≡ [] ]
 
 -- 37 is the percent sign; the size X of a BOOL may be left out
 abbrev pub IsAddress : List ℕ → VarKind → Address → Type 0
