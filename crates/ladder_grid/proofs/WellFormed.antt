@@ -25,7 +25,8 @@ use Rattle.ladder_grid.specs.Suiting.{is_odd}
 use Rattle.ladder_grid.proofs.OddLaws.{odd_is}
 use Rattle.ladder_grid.proofs.BlockLaws.{block_may}
 use Rattle.ladder_grid.specs.Rules.{IsDrawnAt}
-use Rattle.ladder_grid.specs.Page.{Page, labels_of, form_at, name_over, instance_at, instance_above}
+use Rattle.ladder_grid.specs.Page.{Page, labels_of, form_at, name_over, instance_at}
+use Rattle.ladder_grid.specs.Seen.{instance_above}
 use Rattle.ladder_grid.specs.AllPlaces.{reading_place}
 use Rattle.ladder_vars.specs.Kind.{traits_of}
 use Rattle.ladder_grid.specs.Form.{leaps}

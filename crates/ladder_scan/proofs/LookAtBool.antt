@@ -6,7 +6,8 @@ use Rattle.ladder_scan.specs.Algebra.{Algebra}
 use Rattle.ladder_scan.specs.Truth.{plain}
 use Rattle.ladder_scan.specs.Cells.{Diagram, Frame, Kept}
 use Rattle.ladder_scan.specs.Rung.{link, after_rung, Held, frame_of, link_at, evaluated}
-use Rattle.ladder_scan.specs.Scan.{given, rung_after, next_rung}
+use Rattle.ladder_scan.specs.Scan.{given, next_rung}
+use Rattle.ladder_scan.specs.RungByRung.{rung_after}
 use Rattle.ladder_scan.specs.SignalScan.{meet_where, passes_over, taken_by, looked}
 use Rattle.ladder_scan.specs.RungByRung.{Scanned, scanned}
 use Rattle.ladder_scan.specs.Laws.{Once, Forward, LookIsScan}

@@ -2,7 +2,7 @@
 use Rattle.std.proofs.Common.{◌≡◌, ℕ, ◌+◌, Bool, true, cond, add-one, refl, ap}
 use Rattle.std.proofs.Common.{Bool, Option, Some, None}
 use Rattle.ladder_scan.specs.Algebra.{Algebra}
-use Rattle.ladder_scan.specs.Scan.{rung_after}
+use Rattle.ladder_scan.specs.RungByRung.{rung_after}
 use Rattle.ladder_scan.specs.SignalScan.{meet_where, taken_by}
 
 pub meet_where-zero : {S : Type 0} (o : Algebra S) (p : ℕ → Bool) (f : ℕ → S) → meet_where o p f 0 ≡ o.known true

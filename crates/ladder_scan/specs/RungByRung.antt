@@ -1,5 +1,5 @@
 -- Private: the scan as the code does it, through all rungs, where `resume` is the next rung to be evaluated.
-use Rattle.std.specs.Prelude.{◌≡◌, ◌≤◌, ℕ, false, List, FitsSigned, if◌then◌else◌, nat_lt, pos, slice_index_or, zero, suc}
+use Rattle.std.specs.Prelude.{◌≡◌, ◌≤◌, ◌+◌, ℕ, Bool, Option, Some, None, false, List, FitsSigned, if◌then◌else◌, nat_lt, pos, slice_index_or, zero, suc}
 use Rattle.std.specs.Int.{w16}
 use Rattle.ladder_vars.specs.declared.kind.BlockKind.TheVariants.{Ton}
 use Rattle.ladder_scan.specs.declared.block.Stored.{Stored}
@@ -35,3 +35,8 @@ IsPossible moment (Bistable q) = Unit {0}
 -- Each instance stores what can be stored at the moment.
 abbrev pub ArePossible : ℕ → List Stored → Type 0
 ArePossible moment blocks = (i : ℕ) → IsPossible moment (slice_index_or blocks i (new_block Ton))
+
+-- The rung after rung j, by its jump and its left links: the target of the jump, where the jump's left link is ON, and otherwise
+-- the rung below.
+abbrev pub rung_after : ℕ → Option (ℕ × ℕ) → (ℕ → Bool) → ℕ
+rung_after j jump links = elim jump [ Some (place, target) ↦ if links place then target else j + 1 | None ↦ j + 1 ]

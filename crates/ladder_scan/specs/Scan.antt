@@ -12,14 +12,9 @@ given (is_input ∷ more) xs [] = []
 given (true ∷ more) (x ∷ xs) (v ∷ values) = x ∷ given more xs values
 given (is_input ∷ more) xs (v ∷ values) = v ∷ given more xs values
 
--- The rung after rung j, by its jump and its left links: the target of the jump, where the jump's left link is ON, and otherwise
--- the rung below.
-abbrev pub rung_after : ℕ → Option (ℕ × ℕ) → (ℕ → Bool) → ℕ
-rung_after j jump links = elim jump [ Some (place, target) ↦ if links place then target else j + 1 | None ↦ j + 1 ]
-
--- The rung after an evaluated one, by the left links that it had.
+-- The rung after rung j, by the left links that it had: the target of its jump, where the jump's left link is ON, and otherwise the rung below.
 abbrev pub next_rung : Diagram → ℕ → ℕ → Held → ℕ
-next_rung d now j h = rung_after j (d.jump j) (link_at d now j h)
+next_rung d now j h = elim (d.jump j) [ Some (place, target) ↦ if link_at d now j h place then target else j + 1 | None ↦ j + 1 ]
 
 -- From rung j on, with this state, the rungs of the list are evaluated one after the other until none is left, and leave `last`.
 pub data Evaluates (d : Diagram) (now : ℕ) : ℕ → Held → List ℕ → Held → Type 0 where

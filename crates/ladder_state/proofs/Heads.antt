@@ -16,7 +16,8 @@ use Rattle.ladder_state.specs.declared.version.Version.TheVariants.{First, Secon
 use Rattle.ladder_state.specs.Parts.{ReadsAll, ReadsItems, TakesItem}
 use Rattle.ladder_state.specs.ReadState.{IsFirstBad, Reads}
 use Rattle.ladder_state.proofs.ItemByItem.{told_fresh}
-use Rattle.ladder_state.specs.StateText.{AreTold, IsStateOf, item_records, moment_record, version_record}
+use Rattle.ladder_state.specs.StateText.{AreTold, IsStateOf, item_records, version_record}
+use Rattle.ladder_state.specs.Parts.{moment_record}
 
 pub told_second : (instances : List Instance) (blocks : List Stored) → AreTold Second instances blocks
 told_second instances blocks k i here lacks = let bad : true ≡ false = lacks in cc

@@ -1,5 +1,5 @@
 -- Private to the reading of a state: how the records of a list of items are read, one after the other.
-use Rattle.std.specs.Prelude.{◌≡◌, ◌≢◌, ◌+◌, ◌++◌, ◌∷◌, [], ⊤, ℕ, suc, Bool, true, List, Option, Some, None, Result, Ok, Err, if◌then◌else◌, length, take, slice_get, filter, flat_map, zip}
+use Rattle.std.specs.Prelude.{codes, decimal, ◌≡◌, ◌≢◌, ◌+◌, ◌++◌, ◌∷◌, [], ⊤, ℕ, suc, Bool, true, List, Option, Some, None, Result, Ok, Err, if◌then◌else◌, length, take, slice_get, filter, flat_map, zip}
 use Rattle.std.specs.List.{range_with_len}
 use Rattle.std.specs.Borrow.{Bor}
 use Rattle.csv.specs.declared.reader.Reader.{Reader}
@@ -100,3 +100,8 @@ abbrev pub ReadsAll : {T : Type 0} → Drawing → Standing → List Fields → 
 ReadsAll p s rows (Ok u) = HasRecords p s rows
 ReadsAll p s rows (Err (fault.BadRow n)) = IsFirstBad p rows n
 ReadsAll p s rows (Err fault.Memory) = ⊤
+
+-- ---- the record of the moment
+
+abbrev pub moment_record : ℕ → Fields
+moment_record moment = codes "moment" ∷ decimal moment ∷ []

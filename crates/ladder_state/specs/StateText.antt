@@ -21,9 +21,6 @@ use Rattle.ladder_state.specs.declared.version.Version.TheVariants.{First, Secon
 abbrev pub version_record : Version → Fields
 version_record version = codes "version" ∷ elim version [ First ↦ codes "1" | Second ↦ codes "2" ] ∷ []
 
-abbrev pub moment_record : ℕ → Fields
-moment_record moment = codes "moment" ∷ decimal moment ∷ []
-
 abbrev pub var_record : Var → Bool → Fields
 var_record var value = codes "var" ∷ var.name ∷ bit_text value ∷ []
 
@@ -59,7 +56,7 @@ item_records version p s =
     ++ map (λ x. block_record x.0.name x.1) (filter (λ x. has_record version (new_block x.0.kind)) (zip p.decls.instances s.held.kept.blocks)))
 
 abbrev pub state_records : Version → Drawing → Standing → List Fields
-state_records version p s = version_record version ∷ moment_record s.moment ∷ item_records version p s
+state_records version p s = version_record version ∷ (codes "moment" ∷ decimal s.moment ∷ []) ∷ item_records version p s
 
 -- the text that is written
 abbrev pub state_text : Drawing → Standing → List ℕ

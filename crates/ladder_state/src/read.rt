@@ -6,7 +6,8 @@ ghost use Rattle.ladder_records.specs.Text.{records_of};
 ghost use Rattle.ladder_scan.specs.Standing.{fresh, Fits, IsStanding};
 ghost use Rattle.ladder_state.specs.Parts.{ReadsAll, TakesItem};
 ghost use Rattle.ladder_state.specs.ReadState.{Reads};
-ghost use Rattle.ladder_state.specs.StateText.{moment_record, version_record};
+ghost use Rattle.ladder_state.specs.StateText.{version_record};
+ghost use Rattle.ladder_state.specs.Parts.{moment_record};
 
 use crate::fault::StateFault;
 use crate::parts::read_parts;

@@ -8,7 +8,8 @@ ghost use Rattle.ladder_scan.specs.Blocks.{new_block};
 ghost use Rattle.ladder_scan.specs.declared.block.Stored.{Stored};
 ghost use Rattle.ladder_scan.specs.Standing.{CanStore};
 ghost use Rattle.ladder_state.specs.Item.{is_on, IsBlockRecord};
-ghost use Rattle.ladder_state.specs.StateText.{block_record, memory_record, moment_record, var_record};
+ghost use Rattle.ladder_state.specs.StateText.{block_record, memory_record, var_record};
+ghost use Rattle.ladder_state.specs.Parts.{moment_record};
 
 use csv::ByteRecord;
 use itoa::Buffer;

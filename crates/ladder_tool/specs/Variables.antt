@@ -6,12 +6,9 @@ use Rattle.ladder_vars.specs.declared.decls.Symbol.TheVariants as symbol
 use Rattle.ladder_vars.specs.Decls.{Declared, find}
 use Rattle.ladder_vars.specs.Name.{is_name}
 
-abbrev pub var_in : Option Symbol → Option ℕ
-var_in found = elim found [ Some (symbol.Var number) ↦ Some number | _ ↦ None ]
-
 -- the variable with this name, by its number in order of declaration
 abbrev pub variable_of : Declared → List ℕ → Option ℕ
-variable_of decls word = if is_name word then var_in (find decls word) else None
+variable_of decls word = elim (if is_name word then find decls word else None) [ Some (symbol.Var number) ↦ Some number | _ ↦ None ]
 
 abbrev pub AreVariables : Declared → List Text → List ℕ → Type 0
 AreVariables decls words vars = map (variable_of decls) words ≡ map Some vars

@@ -31,19 +31,16 @@ AreOf (Sort ∷ sorts) ts = (t : List ℕ) × (others : List (List ℕ)) × (ts 
 
 -- ---- addresses: % I 1 . 0
 
--- what the variables at an address with this letter are for; 73, 81 and 77 are I, Q and M
-abbrev pub kind_of : ℕ → Option VarKind
-kind_of letter = lookup (λ capital. letter == capital) ((73, var_kind.Input) ∷ (81, var_kind.Output) ∷ (77, var_kind.Memory) ∷ [])
-
 -- a point (46) and the second number, or nothing
 abbrev pub IsSecond : List ℕ → Option ℕ → Type 0
 IsSecond text second = elim second [ Some n ↦ (digits : List ℕ) × (text ≡ 46 ∷ digits) × IsNumber digits n | None ↦ text ≡ [] ]
 
--- 37 is the percent sign; the size X of a BOOL may be left out
+-- 37 is the percent sign; 73, 81 and 77 are I, Q and M; the size X of a BOOL may be left out
 abbrev pub IsAddress : List ℕ → VarKind → Address → Type 0
 IsAddress word kind address =
     (letter : ℕ) × (size first second : List ℕ) × (word ≡ 37 ∷ letter ∷ (size ++ (first ++ second))) × (address.letter ≡ to_ascii_uppercase letter)
-    × (kind_of address.letter ≡ Some kind) × ((size ≡ []) ⊎ Is (codes "X") size) × IsNumber first address.first × IsSecond second address.second
+    × (lookup (λ capital. address.letter == capital) ((73, var_kind.Input) ∷ (81, var_kind.Output) ∷ (77, var_kind.Memory) ∷ []) ≡ Some kind)
+    × ((size ≡ []) ⊎ Is (codes "X") size) × IsNumber first address.first × IsSecond second address.second
 
 -- ---- initial values and presets
 

@@ -5,6 +5,7 @@ use Rattle.std.specs.Map.{lookup}
 use Rattle.std.specs.Char.{is_ascii_digit, is_ascii_alphabetic, to_ascii_uppercase}
 use Rattle.ladder_vars.specs.declared.limits.TheConstants.{MOST_DIGITS}
 use Rattle.ladder_vars.specs.declared.decls.VarKind.{VarKind}
+use Rattle.ladder_vars.specs.declared.decls.VarKind.TheVariants as var_kind
 use Rattle.ladder_vars.specs.declared.kind.BlockKind.{BlockKind}
 use Rattle.ladder_vars.specs.declared.kind.BlockKind.TheVariants as block_kind
 use Rattle.ladder_vars.specs.declared.kind.Parameter.{Parameter}
@@ -15,7 +16,10 @@ use Rattle.ladder_vars.specs.declared.time.Unit.TheVariants as time_unit
 use Rattle.ladder_vars.specs.Name.{same_letters}
 use Rattle.ladder_vars.specs.Kind.{traits_of, largest_value}
 use Rattle.ladder_vars.specs.Duration.{number_of, measure, IsNumber, IsDuration}
-use Rattle.ladder_vars.specs.Grammar.{kind_of}
+
+-- what the variables at an address with this letter are for; 73, 81 and 77 are I, Q and M
+abbrev pub kind_of : ℕ → Option VarKind
+kind_of letter = lookup (λ capital. letter == capital) ((73, var_kind.Input) ∷ (81, var_kind.Output) ∷ (77, var_kind.Memory) ∷ [])
 
 infixl 10 ◌>>=◌
 abbrev pub ◌>>=◌ : {A B : Type 0} → Option A → (A → Option B) → Option B

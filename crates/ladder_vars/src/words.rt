@@ -1,7 +1,8 @@
 //! What the words of a declaration spell.
 
 ghost use Rattle.std.specs.Prelude.{◌≡◌, ◌≤◌, IfSome};
-ghost use Rattle.ladder_vars.specs.Grammar.{kind_of, bit_word};
+ghost use Rattle.ladder_vars.specs.Grammar.{bit_word};
+ghost use Rattle.ladder_vars.specs.ReadWords.{kind_of};
 ghost use Rattle.ladder_vars.specs.declared.limits.TheConstants.{LARGEST_COUNT};
 ghost use Rattle.ladder_vars.specs.ReadWords.{block_of, count_of, after_size, second_of, numbers_of, placed_at, address_of};
 

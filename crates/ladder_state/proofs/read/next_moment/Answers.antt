@@ -1,5 +1,5 @@
 use Rattle.std.specs.Prelude.{◌<◌, ◌^◌}
-use Rattle.ladder_state.specs.StateText.{moment_record}
+use Rattle.ladder_state.specs.Parts.{moment_record}
 use Rattle.ladder_state.proofs.ItemByItem.{item_missing, item_read}
 use Rattle.ladder_state.proofs.read.next_moment.Goals as goal
 

@@ -1,7 +1,8 @@
 use Rattle.std.proofs.Common.{rules, ◌≡◌, ◌∙◌, ◌∷◌, ◌<◌, ◌^◌, ap, sym, subst}
 use Rattle.std.specs.Prelude.{⊤}
 use Rattle.ladder_scan.specs.Standing.{Standing}
-use Rattle.ladder_state.specs.StateText.{AreTold, moment_record, version_record}
+use Rattle.ladder_state.specs.StateText.{AreTold, version_record}
+use Rattle.ladder_state.specs.Parts.{moment_record}
 use Rattle.ladder_state.proofs.Heads.{items_arm, moment_bad, taken, told_before, version_bad}
 use Rattle.ladder_state.proofs.read.read_records.Goals as goal
 

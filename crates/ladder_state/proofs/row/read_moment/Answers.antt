@@ -1,7 +1,7 @@
 use Rattle.std.proofs.Common.{◌≡◌, ◌∙◌, [], ◌∷◌, Some, None, ℕ, ap, refl, codes, decimal, sym}
 use Rattle.csv.specs.Records.{field_at, fields_of}
 use Rattle.ladder_records.specs.Left.{Fields}
-use Rattle.ladder_state.specs.StateText.{moment_record}
+use Rattle.ladder_state.specs.Parts.{moment_record}
 use Rattle.ladder_state.proofs.Items.{some_same}
 use Rattle.ladder_state.proofs.row.read_moment.Goals as goal
 

@@ -1,7 +1,8 @@
 use Rattle.std.proofs.Common.{◌++◌, [], refl, sym, append_assoc}
 use Rattle.ladder_records.specs.Text.{line_text, lines_text}
 use Rattle.ladder_text.proofs.Sending.{sends_prefix, sends_last, sends_more, sends_none, sends_err}
-use Rattle.ladder_state.specs.StateText.{item_records, moment_record, state_text, version_record}
+use Rattle.ladder_state.specs.StateText.{item_records, state_text, version_record}
+use Rattle.ladder_state.specs.Parts.{moment_record}
 use Rattle.ladder_state.specs.declared.version.Version.TheVariants.{Second}
 use Rattle.ladder_state.proofs.write.add_state.Goals as goal
 
