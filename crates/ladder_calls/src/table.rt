@@ -13,7 +13,9 @@ use std::alloc::{AllocError, Global};
 struct Table {
     chosen: Vec<bool>,
     first: u64,
-    looks: u64,
+    /// The looks at prefixes that are not longest ones, and those at longest ones.
+    shorter: u64,
+    longest: u64,
 }
 
 fn all_chosen(entries: &[bool]) -> bool
@@ -76,13 +78,21 @@ fn pair(chosen: &[bool], base: u64) -> u64
     digit(chosen[from]) + 2 * digit(chosen[from + 1])
 }
 
+impl Table {
+    fn looks(&self) -> u64 {
+        self.shorter.wrapping_add(self.longest)
+    }
+}
+
 impl Tree for Table {
     ghost use Rattle.std.specs.Prelude.{◌≡◌, length};
     ghost use Rattle.std.proofs.Common.{refl, ◌∙◌};
 
     ghost search = { λ t. table_search t.chosen.items t.first };
 
-    ghost looks = { λ t. t.looks };
+    ghost looks = { λ t. t.shorter + t.longest };
+
+    ghost longest = { λ t. t.longest };
 
     ghost is_ready = { λ t. length t.chosen.items ≡ 16 };
 
@@ -93,19 +103,19 @@ impl Tree for Table {
     ghost keeps_on = { λ s t u h k. k ∙ h };
 
     fn decide(&mut self, height: u32, base: u64) -> Option<bool> {
-        self.looks += 1;
+        self.shorter += 1;
         common_part(&self.chosen, height, base)
     }
 
     fn word(&mut self, base: u64) -> u64 {
-        self.looks += 1;
+        self.longest += 1;
         pair(&self.chosen, base)
     }
 }
 
 fn sixteen(alloc: Global, first: u64) -> Result<Table, AllocError>
     ensures first { IfOk result (λ t. t.first ≡ first) }
-    ensures looks { IfOk result (λ t. t.looks ≡ 0) }
+    ensures looks { IfOk result (λ t. t.shorter + t.longest ≡ 0) }
 {
     let mut chosen = Vec::new(alloc);
     for digit in b"0001000011110010" {
@@ -114,7 +124,8 @@ fn sixteen(alloc: Global, first: u64) -> Result<Table, AllocError>
     Ok(Table {
         chosen,
         first,
-        looks: 0,
+        shorter: 0,
+        longest: 0,
     })
 }
 
@@ -137,9 +148,9 @@ fn found(alloc: Global, first: u64) -> Result<(Vec<(u64, u64)>, u64), AllocError
         let Some(number) = advance(plan, &mut table, &mut walk) else {
             break;
         };
-        numbers.push((number, table.looks))?;
+        numbers.push((number, table.looks()))?;
     }
-    Ok((numbers, table.looks))
+    Ok((numbers, table.looks()))
 }
 
 #[test]

@@ -1,5 +1,5 @@
 -- The records of a csv text, and the text of records that need no quotes.
-use Rattle.std.specs.Prelude.{if◌then◌else◌, ◌≡◌, ◌<◌, ◌++◌, ◌∷◌, ⊤, ℕ, Bool, true, false, List, [], codes, flat_map, length}
+use Rattle.std.specs.Prelude.{if◌then◌else◌, ◌≡◌, ◌<◌, ◌++◌, ◌∷◌, ⊤, ℕ, Bool, false, List, [], codes, flat_map, length}
 use Rattle.std.specs.List.{list_any}
 use Rattle.csv.specs.Reading.{default_config, records, strip_bom}
 use Rattle.csv.specs.Writing.{default_writer, needs_byte}

@@ -15,9 +15,11 @@ q_of stored = elim stored [ Timer last running start q ↦ q | Counter last cv q
 
 -- What an instance stores before its first step.
 abbrev pub new_block : BlockKind → Stored
-new_block kind = elim kind [
-    | Ctu ↦ Counter false (pos 0) false | Ctd ↦ Counter false (pos 0) false | Sr ↦ Bistable false | Rs ↦ Bistable false | _ ↦ Timer false false 0 false
-  ]
+new_block Ctu = Counter false (pos 0) false
+new_block Ctd = Counter false (pos 0) false
+new_block Sr = Bistable false
+new_block Rs = Bistable false
+new_block timer = Timer false false 0 false
 
 -- The step of a block: its kind and preset, what it stored, its two inputs and the moment. The first input is IN, CU, CD, S1 or S,
 -- the second R, LD or R1. A timer has no second input.

@@ -77,9 +77,10 @@ contact o Falling x m = o.meet (o.inverse x) m
 
 -- How far a cell is closed, m being its memory. Wires and coils pass their left link on. No route goes through the others.
 abbrev pub closed : {S : Type 0} → Algebra S → Frame S → S → Cell → S
-closed o f m c = elim c [
-    | Wire ↦ o.known true | Coil mode var memory ↦ o.known true | Contact mode operand memory ↦ contact o mode (operand_value o f operand) m
-    | _ ↦ o.known false ]
+closed o f m Wire = o.known true
+closed o f m (Contact mode operand memory) = contact o mode (operand_value o f operand) m
+closed o f m (Coil mode var memory) = o.known true
+closed o f m other = o.known false
 
 -- The Q of a block's step over any signal: by its inputs x and y, the choice among the Qs for known inputs.
 abbrev pub q_from : {S : Type 0} → Algebra S → BlockKind → ℕ → Stored → ℕ → S → S → S
@@ -89,8 +90,8 @@ q_from o kind preset stored now x y =
 
 -- The Q of the block in a cell, in this evaluation; other cells have none. Past the last instance a new TON is read.
 abbrev pub q_here : {S : Type 0} → Algebra S → Diagram → Kept → ℕ → Cell → S → S → S
-q_here o d k now c x y = elim c [
-    | Block inst ↦ q_from o (d.kind inst) (d.preset inst) (slice_index_or k.blocks inst (new_block Ton)) now x y | _ ↦ o.known false ]
+q_here o d k now (Block inst) x y = q_from o (d.kind inst) (d.preset inst) (slice_index_or k.blocks inst (new_block Ton)) now x y
+q_here o d k now other x y = o.known false
 
 -- What a coil writes, by its left link, its memory m, which is the link that it had, and the old value of its variable:
 -- `( )` the link, `(/)` its inverse, `(S)` ON and `(R)` OFF where the link is ON, `(P)` whether the link has become ON, `(N)` whether OFF.

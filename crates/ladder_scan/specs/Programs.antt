@@ -1,12 +1,12 @@
 -- A program as the scan sees it, and what reading it has made sure of.
-use Rattle.std.specs.Prelude.{◌≡◌, ℕ, ◌+◌, ◌%◌, ◌<◌, ◌≤◌, Bool, true, not, if◌then◌else◌, ◌&&◌, map, nat_lt, Some, option_map, unwrap_or, slice_get}
+use Rattle.std.specs.Prelude.{false, ◌≡◌, ℕ, ◌+◌, ◌%◌, ◌<◌, ◌≤◌, Bool, true, not, if◌then◌else◌, ◌&&◌, map, nat_lt, Some, option_map, unwrap_or, slice_get}
 use Rattle.ladder_vars.specs.declared.kind.BlockKind.TheVariants.{Ton}
 use Rattle.ladder_vars.specs.Decls.{is_input}
 use Rattle.ladder_vars.specs.Kind.{largest_preset}
 use Rattle.ladder_grid.specs.declared.geometry.TheConstants.{ROWS, PLACES}
 use Rattle.ladder_grid.specs.declared.cell.Cell.{Cell}
-use Rattle.ladder_grid.specs.declared.cell.Cell.TheVariants.{Empty}
-use Rattle.ladder_grid.specs.Program.{Drawing, cell_of, is_empty, feeds, jump_of, is_linked}
+use Rattle.ladder_grid.specs.declared.cell.Cell.TheVariants.{Empty, Lower}
+use Rattle.ladder_grid.specs.Program.{Drawing, cell_of, is_empty, feeds, jump_of}
 use Rattle.ladder_scan.specs.Cells.{Diagram, place_at}
 use Rattle.ladder_scan.specs.Laws.{Once, Forward}
 
@@ -19,7 +19,7 @@ diagram_of p = record {
   rungs = p.rungs;
   cell = cell_at p;
   feeds = feeds p;
-  linked = λ rung place. nat_lt (place % ROWS + 1) ROWS && is_linked (cell_at p rung (place + 1));
+  linked = λ rung place. nat_lt (place % ROWS + 1) ROWS && elim (cell_at p rung (place + 1)) [ Lower inst linked ↦ linked | _ ↦ false ];
   kind = λ i. unwrap_or (option_map (λ x. x.kind) (slice_get p.decls.instances i)) Ton;
   preset = λ i. unwrap_or (option_map (λ x. x.preset) (slice_get p.decls.instances i)) 0;
   jump = λ rung. option_map (λ j. (place_at j.0 j.1, j.2)) (jump_of p rung);

@@ -1,6 +1,6 @@
 -- One scan (IEC 61131-3): the input variables take the given values, then the rungs are evaluated from top to bottom. A jump whose left
 -- link is ON is taken after its rung's effects: the rungs between it and its target are passed over, and these change nothing.
-use Rattle.std.specs.Prelude.{ℕ, ◌+◌, ◌<◌, ◌≤◌, Bool, true, if◌then◌else◌, List, [], ◌∷◌, nat_lt, Option, Some, None, zero, suc}
+use Rattle.std.specs.Prelude.{ℕ, ◌+◌, ◌<◌, ◌≤◌, Bool, true, if◌then◌else◌, List, [], ◌∷◌, nat_lt, Some, None, zero, suc}
 use Rattle.ladder_scan.specs.Cells.{Diagram}
 use Rattle.ladder_scan.specs.Rung.{Held, link_at, evaluated}
 

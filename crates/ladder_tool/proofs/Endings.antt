@@ -1,5 +1,5 @@
 -- How a request for causes ends, from what each step of it ensures.
-use Rattle.std.proofs.Common.{◌≡◌, ◌⊎◌, ◌∙◌, ap, refl, ℕ, List, ◌∷◌, Some, inl, inr, length}
+use Rattle.std.proofs.Common.{◌≡◌, ◌⊎◌, ◌∙◌, ap, refl, ℕ, List, Some, inl, inr, length}
 use Rattle.std.specs.Prelude.{unwrap_or}
 use Rattle.ladder_vars.specs.Decls.{Declared}
 use Rattle.ladder_grid.specs.Program.{Drawing}

@@ -5,7 +5,6 @@ use Rattle.ladder_vars.specs.Decls.{Declared}
 use Rattle.ladder_grid.specs.Program.{Drawing}
 use Rattle.ladder_grid.specs.Reading.{IsProgram}
 use Rattle.ladder_scan.specs.Standing.{Standing}
-use Rattle.ladder_causes.specs.declared.fault.CauseFault.{CauseFault}
 use Rattle.ladder_causes.specs.declared.fault.CauseFault.TheVariants as cause
 use Rattle.ladder_causes.specs.Causes.{Question, causes_after}
 use Rattle.ladder_causes.specs.Cursor.{first_number, looks_given}
@@ -86,7 +85,7 @@ pub record Lists (g : Given) (a : Asking) (Written : List ℕ → Type 0) : Type
   pub question : Question
   pub asked : IsAsked g a question
   pub accepted : refusal question a.after ≡ None
-  pub rows : Written (cause_text question.program question.listed (causes_for a question))
+  pub rows : Written (cause_text question.program question.listed (limited a.limit (causes_after a.after question)))
 
 abbrev pub ListsCauses : Given → Asking → WriteLog → WriteLog → Type 0
 ListsCauses g a out out' = Lists g a (PutsAll out out')

@@ -1,7 +1,6 @@
 -- The variables that the arguments COIL and INPUT.. name. An argument names a variable whatever its letter case.
 use Rattle.std.specs.Prelude.{◌≡◌, ℕ, ◌+◌, List, Option, Some, None, is_none, map, position, if◌then◌else◌}
 use Rattle.clap.specs.Words.{Text}
-use Rattle.ladder_vars.specs.declared.decls.Symbol.{Symbol}
 use Rattle.ladder_vars.specs.declared.decls.Symbol.TheVariants as symbol
 use Rattle.ladder_vars.specs.Decls.{Declared, find}
 use Rattle.ladder_vars.specs.Name.{is_name}

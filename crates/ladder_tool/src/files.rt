@@ -38,11 +38,7 @@ fn limit(kind: TextKind) -> usize
 }
 
 /// Reads a text of a kind, within its limit.
-fn read_one<R: Source>(
-    alloc: Global,
-    kind: TextKind,
-    reader: &mut R,
-) -> Result<Vec<u8>, ToolFault>
+fn read_one<R: Source>(alloc: Global, kind: TextKind, reader: &mut R) -> Result<Vec<u8>, ToolFault>
     ensures whole { IfOk result (λ text. IsWhole kind (R.log reader.old) text.items) }
     ensures fault { IfErr result (λ e. (f : ReadFault) × (e ≡ ToolFault.Read kind f) × IsUnread kind (R.log reader.old) (R.log reader.new) f) }
 {
@@ -100,7 +96,7 @@ pub fn perform_files<R: Source, O: Sink, S: Sink, E: Sink>(
         × AreRead (files (R.log readers.old.program) (option_map R.log readers.old.state) (option_map R.log readers.old.stimulus)) g
         × IsDone request.now g (logs (O.log out.old) (S.log save.old) (E.log err.old)) (logs (O.log out.new) (S.log save.new) (E.log err.new)) }
     ensures failed { result ≡ 1 → Refuses (StopsAt (files (R.log readers.old.program) (option_map R.log readers.old.state) (option_map R.log readers.old.stimulus)) (files (R.log readers.new.program) (option_map R.log readers.new.state) (option_map R.log readers.new.stimulus)))
-            (logs (O.log out.old) (S.log save.old) (E.log err.old)) (logs (O.log out.new) (S.log save.new) (E.log err.new))
+        (logs (O.log out.old) (S.log save.old) (E.log err.old)) (logs (O.log out.new) (S.log save.new) (E.log err.new))
         ⊎ ((g : Given) × AreRead (files (R.log readers.old.program) (option_map R.log readers.old.state) (option_map R.log readers.old.stimulus)) g
         × IsFailed request.now g (logs (O.log out.old) (S.log save.old) (E.log err.old)) (logs (O.log out.new) (S.log save.new) (E.log err.new))) }
 {

@@ -54,12 +54,15 @@ returns-in_default-clause-failed g c = λ save status.
     let at = c.moment-2.ensures ∙ ap (unwrap_or a.moment) c.moment.ensures in
     let q = question s.program s.state c.moment-2.result asked.asked.coil c.deref.result.now in
     let made = c.in-Ok-new.ensures in
-    inr (inl ((record {
-      question = q;
-      asked = asked_by (given_by c.args.texts.now) a s.program s.state c.decls-decls.result.now c.moment-2.result asked.asked.coil asked.asked.inputs.items c.deref.result.now c.in-Ok.ensures.set c.decls-decls.ensures c.deref.ensures.value at asked.ensures.coil asked.ensures.inputs;
-      accepted = made.accepted;
-      rows = prefix_same _ _ _ _ (text_is a q c.in-Ok-new.cursor made.program made.listed made.rest) c.in_default.ensures.bytes;
-    }, c.report-in_default.ensures.line)))
+    inr (inl ((
+      record {
+        question = q;
+        asked = asked_by (given_by c.args.texts.now) a s.program s.state c.decls-decls.result.now c.moment-2.result asked.asked.coil asked.asked.inputs.items c.deref.result.now c.in-Ok.ensures.set c.decls-decls.ensures c.deref.ensures.value at asked.ensures.coil asked.ensures.inputs;
+        accepted = made.accepted;
+        rows = prefix_same _ _ _ _ (text_is a q c.in-Ok-new.cursor made.program made.listed made.rest) c.in_default.ensures.bytes;
+      },
+      c.report-in_default.ensures.line,
+    )))
 
 pub returns-in_default-put_rows-clause-failed : goal.returns-in_default-put_rows-clause-failed
 returns-in_default-put_rows-clause-failed g c = λ save status.
