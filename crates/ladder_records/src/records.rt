@@ -11,7 +11,7 @@ use std::alloc::{AllocError, Global};
 /// A reader of the records of a text.
 pub type Records<'a> = Reader<&'a [u8]>;
 
-/// A reader of all records of a text, with any number of fields. It does not allocate.
+/// A reader of all records of a text, with any number of fields. It needs no memory.
 pub fn read_from<'a>(alloc: Global, text: &'a [u8]) -> Records<'a>
     ensures plain { IsPlain result }
     ensures all { Left result (records_of text.entry.now) }

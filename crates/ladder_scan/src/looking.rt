@@ -131,7 +131,7 @@ fn look_rungs<S: Signal>(base: Base<'_>, seen: &mut Signals<S>, taken: &mut [S],
 /// One scan over a signal at the moment `now`, from the values, memories and instances of the state, which is not changed. `work`
 /// then holds the values of the variables. The input variables take the given signals, in order of declaration.
 ///
-/// It does not allocate.
+/// It needs no memory.
 pub fn look<S: Signal>(program: &Program, state: &State, inputs: &[S], now: u64, work: &mut Work<S>)
     requires state { Fits program.now state.now }
     requires work { HasRoom program.now work.old }

@@ -1,8 +1,8 @@
-//! Why a text tells no state.
+//! Why a text is no state.
 
 use thiserror::Error;
 
-/// Why a text tells no state of a program.
+/// Why a text is no state of a program.
 #[derive(Clone, Copy, Debug, Drop, Error, PartialEq, Eq)]
 pub enum StateFault {
     /// The record of this number, counted from 1, is the first that isn't of its form. It may be missing, or one too many.

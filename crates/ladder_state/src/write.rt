@@ -265,7 +265,7 @@ fn add_state<W: Sink>(
     add_items(block, program, state, writer)
 }
 
-/// Writes the text of a state, in version 2. It does not allocate.
+/// Writes the text of a state, in version 2. It needs no memory.
 ///
 /// # Errors
 ///

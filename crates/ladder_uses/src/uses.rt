@@ -173,7 +173,7 @@ fn add_uses<W: Sink>(
 }
 
 /// Writes the cross-reference of a program: a header, and for each variable and then each instance a row for each place where it is
-/// drawn, or one row where there is none. Returns the number of rows after the header. It does not allocate.
+/// drawn, or one row where there is none. Returns the number of rows after the header. It needs no memory.
 ///
 /// # Errors
 ///
