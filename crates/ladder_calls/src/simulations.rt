@@ -10,9 +10,9 @@ use std::alloc::Global;
 const STOP: usize = 1;
 
 /// The last record goes back in time.
-pub(crate) const BACK: &[u8] = b"moment,Start,Stop\n0,1,0\n10,0,0\n5,0,0\n";
+const BACK: &[u8] = b"moment,Start,Stop\n0,1,0\n10,0,0\n5,0,0\n";
 
-pub(crate) const BACK_TRACE: &[u8] = b"moment,Motor\n0,1\n10,1\n";
+const BACK_TRACE: &[u8] = b"moment,Motor\n0,1\n10,1\n";
 
 /// How many bytes of the trace are the header, and how many the rows up to the first.
 const HEADER: usize = 13;

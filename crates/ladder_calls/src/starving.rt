@@ -2,7 +2,6 @@
 
 use crate::memory::Hashes;
 use crate::scans::{MOTOR, program, stored};
-use crate::simulations::{BACK, BACK_TRACE};
 use crate::states::{EDGES, EDGES_FRESH, EDGES_LATER, joined};
 use ladder_causes::{CauseFault, Causes};
 use ladder_grid::{GridFault, Program, read_program};
@@ -76,10 +75,9 @@ enum Call {
     ReadText,
     ReadState,
     Simulate,
-    SimulateBack,
 }
 
-const CALLS: [Call; 10] = [
+const CALLS: [Call; 9] = [
     Call::ReadDecls,
     Call::ReadProgram,
     Call::FreshState,
@@ -89,7 +87,6 @@ const CALLS: [Call; 10] = [
     Call::ReadText,
     Call::ReadState,
     Call::Simulate,
-    Call::SimulateBack,
 ];
 
 /// How a call ended.
@@ -247,32 +244,6 @@ fn simulating(alloc: Global, program: &Program, fresh: &State) -> Outcome {
     }
 }
 
-/// Whether a trace is a prefix of one that ends where a moment goes back, with the moment that belongs to it.
-fn is_prefix_back(trace: &[u8], moment: u64) -> bool {
-    let late = trace.len() == BACK_TRACE.len();
-    BACK_TRACE.starts_with(trace) && moment == if late { 10 } else { 0 }
-}
-
-fn simulating_back(alloc: Global) -> Outcome {
-    let Ok(program) = program(alloc, MOTOR) else {
-        return Outcome::Unasked;
-    };
-    let Ok(mut state) = State::fresh(alloc, &program) else {
-        return Outcome::Unasked;
-    };
-    let mut writer = empty();
-    let answer = simulate(alloc, &program, &mut state, BACK, &mut writer);
-    let trace = writer.into_inner();
-    if !is_prefix_back(trace.taken(), state.moment()) {
-        return Outcome::Wrong;
-    }
-    match answer {
-        Ok(_) => Outcome::Wrong,
-        Err(SimFault::MomentBack { row }) => right(row == 4 && trace.taken() == BACK_TRACE),
-        Err(fault) => refused(fault == SimFault::Memory),
-    }
-}
-
 /// Makes a call; the program is that of the edges, and the state its fresh one.
 fn ended(alloc: Global, call: Call, program: &Program, state: &State) -> Outcome {
     match call {
@@ -285,7 +256,6 @@ fn ended(alloc: Global, call: Call, program: &Program, state: &State) -> Outcome
         Call::ReadText => reading_a_text(alloc),
         Call::ReadState => reading_a_state(alloc, program),
         Call::Simulate => simulating(alloc, program, state),
-        Call::SimulateBack => simulating_back(alloc),
     }
 }
 
