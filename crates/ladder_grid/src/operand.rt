@@ -10,14 +10,14 @@ use crate::form::Form;
 use ladder_vars::{BlockKind, Decls, Name, Output, Symbol};
 
 /// A declared name, with `.Q` or `.Q1` or without them.
-#[derive(Clone, Copy, Debug, PartialEq, Eq)]
+#[derive(Clone, Copy)]
 pub(crate) struct Reference {
     pub symbol: Symbol,
     pub output: Option<Output>,
 }
 
 /// What stands over a cell: whether there is text, and the declared name that it is.
-#[derive(Clone, Copy, Debug, PartialEq, Eq)]
+#[derive(Clone, Copy)]
 pub(crate) struct NameOver {
     pub written: bool,
     pub name: Option<Reference>,

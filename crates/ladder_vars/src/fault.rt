@@ -47,14 +47,14 @@ pub struct VarFault {
 }
 
 /// A rule that a text breaks, and how many of its bytes are left where reading stops.
-#[derive(Clone, Copy, Debug, PartialEq, Eq)]
+#[derive(Clone, Copy)]
 pub(crate) struct Fault {
     pub rule: VarRule,
     pub left: usize,
 }
 
 /// Why a text was not read.
-#[derive(Debug, Drop)]
+#[derive(Drop)]
 pub(crate) enum ReadFault {
     NoMemory,
     Broken(Fault),

@@ -10,7 +10,7 @@ use crate::digits::{CAP, digits_len, number};
 use crate::name::same_letters;
 
 /// A unit of a duration.
-#[derive(Clone, Copy, Debug, PartialEq, Eq)]
+#[derive(Clone, Copy)]
 pub(crate) enum Unit {
     Day,
     Hour,
