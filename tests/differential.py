@@ -2,7 +2,7 @@
 """Compares the built program with the model on random drawings: differential.py PROGRAM [NUMBER] [SEED].
 
 Each drawing has one to five rungs of all forms of cells, joints and vertical links, and breaks no rule; it is asked from the fresh
-state, at any moment. Rows and looks must be the model's. A drawing with a difference is printed whole.
+state, at any moment. Rows and looks must be the model's, and the rows of groups too. A drawing with a difference is printed whole.
 """
 import os
 import pathlib
@@ -152,9 +152,11 @@ def question(chance, text):
 def compare(program, folder, text, coil, listed, moment):
     """The differences of one question."""
     pathlib.Path(folder, "program.ld").write_text(text, "ascii")
-    out, err = Program(text).answer(coil, listed)
-    have = run(program, ["causes", *moment, "program.ld", coil, *listed], folder)
-    return differences(have, (out.encode(), err.encode(), 0))
+    model, found = Program(text), []
+    for flag, (out, err) in ([], model.answer(coil, listed)), (["--grouped"], model.grouped_answer(coil, listed)):
+        have = run(program, ["causes", *flag, *moment, "program.ld", coil, *listed], folder)
+        found += differences(have, (out.encode(), err.encode(), 0))
+    return found
 
 
 def main():

@@ -7,3 +7,4 @@ pub mod Going
 pub mod Pruning
 pub mod Telling
 pub mod Knowledge
+pub mod GroupCounts

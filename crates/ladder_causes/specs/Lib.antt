@@ -3,6 +3,7 @@ pub mod Assignment
 pub mod CauseTree
 pub mod Causes
 pub mod Cursor
+pub mod GroupCursor
 pub mod Knowing
 pub mod LookLaws
 pub mod Patterns

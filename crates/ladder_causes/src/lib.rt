@@ -4,6 +4,7 @@
 mod asked;
 mod causes;
 mod fault;
+mod groups;
 pub mod laws;
 mod probe;
 mod refusal;
@@ -14,6 +15,7 @@ mod word;
 
 pub use causes::Causes;
 pub use fault::CauseFault;
+pub use groups::Groups;
 pub use tri::Tri;
 pub use word::Word64;
 

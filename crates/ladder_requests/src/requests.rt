@@ -22,6 +22,9 @@ const ROWS: &[u8] = b"number,Start,Stop\n0,0,0\n2,1,0\n";
 
 const COUNT: &[u8] = b"rows 2 looks 1\n";
 
+/// The same causes in groups.
+const GROUPS: &[u8] = b"causes,Start,Stop\n2,-,0\n";
+
 const USES: &[u8] =
     b"name,use,rung,row,column\nStart,contact,1,1,1\nStop,not_contact,1,1,2\nMotor,contact,1,2,1\nMotor,coil,1,1,3\n";
 
@@ -32,6 +35,8 @@ pub(crate) enum Asked {
     Uses,
     /// Its causes from the running motor, after a number.
     Causes(Option<u64>),
+    /// The same in groups.
+    Groups,
     /// The trace of a stimulus, and the state after it.
     Saved,
     /// The trace of a stimulus whose last record goes back in time.
@@ -67,26 +72,36 @@ struct Done {
     err: Vec<u8>,
 }
 
+/// The inputs that are listed.
+fn listed(alloc: Global) -> Result<Vec<String>, AllocError> {
+    let mut inputs = Vec::new(alloc);
+    inputs.push(String::from_str(alloc, "Start")?)?;
+    inputs.push(String::from_str(alloc, "Stop")?)?;
+    Ok(inputs)
+}
+
 pub(crate) fn request(alloc: Global, asked: Asked) -> Result<Request, AllocError> {
     let file = String::from_str(alloc, "motor.ld")?;
     match asked {
         Asked::Check => Ok(Request::Check { file }),
         Asked::Uses => Ok(Request::Uses { file }),
-        Asked::Causes(after) => {
-            let mut inputs = Vec::new(alloc);
-            inputs.push(String::from_str(alloc, "Start")?)?;
-            inputs.push(String::from_str(alloc, "Stop")?)?;
-            let coil = String::from_str(alloc, "Motor")?;
-            Ok(Request::Causes {
-                state: None,
-                moment: None,
-                after,
-                limit: None,
-                file,
-                coil,
-                inputs,
-            })
-        }
+        Asked::Causes(after) => Ok(Request::Causes {
+            state: None,
+            moment: None,
+            after,
+            limit: None,
+            file,
+            coil: String::from_str(alloc, "Motor")?,
+            inputs: listed(alloc)?,
+        }),
+        Asked::Groups => Ok(Request::Groups {
+            state: None,
+            moment: None,
+            limit: None,
+            file,
+            coil: String::from_str(alloc, "Motor")?,
+            inputs: listed(alloc)?,
+        }),
         Asked::Saved | Asked::Back => {
             let save = String::from_str(alloc, "state.csv")?;
             let stimulus = String::from_str(alloc, "stimulus.csv")?;
@@ -103,7 +118,7 @@ pub(crate) fn request(alloc: Global, asked: Asked) -> Result<Request, AllocError
 fn texts(alloc: Global, asked: Asked) -> Result<Texts, AllocError> {
     let (state, stimulus): (Option<&[u8]>, Option<&[u8]>) = match asked {
         Asked::Check | Asked::Uses => (None, None),
-        Asked::Causes(_) => (Some(SAVED), None),
+        Asked::Causes(_) | Asked::Groups => (Some(SAVED), None),
         Asked::Saved => (None, Some(STIMULUS)),
         Asked::Back => (None, Some(BACK)),
     };
@@ -140,7 +155,7 @@ fn performed(alloc: Global, asked: Asked, rooms: Rooms) -> Result<Done, AllocErr
 }
 
 /// What is asked, the status, and what is written on each writer.
-const ENDINGS: [(Asked, u8, [&[u8]; 3]); 6] = [
+const ENDINGS: [(Asked, u8, [&[u8]; 3]); 7] = [
     (
         Asked::Check,
         0,
@@ -153,6 +168,7 @@ const ENDINGS: [(Asked, u8, [&[u8]; 3]); 6] = [
         0,
         [b"number,Start,Stop\n2,1,0\n", b"", b"rows 1 looks 1\n"],
     ),
+    (Asked::Groups, 0, [GROUPS, b"", b"rows 1 causes 2\n"]),
     (Asked::Saved, 0, [TRACE, SAVED, b""]),
     (Asked::Back, 1, [TRACE, b"", b"fault X4 row 4\n"]),
 ];
@@ -171,8 +187,9 @@ fn a_request_writes_its_texts(rt: HostRuntime) -> Result<(), AllocError> {
 }
 
 /// A text, and what asks for it.
-const TEXTS: [(Asked, &[u8]); 4] = [
+const TEXTS: [(Asked, &[u8]); 5] = [
     (Asked::Causes(None), ROWS),
+    (Asked::Groups, GROUPS),
     (Asked::Uses, USES),
     (Asked::Saved, TRACE),
     (Asked::Back, TRACE),

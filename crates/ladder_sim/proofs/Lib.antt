@@ -2,3 +2,4 @@ pub mod Limits
 pub mod NearLaws
 pub mod RowLaws
 pub mod Taking
+pub mod GroupRows

@@ -1,14 +1,15 @@
--- One cause more of a limited list.
-use Rattle.std.proofs.Common.{◌≡◌, ◌≢◌, ◌∙◌, ◌+◌, ◌-◌, ◌≤◌, ℕ, suc, List, [], ◌∷◌, ◌++◌, Option, Some, None, sym, refl, ap, append_assoc, arith, length, take}
+-- One record more of a limited list.
+use Rattle.std.proofs.Common.{◌≡◌, ◌≢◌, ◌∙◌, ◌+◌, ◌-◌, ◌≤◌, ℕ, suc, List, [], ◌∷◌, ◌++◌, Option, Some, None, sym, refl, ap, append_assoc, arith, length, map, take}
 use Rattle.std.specs.Prelude.{IfSome}
 use Rattle.ladder_sim.specs.CauseText.{limited}
-use Rattle.ladder_sim.specs.Rows.{row, rows}
+use Rattle.ladder_records.specs.Left.{Fields}
+use Rattle.ladder_records.specs.Text.{line_text, lines_text}
 use Rattle.ladder_text.specs.Block.{SendsAll}
 use Rattle.ladder_sim.specs.Limit.{limit_left}
 use Rattle.ladder_text.specs.Log.{PutsPrefix, WriteLog}
 use Rattle.ladder_text.proofs.Sending.{sends_prefix, sends_more, sends_none}
 
-pub limited_next : (limit : Option ℕ) (count : ℕ) (xs : List ℕ) (n : ℕ) (rest : List ℕ) → xs ≡ n ∷ rest → limit ≢ Some count → IfSome limit (λ m. count ≤ m)
+pub limited_next : {A : Type 0} (limit : Option ℕ) (count : ℕ) (xs : List A) (n : A) (rest : List A) → xs ≡ n ∷ rest → limit ≢ Some count → IfSome limit (λ m. count ≤ m)
     → limited (limit_left limit count) xs ≡ n ∷ limited (limit_left limit (count + 1)) rest
 limited_next None count xs n rest e d h = e
 limited_next (Some m) count xs n rest e d h =
@@ -20,58 +21,62 @@ pub below : (limit : Option ℕ) (count : ℕ) → limit ≢ Some count → IfSo
 below None count d h = tt
 below (Some m) count d h = let other : m ≢ count = λ q. d (ap (λ (x : ℕ). Some x) q) in omega (arith, other)
 
+-- the lines of records
+abbrev pub lines : {A : Type 0} → (A → Fields) → List A → List ℕ
+lines f xs = lines_text (map f xs)
+
 -- So many rows of the whole list were added, and this is left of it.
-pub record Added (a b : WriteLog) (waited waits : List ℕ) (k count : ℕ) (limit : Option ℕ) (whole left : List ℕ) : Type 0 where
+pub record Added {A : Type 0} (a b : WriteLog) (waited waits : List ℕ) (f : A → Fields) (count : ℕ) (limit : Option ℕ) (whole left : List A) : Type 0 where
   pub done : List ℕ
-  pub split : rows k whole ≡ done ++ rows k left
+  pub split : lines f whole ≡ done ++ lines f left
   pub sent : SendsAll a b waited waits done
   pub counted : count + length left ≡ length whole
   pub within : IfSome limit (λ m. count ≤ m)
 
 -- before the first row
-pub added_none : (a : WriteLog) (w : List ℕ) (k : ℕ) (limit : Option ℕ) (xs : List ℕ)
-    → Added a a w w k 0 limit (limited limit xs) (limited (limit_left limit 0) xs)
-added_none a w k None xs = record { done = []; split = refl; sent = sends_none a w; counted = omega arith; within = tt }
-added_none a w k (Some m) xs =
+pub added_none : {A : Type 0} (a : WriteLog) (w : List ℕ) (f : A → Fields) (limit : Option ℕ) (xs : List A)
+    → Added a a w w f 0 limit (limited limit xs) (limited (limit_left limit 0) xs)
+added_none a w f None xs = record { done = []; split = refl; sent = sends_none a w; counted = omega arith; within = tt }
+added_none a w f (Some m) xs =
     let same : m - 0 ≡ m = omega arith in
     record {
       done = [];
-      split = ap (λ j. rows k (take j xs)) (sym same);
+      split = ap (λ j. lines f (take j xs)) (sym same);
       sent = sends_none a w;
       counted = omega (arith, ap (λ j. length (take j xs)) same);
       within = omega arith;
     }
 
 -- one row more
-pub added_more : (a b c : WriteLog) (w0 w1 w2 : List ℕ) (k count : ℕ) (limit : Option ℕ) (whole xs : List ℕ) (n : ℕ) (rest : List ℕ)
-    → Added a b w0 w1 k count limit whole (limited (limit_left limit count) xs) → xs ≡ n ∷ rest → limit ≢ Some count → SendsAll b c w1 w2 (row k n)
-    → Added a c w0 w2 k (count + 1) limit whole (limited (limit_left limit (count + 1)) rest)
-added_more a b c w0 w1 w2 k count limit whole xs n rest so_far first short sent =
+pub added_more : {A : Type 0} (a b c : WriteLog) (w0 w1 w2 : List ℕ) (f : A → Fields) (count : ℕ) (limit : Option ℕ) (whole xs : List A) (n : A) (rest : List A)
+    → Added a b w0 w1 f count limit whole (limited (limit_left limit count) xs) → xs ≡ n ∷ rest → limit ≢ Some count → SendsAll b c w1 w2 (line_text (f n))
+    → Added a c w0 w2 f (count + 1) limit whole (limited (limit_left limit (count + 1)) rest)
+added_more a b c w0 w1 w2 f count limit whole xs n rest so_far first short sent =
     let next = limited_next limit count xs n rest first short so_far.within in
     let left = limited (limit_left limit (count + 1)) rest in
     let counts : count + suc (length left) ≡ length whole = ap (λ ys. count + length ys) (sym next) ∙ so_far.counted in
     record {
-      done = so_far.done ++ row k n;
-      split = so_far.split ∙ ap (λ ys. so_far.done ++ rows k ys) next ∙ sym (append_assoc so_far.done (row k n) (rows k left));
-      sent = sends_more a b c w0 w1 w2 so_far.done (row k n) so_far.sent sent;
+      done = so_far.done ++ line_text (f n);
+      split = so_far.split ∙ ap (λ ys. so_far.done ++ lines f ys) next ∙ sym (append_assoc so_far.done (line_text (f n)) (lines f left));
+      sent = sends_more a b c w0 w1 w2 so_far.done (line_text (f n)) so_far.sent sent;
       counted = omega (arith, counts);
       within = below limit count short so_far.within;
     }
 
 -- the row that comes next is one of the whole list
-pub added_within : (a b : WriteLog) (w0 w1 : List ℕ) (k count : ℕ) (limit : Option ℕ) (whole xs : List ℕ) (n : ℕ) (rest : List ℕ)
-    → Added a b w0 w1 k count limit whole (limited (limit_left limit count) xs) → xs ≡ n ∷ rest → limit ≢ Some count → count + 1 ≤ length whole
-added_within a b w0 w1 k count limit whole xs n rest so_far first short =
+pub added_within : {A : Type 0} (a b : WriteLog) (w0 w1 : List ℕ) (f : A → Fields) (count : ℕ) (limit : Option ℕ) (whole xs : List A) (n : A) (rest : List A)
+    → Added a b w0 w1 f count limit whole (limited (limit_left limit count) xs) → xs ≡ n ∷ rest → limit ≢ Some count → count + 1 ≤ length whole
+added_within a b w0 w1 f count limit whole xs n rest so_far first short =
     let next = limited_next limit count xs n rest first short so_far.within in
     let counts : count + suc (length (limited (limit_left limit (count + 1)) rest)) ≡ length whole = ap (λ ys. count + length ys) (sym next) ∙ so_far.counted in
     omega (arith, counts)
 
 -- a row that is cut off
-pub added_prefix : (a b c : WriteLog) (w0 w1 : List ℕ) (k count : ℕ) (limit : Option ℕ) (whole xs : List ℕ) (n : ℕ) (rest : List ℕ)
-    → Added a b w0 w1 k count limit whole (limited (limit_left limit count) xs) → xs ≡ n ∷ rest → limit ≢ Some count → PutsPrefix b c (w1 ++ row k n)
-    → PutsPrefix a c (w0 ++ rows k whole)
-added_prefix a b c w0 w1 k count limit whole xs n rest so_far first short failed =
+pub added_prefix : {A : Type 0} (a b c : WriteLog) (w0 w1 : List ℕ) (f : A → Fields) (count : ℕ) (limit : Option ℕ) (whole xs : List A) (n : A) (rest : List A)
+    → Added a b w0 w1 f count limit whole (limited (limit_left limit count) xs) → xs ≡ n ∷ rest → limit ≢ Some count → PutsPrefix b c (w1 ++ line_text (f n))
+    → PutsPrefix a c (w0 ++ lines f whole)
+added_prefix a b c w0 w1 f count limit whole xs n rest so_far first short failed =
     let next = limited_next limit count xs n rest first short so_far.within in
     let left = limited (limit_left limit (count + 1)) rest in
-    sends_prefix a b c w0 w1 (rows k whole) so_far.done (row k n) (rows k left)
-    (so_far.split ∙ ap (λ ys. so_far.done ++ rows k ys) next) so_far.sent failed
+    sends_prefix a b c w0 w1 (lines f whole) so_far.done (line_text (f n)) (lines f left)
+    (so_far.split ∙ ap (λ ys. so_far.done ++ lines f ys) next) so_far.sent failed

@@ -19,19 +19,19 @@ going_none c = record {
 }
 
 -- What is left after n and one item more.
-dropped_one : (xs rest : List ℕ) (x n : ℕ) → drop n xs ≡ x ∷ rest → rest ≡ drop (suc n) xs
+pub dropped_one : {A : Type 0} (xs rest : List A) (x : A) (n : ℕ) → drop n xs ≡ x ∷ rest → rest ≡ drop (suc n) xs
 dropped_one [] rest x zero e = cc
 dropped_one [] rest x (suc n) e = cc
 dropped_one (y ∷ ys) rest x zero e = cc
 dropped_one (y ∷ ys) rest x (suc n) e = dropped_one ys rest x n e
 
-taken_one : (xs rest : List ℕ) (x n : ℕ) → drop n xs ≡ x ∷ rest → take (suc n) xs ≡ take n xs ++ x ∷ []
+pub taken_one : {A : Type 0} (xs rest : List A) (x : A) (n : ℕ) → drop n xs ≡ x ∷ rest → take (suc n) xs ≡ take n xs ++ x ∷ []
 taken_one [] rest x zero e = cc
 taken_one [] rest x (suc n) e = cc
 taken_one (y ∷ ys) rest x zero e = cc
 taken_one (y ∷ ys) rest x (suc n) e = ap (λ zs. y ∷ zs) (taken_one ys rest x n e)
 
-room_for_one : (xs rest : List ℕ) (x n : ℕ) → drop n xs ≡ x ∷ rest → n + 1 ≤ length xs
+pub room_for_one : {A : Type 0} (xs rest : List A) (x : A) (n : ℕ) → drop n xs ≡ x ∷ rest → n + 1 ≤ length xs
 room_for_one [] rest x zero e = cc
 room_for_one [] rest x (suc n) e = cc
 room_for_one (y ∷ ys) rest x zero e = omega arith

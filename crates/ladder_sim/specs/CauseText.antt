@@ -22,9 +22,9 @@ cause_record k n = decimal n ∷ map (λ place. bit_text (bit_of k place n)) (ra
 abbrev pub cause_text : Drawing → List ℕ → List ℕ → List ℕ
 cause_text p listed causes = lines_text (header_record p listed ∷ map (cause_record (length listed)) causes)
 
--- the first causes, where there is a limit
-abbrev pub limited : Option ℕ → List ℕ → List ℕ
-limited limit causes = elim limit [ Some most ↦ take most causes | None ↦ causes ]
+-- the first items of a list, where there is a limit
+abbrev pub limited : {A : Type 0} → Option ℕ → List A → List A
+limited limit items = elim limit [ Some most ↦ take most items | None ↦ items ]
 
 -- The cursor has given some of its causes, at most this many.
 abbrev pub TakesAtMost : Cursor → Cursor → ℕ → Type 0

@@ -2,3 +2,4 @@ pub mod CauseText
 pub mod Rows
 pub mod Kept
 pub mod Limit
+pub mod GroupText

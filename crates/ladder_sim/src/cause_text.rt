@@ -5,9 +5,9 @@ ghost use Rattle.ladder_causes.specs.Assignment.{bit_of};
 ghost use Rattle.ladder_causes.specs.Cursor.{Takes, looks_given, looks_of, searched};
 ghost use Rattle.std.specs.List.{slice_range};
 ghost use Rattle.ladder_text.specs.Block.{Sends};
-ghost use Rattle.ladder_records.specs.Text.{after_commas, bit_text};
-ghost use Rattle.ladder_sim.specs.CauseText.{cause_text, limited, TakesAtMost};
-ghost use Rattle.ladder_sim.specs.Rows.{bits, header, name_in, row, rows};
+ghost use Rattle.ladder_records.specs.Text.{after_commas, bit_text, line_text};
+ghost use Rattle.ladder_sim.specs.CauseText.{cause_text, limited, name_of, TakesAtMost};
+ghost use Rattle.ladder_sim.specs.Rows.{bits, name_in, row, rows};
 ghost use Rattle.ladder_sim.specs.Kept.{IsKept};
 ghost use Rattle.ladder_text.specs.Log.{Puts};
 ghost use Rattle.ladder_sim.specs.declared.cause_text.TheConstants.{DIGITS, ROW};
@@ -62,15 +62,17 @@ fn add_names<W: Sink>(
     Ok(())
 }
 
-fn add_header<W: Sink>(
+/// Adds the header: what stands in the first column, and the names of the listed inputs.
+pub(crate) fn add_header<W: Sink>(
     block: &mut Block,
+    first: &[u8],
     program: &Program,
     listed: &[usize],
     writer: &mut W,
 ) -> Result<(), WriteFault>
-    ensures { Sends (W.log writer.old) (W.log writer.new) block.old block.new result (header program.now listed.now) }
+    ensures { Sends (W.log writer.old) (W.log writer.new) block.old block.new result (line_text (first.now ∷ map (name_of program.now) listed.now)) }
 {
-    block.add(b"number", writer)?;
+    block.add(first, writer)?;
     add_names(block, program.decls(), listed, writer)?;
     block.add(b"\n", writer)
 }
@@ -143,7 +145,7 @@ pub struct Summary {
     pub looks: u64,
 }
 
-fn is_reached(limit: Option<u64>, rows: u64) -> bool
+pub(crate) fn is_reached(limit: Option<u64>, rows: u64) -> bool
     ensures yes { result ≡ true → limit ≡ Some rows }
     ensures no { result ≡ false → limit ≢ Some rows }
 {
@@ -206,7 +208,8 @@ pub fn write_causes<W: Sink>(
 {
     let mut block = Block::new();
     let listed = causes.free().len();
-    add_header(&mut block, causes.program(), causes.free(), writer)?;
+    let program = causes.program();
+    add_header(&mut block, b"number", program, causes.free(), writer)?;
     let rows = add_rows(&mut block, causes, listed, limit, writer)?;
     block.flush(writer)?;
     Ok(Summary {

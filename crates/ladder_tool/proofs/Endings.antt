@@ -7,14 +7,17 @@ use Rattle.ladder_scan.specs.Standing.{Standing}
 use Rattle.ladder_search.specs.Looks.{Search}
 use Rattle.ladder_causes.specs.declared.fault.CauseFault.{CauseFault}
 use Rattle.ladder_causes.specs.declared.fault.CauseFault.TheVariants as cause
-use Rattle.ladder_causes.specs.Causes.{Question, causes_after, question}
+use Rattle.ladder_causes.specs.Causes.{Question, causes_after, is_cause, question}
 use Rattle.ladder_causes.specs.Cursor.{Cursor, first_number, looks_given, looks_of, searched}
+use Rattle.ladder_causes.specs.GroupCursor.{GroupCursor, causes_in, rows_left}
 use Rattle.ladder_causes.specs.Prefixes.{search_of}
 use Rattle.ladder_causes.specs.Refusal.{reason, refusal}
+use Rattle.ladder_groups.specs.Groups.{rows}
 use Rattle.ladder_sim.specs.CauseText.{cause_text, limited}
+use Rattle.ladder_sim.specs.GroupText.{group_text}
 use Rattle.ladder_text.specs.Log.{PutsAll, PutsPrefix, WriteLog}
 use Rattle.ladder_tool.specs.declared.fault.ToolFault.TheVariants as fault
-use Rattle.ladder_tool.specs.Performs.{Asking, HasCauseFault, IsAsked, causes_for, looks_for, rows_line, rows_text}
+use Rattle.ladder_tool.specs.Performs.{Asking, HasCauseFault, IsAsked, causes_for, counts_text, groups_line, looks_for, rows_for, rows_line, rows_text}
 use Rattle.ladder_tool.specs.Setting.{Given, IsSet}
 use Rattle.ladder_tool.specs.Variables.{AreVariables, variable_of}
 
@@ -55,6 +58,21 @@ module _ (a : Asking) (q : Question) (c : Cursor) (of_program : c.program ≡ q.
       → rows ≡ length (limited a.limit c.rest) → looks ≡ looks_given (searched c) (looks_of c) a.limit c.rest → rows_line rows looks ≡ rows_text a q
   line_is rows looks search none h l =
       ap (λ n. rows_line n looks) (h ∙ ap (λ xs. length (limited a.limit xs)) made) ∙ ap (rows_line (length (causes_for a q))) (l ∙ looks_are search none)
+
+-- What a cursor over groups has to give is what is asked.
+pub groups_are : (a : Asking) (q : Question) (c : GroupCursor) → c.program ≡ q.program → c.listed ≡ q.listed
+    → rows_left c ≡ rows (is_cause q) (length q.listed) 0 → group_text c.program c.listed (limited a.limit (rows_left c)) ≡ group_text q.program q.listed (rows_for a q)
+groups_are a q c of_program of_listed made =
+    ap (λ (d : Drawing). group_text d c.listed (limited a.limit (rows_left c))) of_program
+    ∙ ap (λ g. group_text q.program g (limited a.limit (rows_left c))) of_listed
+    ∙ ap (λ rs. group_text q.program q.listed (limited a.limit rs)) made
+
+-- the line of rows and causes
+pub counts_are : (a : Asking) (q : Question) (c : GroupCursor) → rows_left c ≡ rows (is_cause q) (length q.listed) 0 → (many causes : ℕ)
+    → many ≡ length (limited a.limit (rows_left c)) → causes ≡ causes_in (limited a.limit (rows_left c)) → groups_line many causes ≡ counts_text a q
+counts_are a q c made many causes h l =
+    ap (λ n. groups_line n causes) (h ∙ ap (λ rs. length (limited a.limit rs)) made)
+    ∙ ap (groups_line (length (rows_for a q))) (l ∙ ap (λ rs. causes_in (limited a.limit rs)) made)
 
 pub all_same : (a b : WriteLog) (xs ys : List ℕ) → xs ≡ ys → PutsAll a b xs → PutsAll a b ys
 all_same a b xs ys e h = rw e at h

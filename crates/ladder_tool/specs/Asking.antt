@@ -3,7 +3,7 @@ use Rattle.std.specs.Prelude.{◌≡◌, ◌<◌, ◌^◌, ℕ, List, Option, No
 use Rattle.std.specs.Str.Parse.{IsNumeral, digits_value, without_leading_plus}
 use Rattle.clap.specs.Words.{App, Row, Text, all_of, first_of, one_of, subcommand_of}
 use Rattle.ladder_tool.specs.declared.request.Request.{Request}
-use Rattle.ladder_tool.specs.declared.request.Request.TheVariants.{Causes, Check, Sim, Uses}
+use Rattle.ladder_tool.specs.declared.request.Request.TheVariants.{Causes, Check, Groups, Sim, Uses}
 
 abbrev pub HasText : Text → List Row → List ℕ → Type 0
 HasText id rows text = first_of id rows ≡ Some text
@@ -18,13 +18,27 @@ HasNumber id rows None = one_of id rows ≡ None
 HasNumber id rows (Some n) = (text : Text) × (one_of id rows ≡ Some text) × IsNumeral 10 (without_leading_plus text)
     × (n ≡ digits_value 10 (without_leading_plus text)) × (n < 2 ^ 64)
 
+-- the flag was given: `clap` then keeps this value for it
+abbrev pub HasFlag : Text → List Row → Type 0
+HasFlag id rows = HasText id rows (codes "true")
+
 -- the request is what the subcommand's name and values say
 abbrev pub Asks : Text → List Row → Request → Type 0
 Asks name rows (Check file) = (name ≡ codes "check") × HasText (codes "file") rows (string_bytes file)
 Asks name rows (Causes state moment after limit file coil inputs) = (name ≡ codes "causes")
+    × (HasFlag (codes "grouped") rows → ⊥)
     × HasPath (codes "state") rows (option_map string_bytes state)
     × HasNumber (codes "at") rows moment
     × HasNumber (codes "after") rows after
+    × HasNumber (codes "limit") rows limit
+    × HasText (codes "file") rows (string_bytes file)
+    × HasText (codes "coil") rows (string_bytes coil)
+    × (unwrap_or (all_of (codes "inputs") rows) [] ≡ map string_bytes inputs.items)
+Asks name rows (Groups state moment limit file coil inputs) = (name ≡ codes "causes")
+    × HasFlag (codes "grouped") rows
+    × HasPath (codes "state") rows (option_map string_bytes state)
+    × HasNumber (codes "at") rows moment
+    × HasNumber (codes "after") rows None
     × HasNumber (codes "limit") rows limit
     × HasText (codes "file") rows (string_bytes file)
     × HasText (codes "coil") rows (string_bytes coil)

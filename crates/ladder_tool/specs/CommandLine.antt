@@ -1,9 +1,9 @@
 -- The command line, as clap's definitions of a simple command read it: `ladder check FILE`,
--- `ladder causes [--state STATE] [--at MS] [--after N] [--limit N] FILE COIL [INPUT]...`,
+-- `ladder causes [--state STATE] [--at MS] [--after N] [--limit N] [--grouped] FILE COIL [INPUT]...`,
 -- `ladder sim [--state STATE] [--save STATE] FILE STIMULUS` and `ladder uses FILE`.
 use Rattle.std.specs.Prelude.{◌≡◌, Some, codes, true, false}
 use Rattle.clap.specs.Words.{App, Rule, Text, app_of, new_app, new_rule, with_rule, with_subcommand}
-use Rattle.clap.specs.declared.builder.ArgAction.TheVariants.{Append}
+use Rattle.clap.specs.declared.builder.ArgAction.TheVariants.{Append, SetTrue}
 use Rattle.clap.specs.declared.builder.Command.{Command}
 use Rattle.clap.specs.declared.builder.Command.TheViews.{out-Command}
 use Rattle.clap.specs.declared.builder.value_parser.ValueParser.TheVariants.{Unsigned}
@@ -19,6 +19,10 @@ path_rule id = record (new_rule id) { long = Some id; value_names = 1 }
 -- an option with a number of 64 bits
 abbrev pub number_rule : Text → Rule
 number_rule id = record (new_rule id) { long = Some id; value_names = 1; parser = Some (Unsigned 0 18446744073709551615) }
+
+-- an option without a value
+abbrev pub flag_rule : Text → Rule
+flag_rule id = record (new_rule id) { long = Some id; action = Some SetTrue }
 
 -- the arguments that are left
 abbrev pub list_rule : Text → Rule
@@ -36,7 +40,8 @@ causes_options = with_rule (with_rule (with_rule (with_rule (new_app (codes "cau
     (number_rule (codes "limit"))
 
 abbrev pub causes_app : App
-causes_app = with_rule (with_rule (with_rule causes_options
+causes_app = with_rule (with_rule (with_rule (with_rule causes_options
+    (flag_rule (codes "grouped")))
     (place_rule (codes "file")))
     (place_rule (codes "coil")))
     (list_rule (codes "inputs"))

@@ -6,11 +6,14 @@ use Rattle.ladder_grid.specs.Program.{Drawing}
 use Rattle.ladder_grid.specs.Reading.{IsProgram}
 use Rattle.ladder_scan.specs.Standing.{Standing}
 use Rattle.ladder_causes.specs.declared.fault.CauseFault.TheVariants as cause
-use Rattle.ladder_causes.specs.Causes.{Question, causes_after}
+use Rattle.ladder_causes.specs.Causes.{Question, causes_after, is_cause}
 use Rattle.ladder_causes.specs.Cursor.{first_number, looks_given}
+use Rattle.ladder_causes.specs.GroupCursor.{causes_in}
 use Rattle.ladder_causes.specs.Prefixes.{search_of}
 use Rattle.ladder_causes.specs.Refusal.{refusal}
+use Rattle.ladder_groups.specs.Groups.{Row, rows}
 use Rattle.ladder_sim.specs.CauseText.{cause_text, limited}
+use Rattle.ladder_sim.specs.GroupText.{group_text}
 use Rattle.ladder_state.specs.StateText.{state_text}
 use Rattle.ladder_text.specs.Log.{PutsAll, PutsPrefix, WriteLog}
 use Rattle.ladder_trace.specs.declared.fault.SimFault.{SimFault}
@@ -19,7 +22,7 @@ use Rattle.ladder_uses.specs.Uses.{uses_text}
 use Rattle.ladder_tool.specs.declared.fault.ToolFault.{ToolFault}
 use Rattle.ladder_tool.specs.declared.fault.ToolFault.TheVariants as fault
 use Rattle.ladder_tool.specs.declared.request.Request.{Request}
-use Rattle.ladder_tool.specs.declared.request.Request.TheVariants.{Causes, Check, Sim, Uses}
+use Rattle.ladder_tool.specs.declared.request.Request.TheVariants.{Causes, Check, Groups, Sim, Uses}
 use Rattle.ladder_tool.specs.FaultLine.{fault_line}
 use Rattle.ladder_tool.specs.Setting.{Given, HasProgramFault, HasSettingFault, IsSet, stimulus_records}
 use Rattle.ladder_tool.specs.Variables.{AreVariables, IsUnknownWord, variable_of}
@@ -131,6 +134,41 @@ abbrev pub BreaksList : Given → Asking → Logs → Logs → Type 0
 BreaksList g a old new =
     (Lists g a (PutsPrefix old.out new.out) × IsReported old.err new.err fault.Write) ⊎ CountsList g a old.out new.out (PutsPrefix old.err new.err)
 
+-- ---- a list of causes in groups
+
+-- the rows of all causes, or the first of them where there is a limit
+abbrev pub rows_for : Asking → Question → List Row
+rows_for a q = limited a.limit (rows (is_cause q) (length q.listed) 0)
+
+-- The text of the groups is written, whole or as far as `Written` says: all rows that are asked for, and no other.
+pub record Grouped (g : Given) (a : Asking) (Written : List ℕ → Type 0) : Type 0 where
+  pub question : Question
+  pub asked : IsAsked g a question
+  pub accepted : refusal question a.after ≡ None
+  pub rows : Written (group_text question.program question.listed (rows_for a question))
+
+abbrev pub ListsGroups : Given → Asking → WriteLog → WriteLog → Type 0
+ListsGroups g a out out' = Grouped g a (PutsAll out out')
+
+-- `rows R causes C`
+abbrev pub groups_line : ℕ → ℕ → List ℕ
+groups_line rows causes = codes "rows " ++ (decimal rows ++ (codes " causes " ++ (decimal causes ++ codes "\n")))
+
+-- how many rows are listed, and how many causes they stand for
+abbrev pub counts_text : Asking → Question → List ℕ
+counts_text a q = groups_line (length (rows_for a q)) (causes_in (rows_for a q))
+
+-- The rows were listed, and then their number and that of their causes is written: whole, or as far as `Counted` says.
+pub record CountsGroups (g : Given) (a : Asking) (out out' : WriteLog) (Counted : List ℕ → Type 0) : Type 0 where
+  pub list : ListsGroups g a out out'
+  pub count : Counted (counts_text a list.question)
+
+-- Status 1: `out` failed at the rows, or `err` at their count.
+abbrev pub BreaksGroups : Given → Asking → Logs → Logs → Type 0
+BreaksGroups g a old new =
+    (Grouped g a (PutsPrefix old.out new.out) × IsReported old.err new.err fault.Write)
+    ⊎ CountsGroups g a old.out new.out (PutsPrefix old.err new.err)
+
 -- ---- a simulation
 
 -- The stimulus was simulated from the state that is given, with this result, and this holds of the state after its last scan.
@@ -170,6 +208,9 @@ IsDone (Check file) g old new = Prints check_line g.program (PutsAll old.out new
 IsDone (Causes state moment after limit file coil inputs) g old new =
     CountsList g (asking moment after limit (string_bytes coil) (map string_bytes inputs.items)) old.out new.out (PutsAll old.err new.err)
     × (new.save ≡ old.save)
+IsDone (Groups state moment limit file coil inputs) g old new =
+    CountsGroups g (asking moment None limit (string_bytes coil) (map string_bytes inputs.items)) old.out new.out (PutsAll old.err new.err)
+    × (new.save ≡ old.save)
 IsDone (Sim state save file stimulus) g old new = IsTraced g (is_some save) old new
 IsDone (Uses file) g old new = Prints uses_text g.program (PutsAll old.out new.out) × (new.save ≡ old.save) × (new.err ≡ old.err)
 
@@ -178,6 +219,8 @@ abbrev pub HasFault : Request → Given → ToolFault → Type 0
 HasFault (Check file) g = HasProgramFault g.program
 HasFault (Causes state moment after limit file coil inputs) g =
     HasListFault g (asking moment after limit (string_bytes coil) (map string_bytes inputs.items))
+HasFault (Groups state moment limit file coil inputs) g =
+    HasListFault g (asking moment None limit (string_bytes coil) (map string_bytes inputs.items))
 HasFault (Sim state save file stimulus) g = HasSettingFault g
 HasFault (Uses file) g = HasProgramFault g.program
 
@@ -187,6 +230,8 @@ Breaks (Check file) g old new =
     Prints check_line g.program (PutsPrefix old.out new.out) × (new.save ≡ old.save) × IsReported old.err new.err fault.Write
 Breaks (Causes state moment after limit file coil inputs) g old new =
     BreaksList g (asking moment after limit (string_bytes coil) (map string_bytes inputs.items)) old new × (new.save ≡ old.save)
+Breaks (Groups state moment limit file coil inputs) g old new =
+    BreaksGroups g (asking moment None limit (string_bytes coil) (map string_bytes inputs.items)) old new × (new.save ≡ old.save)
 Breaks (Sim state save file stimulus) g old new = BreaksTrace g (is_some save) old new
 Breaks (Uses file) g old new =
     Prints uses_text g.program (PutsPrefix old.out new.out) × (new.save ≡ old.save) × IsReported old.err new.err fault.Write

@@ -46,4 +46,7 @@ pub(crate) const AT_HELP: &str =
 
 pub(crate) const AFTER_HELP: &str = "Lists the causes with a greater number than N only";
 
-pub(crate) const LIMIT_HELP: &str = "Lists at most N causes";
+pub(crate) const LIMIT_HELP: &str = "Lists at most N rows";
+
+pub(crate) const GROUPED_HELP: &str =
+    "Lists the causes in groups: how many each has, and - for an input that doesn't matter there; not with --after";

@@ -4,6 +4,7 @@
 mod command;
 mod fault;
 mod files;
+mod grouping;
 mod help;
 mod listing;
 mod opening;

@@ -40,7 +40,7 @@ fn put_rows<E: Sink>(summary: Summary, err: &mut E) -> Result<(), WriteFault>
 }
 
 /// The moment of the scan: the stored one where none is asked for.
-fn moment(asked: Option<u64>, stored: u64) -> u64
+pub(crate) fn moment(asked: Option<u64>, stored: u64) -> u64
     ensures { result ≡ unwrap_or asked stored }
 {
     asked.unwrap_or(stored)

@@ -4,6 +4,7 @@ ghost use Rattle.std.specs.Prelude.{◌≡◌, ◌≤◌};
 ghost use Rattle.ladder_tool.specs.Performs.{IsDone, IsFailed, logs};
 ghost use Rattle.ladder_tool.specs.Setting.{given_by};
 
+use crate::grouping::list_groups;
 use crate::listing::{Asking, list_causes};
 use crate::printing::{About, print};
 use crate::request::{Request, Texts};
@@ -11,7 +12,7 @@ use crate::tracing::trace;
 use ladder_text::Sink;
 use std::alloc::Global;
 
-/// Performs a request on its texts: its text on `out`, the line of rows and looks on `err`, and the state that is to be saved on `save`.
+/// Performs a request on its texts: its text on `out`, the line of counts on `err`, and the state that is to be saved on `save`.
 /// Returns the status: 0 where all was written, 1 where a fault stopped it, whose line is on `err`.
 pub fn perform<O: Sink, S: Sink, E: Sink>(
     alloc: Global,
@@ -44,6 +45,22 @@ pub fn perform<O: Sink, S: Sink, E: Sink>(
                 inputs,
             };
             list_causes(alloc, asking, texts, out, err)
+        }
+        Request::Groups {
+            moment,
+            limit,
+            coil,
+            inputs,
+            ..
+        } => {
+            let asking = Asking {
+                moment: *moment,
+                after: None,
+                limit: *limit,
+                coil: coil.as_str(),
+                inputs,
+            };
+            list_groups(alloc, asking, texts, out, err)
         }
         Request::Sim { save: file, .. } => trace(alloc, texts, file.is_some(), out, save, err),
     }

@@ -27,6 +27,21 @@ pub enum Request {
         /// The names of the listed inputs, the first one most significant.
         inputs: Vec<String>,
     },
+    /// The causes of a coil in groups, with the inputs that don't matter in each.
+    Groups {
+        /// The file of the state in which the scan begins; the fresh one where there is none.
+        state: Option<String>,
+        /// The moment of the scan, in ms; the stored one where there is none.
+        moment: Option<u64>,
+        /// How many rows are written at most.
+        limit: Option<u64>,
+        /// The file of the program text.
+        file: String,
+        /// The name of the coil's variable.
+        coil: String,
+        /// The names of the listed inputs, in the order in which they are looked at.
+        inputs: Vec<String>,
+    },
     /// The trace of a stimulus: one scan for each of its records.
     Sim {
         /// The file of the state in which the first scan begins; the fresh one where there is none.

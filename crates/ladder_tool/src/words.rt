@@ -1,10 +1,10 @@
 //! From the arguments of a command line to a request.
 
-ghost use Rattle.std.specs.Prelude.{◌≡◌, [], codes, IfSome, IsSome, OnOk, IfOk, IfErr, map, option_map, string_bytes, unwrap_or, Some};
+ghost use Rattle.std.specs.Prelude.{◌≡◌, [], true, false, codes, IfSome, IsSome, OnOk, IfOk, IfErr, map, option_map, string_bytes, unwrap_or, Some};
 ghost use Rattle.clap.specs.Words.{all_of, first_of, found_of, rows_of, subcommand_rows_of};
 ghost use Rattle.clap.specs.Words.{fault_of as clap_fault};
 ghost use Rattle.ladder_tool.specs.CommandLine.{ladder_app};
-ghost use Rattle.ladder_tool.specs.Asking.{Asks, AsksBy, HasNumber, HasPath};
+ghost use Rattle.ladder_tool.specs.Asking.{Asks, AsksBy, HasFlag, HasNumber, HasPath};
 
 use crate::command::ladder;
 use crate::request::{Request, WordFault};
@@ -16,7 +16,7 @@ use std::alloc::Global;
 ///
 /// # Errors
 ///
-/// `Usage` where `clap` finds a fault, `Help` with its text where help is asked for, `Memory` when out of memory.
+/// `Usage` where `clap` finds a fault or groups are to begin after a number, `Help` with its text where help is asked for, `Memory` when out of memory.
 pub fn read_words(alloc: Global, words: Vec<String>) -> Result<Request, WordFault>
     ensures asks { IfOk result (AsksBy ladder_app (map string_bytes words.items)) }
 
@@ -80,10 +80,24 @@ fn causes_request(alloc: Global, found: &ArgMatches<'_>) -> Result<Request, Word
     let file = text(alloc, found, "file")?;
     let coil = text(alloc, found, "coil")?;
     let inputs = texts(alloc, found, "inputs")?;
-    Ok(Request::Causes {
+    if !is_set(found, "grouped") {
+        return Ok(Request::Causes {
+            state,
+            moment,
+            after,
+            limit,
+            file,
+            coil,
+            inputs,
+        });
+    }
+    // A group has no number, so there is none to begin after.
+    if after.is_some() {
+        return Err(WordFault::Usage);
+    }
+    Ok(Request::Groups {
         state,
         moment,
-        after,
         limit,
         file,
         coil,
@@ -104,6 +118,17 @@ fn sim_request(alloc: Global, found: &ArgMatches<'_>) -> Result<Request, WordFau
         file,
         stimulus,
     })
+}
+
+/// Whether a flag was given.
+fn is_set(found: &ArgMatches<'_>, id: &str) -> bool
+    ensures yes { result ≡ true → HasFlag id.now (rows_of (found_of found.now)) }
+    ensures no { result ≡ false → HasFlag id.now (rows_of (found_of found.now)) → ⊥ }
+{
+    match found.get_str(id) {
+        Some(text) => text == "true",
+        None => false,
+    }
 }
 
 /// The path of an option, where it was given.

@@ -1,4 +1,5 @@
 use Rattle.std.proofs.Common.{◌+◌, refl}
+use Rattle.ladder_sim.specs.CauseText.{cause_record}
 use Rattle.ladder_sim.proofs.Limits.{added_prefix, added_more, added_none, added_within}
 use Rattle.ladder_sim.proofs.Taking.{going_none, going_on, takes_err}
 use Rattle.ladder_text.proofs.Sending.{sends_err}
@@ -6,7 +7,7 @@ use Rattle.ladder_sim.proofs.cause_text.add_rows.Goals as goal
 
 pub loop-limit-init : goal.loop-limit-init
 loop-limit-init g c = record {
-  added = added_none _ c.args.block.now c.args.listed c.args.limit c.args.causes.now.rest;
+  added = added_none _ c.args.block.now (cause_record c.args.listed) c.args.limit c.args.causes.now.rest;
   going = going_none c.args.causes.now;
   kept = c.new-kept.ensures;
 }

@@ -13,3 +13,7 @@ returns-in-Uses-clause-failed g c = λ status.
 pub returns-in-Causes-clause-failed : goal.returns-in-Causes-clause-failed
 returns-in-Causes-clause-failed g c = λ status.
     rw c.in-Causes.is (with_third refl (rw (c.as_str.ensures.value, c.deref-in-Causes.ensures.value) at c.list_causes.ensures.failed (g.S.Sink.log c.args.save.now) status))
+
+pub returns-in-Groups-clause-failed : goal.returns-in-Groups-clause-failed
+returns-in-Groups-clause-failed g c = λ status.
+    rw c.in-Groups.is (with_third refl (rw (c.as_str-in-Groups.ensures.value, c.deref-in-Groups.ensures.value) at c.list_groups.ensures.failed (g.S.Sink.log c.args.save.now) status))
