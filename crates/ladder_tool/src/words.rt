@@ -16,7 +16,8 @@ use std::alloc::Global;
 ///
 /// # Errors
 ///
-/// `Usage` where `clap` finds a fault or groups are to begin after a number, `Help` with its text where help is asked for, `Memory` when out of memory.
+/// `Usage` where `clap` finds a fault, or where groups are to begin after a number; `Help` with its text where help is asked for;
+/// `Memory` when out of memory.
 pub fn read_words(alloc: Global, words: Vec<String>) -> Result<Request, WordFault>
     ensures asks { IfOk result (AsksBy ladder_app (map string_bytes words.items)) }
 
