@@ -1,18 +1,14 @@
 -- The line of a fault: the code of the rule, and where it shows.
 use Rattle.std.specs.Prelude.{◌++◌, ℕ, List, codes, decimal}
-use Rattle.ladder_vars.specs.declared.fault.VarFault.{VarFault}
 use Rattle.ladder_vars.specs.declared.fault.VarRule.{VarRule}
 use Rattle.ladder_vars.specs.declared.fault.VarRule.TheVariants as var
-use Rattle.ladder_grid.specs.declared.fault.GridFault.{GridFault}
 use Rattle.ladder_grid.specs.declared.fault.GridFault.TheVariants as grid
 use Rattle.ladder_grid.specs.declared.fault.GridRule.{GridRule}
 use Rattle.ladder_grid.specs.declared.fault.GridRule.TheVariants as rule
 use Rattle.ladder_causes.specs.declared.fault.CauseFault.{CauseFault}
 use Rattle.ladder_causes.specs.declared.fault.CauseFault.TheVariants as cause
-use Rattle.ladder_text.specs.declared.fault.ReadFault.{ReadFault}
 use Rattle.ladder_text.specs.declared.fault.ReadFault.TheVariants as read
 use Rattle.ladder_state.specs.declared.fault.StateFault.TheVariants as state
-use Rattle.ladder_trace.specs.declared.fault.SimFault.{SimFault}
 use Rattle.ladder_trace.specs.declared.fault.SimFault.TheVariants as sim
 use Rattle.ladder_tool.specs.declared.fault.TextKind.{TextKind}
 use Rattle.ladder_tool.specs.declared.fault.TextKind.TheVariants as kind
@@ -30,17 +26,6 @@ var_number var.BadPreset = 6
 var_number var.TooMany = 7
 var_number var.Unfinished = 8
 var_number var.Memory = 9
-
-abbrev pub rule_line : ℕ → ℕ → List ℕ
-rule_line number line = codes "fault V" ++ (decimal number ++ (codes " line " ++ (decimal line ++ codes "\n")))
-
--- out of memory has no line of the text
-abbrev pub line_of_rule : VarRule → ℕ → List ℕ
-line_of_rule var.Memory line = codes "fault V9\n"
-line_of_rule rule line = rule_line (var_number rule) line
-
-abbrev pub var_line : VarFault → List ℕ
-var_line f = line_of_rule f.rule f.line
 
 -- the rules of the drawing, G1 to G15
 abbrev pub grid_number : GridRule → ℕ
@@ -60,11 +45,6 @@ grid_number rule.LabelFault = 13
 grid_number rule.TwoJumps = 14
 grid_number rule.TooManyRungs = 15
 
-abbrev pub grid_line : GridFault → List ℕ
-grid_line (grid.Vars f) = var_line f
-grid_line (grid.Grid r rung line) =
-    codes "fault G" ++ (decimal (grid_number r) ++ (codes " rung " ++ (decimal rung ++ (codes " line " ++ (decimal line ++ codes "\n")))))
-
 -- the reasons why there is no list of causes, C1 to C7
 abbrev pub cause_number : CauseFault → ℕ
 cause_number cause.MomentBack = 1
@@ -80,36 +60,31 @@ kind_word kind.Program = codes "program"
 kind_word kind.State = codes "state"
 kind_word kind.Stimulus = codes "stimulus"
 
--- a record of a state or a stimulus that isn't of its form
-abbrev pub bad_row_line : TextKind → ℕ → List ℕ
-bad_row_line k row = codes "fault X2 " ++ (kind_word k ++ (codes " row " ++ (decimal row ++ codes "\n")))
+-- a line that ends with a number
+abbrev pub numbered : List ℕ → ℕ → List ℕ
+numbered text number = text ++ (decimal number ++ codes "\n")
 
--- a text that can't be read
-abbrev pub read_line : TextKind → ReadFault → List ℕ
-read_line k read.Read = codes "fault X1 " ++ (kind_word k ++ codes "\n")
-read_line k read.TooLong = codes "fault X5 " ++ (kind_word k ++ codes "\n")
-read_line k read.Memory = codes "fault X7\n"
+-- A rule of the declarations and its line; out of memory has no line of the text.
+abbrev pub var_line : VarRule → ℕ → List ℕ
+var_line var.Memory line = codes "fault V9\n"
+var_line rule line = codes "fault V" ++ (decimal (var_number rule) ++ numbered (codes " line ") line)
 
-abbrev pub row_line : List ℕ → ℕ → List ℕ
-row_line rule row = rule ++ (decimal row ++ codes "\n")
-
--- what ends a simulation early, X2 to X7, by the number of the record in the stimulus
-abbrev pub sim_line : SimFault → List ℕ
-sim_line (sim.BadRow row) = bad_row_line kind.Stimulus row
-sim_line (sim.UnknownName row) = row_line (codes "fault X3 row ") row
-sim_line (sim.MomentBack row) = row_line (codes "fault X4 row ") row
-sim_line (sim.TooLong row) = row_line (codes "fault X5 row ") row
-sim_line sim.Write = codes "fault X6\n"
-sim_line sim.Memory = codes "fault X7\n"
-
+-- By the letter: V and G the rules of a program text, C those of a question, and X what else stops a request. Records are counted from 1,
+-- a bad one is X2; X1 is a text that can't be read, X5 one that is too long, X6 a writer that failed, and X7, the rest, out of memory.
 abbrev pub fault_line : ToolFault → List ℕ
-fault_line (fault.Grid f) = grid_line f
-fault_line (fault.Cause f) = codes "fault C" ++ (decimal (cause_number f) ++ codes "\n")
-fault_line (fault.Read k f) = read_line k f
-fault_line (fault.State (state.BadRow row)) = bad_row_line kind.State row
-fault_line (fault.State state.Memory) = codes "fault X7\n"
-fault_line (fault.Word number) = codes "fault X3 word " ++ (decimal number ++ codes "\n")
-fault_line (fault.Sim f) = sim_line f
+fault_line (fault.Grid (grid.Vars f)) = var_line f.rule f.line
+fault_line (fault.Grid (grid.Grid r rung line)) =
+    codes "fault G" ++ (decimal (grid_number r) ++ (codes " rung " ++ (decimal rung ++ numbered (codes " line ") line)))
+fault_line (fault.Cause f) = numbered (codes "fault C") (cause_number f)
+fault_line (fault.Read k read.Read) = codes "fault X1 " ++ (kind_word k ++ codes "\n")
+fault_line (fault.Read k read.TooLong) = codes "fault X5 " ++ (kind_word k ++ codes "\n")
+fault_line (fault.State (state.BadRow row)) = numbered (codes "fault X2 state row ") row
+fault_line (fault.Word number) = numbered (codes "fault X3 word ") number
+fault_line (fault.Sim (sim.BadRow row)) = numbered (codes "fault X2 stimulus row ") row
+fault_line (fault.Sim (sim.UnknownName row)) = numbered (codes "fault X3 row ") row
+fault_line (fault.Sim (sim.MomentBack row)) = numbered (codes "fault X4 row ") row
+fault_line (fault.Sim (sim.TooLong row)) = numbered (codes "fault X5 row ") row
+fault_line (fault.Sim sim.Write) = codes "fault X6\n"
 fault_line fault.Write = codes "fault X6\n"
-fault_line fault.Memory = codes "fault X7\n"
 fault_line fault.Usage = codes "fault usage\n"
+fault_line memory = codes "fault X7\n"

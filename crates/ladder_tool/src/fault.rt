@@ -2,7 +2,8 @@
 
 ghost use Rattle.std.specs.Prelude.{◌≡◌};
 ghost use Rattle.ladder_text.specs.Log.{Puts};
-ghost use Rattle.ladder_tool.specs.FaultLine.{bad_row_line, cause_number, fault_line, grid_number, kind_word, read_line, row_line, sim_line, var_line, var_number};
+ghost use Rattle.ladder_tool.specs.FaultLine.{cause_number, fault_line, grid_number, kind_word, numbered, var_line, var_number};
+ghost use Rattle.ladder_tool.specs.declared.fault.ToolFault.TheVariants.{Read, Sim};
 
 use ladder_causes::CauseFault;
 use ladder_grid::{GridFault, GridRule};
@@ -70,27 +71,13 @@ pub fn write_fault<W: Sink>(fault: &ToolFault, writer: &mut W) -> Result<(), Wri
             ];
             put_pieces(writer, pieces.as_slice())
         }
-        ToolFault::Cause(fault) => {
-            let pieces = [
-                Piece::Text(b"fault C"),
-                Piece::Number(cause_number(fault)),
-                Piece::Text(b"\n"),
-            ];
-            put_pieces(writer, pieces.as_slice())
-        }
+        ToolFault::Cause(fault) => write_numbered(b"fault C", cause_number(fault), writer),
         ToolFault::Read(kind, fault) => write_read_fault(kind, fault, writer),
         ToolFault::State(StateFault::BadRow { row }) => {
-            write_bad_row(TextKind::State, row, writer)
+            write_numbered(b"fault X2 state row ", row, writer)
         }
         ToolFault::State(StateFault::Memory) => put(writer, b"fault X7\n"),
-        ToolFault::Word { number } => {
-            let pieces = [
-                Piece::Text(b"fault X3 word "),
-                Piece::Number(number as u64),
-                Piece::Text(b"\n"),
-            ];
-            put_pieces(writer, pieces.as_slice())
-        }
+        ToolFault::Word { number } => write_numbered(b"fault X3 word ", number as u64, writer),
         ToolFault::Sim(fault) => write_sim_fault(fault, writer),
         ToolFault::Write => put(writer, b"fault X6\n"),
         ToolFault::Memory => put(writer, b"fault X7\n"),
@@ -99,7 +86,7 @@ pub fn write_fault<W: Sink>(fault: &ToolFault, writer: &mut W) -> Result<(), Wri
 }
 
 fn write_var_fault<W: Sink>(fault: VarFault, writer: &mut W) -> Result<(), WriteFault>
-    ensures { Puts (W.log writer.old) (W.log writer.new) result (var_line fault) }
+    ensures { Puts (W.log writer.old) (W.log writer.new) result (var_line fault.rule fault.line) }
 {
     if fault.rule == VarRule::Memory {
         return put(writer, b"fault V9\n");
@@ -119,7 +106,7 @@ fn write_read_fault<W: Sink>(
     fault: ReadFault,
     writer: &mut W,
 ) -> Result<(), WriteFault>
-    ensures { Puts (W.log writer.old) (W.log writer.new) result (read_line kind fault) }
+    ensures { Puts (W.log writer.old) (W.log writer.new) result (fault_line (Read kind fault)) }
 {
     let rule: &[u8] = match fault {
         ReadFault::Read => b"fault X1 ",
@@ -134,36 +121,28 @@ fn write_read_fault<W: Sink>(
     put_pieces(writer, pieces.as_slice())
 }
 
-fn write_bad_row<W: Sink>(kind: TextKind, row: u64, writer: &mut W) -> Result<(), WriteFault>
-    ensures { Puts (W.log writer.old) (W.log writer.new) result (bad_row_line kind row) }
-{
-    let pieces = [
-        Piece::Text(b"fault X2 "),
-        Piece::Text(kind_word(kind)),
-        Piece::Text(b" row "),
-        Piece::Number(row),
-        Piece::Text(b"\n"),
-    ];
-    put_pieces(writer, pieces.as_slice())
-}
-
 fn write_sim_fault<W: Sink>(fault: SimFault, writer: &mut W) -> Result<(), WriteFault>
-    ensures { Puts (W.log writer.old) (W.log writer.new) result (sim_line fault) }
+    ensures { Puts (W.log writer.old) (W.log writer.new) result (fault_line (Sim fault)) }
 {
     match fault {
-        SimFault::BadRow { row } => write_bad_row(TextKind::Stimulus, row, writer),
-        SimFault::UnknownName { row } => write_row_fault(b"fault X3 row ", row, writer),
-        SimFault::MomentBack { row } => write_row_fault(b"fault X4 row ", row, writer),
-        SimFault::TooLong { row } => write_row_fault(b"fault X5 row ", row, writer),
+        SimFault::BadRow { row } => write_numbered(b"fault X2 stimulus row ", row, writer),
+        SimFault::UnknownName { row } => write_numbered(b"fault X3 row ", row, writer),
+        SimFault::MomentBack { row } => write_numbered(b"fault X4 row ", row, writer),
+        SimFault::TooLong { row } => write_numbered(b"fault X5 row ", row, writer),
         SimFault::Write => put(writer, b"fault X6\n"),
         SimFault::Memory => put(writer, b"fault X7\n"),
     }
 }
 
-fn write_row_fault<W: Sink>(rule: &[u8], row: u64, writer: &mut W) -> Result<(), WriteFault>
-    ensures { Puts (W.log writer.old) (W.log writer.new) result (row_line rule.now row) }
+/// Writes a line that ends with a number.
+fn write_numbered<W: Sink>(text: &[u8], number: u64, writer: &mut W) -> Result<(), WriteFault>
+    ensures { Puts (W.log writer.old) (W.log writer.new) result (numbered text.now number) }
 {
-    let pieces = [Piece::Text(rule), Piece::Number(row), Piece::Text(b"\n")];
+    let pieces = [
+        Piece::Text(text),
+        Piece::Number(number),
+        Piece::Text(b"\n"),
+    ];
     put_pieces(writer, pieces.as_slice())
 }
 

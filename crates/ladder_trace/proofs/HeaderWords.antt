@@ -10,7 +10,7 @@ use Rattle.ladder_records.specs.Left.{Fields}
 use Rattle.ladder_vars.specs.Decls.{Declared}
 use Rattle.ladder_trace.specs.Room.{is_moment}
 use Rattle.ladder_trace.specs.Simulation.{IsBadHeader}
-use Rattle.ladder_trace.specs.Stimulus.{AreColumns, IsHeader, input_named}
+use Rattle.ladder_trace.specs.Stimulus.{IsHeader, input_named}
 use Rattle.ladder_trace.proofs.Lists.{some_same}
 
 pub is_headed : (fs : Fields) → is_moment (field_at fs 0) ≡ true → fs ≡ codes "moment" ∷ drop 1 fs
@@ -26,6 +26,15 @@ headed (f ∷ fs) word there same e = other_text f (codes "moment") (sym e) (som
 pub bad_first : (d : Declared) (fs : Fields) (rows : List Fields) → is_moment (field_at fs 0) ≡ false → IsBadHeader d (fs ∷ rows)
 bad_first d fs rows e = inl (λ (r, here, (word, there, same)). headed fs word (subst (λ (x : Fields). slice_get x 0 ≡ Some word) (sym (some_same here)) there) same e)
 
+-- the words name the inputs at these places, no two the same
+pub record AreColumns (d : Declared) (words : List (List ℕ)) (columns : List ℕ) : Type 0 where
+  pub named : map (input_named d) words ≡ map Some columns
+  pub distinct : IsDistinct (λ (a b : ℕ). a == b) columns
+
+-- all words of a header
+pub header_with : (d : Declared) (fs words : Fields) (columns : List ℕ) → fs ≡ codes "moment" ∷ words → AreColumns d words columns → IsHeader d fs columns
+header_with d fs words columns e k = record { words = words; same = e; named = k.named; distinct = k.distinct }
+
 -- the fields before a place, of which the first is the word for the moment
 pub header_to : (d : Declared) (fs : Fields) (number : ℕ) (columns : List ℕ) → fs ≡ codes "moment" ∷ drop 1 fs → 1 ≤ number → AreColumns d (take (number - 1) (drop 1 fs)) columns
     → IsHeader d (take number fs) columns
@@ -34,7 +43,7 @@ header_to d (f ∷ fs) zero columns e h k = absurd (omega (arith, h))
 header_to d (f ∷ fs) (suc n) columns e h k =
     let first : f ≡ codes "moment" = cc in
     let at : suc n - 1 ≡ n = omega arith in
-    record { words = take n fs; same = ap (λ x. x ∷ take n fs) first; inputs = subst (λ i. AreColumns d (take i fs) columns) at k }
+    header_with d (f ∷ take n fs) (take n fs) columns (ap (λ x. x ∷ take n fs) first) (subst (λ i. AreColumns d (take i fs) columns) at k)
 
 pub contains : (c : ℕ) (xs : List ℕ) → list_any (λ k. c == k) xs ≡ true → Contains xs c
 contains c xs h = Contains-from_any {eq = λ (a b : ℕ). a == b} (λ x y e. exact_unsigned_eq x y e) c xs h

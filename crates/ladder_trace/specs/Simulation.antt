@@ -68,13 +68,11 @@ HasWord P d fields =
 abbrev pub HasUnknownName : Declared → Fields → Type 0
 HasUnknownName = HasWord (λ columns place. place ≡ None)
 
--- A word names an input again.
-abbrev pub HasNameTwice : Declared → Fields → Type 0
-HasNameTwice = HasWord (λ columns place. (c : ℕ) × (place ≡ Some c) × Contains columns c)
-
--- There is no first record that begins with the word for the moment, or it names an input twice.
+-- There is no first record that begins with the word for the moment, or a word of it names an input again.
 abbrev pub IsBadHeader : Declared → List Fields → Type 0
-IsBadHeader d rows = (HasAt rows 0 (λ r. HasAt r 0 (λ word. word ≡ codes "moment")) → ⊥) ⊎ HasAt rows 0 (HasNameTwice d)
+IsBadHeader d rows =
+    (HasAt rows 0 (λ r. HasAt r 0 (λ word. word ≡ codes "moment")) → ⊥)
+    ⊎ HasAt rows 0 (HasWord (λ columns place. (c : ℕ) × (place ≡ Some c) × Contains columns c) d)
 
 -- ---- the whole
 

@@ -18,24 +18,18 @@ place_of vars number = if is_input_at (slice_get vars number) then Some (count_b
 
 -- The place of the input that a declared symbol is, where it is one.
 abbrev pub input_in : List Var → Option Symbol → Option ℕ
-input_in vars (Some (symbol.Var number)) = place_of vars number
-input_in vars (Some (symbol.Instance number)) = None
-input_in vars None = None
+input_in vars declared = elim declared [ Some (symbol.Var number) ↦ place_of vars number | _ ↦ None ]
 
 -- The input that a word names, in any letter case.
 abbrev pub input_named : Declared → List ℕ → Option ℕ
 input_named d word = if is_name word then input_in d.vars (find d word) else None
 
--- The words name the inputs at these places, no two the same.
-pub record AreColumns (d : Declared) (words : List (List ℕ)) (columns : List ℕ) : Type 0 where
-  pub named : map (input_named d) words ≡ map Some columns
-  pub distinct : IsDistinct (λ (a b : ℕ). a == b) columns
-
--- The header is the word for the moment, and then words that name the inputs at these places.
+-- The header is the word for the moment, and then words that name the inputs at these places, no two the same.
 pub record IsHeader (d : Declared) (fields : Fields) (columns : List ℕ) : Type 0 where
   pub words : List (List ℕ)
   pub same : fields ≡ codes "moment" ∷ words
-  pub inputs : AreColumns d words columns
+  pub named : map (input_named d) words ≡ map Some columns
+  pub distinct : IsDistinct (λ (a b : ℕ). a == b) columns
 
 -- ---- the records after it
 

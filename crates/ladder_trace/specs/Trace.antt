@@ -18,20 +18,13 @@ is_output v = elim v.kind [ kind.Output ↦ true | _ ↦ false ]
 abbrev pub values_of : (Var → Bool) → List Var → List Bool → List Bool
 values_of is_asked vars values = map (λ pair. pair.1) (filter (λ pair. is_asked pair.0) (zip vars values))
 
-abbrev pub inputs_of : Drawing → Standing → List Bool
-inputs_of p s = values_of is_input p.decls.vars s.held.values
-
--- the output image
-abbrev pub outputs_of : Drawing → Standing → List Bool
-outputs_of p s = values_of is_output p.decls.vars s.held.values
-
 -- The first line of a trace is the word for the moment and the names of the outputs, as they are declared.
 abbrev pub trace_header : Drawing → List ℕ
 trace_header p = line_text (codes "moment" ∷ map (λ v. v.name) (filter is_output p.decls.vars))
 
--- The line of a state is its moment and its output image.
+-- The line of a state is its moment and its output image: the values of the outputs.
 abbrev pub trace_row : Drawing → Standing → List ℕ
-trace_row p s = line_text (decimal s.moment ∷ map bit_text (outputs_of p s))
+trace_row p s = line_text (decimal s.moment ∷ map bit_text (values_of is_output p.decls.vars s.held.values))
 
 -- ---- the scans
 
@@ -45,4 +38,4 @@ pub record IsStep (p : Drawing) (columns : List ℕ) (s : Standing) (fields : Fi
   pub bits : List Bool
   pub row : IsRow columns fields moment bits
   pub later : s.moment ≤ moment
-  pub after : t ≡ scanned p s moment (given_by columns bits (inputs_of p s))
+  pub after : t ≡ scanned p s moment (given_by columns bits (values_of is_input p.decls.vars s.held.values))

@@ -23,7 +23,7 @@ use Rattle.ladder_records.specs.Text.{lines_text}
 use Rattle.ladder_records.proofs.Commas.{lines_text-append}
 use Rattle.ladder_uses.specs.declared.usage.Use.{Use}
 use Rattle.ladder_uses.specs.Usage.{if_of, row_of, use_in}
-use Rattle.ladder_uses.specs.Uses.{or_unused, place_rows, unused_row, symbols_of, use_of, use_row}
+use Rattle.ladder_uses.specs.Uses.{or_unused, place_rows, symbols_of, use_of, use_row}
 
 -- one item more
 pub rows_more : {A : Type 0} (f : A → List Fields) (xs : List A) (i : ℕ) (x : A) (ys : List Fields) → slice_get xs i ≡ Some x → f x ≡ ys
@@ -158,10 +158,10 @@ rows_prefix a b c w0 w1 rows all more rest e p q =
 
 -- ---- a name without a place
 
-pub unused_there : (name : List ℕ) (rows : List Fields) → length rows ≡ 0 → or_unused name rows ≡ rows ++ unused_row name ∷ []
+pub unused_there : (name : List ℕ) (rows : List Fields) → length rows ≡ 0 → or_unused name rows ≡ rows ++ or_unused name []
 unused_there name [] e = refl
 unused_there name (r ∷ rows) e = absurd (omega (arith, e))
 
 pub unused_behind : (name : List ℕ) (rows : List Fields) → (rest : List Fields) × (or_unused name rows ≡ rows ++ rest)
-unused_behind name [] = (unused_row name ∷ [], refl)
+unused_behind name [] = (or_unused name [], refl)
 unused_behind name (r ∷ rows) = ([], sym (append-nil (r ∷ rows)))

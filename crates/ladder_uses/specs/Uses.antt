@@ -48,10 +48,6 @@ use_word Block = codes "block"
 abbrev pub use_row : List ℕ → Use → ℕ → Fields
 use_row name used = at_place (λ rung row column. name ∷ use_word used ∷ decimal (rung + 1) ∷ decimal (row + 1) ∷ decimal (column + 1) ∷ [])
 
--- the row of a name that is drawn nowhere
-abbrev pub unused_row : List ℕ → Fields
-unused_row name = name ∷ codes "unused" ∷ codes "0" ∷ codes "0" ∷ codes "0" ∷ []
-
 -- a row for each place where the symbol is drawn, by rung, column and row
 abbrev pub place_rows : Drawing → List ℕ → Symbol → List Fields
 place_rows p name s =
@@ -59,7 +55,7 @@ place_rows p name s =
 
 -- these rows, or the one row of a name that has none
 abbrev pub or_unused : List ℕ → List Fields → List Fields
-or_unused name [] = unused_row name ∷ []
+or_unused name [] = (name ∷ codes "unused" ∷ codes "0" ∷ codes "0" ∷ codes "0" ∷ []) ∷ []
 or_unused name (r ∷ rows) = r ∷ rows
 
 -- ---- all names
@@ -82,10 +78,6 @@ symbol_rows p s = or_unused (name_of p.decls s) (place_rows p (name_of p.decls s
 abbrev pub use_rows : Drawing → List Fields
 use_rows p = flat_map (symbol_rows p) (symbols_of p.decls)
 
--- the header above them
-abbrev pub header : Fields
-header = codes "name" ∷ codes "use" ∷ codes "rung" ∷ codes "row" ∷ codes "column" ∷ []
-
--- the text that is written
+-- the text that is written: a header, and these rows
 abbrev pub uses_text : Drawing → List ℕ
-uses_text p = lines_text (header ∷ use_rows p)
+uses_text p = lines_text ((codes "name" ∷ codes "use" ∷ codes "rung" ∷ codes "row" ∷ codes "column" ∷ []) ∷ use_rows p)

@@ -1,12 +1,12 @@
 //! The writing of a cross-reference.
 
-ghost use Rattle.std.specs.Prelude.{◌≡◌, ◌*◌, ◌+◌, ◌<◌, ◌≤◌, ◌∷◌, [], IfOk, Some, length, slice_get};
+ghost use Rattle.std.specs.Prelude.{◌≡◌, ◌*◌, ◌+◌, ◌<◌, ◌≤◌, ◌∷◌, [], IfOk, Some, codes, length, slice_get};
 ghost use Rattle.ladder_vars.specs.declared.limits.TheConstants.{MOST_INSTANCES, MOST_VARS};
 ghost use Rattle.ladder_grid.specs.declared.geometry.TheConstants.{PLACES, RUNGS};
 ghost use Rattle.ladder_records.specs.Text.{line_text, lines_text};
 ghost use Rattle.ladder_text.specs.Block.{Sends};
 ghost use Rattle.ladder_text.specs.Log.{Puts};
-ghost use Rattle.ladder_uses.specs.Uses.{header, name_of, place_rows, symbol_rows, symbols_of, unused_row, use_row, use_rows, uses_text};
+ghost use Rattle.ladder_uses.specs.Uses.{name_of, place_rows, symbol_rows, symbols_of, use_row, use_rows, uses_text};
 
 use crate::usage::{Use, use_at, use_word};
 use itoa::Buffer;
@@ -17,7 +17,7 @@ use ladder_text::{Block, Sink, WriteFault};
 use ladder_vars::{Decls, Symbol};
 
 fn add_header<W: Sink>(block: &mut Block, writer: &mut W) -> Result<(), WriteFault>
-    ensures { Sends (W.log writer.old) (W.log writer.new) block.old block.new result (line_text header) }
+    ensures { Sends (W.log writer.old) (W.log writer.new) block.old block.new result (line_text (codes "name" ∷ codes "use" ∷ codes "rung" ∷ codes "row" ∷ codes "column" ∷ [])) }
 {
     let others = [b"use".as_slice(), b"rung", b"row", b"column"];
     add_line(block, b"name", others.as_slice(), writer)
@@ -53,13 +53,6 @@ fn add_row<W: Sink>(
     let row = second.format(place % PLACES % ROWS + 1).as_bytes();
     let column = third.format(place % PLACES / ROWS + 1).as_bytes();
     row_line(block, name, use_word(used), rung, row, column, writer)
-}
-
-/// Adds the row of a name that is drawn nowhere.
-fn add_unused<W: Sink>(block: &mut Block, name: &[u8], writer: &mut W) -> Result<(), WriteFault>
-    ensures { Sends (W.log writer.old) (W.log writer.new) block.old block.new result (line_text (unused_row name.now)) }
-{
-    row_line(block, name, b"unused", b"0", b"0", b"0", writer)
 }
 
 /// Adds a row for each place where the symbol is drawn, and returns how many.
@@ -117,7 +110,7 @@ fn add_symbol<W: Sink>(
     if 0 < rows {
         return Ok(rows);
     }
-    add_unused(block, name, writer)?;
+    row_line(block, name, b"unused", b"0", b"0", b"0", writer)?;
     Ok(1)
 }
 

@@ -2,8 +2,7 @@ use Rattle.std.proofs.Common.{◌≡◌, ◌∙◌, ◌+◌, ◌-◌, ◌<◌, �
 use Rattle.std.specs.List.{count_by, list_any}
 use Rattle.csv.specs.Records.{fields_of}
 use Rattle.ladder_vars.specs.Decls.{is_input}
-use Rattle.ladder_trace.specs.Stimulus.{AreColumns}
-use Rattle.ladder_trace.proofs.HeaderWords.{all_more, bad_first, columns_more, columns_none, contains, header_to, is_headed, word_at}
+use Rattle.ladder_trace.proofs.HeaderWords.{AreColumns, all_more, bad_first, columns_more, columns_none, contains, header_to, header_with, is_headed, word_at}
 use Rattle.ladder_trace.proofs.Lists.{there_at}
 use Rattle.ladder_trace.proofs.header.columns.Goals as goal
 
@@ -71,4 +70,4 @@ returns-clause-columns c =
     let inv = c.loop-number.invariant in
     let fs = fields_of c.args.row.now in
     let all = take_all (c.loop-number.number - 1) (drop 1 fs) (omega (arith, length-drop 1 fs)) in
-    record { words = drop 1 fs; same = inv.1; inputs = subst (λ words. AreColumns c.args.decls.now words c.loop-number.columns.items) all inv.2 }
+    header_with c.args.decls.now fs (drop 1 fs) c.loop-number.columns.items inv.1 (subst (λ words. AreColumns c.args.decls.now words c.loop-number.columns.items) all inv.2)

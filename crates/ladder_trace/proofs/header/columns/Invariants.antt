@@ -1,7 +1,7 @@
 use Rattle.std.specs.Prelude.{◌≡◌, ◌∷◌, ◌-◌, ◌<◌, ◌≤◌, All, codes, count_by, drop, take}
 use Rattle.csv.specs.Records.{fields_of}
 use Rattle.ladder_vars.specs.Decls.{is_input}
-use Rattle.ladder_trace.specs.Stimulus.{AreColumns}
+use Rattle.ladder_trace.proofs.HeaderWords.{AreColumns}
 use Rattle.ladder_trace.proofs.header.columns.Given as goal
 
 abbrev pub invariant-loop-number : goal.invariant-loop-number

@@ -12,13 +12,13 @@ returns-in_err-rows-clause-sends g c = sends_err _ _ _ _ _ _ c.from_residual.ens
     rows_prefix _ _ _ c.args.block.now c.args.block.now [] _ _ cut.0 cut.1 (sends_none _ c.args.block.now)
     (rw (c.name_of-name.ensures, c.decls.ensures) at c.in_err-rows.ensures.sends))
 
-pub returns-in_err-add_unused-clause-sends : goal.returns-in_err-add_unused-clause-sends
-returns-in_err-add_unused-clause-sends g c = sends_err _ _ _ _ _ _ c.from_residual-in_err-add_unused.ensures.0
+pub returns-in_err-row_line-clause-sends : goal.returns-in_err-row_line-clause-sends
+returns-in_err-row_line-clause-sends g c = sends_err _ _ _ _ _ _ c.from_residual-in_err-row_line.ensures.0
     (let name = name_of c.args.program.now.decls c.args.symbol in
     let rows = place_rows c.args.program.now name c.args.symbol in
     let count = rw (c.name_of-name.ensures, c.decls.ensures) at c.in_ok-rows.ensures.count in
     line_prefix _ _ _ _ _ rows _ [] _ (unused_there name rows (omega (arith, count, c.if-rows-gt0.false)))
-    (rw (c.name_of-name.ensures, c.decls.ensures) at c.in_ok-rows.ensures.sends) (rw (c.name_of-name.ensures, c.decls.ensures) at c.in_err-add_unused.ensures))
+    (rw (c.name_of-name.ensures, c.decls.ensures) at c.in_ok-rows.ensures.sends) (rw (c.name_of-name.ensures, c.decls.ensures) at c.in_err-row_line.ensures))
 
 pub returns-clause-sends : goal.returns-clause-sends
 returns-clause-sends g c =
@@ -26,4 +26,4 @@ returns-clause-sends g c =
     let rows = place_rows c.args.program.now name c.args.symbol in
     let count = rw (c.name_of-name.ensures, c.decls.ensures) at c.in_ok-rows.ensures.count in
     line_more _ _ _ _ _ _ rows _ _ (unused_there name rows (omega (arith, count, c.if-rows-gt0.false)))
-    (rw (c.name_of-name.ensures, c.decls.ensures) at c.in_ok-rows.ensures.sends) (rw (c.name_of-name.ensures, c.decls.ensures) at c.in_ok-add_unused.ensures)
+    (rw (c.name_of-name.ensures, c.decls.ensures) at c.in_ok-rows.ensures.sends) (rw (c.name_of-name.ensures, c.decls.ensures) at c.in_ok-row_line.ensures)
