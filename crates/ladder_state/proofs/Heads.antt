@@ -14,9 +14,9 @@ use Rattle.ladder_state.specs.declared.fault.StateFault.TheVariants as fault
 use Rattle.ladder_state.specs.declared.version.Version.{Version}
 use Rattle.ladder_state.specs.declared.version.Version.TheVariants.{First, Second}
 use Rattle.ladder_state.specs.Parts.{ReadsAll, ReadsItems, TakesItem}
-use Rattle.ladder_state.specs.ReadState.{IsFirstBad, Reads}
+use Rattle.ladder_state.specs.ReadState.{Begins, IsFirstBad, Reads}
 use Rattle.ladder_state.proofs.ItemByItem.{told_fresh}
-use Rattle.ladder_state.specs.StateText.{AreTold, IsStateOf, item_records, version_record}
+use Rattle.ladder_state.specs.StateText.{AreTold, IsStateOf, item_records, state_records, version_record}
 use Rattle.ladder_state.specs.Parts.{moment_record}
 
 pub told_second : (instances : List Instance) (blocks : List Stored) → AreTold Second instances blocks
@@ -25,6 +25,22 @@ told_second instances blocks k i here lacks = let bad : true ≡ false = lacks i
 pub told_before : (v : Version) (p : Drawing) (s : Standing) → s ≡ fresh p → AreTold v p.decls.instances s.held.kept.blocks
 told_before v p s e = subst (λ (t : Standing). AreTold v p.decls.instances t.held.kept.blocks) (sym e) (told_fresh v p.decls.instances)
 
+-- ---- the first records of a state
+
+pub begins : (p : Drawing) (s : Standing) (v : Version) (rows : List Fields) (k : ℕ) → IsStateOf p s → AreTold v p.decls.instances s.held.kept.blocks
+    → take k rows ≡ take k (state_records v p s) → Begins p rows k
+begins p s v rows k ok told same = (s, state_records v p s, ok, record { version = v; told = told; same = refl }, same)
+
+-- the state that they are of, and the version
+record Front (p : Drawing) (rows : List Fields) (k : ℕ) : Type 0 where
+  state : Standing
+  version : Version
+  good : IsStateOf p state
+  same : take k rows ≡ take k (state_records version p state)
+
+front_of : (p : Drawing) (rows : List Fields) (k : ℕ) → Begins p rows k → Front p rows k
+front_of p rows k (s, all, ok, h, same) = record { state = s; version = h.version; good = ok; same = same ∙ ap (take k) h.same }
+
 pub version_bad : (p : Drawing) (s : Standing) (rows : List Fields) (new : Reader (Bor (List ℕ))) (o : Option Version) → IsStateOf p s → o ≡ None → TakesItem version_record (λ _. ⊤) rows new o
     → IsFirstBad p rows 1
 version_bad p s rows new o ok is h =
@@ -32,8 +48,8 @@ version_bad p s rows new o ok is h =
     record {
       before = 0;
       count = omega arith;
-      front = record { state = s; version = Second; good = ok; told = told_second p.decls.instances s.held.kept.blocks; same = refl };
-      none = λ b. h b.version tt b.same;
+      front = begins p s Second rows 0 ok (told_second p.decls.instances s.held.kept.blocks) refl;
+      none = λ first. let b = front_of p rows 1 first in h b.version tt b.same;
     }
 
 pub taken : {B : Type 0} (item : B → Fields) (can : B → Type 0) (rows : List Fields) (new : Reader (Bor (List ℕ))) (o : Option B) (y : B) → o ≡ Some y → TakesItem item can rows new o
@@ -54,8 +70,9 @@ moment_bad p s v rows rest new o ok told cut is h =
     record {
       before = 1;
       count = omega arith;
-      front = record { state = s; version = v; good = ok; told = told; same = ap (take 1) cut };
-      none = λ b.
+      front = begins p s v rows 1 ok told (ap (take 1) cut);
+      none = λ first.
+          let b = front_of p rows 2 first in
           let e : version_record v ∷ take 1 rest ≡ version_record b.version ∷ moment_record b.state.moment ∷ [] = sym (ap (take 2) cut) ∙ b.same in
           let t : take 1 rest ≡ moment_record b.state.moment ∷ [] = cc in
           h b.state.moment b.good.standing.small t;
@@ -81,14 +98,9 @@ items_arm p s v rows rest (Err fault.Memory) ok told cut h = tt
 items_arm p s v rows rest (Err (fault.BadRow n)) ok told cut h = record {
   before = suc (suc h.before);
   count = omega (arith, h.count);
-  front = record {
-    state = s;
-    version = v;
-    good = ok;
-    told = told;
-    same = ap (take (suc (suc h.before))) cut ∙ ap (λ l. version_record v ∷ moment_record s.moment ∷ l) h.front;
-  };
-  none = λ b.
+  front = begins p s v rows (suc (suc h.before)) ok told (ap (take (suc (suc h.before))) cut ∙ ap (λ l. version_record v ∷ moment_record s.moment ∷ l) h.front);
+  none = λ first.
+      let b = front_of p rows n first in
       let three : n ≡ suc (suc (suc h.before)) = omega (arith, h.count) in
       let t = b.state in
       let e = subst (λ k. take k rows ≡ take k (version_record b.version ∷ moment_record t.moment ∷ item_records b.version p t)) three b.same in

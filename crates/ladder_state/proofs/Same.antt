@@ -17,7 +17,7 @@ use Rattle.ladder_state.specs.Parts.{block_item, each, every, some, tells}
 use Rattle.ladder_state.specs.StateText.{AreTold, IsStateOf, block_record, memory_places, memory_record, state_records, state_text, var_record}
 use Rattle.ladder_state.specs.declared.version.Version.{Version}
 use Rattle.ladder_state.specs.declared.version.Version.TheVariants.{Second}
-use Rattle.ladder_state.proofs.Heads.{moment_same, told_second, version_same}
+use Rattle.ladder_state.proofs.Heads.{begins, moment_same, told_second, version_same}
 use Rattle.ladder_state.proofs.Items.{some_same}
 use Rattle.ladder_state.proofs.Segments.{block_count, blocks_in, can_hold, in_parts, memories_count, memories_in, memory_count, value_count, values_of}
 
@@ -150,4 +150,4 @@ read_back p rows s (Ok t) ok h =
     inl (ap (λ (u : Standing). Ok u) (one_state p t s (records_of (state_text p s)) h.0 ok h.1 (record { version = Second; told = told_second p.decls.instances s.held.kept.blocks; same = rows s ok })))
 read_back p rows s (Err fault.Memory) ok h = inr refl
 read_back p rows s (Err (fault.BadRow n)) ok h =
-    absurd (h.none (record { state = s; version = Second; good = ok; told = told_second p.decls.instances s.held.kept.blocks; same = ap (take n) (rows s ok) }))
+    absurd (h.none (begins p s Second (records_of (state_text p s)) n ok (told_second p.decls.instances s.held.kept.blocks) (ap (take n) (rows s ok))))

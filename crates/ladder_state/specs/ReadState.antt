@@ -5,16 +5,11 @@ use Rattle.ladder_grid.specs.Program.{Drawing}
 use Rattle.ladder_scan.specs.Standing.{Standing}
 use Rattle.ladder_state.specs.declared.fault.StateFault.{StateFault}
 use Rattle.ladder_state.specs.declared.fault.StateFault.TheVariants as fault
-use Rattle.ladder_state.specs.declared.version.Version.{Version}
-use Rattle.ladder_state.specs.StateText.{AreTold, HasRecords, IsStateOf, state_records}
+use Rattle.ladder_state.specs.StateText.{HasRecords, IsStateOf}
 
--- the first k records are the first of some state
-pub record Begins (p : Drawing) (rows : List Fields) (k : ℕ) : Type 0 where
-  pub state : Standing
-  pub version : Version
-  pub good : IsStateOf p state
-  pub told : AreTold version p.decls.instances state.held.kept.blocks
-  pub same : take k rows ≡ take k (state_records version p state)
+-- the first k records are the first of those of some state
+abbrev pub Begins : Drawing → List Fields → ℕ → Type 0
+Begins p rows k = (s : Standing) × (all : List Fields) × IsStateOf p s × HasRecords p s all × (take k rows ≡ take k all)
 
 -- The record of number n, counted from 1, is the first that isn't of its form: the records before it are the first of some state, and
 -- with it they are those of none. It may be missing.

@@ -11,7 +11,8 @@ use Rattle.ladder_causes.specs.Cursor.{first_number, looks_given}
 use Rattle.ladder_causes.specs.GroupCursor.{causes_in}
 use Rattle.ladder_causes.specs.Prefixes.{search_of}
 use Rattle.ladder_causes.specs.Refusal.{refusal}
-use Rattle.ladder_groups.specs.Groups.{Row, rows}
+use Rattle.ladder_groups.specs.Groups.{Row}
+use Rattle.ladder_groups.specs.Groups as groups
 use Rattle.ladder_sim.specs.CauseText.{cause_text, limited}
 use Rattle.ladder_sim.specs.GroupText.{group_text}
 use Rattle.ladder_state.specs.StateText.{state_text}
@@ -138,7 +139,7 @@ BreaksList g a old new =
 
 -- the rows of all causes, or the first of them where there is a limit
 abbrev pub rows_for : Asking → Question → List Row
-rows_for a q = limited a.limit (rows (is_cause q) (length q.listed) 0)
+rows_for a q = limited a.limit (groups.rows (is_cause q) (length q.listed) 0)
 
 -- The text of the groups is written, whole or as far as `Written` says: all rows that are asked for, and no other.
 pub record Grouped (g : Given) (a : Asking) (Written : List ℕ → Type 0) : Type 0 where
