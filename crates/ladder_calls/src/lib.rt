@@ -13,14 +13,8 @@ mod runs;
 #[cfg(test)]
 mod scans;
 #[cfg(test)]
-mod simulations;
-#[cfg(test)]
 mod starving;
-#[cfg(test)]
-mod states;
 #[cfg(test)]
 mod table;
 #[cfg(test)]
 mod texts;
-#[cfg(test)]
-mod uses;

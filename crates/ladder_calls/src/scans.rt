@@ -24,16 +24,27 @@ pub(crate) fn program(alloc: Global, text: &[u8]) -> Result<Program, Memory> {
     }
 }
 
-/// The stored value of a variable.
-pub(crate) fn stored(program: &Program, state: &State, var: usize) -> Option<bool> {
-    if state.fits(program) && var < program.decls().vars().len() {
-        Some(state.value(var))
-    } else {
-        None
+/// What a look at a moment from a state leaves of a variable, if it was the first one.
+pub(crate) fn look_at<S: Signal>(
+    alloc: Global,
+    program: &Program,
+    state: &State,
+    inputs: &[S],
+    now: u64,
+    var: usize,
+) -> Result<Option<S>, Memory>
+    requires { All S.value inputs.now }
+{
+    let mut work = Work::new(alloc, program)?;
+    if !state.fits(program) || program.decls().vars().len() <= var {
+        return Ok(None);
     }
+    look(program, state, inputs, now, &mut work);
+    let value = work.value(var);
+    Ok(if work.looks() == 1 { Some(value) } else { None })
 }
 
-/// What one look at moment 0 from the fresh state leaves of a variable.
+/// What a look at moment 0 from the fresh state leaves of a variable.
 pub(crate) fn looked<S: Signal>(
     alloc: Global,
     text: &[u8],
@@ -44,56 +55,63 @@ pub(crate) fn looked<S: Signal>(
 {
     let program = program(alloc, text)?;
     let state = State::fresh(alloc, &program)?;
-    let mut work = Work::new(alloc, &program)?;
-    look(&program, &state, inputs, 0, &mut work);
-    if work.looks() != 1 || !work.fits(&program) || program.decls().vars().len() <= var {
-        return Ok(None);
+    look_at(alloc, &program, &state, inputs, 0, var)
+}
+
+/// The moment of a state of the motor, and the value of its coil.
+fn told(state: &State, program: &Program) -> Option<(u64, bool)> {
+    if state.fits(program) && COIL < program.decls().vars().len() {
+        Some((state.moment(), state.value(COIL)))
+    } else {
+        None
     }
-    Ok(Some(work.value(var)))
+}
+
+/// What a scan that turns the motor on leaves of a copy of the state.
+fn scanned_copy(
+    alloc: Global,
+    program: &Program,
+    state: &State,
+) -> Result<Option<(u64, bool)>, Memory> {
+    let mut copy = state.copy(alloc)?;
+    let done = scan(program, &mut copy, [true, false].as_slice(), 10).is_ok();
+    Ok(if done { told(&copy, program) } else { None })
+}
+
+/// What is told of such a copy of the fresh state, and then of the fresh state.
+fn copy_and_original(alloc: Global) -> Result<[Option<(u64, bool)>; 2], Memory> {
+    let program = program(alloc, MOTOR)?;
+    let state = State::fresh(alloc, &program)?;
+    let copied = scanned_copy(alloc, &program, &state)?;
+    Ok([copied, told(&state, &program)])
 }
 
 #[test]
 fn a_scan_changes_a_copy_alone(rt: HostRuntime) -> Result<(), Memory> {
-    let program = program(rt.alloc(), MOTOR)?;
-    let state = State::fresh(rt.alloc(), &program)?;
-    let mut copy = state.copy(rt.alloc())?;
-    assert!(rt; scan(&program, &mut copy, [true, false].as_slice(), 10).is_ok());
-    assert_eq!(rt; stored(&program, &copy, COIL), Some(true));
-    assert_eq!(rt; stored(&program, &state, COIL), Some(false));
-    assert_eq!(rt; copy.moment(), 10);
-    Ok(())
-}
-
-#[test]
-fn a_scan_before_the_stored_moment_changes_nothing(rt: HostRuntime) -> Result<(), Memory> {
-    let program = program(rt.alloc(), MOTOR)?;
-    let mut state = State::fresh(rt.alloc(), &program)?;
-    assert!(rt; scan(&program, &mut state, [true, false].as_slice(), 10).is_ok());
-    assert!(rt; scan(&program, &mut state, [false, true].as_slice(), 9).is_err());
-    assert_eq!(rt; stored(&program, &state, 0), Some(true));
-    assert_eq!(rt; stored(&program, &state, COIL), Some(true));
-    assert_eq!(rt; state.moment(), 10);
+    let wanted = [Some((10, true)), Some((0, false))];
+    assert!(rt; copy_and_original(rt.alloc())? == wanted);
     Ok(())
 }
 
 #[test]
 fn looks_over_truth_values(rt: HostRuntime) -> Result<(), Memory> {
     let on = looked(rt.alloc(), MOTOR, [true, false].as_slice(), COIL)?;
-    assert_eq!(rt; on, Some(true));
+    assert!(rt; on == Some(true));
     Ok(())
 }
 
+const THREE_VALUES: [(&[u8], [Tri; 2], usize, Tri); 4] = [
+    (MOTOR, [Tri::Off, Tri::Unsure], COIL, Tri::Off),
+    (MOTOR, [Tri::On, Tri::Unsure], COIL, Tri::Unsure),
+    (MOTOR, [Tri::On, Tri::Off], COIL, Tri::On),
+    (EITHER, [Tri::Unsure, Tri::Off], 1, Tri::Unsure),
+];
+
 #[test]
 fn looks_over_three_values(rt: HostRuntime) -> Result<(), Memory> {
-    let table = [
-        (MOTOR, [Tri::Off, Tri::Unsure], COIL, Tri::Off),
-        (MOTOR, [Tri::On, Tri::Unsure], COIL, Tri::Unsure),
-        (MOTOR, [Tri::On, Tri::Off], COIL, Tri::On),
-        (EITHER, [Tri::Unsure, Tri::Off], 1, Tri::Unsure),
-    ];
-    for (number, (text, inputs, var, left)) in table.iter().enumerate() {
+    for (number, (text, inputs, var, left)) in THREE_VALUES.iter().enumerate() {
         let value = looked(rt.alloc(), text, inputs.as_slice(), *var)?;
-        assert_eq!(rt; value, Some(*left), "in row {number}");
+        assert!(rt; value == Some(*left), "in row {number}");
     }
     Ok(())
 }
@@ -102,6 +120,6 @@ fn looks_over_three_values(rt: HostRuntime) -> Result<(), Memory> {
 fn looks_over_words(rt: HostRuntime) -> Result<(), Memory> {
     let inputs = [Word64(12), Word64(10)];
     let value = looked(rt.alloc(), MOTOR, inputs.as_slice(), COIL)?;
-    assert_eq!(rt; value, Some(Word64(4)));
+    assert!(rt; value == Some(Word64(4)));
     Ok(())
 }
