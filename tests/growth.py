@@ -29,6 +29,7 @@ REQUESTS = (
     (("uses", "motor.ld"), ("fault V9\n",)),
     (("causes", "motor.ld", "Motor", "Start", "Stop"), LINES),
     (("causes", "--state", "running.csv", "motor.ld", "Motor", "Start", "Stop"), LINES),
+    (("causes", "--grouped", "--state", "running.csv", "motor.ld", "Motor", "Start", "Stop"), LINES),
     (("sim", "motor.ld", "back.csv"), ("fault V9\n", "fault X7\n")),
     (("sim", "--save", "saved.csv", "motor.ld", "long.csv"), ("fault V9\n", "fault X7\n")),
     (("sim", "--state", "running.csv", "--save", "saved.csv", "motor.ld", "long.csv"), ("fault V9\n", "fault X7\n")),
