@@ -24,25 +24,25 @@ def inputs(first, last):
 
 STATIONS = """EStop Guard Start Stop Auto Manual Clear Air Part1 Done1 Ovl1 Req1 Part2 Done2 Ovl2 Req2 Part3 Done3 Ovl3 Req3""".split()
 STORED = ["--state", str(HERE / "circuits" / "three_stations.state.csv"), "--at", "1600"]
-Case = collections.namedtuple("Case", "name circuit listed rows looks coil options", defaults=("Y", []))
+Case = collections.namedtuple("Case", "name circuit listed rows looks groups coil options", defaults=("Y", []))
 
-# what must come out of each: rows and looks
+# what must come out of each: rows and looks, and the rows of a grouped list
 CASES = [
-    Case("start-up, one look", "one_contact", [], 0, 1),
-    Case("one contact, 20 inputs", "one_contact", inputs(1, 20), 524_288, 3),
-    Case("one contact, 24 inputs", "one_contact", inputs(1, 24), 8_388_608, 3),
-    Case("the last of 24 decides", "one_contact", inputs(2, 24) + ["I1"], 8_388_608, 524_287),
-    Case("8 contacts, 20 inputs", "eight_contacts", inputs(1, 20), 4_096, 17),
-    Case("3 rows of 8, 20 inputs", "three_rows_of_eight", inputs(1, 20), 8_176, 3_571),
-    Case("3 rows of 8, 24 inputs", "three_rows_of_eight", inputs(1, 24), 195_841, 390_661),
-    Case("chain of 24 inputs", "chain24", inputs(1, 24), 1, 37),
-    Case("chain of 32 inputs", "chain32", inputs(1, 32), 1, 53),
-    Case("6 pairs, 12 inputs", "six_pairs", inputs(1, 12), 3_367, 79),
-    Case("12 pairs, 24 inputs", "twelve_pairs", inputs(1, 24), 16_245_775, 59_047),
-    Case("parity of 20 inputs", "parity20", inputs(1, 20), 524_288, 32_767),
-    Case("three stations: feed", "three_stations", STATIONS, 46_336, 1_503, "Feed", STORED),
-    Case("three stations: second", "three_stations", STATIONS, 8_192, 1_055, "Run2", STORED),
-    Case("three stations: horn", "three_stations", STATIONS, 0, 1_071, "Horn", STORED),
+    Case("start-up, one look", "one_contact", [], 0, 1, 0),
+    Case("one contact, 20 inputs", "one_contact", inputs(1, 20), 524_288, 3, 1),
+    Case("one contact, 24 inputs", "one_contact", inputs(1, 24), 8_388_608, 3, 1),
+    Case("the last of 24 decides", "one_contact", inputs(2, 24) + ["I1"], 8_388_608, 524_287, 1),
+    Case("8 contacts, 20 inputs", "eight_contacts", inputs(1, 20), 4_096, 17, 1),
+    Case("3 rows of 8, 20 inputs", "three_rows_of_eight", inputs(1, 20), 8_176, 3_571, 9),
+    Case("3 rows of 8, 24 inputs", "three_rows_of_eight", inputs(1, 24), 195_841, 390_661, 73),
+    Case("chain of 24 inputs", "chain24", inputs(1, 24), 1, 37, 1),
+    Case("chain of 32 inputs", "chain32", inputs(1, 32), 1, 53, 1),
+    Case("6 pairs, 12 inputs", "six_pairs", inputs(1, 12), 3_367, 79, 63),
+    Case("12 pairs, 24 inputs", "twelve_pairs", inputs(1, 24), 16_245_775, 59_047, 4_095),
+    Case("parity of 20 inputs", "parity20", inputs(1, 20), 524_288, 32_767, 524_288),
+    Case("three stations: feed", "three_stations", STATIONS, 46_336, 1_503, 71, "Feed", STORED),
+    Case("three stations: second", "three_stations", STATIONS, 8_192, 1_055, 1, "Run2", STORED),
+    Case("three stations: horn", "three_stations", STATIONS, 0, 1_071, 0, "Horn", STORED),
 ]
 
 
@@ -60,10 +60,10 @@ def least(command, runs):
     return min([first, *(run(command) for _ in range(further))])
 
 
-def counts(said):
-    """Rows and looks as standard error says them: `rows R looks L`."""
+def counts(said, second="looks"):
+    """Rows and looks, or rows and causes, as standard error says them: `rows R looks L`."""
     words = said.split()
-    return (int(words[1]), int(words[3])) if words[::2] == ["rows", "looks"] else (None, None)
+    return (int(words[1]), int(words[3])) if words[::2] == ["rows", second] else (None, None)
 
 
 def each(seconds, number):
@@ -75,6 +75,22 @@ def report(name, seconds, said, due):
     print(f"{name:26}{seconds * 1e3:10.2f}{rows or 0:12}{looks or 0:10}{each(seconds, looks)}{each(seconds, rows)}")
     if (rows, looks) != due:
         print(f"!!!!!!!!!! WRONG: {name}: {said.strip()!r}, and rows {due[0]} looks {due[1]} must come out")
+
+
+def causes_of(program, case, *options):
+    return [program, "causes", *options, *case.options, str(HERE / "circuits" / f"{case.circuit}.ld"), case.coil, *case.listed]
+
+
+def grouped(program, runs):
+    """The same lists in groups, beside the full ones."""
+    print(f"{'in groups':26}{'ms':>10}{'rows':>12}{'causes':>10}{'ms in full':>12}")
+    for case in CASES:
+        seconds, _, said = least(causes_of(program, case, "--grouped"), runs)
+        full, _, _ = least(causes_of(program, case), runs)
+        rows, causes = counts(said, "causes")
+        print(f"{case.name:26}{seconds * 1e3:10.2f}{rows or 0:12}{causes or 0:10}{full * 1e3:12.2f}")
+        if (rows, causes) != (case.groups, case.rows):
+            print(f"!!!!!!!!!! WRONG: {case.name}: {said.strip()!r}, and rows {case.groups} causes {case.rows} must come out")
 
 
 def declarations():
@@ -179,9 +195,9 @@ def main():
     program, runs = os.path.abspath(sys.argv[1]), int((sys.argv[2:] or ["9"])[0])
     print(f"{'case':26}{'ms':>10}{'rows':>12}{'looks':>10}{'ns a look':>12}{'ns a row':>12}")
     for case in CASES:
-        command = [program, "causes", *case.options, str(HERE / "circuits" / f"{case.circuit}.ld"), case.coil, *case.listed]
-        seconds, _, said = least(command, runs)
+        seconds, _, said = least(causes_of(program, case), runs)
         report(case.name, seconds, said, (case.rows, case.looks))
+    grouped(program, runs)
     for name, text in TEXTS:
         with tempfile.NamedTemporaryFile() as file:
             file.write(text())
