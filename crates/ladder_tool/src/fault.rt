@@ -138,11 +138,7 @@ fn write_sim_fault<W: Sink>(fault: SimFault, writer: &mut W) -> Result<(), Write
 fn write_numbered<W: Sink>(text: &[u8], number: u64, writer: &mut W) -> Result<(), WriteFault>
     ensures { Puts (W.log writer.old) (W.log writer.new) result (numbered text.now number) }
 {
-    let pieces = [
-        Piece::Text(text),
-        Piece::Number(number),
-        Piece::Text(b"\n"),
-    ];
+    let pieces = [Piece::Text(text), Piece::Number(number), Piece::Text(b"\n")];
     put_pieces(writer, pieces.as_slice())
 }
 
