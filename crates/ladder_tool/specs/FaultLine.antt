@@ -87,4 +87,4 @@ fault_line (fault.Sim (sim.TooLong row)) = numbered (codes "fault X5 row ") row
 fault_line (fault.Sim sim.Write) = codes "fault X6\n"
 fault_line fault.Write = codes "fault X6\n"
 fault_line fault.Usage = codes "fault usage\n"
-fault_line memory = codes "fault X7\n"
+fault_line other = codes "fault X7\n"
