@@ -4,7 +4,8 @@
 Each request below is first made whole, which counts its growths (refuse_growth.c, loaded before the C library), and then once for
 each of them, with that one refused. A request is answered whole in spite of it, or it ends by one of the lines for being out of
 memory, with nothing written but whole lines of a trace, and nothing saved. The last record of long.csv is longer than the ones before
-it, so memory grows in the middle of its trace. Needs a C compiler; without one it is passed over.
+it, so memory grows in the middle of its trace. Then a list with all its rows must make as many growths as the same list with none.
+Needs a C compiler; without one it is passed over.
 """
 import collections
 import os
@@ -70,6 +71,32 @@ def tried(program, library, words, wanted, counted):
     return growths, lines, wrong
 
 
+def wide():
+    """A program whose coil follows the first of 20 inputs, and their names."""
+    names = [f"I{number}" for number in range(20)]
+    inputs = "".join(f"  {name} AT %IX{number} : BOOL;\n" for number, name in enumerate(names))
+    return f"VAR\n{inputs}  Y AT %QX0 : BOOL;\nEND_VAR\n\n|    I0           Y\n|----| |---------( )----\n", names
+
+
+def growths_of(program, library, words, counted):
+    """How many growths a request makes that is refused none, and how many lines it writes."""
+    ending = ended(program, library, words, 0, counted)
+    return int(pathlib.Path(counted).read_text("ascii")), ending.out.count("\n") - 1
+
+
+def rows_that_grow(program, library, counted):
+    """What is wrong where rows take memory: a list of all rows must make as many growths as one of none."""
+    text, names = wide()
+    TEXTS["wide.ld"] = text.encode()
+    wrong = []
+    for form, due in (([], 524_288), (["--grouped"], 1)):
+        none, all_rows = (growths_of(program, library, ["causes", *form, "--limit", limit, "wide.ld", "Y", *names], counted) for limit in ("0", "9999999"))
+        if none[0] != all_rows[0] or (none[1], all_rows[1]) != (0, due):
+            wrong.append(f"a list {form}: growths and rows {none} and {all_rows}")
+        print(f"{' '.join(['causes', *form])}: {none[0]} growths with no row, {all_rows[0]} with {all_rows[1]} rows")
+    return wrong
+
+
 def main():
     program, compiler = os.path.abspath(sys.argv[1]), shutil.which("cc")
     if not compiler:
@@ -83,9 +110,10 @@ def main():
             growths, lines, faults = tried(program, library, words, wanted, counted)
             total, wrong = total + growths, wrong + faults
             print(f"{' '.join(words):72}{growths:5} growths, " + ", ".join(f"{line.strip()[6:]} {count}" for line, count in sorted(lines.items())))
-    print(*wrong[:20], sep="\n", end="\n" if wrong else "")
+        growing = rows_that_grow(program, library, counted)
+    print(*growing, *wrong[:20], sep="\n", end="\n" if growing or wrong else "")
     print(f"{total - len(wrong)} of {total} refused growths are answered as they must be")
-    return 1 if wrong else 0
+    return 1 if growing or wrong else 0
 
 
 if __name__ == "__main__":
