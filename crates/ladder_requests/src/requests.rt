@@ -1,7 +1,8 @@
 //! Requests, performed over texts and writers in memory.
 
 use ladder_calls::memory::{ENDS, End, with_room};
-use ladder_tool::{Request, Texts, perform};
+use ladder_tool::{Texts, perform};
+use ladder_words::Request;
 use std::alloc::{AllocError, Global};
 
 const MOTOR: &[u8] =

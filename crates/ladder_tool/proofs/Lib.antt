@@ -1,4 +1,3 @@
 pub mod UnknownWords
 pub mod Settings
 pub mod Endings
-pub mod Numbers

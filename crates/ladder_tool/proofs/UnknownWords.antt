@@ -3,9 +3,8 @@ use Rattle.std.proofs.Common.{◌≡◌, ◌∙◌, ap, sym, refl, ℕ, zero, su
 use Rattle.std.specs.List.{position_or_len}
 use Rattle.std.proofs.lemmas.Bool.{lt-ltb}
 use Rattle.std.proofs.lemmas.List.{get_or-map, length-map, length-take-le, take-map}
-use Rattle.clap.specs.Words.{Text}
 use Rattle.ladder_vars.specs.Decls.{Declared}
-use Rattle.ladder_tool.specs.Variables.{AreVariables, IsUnknownWord, variable_of}
+use Rattle.ladder_tool.specs.Variables.{AreVariables, IsUnknownWord, Text, variable_of}
 
 -- as many words are known as there are variables for them
 known_count : (decls : Declared) (words : List Text) (i : ℕ) (vars : List ℕ) → i ≤ length words → AreVariables decls (take i words) vars → length vars ≡ i

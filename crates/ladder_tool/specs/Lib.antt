@@ -1,6 +1,4 @@
-pub mod CommandLine
 pub mod Asked
-pub mod Asking
 pub mod FaultLine
 pub mod Variables
 pub mod Setting

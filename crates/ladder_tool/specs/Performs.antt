@@ -1,6 +1,5 @@
 -- How a request ends: all is written, or a fault stops it.
 use Rattle.std.specs.Prelude.{◌≡◌, ◌⊎◌, ◌++◌, ◌∷◌, ℕ, List, Bool, true, false, Option, None, Some, Result, Ok, Err, codes, decimal, is_some, length, map, string_bytes, unwrap_or}
-use Rattle.clap.specs.Words.{Text}
 use Rattle.ladder_vars.specs.Decls.{Declared}
 use Rattle.ladder_grid.specs.Program.{Drawing}
 use Rattle.ladder_grid.specs.Reading.{IsProgram}
@@ -22,11 +21,11 @@ use Rattle.ladder_trace.specs.Simulation.{Simulates}
 use Rattle.ladder_uses.specs.Uses.{uses_text}
 use Rattle.ladder_tool.specs.declared.fault.ToolFault.{ToolFault}
 use Rattle.ladder_tool.specs.declared.fault.ToolFault.TheVariants as fault
-use Rattle.ladder_tool.specs.declared.request.Request.{Request}
-use Rattle.ladder_tool.specs.declared.request.Request.TheVariants.{Causes, Check, Groups, Sim, Uses}
+use Rattle.ladder_words.specs.declared.request.Request.{Request}
+use Rattle.ladder_words.specs.declared.request.Request.TheVariants.{Causes, Check, Groups, Sim, Uses}
 use Rattle.ladder_tool.specs.FaultLine.{fault_line}
 use Rattle.ladder_tool.specs.Setting.{Given, HasProgramFault, HasSettingFault, IsSet, stimulus_records}
-use Rattle.ladder_tool.specs.Variables.{AreVariables, IsUnknownWord, variable_of}
+use Rattle.ladder_tool.specs.Variables.{AreVariables, IsUnknownWord, Text, variable_of}
 
 -- ---- the three writers
 

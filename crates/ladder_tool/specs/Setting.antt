@@ -10,7 +10,7 @@ use Rattle.ladder_state.specs.ReadState.{IsFirstBad}
 use Rattle.ladder_state.specs.StateText.{HasRecords, IsStateOf}
 use Rattle.ladder_tool.specs.declared.fault.ToolFault.{ToolFault}
 use Rattle.ladder_tool.specs.declared.fault.ToolFault.TheVariants as fault
-use Rattle.ladder_tool.specs.declared.request.Texts.{Texts}
+use Rattle.ladder_tool.specs.declared.texts.Texts.{Texts}
 
 -- the bytes of the texts; a state or a stimulus where there is one
 pub record Given : Type 0 where

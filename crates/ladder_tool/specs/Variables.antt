@@ -1,9 +1,12 @@
 -- The variables that the arguments COIL and INPUT.. name. An argument names a variable whatever its letter case.
 use Rattle.std.specs.Prelude.{◌≡◌, ℕ, ◌+◌, List, Option, Some, None, is_none, map, position, if◌then◌else◌}
-use Rattle.clap.specs.Words.{Text}
 use Rattle.ladder_vars.specs.declared.decls.Symbol.TheVariants as symbol
 use Rattle.ladder_vars.specs.Decls.{Declared, find}
 use Rattle.ladder_vars.specs.Name.{is_name}
+
+-- the bytes of an argument
+abbrev pub Text : Type 0
+Text = List ℕ
 
 -- the variable with this name, by its number in order of declaration
 abbrev pub variable_of : Declared → List ℕ → Option ℕ

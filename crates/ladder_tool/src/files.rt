@@ -9,8 +9,9 @@ ghost use Rattle.ladder_tool.specs.Setting.{Given, given_by};
 use crate::fault::{TextKind, ToolFault};
 use crate::performing::perform;
 use crate::report::report;
-use crate::request::{Request, Texts};
+use crate::texts::Texts;
 use ladder_text::{Sink, Source, read_text};
+use ladder_words::Request;
 use std::alloc::Global;
 
 /// The largest program or state text, in bytes.

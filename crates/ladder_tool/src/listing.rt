@@ -8,8 +8,8 @@ ghost use Rattle.ladder_tool.specs.Setting.{given_by};
 
 use crate::fault::ToolFault;
 use crate::report::report;
-use crate::request::Texts;
 use crate::setting::read_setting;
+use crate::texts::Texts;
 use crate::variables::asked_variables;
 use ladder_causes::Causes;
 use ladder_sim::{Summary, write_causes};

@@ -1,8 +1,8 @@
 //! The files that a request reads.
 
 use crate::files::Readers;
-use crate::request::Request;
 use ladder_text::Reading;
+use ladder_words::Request;
 use std::fs::File;
 use std::io::Read;
 use std::{fs, io};

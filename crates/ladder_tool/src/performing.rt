@@ -7,9 +7,10 @@ ghost use Rattle.ladder_tool.specs.Setting.{given_by};
 use crate::grouping::list_groups;
 use crate::listing::{Asking, list_causes};
 use crate::printing::{About, print};
-use crate::request::{Request, Texts};
+use crate::texts::Texts;
 use crate::tracing::trace;
 use ladder_text::Sink;
+use ladder_words::Request;
 use std::alloc::Global;
 
 /// Performs a request on its texts: its text on `out`, the line of counts on `err`, and the state that is to be saved on `save`.

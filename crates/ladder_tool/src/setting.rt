@@ -5,7 +5,7 @@ ghost use Rattle.ladder_scan.specs.Standing.{Fits};
 ghost use Rattle.ladder_tool.specs.Setting.{HasSettingFault, HasState, HasStateFault, IsSet, given_by};
 
 use crate::fault::ToolFault;
-use crate::request::Texts;
+use crate::texts::Texts;
 use ladder_grid::{Program, read_program};
 use ladder_scan::State;
 use ladder_sim::read_state;

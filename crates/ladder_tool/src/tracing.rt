@@ -9,8 +9,8 @@ ghost use Rattle.ladder_tool.specs.Setting.{HasSettingFault, given_by};
 
 use crate::fault::ToolFault;
 use crate::report::report;
-use crate::request::Texts;
 use crate::setting::read_setting;
+use crate::texts::Texts;
 use ladder_grid::Program;
 use ladder_scan::State;
 use ladder_sim::{simulate, write_state};

@@ -3,7 +3,7 @@
 ghost use Rattle.std.specs.Prelude.{◌≡◌, IfOk, codes, false};
 ghost use Rattle.clap.specs.Words.{app_of, new_app, rule_of, with_rule, with_subcommand};
 ghost use Rattle.clap.specs.declared.builder.Command.TheViews.{out-Command};
-ghost use Rattle.ladder_tool.specs.CommandLine.{IsApp, causes_app, causes_options, file_app, flag_rule, ladder_app, list_rule, needs_subcommand, number_rule, path_rule, place_rule, sim_app};
+ghost use Rattle.ladder_words.specs.CommandLine.{IsApp, causes_app, causes_options, file_app, flag_rule, ladder_app, list_rule, needs_subcommand, number_rule, path_rule, place_rule, sim_app};
 
 use crate::help::{
     AFTER_HELP, AT_HELP, CAUSES_ABOUT, CHECK_ABOUT, COIL_HELP, FAULTS, FILE_HELP, GROUPED_HELP,

@@ -1,7 +1,7 @@
 use Rattle.std.proofs.Common.{◌∙◌, ap₂}
 use Rattle.std.proofs.lemmas.Result.{IfOk-weaker}
 use Rattle.clap.specs.Words.{App, with_subcommand}
-use Rattle.ladder_tool.proofs.command.ladder.Goals as goal
+use Rattle.ladder_words.proofs.command.ladder.Goals as goal
 
 abbrev joined : App → App → App
 joined a b = with_subcommand a b.top

@@ -60,16 +60,6 @@ pub enum Request {
     },
 }
 
-/// The texts that a request is about.
-#[derive(Drop)]
-pub struct Texts {
-    pub program: Vec<u8>,
-    /// The text of the state, where the request names one.
-    pub state: Option<Vec<u8>>,
-    /// The text of the stimulus, where the request names one; where it is missing, there are no records.
-    pub stimulus: Option<Vec<u8>>,
-}
-
 /// Why the arguments are no request.
 #[derive(Debug, Drop, Error)]
 pub enum WordFault {

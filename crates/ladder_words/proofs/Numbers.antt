@@ -2,7 +2,7 @@
 use Rattle.std.proofs.Common.{◌≡◌, ℕ, List, Option, Some, None, Result, Ok, refl}
 use Rattle.std.specs.Str.Parse.{ParsesUnsigned}
 use Rattle.clap.specs.Words.{Row, Text, TriesOne, one_of}
-use Rattle.ladder_tool.specs.Asking.{HasNumber}
+use Rattle.ladder_words.specs.Asking.{HasNumber}
 
 pub number_at : {E : Type 0} (A B : List ℕ → Result ℕ E → Type 0) (id : Text) (rows : List Row) (one : Option Text) (o : Option ℕ) → one_of id rows ≡ one
     → (one ≡ None → o ≡ None)

@@ -2,8 +2,8 @@
 use Rattle.std.specs.Prelude.{◌≡◌, ◌<◌, ◌^◌, ℕ, List, Option, None, Some, map, codes, string_bytes, unwrap_or, option_map, []}
 use Rattle.std.specs.Str.Parse.{IsNumeral, digits_value, without_leading_plus}
 use Rattle.clap.specs.Words.{App, Row, Text, all_of, first_of, one_of, subcommand_of}
-use Rattle.ladder_tool.specs.declared.request.Request.{Request}
-use Rattle.ladder_tool.specs.declared.request.Request.TheVariants.{Causes, Check, Groups, Sim, Uses}
+use Rattle.ladder_words.specs.declared.request.Request.{Request}
+use Rattle.ladder_words.specs.declared.request.Request.TheVariants.{Causes, Check, Groups, Sim, Uses}
 
 abbrev pub HasText : Text → List Row → List ℕ → Type 0
 HasText id rows text = first_of id rows ≡ Some text

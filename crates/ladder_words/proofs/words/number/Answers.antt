@@ -2,8 +2,8 @@ use Rattle.std.proofs.Common.{sym}
 use Rattle.std.specs.Str.Parse.{ExplainsUnsignedError, HasUnsignedDigitsIfOk}
 use Rattle.clap.specs.Words.{found_of, one_text, rows_of}
 use Rattle.clap.proofs.WalkLemmas.{one_text-rows}
-use Rattle.ladder_tool.proofs.Numbers.{number_at, ok_same}
-use Rattle.ladder_tool.proofs.words.number.Goals as goal
+use Rattle.ladder_words.proofs.Numbers.{number_at, ok_same}
+use Rattle.ladder_words.proofs.words.number.Goals as goal
 
 pub returns-in-Ok : goal.returns-in-Ok
 returns-in-Ok c =

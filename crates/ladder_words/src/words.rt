@@ -3,8 +3,8 @@
 ghost use Rattle.std.specs.Prelude.{◌≡◌, [], true, false, codes, IfSome, IsSome, OnOk, IfOk, IfErr, map, option_map, string_bytes, unwrap_or, Some};
 ghost use Rattle.clap.specs.Words.{all_of, first_of, found_of, rows_of, subcommand_rows_of};
 ghost use Rattle.clap.specs.Words.{fault_of as clap_fault};
-ghost use Rattle.ladder_tool.specs.CommandLine.{ladder_app};
-ghost use Rattle.ladder_tool.specs.Asking.{Asks, AsksBy, HasFlag, HasNumber, HasPath};
+ghost use Rattle.ladder_words.specs.CommandLine.{ladder_app};
+ghost use Rattle.ladder_words.specs.Asking.{Asks, AsksBy, HasFlag, HasNumber, HasPath};
 
 use crate::command::ladder;
 use crate::request::{Request, WordFault};

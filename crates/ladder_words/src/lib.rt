@@ -1,0 +1,10 @@
+//! The command line of the program `ladder`: what its words ask for.
+#![tactic(auto)]
+
+mod command;
+mod help;
+mod request;
+mod words;
+
+pub use request::{Request, WordFault};
+pub use words::read_words;
