@@ -2,7 +2,8 @@
 
 use crate::runs::{COUNT_UP, JUMP, RETURN};
 use crate::scans::{MOTOR, program};
-use ladder_grid::{Cell, CoilMode, Joint, Mode, Operand};
+use ladder_grid::{Cell, Joint, Operand};
+use ladder_page::{CoilMode, Mode};
 use ladder_scan::Memory;
 use std::alloc::Global;
 

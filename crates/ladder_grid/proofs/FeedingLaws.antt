@@ -3,24 +3,24 @@ use Rattle.std.proofs.Common.{◌≡◌, ℕ, zero, suc, ◌+◌, ◌-◌, ◌*�
 use Rattle.std.specs.List.{list_all}
 use Rattle.std.proofs.lemmas.Bool.{cases_lt, ne_eqb, and_parts, or_cases, leb-true, le-leb, eqb-true, true≢false}
 use Rattle.ladder_vars.specs.Text.{begins_with}
-use Rattle.ladder_grid.specs.Bytes.{space, dash, plus, bar}
-use Rattle.ladder_grid.specs.declared.form.Form.{Form}
-use Rattle.ladder_grid.specs.declared.form.Form.TheVariants.{Empty, Wire, Contact, Coil, Block, Lower, Jump, Return}
-use Rattle.ladder_grid.specs.declared.fault.Rule.TheVariants.{Grid}
-use Rattle.ladder_grid.specs.declared.fault.GridRule.TheVariants as rule
-use Rattle.ladder_grid.specs.declared.picture.Half.TheVariants as half
+use Rattle.ladder_page.specs.Bytes.{space, dash, plus, bar}
+use Rattle.ladder_page.specs.declared.form.Form.{Form}
+use Rattle.ladder_page.specs.declared.form.Form.TheVariants.{Empty, Wire, Contact, Coil, Block, Lower, Jump, Return}
+use Rattle.ladder_page.specs.declared.fault.Rule.TheVariants.{Grid}
+use Rattle.ladder_page.specs.declared.fault.GridRule.TheVariants as rule
+use Rattle.ladder_page.specs.declared.picture.Half.TheVariants as half
 use Rattle.ladder_vars.specs.declared.decls.Symbol.{Symbol}
-use Rattle.ladder_grid.proofs.DrawingLaws.{few_rungs}
-use Rattle.ladder_grid.specs.Form.{whole_cells, HasForm}
-use Rattle.ladder_grid.specs.ReadForm.{Table, Lists}
-use Rattle.ladder_grid.proofs.FormLaws.{lists_of}
-use Rattle.ladder_grid.specs.Picture.{Lines, ch, joint, vertical, text_at, SameGroup}
-use Rattle.ladder_grid.specs.Texts.{cell_text}
-use Rattle.ladder_grid.specs.Page.{Page, rung_at, form_at}
-use Rattle.ladder_grid.specs.Checks.{part_at}
-use Rattle.ladder_grid.specs.Feeding.{right_link, enters, IsFed}
-use Rattle.ladder_grid.specs.Rules.{is_joint, fits_joint}
-use Rattle.ladder_grid.specs.PageRules.{PartBreaks}
+use Rattle.ladder_page.proofs.DrawingLaws.{few_rungs}
+use Rattle.ladder_page.specs.Form.{whole_cells, HasForm}
+use Rattle.ladder_page.specs.ReadForm.{Table, Lists}
+use Rattle.ladder_page.proofs.FormLaws.{lists_of}
+use Rattle.ladder_page.specs.Picture.{Lines, ch, joint, vertical, text_at, SameGroup}
+use Rattle.ladder_page.specs.Texts.{cell_text}
+use Rattle.ladder_page.specs.Page.{Page, rung_at, form_at}
+use Rattle.ladder_page.specs.Checks.{part_at}
+use Rattle.ladder_page.specs.Feeding.{right_link, enters, IsFed}
+use Rattle.ladder_page.specs.Rules.{is_joint, fits_joint}
+use Rattle.ladder_page.specs.PageRules.{PartBreaks}
 use Rattle.ladder_grid.specs.Program.{Drawing, takes_power, site_at, joined, feeds}
 use Rattle.ladder_grid.specs.Reading.{joint_of, cell_with, IsDrawn, IsProgram}
 use Rattle.ladder_grid.specs.Agreement.{SameGroups, SameFeeding, FeedsDashes, has_left_link, FeedsCells}

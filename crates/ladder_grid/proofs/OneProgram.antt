@@ -2,14 +2,14 @@
 use Rattle.std.proofs.Common.{◌≡◌, ℕ, ◌*◌, ◌<◌, List, drop, sym, ap, subst, ◌∙◌}
 use Rattle.ladder_vars.specs.Decls.{Declared}
 use Rattle.ladder_vars.specs.Grammar.{HasDecls}
-use Rattle.ladder_grid.specs.Page.{Page}
-use Rattle.ladder_grid.specs.PageRules.{ReadsAs}
+use Rattle.ladder_page.specs.Page.{Page}
+use Rattle.ladder_page.specs.PageRules.{ReadsAs}
 use Rattle.ladder_grid.specs.Program.{Drawing, drawing}
 use Rattle.ladder_grid.specs.Sheet.{blank_site}
 use Rattle.ladder_grid.specs.Reading.{IsDrawn, IsProgram}
-use Rattle.ladder_grid.specs.ReadLines.{page_of}
-use Rattle.ladder_grid.proofs.PageLaws.{one_page}
-use Rattle.ladder_grid.proofs.PlaceLaws.{same_list}
+use Rattle.ladder_page.specs.ReadLines.{page_of}
+use Rattle.ladder_page.proofs.PageLaws.{one_page, page_reads}
+use Rattle.ladder_page.proofs.PlaceLaws.{same_list}
 
 pub one_drawing : (page : Page) (d e : Drawing) → IsDrawn page d → IsDrawn page e → d ≡ e
 one_drawing page d e h g =
@@ -29,3 +29,13 @@ one_program text declared at only p drawn d program =
     let one : program.page ≡ page_of declared (drop at text)
     = one_page (drop at text) program.page reads ∙ ap (λ x. page_of x (drop at text)) same.0 in
     one_drawing (page_of declared (drop at text)) d p (subst (λ x. IsDrawn x d) one program.drawn) drawn
+
+pub makes_program : (text : List ℕ) (decls : Declared) (rest : List ℕ) → HasDecls text decls rest → (d : Drawing)
+    → IsDrawn (page_of decls rest) d → IsProgram text d
+makes_program text decls rest read d drawn = record {
+  rest = rest;
+  page = page_of decls rest;
+  read = read;
+  reads = page_reads decls rest;
+  drawn = drawn;
+}

@@ -7,45 +7,46 @@ use Rattle.std.proofs.lemmas.List.{get_or_past, length-map}
 use Rattle.ladder_vars.specs.declared.kind.BlockKind.{BlockKind}
 use Rattle.ladder_vars.specs.declared.decls.Symbol.{Symbol}
 use Rattle.ladder_vars.specs.declared.decls.Symbol.TheVariants.{Var, Instance}
-use Rattle.ladder_grid.specs.declared.cell.Mode.{Mode}
-use Rattle.ladder_grid.specs.declared.cell.CoilMode.{CoilMode}
+use Rattle.ladder_page.specs.declared.mode.Mode.{Mode}
+use Rattle.ladder_page.specs.declared.mode.CoilMode.{CoilMode}
 use Rattle.ladder_grid.specs.declared.cell.Cell.{Cell}
 use Rattle.ladder_grid.specs.declared.cell.Cell.TheVariants as cell
 use Rattle.ladder_grid.specs.declared.site.Site.{Site}
 use Rattle.ladder_vars.specs.declared.kind.Pin.{Pin}
-use Rattle.ladder_grid.specs.declared.form.Form.{Form}
-use Rattle.ladder_grid.specs.declared.form.Form.TheVariants.{Empty, Wire, Contact, Coil, Block, Lower, Jump, Return}
-use Rattle.ladder_grid.specs.declared.fault.Rule.TheVariants.{Grid}
-use Rattle.ladder_grid.specs.declared.fault.GridRule.TheVariants as rule
-use Rattle.ladder_grid.specs.declared.picture.Half.TheVariants as half
-use Rattle.ladder_grid.specs.declared.operand.Reference.{Reference}
-use Rattle.ladder_grid.specs.Gap.{Labels, is_named}
-use Rattle.ladder_grid.specs.Operand.{instance_on}
-use Rattle.ladder_grid.specs.Suiting.{is_odd}
-use Rattle.ladder_grid.proofs.OddLaws.{odd_is}
-use Rattle.ladder_grid.proofs.BlockLaws.{block_may}
-use Rattle.ladder_grid.specs.Rules.{IsDrawnAt}
-use Rattle.ladder_grid.specs.Page.{Page, labels_of, form_at, name_over, instance_at}
-use Rattle.ladder_grid.specs.Seen.{instance_above}
-use Rattle.ladder_grid.specs.AllPlaces.{reading_place}
+use Rattle.ladder_page.specs.declared.form.Form.{Form}
+use Rattle.ladder_page.specs.declared.form.Form.TheVariants.{Empty, Wire, Contact, Coil, Block, Lower, Jump, Return}
+use Rattle.ladder_page.specs.declared.fault.Rule.TheVariants.{Grid}
+use Rattle.ladder_page.specs.declared.fault.GridRule.TheVariants as rule
+use Rattle.ladder_page.specs.declared.picture.Half.TheVariants as half
+use Rattle.ladder_page.specs.declared.operand.Reference.{Reference}
+use Rattle.ladder_page.specs.Gap.{Labels, is_named}
+use Rattle.ladder_page.specs.Operand.{instance_on}
+use Rattle.ladder_page.specs.Suiting.{is_odd}
+use Rattle.ladder_page.proofs.OddLaws.{odd_is}
+use Rattle.ladder_page.proofs.BlockLaws.{block_may}
+use Rattle.ladder_page.specs.Rules.{IsDrawnAt}
+use Rattle.ladder_page.specs.Page.{Page, labels_of, form_at, name_over, instance_at}
+use Rattle.ladder_page.specs.Seen.{instance_above}
+use Rattle.ladder_page.specs.AllPlaces.{reading_place}
 use Rattle.ladder_vars.specs.Kind.{traits_of}
-use Rattle.ladder_grid.specs.Form.{leaps}
-use Rattle.ladder_grid.specs.Checks.{part_at, label_of, later, target_to, jump_label}
-use Rattle.ladder_grid.specs.Shapes.{lacks_lower, is_apart, form_above, form_below}
-use Rattle.ladder_grid.proofs.ShapeLaws.{torn}
-use Rattle.ladder_grid.specs.PageRules.{PartBreaks, target_of}
-use Rattle.ladder_grid.specs.Stops.{IsSoundPage}
-use Rattle.ladder_grid.proofs.TargetLaws.{target_is}
+use Rattle.ladder_page.specs.Form.{leaps}
+use Rattle.ladder_page.specs.Checks.{part_at, label_of, later, target_to, jump_label}
+use Rattle.ladder_page.specs.Shapes.{lacks_lower, is_apart, form_above, form_below}
+use Rattle.ladder_page.proofs.ShapeLaws.{torn}
+use Rattle.ladder_page.specs.PageRules.{PartBreaks, target_of}
+use Rattle.ladder_page.specs.Stops.{IsSoundPage}
+use Rattle.ladder_page.proofs.TargetLaws.{target_is}
 use Rattle.ladder_grid.specs.Sheet.{blank_site}
 use Rattle.ladder_grid.specs.Program.{drawing, memory_in, block_in, goes_to, has_memory, Fits, has_second, IsWellFormed}
-use Rattle.ladder_grid.specs.Geometry.{place}
+use Rattle.ladder_page.specs.Geometry.{place}
 use Rattle.ladder_grid.specs.Reading.{cell_with, cell_drawn, site_drawn, memories_before}
-use Rattle.ladder_grid.specs.Geometry.{at_place}
+use Rattle.ladder_page.specs.Geometry.{at_place}
 use Rattle.ladder_grid.specs.Build.{sites_of}
-use Rattle.ladder_grid.proofs.FitLaws.{SymbolFits, refer_fits, instance_fits, cell_fits, fits_numbered}
+use Rattle.ladder_page.proofs.FitLaws.{SymbolFits, refer_fits, instance_fits}
+use Rattle.ladder_grid.proofs.CellFits.{cell_fits, fits_numbered}
 use Rattle.ladder_grid.proofs.LowerLaws.{kind_second, lower_found, block_even}
-use Rattle.ladder_grid.proofs.ReadingOrder.{rung_of_place, row_of_place, column_of_place, earlier}
-use Rattle.ladder_grid.proofs.PlaceLaws.{length-all_places, first_places-at}
+use Rattle.ladder_page.proofs.ReadingOrder.{rung_of_place, row_of_place, column_of_place, earlier}
+use Rattle.ladder_page.proofs.PlaceLaws.{length-all_places, first_places-at}
 use Rattle.ladder_grid.proofs.NumberLaws.{numbered, drawn_numbered, number_is, before_yes, before_more, count-sites}
 
 none_some : {A : Type 0} {x : A} → None ≡ Some x → ⊥

@@ -1,12 +1,12 @@
 -- What a program says of power flow is what its picture says, and G6 leaves no cell unfed.
 use Rattle.std.specs.Prelude.{◌≡◌, ℕ, ◌+◌, ◌-◌, ◌*◌, ◌<◌, ◌≤◌, ◌↔◌, min, max, Bool, true, false}
-use Rattle.ladder_grid.specs.declared.geometry.TheConstants.{ROWS, COLUMNS, PITCH}
-use Rattle.ladder_grid.specs.Bytes.{dash}
+use Rattle.ladder_page.specs.declared.geometry.TheConstants.{ROWS, COLUMNS, PITCH}
+use Rattle.ladder_page.specs.Bytes.{dash}
 use Rattle.ladder_grid.specs.declared.cell.Cell.{Cell}
 use Rattle.ladder_grid.specs.declared.cell.Cell.TheVariants as cell
-use Rattle.ladder_grid.specs.Picture.{ch, SameGroup}
-use Rattle.ladder_grid.specs.Page.{Page, rung_at}
-use Rattle.ladder_grid.specs.Feeding.{enters}
+use Rattle.ladder_page.specs.Picture.{ch, SameGroup}
+use Rattle.ladder_page.specs.Page.{Page, rung_at}
+use Rattle.ladder_page.specs.Feeding.{enters}
 use Rattle.ladder_grid.specs.Program.{Drawing, site_at, joined, feeds}
 
 -- Two rows of the program are joined on the left of a column exactly where their joints are one group of the picture.

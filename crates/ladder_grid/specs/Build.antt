@@ -1,11 +1,11 @@
 -- Private: the list of all sites, as the code makes it.
 use Rattle.std.specs.Prelude.{◌≡◌, ◌≤◌, ℕ, List, length}
-use Rattle.ladder_grid.specs.declared.geometry.TheConstants.{RUNGS}
+use Rattle.ladder_page.specs.declared.geometry.TheConstants.{RUNGS}
 use Rattle.ladder_grid.specs.declared.site.Site.{Site}
-use Rattle.ladder_grid.specs.Stops.{IsSoundPage}
-use Rattle.ladder_grid.specs.AllPlaces.{all_places}
+use Rattle.ladder_page.specs.Stops.{IsSoundPage}
+use Rattle.ladder_page.specs.AllPlaces.{all_places}
 use Rattle.ladder_grid.specs.Reading.{site_drawn}
-use Rattle.ladder_grid.specs.Page.{Page}
+use Rattle.ladder_page.specs.Page.{Page}
 
 abbrev pub sites_of : Page → List Site
 sites_of page = all_places (site_drawn page) (length page.parts)

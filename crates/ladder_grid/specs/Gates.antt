@@ -2,10 +2,10 @@
 -- A gate gives its left link AND a literal, OR what another gate gave, and what it gives is kept at the place of its cell. So a gate
 -- has the OR of what its cell and those above it bring into their group, and the last cell that feeds a group has the OR of the group.
 use Rattle.std.specs.Prelude.{ℕ, zero, suc, ◌+◌, ◌-◌, ◌*◌, ◌/◌, ◌%◌, nat_lt, ◌&&◌, ◌||◌, ◌==◌, Bool, true, false, List, [], ◌∷◌, ◌++◌, Option, Some, None, is_some, if◌then◌else◌}
-use Rattle.ladder_grid.specs.declared.geometry.TheConstants.{ROWS, COLUMNS, PLACES}
+use Rattle.ladder_page.specs.declared.geometry.TheConstants.{ROWS, COLUMNS, PLACES}
 use Rattle.ladder_grid.specs.declared.gates.TheConstants.{ON, OFF, VARIABLES}
-use Rattle.ladder_grid.specs.declared.cell.Mode.{Mode}
-use Rattle.ladder_grid.specs.declared.cell.Mode.TheVariants as mode
+use Rattle.ladder_page.specs.declared.mode.Mode.{Mode}
+use Rattle.ladder_page.specs.declared.mode.Mode.TheVariants as mode
 use Rattle.ladder_grid.specs.declared.cell.Operand.{Operand}
 use Rattle.ladder_grid.specs.declared.cell.Operand.TheVariants as operand
 use Rattle.ladder_grid.specs.declared.cell.Cell.{Cell}

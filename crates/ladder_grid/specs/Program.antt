@@ -6,9 +6,9 @@ use Rattle.std.specs.List.{list_any}
 use Rattle.ladder_vars.specs.Decls.{Declared}
 use Rattle.ladder_vars.specs.declared.decls.Instance.{Instance}
 use Rattle.ladder_vars.specs.declared.kind.Pin.{Pin}
-use Rattle.ladder_grid.specs.declared.geometry.TheConstants.{RUNGS, ROWS, PLACES}
-use Rattle.ladder_grid.specs.Geometry.{place}
-use Rattle.ladder_grid.specs.Operand.{is_input_at}
+use Rattle.ladder_page.specs.declared.geometry.TheConstants.{RUNGS, ROWS, PLACES}
+use Rattle.ladder_page.specs.Geometry.{place}
+use Rattle.ladder_page.specs.Operand.{is_input_at}
 use Rattle.ladder_vars.specs.Kind.{traits_of}
 use Rattle.ladder_grid.specs.declared.cell.Operand.{Operand}
 use Rattle.ladder_grid.specs.declared.cell.Operand.TheVariants as operand

@@ -1,10 +1,10 @@
 -- Private: a program as one list of steps, which a look over any signal takes one after the other, and what a program keeps beside its drawing.
 use Rattle.std.specs.Prelude.{◌≡◌, ℕ, zero, suc, ◌+◌, ◌<◌, nat_lt, ◌&&◌, ◌||◌, ◌==◌, Bool, false, List, [], ◌∷◌, ◌++◌, length, map, filter_map, slice_index_or, Option, Some, None, if◌then◌else◌}
 use Rattle.ladder_grid.specs.declared.gates.TheConstants.{VARIABLES}
-use Rattle.ladder_grid.specs.declared.cell.Mode.{Mode}
-use Rattle.ladder_grid.specs.declared.cell.Mode.TheVariants as mode
-use Rattle.ladder_grid.specs.declared.cell.CoilMode.{CoilMode}
-use Rattle.ladder_grid.specs.declared.cell.CoilMode.TheVariants as coil
+use Rattle.ladder_page.specs.declared.mode.Mode.{Mode}
+use Rattle.ladder_page.specs.declared.mode.Mode.TheVariants as mode
+use Rattle.ladder_page.specs.declared.mode.CoilMode.{CoilMode}
+use Rattle.ladder_page.specs.declared.mode.CoilMode.TheVariants as coil
 use Rattle.ladder_grid.specs.declared.cell.Operand.{Operand}
 use Rattle.ladder_grid.specs.declared.cell.Operand.TheVariants as operand
 use Rattle.ladder_grid.specs.declared.cell.Cell.{Cell}

@@ -1,26 +1,25 @@
 //! Builds the program of a page on which no rule is broken.
 
 ghost use Rattle.std.specs.Prelude.{◌≡◌, ◌≤◌, ◌<◌, ◌+◌, ◌^◌, if◌then◌else◌, map, length, IfOk, IfErr};
-ghost use Rattle.ladder_grid.specs.declared.geometry.TheConstants.{RUNGS};
-ghost use Rattle.ladder_grid.specs.ReadLines.{page_of};
-ghost use Rattle.ladder_grid.specs.Seen.{seen};
-ghost use Rattle.ladder_grid.specs.Page.{labels_of};
+ghost use Rattle.ladder_page.specs.declared.geometry.TheConstants.{RUNGS};
+ghost use Rattle.ladder_page.specs.ReadLines.{page_of};
+ghost use Rattle.ladder_page.specs.Seen.{seen};
+ghost use Rattle.ladder_page.specs.Page.{labels_of};
 ghost use Rattle.ladder_grid.specs.Program.{has_memory};
 ghost use Rattle.ladder_grid.specs.Build.{sites_of, AreSitesOf};
-ghost use Rattle.ladder_grid.specs.Stops.{IsBrokenIn, IsSmall, IsNear};
+ghost use Rattle.ladder_page.specs.Stops.{IsBrokenIn, IsSmall, IsNear};
 ghost use Rattle.ladder_grid.specs.Reading.{IsDrawn};
 
 use crate::cell::Cell;
-use crate::fault::Stop;
-use crate::firsts::firsts;
-use crate::geometry::{PLACES, ROWS, RUNGS};
-use crate::lines::{blanked, lines, parts, unclosed_line};
-use crate::page::{forms, overs};
-use crate::page_check::check;
 use crate::program::Program;
 use crate::sheet::has_memory;
 use crate::site::{Site, cell_drawn, site_with};
-use crate::view::PageView;
+use ladder_page::firsts::firsts;
+use ladder_page::geometry::{PLACES, ROWS, RUNGS};
+use ladder_page::lines::{blanked, lines, parts, unclosed_line};
+use ladder_page::page::{forms, overs};
+use ladder_page::page_check::check;
+use ladder_page::{PageView, Stop};
 use ladder_vars::{Decls, Name};
 use std::alloc::{AllocError, Global};
 

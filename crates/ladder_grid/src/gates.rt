@@ -4,14 +4,15 @@
 //! cell by itself lets through `OWN` further on.
 
 ghost use Rattle.std.specs.Prelude.{◌≡◌, ◌<◌, ◌≤◌, ◌+◌, ◌*◌, ◌-◌, ◌/◌, length, map, ◌&&◌, ◌||◌, IfOk, if◌then◌else◌};
-ghost use Rattle.ladder_grid.specs.declared.geometry.TheConstants.{RUNGS, ROWS, COLUMNS, PLACES};
+ghost use Rattle.ladder_page.specs.declared.geometry.TheConstants.{RUNGS, ROWS, COLUMNS, PLACES};
 ghost use Rattle.ladder_grid.specs.Program.{cell_of, is_linked, is_block, jump_of};
 ghost use Rattle.ladder_grid.specs.Gates.{last_feeder, left_of, other_of, below_of, literal_on, literal_of, gate_at, feeds_on, has_gate, gates_of, acts, action_at, actions_of, exit_by, leaps_below};
 ghost use Rattle.ladder_grid.specs.Sheet.{drawing_of, HasGates, HasActions, HasJumps, HasExits};
 
-use crate::cell::{Cell, Mode, Operand};
-use crate::geometry::{COLUMNS, PLACES, ROWS};
+use crate::cell::{Cell, Operand};
 use crate::sheet::{Jump, Sheet, feeds, site_in};
+use ladder_page::Mode;
+use ladder_page::geometry::{COLUMNS, PLACES, ROWS};
 use std::alloc::{AllocError, Global};
 
 /// Where ON is among the links of a rung.

@@ -2,19 +2,18 @@
 
 ghost use Rattle.std.specs.Prelude.{◌≡◌, ◌<◌, map, length, Some, None};
 ghost use Rattle.ladder_vars.specs.declared.kind.BlockKind.{BlockKind};
-ghost use Rattle.ladder_grid.specs.declared.form.Form.TheVariants as form;
-ghost use Rattle.ladder_grid.specs.declared.geometry.TheConstants.{RUNGS, ROWS, COLUMNS};
-ghost use Rattle.ladder_grid.specs.Seen.{seen};
-ghost use Rattle.ladder_grid.specs.Page.{labels_of};
+ghost use Rattle.ladder_page.specs.declared.form.Form.TheVariants as form;
+ghost use Rattle.ladder_page.specs.declared.geometry.TheConstants.{RUNGS, ROWS, COLUMNS};
+ghost use Rattle.ladder_page.specs.Seen.{seen};
+ghost use Rattle.ladder_page.specs.Page.{labels_of};
 ghost use Rattle.ladder_grid.specs.Reading.{contact_memory, coil_memory, cell_with, cell_drawn, joint_of, site_drawn};
 
-use crate::cell::{Cell, CoilMode, Joint, Mode, Operand};
-use crate::feeding::right_link;
-use crate::form::Form;
-use crate::page::{form_at, instance_above, name_over, rung_at};
-use crate::page_check::target_of;
-use crate::picture::{joint, vertical};
-use crate::view::PageView;
+use crate::cell::{Cell, Joint, Operand};
+use ladder_page::feeding::right_link;
+use ladder_page::page::{form_at, instance_above, name_over, rung_at};
+use ladder_page::page_check::target_of;
+use ladder_page::picture::{joint, vertical};
+use ladder_page::{CoilMode, Form, Mode, PageView};
 use ladder_vars::{Name, Symbol};
 
 /// What is at a place of a rung: a cell, whether power can leave it on its right, the joint on its left, and whether a

@@ -2,7 +2,8 @@
 
 use ladder_calls::memory::{ENDS, with_room};
 use ladder_causes::CauseFault;
-use ladder_grid::{GridFault, GridRule};
+use ladder_grid::GridFault;
+use ladder_page::GridRule;
 use ladder_sim::{ReadFault, SimFault, StateFault, WriteFault};
 use ladder_tool::{TextKind, ToolFault, write_fault};
 use ladder_vars::{VarFault, VarRule};

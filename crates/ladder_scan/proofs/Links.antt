@@ -1,8 +1,8 @@
 -- The left links of a column by those of the column before, over any signal and from its laws alone.
 use Rattle.std.proofs.Common.{◌≡◌, ℕ, ◌+◌, ◌*◌, ◌/◌, ◌%◌, ◌<◌, Bool, true, false, cond, zero, suc, refl, ap, ◌∙◌, arith}
 use Rattle.ladder_vars.specs.declared.kind.BlockKind.{BlockKind}
-use Rattle.ladder_grid.specs.declared.cell.Mode.{Mode}
-use Rattle.ladder_grid.specs.declared.cell.Mode.TheVariants.{Plain, Negated, Rising, Falling}
+use Rattle.ladder_page.specs.declared.mode.Mode.{Mode}
+use Rattle.ladder_page.specs.declared.mode.Mode.TheVariants.{Plain, Negated, Rising, Falling}
 use Rattle.ladder_grid.specs.declared.cell.Operand.{Operand}
 use Rattle.ladder_grid.specs.declared.cell.Operand.TheVariants.{Var, Output}
 use Rattle.ladder_grid.specs.declared.cell.Cell.{Cell}

@@ -2,11 +2,11 @@
 use Rattle.std.specs.Prelude.{ℕ, ◌+◌, ◌*◌, Bool, true, false, List, Option, Some, None, slice_index_or, slice_set}
 use Rattle.ladder_vars.specs.declared.kind.BlockKind.{BlockKind}
 use Rattle.ladder_vars.specs.declared.kind.BlockKind.TheVariants.{Ton}
-use Rattle.ladder_grid.specs.declared.geometry.TheConstants.{ROWS}
-use Rattle.ladder_grid.specs.declared.cell.Mode.{Mode}
-use Rattle.ladder_grid.specs.declared.cell.Mode.TheVariants.{Plain, Negated, Rising, Falling}
-use Rattle.ladder_grid.specs.declared.cell.CoilMode.{CoilMode}
-use Rattle.ladder_grid.specs.declared.cell.CoilMode.TheVariants as coil
+use Rattle.ladder_page.specs.declared.geometry.TheConstants.{ROWS}
+use Rattle.ladder_page.specs.declared.mode.Mode.{Mode}
+use Rattle.ladder_page.specs.declared.mode.Mode.TheVariants.{Plain, Negated, Rising, Falling}
+use Rattle.ladder_page.specs.declared.mode.CoilMode.{CoilMode}
+use Rattle.ladder_page.specs.declared.mode.CoilMode.TheVariants as coil
 use Rattle.ladder_grid.specs.declared.cell.Operand.{Operand}
 use Rattle.ladder_grid.specs.declared.cell.Operand.TheVariants.{Var, Output}
 use Rattle.ladder_grid.specs.declared.cell.Cell.{Cell}

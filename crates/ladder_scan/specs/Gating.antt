@@ -1,6 +1,6 @@
 -- Private: a rung as the code evaluates it, by its gates and then by its actions.
 use Rattle.std.specs.Prelude.{◌≡◌, ℕ, ◌+◌, ◌<◌, Bool, true, false, if◌then◌else◌, List, [], ◌∷◌, nat_lt, ◌&&◌, Option, Some, None, slice_index_or, slice_set, zero, suc}
-use Rattle.ladder_grid.specs.declared.geometry.TheConstants.{PLACES}
+use Rattle.ladder_page.specs.declared.geometry.TheConstants.{PLACES}
 use Rattle.ladder_grid.specs.declared.gates.TheConstants.{OWN}
 use Rattle.ladder_grid.specs.declared.cell.Cell.{Cell}
 use Rattle.ladder_grid.specs.declared.gates.Gate.{Gate}

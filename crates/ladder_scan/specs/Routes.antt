@@ -1,7 +1,7 @@
 -- Power flow through one rung (IEC 61131-3): power flows from the left rail to the right, along routes. Rows and columns count from 0.
 use Rattle.std.specs.Prelude.{ℕ, ◌+◌, Bool, true, false, List, [], ◌∷◌, map, filter, flat_map, if◌then◌else◌, ◌==◌, zero, suc}
 use Rattle.std.specs.List.{range_with_len}
-use Rattle.ladder_grid.specs.declared.geometry.TheConstants.{ROWS}
+use Rattle.ladder_page.specs.declared.geometry.TheConstants.{ROWS}
 use Rattle.ladder_scan.specs.Algebra.{Algebra}
 
 -- A route: it starts at the left rail, or at the right end of the block at a row and column, and goes on through one cell a column.

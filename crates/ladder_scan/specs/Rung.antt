@@ -1,7 +1,7 @@
 -- The evaluation of one rung: its power flow, from the values at its start, and then its effects by column, then row, each seeing what
 -- the ones before it left. First over any signal, under a guard, and then over truth values, where memories and blocks change too.
 use Rattle.std.specs.Prelude.{◌≡◌, ℕ, ◌+◌, ◌/◌, ◌%◌, Bool, false, if◌then◌else◌, List, length, map, slice_index_or, slice_set, zero, suc}
-use Rattle.ladder_grid.specs.declared.geometry.TheConstants.{ROWS, PLACES}
+use Rattle.ladder_page.specs.declared.geometry.TheConstants.{ROWS, PLACES}
 use Rattle.ladder_grid.specs.declared.cell.Cell.{Cell}
 use Rattle.ladder_grid.specs.declared.cell.Cell.TheVariants.{Contact, Coil, Block}
 use Rattle.ladder_vars.specs.declared.kind.BlockKind.TheVariants.{Ton}

@@ -1,7 +1,7 @@
 -- Private: a look over any signal as the code does it, step by step.
 use Rattle.std.specs.Prelude.{ℕ, ◌+◌, ◌<◌, true, false, List, [], ◌∷◌, slice_index_or, slice_set}
 use Rattle.ladder_vars.specs.declared.kind.BlockKind.TheVariants.{Ton}
-use Rattle.ladder_grid.specs.declared.geometry.TheConstants.{PLACES}
+use Rattle.ladder_page.specs.declared.geometry.TheConstants.{PLACES}
 use Rattle.ladder_grid.specs.declared.gates.TheConstants.{OFF, OWN}
 use Rattle.ladder_grid.specs.declared.steps.Spot.{Spot}
 use Rattle.ladder_grid.specs.declared.steps.Step.{Step}

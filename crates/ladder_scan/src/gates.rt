@@ -15,7 +15,8 @@ use crate::signal::Signal;
 use crate::signals::Signals;
 use crate::storage::Storage;
 use ladder_grid::gates::{Gate, LINKS, Literal, OFF, ON, OWN};
-use ladder_grid::{Cell, Mode};
+use ladder_grid::Cell;
+use ladder_page::Mode;
 use ladder_vars::BlockKind;
 
 /// The signal at a place, and OFF past the last one.

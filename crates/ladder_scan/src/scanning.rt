@@ -1,7 +1,7 @@
 //! One scan of a program over its state.
 
 ghost use Rattle.std.specs.Prelude.{◌≡◌, ◌<◌, ◌↔◌, length, map, IfOk, OnErr, IsErr};
-ghost use Rattle.ladder_grid.specs.declared.geometry.TheConstants.{RUNGS};
+ghost use Rattle.ladder_page.specs.declared.geometry.TheConstants.{RUNGS};
 ghost use Rattle.ladder_grid.specs.declared.gates.TheConstants.{LINKS};
 ghost use Rattle.ladder_grid.specs.Gates.{left_of};
 ghost use Rattle.ladder_scan.specs.Rung.{evaluated, SameSizes, SameLengths};

@@ -1,10 +1,10 @@
 //! A rung of a program that is evaluated at a moment, and what the scan reads of the program.
 
 ghost use Rattle.std.specs.Prelude.{◌≡◌, ◌<◌};
-ghost use Rattle.ladder_grid.specs.declared.geometry.TheConstants.{PLACES};
+ghost use Rattle.ladder_page.specs.declared.geometry.TheConstants.{PLACES};
 ghost use Rattle.ladder_scan.specs.Programs.{diagram_of, IsSound};
 
-use ladder_grid::geometry::ROWS;
+use ladder_page::geometry::ROWS;
 use ladder_grid::{Cell, Program};
 use ladder_vars::BlockKind;
 

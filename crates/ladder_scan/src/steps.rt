@@ -2,7 +2,7 @@
 
 ghost use Rattle.std.specs.Prelude.{◌≡◌, ◌<◌, ◌+◌, ◌&&◌, if◌then◌else◌, length, nat_lt, slice_index_or, slice_set, false, true, All};
 ghost use Rattle.ladder_vars.specs.declared.kind.BlockKind.TheVariants.{Ton};
-ghost use Rattle.ladder_grid.specs.declared.geometry.TheConstants.{PLACES};
+ghost use Rattle.ladder_page.specs.declared.geometry.TheConstants.{PLACES};
 ghost use Rattle.ladder_grid.specs.declared.gates.TheConstants.{OFF, OWN, LINKS};
 ghost use Rattle.ladder_grid.specs.Gates.{leaps_below};
 ghost use Rattle.ladder_grid.specs.declared.steps.Step.{Step};

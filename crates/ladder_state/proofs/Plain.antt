@@ -16,7 +16,7 @@ use Rattle.ladder_records.specs.Text.{ArePlainFields, ArePlainRecords, IsPlainFi
 use Rattle.ladder_records.proofs.Plain.{records_of_lines}
 use Rattle.ladder_vars.specs.Name.{is_name, is_name_byte}
 use Rattle.ladder_vars.specs.declared.decls.Var.{Var}
-use Rattle.ladder_grid.specs.declared.geometry.TheConstants.{PLACES, RUNGS}
+use Rattle.ladder_page.specs.declared.geometry.TheConstants.{PLACES, RUNGS}
 use Rattle.ladder_grid.specs.Program.{Drawing, IsWhole}
 use Rattle.ladder_scan.specs.declared.block.Stored.{Stored}
 use Rattle.ladder_scan.specs.declared.block.Stored.TheVariants.{Timer, Counter, Bistable}

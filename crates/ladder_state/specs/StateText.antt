@@ -7,7 +7,7 @@ use Rattle.ladder_records.specs.Left.{Fields}
 use Rattle.ladder_records.specs.Text.{bit_text, lines_text}
 use Rattle.ladder_vars.specs.declared.decls.Var.{Var}
 use Rattle.ladder_vars.specs.declared.decls.Instance.{Instance}
-use Rattle.ladder_grid.specs.Geometry.{at_place}
+use Rattle.ladder_page.specs.Geometry.{at_place}
 use Rattle.ladder_grid.specs.Program.{Drawing, cell_in, has_memory}
 use Rattle.ladder_scan.specs.declared.block.Stored.{Stored}
 use Rattle.ladder_scan.specs.declared.block.Stored.TheVariants.{Timer, Counter, Bistable}

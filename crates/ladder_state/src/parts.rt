@@ -1,7 +1,7 @@
 //! The records of all variables, memories and instances, one after the other.
 
 ghost use Rattle.std.specs.Prelude.{◌≡◌, ◌<◌, ◌≤◌, ◌+◌, ◌*◌, List, ⊤, length, map, IfOk, IfSome};
-ghost use Rattle.ladder_grid.specs.declared.geometry.TheConstants.{PLACES, RUNGS};
+ghost use Rattle.ladder_page.specs.declared.geometry.TheConstants.{PLACES, RUNGS};
 ghost use Rattle.ladder_grid.specs.Program.{cell_in, has_memory, memories_of, IsWhole};
 ghost use Rattle.ladder_records.specs.Left.{Fields, IsPlain, Left};
 ghost use Rattle.ladder_scan.specs.Standing.{CanStore, Fits, IsStanding, with_blocks, with_memories, with_values};
@@ -12,7 +12,7 @@ use crate::fault::StateFault;
 use crate::row::{read_block, read_memory, read_var};
 use crate::version::Version;
 use csv::ByteRecord;
-use ladder_grid::geometry::{PLACES, ROWS};
+use ladder_page::geometry::{PLACES, ROWS};
 use ladder_grid::{Cell, Program};
 use ladder_records::{Records, next};
 use ladder_scan::{State, Stored};

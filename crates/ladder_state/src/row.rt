@@ -2,7 +2,7 @@
 
 ghost use Rattle.std.specs.Prelude.{◌≡◌, ◌≢◌, ◌<◌, ◌≤◌, ◌*◌, ◌^◌, ◌∷◌, [], ℕ, Bool, None, IfSome, false, true, codes};
 ghost use Rattle.csv.specs.Records.{field_at, fields_of};
-ghost use Rattle.ladder_grid.specs.declared.geometry.TheConstants.{PLACES, RUNGS};
+ghost use Rattle.ladder_page.specs.declared.geometry.TheConstants.{PLACES, RUNGS};
 ghost use Rattle.ladder_vars.specs.declared.kind.BlockKind.TheVariants.{Ton, Ctu, Sr};
 ghost use Rattle.ladder_scan.specs.Blocks.{new_block};
 ghost use Rattle.ladder_scan.specs.declared.block.Stored.{Stored};
@@ -13,7 +13,7 @@ ghost use Rattle.ladder_state.specs.Parts.{moment_record};
 
 use csv::ByteRecord;
 use itoa::Buffer;
-use ladder_grid::geometry::{PLACES, ROWS};
+use ladder_page::geometry::{PLACES, ROWS};
 use ladder_records::{bit_field, is_record, read_number, read_signed};
 use ladder_scan::Stored;
 use ladder_vars::{BlockKind, Instance, Var};

@@ -1,7 +1,7 @@
 //! The writing of a state.
 
 ghost use Rattle.std.specs.Prelude.{◌≡◌, ◌*◌, ◌<◌, ◌∷◌, [], codes, length};
-ghost use Rattle.ladder_grid.specs.declared.geometry.TheConstants.{PLACES, RUNGS};
+ghost use Rattle.ladder_page.specs.declared.geometry.TheConstants.{PLACES, RUNGS};
 ghost use Rattle.ladder_grid.specs.Program.{memories_of};
 ghost use Rattle.ladder_records.specs.Text.{line_text, lines_text};
 ghost use Rattle.ladder_scan.specs.declared.block.Stored.TheVariants.{Bistable, Counter, Timer};
@@ -16,7 +16,7 @@ ghost use Rattle.ladder_text.specs.Log.{Puts};
 use crate::parts::is_memory_place;
 use itoa::Buffer;
 use ladder_grid::Program;
-use ladder_grid::geometry::{PLACES, ROWS};
+use ladder_page::geometry::{PLACES, ROWS};
 use ladder_records::{add_line, bit_field};
 use ladder_scan::{State, Stored};
 use ladder_text::{Block, Sink, WriteFault};

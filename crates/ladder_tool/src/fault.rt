@@ -6,7 +6,8 @@ ghost use Rattle.ladder_tool.specs.FaultLine.{cause_number, fault_line, grid_num
 ghost use Rattle.ladder_tool.specs.declared.fault.ToolFault.TheVariants.{Read, Sim};
 
 use ladder_causes::CauseFault;
-use ladder_grid::{GridFault, GridRule};
+use ladder_grid::GridFault;
+use ladder_page::GridRule;
 use ladder_sim::{SimFault, StateFault};
 use ladder_text::{Piece, ReadFault, Sink, WriteFault, put, put_pieces};
 use ladder_vars::{VarFault, VarRule};

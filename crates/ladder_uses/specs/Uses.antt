@@ -7,10 +7,10 @@ use Rattle.ladder_vars.specs.declared.decls.Symbol.{Symbol}
 use Rattle.ladder_vars.specs.declared.decls.Symbol.TheVariants as symbol
 use Rattle.ladder_grid.specs.declared.cell.Cell.{Cell}
 use Rattle.ladder_grid.specs.declared.cell.Cell.TheVariants as cell
-use Rattle.ladder_grid.specs.declared.cell.Mode.TheVariants as mode
-use Rattle.ladder_grid.specs.declared.cell.CoilMode.TheVariants as coil
+use Rattle.ladder_page.specs.declared.mode.Mode.TheVariants as mode
+use Rattle.ladder_page.specs.declared.mode.CoilMode.TheVariants as coil
 use Rattle.ladder_grid.specs.declared.cell.Operand.TheVariants as operand
-use Rattle.ladder_grid.specs.Geometry.{at_place}
+use Rattle.ladder_page.specs.Geometry.{at_place}
 use Rattle.ladder_grid.specs.Program.{Drawing, cell_in}
 use Rattle.ladder_records.specs.Left.{Fields}
 use Rattle.ladder_records.specs.Text.{lines_text}

@@ -1,13 +1,14 @@
 //! What a cell uses, and how.
 
 ghost use Rattle.std.specs.Prelude.{◌≡◌, ◌*◌, ◌<◌};
-ghost use Rattle.ladder_grid.specs.declared.geometry.TheConstants.{PLACES};
+ghost use Rattle.ladder_page.specs.declared.geometry.TheConstants.{PLACES};
 ghost use Rattle.ladder_grid.specs.Program.{cell_in};
 ghost use Rattle.ladder_uses.specs.Usage.{if_of, same_symbol, use_in};
 ghost use Rattle.ladder_uses.specs.Uses.{use_of, use_word};
 
-use ladder_grid::geometry::{PLACES, ROWS};
-use ladder_grid::{Cell, CoilMode, Mode, Operand, Program};
+use ladder_page::geometry::{PLACES, ROWS};
+use ladder_grid::{Cell, Operand, Program};
+use ladder_page::{CoilMode, Mode};
 use ladder_vars::Symbol;
 
 /// How a cell uses a variable or an instance.

@@ -2,7 +2,7 @@
 
 ghost use Rattle.std.specs.Prelude.{◌≡◌, ◌*◌, ◌+◌, ◌<◌, ◌≤◌, ◌∷◌, [], IfOk, Some, codes, length, slice_get};
 ghost use Rattle.ladder_vars.specs.declared.limits.TheConstants.{MOST_INSTANCES, MOST_VARS};
-ghost use Rattle.ladder_grid.specs.declared.geometry.TheConstants.{PLACES, RUNGS};
+ghost use Rattle.ladder_page.specs.declared.geometry.TheConstants.{PLACES, RUNGS};
 ghost use Rattle.ladder_records.specs.Text.{line_text, lines_text};
 ghost use Rattle.ladder_text.specs.Block.{Sends};
 ghost use Rattle.ladder_text.specs.Log.{Puts};
@@ -11,7 +11,7 @@ ghost use Rattle.ladder_uses.specs.Uses.{name_of, place_rows, symbol_rows, symbo
 use crate::usage::{Use, use_at, use_word};
 use itoa::Buffer;
 use ladder_grid::Program;
-use ladder_grid::geometry::{PLACES, ROWS};
+use ladder_page::geometry::{PLACES, ROWS};
 use ladder_records::add_line;
 use ladder_text::{Block, Sink, WriteFault};
 use ladder_vars::{Decls, Symbol};

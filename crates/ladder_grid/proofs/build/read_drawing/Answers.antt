@@ -1,4 +1,4 @@
-use Rattle.ladder_grid.specs.ReadLines.{page_of}
+use Rattle.ladder_page.specs.ReadLines.{page_of}
 use Rattle.ladder_grid.proofs.ReadingLaws.{sites_whole, sites_drawn}
 use Rattle.ladder_grid.proofs.WellFormed.{read_well_formed}
 use Rattle.ladder_grid.proofs.build.read_drawing.Goals as goal

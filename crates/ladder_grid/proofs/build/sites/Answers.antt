@@ -1,13 +1,13 @@
 use Rattle.std.proofs.Common.{◌≡◌, ℕ, suc, ◌+◌, ◌/◌, ◌%◌, ap, sym, ◌∙◌, arith, add-one, refl, if◌then◌else◌}
 use Rattle.ladder_grid.specs.declared.cell.Cell.{Cell}
 use Rattle.ladder_grid.specs.declared.site.Site.{Site}
-use Rattle.ladder_grid.specs.Page.{Page}
+use Rattle.ladder_page.specs.Page.{Page}
 use Rattle.ladder_grid.specs.Program.{has_memory}
-use Rattle.ladder_grid.specs.Geometry.{place}
+use Rattle.ladder_page.specs.Geometry.{place}
 use Rattle.ladder_grid.specs.Reading.{cell_drawn, site_drawn, memories_before}
-use Rattle.ladder_grid.specs.Geometry.{at_place}
-use Rattle.ladder_grid.specs.Seen.{seen}
-use Rattle.ladder_grid.proofs.PlaceLaws.{no_place_yet, one_place_more}
+use Rattle.ladder_page.specs.Geometry.{at_place}
+use Rattle.ladder_page.specs.Seen.{seen}
+use Rattle.ladder_page.proofs.PlaceLaws.{no_place_yet, one_place_more}
 use Rattle.ladder_grid.proofs.NumberLaws.{drawn_test}
 use Rattle.ladder_grid.proofs.build.sites.Goals as goal
 

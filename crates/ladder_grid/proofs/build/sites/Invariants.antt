@@ -1,8 +1,8 @@
 use Rattle.std.proofs.Common.{◌≡◌, ◌≤◌}
 use Rattle.ladder_grid.specs.Reading.{site_drawn, memories_before}
-use Rattle.ladder_grid.specs.Geometry.{at_place}
-use Rattle.ladder_grid.specs.AllPlaces.{first_places}
-use Rattle.ladder_grid.specs.Seen.{seen}
+use Rattle.ladder_page.specs.Geometry.{at_place}
+use Rattle.ladder_page.specs.AllPlaces.{first_places}
+use Rattle.ladder_page.specs.Seen.{seen}
 use Rattle.ladder_grid.proofs.build.sites.Given as goal
 
 abbrev pub invariant-loop-n : goal.invariant-loop-n

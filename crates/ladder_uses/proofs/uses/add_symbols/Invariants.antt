@@ -1,6 +1,6 @@
 use Rattle.std.specs.Prelude.{◌≡◌, ◌≤◌, ◌*◌, length, take}
 use Rattle.std.specs.List.{flat_map}
-use Rattle.ladder_grid.specs.declared.geometry.TheConstants.{PLACES, RUNGS}
+use Rattle.ladder_page.specs.declared.geometry.TheConstants.{PLACES, RUNGS}
 use Rattle.ladder_records.specs.Text.{lines_text}
 use Rattle.ladder_text.specs.Block.{SendsAll}
 use Rattle.ladder_uses.specs.Uses.{symbol_rows, symbols_of}

@@ -1,8 +1,0 @@
-use Rattle.std.proofs.Common.{◌≡◌, map}
-use Rattle.ladder_grid.specs.Geometry.{at_place}
-use Rattle.ladder_grid.specs.AllPlaces.{first_places}
-use Rattle.ladder_grid.specs.Tables.{over_read}
-use Rattle.ladder_grid.proofs.page.overs.Given as goal
-
-abbrev pub invariant-loop-n : goal.invariant-loop-n
-invariant-loop-n l = l.overs.items ≡ first_places (at_place (over_read l.decls (map (λ x. x.now) l.lines) l.parts)) l.n

@@ -1,0 +1,404 @@
+-- What `form_at` finds is the form of the characters, and each form is found.
+use Rattle.std.proofs.Common.{◌≡◌, ℕ, zero, suc, ◌≤◌, ◌⊎◌, inl, inr, Bool, true, false, cond, ◌==◌, ◌||◌, ◌&&◌, nat_le, codes, take, drop, List, [], ◌∷◌, ◌++◌, length, replicate, Option, Some, None, refl, sym, ap, ◌∙◌, arith}
+use Rattle.std.specs.List.{list_all, prefix_len, AllByRecursion, Contains}
+use Rattle.std.specs.Str.{bytes_eq}
+use Rattle.std.specs.Char.{is_ascii_alphabetic}
+use Rattle.std.specs.Int.{is_in_range}
+use Rattle.std.proofs.lemmas.Bool.{eq-eqb, ne_eqb, eqb-true, eqb-false, and_parts, or_cases, true≢false}
+use Rattle.std.proofs.lemmas.List.{length-append, length-replicate, take-append-drop}
+use Rattle.std.proofs.Math.Seq.{take-append_seam, drop-append_seam}
+use Rattle.std.proofs.lemmas.Slice.Eq.{bytes_eq-Decides}
+use Rattle.std.specs.Option.{option_or}
+use Rattle.ladder_vars.specs.Name.{is_name, is_name_byte, has_name_form}
+use Rattle.ladder_vars.specs.Text.{begins_with}
+use Rattle.ladder_page.specs.Bytes.{dash, space}
+use Rattle.ladder_page.specs.declared.form.Form.{Form}
+use Rattle.ladder_page.specs.declared.form.Form.TheVariants.{Jump, Return}
+use Rattle.ladder_page.specs.Form.{whole_cells, symbols, is_label_name, HasMark, HasForm, IsFormOf}
+use Rattle.ladder_page.specs.ReadForm.{Table, Lists, lookup, after_dashes, is_filler, symbol_at, label_at, behind_label, label_named, jump_with, jump_to, jump_at, return_at, mark_at, marked_at, form_at}
+
+-- ---- what a table has
+
+pub lists_of : (t : Table) (chars : List ℕ) (form : Form) → Contains t (chars, form) → Lists t chars form
+lists_of [] chars form (k, below, is) = absurd (omega (arith, below))
+lists_of (e ∷ es) chars form (zero, below, is) = inl (ap (λ (x : List ℕ × Form). x.0) (sym is), ap (λ (x : List ℕ × Form). x.1) (sym is))
+lists_of (e ∷ es) chars form (suc k, below, is) = inr (lists_of es chars form (k, omega (arith, below), is))
+
+contains_of : (t : Table) (chars : List ℕ) (form : Form) → Lists t chars form → Contains t (chars, form)
+contains_of [] chars form h = absurd h
+contains_of (e ∷ es) chars form (inl (c, f)) = (0, omega arith, rw (c, f) refl)
+contains_of (e ∷ es) chars form (inr h) = let r = contains_of es chars form h in (suc r.0, omega (arith, r.1), r.2)
+
+-- ---- the two sorts of marks
+
+-- One or more dashes, a symbol, then only dashes or only spaces, or nothing.
+record HasSymbol (chars : List ℕ) (form : Form) : Type 0 where
+  before : ℕ
+  after : ℕ
+  filler : ℕ
+  symbol : List ℕ
+  some_dashes : 1 ≤ before
+  dashes_or_spaces : (filler ≡ dash) ⊎ (filler ≡ space)
+  listed : Lists symbols symbol form
+  spelled : chars ≡ replicate before dash ++ (symbol ++ replicate after filler)
+
+-- what leaves the rung: `<RETURN>`, or `>>` and a label
+abbrev IsLeap : List ℕ → Form → Type 0
+IsLeap mark form =
+    ((mark ≡ codes "<RETURN>") × (form ≡ Return))
+    ⊎ ((label : List ℕ) × (mark ≡ codes ">>" ++ label) × (is_label_name label ≡ true) × (form ≡ Jump label))
+
+-- One or more dashes, such a mark, then only spaces, or nothing.
+record HasLeap (chars : List ℕ) (form : Form) : Type 0 where
+  before : ℕ
+  after : ℕ
+  mark : List ℕ
+  some_dashes : 1 ≤ before
+  leaps : IsLeap mark form
+  spelled : chars ≡ replicate before dash ++ (mark ++ replicate after space)
+
+symbol_marks : (text : List ℕ) (s : Form) → HasSymbol text s → HasMark text s
+symbol_marks text s h = (h.before, h.after, h.filler, h.symbol, h.some_dashes, h.spelled, inl (contains_of symbols h.symbol s h.listed, h.dashes_or_spaces))
+
+leap_marks : (text : List ℕ) (s : Form) → HasLeap text s → HasMark text s
+leap_marks text s h = (h.before, h.after, space, h.mark, h.some_dashes, h.spelled, inr (refl, h.leaps))
+
+marks_either : (text : List ℕ) (s : Form) → HasSymbol text s ⊎ HasLeap text s → HasMark text s
+marks_either text s (inl h) = symbol_marks text s h
+marks_either text s (inr h) = leap_marks text s h
+
+either_mark : (text : List ℕ) (s : Form) → HasMark text s → HasSymbol text s ⊎ HasLeap text s
+either_mark text s (before, after, filler, mark, some, spelled, inl (listed, fills)) = inl (record {
+  before = before;
+  after = after;
+  filler = filler;
+  symbol = mark;
+  some_dashes = some;
+  dashes_or_spaces = fills;
+  listed = lists_of symbols mark s listed;
+  spelled = spelled;
+})
+either_mark text s (before, after, filler, mark, some, spelled, inr (fills, leaps)) = inr (record {
+  before = before;
+  after = after;
+  mark = mark;
+  some_dashes = some;
+  leaps = leaps;
+  spelled = rw fills at spelled;
+})
+
+-- what holds of each entry holds of what the table has
+of_each : (P : List ℕ → Form → Type 0) (t : Table) (text : List ℕ) (s : Form) → AllByRecursion (λ e. P e.0 e.1) t → Lists t text s → P text s
+of_each P [] text s all h = absurd h
+of_each P (e ∷ es) text s all (inl (same_text, same_shape)) = rw (same_text, same_shape) all.0
+of_each P (e ∷ es) text s all (inr h) = of_each P es text s all.1 h
+
+lookup_lists : (t : Table) (text : List ℕ) (s : Form) → lookup t text ≡ Some s → Lists t text s
+lookup_lists [] text s h = cc
+lookup_lists (e ∷ es) text s h =
+    elim (bytes_eq e.0 text) as (λ b. bytes_eq e.0 text ≡ b → cond b (Some e.1) (lookup es text) ≡ Some s → Lists (e ∷ es) text s) [
+      | true ↦ λ same given. inl (sym ((bytes_eq-Decides e.0 text).0 same), cc)
+      | false ↦ λ _ given. inr (lookup_lists es text s given)
+    ] refl h
+
+dashes_before : (n b : ℕ) (bs : List ℕ) → (b == 45) ≡ false → after_dashes (replicate n 45 ++ (b ∷ bs)) ≡ b ∷ bs
+dashes_before zero b bs h = ap (λ t. cond t (after_dashes bs) (b ∷ bs)) h
+dashes_before (suc n) b bs h = dashes_before n b bs h
+
+or_true : (b : Bool) → (b || true) ≡ true
+or_true true = refl
+or_true false = refl
+
+-- dashes alone, or spaces alone
+pub list_all-replicate : (n b : ℕ) → list_all (λ x. x == b) (replicate n b) ≡ true
+list_all-replicate zero b = refl
+list_all-replicate (suc n) b = let same : (b == b) ≡ true = eq-eqb b b refl in rw same (list_all-replicate n b)
+
+is_filler-replicate : (n b : ℕ) → (b ≡ 45) ⊎ (b ≡ 32) → is_filler (replicate n b) ≡ true
+is_filler-replicate n b (inl h) = rw (h, list_all-replicate n 45) refl
+is_filler-replicate n b (inr h) = rw (h, list_all-replicate n 32) (or_true (list_all (λ x. x == 45) (replicate n 32)))
+
+-- dashes before a symbol are taken off
+pub marked_symbol : (a b c : ℕ) (s : Form) → (a == 45) ≡ false → (a == 62) ≡ false → (a == 60) ≡ false → lookup symbols (a ∷ b ∷ c ∷ []) ≡ Some s
+    → (before after filler : ℕ) → 1 ≤ before → (filler ≡ 45) ⊎ (filler ≡ 32)
+    → marked_at (replicate before 45 ++ ((a ∷ b ∷ c ∷ []) ++ replicate after filler)) ≡ Some s
+unfolding marked_at
+marked_symbol a b c s apart no_jump no_return known before after filler dashes kind =
+    let tail : List ℕ = replicate after filler in
+    let taken : after_dashes (replicate before 45 ++ (a ∷ b ∷ c ∷ tail)) ≡ a ∷ b ∷ c ∷ tail = dashes_before before a (b ∷ c ∷ tail) apart in
+    let shorter : (length (a ∷ b ∷ c ∷ tail) == length (replicate before 45 ++ (a ∷ b ∷ c ∷ tail))) ≡ false
+    = ne_eqb _ _ (λ e. omega (arith, e, length-append {A = ℕ} (replicate before 45) (a ∷ b ∷ c ∷ tail), length-replicate {A = ℕ} before 45)) in
+    rw (taken, shorter, no_jump, no_return, is_filler-replicate after filler kind, known) refl
+
+-- a cell with a symbol is none of those that are spelled in one way
+unmarked : AllByRecursion (λ e. marked_at e.0 ≡ None) whole_cells
+unfolding marked_at return_at
+unmarked = (refl, (refl, (refl, (refl, (refl, (refl, (refl, (refl, (refl, (refl, (refl, (refl, (refl, (refl, (refl, tt)))))))))))))))
+
+pub whole_found : (text : List ℕ) (s : Form) → Lists whole_cells text s → form_at text ≡ Some s
+unfolding form_at
+whole_found text s h = of_each (λ t x. form_at t ≡ Some x) whole_cells text s
+    (refl, (refl, (refl, (refl, (refl, (refl, (refl, (refl, (refl, (refl, (refl, (refl, (refl, (refl, (refl, tt))))))))))))))) h
+
+marked_found : (text : List ℕ) (s : Form) → marked_at text ≡ Some s → form_at text ≡ Some s
+unfolding form_at
+marked_found text s h =
+    elim (lookup whole_cells text) as (λ o. lookup whole_cells text ≡ o → option_or o (marked_at text) ≡ Some s) [
+      | None ↦ λ _. h
+      | Some t ↦ λ known.
+          let none : marked_at text ≡ None = of_each (λ w _. marked_at w ≡ None) whole_cells text t unmarked (lookup_lists whole_cells text t known) in
+          cc
+    ] refl
+
+Marks : List ℕ → Form → Type 0
+Marks symbol s = (before after filler : ℕ) → 1 ≤ before → (filler ≡ 45) ⊎ (filler ≡ 32) → marked_at (replicate before 45 ++ (symbol ++ replicate after filler)) ≡ Some s
+
+each_symbol_marks : AllByRecursion (λ e. Marks e.0 e.1) symbols
+unfolding Marks
+each_symbol_marks = (
+  marked_symbol 124 32 124 _ refl refl refl refl,
+  (
+    marked_symbol 124 47 124 _ refl refl refl refl,
+    (
+      marked_symbol 124 80 124 _ refl refl refl refl,
+      (
+        marked_symbol 124 78 124 _ refl refl refl refl,
+        (marked_symbol 40 32 41 _ refl refl refl refl, (marked_symbol 40 47 41 _ refl refl refl refl, (marked_symbol 40 83 41 _ refl refl refl refl, (marked_symbol 40 82 41 _ refl refl refl refl, (marked_symbol 40 80 41 _ refl refl refl refl, (marked_symbol 40 78 41 _ refl refl refl refl, tt)))))),
+      ),
+    ),
+  ),
+)
+
+-- ---- jumps and returns
+pub prefix_stops : (p : ℕ → Bool) (xs ys : List ℕ) → list_all p xs ≡ true → prefix_len p ys ≡ 0 → prefix_len p (xs ++ ys) ≡ length xs
+prefix_stops p [] ys all none = none
+prefix_stops p (x ∷ xs) ys all none =
+    let both = and_parts (p x) (list_all p xs) all in
+    rw both.0 (omega (arith, prefix_stops p xs ys both.1 none))
+
+no_name_space : (n : ℕ) → prefix_len is_name_byte (replicate n 32) ≡ 0
+no_name_space zero = refl
+no_name_space (suc n) = refl
+
+start_byte : (d u l o : Bool) → ((u || l) || o) ≡ true → (((d || u) || l) || o) ≡ true
+start_byte true u l o h = refl
+start_byte false u l o h = h
+
+pub form_bytes : (word : List ℕ) → has_name_form word ≡ true → list_all is_name_byte word ≡ true
+form_bytes [] h = absurd (true≢false (sym h))
+form_bytes (b ∷ bs) h =
+    let both = and_parts (is_ascii_alphabetic b || b == 95) (list_all is_name_byte bs) h in
+    let start : is_name_byte b ≡ true = start_byte (is_in_range 48 57 b) (is_in_range 65 90 b) (is_in_range 97 122 b) (b == 95) both.0 in
+    rw (start, both.1) refl
+
+pub label_bytes : (word : List ℕ) → is_label_name word ≡ true → list_all is_name_byte word ≡ true
+label_bytes word h =
+    let named = and_parts (nat_le (length word) 8) (is_name word) h in
+    form_bytes word (and_parts (has_name_form word) _ named.1).0
+
+behind_dashes : (text rest : List ℕ) (before b : ℕ) (bs : List ℕ) → rest ≡ b ∷ bs → (b == 45) ≡ false → 1 ≤ before → text ≡ replicate before 45 ++ rest
+    → marked_at text ≡ mark_at rest
+unfolding marked_at
+behind_dashes text rest before b bs front apart dashes spelled =
+    let taken : after_dashes text ≡ rest = rw (spelled, front) (dashes_before before b bs apart) in
+    let shorter : (length rest == length text) ≡ false
+    = ne_eqb _ _ (λ e. omega (arith, e, ap length spelled, dashes, length-append {A = ℕ} (replicate before 45) rest, length-replicate {A = ℕ} before 45)) in
+    rw (taken, shorter) refl
+
+jump_found : (label : List ℕ) (after : ℕ) → is_label_name label ≡ true → jump_to (label ++ replicate after 32) ≡ Some (Jump label)
+unfolding label_at behind_label
+jump_found label after named =
+    let stop : prefix_len is_name_byte (label ++ replicate after 32) ≡ length label
+    = prefix_stops is_name_byte label (replicate after 32) (label_bytes label named) (no_name_space after) in
+    rw (stop, take-append_seam label (replicate after 32), drop-append_seam label (replicate after 32), list_all-replicate after 32, named) refl
+
+return_found : (after : ℕ) → mark_at (codes "<RETURN>" ++ replicate after 32) ≡ Some Return
+unfolding return_at
+return_found after = rw (list_all-replicate after 32) refl
+
+leap_found : (text : List ℕ) (s : Form) → HasLeap text s → marked_at text ≡ Some s
+leap_found text s h =
+    elim h.leaps [
+      | inl ret ↦
+          let spelled : text ≡ replicate h.before 45 ++ (codes "<RETURN>" ++ replicate h.after 32) = rw ret.0 at h.spelled in
+          behind_dashes text (codes "<RETURN>" ++ replicate h.after 32) h.before 60 _ refl refl h.some_dashes spelled
+          ∙ return_found h.after ∙ ap (λ x. Some x) (sym ret.1)
+      | inr to ↦
+          let spelled : text ≡ replicate h.before 45 ++ (62 ∷ 62 ∷ (to.0 ++ replicate h.after 32)) = rw to.1 at h.spelled in
+          behind_dashes text (62 ∷ 62 ∷ (to.0 ++ replicate h.after 32)) h.before 62 _ refl refl h.some_dashes spelled
+          ∙ jump_found to.0 h.after to.2 ∙ ap (λ x. Some x) (sym to.3)
+    ]
+
+pub form_found : (text : List ℕ) (s : Form) → HasForm text s → form_at text ≡ Some s
+unfolding Marks
+form_found text s (inl h) = whole_found text s (lists_of whole_cells text s h)
+form_found text s (inr h) =
+    elim (either_mark text s h) [
+      | inl symbol ↦
+          marked_found text s (rw symbol.spelled (of_each Marks symbols symbol.symbol s each_symbol_marks symbol.listed symbol.before symbol.after symbol.filler
+          symbol.some_dashes symbol.dashes_or_spaces))
+      | inr leap ↦ marked_found text s (leap_found text s leap)
+    ]
+
+dashes_taken : (text : List ℕ) → (n : ℕ) × (text ≡ replicate n 45 ++ after_dashes text)
+dashes_taken [] = (0, refl)
+dashes_taken (b ∷ bs) =
+    elim (b == 45) as (λ t. (b == 45) ≡ t → (n : ℕ) × (b ∷ bs ≡ replicate n 45 ++ cond t (after_dashes bs) (b ∷ bs))) [
+      | true ↦ λ is_dash.
+          let more : (n : ℕ) × (bs ≡ replicate n 45 ++ after_dashes bs) = dashes_taken bs in
+          let same : b ≡ 45 = eqb-true b 45 is_dash in
+          (suc more.0, rw same (ap (λ z. 45 ∷ z) more.1))
+      | false ↦ λ _. (0, refl)
+    ] refl
+
+replicate_from_all : (b : ℕ) (xs : List ℕ) → list_all (λ x. x == b) xs ≡ true → xs ≡ replicate (length xs) b
+replicate_from_all b [] h = refl
+replicate_from_all b (x ∷ xs) h =
+    let both = and_parts (x == b) (list_all (λ y. y == b) xs) h in
+    let same : x ≡ b = eqb-true x b both.0 in
+    rw same (ap (λ z. b ∷ z) (replicate_from_all b xs both.1))
+
+tail_filler : (tail : List ℕ) → is_filler tail ≡ true → (filler : ℕ) × ((filler ≡ 45) ⊎ (filler ≡ 32)) × (tail ≡ replicate (length tail) filler)
+tail_filler tail h =
+    elim (or_cases (list_all (λ b. b == 45) tail) (list_all (λ b. b == 32) tail) h) [
+      | inl dashes ↦ (45, inl refl, replicate_from_all 45 tail dashes)
+      | inr spaces ↦ (32, inr refl, replicate_from_all 32 tail spaces)
+    ]
+
+symbol_parts : (rest : List ℕ) (s : Form) → symbol_at rest ≡ Some s
+    → (symbol tail : List ℕ) × (rest ≡ symbol ++ tail) × (is_filler tail ≡ true) × (lookup symbols symbol ≡ Some s)
+symbol_parts [] s h = cc
+symbol_parts (a ∷ []) s h = cc
+symbol_parts (a ∷ b ∷ []) s h = cc
+symbol_parts (a ∷ b ∷ c ∷ tail) s h =
+    elim (is_filler tail) as (λ t. is_filler tail ≡ t → cond t (lookup symbols (a ∷ b ∷ c ∷ [])) None ≡ Some s
+    → (symbol end : List ℕ) × (a ∷ b ∷ c ∷ tail ≡ symbol ++ end) × (is_filler end ≡ true) × (lookup symbols symbol ≡ Some s)) [
+      | true ↦ λ uniform known. (a ∷ b ∷ c ∷ [], tail, refl, uniform, known)
+      | false ↦ λ _ known. cc
+    ] refl h
+
+-- what the dashes leave is a symbol with its filler
+has_symbol : (text rest : List ℕ) (s : Form) (before : ℕ) → 1 ≤ before → text ≡ replicate before 45 ++ rest → symbol_at rest ≡ Some s → HasSymbol text s
+has_symbol text rest s before some taken known =
+    let parts = symbol_parts rest s known in
+    let end = tail_filler parts.1 parts.3 in
+    record {
+      before = before;
+      after = length parts.1;
+      filler = end.0;
+      symbol = parts.0;
+      some_dashes = some;
+      dashes_or_spaces = end.1;
+      listed = lookup_lists symbols parts.0 s parts.4;
+      spelled = taken ∙ ap (λ z. replicate before 45 ++ z) (parts.2 ∙ ap (λ z. parts.0 ++ z) end.2);
+    }
+
+Leap : List ℕ → Form → Type 0
+Leap rest s = (mark : List ℕ) × (after : ℕ) × (rest ≡ mark ++ replicate after 32) × IsLeap mark s
+
+has_leap : (text rest : List ℕ) (s : Form) (before : ℕ) → 1 ≤ before → text ≡ replicate before 45 ++ rest → Leap rest s → HasLeap text s
+unfolding Leap
+has_leap text rest s before some taken l = record {
+  before = before;
+  after = l.1;
+  mark = l.0;
+  some_dashes = some;
+  leaps = l.3;
+  spelled = taken ∙ ap (λ z. replicate before 45 ++ z) l.2;
+}
+
+jump_known : (text : List ℕ) (s : Form) → jump_to text ≡ Some s → Leap (62 ∷ 62 ∷ text) s
+unfolding Leap label_at behind_label
+jump_known text s h =
+    elim (list_all (λ b. b == 32) (behind_label text)) as (λ t. list_all (λ b. b == 32) (behind_label text) ≡ t
+    → cond t (jump_with (label_named (label_at text))) None ≡ Some s → Leap (62 ∷ 62 ∷ text) s) [
+      | false ↦ λ _ known. cc
+      | true ↦ λ spaces known.
+          elim (is_label_name (label_at text)) as (λ t. is_label_name (label_at text) ≡ t → jump_with (cond t (Some (label_at text)) None) ≡ Some s → Leap (62 ∷ 62 ∷ text) s) [
+            | false ↦ λ _ none. cc
+            | true ↦ λ named same.
+                let parts : text ≡ label_at text ++ behind_label text = sym (take-append-drop (prefix_len is_name_byte text) text) in
+                let blank : behind_label text ≡ replicate (length (behind_label text)) 32 = replicate_from_all 32 (behind_label text) spaces in
+                let whole : 62 ∷ 62 ∷ text ≡ (62 ∷ 62 ∷ label_at text) ++ replicate (length (behind_label text)) 32
+                = ap (λ z. 62 ∷ 62 ∷ z) (parts ∙ ap (λ z. label_at text ++ z) blank) in
+                (62 ∷ 62 ∷ label_at text, length (behind_label text), whole, inr (label_at text, refl, named, cc))
+          ] refl known
+    ] refl h
+
+jump_at_known : (text : List ℕ) (s : Form) → begins_with 62 text ≡ true → jump_at text ≡ Some s → Leap text s
+jump_at_known [] s front h = cc
+jump_at_known (a ∷ []) s front h = cc
+jump_at_known (a ∷ b ∷ text) s front h =
+    elim (b == 62) as (λ t. (b == 62) ≡ t → cond t (jump_to text) None ≡ Some s → Leap (a ∷ b ∷ text) s) [
+      | false ↦ λ _ known. cc
+      | true ↦ λ second known.
+          let first_is : a ≡ 62 = eqb-true a 62 front in
+          let second_is : b ≡ 62 = eqb-true b 62 second in
+          rw (first_is, second_is) (jump_known text s known)
+    ] refl h
+
+return_known : (text : List ℕ) (s : Form) → return_at text ≡ Some s → Leap text s
+unfolding Leap return_at
+return_known text s h =
+    elim (bytes_eq (codes "<RETURN>") (take 8 text) && list_all (λ b. b == 32) (drop 8 text)) as
+    (λ t. (bytes_eq (codes "<RETURN>") (take 8 text) && list_all (λ b. b == 32) (drop 8 text)) ≡ t → cond t (Some Return) None ≡ Some s → Leap text s) [
+      | false ↦ λ _ known. cc
+      | true ↦ λ both known.
+          let parts = and_parts (bytes_eq (codes "<RETURN>") (take 8 text)) (list_all (λ b. b == 32) (drop 8 text)) both in
+          let word : codes "<RETURN>" ≡ take 8 text = (bytes_eq-Decides (codes "<RETURN>") (take 8 text)).0 parts.0 in
+          let blank : drop 8 text ≡ replicate (length (drop 8 text)) 32 = replicate_from_all 32 (drop 8 text) parts.1 in
+          let whole : text ≡ codes "<RETURN>" ++ replicate (length (drop 8 text)) 32
+          = sym (take-append-drop 8 text) ∙ ap (λ z. z ++ drop 8 text) (sym word) ∙ ap (λ z. codes "<RETURN>" ++ z) blank in
+          (codes "<RETURN>", length (drop 8 text), whole, inl (refl, cc))
+    ] refl h
+
+mark_known : (text rest : List ℕ) (s : Form) (before : ℕ) → 1 ≤ before → text ≡ replicate before 45 ++ rest → mark_at rest ≡ Some s → HasSymbol text s ⊎ HasLeap text s
+mark_known text rest s before some taken h =
+    elim (begins_with 62 rest) as (λ t. begins_with 62 rest ≡ t → cond t (jump_at rest) (cond (begins_with 60 rest) (return_at rest) (symbol_at rest)) ≡ Some s
+    → HasSymbol text s ⊎ HasLeap text s) [
+      | true ↦ λ front known. inr (has_leap text rest s before some taken (jump_at_known rest s front known))
+      | false ↦ λ _ other.
+          elim (begins_with 60 rest) as (λ t. cond t (return_at rest) (symbol_at rest) ≡ Some s → HasSymbol text s ⊎ HasLeap text s) [
+            | true ↦ λ known. inr (has_leap text rest s before some taken (return_known rest s known))
+            | false ↦ λ known. inl (has_symbol text rest s before some taken known)
+          ] other
+    ] refl h
+
+marked_known : (text : List ℕ) (s : Form) → marked_at text ≡ Some s → HasSymbol text s ⊎ HasLeap text s
+unfolding marked_at
+marked_known text s h =
+    elim (length (after_dashes text) == length text) as (λ t. (length (after_dashes text) == length text) ≡ t
+    → cond t None (mark_at (after_dashes text)) ≡ Some s → HasSymbol text s ⊎ HasLeap text s) [
+      | true ↦ λ _ known. cc
+      | false ↦ λ shorter known.
+          let taken = dashes_taken text in
+          let some_dash : 1 ≤ taken.0 = elim taken.0 as (λ n. text ≡ replicate n 45 ++ after_dashes text → 1 ≤ n) [
+            | zero ↦ λ e. absurd (eqb-false _ _ shorter (ap length (sym e)))
+            | suc n ↦ λ _. omega arith
+          ] taken.1 in
+          mark_known text (after_dashes text) s taken.0 some_dash taken.1 known
+    ] refl h
+
+pub form_known : (text : List ℕ) (s : Form) → form_at text ≡ Some s → HasForm text s
+unfolding form_at
+form_known text s h =
+    elim (lookup whole_cells text) as (λ o. lookup whole_cells text ≡ o → option_or o (marked_at text) ≡ Some s → HasForm text s) [
+      | None ↦ λ _ known. inr (marks_either text s (marked_known text s known))
+      | Some t ↦ λ known same. inl (contains_of whole_cells text s (lookup_lists whole_cells text s (known ∙ same)))
+    ] refl h
+
+-- The forms exclude one another.
+pub form_one : (chars : List ℕ) (a b : Form) → HasForm chars a → HasForm chars b → a ≡ b
+form_one chars a b is_a is_b =
+    let first : form_at chars ≡ Some a = form_found chars a is_a in
+    let second : form_at chars ≡ Some b = form_found chars b is_b in
+    cc
+
+pub forms_told : (chars : List ℕ) → IsFormOf chars (form_at chars)
+forms_told chars = λ form. (form_known chars form, form_found chars form)
+
+-- Characters are one form, or none.
+pub form_of_one : (chars : List ℕ) (a b : Option Form) → IsFormOf chars a → IsFormOf chars b → a ≡ b
+form_of_one chars None None is_a is_b = refl
+form_of_one chars (Some a) b is_a is_b = sym ((is_b a).1 ((is_a a).0 refl))
+form_of_one chars None (Some b) is_a is_b = (is_a b).1 ((is_b b).0 refl)

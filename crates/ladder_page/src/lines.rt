@@ -1,0 +1,268 @@
+//! The lines of a drawing, and which of them are rungs.
+
+ghost use Rattle.std.specs.Prelude.{◌≡◌, ◌≤◌, ◌+◌, ◌-◌, ◌==◌, length, map, take, drop, IfOk, All, None};
+ghost use Rattle.std.specs.List.{slice_split};
+ghost use Rattle.ladder_page.specs.Bytes.{line_feed};
+ghost use Rattle.ladder_vars.specs.Text.{begins_with};
+ghost use Rattle.ladder_page.specs.Lines.{last_gap};
+ghost use Rattle.ladder_page.specs.Bytes.{is_upright};
+ghost use Rattle.ladder_page.specs.ReadLines.{after_plain, next_inside, is_shown, shown_byte, blanked_from, is_opening, is_closing, unclosed_line, begins_rung, parts_from, parts_of, IsWithin};
+ghost use Rattle.ladder_page.specs.declared.lines.Inside.TheVariants as inside;
+
+use std::alloc::{AllocError, Global};
+
+/// What a byte of the drawing stands in.
+#[derive(Clone, Copy)]
+pub(crate) enum Inside {
+    /// Nothing: a line begins here.
+    LineStart,
+    /// A gap line.
+    Plain,
+    /// A rung line.
+    RungLine,
+    /// The second byte of `(*`.
+    Opening,
+    /// A comment.
+    Block,
+    /// The second byte of `*)`.
+    Closing,
+    /// A comment to the end of the line.
+    LineComment,
+}
+
+/// A rung, from the line `start` to before the line `end`, and its gap lines, which begin at `from`.
+#[derive(Clone, Copy)]
+pub struct Part {
+    pub from: usize,
+    pub start: usize,
+    pub end: usize,
+}
+
+fn begins_with(byte: u8, text: &[u8]) -> bool
+    ensures { result ≡ begins_with byte text.now }
+{
+    match text {
+        [] => false,
+        [b, ..] => *b == byte,
+    }
+}
+
+fn is_rung_start(b: u8) -> bool
+    ensures { result ≡ is_upright b }
+{
+    b == b'|' || b == b'+'
+}
+
+fn after_plain(b: u8, after: &[u8]) -> Inside
+    ensures { result ≡ after_plain b after.now }
+{
+    if b == b'\n' {
+        Inside::LineStart
+    } else if b == b'(' && begins_with(b'*', after) {
+        Inside::Opening
+    } else if b == b'/' && begins_with(b'/', after) {
+        Inside::LineComment
+    } else {
+        Inside::Plain
+    }
+}
+
+fn next_inside(inside: Inside, b: u8, after: &[u8]) -> Inside
+    ensures { result ≡ next_inside inside b after.now }
+{
+    match inside {
+        Inside::LineStart => {
+            if is_rung_start(b) {
+                Inside::RungLine
+            } else {
+                after_plain(b, after)
+            }
+        }
+        Inside::Plain => after_plain(b, after),
+        Inside::RungLine => {
+            if b == b'\n' {
+                Inside::LineStart
+            } else {
+                Inside::RungLine
+            }
+        }
+        Inside::Opening => Inside::Block,
+        Inside::Block => {
+            if b == b'*' && begins_with(b')', after) {
+                Inside::Closing
+            } else {
+                Inside::Block
+            }
+        }
+        Inside::Closing => Inside::Plain,
+        Inside::LineComment => {
+            if b == b'\n' {
+                Inside::LineStart
+            } else {
+                Inside::LineComment
+            }
+        }
+    }
+}
+
+fn is_shown(inside: Inside) -> bool
+    ensures { result ≡ is_shown inside }
+{
+    match inside {
+        Inside::LineStart | Inside::Plain | Inside::RungLine => true,
+        Inside::Opening | Inside::Block | Inside::Closing | Inside::LineComment => false,
+    }
+}
+
+fn is_opening(inside: Inside) -> bool
+    ensures { result ≡ is_opening inside }
+{
+    inside == Inside::Opening
+}
+
+fn is_closing(inside: Inside) -> bool
+    ensures { result ≡ is_closing inside }
+{
+    inside == Inside::Closing
+}
+
+fn shown_byte(inside: Inside, b: u8, after: &[u8]) -> u8
+    ensures { result ≡ shown_byte inside b after.now }
+{
+    if b == b'\n' {
+        b'\n'
+    } else if b == b'\r' && begins_with(b'\n', after) {
+        b' '
+    } else if is_shown(inside) && is_shown(next_inside(inside, b, after)) {
+        b
+    } else {
+        b' '
+    }
+}
+
+/// The text with its comments taken as spaces.
+pub fn blanked(alloc: Global, mut text: &[u8]) -> Result<Vec<u8>, AllocError>
+    ensures { IfOk result (λ v. v.items ≡ blanked_from inside.Plain text.entry.now) }
+{
+    let mut seen = Vec::new(alloc);
+    let mut inside = Inside::Plain;
+    while let [b, rest @ ..] = text {
+        seen.push(shown_byte(inside, *b, rest))?;
+        inside = next_inside(inside, *b, rest);
+        text = rest;
+    }
+    Ok(seen)
+}
+
+/// The line on which a comment begins that never ends.
+pub fn unclosed_line(mut text: &[u8]) -> Option<usize>
+    ensures { result ≡ unclosed_line text.entry.now }
+{
+    let mut inside = Inside::Plain;
+    let mut line = 0;
+    let mut since = None;
+    while let [b, rest @ ..] = text {
+        inside = next_inside(inside, *b, rest);
+        if is_opening(inside) {
+            since = Some(line);
+        } else if is_closing(inside) {
+            since = None;
+        }
+        if *b == b'\n' {
+            line += 1;
+        }
+        text = rest;
+    }
+    since
+}
+
+/// The lines between the line feeds.
+pub fn lines(alloc: Global, text: &[u8]) -> Result<Vec<&[u8]>, AllocError>
+    ensures { IfOk result (λ v. map (λ l. l.now) v.items ≡ slice_split (λ b. b == line_feed) text.now) }
+{
+    text.split(|b| *b == b'\n').collect(alloc)
+}
+
+fn begins_rung(line: &[u8]) -> bool
+    ensures { result ≡ begins_rung line.now }
+{
+    match line {
+        [] => false,
+        [b, ..] => is_rung_start(*b),
+    }
+}
+
+fn parts_after(alloc: Global, mut lines: &[&[u8]]) -> Result<Vec<Part>, AllocError>
+    ensures exact { IfOk result (λ v. v.items ≡ parts_from 0 1 None (map (λ l. l.now) lines.entry.now)) }
+    ensures within { IfOk result (λ v. All (IsWithin (length lines.entry.now + 1)) v.items) }
+{
+    let mut parts = Vec::new(alloc);
+    let mut at = 0;
+    let mut line = 1;
+    let mut run: Option<usize> = None;
+    while let [first, rest @ ..] = lines {
+        match run {
+            None => {
+                if begins_rung(first) {
+                    run = Some(line);
+                }
+            }
+            Some(start) => {
+                if !begins_rung(first) {
+                    parts.push(Part {
+                        from: at,
+                        start,
+                        end: line,
+                    })?;
+                    at = line;
+                    run = None;
+                }
+            }
+        }
+        line += 1;
+        lines = rest;
+    }
+    if let Some(start) = run {
+        parts.push(Part {
+            from: at,
+            start,
+            end: line,
+        })?;
+    }
+    Ok(parts)
+}
+
+/// The rungs, in order, each with its gap.
+pub fn parts(alloc: Global, lines: &[&[u8]]) -> Result<Vec<Part>, AllocError>
+    ensures exact { IfOk result (λ v. v.items ≡ parts_of (map (λ l. l.now) lines.now)) }
+    ensures within { IfOk result (λ v. All (IsWithin (length lines.now)) v.items) }
+{
+    match lines {
+        [] => Ok(Vec::new(alloc)),
+        [_, rest @ ..] => parts_after(alloc, rest),
+    }
+}
+
+/// The lines from one to before another.
+pub(crate) fn lines_between<'a, 'b>(
+    lines: &'a [&'b [u8]],
+    start: usize,
+    end: usize,
+) -> &'a [&'b [u8]]
+    requires { (start ≤ end) × (end ≤ length lines.now) }
+    ensures value { map (λ l. l.now) result.now ≡ take (end - start) (drop start (map (λ l. l.now) lines.now)) }
+    ensures count { length result.now ≡ end - start }
+{
+    &lines[start..end]
+}
+
+/// The line after the last rung.
+pub(crate) fn last_gap(parts: &[Part]) -> usize
+    ensures { result ≡ last_gap parts.now }
+{
+    if parts.is_empty() {
+        0
+    } else {
+        parts[parts.len() - 1].end
+    }
+}

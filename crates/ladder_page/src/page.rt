@@ -1,0 +1,252 @@
+//! What is where on the page that a drawing is read from.
+
+ghost use Rattle.std.specs.Prelude.{◌≡◌, ◌+◌, ◌<◌, map, length, All, IfOk};
+ghost use Rattle.ladder_page.specs.declared.geometry.TheConstants.{RUNGS, ROWS, COLUMNS};
+ghost use Rattle.ladder_page.specs.ReadLines.{IsWithin, form_read, forms_of};
+ghost use Rattle.ladder_page.specs.Tables.{over_with, over_read, overs_of};
+ghost use Rattle.ladder_page.specs.Rules.{has_text};
+ghost use Rattle.ladder_page.specs.Texts.{text_over};
+ghost use Rattle.ladder_page.specs.Lines.{part_in, rung_of};
+ghost use Rattle.ladder_page.specs.Page.{rung_at, form_at, name_over, instance_at};
+ghost use Rattle.ladder_page.specs.Seen.{instance_above};
+ghost use Rattle.ladder_page.specs.Seen.{seen};
+ghost use Rattle.ladder_page.specs.Checks.{part_at};
+
+use crate::form::{Form, form_at as form_of};
+use crate::geometry::{PLACES, ROWS, RUNGS, place};
+use crate::lines::{Part, lines_between};
+use crate::operand::{NameOver, Reference, instance_on, refer_to, word_in};
+use crate::picture::{cell_text, text_over};
+use crate::rules::has_text;
+use crate::view::PageView;
+use ladder_vars::Decls;
+use std::alloc::{AllocError, Global};
+
+fn part_in(lines: &[&[u8]], parts: &[Part], rung: usize) -> Part
+    requires rungs { rung < length parts.now }
+    requires within { All (IsWithin (length lines.now)) parts.now }
+    ensures value { result ≡ part_in parts.now rung }
+    ensures within { IsWithin (length lines.now) result }
+{
+    parts[rung]
+}
+
+#[tactic(auto, unfolding(crate::specs::Lines::rung_of))]
+fn rung_in<'a, 'b>(lines: &'a [&'b [u8]], parts: &[Part], rung: usize) -> &'a [&'b [u8]]
+    requires rungs { rung < length parts.now }
+    requires within { All (IsWithin (length lines.now)) parts.now }
+    ensures value { map (λ l. l.now) result.now ≡ rung_of (map (λ l. l.now) lines.now) (part_in parts.now rung) }
+    ensures count { (part_in parts.now rung).start + length result.now ≡ (part_in parts.now rung).end }
+{
+    let part = part_in(lines, parts, rung);
+    lines_between(lines, part.start, part.end)
+}
+
+/// The rung and its gap.
+pub(crate) fn part_at(page: PageView<'_, '_>, rung: usize) -> Part
+    requires rungs { rung < length page.parts.now }
+    ensures value { result ≡ part_at (seen page.entry) rung }
+    ensures within { IsWithin (length page.entry.lines.now) result }
+{
+    part_in(page.lines, page.parts, rung)
+}
+
+/// The lines of the rung.
+pub fn rung_at<'a, 'b>(page: PageView<'a, 'b>, rung: usize) -> &'a [&'b [u8]]
+    requires rungs { rung < length page.parts.now }
+    ensures value { map (λ l. l.now) result.now ≡ rung_at (seen page.entry) rung }
+    ensures count { (part_at (seen page.entry) rung).start + length result.now ≡ (part_at (seen page.entry) rung).end }
+{
+    rung_in(page.lines, page.parts, rung)
+}
+
+#[tactic(auto, unfolding(crate::specs::ReadLines::form_read))]
+fn form_read(
+    lines: &[&[u8]],
+    parts: &[Part],
+    rung: usize,
+    row: usize,
+    column: usize,
+) -> Option<Form>
+    requires rungs { rung < length parts.now }
+    requires within { All (IsWithin (length lines.now)) parts.now }
+    requires rows { row < ROWS }
+    requires columns { column < COLUMNS }
+    ensures { result ≡ form_read (map (λ l. l.now) lines.now) parts.now rung row column }
+{
+    form_of(&cell_text(rung_in(lines, parts, rung), row, column))
+}
+
+/// What the cells of the first hundred rungs are.
+#[tactic(auto, unfolding(crate::specs::ReadLines::forms_of))]
+pub fn forms(
+    alloc: Global,
+    lines: &[&[u8]],
+    parts: &[Part],
+) -> Result<Vec<Option<Form>>, AllocError>
+    requires within { All (IsWithin (length lines.now)) parts.now }
+    ensures { IfOk result (λ v. v.items ≡ forms_of (map (λ l. l.now) lines.now) parts.now) }
+{
+    let mut forms = Vec::new(alloc);
+    for n in 0..PLACES * parts.len().min(RUNGS) {
+        forms.push(form_read(
+            lines,
+            parts,
+            n / PLACES,
+            n % PLACES % ROWS,
+            n % PLACES / ROWS,
+        ))?;
+    }
+    Ok(forms)
+}
+
+fn over_with(decls: &Decls, chars: &[u8]) -> NameOver
+    ensures { result ≡ over_with decls.now chars.now }
+{
+    NameOver {
+        written: has_text(chars),
+        name: refer_to(decls, word_in(chars)),
+    }
+}
+
+#[tactic(auto, unfolding(crate::specs::Tables::over_read))]
+fn over_read(
+    decls: &Decls,
+    lines: &[&[u8]],
+    parts: &[Part],
+    rung: usize,
+    row: usize,
+    column: usize,
+) -> NameOver
+    requires rungs { rung < length parts.now }
+    requires within { All (IsWithin (length lines.now)) parts.now }
+    requires rows { row < ROWS }
+    requires columns { column < COLUMNS }
+    ensures { result ≡ over_read decls.now (map (λ l. l.now) lines.now) parts.now rung row column }
+{
+    over_with(decls, &text_over(rung_in(lines, parts, rung), row, column))
+}
+
+/// What stands over the cells of the first hundred rungs.
+#[tactic(auto, unfolding(crate::specs::Tables::overs_of))]
+pub fn overs(
+    alloc: Global,
+    decls: &Decls,
+    lines: &[&[u8]],
+    parts: &[Part],
+) -> Result<Vec<NameOver>, AllocError>
+    requires within { All (IsWithin (length lines.now)) parts.now }
+    ensures { IfOk result (λ v. v.items ≡ overs_of decls.now (map (λ l. l.now) lines.now) parts.now) }
+{
+    let mut overs = Vec::new(alloc);
+    for n in 0..PLACES * parts.len().min(RUNGS) {
+        overs.push(over_read(
+            decls,
+            lines,
+            parts,
+            n / PLACES,
+            n % PLACES % ROWS,
+            n % PLACES / ROWS,
+        ))?;
+    }
+    Ok(overs)
+}
+
+/// The form of a cell.
+pub fn form_at(page: PageView<'_, '_>, rung: usize, row: usize, column: usize) -> Option<Form>
+    requires rows { row < ROWS }
+    requires columns { column < COLUMNS }
+    ensures { result ≡ form_at (seen page.entry) rung row column }
+{
+    if rung > page.forms.len() / PLACES {
+        return None;
+    }
+    let at = PLACES * rung + (ROWS * column + row);
+    if at < page.forms.len() {
+        page.forms[at]
+    } else {
+        None
+    }
+}
+
+fn over_at(page: PageView<'_, '_>, rung: usize, row: usize, column: usize) -> NameOver
+    requires rungs { rung < length page.parts.now }
+    requires few { rung < RUNGS }
+    requires rows { row < ROWS }
+    requires columns { column < COLUMNS }
+    ensures { result ≡ over_with page.entry.decls.now (text_over (rung_at (seen page.entry) rung) row column) }
+{
+    page.overs[place(rung, row, column)]
+}
+
+/// Whether there is text over a cell.
+pub(crate) fn is_written_over(
+    page: PageView<'_, '_>,
+    rung: usize,
+    row: usize,
+    column: usize,
+) -> bool
+    requires rungs { rung < length page.parts.now }
+    requires few { rung < RUNGS }
+    requires rows { row < ROWS }
+    requires columns { column < COLUMNS }
+    ensures { result ≡ has_text (text_over (rung_at (seen page.entry) rung) row column) }
+{
+    over_at(page, rung, row, column).written
+}
+
+/// What the text over a cell stands for.
+pub fn name_over(
+    page: PageView<'_, '_>,
+    rung: usize,
+    row: usize,
+    column: usize,
+) -> Option<Reference>
+    requires rungs { rung < length page.parts.now }
+    requires few { rung < RUNGS }
+    requires rows { row < ROWS }
+    requires columns { column < COLUMNS }
+    ensures { result ≡ name_over (seen page.entry) rung row column }
+{
+    over_at(page, rung, row, column).name
+}
+
+/// The instance that the block at a place is.
+#[tactic(auto, unfolding(crate::specs::Page::instance_at))]
+pub(crate) fn instance_at(
+    page: PageView<'_, '_>,
+    rung: usize,
+    row: usize,
+    column: usize,
+) -> Option<usize>
+    requires rungs { rung < length page.parts.now }
+    requires few { rung < RUNGS }
+    requires rows { row < ROWS }
+    requires columns { column < COLUMNS }
+    ensures { result ≡ instance_at (seen page.entry) rung row column }
+{
+    instance_on(
+        form_at(page, rung, row, column),
+        name_over(page, rung, row, column),
+    )
+}
+
+/// The instance of the block over a cell.
+pub fn instance_above(
+    page: PageView<'_, '_>,
+    rung: usize,
+    row: usize,
+    column: usize,
+) -> Option<usize>
+    requires rungs { rung < length page.parts.now }
+    requires few { rung < RUNGS }
+    requires rows { row < ROWS }
+    requires columns { column < COLUMNS }
+    ensures { result ≡ instance_above (seen page.entry) rung row column }
+{
+    if row == 0 {
+        None
+    } else {
+        instance_at(page, rung, row - 1, column)
+    }
+}

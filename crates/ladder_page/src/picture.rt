@@ -1,0 +1,122 @@
+//! The picture of a rung: which character is where.
+
+ghost use Rattle.std.specs.Prelude.{◌≡◌, ◌<◌, ◌+◌, ◌^◌, ◌↔◌, map, IsTrue, slice_index_or, []};
+ghost use Rattle.ladder_page.specs.declared.geometry.TheConstants.{ROWS, COLUMNS, CELL};
+ghost use Rattle.ladder_page.specs.Picture.{half_line, ch, joint, vertical, SameGroup};
+ghost use Rattle.ladder_page.specs.Texts.{characters, cell_text, text_over};
+
+use crate::geometry::{CELL, PITCH};
+
+/// The two lines of a row.
+#[derive(Clone, Copy)]
+pub enum Half {
+    /// The line with the names.
+    Name,
+    /// The line with the cells and joints.
+    Wire,
+}
+
+/// The line of a row that has its names, or its wires.
+pub(crate) fn half_line(row: usize, half: Half) -> usize
+    requires { row < ROWS }
+    ensures { result ≡ half_line row half }
+{
+    match half {
+        Half::Name => 2 * row,
+        Half::Wire => 2 * row + 1,
+    }
+}
+
+/// The line of a rung, an empty one past the last.
+pub(crate) fn line_at<'a>(lines: &[&'a [u8]], line: usize) -> &'a [u8]
+    ensures { result.now ≡ slice_index_or (map (λ l. l.now) lines.now) line [] }
+{
+    if line < lines.len() { lines[line] } else { &[] }
+}
+
+/// The character of a line at a place, a space past each end.
+pub(crate) fn ch(lines: &[&[u8]], line: usize, place: usize) -> u8
+    ensures { result ≡ ch (map (λ l. l.now) lines.now) line place }
+{
+    if line < lines.len() {
+        let text = lines[line];
+        if place < text.len() {
+            text[place]
+        } else {
+            b' '
+        }
+    } else {
+        b' '
+    }
+}
+
+fn eleven(lines: &[&[u8]], line: usize, place: usize) -> [u8; CELL]
+    requires { place < 2 ^ 32 }
+    ensures { result ≡ characters (map (λ l. l.now) lines.now) line place CELL }
+{
+    [
+        ch(lines, line, place),
+        ch(lines, line, place + 1),
+        ch(lines, line, place + 2),
+        ch(lines, line, place + 3),
+        ch(lines, line, place + 4),
+        ch(lines, line, place + 5),
+        ch(lines, line, place + 6),
+        ch(lines, line, place + 7),
+        ch(lines, line, place + 8),
+        ch(lines, line, place + 9),
+        ch(lines, line, place + 10),
+    ]
+}
+
+/// The characters of a cell.
+#[tactic(auto, unfolding(crate::specs::Picture::text_at))]
+pub(crate) fn cell_text(lines: &[&[u8]], row: usize, column: usize) -> [u8; CELL]
+    requires rows { row < ROWS }
+    requires columns { column < COLUMNS }
+    ensures { result ≡ cell_text (map (λ l. l.now) lines.now) row column }
+{
+    eleven(lines, 2 * row + 1, PITCH * column + 1)
+}
+
+/// The characters of the name line over a cell.
+#[tactic(auto, unfolding(crate::specs::Picture::text_at))]
+pub(crate) fn text_over(lines: &[&[u8]], row: usize, column: usize) -> [u8; CELL]
+    requires rows { row < ROWS }
+    requires columns { column < COLUMNS }
+    ensures { result ≡ text_over (map (λ l. l.now) lines.now) row column }
+{
+    eleven(lines, 2 * row, PITCH * column + 1)
+}
+
+/// The joint on the left of a cell.
+pub fn joint(lines: &[&[u8]], row: usize, column: usize) -> u8
+    requires rows { row < ROWS }
+    requires columns { column < COLUMNS }
+    ensures { result ≡ joint (map (λ l. l.now) lines.now) row column }
+{
+    ch(lines, 2 * row + 1, PITCH * column)
+}
+
+/// Whether a vertical link goes from this row to the next, on the left of the column.
+pub fn vertical(lines: &[&[u8]], row: usize, column: usize) -> bool
+    requires rows { row < ROWS }
+    requires columns { column < COLUMNS }
+    ensures { result ≡ vertical (map (λ l. l.now) lines.now) row column }
+{
+    ch(lines, 2 * row + 2, PITCH * column) == b'|'
+}
+
+/// Whether vertical links join every row between these two, on the left of the column.
+pub(crate) fn same_group(lines: &[&[u8]], column: usize, row: usize, other: usize) -> bool
+    requires rows { (row < ROWS) × (other < ROWS) }
+    requires columns { column < COLUMNS }
+    ensures { IsTrue result ↔ SameGroup (map (λ l. l.now) lines.now) column row other }
+{
+    for between in row.min(other)..row.max(other) {
+        if !vertical(lines, between, column) {
+            return false;
+        }
+    }
+    true
+}
