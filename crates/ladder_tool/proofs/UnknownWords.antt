@@ -4,10 +4,10 @@ use Rattle.std.specs.List.{position_or_len}
 use Rattle.std.proofs.lemmas.Bool.{lt-ltb}
 use Rattle.std.proofs.lemmas.List.{get_or-map, length-map, length-take-le, take-map}
 use Rattle.ladder_vars.specs.Decls.{Declared}
-use Rattle.ladder_tool.specs.Variables.{AreVariables, IsUnknownWord, Text, variable_of}
+use Rattle.ladder_tool.specs.Variables.{AreVariables, IsUnknownWord, variable_of}
 
 -- as many words are known as there are variables for them
-known_count : (decls : Declared) (words : List Text) (i : ℕ) (vars : List ℕ) → i ≤ length words → AreVariables decls (take i words) vars → length vars ≡ i
+known_count : (decls : Declared) (words : List (List ℕ)) (i : ℕ) (vars : List ℕ) → i ≤ length words → AreVariables decls (take i words) vars → length vars ≡ i
 known_count decls words i vars h known =
     sym (length-map vars Some)
     ∙ sym (ap length known)
@@ -15,7 +15,7 @@ known_count decls words i vars h known =
     ∙ length-take-le i words h
 
 -- the words before it are known
-first_at : (decls : Declared) (words : List Text) (i : ℕ) (vars : List ℕ) → i < length words → variable_of decls (slice_index_or words i []) ≡ None
+first_at : (decls : Declared) (words : List (List ℕ)) (i : ℕ) (vars : List ℕ) → i < length words → variable_of decls (slice_index_or words i []) ≡ None
     → AreVariables decls (take i words) vars → position_or_len (λ word. is_none (variable_of decls word)) words ≡ i
 first_at decls [] i vars there unknown known = absurd (omega (arith, there))
 first_at decls (w ∷ words) zero vars there unknown known = rw unknown refl
@@ -32,7 +32,7 @@ position_there p xs i there is =
     rw (is, below) refl
 
 -- behind a first word that names a variable
-pub unknown_behind : (decls : Declared) (first : Text) (v : ℕ) (words : List Text) (i : ℕ) (vars : List ℕ)
+pub unknown_behind : (decls : Declared) (first : List ℕ) (v : ℕ) (words : List (List ℕ)) (i : ℕ) (vars : List ℕ)
     → variable_of decls first ≡ Some v → i < length words → variable_of decls (slice_index_or words i []) ≡ None
     → AreVariables decls (take i words) vars → IsUnknownWord decls (first ∷ words) (length vars + 2)
 unknown_behind decls first v words i vars is_first there unknown known =
@@ -41,7 +41,7 @@ unknown_behind decls first v words i vars is_first there unknown known =
     (suc i, position_there (λ word. is_none (variable_of decls word)) (first ∷ words) (suc i) (omega arith) (first_at decls (first ∷ words) (suc i) (v ∷ vars) (omega arith) unknown known_first), omega arith)
 
 -- the same of words that are the texts of items
-pub unknown_item : {A : Type 0} (decls : Declared) (first : Text) (v : ℕ) (show : A → Text) (items : List A) (i : ℕ) (item : A) (vars : List ℕ)
+pub unknown_item : {A : Type 0} (decls : Declared) (first : List ℕ) (v : ℕ) (show : A → List ℕ) (items : List A) (i : ℕ) (item : A) (vars : List ℕ)
     → variable_of decls first ≡ Some v → i < length items → item ≡ get_or items i item → variable_of decls (show item) ≡ None
     → AreVariables decls (map show (take i items)) vars → IsUnknownWord decls (first ∷ map show items) (length vars + 2)
 unknown_item decls first v show items i item vars is_first there is unknown known =
@@ -50,6 +50,6 @@ unknown_item decls first v show items i item vars is_first there is unknown know
     unknown_behind decls first v (map show items) i vars is_first (rw (length-map items show) there) (rw same unknown) (rw front known)
 
 -- a first word that names no variable
-pub unknown_first : (decls : Declared) (first : Text) (words : List Text) → variable_of decls first ≡ None → IsUnknownWord decls (first ∷ words) 1
+pub unknown_first : (decls : Declared) (first : List ℕ) (words : List (List ℕ)) → variable_of decls first ≡ None → IsUnknownWord decls (first ∷ words) 1
 unknown_first decls first words unknown =
     (0, position_there (λ word. is_none (variable_of decls word)) (first ∷ words) 0 (omega arith) (rw unknown refl), refl)

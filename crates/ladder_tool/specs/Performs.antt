@@ -25,7 +25,7 @@ use Rattle.ladder_words.specs.declared.request.Request.{Request}
 use Rattle.ladder_words.specs.declared.request.Request.TheVariants.{Causes, Check, Groups, Sim, Uses}
 use Rattle.ladder_tool.specs.FaultLine.{fault_line}
 use Rattle.ladder_tool.specs.Setting.{Given, HasProgramFault, HasSettingFault, IsSet, stimulus_records}
-use Rattle.ladder_tool.specs.Variables.{AreVariables, IsUnknownWord, Text, variable_of}
+use Rattle.ladder_tool.specs.Variables.{AreVariables, IsUnknownWord, variable_of}
 
 -- ---- the three writers
 
@@ -69,8 +69,8 @@ pub record Asking : Type 0 where
   pub moment : Option ℕ
   pub after : Option ℕ
   pub limit : Option ℕ
-  pub coil : Text
-  pub inputs : List Text
+  pub coil : List ℕ
+  pub inputs : List (List ℕ)
 
 -- The texts describe the program and the state, and the names are those of the variables. Without a moment the scan is at the stored one.
 pub record IsAsked (g : Given) (a : Asking) (q : Question) : Type 0 where
@@ -94,7 +94,7 @@ abbrev pub ListsCauses : Given → Asking → WriteLog → WriteLog → Type 0
 ListsCauses g a out out' = Lists g a (PutsAll out out')
 
 -- The first word that names no variable, or being out of memory.
-abbrev pub HasWordFault : Declared → List Text → ToolFault → Type 0
+abbrev pub HasWordFault : Declared → List (List ℕ) → ToolFault → Type 0
 HasWordFault decls words (fault.Word number) = IsUnknownWord decls words number
 HasWordFault decls words fault.Memory = Unit {0}
 HasWordFault decls words other = ⊥
@@ -199,7 +199,7 @@ BreaksTrace g saves old new =
 -- ---- all requests
 
 -- what a request for causes asks
-abbrev pub asking : Option ℕ → Option ℕ → Option ℕ → Text → List Text → Asking
+abbrev pub asking : Option ℕ → Option ℕ → Option ℕ → List ℕ → List (List ℕ) → Asking
 asking moment after limit coil inputs = record { moment = moment; after = after; limit = limit; coil = coil; inputs = inputs }
 
 -- Status 0. Only a simulation writes on `save`, and only a list on `err`.

@@ -4,17 +4,13 @@ use Rattle.ladder_vars.specs.declared.decls.Symbol.TheVariants as symbol
 use Rattle.ladder_vars.specs.Decls.{Declared, find}
 use Rattle.ladder_vars.specs.Name.{is_name}
 
--- the bytes of an argument
-abbrev pub Text : Type 0
-Text = List ℕ
-
 -- the variable with this name, by its number in order of declaration
 abbrev pub variable_of : Declared → List ℕ → Option ℕ
 variable_of decls word = elim (if is_name word then find decls word else None) [ Some (symbol.Var number) ↦ Some number | _ ↦ None ]
 
-abbrev pub AreVariables : Declared → List Text → List ℕ → Type 0
+abbrev pub AreVariables : Declared → List (List ℕ) → List ℕ → Type 0
 AreVariables decls words vars = map (variable_of decls) words ≡ map Some vars
 
 -- The word of this number, counted from 1, is the first that names no variable.
-abbrev pub IsUnknownWord : Declared → List Text → ℕ → Type 0
+abbrev pub IsUnknownWord : Declared → List (List ℕ) → ℕ → Type 0
 IsUnknownWord decls words number = (at : ℕ) × (position (λ word. is_none (variable_of decls word)) words ≡ Some at) × (number ≡ at + 1)
