@@ -8,3 +8,8 @@ pub mod Pruning
 pub mod Telling
 pub mod Knowledge
 pub mod GroupCounts
+pub mod AnyOrder
+pub mod Carrying
+pub mod Fewest
+pub mod Counting
+pub mod Sifting

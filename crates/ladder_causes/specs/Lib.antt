@@ -6,10 +6,12 @@ pub mod Cursor
 pub mod GroupCursor
 pub mod Knowing
 pub mod LookLaws
+pub mod Order
 pub mod Patterns
 pub mod Prefixes
 pub mod Probes
 pub mod Refusal
+pub mod Sifting
 pub mod Sources
 pub mod Three
 pub mod ThreeLaws

@@ -6,6 +6,7 @@ mod causes;
 mod fault;
 mod groups;
 pub mod laws;
+mod order;
 mod probe;
 mod refusal;
 mod source;
@@ -16,6 +17,7 @@ mod word;
 pub use causes::Causes;
 pub use fault::CauseFault;
 pub use groups::Groups;
+pub use order::sifted;
 pub use tri::Tri;
 pub use word::Word64;
 
