@@ -1,7 +1,7 @@
 //! Requests, performed over texts and writers in memory.
 
 use ladder_calls::memory::{ENDS, End, with_room};
-use ladder_tool::{Request, Texts, perform};
+use ladder_tool::{Form, Request, Texts, perform};
 use std::alloc::{AllocError, Global};
 
 const MOTOR: &[u8] =
@@ -98,6 +98,7 @@ pub(crate) fn request(alloc: Global, asked: Asked) -> Result<Request, AllocError
             state: None,
             moment: None,
             limit: None,
+            form: Form::Table,
             file,
             coil: String::from_str(alloc, "Motor")?,
             inputs: listed(alloc)?,

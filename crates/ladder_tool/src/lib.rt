@@ -23,5 +23,5 @@ pub use fault::{TextKind, ToolFault, write_fault};
 pub use files::{Readers, perform_files};
 pub use performing::perform;
 pub use program::run;
-pub use request::{Request, Texts, WordFault};
+pub use request::{Form, Request, Texts, WordFault};
 pub use words::read_words;
