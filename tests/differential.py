@@ -11,7 +11,7 @@ import sys
 import tempfile
 
 from end_to_end import differences, run
-from model import COILS, COLUMNS, CONTACTS, ROWS, Program
+from model import COILS, COLUMNS, CONTACTS, FORMS, ROWS, Program
 
 INPUTS, OUTPUTS, MEMORIES = 9, 2, 2
 UPPER = {
@@ -153,8 +153,10 @@ def compare(program, folder, text, coil, listed, moment):
     """The differences of one question."""
     pathlib.Path(folder, "program.ld").write_text(text, "ascii")
     model, found = Program(text), []
-    for flag, (out, err) in ([], model.answer(coil, listed)), (["--grouped"], model.grouped_answer(coil, listed)):
-        have = run(program, ["causes", *flag, *moment, "program.ld", coil, *listed], folder)
+    wanted = [([], model.answer(coil, listed))]
+    wanted += [(["--grouped", *flags], model.grouped_answer(coil, listed, form)) for flags, form in FORMS.items()]
+    for flags, (out, err) in wanted:
+        have = run(program, ["causes", *flags, *moment, "program.ld", coil, *listed], folder)
         found += differences(have, (out.encode(), err.encode(), 0))
     return found
 

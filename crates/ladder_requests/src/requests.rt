@@ -2,7 +2,7 @@
 
 use ladder_calls::memory::{ENDS, End, with_room};
 use ladder_tool::{Texts, perform};
-use ladder_words::Request;
+use ladder_words::{Form, Request};
 use std::alloc::{AllocError, Global};
 
 const MOTOR: &[u8] =
@@ -99,6 +99,7 @@ pub(crate) fn request(alloc: Global, asked: Asked) -> Result<Request, AllocError
             state: None,
             moment: None,
             limit: None,
+            form: Form::Table,
             file,
             coil: String::from_str(alloc, "Motor")?,
             inputs: listed(alloc)?,

@@ -3,3 +3,5 @@ pub mod NearLaws
 pub mod RowLaws
 pub mod Taking
 pub mod GroupRows
+pub mod TermLaws
+pub mod FormLaws

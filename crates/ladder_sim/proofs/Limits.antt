@@ -3,7 +3,7 @@ use Rattle.std.proofs.Common.{◌≡◌, ◌≢◌, ◌∙◌, ◌+◌, ◌-◌,
 use Rattle.std.specs.Prelude.{IfSome}
 use Rattle.ladder_sim.specs.CauseText.{limited}
 use Rattle.ladder_records.specs.Left.{Fields}
-use Rattle.ladder_records.specs.Text.{line_text, lines_text}
+use Rattle.ladder_records.specs.Text.{lines_text}
 use Rattle.ladder_text.specs.Block.{SendsAll}
 use Rattle.ladder_sim.specs.Limit.{limit_left}
 use Rattle.ladder_text.specs.Log.{PutsPrefix, WriteLog}
@@ -21,62 +21,69 @@ pub below : (limit : Option ℕ) (count : ℕ) → limit ≢ Some count → IfSo
 below None count d h = tt
 below (Some m) count d h = let other : m ≢ count = λ q. d (ap (λ (x : ℕ). Some x) q) in omega (arith, other)
 
--- the lines of records
-abbrev pub lines : {A : Type 0} → (A → Fields) → List A → List ℕ
-lines f xs = lines_text (map f xs)
+-- the lines of records, of which so many were written before
+abbrev pub lines : {A : Type 0} → (A → Fields) → ℕ → List A → List ℕ
+lines f count xs = lines_text (map f xs)
 
--- So many rows of the whole list were added, and this is left of it.
-pub record Added {A : Type 0} (a b : WriteLog) (waited waits : List ℕ) (f : A → Fields) (count : ℕ) (limit : Option ℕ) (whole left : List A) : Type 0 where
+-- So many items of the whole list were added, and this is left of it. `text` is that of what is left after so many.
+pub record Added {A : Type 0} (a b : WriteLog) (waited waits : List ℕ) (text : ℕ → List A → List ℕ) (count : ℕ) (limit : Option ℕ) (whole left : List A) : Type 0 where
   pub done : List ℕ
-  pub split : lines f whole ≡ done ++ lines f left
+  pub split : text 0 whole ≡ done ++ text count left
   pub sent : SendsAll a b waited waits done
   pub counted : count + length left ≡ length whole
   pub within : IfSome limit (λ m. count ≤ m)
 
 -- before the first row
-pub added_none : {A : Type 0} (a : WriteLog) (w : List ℕ) (f : A → Fields) (limit : Option ℕ) (xs : List A)
-    → Added a a w w f 0 limit (limited limit xs) (limited (limit_left limit 0) xs)
-added_none a w f None xs = record { done = []; split = refl; sent = sends_none a w; counted = omega arith; within = tt }
-added_none a w f (Some m) xs =
+pub added_none : {A : Type 0} (a : WriteLog) (w : List ℕ) (text : ℕ → List A → List ℕ) (limit : Option ℕ) (xs : List A)
+    → Added a a w w text 0 limit (limited limit xs) (limited (limit_left limit 0) xs)
+added_none a w text None xs = record { done = []; split = refl; sent = sends_none a w; counted = omega arith; within = tt }
+added_none a w text (Some m) xs =
     let same : m - 0 ≡ m = omega arith in
     record {
       done = [];
-      split = ap (λ j. lines f (take j xs)) (sym same);
+      split = ap (λ j. text 0 (take j xs)) (sym same);
       sent = sends_none a w;
       counted = omega (arith, ap (λ j. length (take j xs)) same);
       within = omega arith;
     }
 
+-- the text of an item that comes next
+abbrev pub Next : {A : Type 0} → (ℕ → List A → List ℕ) → ℕ → A → List ℕ → Type 0
+Next {A = A} text count n one = (left : List A) → text count (n ∷ left) ≡ one ++ text (count + 1) left
+
 -- one row more
-pub added_more : {A : Type 0} (a b c : WriteLog) (w0 w1 w2 : List ℕ) (f : A → Fields) (count : ℕ) (limit : Option ℕ) (whole xs : List A) (n : A) (rest : List A)
-    → Added a b w0 w1 f count limit whole (limited (limit_left limit count) xs) → xs ≡ n ∷ rest → limit ≢ Some count → SendsAll b c w1 w2 (line_text (f n))
-    → Added a c w0 w2 f (count + 1) limit whole (limited (limit_left limit (count + 1)) rest)
-added_more a b c w0 w1 w2 f count limit whole xs n rest so_far first short sent =
+pub added_more : {A : Type 0} (a b c : WriteLog) (w0 w1 w2 : List ℕ) (text : ℕ → List A → List ℕ) (count : ℕ) (limit : Option ℕ) (whole xs : List A) (n : A) (rest : List A)
+    → (one : List ℕ) → Next text count n one
+    → Added a b w0 w1 text count limit whole (limited (limit_left limit count) xs) → xs ≡ n ∷ rest → limit ≢ Some count → SendsAll b c w1 w2 one
+    → Added a c w0 w2 text (count + 1) limit whole (limited (limit_left limit (count + 1)) rest)
+added_more a b c w0 w1 w2 text count limit whole xs n rest one step so_far first short sent =
     let next = limited_next limit count xs n rest first short so_far.within in
     let left = limited (limit_left limit (count + 1)) rest in
     let counts : count + suc (length left) ≡ length whole = ap (λ ys. count + length ys) (sym next) ∙ so_far.counted in
     record {
-      done = so_far.done ++ line_text (f n);
-      split = so_far.split ∙ ap (λ ys. so_far.done ++ lines f ys) next ∙ sym (append_assoc so_far.done (line_text (f n)) (lines f left));
-      sent = sends_more a b c w0 w1 w2 so_far.done (line_text (f n)) so_far.sent sent;
+      done = so_far.done ++ one;
+      split = so_far.split ∙ ap (λ ys. so_far.done ++ text count ys) next ∙ ap (λ t. so_far.done ++ t) (step left)
+          ∙ sym (append_assoc so_far.done one (text (count + 1) left));
+      sent = sends_more a b c w0 w1 w2 so_far.done one so_far.sent sent;
       counted = omega (arith, counts);
       within = below limit count short so_far.within;
     }
 
 -- the row that comes next is one of the whole list
-pub added_within : {A : Type 0} (a b : WriteLog) (w0 w1 : List ℕ) (f : A → Fields) (count : ℕ) (limit : Option ℕ) (whole xs : List A) (n : A) (rest : List A)
-    → Added a b w0 w1 f count limit whole (limited (limit_left limit count) xs) → xs ≡ n ∷ rest → limit ≢ Some count → count + 1 ≤ length whole
-added_within a b w0 w1 f count limit whole xs n rest so_far first short =
+pub added_within : {A : Type 0} (a b : WriteLog) (w0 w1 : List ℕ) (text : ℕ → List A → List ℕ) (count : ℕ) (limit : Option ℕ) (whole xs : List A) (n : A) (rest : List A)
+    → Added a b w0 w1 text count limit whole (limited (limit_left limit count) xs) → xs ≡ n ∷ rest → limit ≢ Some count → count + 1 ≤ length whole
+added_within a b w0 w1 text count limit whole xs n rest so_far first short =
     let next = limited_next limit count xs n rest first short so_far.within in
     let counts : count + suc (length (limited (limit_left limit (count + 1)) rest)) ≡ length whole = ap (λ ys. count + length ys) (sym next) ∙ so_far.counted in
     omega (arith, counts)
 
 -- a row that is cut off
-pub added_prefix : {A : Type 0} (a b c : WriteLog) (w0 w1 : List ℕ) (f : A → Fields) (count : ℕ) (limit : Option ℕ) (whole xs : List A) (n : A) (rest : List A)
-    → Added a b w0 w1 f count limit whole (limited (limit_left limit count) xs) → xs ≡ n ∷ rest → limit ≢ Some count → PutsPrefix b c (w1 ++ line_text (f n))
-    → PutsPrefix a c (w0 ++ lines f whole)
-added_prefix a b c w0 w1 f count limit whole xs n rest so_far first short failed =
+pub added_prefix : {A : Type 0} (a b c : WriteLog) (w0 w1 : List ℕ) (text : ℕ → List A → List ℕ) (count : ℕ) (limit : Option ℕ) (whole xs : List A) (n : A) (rest : List A)
+    → (one : List ℕ) → Next text count n one
+    → Added a b w0 w1 text count limit whole (limited (limit_left limit count) xs) → xs ≡ n ∷ rest → limit ≢ Some count → PutsPrefix b c (w1 ++ one)
+    → PutsPrefix a c (w0 ++ text 0 whole)
+added_prefix a b c w0 w1 text count limit whole xs n rest one step so_far first short failed =
     let next = limited_next limit count xs n rest first short so_far.within in
     let left = limited (limit_left limit (count + 1)) rest in
-    sends_prefix a b c w0 w1 (lines f whole) so_far.done (line_text (f n)) (lines f left)
-    (so_far.split ∙ ap (λ ys. so_far.done ++ lines f ys) next) so_far.sent failed
+    sends_prefix a b c w0 w1 (text 0 whole) so_far.done one (text (count + 1) left)
+    (so_far.split ∙ ap (λ ys. so_far.done ++ text count ys) next ∙ ap (λ t. so_far.done ++ t) (step left)) so_far.sent failed

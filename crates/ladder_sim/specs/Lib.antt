@@ -3,3 +3,6 @@ pub mod Rows
 pub mod Kept
 pub mod Limit
 pub mod GroupText
+pub mod TermText
+pub mod TermParts
+pub mod Forms

@@ -27,7 +27,7 @@ pub(crate) const DIGITS: usize = 20;
 pub(crate) const ROW: usize = 149;
 
 /// How a variable is spelled where it is declared.
-fn name_bytes(decls: &Decls, var: usize) -> &[u8]
+pub(crate) fn name_bytes(decls: &Decls, var: usize) -> &[u8]
     ensures { result.now ≡ name_in (slice_get decls.now.vars var) }
 {
     match decls.vars().get(var) {

@@ -5,9 +5,10 @@ mod cause_text;
 mod group_text;
 mod kept;
 mod near;
+mod term_text;
 
 pub use cause_text::{Summary, write_causes};
-pub use group_text::{GroupSummary, write_groups};
+pub use group_text::{GroupForm, GroupSummary, write_groups};
 pub use ladder_state::{StateFault, read_state, write_state};
 pub use ladder_text::{
     Piece, ReadFailed, ReadFault, Reading, Sink, Source, Tally, WriteFailed, WriteFault, Writing,

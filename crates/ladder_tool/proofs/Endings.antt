@@ -14,7 +14,8 @@ use Rattle.ladder_causes.specs.Prefixes.{search_of}
 use Rattle.ladder_causes.specs.Refusal.{reason, refusal}
 use Rattle.ladder_groups.specs.Groups.{rows}
 use Rattle.ladder_sim.specs.CauseText.{cause_text, limited}
-use Rattle.ladder_sim.specs.GroupText.{group_text}
+use Rattle.ladder_sim.specs.TermText.{form_text}
+use Rattle.ladder_sim.specs.declared.group_text.GroupForm.{GroupForm}
 use Rattle.ladder_text.specs.Log.{PutsAll, PutsPrefix, WriteLog}
 use Rattle.ladder_tool.specs.declared.fault.ToolFault.TheVariants as fault
 use Rattle.ladder_tool.specs.Performs.{Asking, HasCauseFault, IsAsked, causes_for, counts_text, groups_line, looks_for, rows_for, rows_line, rows_text}
@@ -59,13 +60,14 @@ module _ (a : Asking) (q : Question) (c : Cursor) (of_program : c.program ≡ q.
   line_is rows looks search none h l =
       ap (λ n. rows_line n looks) (h ∙ ap (λ xs. length (limited a.limit xs)) made) ∙ ap (rows_line (length (causes_for a q))) (l ∙ looks_are search none)
 
--- What a cursor over groups has to give is what is asked.
-pub groups_are : (a : Asking) (q : Question) (c : GroupCursor) → c.program ≡ q.program → c.listed ≡ q.listed
-    → rows_left c ≡ rows (is_cause q) (length q.listed) 0 → group_text c.program c.listed (limited a.limit (rows_left c)) ≡ group_text q.program q.listed (rows_for a q)
-groups_are a q c of_program of_listed made =
-    ap (λ (d : Drawing). group_text d c.listed (limited a.limit (rows_left c))) of_program
-    ∙ ap (λ g. group_text q.program g (limited a.limit (rows_left c))) of_listed
-    ∙ ap (λ rs. group_text q.program q.listed (limited a.limit rs)) made
+-- What a cursor over groups has to give, in a form, is what is asked.
+pub groups_are : (a : Asking) (q : Question) (form asked : GroupForm) → form ≡ asked → (c : GroupCursor) → c.program ≡ q.program → c.listed ≡ q.listed
+    → rows_left c ≡ rows (is_cause q) (length q.listed) 0 → form_text form c.program c.listed (limited a.limit (rows_left c)) ≡ form_text asked q.program q.listed (rows_for a q)
+groups_are a q form asked same c of_program of_listed made =
+    ap (λ (f : GroupForm). form_text f c.program c.listed (limited a.limit (rows_left c))) same
+    ∙ ap (λ (d : Drawing). form_text asked d c.listed (limited a.limit (rows_left c))) of_program
+    ∙ ap (λ g. form_text asked q.program g (limited a.limit (rows_left c))) of_listed
+    ∙ ap (λ rs. form_text asked q.program q.listed (limited a.limit rs)) made
 
 -- the line of rows and causes
 pub counts_are : (a : Asking) (q : Question) (c : GroupCursor) → rows_left c ≡ rows (is_cause q) (length q.listed) 0 → (many causes : ℕ)

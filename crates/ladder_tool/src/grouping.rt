@@ -3,7 +3,7 @@
 ghost use Rattle.std.specs.Prelude.{◌≡◌, ◌≤◌, ◌⊎◌, None};
 ghost use Rattle.ladder_text.specs.Log.{Puts, PutsAll, WriteLog};
 ghost use Rattle.ladder_tool.specs.Asked.{asking_of};
-ghost use Rattle.ladder_tool.specs.Performs.{BreaksGroups, CountsGroups, HasListFault, Refuses, groups_line, logs};
+ghost use Rattle.ladder_tool.specs.Performs.{BreaksGroups, CountsGroups, HasListFault, Refuses, form_on, groups_line, logs};
 ghost use Rattle.ladder_tool.specs.Setting.{given_by};
 
 use crate::fault::ToolFault;
@@ -13,8 +13,9 @@ use crate::setting::read_setting;
 use crate::texts::Texts;
 use crate::variables::asked_variables;
 use ladder_causes::Groups;
-use ladder_sim::{GroupSummary, write_groups};
+use ladder_sim::{GroupForm, GroupSummary, write_groups};
 use ladder_text::{Piece, Sink, WriteFault, put_pieces};
+use ladder_words::Form;
 use std::alloc::Global;
 
 fn put_counts<E: Sink>(summary: GroupSummary, err: &mut E) -> Result<(), WriteFault>
@@ -30,20 +31,32 @@ fn put_counts<E: Sink>(summary: GroupSummary, err: &mut E) -> Result<(), WriteFa
     put_pieces(err, pieces.as_slice())
 }
 
-/// Lists the causes of the coil in the state of the texts in groups.
+/// The form for the groups of a coil.
+fn form_of(form: Form, coil: usize) -> GroupForm
+    ensures { result ≡ form_on form coil }
+{
+    match form {
+        Form::Table => GroupForm::Table,
+        Form::Terms => GroupForm::Terms,
+        Form::Statement => GroupForm::Statement { coil },
+    }
+}
+
+/// Lists the causes of the coil in the state of the texts in groups, in a form.
 pub(crate) fn list_groups<O: Sink, E: Sink>(
     alloc: Global,
     asking: Asking<'_>,
+    form: Form,
     texts: &Texts,
     out: &mut O,
     err: &mut E,
 ) -> u8
     requires all { asking.after ≡ None }
     ensures status { result ≤ 1 }
-    ensures done { result ≡ 0 → CountsGroups (given_by texts.now) (asking_of asking.entry) (O.log out.old) (O.log out.new) (PutsAll (E.log err.old) (E.log err.new)) }
+    ensures done { result ≡ 0 → CountsGroups (given_by texts.now) (asking_of asking.entry) form (O.log out.old) (O.log out.new) (PutsAll (E.log err.old) (E.log err.new)) }
     ensures failed { (save : WriteLog) → result ≡ 1
         → Refuses (HasListFault (given_by texts.now) (asking_of asking.entry)) (logs (O.log out.old) save (E.log err.old)) (logs (O.log out.new) save (E.log err.new))
-        ⊎ BreaksGroups (given_by texts.now) (asking_of asking.entry) (logs (O.log out.old) save (E.log err.old)) (logs (O.log out.new) save (E.log err.new)) }
+        ⊎ BreaksGroups (given_by texts.now) (asking_of asking.entry) form (logs (O.log out.old) save (E.log err.old)) (logs (O.log out.new) save (E.log err.new)) }
 {
     let setting = match read_setting(alloc, texts) {
         Ok(setting) => setting,
@@ -65,7 +78,7 @@ pub(crate) fn list_groups<O: Sink, E: Sink>(
         Ok(cursor) => cursor,
         Err(fault) => return report(&ToolFault::Cause(fault), err),
     };
-    let Ok(summary) = write_groups(&mut cursor, asking.limit, out) else {
+    let Ok(summary) = write_groups(&mut cursor, form_of(form, asked.coil), asking.limit, out) else {
         return report(&ToolFault::Write, err);
     };
     let Ok(()) = put_counts(summary, err) else {

@@ -50,6 +50,7 @@ pub fn perform<O: Sink, S: Sink, E: Sink>(
         Request::Groups {
             moment,
             limit,
+            form,
             coil,
             inputs,
             ..
@@ -61,7 +62,7 @@ pub fn perform<O: Sink, S: Sink, E: Sink>(
                 coil: coil.as_str(),
                 inputs,
             };
-            list_groups(alloc, asking, texts, out, err)
+            list_groups(alloc, asking, *form, texts, out, err)
         }
         Request::Sim { save: file, .. } => trace(alloc, texts, file.is_some(), out, save, err),
     }

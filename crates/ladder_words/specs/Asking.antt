@@ -1,7 +1,9 @@
 -- What a request asks, by the subcommand and the values of its arguments.
-use Rattle.std.specs.Prelude.{◌≡◌, ◌<◌, ◌^◌, ℕ, List, Option, None, Some, map, codes, string_bytes, unwrap_or, option_map, []}
+use Rattle.std.specs.Prelude.{◌≡◌, ◌<◌, ◌^◌, ⊤, ℕ, List, Option, None, Some, map, codes, string_bytes, unwrap_or, option_map, []}
 use Rattle.std.specs.Str.Parse.{IsNumeral, digits_value, without_leading_plus}
 use Rattle.clap.specs.Words.{App, Row, Text, all_of, first_of, one_of, subcommand_of}
+use Rattle.ladder_words.specs.declared.request.Form.{Form}
+use Rattle.ladder_words.specs.declared.request.Form.TheVariants.{Statement, Table, Terms}
 use Rattle.ladder_words.specs.declared.request.Request.{Request}
 use Rattle.ladder_words.specs.declared.request.Request.TheVariants.{Causes, Check, Groups, Sim, Uses}
 
@@ -22,11 +24,23 @@ HasNumber id rows (Some n) = (text : Text) × (one_of id rows ≡ Some text) × 
 abbrev pub HasFlag : Text → List Row → Type 0
 HasFlag id rows = HasText id rows (codes "true")
 
+-- the form that the flags ask for
+abbrev pub HasForm : Form → List Row → Type 0
+HasForm Table rows = (HasFlag (codes "terms") rows → ⊥) × (HasFlag (codes "st") rows → ⊥)
+HasForm Terms rows = HasFlag (codes "terms") rows × (HasFlag (codes "st") rows → ⊥)
+HasForm Statement rows = (HasFlag (codes "terms") rows → ⊥) × HasFlag (codes "st") rows
+
+-- A statement is written whole or not at all.
+abbrev pub MayHaveLimit : Form → Option ℕ → Type 0
+MayHaveLimit Statement limit = limit ≡ None
+MayHaveLimit form limit = ⊤
+
 -- the request is what the subcommand's name and values say
 abbrev pub Asks : Text → List Row → Request → Type 0
 Asks name rows (Check file) = (name ≡ codes "check") × HasText (codes "file") rows (string_bytes file)
 Asks name rows (Causes state moment after limit file coil inputs) = (name ≡ codes "causes")
     × (HasFlag (codes "grouped") rows → ⊥)
+    × HasForm Table rows
     × HasPath (codes "state") rows (option_map string_bytes state)
     × HasNumber (codes "at") rows moment
     × HasNumber (codes "after") rows after
@@ -34,8 +48,10 @@ Asks name rows (Causes state moment after limit file coil inputs) = (name ≡ co
     × HasText (codes "file") rows (string_bytes file)
     × HasText (codes "coil") rows (string_bytes coil)
     × (unwrap_or (all_of (codes "inputs") rows) [] ≡ map string_bytes inputs.items)
-Asks name rows (Groups state moment limit file coil inputs) = (name ≡ codes "causes")
+Asks name rows (Groups state moment limit form file coil inputs) = (name ≡ codes "causes")
     × HasFlag (codes "grouped") rows
+    × HasForm form rows
+    × MayHaveLimit form limit
     × HasPath (codes "state") rows (option_map string_bytes state)
     × HasNumber (codes "at") rows moment
     × HasNumber (codes "after") rows None

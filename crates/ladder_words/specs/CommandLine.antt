@@ -1,5 +1,5 @@
 -- The command line, as clap's definitions of a simple command read it: `ladder check FILE`,
--- `ladder causes [--state STATE] [--at MS] [--after N] [--limit N] [--grouped] FILE COIL [INPUT]...`,
+-- `ladder causes [--state STATE] [--at MS] [--after N] [--limit N] [--grouped] [--terms] [--st] FILE COIL [INPUT]...`,
 -- `ladder sim [--state STATE] [--save STATE] FILE STIMULUS` and `ladder uses FILE`.
 use Rattle.std.specs.Prelude.{◌≡◌, Some, codes, true, false}
 use Rattle.clap.specs.Words.{App, Rule, Text, app_of, new_app, new_rule, with_rule, with_subcommand}
@@ -39,9 +39,14 @@ causes_options = with_rule (with_rule (with_rule (with_rule (new_app (codes "cau
     (number_rule (codes "after")))
     (number_rule (codes "limit"))
 
-abbrev pub causes_app : App
-causes_app = with_rule (with_rule (with_rule (with_rule causes_options
+abbrev pub causes_forms : App
+causes_forms = with_rule (with_rule (with_rule causes_options
     (flag_rule (codes "grouped")))
+    (flag_rule (codes "terms")))
+    (flag_rule (codes "st"))
+
+abbrev pub causes_app : App
+causes_app = with_rule (with_rule (with_rule causes_forms
     (place_rule (codes "file")))
     (place_rule (codes "coil")))
     (list_rule (codes "inputs"))

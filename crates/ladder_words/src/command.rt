@@ -3,12 +3,12 @@
 ghost use Rattle.std.specs.Prelude.{◌≡◌, IfOk, codes, false};
 ghost use Rattle.clap.specs.Words.{app_of, new_app, rule_of, with_rule, with_subcommand};
 ghost use Rattle.clap.specs.declared.builder.Command.TheViews.{out-Command};
-ghost use Rattle.ladder_words.specs.CommandLine.{IsApp, causes_app, causes_options, file_app, flag_rule, ladder_app, list_rule, needs_subcommand, number_rule, path_rule, place_rule, sim_app};
+ghost use Rattle.ladder_words.specs.CommandLine.{IsApp, causes_app, causes_forms, causes_options, file_app, flag_rule, ladder_app, list_rule, needs_subcommand, number_rule, path_rule, place_rule, sim_app};
 
 use crate::help::{
     AFTER_HELP, AT_HELP, CAUSES_ABOUT, CHECK_ABOUT, COIL_HELP, FAULTS, FILE_HELP, GROUPED_HELP,
-    INPUTS_HELP, LADDER_ABOUT, LIMIT_HELP, SAVE_HELP, SIM_ABOUT, STATE_HELP, STIMULUS_HELP,
-    USES_ABOUT,
+    INPUTS_HELP, LADDER_ABOUT, LIMIT_HELP, SAVE_HELP, SIM_ABOUT, STATE_HELP, STATEMENT_HELP,
+    STIMULUS_HELP, TERMS_HELP, USES_ABOUT,
 };
 use clap::{Arg, ArgAction, Command, value_parser};
 use std::alloc::{AllocError, Global};
@@ -100,11 +100,19 @@ fn causes_options<'a>(alloc: Global) -> Result<Command<'a>, AllocError>
     add(command, number(alloc, "limit", "N", LIMIT_HELP))
 }
 
-fn causes<'a>(alloc: Global) -> Result<Command<'a>, AllocError>
-    ensures { IfOk result (IsApp causes_app) }
+fn causes_forms<'a>(alloc: Global) -> Result<Command<'a>, AllocError>
+    ensures { IfOk result (IsApp causes_forms) }
 {
     let command = causes_options(alloc)?;
     let command = add(command, flag(alloc, "grouped", GROUPED_HELP))?;
+    let command = add(command, flag(alloc, "terms", TERMS_HELP))?;
+    add(command, flag(alloc, "st", STATEMENT_HELP))
+}
+
+fn causes<'a>(alloc: Global) -> Result<Command<'a>, AllocError>
+    ensures { IfOk result (IsApp causes_app) }
+{
+    let command = causes_forms(alloc)?;
     let command = add(command, place(alloc, "file", "FILE", FILE_HELP))?;
     let command = add(command, place(alloc, "coil", "COIL", COIL_HELP))?;
     add(command, list(alloc, "inputs", "INPUT", INPUTS_HELP))

@@ -50,3 +50,9 @@ pub(crate) const LIMIT_HELP: &str = "Lists at most N rows";
 
 pub(crate) const GROUPED_HELP: &str =
     "Lists the causes in groups: how many each has, and - for an input that doesn't matter there; not with --after";
+
+pub(crate) const TERMS_HELP: &str =
+    "With --grouped: writes each group as the inputs that matter, joined by AND, without a header";
+
+pub(crate) const STATEMENT_HELP: &str =
+    "With --grouped: writes the groups as one statement in Structured Text; not with --limit, nor with --terms";

@@ -2,6 +2,17 @@
 
 use thiserror::Error;
 
+/// The form in which groups are written.
+#[derive(Clone, Copy, Debug, PartialEq, Eq)]
+pub enum Form {
+    /// A record for each group, with its number of causes.
+    Table,
+    /// A line for each group: the inputs that matter, joined by `AND`.
+    Terms,
+    /// One statement in Structured Text.
+    Statement,
+}
+
 /// What the arguments ask for.
 #[derive(Drop)]
 pub enum Request {
@@ -35,6 +46,8 @@ pub enum Request {
         moment: Option<u64>,
         /// How many rows are written at most.
         limit: Option<u64>,
+        /// How they are written.
+        form: Form,
         /// The file of the program text.
         file: String,
         /// The name of the coil's variable.

@@ -4,10 +4,10 @@ ghost use Rattle.std.specs.Prelude.{◌≡◌, [], true, false, codes, IfSome, I
 ghost use Rattle.clap.specs.Words.{all_of, first_of, found_of, rows_of, subcommand_rows_of};
 ghost use Rattle.clap.specs.Words.{fault_of as clap_fault};
 ghost use Rattle.ladder_words.specs.CommandLine.{ladder_app};
-ghost use Rattle.ladder_words.specs.Asking.{Asks, AsksBy, HasFlag, HasNumber, HasPath};
+ghost use Rattle.ladder_words.specs.Asking.{Asks, AsksBy, HasFlag, HasForm, HasNumber, HasPath, MayHaveLimit};
 
 use crate::command::ladder;
-use crate::request::{Request, WordFault};
+use crate::request::{Form, Request, WordFault};
 use clap::ArgMatches;
 use clap::error::ErrorKind;
 use std::alloc::Global;
@@ -16,7 +16,8 @@ use std::alloc::Global;
 ///
 /// # Errors
 ///
-/// `Usage` where `clap` finds a fault, or where groups are to begin after a number; `Help` with its text where help is asked for;
+/// `Usage` where `clap` finds a fault, where groups are to begin after a number, where terms or a statement are asked for without
+/// groups, or both of them, or a statement with a limit; `Help` with its text where help is asked for;
 /// `Memory` when out of memory.
 pub fn read_words(alloc: Global, words: Vec<String>) -> Result<Request, WordFault>
     ensures asks { IfOk result (AsksBy ladder_app (map string_bytes words.items)) }
@@ -78,10 +79,15 @@ fn causes_request(alloc: Global, found: &ArgMatches<'_>) -> Result<Request, Word
     let moment = number(found, "at")?;
     let after = number(found, "after")?;
     let limit = number(found, "limit")?;
+    let form = form_of(found)?;
     let file = text(alloc, found, "file")?;
     let coil = text(alloc, found, "coil")?;
     let inputs = texts(alloc, found, "inputs")?;
     if !is_set(found, "grouped") {
+        // Terms and statements are of groups.
+        if form != Form::Table {
+            return Err(WordFault::Usage);
+        }
         return Ok(Request::Causes {
             state,
             moment,
@@ -92,18 +98,41 @@ fn causes_request(alloc: Global, found: &ArgMatches<'_>) -> Result<Request, Word
             inputs,
         });
     }
-    // A group has no number, so there is none to begin after.
-    if after.is_some() {
+    // A group has no number, so there is none to begin after; and a statement that is cut off says something else.
+    if after.is_some() || is_cut(form, limit) {
         return Err(WordFault::Usage);
     }
     Ok(Request::Groups {
         state,
         moment,
         limit,
+        form,
         file,
         coil,
         inputs,
     })
+}
+
+/// Whether a statement is to end after so many groups.
+fn is_cut(form: Form, limit: Option<u64>) -> bool
+    ensures { result ≡ false → MayHaveLimit form limit }
+{
+    match form {
+        Form::Statement => limit.is_some(),
+        Form::Table | Form::Terms => false,
+    }
+}
+
+/// The form that the flags ask for.
+fn form_of(found: &ArgMatches<'_>) -> Result<Form, WordFault>
+    ensures { IfOk result (λ f. HasForm f (rows_of (found_of found.now))) }
+{
+    match (is_set(found, "terms"), is_set(found, "st")) {
+        (false, false) => Ok(Form::Table),
+        (true, false) => Ok(Form::Terms),
+        (false, true) => Ok(Form::Statement),
+        (true, true) => Err(WordFault::Usage),
+    }
 }
 
 fn sim_request(alloc: Global, found: &ArgMatches<'_>) -> Result<Request, WordFault>

@@ -60,7 +60,7 @@ returns-in_default-clause-failed g c = λ save status.
         question = q;
         asked = asked_by (given_by c.args.texts.now) a s.program s.state c.decls-decls.result.now c.moment-2.result asked.asked.coil asked.asked.inputs.items c.deref.result.now c.in-Ok.ensures.set c.decls-decls.ensures c.deref.ensures.value at asked.ensures.coil asked.ensures.inputs;
         accepted = ap (refusal q) c.requires.all ∙ made.accepted;
-        rows = prefix_same _ _ _ _ (groups_are a q c.in-Ok-new.cursor made.program made.listed made.rows) c.in_default.ensures.bytes;
+        rows = prefix_same _ _ _ _ (groups_are a q _ _ c.form_of.ensures c.in-Ok-new.cursor made.program made.listed made.rows) c.in_default.ensures.bytes;
       },
       c.report-in_default.ensures.line,
     )))
@@ -79,7 +79,7 @@ returns-in_default-put_counts-clause-failed g c = λ save status.
         question = q;
         asked = asked_by (given_by c.args.texts.now) a s.program s.state c.decls-decls.result.now c.moment-2.result asked.asked.coil asked.asked.inputs.items c.deref.result.now c.in-Ok.ensures.set c.decls-decls.ensures c.deref.ensures.value at asked.ensures.coil asked.ensures.inputs;
         accepted = ap (refusal q) c.requires.all ∙ made.accepted;
-        rows = all_same _ _ _ _ (groups_are a q c.in-Ok-new.cursor made.program made.listed made.rows) w.ensures.bytes;
+        rows = all_same _ _ _ _ (groups_are a q _ _ c.form_of.ensures c.in-Ok-new.cursor made.program made.listed made.rows) w.ensures.bytes;
       };
       count = prefix_same _ _ _ _ (counts_are a q c.in-Ok-new.cursor made.rows w.summary.rows w.summary.causes w.ensures.rows w.ensures.causes) c.in_default-put_counts.ensures;
     }))
@@ -98,7 +98,7 @@ returns-clause-done g c = λ status.
         question = q;
         asked = asked_by (given_by c.args.texts.now) a s.program s.state c.decls-decls.result.now c.moment-2.result asked.asked.coil asked.asked.inputs.items c.deref.result.now c.in-Ok.ensures.set c.decls-decls.ensures c.deref.ensures.value at asked.ensures.coil asked.ensures.inputs;
         accepted = ap (refusal q) c.requires.all ∙ made.accepted;
-        rows = all_same _ _ _ _ (groups_are a q c.in-Ok-new.cursor made.program made.listed made.rows) w.ensures.bytes;
+        rows = all_same _ _ _ _ (groups_are a q _ _ c.form_of.ensures c.in-Ok-new.cursor made.program made.listed made.rows) w.ensures.bytes;
       };
       count = all_same _ _ _ _ (counts_are a q c.in-Ok-new.cursor made.rows w.summary.rows w.summary.causes w.ensures.rows w.ensures.causes) c.in-Ok-put_counts.ensures;
     }
