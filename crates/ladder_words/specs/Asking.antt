@@ -1,9 +1,12 @@
 -- What a request asks, by the subcommand and the values of its arguments.
-use Rattle.std.specs.Prelude.{◌≡◌, ◌<◌, ◌^◌, ⊤, ℕ, List, Option, None, Some, map, codes, string_bytes, unwrap_or, option_map, []}
+use Rattle.std.specs.Prelude.{◌≡◌, ◌⊎◌, ◌<◌, ◌^◌, ⊤, ℕ, List, Option, None, Some, map, codes, string_bytes, unwrap_or, option_map, []}
 use Rattle.std.specs.Str.Parse.{IsNumeral, digits_value, without_leading_plus}
 use Rattle.clap.specs.Words.{App, Row, Text, all_of, first_of, one_of, subcommand_of}
 use Rattle.ladder_words.specs.declared.request.Form.{Form}
 use Rattle.ladder_words.specs.declared.request.Form.TheVariants.{Statement, Table, Terms}
+use Rattle.ladder_words.specs.declared.request.Grouping.{Grouping}
+use Rattle.ladder_words.specs.declared.request.InputOrder.{InputOrder}
+use Rattle.ladder_words.specs.declared.request.InputOrder.TheVariants.{Given, Sifted}
 use Rattle.ladder_words.specs.declared.request.Request.{Request}
 use Rattle.ladder_words.specs.declared.request.Request.TheVariants.{Causes, Check, Groups, Sim, Uses}
 
@@ -30,6 +33,16 @@ HasForm Table rows = (HasFlag (codes "terms") rows → ⊥) × (HasFlag (codes "
 HasForm Terms rows = HasFlag (codes "terms") rows × (HasFlag (codes "st") rows → ⊥)
 HasForm Statement rows = (HasFlag (codes "terms") rows → ⊥) × HasFlag (codes "st") rows
 
+-- how an order is named
+abbrev pub IsNamed : List ℕ → InputOrder → Type 0
+IsNamed name Given = name ≡ codes "given"
+IsNamed name Sifted = name ≡ codes "auto"
+
+-- the order of the inputs that is asked for: as they are listed where no word says otherwise
+abbrev pub HasOrder : InputOrder → List Row → Type 0
+HasOrder order rows = ((first_of (codes "order") rows ≡ None) × (order ≡ Given))
+    ⊎ (name : List ℕ) × HasText (codes "order") rows name × IsNamed name order
+
 -- A statement is written whole or not at all.
 abbrev pub MayHaveLimit : Form → Option ℕ → Type 0
 MayHaveLimit Statement limit = limit ≡ None
@@ -41,6 +54,7 @@ Asks name rows (Check file) = (name ≡ codes "check") × HasText (codes "file")
 Asks name rows (Causes state moment after limit file coil inputs) = (name ≡ codes "causes")
     × (HasFlag (codes "grouped") rows → ⊥)
     × HasForm Table rows
+    × HasOrder Given rows
     × HasPath (codes "state") rows (option_map string_bytes state)
     × HasNumber (codes "at") rows moment
     × HasNumber (codes "after") rows after
@@ -48,10 +62,11 @@ Asks name rows (Causes state moment after limit file coil inputs) = (name ≡ co
     × HasText (codes "file") rows (string_bytes file)
     × HasText (codes "coil") rows (string_bytes coil)
     × (unwrap_or (all_of (codes "inputs") rows) [] ≡ map string_bytes inputs.items)
-Asks name rows (Groups state moment limit form file coil inputs) = (name ≡ codes "causes")
+Asks name rows (Groups state moment limit grouping file coil inputs) = (name ≡ codes "causes")
     × HasFlag (codes "grouped") rows
-    × HasForm form rows
-    × MayHaveLimit form limit
+    × HasForm grouping.form rows
+    × HasOrder grouping.order rows
+    × MayHaveLimit grouping.form limit
     × HasPath (codes "state") rows (option_map string_bytes state)
     × HasNumber (codes "at") rows moment
     × HasNumber (codes "after") rows None

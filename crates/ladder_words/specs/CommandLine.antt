@@ -12,9 +12,9 @@ use Rattle.clap.specs.declared.builder.value_parser.ValueParser.TheVariants.{Uns
 abbrev pub place_rule : Text → Rule
 place_rule id = record (new_rule id) { required = true; value_names = 1 }
 
--- an option with the path of a file
-abbrev pub path_rule : Text → Rule
-path_rule id = record (new_rule id) { long = Some id; value_names = 1 }
+-- an option with a text
+abbrev pub text_rule : Text → Rule
+text_rule id = record (new_rule id) { long = Some id; value_names = 1 }
 
 -- an option with a number of 64 bits
 abbrev pub number_rule : Text → Rule
@@ -34,16 +34,17 @@ file_app name = with_rule (new_app name) (place_rule (codes "file"))
 
 abbrev pub causes_options : App
 causes_options = with_rule (with_rule (with_rule (with_rule (new_app (codes "causes"))
-    (path_rule (codes "state")))
+    (text_rule (codes "state")))
     (number_rule (codes "at")))
     (number_rule (codes "after")))
     (number_rule (codes "limit"))
 
 abbrev pub causes_forms : App
-causes_forms = with_rule (with_rule (with_rule causes_options
+causes_forms = with_rule (with_rule (with_rule (with_rule causes_options
     (flag_rule (codes "grouped")))
     (flag_rule (codes "terms")))
-    (flag_rule (codes "st"))
+    (flag_rule (codes "st")))
+    (text_rule (codes "order"))
 
 abbrev pub causes_app : App
 causes_app = with_rule (with_rule (with_rule causes_forms
@@ -53,8 +54,8 @@ causes_app = with_rule (with_rule (with_rule causes_forms
 
 abbrev pub sim_app : App
 sim_app = with_rule (with_rule (with_rule (with_rule (new_app (codes "sim"))
-    (path_rule (codes "state")))
-    (path_rule (codes "save")))
+    (text_rule (codes "state")))
+    (text_rule (codes "save")))
     (place_rule (codes "file")))
     (place_rule (codes "stimulus"))
 

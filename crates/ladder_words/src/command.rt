@@ -3,12 +3,12 @@
 ghost use Rattle.std.specs.Prelude.{◌≡◌, IfOk, codes, false};
 ghost use Rattle.clap.specs.Words.{app_of, new_app, rule_of, with_rule, with_subcommand};
 ghost use Rattle.clap.specs.declared.builder.Command.TheViews.{out-Command};
-ghost use Rattle.ladder_words.specs.CommandLine.{IsApp, causes_app, causes_forms, causes_options, file_app, flag_rule, ladder_app, list_rule, needs_subcommand, number_rule, path_rule, place_rule, sim_app};
+ghost use Rattle.ladder_words.specs.CommandLine.{IsApp, causes_app, causes_forms, causes_options, file_app, flag_rule, ladder_app, list_rule, needs_subcommand, number_rule, text_rule, place_rule, sim_app};
 
 use crate::help::{
     AFTER_HELP, AT_HELP, CAUSES_ABOUT, CHECK_ABOUT, COIL_HELP, FAULTS, FILE_HELP, GROUPED_HELP,
-    INPUTS_HELP, LADDER_ABOUT, LIMIT_HELP, SAVE_HELP, SIM_ABOUT, STATE_HELP, STATEMENT_HELP,
-    STIMULUS_HELP, TERMS_HELP, USES_ABOUT,
+    INPUTS_HELP, LADDER_ABOUT, LIMIT_HELP, ORDER_HELP, SAVE_HELP, SIM_ABOUT, STATE_HELP,
+    STATEMENT_HELP, STIMULUS_HELP, TERMS_HELP, USES_ABOUT,
 };
 use clap::{Arg, ArgAction, Command, value_parser};
 use std::alloc::{AllocError, Global};
@@ -24,9 +24,9 @@ fn place<'a>(alloc: Global, id: &'a str, name: &'a str, help: &'a str) -> Arg<'a
         .help(help)
 }
 
-/// An option with the path of a file.
-fn path<'a>(alloc: Global, id: &'a str, name: &'a str, help: &'a str) -> Arg<'a>
-    ensures rule { rule_of result ≡ path_rule id.entry.now }
+/// An option with a text.
+fn option<'a>(alloc: Global, id: &'a str, name: &'a str, help: &'a str) -> Arg<'a>
+    ensures rule { rule_of result ≡ text_rule id.entry.now }
     ensures global { result.global ≡ false }
 {
     Arg::new(alloc, id).long(id).value_name(name).help(help)
@@ -94,7 +94,7 @@ fn causes_options<'a>(alloc: Global) -> Result<Command<'a>, AllocError>
     ensures { IfOk result (IsApp causes_options) }
 {
     let command = new(alloc, "causes", CAUSES_ABOUT);
-    let command = add(command, path(alloc, "state", "STATE", STATE_HELP))?;
+    let command = add(command, option(alloc, "state", "STATE", STATE_HELP))?;
     let command = add(command, number(alloc, "at", "MS", AT_HELP))?;
     let command = add(command, number(alloc, "after", "N", AFTER_HELP))?;
     add(command, number(alloc, "limit", "N", LIMIT_HELP))
@@ -106,7 +106,8 @@ fn causes_forms<'a>(alloc: Global) -> Result<Command<'a>, AllocError>
     let command = causes_options(alloc)?;
     let command = add(command, flag(alloc, "grouped", GROUPED_HELP))?;
     let command = add(command, flag(alloc, "terms", TERMS_HELP))?;
-    add(command, flag(alloc, "st", STATEMENT_HELP))
+    let command = add(command, flag(alloc, "st", STATEMENT_HELP))?;
+    add(command, option(alloc, "order", "ORDER", ORDER_HELP))
 }
 
 fn causes<'a>(alloc: Global) -> Result<Command<'a>, AllocError>
@@ -122,8 +123,8 @@ fn sim<'a>(alloc: Global) -> Result<Command<'a>, AllocError>
     ensures { IfOk result (IsApp sim_app) }
 {
     let command = new(alloc, "sim", SIM_ABOUT);
-    let command = add(command, path(alloc, "state", "STATE", STATE_HELP))?;
-    let command = add(command, path(alloc, "save", "STATE", SAVE_HELP))?;
+    let command = add(command, option(alloc, "state", "STATE", STATE_HELP))?;
+    let command = add(command, option(alloc, "save", "STATE", SAVE_HELP))?;
     let command = add(command, place(alloc, "file", "FILE", FILE_HELP))?;
     add(command, place(alloc, "stimulus", "STIMULUS", STIMULUS_HELP))
 }

@@ -56,3 +56,6 @@ pub(crate) const TERMS_HELP: &str =
 
 pub(crate) const STATEMENT_HELP: &str =
     "With --grouped: writes the groups as one statement in Structured Text; not with --limit, nor with --terms";
+
+pub(crate) const ORDER_HELP: &str =
+    "With --grouped: `auto` looks for an order of the inputs with fewer groups, `given` keeps that of the list (as without it)";

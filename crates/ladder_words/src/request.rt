@@ -13,6 +13,24 @@ pub enum Form {
     Statement,
 }
 
+/// The order in which the listed inputs are looked at.
+#[derive(Clone, Copy, Debug, PartialEq, Eq)]
+pub enum InputOrder {
+    /// That of the list.
+    Given,
+    /// The one that sifting leaves, in which there are fewer groups or as many.
+    Sifted,
+}
+
+/// How causes are grouped.
+#[derive(Clone, Copy, Debug, PartialEq, Eq)]
+pub struct Grouping {
+    /// How the groups are written.
+    pub form: Form,
+    /// By which order of the inputs they are.
+    pub order: InputOrder,
+}
+
 /// What the arguments ask for.
 #[derive(Drop)]
 pub enum Request {
@@ -46,8 +64,8 @@ pub enum Request {
         moment: Option<u64>,
         /// How many rows are written at most.
         limit: Option<u64>,
-        /// How they are written.
-        form: Form,
+        /// Which groups, and how they are written.
+        grouping: Grouping,
         /// The file of the program text.
         file: String,
         /// The name of the coil's variable.

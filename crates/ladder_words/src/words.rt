@@ -4,10 +4,10 @@ ghost use Rattle.std.specs.Prelude.{◌≡◌, [], true, false, codes, IfSome, I
 ghost use Rattle.clap.specs.Words.{all_of, first_of, found_of, rows_of, subcommand_rows_of};
 ghost use Rattle.clap.specs.Words.{fault_of as clap_fault};
 ghost use Rattle.ladder_words.specs.CommandLine.{ladder_app};
-ghost use Rattle.ladder_words.specs.Asking.{Asks, AsksBy, HasFlag, HasForm, HasNumber, HasPath, MayHaveLimit};
+ghost use Rattle.ladder_words.specs.Asking.{Asks, AsksBy, HasFlag, HasForm, HasNumber, HasOrder, HasPath, IsNamed, MayHaveLimit};
 
 use crate::command::ladder;
-use crate::request::{Form, Request, WordFault};
+use crate::request::{Form, Grouping, InputOrder, Request, WordFault};
 use clap::ArgMatches;
 use clap::error::ErrorKind;
 use std::alloc::Global;
@@ -16,8 +16,8 @@ use std::alloc::Global;
 ///
 /// # Errors
 ///
-/// `Usage` where `clap` finds a fault, where groups are to begin after a number, where terms or a statement are asked for without
-/// groups, or both of them, or a statement with a limit; `Help` with its text where help is asked for;
+/// `Usage` where `clap` finds a fault, where groups are to begin after a number, where a form or an order is asked for without groups,
+/// or both forms, or a statement with a limit, or an order that has another name; `Help` with its text where help is asked for;
 /// `Memory` when out of memory.
 pub fn read_words(alloc: Global, words: Vec<String>) -> Result<Request, WordFault>
     ensures asks { IfOk result (AsksBy ladder_app (map string_bytes words.items)) }
@@ -75,38 +75,60 @@ fn request_of(alloc: Global, name: &str, found: &ArgMatches<'_>) -> Result<Reque
 fn causes_request(alloc: Global, found: &ArgMatches<'_>) -> Result<Request, WordFault>
     ensures { IfOk result (Asks (codes "causes") (rows_of (found_of found.now))) }
 {
+    if is_set(found, "grouped") {
+        return groups_request(alloc, found);
+    }
+    list_request(alloc, found)
+}
+
+fn list_request(alloc: Global, found: &ArgMatches<'_>) -> Result<Request, WordFault>
+    requires { HasFlag (codes "grouped") (rows_of (found_of found.now)) → ⊥ }
+    ensures { IfOk result (Asks (codes "causes") (rows_of (found_of found.now))) }
+{
+    // A form and an order are those of groups.
+    if form_of(found)? != Form::Table || order_of(found)? != InputOrder::Given {
+        return Err(WordFault::Usage);
+    }
     let state = path(alloc, found, "state")?;
     let moment = number(found, "at")?;
     let after = number(found, "after")?;
     let limit = number(found, "limit")?;
-    let form = form_of(found)?;
     let file = text(alloc, found, "file")?;
     let coil = text(alloc, found, "coil")?;
     let inputs = texts(alloc, found, "inputs")?;
-    if !is_set(found, "grouped") {
-        // Terms and statements are of groups.
-        if form != Form::Table {
-            return Err(WordFault::Usage);
-        }
-        return Ok(Request::Causes {
-            state,
-            moment,
-            after,
-            limit,
-            file,
-            coil,
-            inputs,
-        });
-    }
+    Ok(Request::Causes {
+        state,
+        moment,
+        after,
+        limit,
+        file,
+        coil,
+        inputs,
+    })
+}
+
+fn groups_request(alloc: Global, found: &ArgMatches<'_>) -> Result<Request, WordFault>
+    requires { HasFlag (codes "grouped") (rows_of (found_of found.now)) }
+    ensures { IfOk result (Asks (codes "causes") (rows_of (found_of found.now))) }
+{
+    let form = form_of(found)?;
+    let order = order_of(found)?;
+    let limit = number(found, "limit")?;
+    let after = number(found, "after")?;
     // A group has no number, so there is none to begin after; and a statement that is cut off says something else.
     if after.is_some() || is_cut(form, limit) {
         return Err(WordFault::Usage);
     }
+    let state = path(alloc, found, "state")?;
+    let moment = number(found, "at")?;
+    let file = text(alloc, found, "file")?;
+    let coil = text(alloc, found, "coil")?;
+    let inputs = texts(alloc, found, "inputs")?;
     Ok(Request::Groups {
         state,
         moment,
         limit,
-        form,
+        grouping: Grouping { form, order },
         file,
         coil,
         inputs,
@@ -132,6 +154,27 @@ fn form_of(found: &ArgMatches<'_>) -> Result<Form, WordFault>
         (true, false) => Ok(Form::Terms),
         (false, true) => Ok(Form::Statement),
         (true, true) => Err(WordFault::Usage),
+    }
+}
+
+/// The order of the inputs that an option asks for.
+fn order_of(found: &ArgMatches<'_>) -> Result<InputOrder, WordFault>
+    ensures { IfOk result (λ o. HasOrder o (rows_of (found_of found.now))) }
+{
+    match found.get_str("order") {
+        None => Ok(InputOrder::Given),
+        Some(text) => order_named(text),
+    }
+}
+
+/// The order with this name.
+fn order_named(name: &str) -> Result<InputOrder, WordFault>
+    ensures { IfOk result (IsNamed name.now) }
+{
+    match name {
+        "given" => Ok(InputOrder::Given),
+        "auto" => Ok(InputOrder::Sifted),
+        _ => Err(WordFault::Usage),
     }
 }
 
