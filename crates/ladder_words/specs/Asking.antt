@@ -30,6 +30,11 @@ HasForm Table rows = (HasFlag (codes "terms") rows → ⊥) × (HasFlag (codes "
 HasForm Terms rows = HasFlag (codes "terms") rows × (HasFlag (codes "st") rows → ⊥)
 HasForm Statement rows = (HasFlag (codes "terms") rows → ⊥) × HasFlag (codes "st") rows
 
+-- whether groups are asked for, and in which form; a form without groups is none
+abbrev pub HasGroups : Option Form → List Row → Type 0
+HasGroups None rows = (HasFlag (codes "grouped") rows → ⊥) × HasForm Table rows
+HasGroups (Some form) rows = HasFlag (codes "grouped") rows × HasForm form rows
+
 -- A statement is written whole or not at all.
 abbrev pub MayHaveLimit : Form → Option ℕ → Type 0
 MayHaveLimit Statement limit = limit ≡ None
@@ -39,8 +44,7 @@ MayHaveLimit form limit = ⊤
 abbrev pub Asks : Text → List Row → Request → Type 0
 Asks name rows (Check file) = (name ≡ codes "check") × HasText (codes "file") rows (string_bytes file)
 Asks name rows (Causes state moment after limit file coil inputs) = (name ≡ codes "causes")
-    × (HasFlag (codes "grouped") rows → ⊥)
-    × HasForm Table rows
+    × HasGroups None rows
     × HasPath (codes "state") rows (option_map string_bytes state)
     × HasNumber (codes "at") rows moment
     × HasNumber (codes "after") rows after
@@ -49,8 +53,7 @@ Asks name rows (Causes state moment after limit file coil inputs) = (name ≡ co
     × HasText (codes "coil") rows (string_bytes coil)
     × (unwrap_or (all_of (codes "inputs") rows) [] ≡ map string_bytes inputs.items)
 Asks name rows (Groups state moment limit form file coil inputs) = (name ≡ codes "causes")
-    × HasFlag (codes "grouped") rows
-    × HasForm form rows
+    × HasGroups (Some form) rows
     × MayHaveLimit form limit
     × HasPath (codes "state") rows (option_map string_bytes state)
     × HasNumber (codes "at") rows moment

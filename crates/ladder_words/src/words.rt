@@ -4,7 +4,7 @@ ghost use Rattle.std.specs.Prelude.{◌≡◌, [], true, false, codes, IfSome, I
 ghost use Rattle.clap.specs.Words.{all_of, first_of, found_of, rows_of, subcommand_rows_of};
 ghost use Rattle.clap.specs.Words.{fault_of as clap_fault};
 ghost use Rattle.ladder_words.specs.CommandLine.{ladder_app};
-ghost use Rattle.ladder_words.specs.Asking.{Asks, AsksBy, HasFlag, HasForm, HasNumber, HasPath, MayHaveLimit};
+ghost use Rattle.ladder_words.specs.Asking.{Asks, AsksBy, HasFlag, HasForm, HasGroups, HasNumber, HasPath, MayHaveLimit};
 
 use crate::command::ladder;
 use crate::request::{Form, Request, WordFault};
@@ -79,16 +79,11 @@ fn causes_request(alloc: Global, found: &ArgMatches<'_>) -> Result<Request, Word
     let moment = number(found, "at")?;
     let after = number(found, "after")?;
     let limit = number(found, "limit")?;
-    let form = form_of(found)?;
     let file = text(alloc, found, "file")?;
     let coil = text(alloc, found, "coil")?;
     let inputs = texts(alloc, found, "inputs")?;
-    if !is_set(found, "grouped") {
-        // Terms and statements are of groups.
-        if form != Form::Table {
-            return Err(WordFault::Usage);
-        }
-        return Ok(Request::Causes {
+    match groups_of(found)? {
+        None => Ok(Request::Causes {
             state,
             moment,
             after,
@@ -96,21 +91,33 @@ fn causes_request(alloc: Global, found: &ArgMatches<'_>) -> Result<Request, Word
             file,
             coil,
             inputs,
-        });
+        }),
+        // A group has no number, so there is none to begin after; and a statement that is cut off says something else.
+        Some(form) if after.is_none() && !is_cut(form, limit) => Ok(Request::Groups {
+            state,
+            moment,
+            limit,
+            form,
+            file,
+            coil,
+            inputs,
+        }),
+        Some(_) => Err(WordFault::Usage),
     }
-    // A group has no number, so there is none to begin after; and a statement that is cut off says something else.
-    if after.is_some() || is_cut(form, limit) {
-        return Err(WordFault::Usage);
+}
+
+/// The form of the groups that are asked for, if any are. Terms and statements are of groups.
+fn groups_of(found: &ArgMatches<'_>) -> Result<Option<Form>, WordFault>
+    ensures { IfOk result (λ o. HasGroups o (rows_of (found_of found.now))) }
+{
+    let form = form_of(found)?;
+    if is_set(found, "grouped") {
+        return Ok(Some(form));
     }
-    Ok(Request::Groups {
-        state,
-        moment,
-        limit,
-        form,
-        file,
-        coil,
-        inputs,
-    })
+    match form {
+        Form::Table => Ok(None),
+        Form::Terms | Form::Statement => Err(WordFault::Usage),
+    }
 }
 
 /// Whether a statement is to end after so many groups.
