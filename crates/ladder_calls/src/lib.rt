@@ -9,6 +9,8 @@ mod declarations;
 mod drawings;
 pub mod memory;
 #[cfg(test)]
+mod order;
+#[cfg(test)]
 mod runs;
 #[cfg(test)]
 mod scans;

@@ -13,3 +13,4 @@ pub mod Carrying
 pub mod Fewest
 pub mod Counting
 pub mod Sifting
+pub mod Assigning

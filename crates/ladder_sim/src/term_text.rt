@@ -102,7 +102,13 @@ pub(crate) fn add_term<W: Sink>(
         let place = listed.len() - (index + 1);
         if !is_dash(group, place) {
             let name = name_bytes(decls, listed[index]);
-            add_literal(block, before(brackets, begun), name, is_on(group, place), writer)?;
+            add_literal(
+                block,
+                before(brackets, begun),
+                name,
+                is_on(group, place),
+                writer,
+            )?;
             begun = true;
         }
     }

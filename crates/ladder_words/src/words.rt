@@ -114,24 +114,18 @@ fn groups_request(alloc: Global, found: &ArgMatches<'_>) -> Result<Request, Word
     let form = form_of(found)?;
     let order = order_of(found)?;
     let limit = number(found, "limit")?;
-    let after = number(found, "after")?;
     // A group has no number, so there is none to begin after; and a statement that is cut off says something else.
-    if after.is_some() || is_cut(form, limit) {
+    if number(found, "after")?.is_some() || is_cut(form, limit) {
         return Err(WordFault::Usage);
     }
-    let state = path(alloc, found, "state")?;
-    let moment = number(found, "at")?;
-    let file = text(alloc, found, "file")?;
-    let coil = text(alloc, found, "coil")?;
-    let inputs = texts(alloc, found, "inputs")?;
     Ok(Request::Groups {
-        state,
-        moment,
+        state: path(alloc, found, "state")?,
+        moment: number(found, "at")?,
         limit,
         grouping: Grouping { form, order },
-        file,
-        coil,
-        inputs,
+        file: text(alloc, found, "file")?,
+        coil: text(alloc, found, "coil")?,
+        inputs: texts(alloc, found, "inputs")?,
     })
 }
 

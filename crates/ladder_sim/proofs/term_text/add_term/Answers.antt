@@ -1,8 +1,6 @@
-use Rattle.std.proofs.Common.{◌∙◌, ◌+◌, ◌-◌, ℕ, List, ap, arith, false, length, map, refl, slice_get, sym}
-use Rattle.ladder_groups.specs.Groups.{cells}
+use Rattle.std.proofs.Common.{◌∙◌, ◌+◌, ◌-◌, ℕ, List, arith, length, refl, slice_get, sym}
 use Rattle.ladder_sim.specs.Rows.{name_in}
-use Rattle.ladder_sim.specs.TermParts.{term_left}
-use Rattle.ladder_sim.proofs.TermLaws.{said, said_all, said_bit, said_dash, said_none, term_all, term_cut, term_more, term_none, term_same}
+use Rattle.ladder_sim.proofs.TermLaws.{said_all, said_bit, said_dash, said_none, term_all, term_cut, term_more, term_none, term_same}
 use Rattle.ladder_text.proofs.Sending.{sends_err, sends_last}
 use Rattle.ladder_sim.proofs.term_text.add_term.Goals as goal
 use Rattle.ladder_sim.proofs.term_text.add_term.Goals.{then-not-is_dash+in_ok-add_literal, else-not-is_dash}
@@ -27,15 +25,15 @@ loop-index-preserved g c =
     let f : ℕ → List ℕ = λ v. name_in (slice_get c.args.decls.now.vars v) in
     let m = length c.args.listed.now - (c.loop-index.index + 1) in
     elim c.if-not-is_dash.branch [
-    | then-not-is_dash+in_ok-add_literal w ↦ rw (w.block-is, w.writer-is, w.begun-is)
-        (term_more _ _ _ _ _ _ c.args.brackets c.loop-index.begun _ _ _ _
-        (said_bit f c.args.listed.now c.args.group c.loop-index.index m 0 c.loop-index-test.true refl (sym c.is_dash.ensures ∙ w.if-not-is_dash.true))
-        c.loop-index.invariant
-        (rw (w.before-then-not-is_dash.ensures, w.is_on.ensures, w.name_bytes-name.ensures) at w.in_ok-add_literal.ensures))
-    | else-not-is_dash w ↦ rw (w.block-is, w.writer-is, w.begun-is)
-        (term_same _ _ _ _ c.args.brackets c.loop-index.begun _ _ _
-        (said_dash f c.args.listed.now c.args.group c.loop-index.index m 0 c.loop-index-test.true refl (sym c.is_dash.ensures ∙ w.if-not-is_dash.false))
-        c.loop-index.invariant)
+      | then-not-is_dash+in_ok-add_literal w ↦ rw (w.block-is, w.writer-is, w.begun-is)
+          (term_more _ _ _ _ _ _ c.args.brackets c.loop-index.begun _ _ _ _
+          (said_bit f c.args.listed.now c.args.group c.loop-index.index m 0 c.loop-index-test.true refl (sym c.is_dash.ensures ∙ w.if-not-is_dash.true))
+          c.loop-index.invariant
+          (rw (w.before-then-not-is_dash.ensures, w.is_on.ensures, w.name_bytes-name.ensures) at w.in_ok-add_literal.ensures))
+      | else-not-is_dash w ↦ rw (w.block-is, w.writer-is, w.begun-is)
+          (term_same _ _ _ _ c.args.brackets c.loop-index.begun _ _ _
+          (said_dash f c.args.listed.now c.args.group c.loop-index.index m 0 c.loop-index-test.true refl (sym c.is_dash.ensures ∙ w.if-not-is_dash.false))
+          c.loop-index.invariant)
     ]
 
 pub returns : goal.returns
