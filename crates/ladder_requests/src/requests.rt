@@ -2,7 +2,7 @@
 
 use ladder_calls::memory::{ENDS, End, with_room};
 use ladder_tool::{Texts, perform};
-use ladder_words::{Form, Request};
+use ladder_words::{Form, Grouping, InputOrder, Request};
 use std::alloc::{AllocError, Global};
 
 const MOTOR: &[u8] =
@@ -99,7 +99,10 @@ pub(crate) fn request(alloc: Global, asked: Asked) -> Result<Request, AllocError
             state: None,
             moment: None,
             limit: None,
-            form: Form::Table,
+            grouping: Grouping {
+                form: Form::Table,
+                order: InputOrder::Given,
+            },
             file,
             coil: String::from_str(alloc, "Motor")?,
             inputs: listed(alloc)?,

@@ -61,13 +61,13 @@ module _ (a : Asking) (q : Question) (c : Cursor) (of_program : c.program ≡ q.
       ap (λ n. rows_line n looks) (h ∙ ap (λ xs. length (limited a.limit xs)) made) ∙ ap (rows_line (length (causes_for a q))) (l ∙ looks_are search none)
 
 -- What a cursor over groups has to give, in a form, is what is asked.
-pub groups_are : (a : Asking) (q : Question) (form asked : GroupForm) → form ≡ asked → (c : GroupCursor) → c.program ≡ q.program → c.listed ≡ q.listed
-    → rows_left c ≡ rows (is_cause q) (length q.listed) 0 → form_text form c.program c.listed (limited a.limit (rows_left c)) ≡ form_text asked q.program q.listed (rows_for a q)
-groups_are a q form asked same c of_program of_listed made =
+pub groups_are : (a : Asking) (p : Drawing) (q : Question) (form asked : GroupForm) → form ≡ asked → (c : GroupCursor) → c.program ≡ p → c.listed ≡ q.listed
+    → rows_left c ≡ rows (is_cause q) (length q.listed) 0 → form_text form c.program c.listed (limited a.limit (rows_left c)) ≡ form_text asked p q.listed (rows_for a q)
+groups_are a p q form asked same c of_program of_listed made =
     ap (λ (f : GroupForm). form_text f c.program c.listed (limited a.limit (rows_left c))) same
     ∙ ap (λ (d : Drawing). form_text asked d c.listed (limited a.limit (rows_left c))) of_program
-    ∙ ap (λ g. form_text asked q.program g (limited a.limit (rows_left c))) of_listed
-    ∙ ap (λ rs. form_text asked q.program q.listed (limited a.limit rs)) made
+    ∙ ap (λ g. form_text asked p g (limited a.limit (rows_left c))) of_listed
+    ∙ ap (λ rs. form_text asked p q.listed (limited a.limit rs)) made
 
 -- the line of rows and causes
 pub counts_are : (a : Asking) (q : Question) (c : GroupCursor) → rows_left c ≡ rows (is_cause q) (length q.listed) 0 → (many causes : ℕ)

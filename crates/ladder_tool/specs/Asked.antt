@@ -2,7 +2,10 @@
 use Rattle.std.specs.Prelude.{ℕ, List, map, string_bytes}
 use Rattle.ladder_grid.specs.Program.{Drawing}
 use Rattle.ladder_uses.specs.Uses.{uses_text}
+use Rattle.ladder_causes.specs.Causes.{Question, question}
 use Rattle.ladder_tool.specs.declared.listing.Asking.{Asking}
+use Rattle.ladder_tool.specs.declared.setting.Setting.{Setting}
+use Rattle.ladder_tool.specs.declared.variables.CauseVariables.{CauseVariables}
 use Rattle.ladder_tool.specs.declared.printing.About.{About}
 use Rattle.ladder_tool.specs.declared.printing.About.TheVariants.{Counts, Uses}
 use Rattle.ladder_tool.specs.Performs as performs
@@ -10,6 +13,10 @@ use Rattle.ladder_tool.specs.Performs as performs
 abbrev pub about_text : About → Drawing → List ℕ
 about_text Counts = performs.check_line
 about_text Uses = uses_text
+
+-- the question about the variables that are named, at this moment
+abbrev pub question_of : Setting → ℕ → CauseVariables → Question
+question_of s now v = question s.program s.state now v.coil v.inputs.items
 
 abbrev pub asking_of : Asking → performs.Asking
 asking_of a = record { moment = a.moment; after = a.after; limit = a.limit; coil = a.coil.now; inputs = map string_bytes a.inputs.now }

@@ -8,6 +8,7 @@ use Rattle.ladder_causes.specs.declared.fault.CauseFault.TheVariants as cause
 use Rattle.ladder_causes.specs.Causes.{Question, causes_after, is_cause}
 use Rattle.ladder_causes.specs.Cursor.{first_number, looks_given}
 use Rattle.ladder_causes.specs.GroupCursor.{causes_in}
+use Rattle.ladder_causes.specs.Order.{in_order, sifted}
 use Rattle.ladder_causes.specs.Prefixes.{search_of}
 use Rattle.ladder_causes.specs.Refusal.{refusal}
 use Rattle.ladder_groups.specs.Groups.{Row}
@@ -25,6 +26,9 @@ use Rattle.ladder_tool.specs.declared.fault.ToolFault.{ToolFault}
 use Rattle.ladder_tool.specs.declared.fault.ToolFault.TheVariants as fault
 use Rattle.ladder_words.specs.declared.request.Form.{Form}
 use Rattle.ladder_words.specs.declared.request.Form.TheVariants.{Statement, Table, Terms}
+use Rattle.ladder_words.specs.declared.request.Grouping.{Grouping}
+use Rattle.ladder_words.specs.declared.request.InputOrder.{InputOrder}
+use Rattle.ladder_words.specs.declared.request.InputOrder.TheVariants as order
 use Rattle.ladder_words.specs.declared.request.Request.{Request}
 use Rattle.ladder_words.specs.declared.request.Request.TheVariants.{Causes, Check, Groups, Sim, Uses}
 use Rattle.ladder_tool.specs.FaultLine.{fault_line}
@@ -150,15 +154,20 @@ form_on Table coil = group_form.Table
 form_on Terms coil = group_form.Terms
 form_on Statement coil = group_form.Statement coil
 
+-- what is asked, with the inputs in this order
+abbrev pub ordered : InputOrder → Question → Question
+ordered order.Given q = q
+ordered order.Sifted q = in_order q (sifted q)
+
 -- The text of the groups is written in this form, whole or as far as `Written` says: all rows that are asked for, and no other.
-pub record Grouped (g : Given) (a : Asking) (form : Form) (Written : List ℕ → Type 0) : Type 0 where
+pub record Grouped (g : Given) (a : Asking) (how : Grouping) (Written : List ℕ → Type 0) : Type 0 where
   pub question : Question
   pub asked : IsAsked g a question
   pub accepted : refusal question a.after ≡ None
-  pub rows : Written (form_text (form_on form question.coil) question.program question.listed (rows_for a question))
+  pub rows : Written (form_text (form_on how.form question.coil) question.program (ordered how.order question).listed (rows_for a (ordered how.order question)))
 
-abbrev pub ListsGroups : Given → Asking → Form → WriteLog → WriteLog → Type 0
-ListsGroups g a form out out' = Grouped g a form (PutsAll out out')
+abbrev pub ListsGroups : Given → Asking → Grouping → WriteLog → WriteLog → Type 0
+ListsGroups g a how out out' = Grouped g a how (PutsAll out out')
 
 -- `rows R causes C`
 abbrev pub groups_line : ℕ → ℕ → List ℕ
@@ -169,15 +178,15 @@ abbrev pub counts_text : Asking → Question → List ℕ
 counts_text a q = groups_line (length (rows_for a q)) (causes_in (rows_for a q))
 
 -- The rows were listed, and then their number and that of their causes is written: whole, or as far as `Counted` says.
-pub record CountsGroups (g : Given) (a : Asking) (form : Form) (out out' : WriteLog) (Counted : List ℕ → Type 0) : Type 0 where
-  pub list : ListsGroups g a form out out'
-  pub count : Counted (counts_text a list.question)
+pub record CountsGroups (g : Given) (a : Asking) (how : Grouping) (out out' : WriteLog) (Counted : List ℕ → Type 0) : Type 0 where
+  pub list : ListsGroups g a how out out'
+  pub count : Counted (counts_text a (ordered how.order list.question))
 
 -- Status 1: `out` failed at the rows, or `err` at their count.
-abbrev pub BreaksGroups : Given → Asking → Form → Logs → Logs → Type 0
-BreaksGroups g a form old new =
-    (Grouped g a form (PutsPrefix old.out new.out) × IsReported old.err new.err fault.Write)
-    ⊎ CountsGroups g a form old.out new.out (PutsPrefix old.err new.err)
+abbrev pub BreaksGroups : Given → Asking → Grouping → Logs → Logs → Type 0
+BreaksGroups g a how old new =
+    (Grouped g a how (PutsPrefix old.out new.out) × IsReported old.err new.err fault.Write)
+    ⊎ CountsGroups g a how old.out new.out (PutsPrefix old.err new.err)
 
 -- ---- a simulation
 
@@ -218,8 +227,8 @@ IsDone (Check file) g old new = Prints check_line g.program (PutsAll old.out new
 IsDone (Causes state moment after limit file coil inputs) g old new =
     CountsList g (asking moment after limit (string_bytes coil) (map string_bytes inputs.items)) old.out new.out (PutsAll old.err new.err)
     × (new.save ≡ old.save)
-IsDone (Groups state moment limit form file coil inputs) g old new =
-    CountsGroups g (asking moment None limit (string_bytes coil) (map string_bytes inputs.items)) form old.out new.out (PutsAll old.err new.err)
+IsDone (Groups state moment limit grouping file coil inputs) g old new =
+    CountsGroups g (asking moment None limit (string_bytes coil) (map string_bytes inputs.items)) grouping old.out new.out (PutsAll old.err new.err)
     × (new.save ≡ old.save)
 IsDone (Sim state save file stimulus) g old new = IsTraced g (is_some save) old new
 IsDone (Uses file) g old new = Prints uses_text g.program (PutsAll old.out new.out) × (new.save ≡ old.save) × (new.err ≡ old.err)
@@ -229,7 +238,7 @@ abbrev pub HasFault : Request → Given → ToolFault → Type 0
 HasFault (Check file) g = HasProgramFault g.program
 HasFault (Causes state moment after limit file coil inputs) g =
     HasListFault g (asking moment after limit (string_bytes coil) (map string_bytes inputs.items))
-HasFault (Groups state moment limit form file coil inputs) g =
+HasFault (Groups state moment limit grouping file coil inputs) g =
     HasListFault g (asking moment None limit (string_bytes coil) (map string_bytes inputs.items))
 HasFault (Sim state save file stimulus) g = HasSettingFault g
 HasFault (Uses file) g = HasProgramFault g.program
@@ -240,8 +249,8 @@ Breaks (Check file) g old new =
     Prints check_line g.program (PutsPrefix old.out new.out) × (new.save ≡ old.save) × IsReported old.err new.err fault.Write
 Breaks (Causes state moment after limit file coil inputs) g old new =
     BreaksList g (asking moment after limit (string_bytes coil) (map string_bytes inputs.items)) old new × (new.save ≡ old.save)
-Breaks (Groups state moment limit form file coil inputs) g old new =
-    BreaksGroups g (asking moment None limit (string_bytes coil) (map string_bytes inputs.items)) form old new × (new.save ≡ old.save)
+Breaks (Groups state moment limit grouping file coil inputs) g old new =
+    BreaksGroups g (asking moment None limit (string_bytes coil) (map string_bytes inputs.items)) grouping old new × (new.save ≡ old.save)
 Breaks (Sim state save file stimulus) g old new = BreaksTrace g (is_some save) old new
 Breaks (Uses file) g old new =
     Prints uses_text g.program (PutsPrefix old.out new.out) × (new.save ≡ old.save) × IsReported old.err new.err fault.Write

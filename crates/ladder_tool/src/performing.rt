@@ -50,7 +50,7 @@ pub fn perform<O: Sink, S: Sink, E: Sink>(
         Request::Groups {
             moment,
             limit,
-            form,
+            grouping,
             coil,
             inputs,
             ..
@@ -62,7 +62,7 @@ pub fn perform<O: Sink, S: Sink, E: Sink>(
                 coil: coil.as_str(),
                 inputs,
             };
-            list_groups(alloc, asking, *form, texts, out, err)
+            list_groups(alloc, asking, *grouping, texts, out, err)
         }
         Request::Sim { save: file, .. } => trace(alloc, texts, file.is_some(), out, save, err),
     }
