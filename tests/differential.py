@@ -2,7 +2,8 @@
 """Compares the built program with the model on random drawings: differential.py PROGRAM [NUMBER] [SEED].
 
 Each drawing has one to five rungs of all forms of cells, joints and vertical links, and breaks no rule; it is asked from the fresh
-state, at any moment. Rows and looks must be the model's, and the rows of groups too. A drawing with a difference is printed whole.
+state, at any moment. Rows and looks must be the model's, and the rows of groups too,
+in each form and in the sifted order. A drawing with a difference is printed whole.
 """
 import os
 import pathlib
@@ -155,6 +156,7 @@ def compare(program, folder, text, coil, listed, moment):
     model, found = Program(text), []
     wanted = [([], model.answer(coil, listed))]
     wanted += [(["--grouped", *flags], model.grouped_answer(coil, listed, form)) for flags, form in FORMS.items()]
+    wanted.append((["--grouped", "--order", "auto"], model.grouped_answer(coil, listed, sift=True)))
     for flags, (out, err) in wanted:
         have = run(program, ["causes", *flags, *moment, "program.ld", coil, *listed], folder)
         found += differences(have, (out.encode(), err.encode(), 0))

@@ -14,8 +14,8 @@ use crate::scene::{Scene, instance};
 use crate::signal::Signal;
 use crate::signals::Signals;
 use crate::storage::Storage;
-use ladder_grid::gates::{Action, OWN};
 use ladder_grid::Cell;
+use ladder_grid::gates::{Action, OWN};
 use ladder_page::CoilMode;
 
 fn stored_by<S: Signal>(mode: CoilMode, link: S, memory: S, old: S) -> S

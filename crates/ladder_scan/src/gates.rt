@@ -14,8 +14,8 @@ use crate::scene::{Scene, cell, instance};
 use crate::signal::Signal;
 use crate::signals::Signals;
 use crate::storage::Storage;
-use ladder_grid::gates::{Gate, LINKS, Literal, OFF, ON, OWN};
 use ladder_grid::Cell;
+use ladder_grid::gates::{Gate, LINKS, Literal, OFF, ON, OWN};
 use ladder_page::Mode;
 use ladder_vars::BlockKind;
 

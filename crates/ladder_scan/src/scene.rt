@@ -4,8 +4,8 @@ ghost use Rattle.std.specs.Prelude.{◌≡◌, ◌<◌};
 ghost use Rattle.ladder_page.specs.declared.geometry.TheConstants.{PLACES};
 ghost use Rattle.ladder_scan.specs.Programs.{diagram_of, IsSound};
 
-use ladder_page::geometry::ROWS;
 use ladder_grid::{Cell, Program};
+use ladder_page::geometry::ROWS;
 use ladder_vars::BlockKind;
 
 /// The rung that is evaluated.

@@ -6,8 +6,8 @@ ghost use Rattle.ladder_grid.specs.Program.{cell_in};
 ghost use Rattle.ladder_uses.specs.Usage.{if_of, same_symbol, use_in};
 ghost use Rattle.ladder_uses.specs.Uses.{use_of, use_word};
 
-use ladder_page::geometry::{PLACES, ROWS};
 use ladder_grid::{Cell, Operand, Program};
+use ladder_page::geometry::{PLACES, ROWS};
 use ladder_page::{CoilMode, Mode};
 use ladder_vars::Symbol;
 

@@ -17,6 +17,6 @@ returns-in_ok-inputs-in-Sifted-clause-refused c =
     let refused = λ (listed : List ℕ). refusal (question s.program s.state c.args.now asked.coil listed) None in
     let q = question s.program s.state c.args.now asked.coil c.deref-in-Sifted.result.now in
     let same : refused asked.inputs.items ≡ refused c.deref-in-Sifted-2.result.now =
-        ap refused (sym c.deref-in-Sifted.ensures.value) ∙ sym (c.orders.ensures.refused q (sifted q) (c.orders.ensures.permutation q))
-        ∙ ap refused (sym (c.deref-in-Sifted-2.ensures.value ∙ c.in_ok-inputs-in-Sifted.ensures.order)) in
+    ap refused (sym c.deref-in-Sifted.ensures.value) ∙ sym (c.orders.ensures.refused q (sifted q) (c.orders.ensures.permutation q))
+    ∙ ap refused (sym (c.deref-in-Sifted-2.ensures.value ∙ c.in_ok-inputs-in-Sifted.ensures.order)) in
     weaken _ _ c.new-in-Sifted.result (λ e h. same ∙ h) c.new-in-Sifted.ensures.refused
