@@ -1,4 +1,4 @@
-use Rattle.std.proofs.Common.{◌≡◌, ◌∙◌, IfOk, Ok, Err, Result, inl, inr, refl, sym}
+use Rattle.std.proofs.Common.{◌∙◌, IfOk, Ok, Err, Result, inl, inr, refl, sym}
 use Rattle.clap.specs.Words.{found_of}
 use Rattle.clap.proofs.WalkLemmas.{first_value-rows}
 use Rattle.ladder_words.proofs.words.order_of.Goals as goal
