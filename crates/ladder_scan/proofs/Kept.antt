@@ -35,14 +35,14 @@ Alike d j k h = (e : ℕ) → AlikeCell k h (d.cell j e)
 
 module _ {A B : Type 0} (a : Algebra A) (b : Algebra B) (R : A → B → Type 0) (k : IsKept a b R) where
   -- ---- lists
-  get_kept : (xs : List A) (vs : List B) → Both R xs vs → (d : A) (e : B) → R d e → (i : ℕ) → R (get_or xs i d) (get_or vs i e)
+  pub get_kept : (xs : List A) (vs : List B) → Both R xs vs → (d : A) (e : B) → R d e → (i : ℕ) → R (get_or xs i d) (get_or vs i e)
   get_kept [] [] h d e r i = r
   get_kept [] (v ∷ vs) h d e r i = absurd h
   get_kept (x ∷ xs) [] h d e r i = absurd h
   get_kept (x ∷ xs) (v ∷ vs) h d e r zero = h.0
   get_kept (x ∷ xs) (v ∷ vs) h d e r (suc i) = get_kept xs vs h.1 d e r i
 
-  set_kept : (xs : List A) (vs : List B) → Both R xs vs → (i : ℕ) (x : A) (v : B) → R x v → Both R (set xs i x) (set vs i v)
+  pub set_kept : (xs : List A) (vs : List B) → Both R xs vs → (i : ℕ) (x : A) (v : B) → R x v → Both R (set xs i x) (set vs i v)
   set_kept [] [] h i x v r = tt
   set_kept [] (w ∷ vs) h i x v r = absurd h
   set_kept (y ∷ xs) [] h i x v r = absurd h
@@ -55,15 +55,15 @@ module _ {A B : Type 0} (a : Algebra A) (b : Algebra B) (R : A → B → Type 0)
   push_kept (y ∷ xs) [] h x v r = absurd h
   push_kept (y ∷ xs) (w ∷ vs) h x v r = (h.0, push_kept xs vs h.1 x v r)
 
-  at_kept : (xs : List A) (vs : List B) → Both R xs vs → (m : Option ℕ) → R (at xs m (a.known false)) (at vs m (b.known false))
+  pub at_kept : (xs : List A) (vs : List B) → Both R xs vs → (m : Option ℕ) → R (at xs m (a.known false)) (at vs m (b.known false))
   at_kept xs vs h None = k.known false
   at_kept xs vs h (Some i) = get_kept xs vs h (a.known false) (b.known false) (k.known false) i
 
-  put_kept : (xs : List A) (vs : List B) → Both R xs vs → (m : Option ℕ) (x : A) (v : B) → R x v → Both R (put_in xs m x) (put_in vs m v)
+  pub put_kept : (xs : List A) (vs : List B) → Both R xs vs → (m : Option ℕ) (x : A) (v : B) → R x v → Both R (put_in xs m x) (put_in vs m v)
   put_kept xs vs h None x v r = h
   put_kept xs vs h (Some i) x v r = set_kept xs vs h i x v r
 
-  either : (c : Bool) (x y : A) (u v : B) → R x u → R y v → R (cond c x y) (cond c u v)
+  pub either : (c : Bool) (x y : A) (u v : B) → R x u → R y v → R (cond c x y) (cond c u v)
   either true x y u v r s = r
   either false x y u v r s = s
 
@@ -103,7 +103,7 @@ module _ {A B : Type 0} (a : Algebra A) (b : Algebra B) (R : A → B → Type 0)
   contact_kept Rising x m u n r s = k.meet _ _ _ _ r (k.inverse _ _ s)
   contact_kept Falling x m u n r s = k.meet _ _ _ _ (k.inverse _ _ r) s
 
-  cell_kept : (f : Frame A) (g : Frame B) → BothFrames R f g → (m : A) (n : B) → R m n → (c : Cell) → R (closed a f m c) (closed b g n c)
+  pub cell_kept : (f : Frame A) (g : Frame B) → BothFrames R f g → (m : A) (n : B) → R m n → (c : Cell) → R (closed a f m c) (closed b g n c)
   cell_kept f g h m n r Empty = k.known false
   cell_kept f g h m n r Wire = k.known true
   cell_kept f g h m n r (Contact mode operand memory) = contact_kept mode _ _ _ _ (operand_kept f g h operand) r
@@ -116,12 +116,12 @@ module _ {A B : Type 0} (a : Algebra A) (b : Algebra B) (R : A → B → Type 0)
   known_same : (x y : Bool) → x ≡ y → R (a.known x) (b.known y)
   known_same x y e = subst (λ (z : Bool). R (a.known x) (b.known z)) e (k.known x)
 
-  from_kept : (kind : BlockKind) (preset : ℕ) (s t : Stored) (now : ℕ) → s ≡ t → (x y : A) (u v : B) → R x u → R y v → R (q_from a kind preset s now x y) (q_from b kind preset t now u v)
+  pub from_kept : (kind : BlockKind) (preset : ℕ) (s t : Stored) (now : ℕ) → s ≡ t → (x y : A) (u v : B) → R x u → R y v → R (q_from a kind preset s now x y) (q_from b kind preset t now u v)
   from_kept kind preset s t now e x y u v r w =
       subst (λ (z : Stored). R (q_from a kind preset s now x y) (q_from b kind preset z now u v)) e
       (k.choice _ _ _ _ _ _ r (k.choice _ _ _ _ _ _ w (k.known _) (k.known _)) (k.choice _ _ _ _ _ _ w (k.known _) (k.known _)))
 
-  q_kept : (d : Diagram) (p h : Kept) (now : ℕ) (c : Cell) → AlikeCell p h c → (x y : A) (u v : B) → R x u → R y v → R (q_here a d p now c x y) (q_here b d h now c u v)
+  pub q_kept : (d : Diagram) (p h : Kept) (now : ℕ) (c : Cell) → AlikeCell p h c → (x y : A) (u v : B) → R x u → R y v → R (q_here a d p now c x y) (q_here b d h now c u v)
   q_kept d p h now Empty e x y u v r s = k.known false
   q_kept d p h now Wire e x y u v r s = k.known false
   q_kept d p h now (Contact mode operand memory) e x y u v r s = k.known false
@@ -139,7 +139,7 @@ module _ {A B : Type 0} (a : Algebra A) (b : Algebra B) (R : A → B → Type 0)
   stored_kept coil.Rising l m x u n v r s t = k.meet _ _ _ _ r (k.inverse _ _ s)
   stored_kept coil.Falling l m x u n v r s t = k.meet _ _ _ _ (k.inverse _ _ r) s
 
-  coil_kept : (c : Cell) (l m x : A) (u n v : B) → R l u → R m n → R x v → R (coil_value a c l m x) (coil_value b c u n v)
+  pub coil_kept : (c : Cell) (l m x : A) (u n v : B) → R l u → R m n → R x v → R (coil_value a c l m x) (coil_value b c u n v)
   coil_kept Empty l m x u n v r s t = t
   coil_kept Wire l m x u n v r s t = t
   coil_kept (Contact mode operand memory) l m x u n v r s t = t
@@ -211,7 +211,7 @@ module _ {A B : Type 0} (a : Algebra A) (b : Algebra B) (R : A → B → Type 0)
   frames_kept d p now f g h n = (looked_kept d p now f g h n).0
 
   -- ---- what the rungs begin with
-  given_kept : (flags : List Bool) (xs : List A) (vs : List B) → Both R xs vs → (ys : List A) (ws : List B) → Both R ys ws → Both R (given flags xs ys) (given flags vs ws)
+  pub given_kept : (flags : List Bool) (xs : List A) (vs : List B) → Both R xs vs → (ys : List A) (ws : List B) → Both R ys ws → Both R (given flags xs ys) (given flags vs ws)
   given_kept [] xs vs h ys ws r = r
   given_kept (true ∷ flags) xs vs h [] [] r = tt
   given_kept (true ∷ flags) xs vs h [] (w ∷ ws) r = absurd r
@@ -225,7 +225,7 @@ module _ {A B : Type 0} (a : Algebra A) (b : Algebra B) (R : A → B → Type 0)
   given_kept (false ∷ flags) xs vs h (y ∷ ys) [] r = absurd r
   given_kept (false ∷ flags) xs vs h (y ∷ ys) (w ∷ ws) r = (r.0, given_kept flags xs vs h ys ws r.1)
 
-  all_known : {C : Type 0} (f : C → Bool) (cs : List C) → Both R (map (λ c. a.known (f c)) cs) (map (λ c. b.known (f c)) cs)
+  pub all_known : {C : Type 0} (f : C → Bool) (cs : List C) → Both R (map (λ c. a.known (f c)) cs) (map (λ c. b.known (f c)) cs)
   all_known f [] = tt
   all_known f (c ∷ cs) = (k.known (f c), all_known f cs)
 

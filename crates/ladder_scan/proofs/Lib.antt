@@ -18,6 +18,8 @@ pub mod Acting
 pub mod StepWise
 pub mod StepLaws
 pub mod StepLooks
+pub mod StepsKept
+pub mod Likened
 pub mod Exits
 pub mod Possible
 pub mod Giving

@@ -9,6 +9,8 @@ pub mod Rung
 pub mod Scan
 pub mod SignalScan
 pub mod Relations
+pub mod Likenesses
+pub mod LikenessLaws
 pub mod Laws
 pub mod Programs
 pub mod Standing

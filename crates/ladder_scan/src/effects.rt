@@ -11,14 +11,14 @@ ghost use Rattle.ladder_scan.specs.Gating.{IsPlaced, among, acted, changes_of};
 
 use crate::block;
 use crate::scene::{Scene, instance};
-use crate::signal::Signal;
+use crate::operations::Operations;
 use crate::signals::Signals;
 use crate::storage::Storage;
 use ladder_grid::Cell;
 use ladder_grid::gates::{Action, OWN};
 use ladder_page::CoilMode;
 
-fn stored_by<S: Signal>(mode: CoilMode, link: S, memory: S, old: S) -> S
+fn stored_by<S: Operations>(mode: CoilMode, link: S, memory: S, old: S) -> S
     ensures { result ≡ stored_by S.algebra mode link memory old }
 {
     match mode {
@@ -33,7 +33,7 @@ fn stored_by<S: Signal>(mode: CoilMode, link: S, memory: S, old: S) -> S
 
 /// What one action writes, over any signal, under the guard of its rung. Out of line; see `effect`.
 #[inline(never)]
-pub(crate) fn any_effect<S: Signal>(
+pub(crate) fn any_effect<S: Operations>(
     storage: &Storage,
     guard: S,
     links: &[S],

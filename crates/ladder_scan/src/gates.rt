@@ -12,6 +12,7 @@ ghost use Rattle.ladder_scan.specs.Gating.{among, own, passed, ran, IsInside, Ar
 use crate::block::{Stored, has_second, step};
 use crate::scene::{Scene, cell, instance};
 use crate::signal::Signal;
+use crate::operations::Operations;
 use crate::signals::Signals;
 use crate::storage::Storage;
 use ladder_grid::Cell;
@@ -20,7 +21,7 @@ use ladder_page::Mode;
 use ladder_vars::BlockKind;
 
 /// The signal at a place, and OFF past the last one.
-pub(crate) fn link_at<S: Signal>(links: &[S], place: usize) -> S
+pub(crate) fn link_at<S: Operations>(links: &[S], place: usize) -> S
     ensures { result ≡ slice_index_or links.now place (S.algebra.known false) }
 {
     match links.get(place) {
@@ -29,7 +30,7 @@ pub(crate) fn link_at<S: Signal>(links: &[S], place: usize) -> S
     }
 }
 
-fn contact<S: Signal>(mode: Mode, operand: S, memory: S) -> S
+fn contact<S: Operations>(mode: Mode, operand: S, memory: S) -> S
     ensures { result ≡ contact S.algebra mode operand memory }
 {
     match mode {
@@ -40,7 +41,7 @@ fn contact<S: Signal>(mode: Mode, operand: S, memory: S) -> S
     }
 }
 
-fn closed<S: Signal>(cell: Cell, seen: &Signals<S>, memory: S) -> S
+fn closed<S: Operations>(cell: Cell, seen: &Signals<S>, memory: S) -> S
     ensures { result ≡ closed S.algebra seen.now memory cell }
 {
     match cell {
@@ -66,7 +67,7 @@ fn q_after(
 }
 
 #[inline(always)]
-pub(crate) fn q_from<S: Signal>(
+pub(crate) fn q_from<S: Operations>(
     kind: BlockKind,
     preset: u32,
     stored: Stored,
@@ -88,14 +89,13 @@ pub(crate) fn q_from<S: Signal>(
             S::choose(second, S::known(other), S::known(off)),
         )
     } else {
-        // whatever the second signal is, the Q is the same
-        let _is_value = second.is_value();
+        // whatever the second input is, the Q is the same
         S::choose(first, S::known(on), S::known(off))
     }
 }
 
 /// What a cell lets through by itself, by its left link and its second input.
-pub(crate) fn through_cell<S: Signal>(
+pub(crate) fn through_cell<S: Operations>(
     scene: Scene<'_>,
     storage: &Storage,
     seen: &Signals<S>,
@@ -123,7 +123,7 @@ pub(crate) fn through_cell<S: Signal>(
 
 /// What a gate lets through as its cell says; it is kept, since the Q of a block is read again. Out of line, for it is rare.
 #[inline(never)]
-fn own<S: Signal>(
+fn own<S: Operations>(
     scene: Scene<'_>,
     storage: &Storage,
     seen: &Signals<S>,
@@ -147,7 +147,7 @@ fn own<S: Signal>(
 }
 
 /// The links after one gate; `values` are those of what contacts see.
-fn pass<S: Signal>(
+fn pass<S: Operations>(
     scene: Scene<'_>,
     storage: &Storage,
     seen: &Signals<S>,
@@ -175,7 +175,7 @@ fn pass<S: Signal>(
 /// The links after the gates of a rung.
 #[inline(always)]
 #[tactic(auto, using(crate::proofs::GateLaws::run_step))]
-fn run<S: Signal>(scene: Scene<'_>, storage: &Storage, seen: &Signals<S>, links: &mut [S])
+fn run<S: Operations>(scene: Scene<'_>, storage: &Storage, seen: &Signals<S>, links: &mut [S])
     requires rung { scene.rung < scene.program.now.rungs }
     requires gates { All IsInside (gates_of scene.program.now scene.rung) }
     requires links { length links.old ≡ LINKS }
@@ -190,7 +190,7 @@ fn run<S: Signal>(scene: Scene<'_>, storage: &Storage, seen: &Signals<S>, links:
 }
 
 /// Puts ON and OFF where the gates look for them.
-pub(crate) fn set_rails<S: Signal>(links: &mut [S])
+pub(crate) fn set_rails<S: Operations>(links: &mut [S])
     requires { length links.old ≡ LINKS }
     ensures length { length links.new ≡ LINKS }
     ensures on { slice_index_or links.new ON (S.algebra.known false) ≡ S.algebra.known true }

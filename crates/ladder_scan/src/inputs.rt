@@ -4,7 +4,7 @@ ghost use Rattle.std.specs.Prelude.{◌≡◌, ◌≤◌, ◌++◌, drop, length
 ghost use Rattle.ladder_vars.specs.Decls.{is_input};
 ghost use Rattle.ladder_scan.specs.Scan.{given};
 
-use crate::signal::Signal;
+use crate::operations::Operations;
 use ladder_vars::{Decls, Var};
 
 fn is_input_at(vars: &[Var], number: usize) -> bool
@@ -16,7 +16,7 @@ fn is_input_at(vars: &[Var], number: usize) -> bool
     }
 }
 
-fn give_leading<S: Signal>(inputs: &[S], values: &mut [S])
+fn give_leading<S: Operations>(inputs: &[S], values: &mut [S])
     requires { length inputs.now ≤ length values.old }
     ensures { values.new ≡ inputs.now ++ drop (length inputs.now) values.old }
 {
@@ -25,7 +25,7 @@ fn give_leading<S: Signal>(inputs: &[S], values: &mut [S])
 
 /// Gives the input variables their values, in order of declaration. Where the inputs are declared first, as they mostly
 /// are, this is one copy.
-pub(crate) fn give<S: Signal>(decls: &Decls, inputs: &[S], values: &mut [S])
+pub(crate) fn give<S: Operations>(decls: &Decls, inputs: &[S], values: &mut [S])
     ensures { values.new ≡ given (map is_input decls.now.vars) inputs.now values.old }
 {
     if inputs.len() <= values.len() && inputs.len() <= decls.leading_inputs() {
@@ -36,7 +36,7 @@ pub(crate) fn give<S: Signal>(decls: &Decls, inputs: &[S], values: &mut [S])
 }
 
 /// Goes over all variables, inputs or not.
-fn give_each<S: Signal>(vars: &[Var], inputs: &[S], values: &mut [S])
+fn give_each<S: Operations>(vars: &[Var], inputs: &[S], values: &mut [S])
     ensures { values.new ≡ given (map is_input vars.now) inputs.now values.old }
 {
     let mut next = 0;

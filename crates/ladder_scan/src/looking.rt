@@ -12,6 +12,7 @@ ghost use Rattle.ladder_scan.specs.Gating.{AreValues};
 
 use crate::gates::set_rails;
 use crate::memory::Memory;
+use crate::operations::Operations;
 use crate::scene::checked;
 use crate::signal::Signal;
 use crate::signals::Signals;
@@ -26,10 +27,10 @@ use std::marker::Model;
 /// The buffers of a look, which hold its result: the values that one scan over a signal leaves.
 #[derive(Drop)]
 pub struct Work<S> {
-    seen: Signals<S>,
-    links: Vec<S>,
-    taken: Vec<S>,
-    looks: u64,
+    pub(crate) seen: Signals<S>,
+    pub(crate) links: Vec<S>,
+    pub(crate) taken: Vec<S>,
+    pub(crate) looks: u64,
 }
 
 impl<S> Model for Work<S> {
@@ -49,7 +50,7 @@ impl<S> Model for Work<S> {
     ghost invariant = { λ w. length w.links.items ≡ LINKS };
 }
 
-impl<S: Signal> Work<S> {
+impl<S: Operations> Work<S> {
     /// Buffers for looks at the program.
     ///
     /// # Errors
@@ -95,7 +96,7 @@ impl<S: Signal> Work<S> {
 }
 
 /// What the rungs of a look begin with: the given inputs, and all that is stored.
-fn begin<S: Signal>(program: &Program, storage: &Storage, inputs: &[S], seen: &mut Signals<S>)
+pub(crate) fn begin<S: Operations>(program: &Program, storage: &Storage, inputs: &[S], seen: &mut Signals<S>)
     requires { SameSizes seen.old storage.now }
     ensures { seen.new ≡ look_frame S.algebra (diagram_of program.now) inputs.now storage.now }
 {
@@ -104,7 +105,7 @@ fn begin<S: Signal>(program: &Program, storage: &Storage, inputs: &[S], seen: &m
 }
 
 /// OFF for each rung.
-fn clear<S: Signal>(taken: &mut [S])
+pub(crate) fn clear<S: Operations>(taken: &mut [S])
     ensures length { length taken.new ≡ length taken.old }
     ensures off { (i : ℕ) → slice_index_or taken.new i (S.algebra.known false) ≡ S.algebra.known false }
 {

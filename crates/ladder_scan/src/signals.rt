@@ -10,7 +10,7 @@ ghost use Rattle.ladder_scan.specs.Scan.{given};
 use crate::block::Stored;
 use crate::inputs::give;
 use crate::memory::Memory;
-use crate::signal::Signal;
+use crate::operations::Operations;
 use crate::storage::Storage;
 use ladder_grid::Operand;
 use ladder_vars::Decls;
@@ -32,7 +32,7 @@ impl<S> Model for Signals<S> {
     ghost view = { λ f. frame f.values.items f.ends.items };
 }
 
-impl<S: Signal> Signals<S> {
+impl<S: Operations> Signals<S> {
     /// Buffers for the signals of this many variables and instances.
     pub(crate) fn new(
         alloc: Global,
@@ -113,7 +113,7 @@ impl<S: Signal> Signals<S> {
 }
 
 /// The stored values as signals.
-fn know_values<S: Signal>(stored: &[bool], values: &mut [S])
+fn know_values<S: Operations>(stored: &[bool], values: &mut [S])
     requires { length values.old ≡ length stored.now }
     ensures { values.new ≡ map S.algebra.known stored.now }
 {
@@ -123,7 +123,7 @@ fn know_values<S: Signal>(stored: &[bool], values: &mut [S])
 }
 
 /// The stored Qs as signals.
-fn know_ends<S: Signal>(blocks: &[Stored], ends: &mut [S])
+fn know_ends<S: Operations>(blocks: &[Stored], ends: &mut [S])
     requires { length ends.old ≡ length blocks.now }
     ensures { ends.new ≡ map (λ b. S.algebra.known (q_of b)) blocks.now }
 {

@@ -15,7 +15,7 @@ ghost use Rattle.ladder_scan.specs.Stepping.{keeping, passing, storing, links_af
 use crate::effects::any_effect;
 use crate::gates::{link_at, q_from, through_cell};
 use crate::scene::{Scene, cell, instance};
-use crate::signal::Signal;
+use crate::operations::Operations;
 use crate::signals::Signals;
 use crate::storage::Storage;
 use ladder_grid::Program;
@@ -31,7 +31,7 @@ pub(crate) struct Base<'a> {
 }
 
 /// Keeps what a gate lets through, which other gates see at its place.
-fn pass<S: Signal>(links: &mut [S], spot: Spot, through: S)
+fn pass<S: Operations>(links: &mut [S], spot: Spot, through: S)
     requires links { length links.old ≡ LINKS }
     requires spot { IsSpot spot }
     ensures { links.new ≡ passing S.algebra links.old spot through }
@@ -40,7 +40,7 @@ fn pass<S: Signal>(links: &mut [S], spot: Spot, through: S)
 }
 
 /// Keeps besides what its cell alone lets through.
-fn keep<S: Signal>(links: &mut [S], spot: Spot, through: S)
+fn keep<S: Operations>(links: &mut [S], spot: Spot, through: S)
     requires links { length links.old ≡ LINKS }
     requires spot { IsSpot spot }
     ensures { links.new ≡ keeping S.algebra links.old spot through }
@@ -52,7 +52,7 @@ fn keep<S: Signal>(links: &mut [S], spot: Spot, through: S)
 
 /// The gate of a contact on a variable.
 #[inline(always)]
-fn is<S: Signal>(seen: &Signals<S>, spot: Spot, var: u16, links: &mut [S])
+fn is<S: Operations>(seen: &Signals<S>, spot: Spot, var: u16, links: &mut [S])
     requires links { length links.old ≡ LINKS }
     requires spot { IsSpot spot }
     requires var { var < length seen.now.values }
@@ -64,7 +64,7 @@ fn is<S: Signal>(seen: &Signals<S>, spot: Spot, var: u16, links: &mut [S])
 
 /// The gate of a negated contact.
 #[inline(always)]
-fn is_not<S: Signal>(seen: &Signals<S>, spot: Spot, var: u16, links: &mut [S])
+fn is_not<S: Operations>(seen: &Signals<S>, spot: Spot, var: u16, links: &mut [S])
     requires links { length links.old ≡ LINKS }
     requires spot { IsSpot spot }
     requires var { var < length seen.now.values }
@@ -74,7 +74,7 @@ fn is_not<S: Signal>(seen: &Signals<S>, spot: Spot, var: u16, links: &mut [S])
     pass(links, spot, through);
 }
 
-fn wire<S: Signal>(spot: Spot, links: &mut [S])
+fn wire<S: Operations>(spot: Spot, links: &mut [S])
     requires links { length links.old ≡ LINKS }
     requires spot { IsSpot spot }
     ensures { links.new ≡ keeping S.algebra links.old spot (S.algebra.meet (among S.algebra links.old spot.left) (S.algebra.known true)) }
@@ -84,7 +84,7 @@ fn wire<S: Signal>(spot: Spot, links: &mut [S])
 }
 
 /// The gate of a contact that closes where its variable becomes ON.
-fn rising<S: Signal>(base: Base<'_>, value: S, spot: Spot, memory: u16, links: &mut [S])
+fn rising<S: Operations>(base: Base<'_>, value: S, spot: Spot, memory: u16, links: &mut [S])
     requires links { length links.old ≡ LINKS }
     requires spot { IsSpot spot }
     ensures { links.new ≡ keeping S.algebra links.old spot (S.algebra.meet (among S.algebra links.old spot.left)
@@ -96,7 +96,7 @@ fn rising<S: Signal>(base: Base<'_>, value: S, spot: Spot, memory: u16, links: &
 }
 
 /// The gate of a contact that closes where its variable becomes OFF.
-fn falling<S: Signal>(base: Base<'_>, value: S, spot: Spot, memory: u16, links: &mut [S])
+fn falling<S: Operations>(base: Base<'_>, value: S, spot: Spot, memory: u16, links: &mut [S])
     requires links { length links.old ≡ LINKS }
     requires spot { IsSpot spot }
     ensures { links.new ≡ keeping S.algebra links.old spot (S.algebra.meet (among S.algebra links.old spot.left)
@@ -109,7 +109,7 @@ fn falling<S: Signal>(base: Base<'_>, value: S, spot: Spot, memory: u16, links: 
 
 /// The gate of a block: its Q in this evaluation, by its inputs.
 #[inline(always)]
-fn block<S: Signal>(base: Base<'_>, spot: Spot, below: u8, inst: usize, links: &mut [S])
+fn block<S: Operations>(base: Base<'_>, spot: Spot, below: u8, inst: usize, links: &mut [S])
     requires program { IsSound (diagram_of base.program.now) }
     requires links { length links.old ≡ LINKS }
     requires spot { IsSpot spot }
@@ -130,7 +130,7 @@ fn block<S: Signal>(base: Base<'_>, spot: Spot, below: u8, inst: usize, links: &
 
 /// Any gate, as its cell says.
 #[inline(never)]
-fn own<S: Signal>(
+fn own<S: Operations>(
     base: Base<'_>,
     seen: &Signals<S>,
     spot: Spot,
@@ -159,7 +159,7 @@ fn own<S: Signal>(
 }
 
 /// Writes what a coil would write to a variable.
-fn store<S: Signal>(seen: &mut Signals<S>, guard: S, var: u16, new: S)
+fn store<S: Operations>(seen: &mut Signals<S>, guard: S, var: u16, new: S)
     requires { var < length seen.old.values }
     ensures { seen.new ≡ storing S.algebra guard var new seen.old }
 {
@@ -169,7 +169,7 @@ fn store<S: Signal>(seen: &mut Signals<S>, guard: S, var: u16, new: S)
 
 /// What any cell writes.
 #[inline(never)]
-fn act<S: Signal>(
+fn act<S: Operations>(
     base: Base<'_>,
     guard: S,
     links: &[S],
@@ -196,7 +196,7 @@ fn act<S: Signal>(
 }
 
 /// A coil that writes this value where its link is ON.
-fn latch<S: Signal>(seen: &mut Signals<S>, guard: S, var: u16, link: S, on: bool)
+fn latch<S: Operations>(seen: &mut Signals<S>, guard: S, var: u16, link: S, on: bool)
     requires { var < length seen.old.values }
     ensures { seen.new ≡ storing S.algebra guard var (S.algebra.choice link (S.algebra.known on) (among S.algebra seen.old.values var)) seen.old }
 {
@@ -205,7 +205,7 @@ fn latch<S: Signal>(seen: &mut Signals<S>, guard: S, var: u16, link: S, on: bool
 }
 
 /// A block writes its Q.
-fn end<S: Signal>(seen: &mut Signals<S>, guard: S, inst: u16, new: S)
+fn end<S: Operations>(seen: &mut Signals<S>, guard: S, inst: u16, new: S)
     ensures { seen.new ≡ frame seen.old.values (slice_set seen.old.ends inst (S.algebra.choice guard new (among S.algebra seen.old.ends inst))) }
 {
     let old = seen.end(inst as usize);
@@ -213,7 +213,7 @@ fn end<S: Signal>(seen: &mut Signals<S>, guard: S, inst: u16, new: S)
 }
 
 /// The guard so far, AND NOT that the jump is taken, where it passes over the rung.
-fn under<S: Signal>(leap: Leap, taken: &[S], rung: usize, all: S) -> S
+fn under<S: Operations>(leap: Leap, taken: &[S], rung: usize, all: S) -> S
     ensures { result ≡ (if nat_lt leap.rung rung && nat_lt rung leap.target
         then S.algebra.meet all (S.algebra.inverse (among S.algebra taken.now leap.rung)) else all) }
 {
@@ -226,7 +226,7 @@ fn under<S: Signal>(leap: Leap, taken: &[S], rung: usize, all: S) -> S
 
 /// The AND, over the earlier rungs with a jump past the rung, of NOT that this jump is taken.
 #[tactic(auto, using(crate::proofs::Exits::guard_step))]
-pub(crate) fn guard_by<S: Signal>(leaps: &[Leap], taken: &[S], rung: usize) -> S
+pub(crate) fn guard_by<S: Operations>(leaps: &[Leap], taken: &[S], rung: usize) -> S
     ensures { result ≡ guard_by S.algebra taken.now rung leaps.now (S.algebra.known true) }
 {
     let mut all = S::known(true);
@@ -238,7 +238,7 @@ pub(crate) fn guard_by<S: Signal>(leaps: &[Leap], taken: &[S], rung: usize) -> S
 
 /// The guard of a rung, by the jumps before it. Out of line, for it is rare.
 #[inline(never)]
-fn new_guard<S: Signal>(program: &Program, taken: &[S], rung: u8) -> S
+fn new_guard<S: Operations>(program: &Program, taken: &[S], rung: u8) -> S
     ensures { result ≡ guard_by S.algebra taken.now rung (leaps_below program.now program.now.rungs) (S.algebra.known true) }
 {
     guard_by(program.leaps(), taken, rung as usize)
@@ -246,7 +246,7 @@ fn new_guard<S: Signal>(program: &Program, taken: &[S], rung: u8) -> S
 
 /// Takes a step that isn't a plain contact, and returns the guard from there on.
 #[inline(always)]
-fn take_rare<S: Signal>(
+fn take_rare<S: Operations>(
     base: Base<'_>,
     rare: Rare,
     guard: S,
@@ -289,7 +289,7 @@ fn take_rare<S: Signal>(
 
 /// Takes a step, and returns the guard from there on.
 #[inline(always)]
-fn take<S: Signal>(
+fn take<S: Operations>(
     base: Base<'_>,
     step: &Step,
     guard: S,
@@ -323,7 +323,7 @@ fn take<S: Signal>(
 /// Goes from step to step, and leaves the values and Qs of the look.
 #[inline(never)]
 #[tactic(auto)]
-pub(crate) fn go<S: Signal>(
+pub(crate) fn go<S: Operations>(
     base: Base<'_>,
     steps: &[Step],
     seen: &mut Signals<S>,

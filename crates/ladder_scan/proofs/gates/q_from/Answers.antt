@@ -26,19 +26,15 @@ one_input Ctd h preset s first a b now = cc
 one_input Sr h preset s first a b now = cc
 one_input Rs h preset s first a b now = cc
 
-module _ {S : Type 0} (o : Algebra S) (V : S → Type 0) (l : LatticeLaws S V o) where
-  same_side : (y : S) (a b : Bool) → V y → a ≡ b → o.known b ≡ o.choice y (o.known a) (o.known b)
-  same_side y a b v e = sym (ap (λ z. o.choice y (o.known z) (o.known b)) e ∙ l.choice_equal y (o.known b) v (l.known_value b))
-
 pub returns-else-has_second : goal.returns-else-has_second
 returns-else-has_second g c =
     let a = c.args in
-    let s = g.S.Signal in
-    let o = s.algebra in
+    let o = g.S.Operations.algebra in
     let none : is_some (traits_of a.kind).second_input ≡ false = sym c.has_second.ensures ∙ c.if-has_second.false in
-    let side = same_side o s.value g.met.S.Signal.lattice a.second in
+    let same : (x y : Bool) → x ≡ y → o.known y ≡ o.choice a.second (o.known x) (o.known y) =
+    λ x y e. sym (ap (λ z. o.choice a.second (o.known z) (o.known y)) e ∙ g.S.Operations.choice_known a.second y) in
     let on = c.known-else-has_second.ensures ∙ ap o.known c.q_after-on.ensures
-    ∙ side (q_of (step a.kind a.preset a.stored true true a.now)) _ c.is_value-is_value.ensures.is (ap q_of (one_input a.kind none a.preset a.stored true true false a.now)) in
+    ∙ same (q_of (step a.kind a.preset a.stored true true a.now)) _ (ap q_of (one_input a.kind none a.preset a.stored true true false a.now)) in
     let off = c.known-else-has_second-2.ensures ∙ ap o.known c.q_after-off.ensures
-    ∙ side (q_of (step a.kind a.preset a.stored false true a.now)) _ c.is_value-is_value.ensures.is (ap q_of (one_input a.kind none a.preset a.stored false true false a.now)) in
+    ∙ same (q_of (step a.kind a.preset a.stored false true a.now)) _ (ap q_of (one_input a.kind none a.preset a.stored false true false a.now)) in
     c.choose-else-has_second.ensures ∙ ap₂ (o.choice a.first) on off

@@ -6,7 +6,7 @@ use Rattle.ladder_scan.proofs.gates.run.Given as goal
 
 abbrev pub invariant-loop-gate : goal.invariant-loop-gate
 invariant-loop-gate g l =
-    let o = g.S.Signal.algebra in
+    let o = g.S.Operations.algebra in
     let s = l.scene in
     let d = diagram_of s.program.now in
     let gates = gates_of s.program.now s.rung in

@@ -5,7 +5,7 @@ use Rattle.ladder_scan.proofs.inputs.give_each.Goals as goal
 
 pub loop-number-preserved-then-not-is_input_at : goal.loop-number-preserved-then-not-is_input_at
 loop-number-preserved-then-not-is_input_at g c =
-    let d = g.S.Signal.algebra.known false in
+    let d = g.S.Operations.algebra.known false in
     record {
       within = c.loop-number.invariant.within;
       rest =
@@ -15,7 +15,7 @@ loop-number-preserved-then-not-is_input_at g c =
 
 pub loop-number-preserved-then-inputs-next : goal.loop-number-preserved-then-inputs-next
 loop-number-preserved-then-inputs-next g c =
-    let d = g.S.Signal.algebra.known false in
+    let d = g.S.Operations.algebra.known false in
     record {
       within = c.loop-number.invariant.within;
       rest =

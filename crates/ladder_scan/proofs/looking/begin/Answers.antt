@@ -7,5 +7,5 @@ use Rattle.ladder_scan.proofs.looking.begin.Goals as goal
 
 pub returns : goal.returns
 returns g c =
-    begins g.S.Signal.algebra c.args.program.now c.args.inputs.now c.args.storage.now c.know.new.self c.give.new.self c.know.ensures
+    begins g.S.Operations.algebra c.args.program.now c.args.inputs.now c.args.storage.now c.know.new.self c.give.new.self c.know.ensures
     (c.give.ensures ∙ ap (λ (d : Declared). frame (given (map is_input d.vars) c.args.inputs.now c.know.new.self.values) c.know.new.self.ends) c.decls.ensures)

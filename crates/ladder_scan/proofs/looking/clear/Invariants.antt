@@ -3,7 +3,7 @@ use Rattle.ladder_scan.proofs.looking.clear.Given as goal
 
 abbrev pub invariant-loop-rung : goal.invariant-loop-rung
 invariant-loop-rung g l =
-    let off = g.S.Signal.algebra.known false in
+    let off = g.S.Operations.algebra.known false in
     record {
       length : length l.taken ≡ length l.fn.taken;
       off : (i : ℕ) → i < l.rung → slice_index_or l.taken i off ≡ off;

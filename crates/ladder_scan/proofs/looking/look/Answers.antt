@@ -9,18 +9,18 @@ use Rattle.ladder_scan.proofs.looking.look.Goals as goal
 
 pub look_rungs-requires-clause-values : goal.look_rungs-requires-clause-values
 look_rungs-requires-clause-values g c =
-    begin_values g.S.Signal.algebra g.S.Signal.value g.met.S.Signal.lattice (diagram_of c.args.program.now) c.args.inputs.now c.requires.inputs c.state.inside.storage c.begin.new.seen c.begin.ensures
+    begin_values g.S.Operations.algebra g.S.Signal.value g.met.S.Signal.lattice (diagram_of c.args.program.now) c.args.inputs.now c.requires.inputs c.state.inside.storage c.begin.new.seen c.begin.ensures
 
 pub returns-clause-values : goal.returns-clause-values
 returns-clause-values g c =
-    let o = g.S.Signal.algebra in
+    let o = g.S.Operations.algebra in
     let p = c.args.program.now in
     by_looks o p c.args.now c.args.inputs.now c.state.inside.storage c.begin.new.seen c.look_rungs.new.seen c.begin.ensures c.look_rungs.ensures
     ∙ ap (λ (s : Standing). after_look o (diagram_of p) c.args.now c.args.inputs.now s.held) c.state.view_is
 
 pub returns-clause-fits : goal.returns-clause-fits
 returns-clause-fits g c =
-    let sizes = look_sizes g.S.Signal.algebra (diagram_of c.args.program.now) c.args.now c.args.inputs.now c.state.inside.storage c.begin.new.seen c.look_rungs.new.seen
+    let sizes = look_sizes g.S.Operations.algebra (diagram_of c.args.program.now) c.args.now c.args.inputs.now c.state.inside.storage c.begin.new.seen c.look_rungs.new.seen
     c.args.program.now.rungs c.begin.ensures c.look_rungs.ensures in
     record {
       rungs =
@@ -40,6 +40,6 @@ returns-clause-fits g c =
 
 pub look_rungs-requires-clause-sizes : goal.look_rungs-requires-clause-sizes
 look_rungs-requires-clause-sizes g c =
-    begin_size g.S.Signal.algebra (diagram_of c.args.program.now) c.args.inputs.now c.state.inside.storage c.begin.new.seen c.begin.ensures
+    begin_size g.S.Operations.algebra (diagram_of c.args.program.now) c.args.inputs.now c.state.inside.storage c.begin.new.seen c.begin.ensures
     ∙ ap (λ (s : Standing). length s.held.values) c.state.view_is
     ∙ c.requires.state.values

@@ -13,7 +13,7 @@ go-requires-clause-steps g c =
 pub returns : goal.returns
 returns g c =
     let s = g.S.Signal in
-    let o = s.algebra in
+    let o = g.S.Operations.algebra in
     let p = c.args.base.program.now in
     let k = c.args.base.storage.now.kept in
     by_steps o s.value g.met.S.Signal.lattice p k c.args.base.now c.args.seen.now c.requires.values c.requires.program c.clear.new.taken c.set_rails.new.links c.go.new.seen

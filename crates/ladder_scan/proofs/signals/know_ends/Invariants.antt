@@ -3,4 +3,4 @@ use Rattle.ladder_scan.specs.Blocks.{q_of}
 use Rattle.ladder_scan.proofs.signals.know_ends.Given as goal
 
 abbrev pub invariant-loop-inst : goal.invariant-loop-inst
-invariant-loop-inst g l = take l.inst l.ends ≡ map (λ b. g.S.Signal.algebra.known (q_of b)) (take l.inst l.blocks)
+invariant-loop-inst g l = take l.inst l.ends ≡ map (λ b. g.S.Operations.algebra.known (q_of b)) (take l.inst l.blocks)

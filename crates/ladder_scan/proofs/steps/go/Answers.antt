@@ -6,7 +6,7 @@ use Rattle.ladder_scan.proofs.steps.go.Goals as goal
 
 pub loop-step-preserved : goal.loop-step-preserved
 loop-step-preserved g c =
-    let o = g.S.Signal.algebra in
+    let o = g.S.Operations.algebra in
     let p = c.args.base.program.now in
     let k = c.args.base.storage.now.kept in
     let now = c.args.base.now in
@@ -24,7 +24,7 @@ loop-step-preserved g c =
 
 pub returns : goal.returns
 returns g c =
-    let o = g.S.Signal.algebra in
+    let o = g.S.Operations.algebra in
     let p = c.args.base.program.now in
     let k = c.args.base.storage.now.kept in
     let l = c.loop-step in

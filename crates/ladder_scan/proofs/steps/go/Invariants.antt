@@ -4,7 +4,7 @@ use Rattle.ladder_scan.proofs.steps.go.Given as goal
 
 abbrev pub invariant-loop-step : goal.invariant-loop-step
 invariant-loop-step g l =
-    let o = g.S.Signal.algebra in
+    let o = g.S.Operations.algebra in
     let p = l.base.program.now in
     let k = l.base.storage.now.kept in
     record {

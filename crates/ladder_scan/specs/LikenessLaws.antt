@@ -1,0 +1,13 @@
+-- Private to likenesses: the law of their choices.
+use Rattle.std.specs.Prelude.{◌≡◌, Bool, true, false, refl}
+use Rattle.ladder_scan.specs.declared.likeness.Likeness.{Likeness}
+use Rattle.ladder_scan.specs.declared.likeness.Likeness.TheVariants.{Off, On, Alike, Open}
+use Rattle.ladder_scan.specs.Likenesses.{like_choice, like_known}
+
+pub like_choice_known : (c : Likeness) (b : Bool) → like_choice c (like_known b) (like_known b) ≡ like_known b
+like_choice_known Off b = refl
+like_choice_known On b = refl
+like_choice_known Alike true = refl
+like_choice_known Alike false = refl
+like_choice_known Open true = refl
+like_choice_known Open false = refl
