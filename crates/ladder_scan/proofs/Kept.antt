@@ -35,7 +35,7 @@ Alike d j k h = (e : ℕ) → AlikeCell k h (d.cell j e)
 
 module _ {A B : Type 0} (a : Algebra A) (b : Algebra B) (R : A → B → Type 0) (k : IsKept a b R) where
   -- ---- lists
-  get_kept : (xs : List A) (vs : List B) → Both R xs vs → (d : A) (e : B) → R d e → (i : ℕ) → R (get_or xs i d) (get_or vs i e)
+  pub get_kept : (xs : List A) (vs : List B) → Both R xs vs → (d : A) (e : B) → R d e → (i : ℕ) → R (get_or xs i d) (get_or vs i e)
   get_kept [] [] h d e r i = r
   get_kept [] (v ∷ vs) h d e r i = absurd h
   get_kept (x ∷ xs) [] h d e r i = absurd h

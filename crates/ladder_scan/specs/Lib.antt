@@ -10,6 +10,7 @@ pub mod Scan
 pub mod SignalScan
 pub mod Relations
 pub mod Laws
+pub mod Lanes
 pub mod Programs
 pub mod Standing
 pub mod Sheets

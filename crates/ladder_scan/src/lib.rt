@@ -5,6 +5,7 @@ mod block;
 mod effects;
 mod gates;
 mod inputs;
+mod lane;
 pub mod laws;
 mod looking;
 mod memory;
@@ -17,6 +18,7 @@ mod steps;
 mod storage;
 
 pub use block::Stored;
+pub use lane::{Lane, look_in_lane};
 pub use laws::Relation;
 pub use looking::{Work, look};
 pub use memory::Memory;
