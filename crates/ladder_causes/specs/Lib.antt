@@ -1,5 +1,6 @@
 pub mod Asked
 pub mod Assignment
+pub mod Batches
 pub mod CauseTree
 pub mod Causes
 pub mod Cursor
@@ -10,6 +11,8 @@ pub mod Order
 pub mod Patterns
 pub mod Prefixes
 pub mod Probes
+pub mod RailLaws
+pub mod Rails
 pub mod Refusal
 pub mod Sifting
 pub mod Sources

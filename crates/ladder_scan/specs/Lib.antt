@@ -12,6 +12,7 @@ pub mod Relations
 pub mod Likenesses
 pub mod LikenessLaws
 pub mod Laws
+pub mod Lanes
 pub mod Programs
 pub mod Standing
 pub mod Sheets

@@ -5,6 +5,7 @@ mod block;
 mod effects;
 mod gates;
 mod inputs;
+mod lane;
 pub mod laws;
 mod likeness;
 mod likening;
@@ -20,6 +21,7 @@ mod steps;
 mod storage;
 
 pub use block::Stored;
+pub use lane::{Lane, look_in_lane};
 pub use laws::Relation;
 pub use likeness::Likeness;
 pub use likening::liken;

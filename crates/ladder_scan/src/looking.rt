@@ -1,6 +1,6 @@
 //! One scan of a program over a signal, which leaves the state as it is.
 
-ghost use Rattle.std.specs.Prelude.{◌≡◌, ◌+◌, ◌-◌, ◌^◌, ◌<◌, ◌↔◌, ℕ, min, length, All, IfOk, IsTrue, slice_get, Some, slice_index_or, false};
+ghost use Rattle.std.specs.Prelude.{◌≡◌, ◌+◌, ◌-◌, ◌^◌, ◌<◌, ◌↔◌, ℕ, min, length, All, IfOk, IsTrue, slice_get, slice_set, Some, slice_index_or, false};
 ghost use Rattle.ladder_grid.specs.declared.gates.TheConstants.{LINKS};
 ghost use Rattle.ladder_grid.specs.Program.{IsWellFormed};
 ghost use Rattle.ladder_scan.specs.SignalScan.{look_frame, looked, after_look};
@@ -92,6 +92,15 @@ impl<S: Operations> Work<S> {
         ensures { result ≡ self.now.looks }
     {
         self.looks
+    }
+
+    /// Takes what a look left of a variable, and counts the look.
+    pub(crate) fn take(&mut self, var: usize, value: S)
+        ensures { self.new ≡ record self.old { values = slice_set self.old.values var value; looks = min (self.old.looks + 1) (2 ^ 64 - 1) } }
+    {
+        self.seen.put_value(var, value);
+        let looks = &mut self.looks;
+        *looks = looks.saturating_add(1);
     }
 }
 
