@@ -7,6 +7,7 @@ pub mod Going
 pub mod Pruning
 pub mod Telling
 pub mod Knowledge
+pub mod Likenings
 pub mod LaneLaws
 pub mod GroupCounts
 pub mod AnyOrder

@@ -6,6 +6,7 @@ pub mod Causes
 pub mod Cursor
 pub mod GroupCursor
 pub mod Knowing
+pub mod Likening
 pub mod LookLaws
 pub mod Order
 pub mod Patterns

@@ -361,3 +361,6 @@ same_tri Unsure Unsure h k = refl
 -- in a lane stands one value
 pub same_lane : (p : ℕ) (x : Lanes) (t u : Tri) → InLane p x t → InLane p x u → t ≡ u
 same_lane p x t u a b = same_tri t u (sym a.0 ∙ b.0) (sym a.1 ∙ b.1)
+
+pub rails_choice_known : (c : Lanes) (b : Bool) → IsRails c → rails.choice c (rails.known b) (rails.known b) ≡ rails.known b
+rails_choice_known c b v = rails_lattice.choice_equal c (rails.known b) v (rails_lattice.known_value b)

@@ -142,3 +142,6 @@ three_allowed = record {
   inverse_allows = λ x p a vx h. inverse_allowed x p a;
   choice_allows = λ x y z p a b c vx vy vz h. choice_allowed x y z p a b c;
 }
+
+pub three_choice_known : (c : Tri) (b : Bool) → AnyTri c → three.choice c (three.known b) (three.known b) ≡ three.known b
+three_choice_known c b v = three_lattice.choice_equal c (three.known b) v (three_lattice.known_value b)

@@ -128,3 +128,6 @@ words_allowed = record {
   inverse_allows = λ x p a vx h ax. not_bit x.0 p vx h ∙ not_digit a _ ax;
   choice_allows = λ x y z p a b c vx vy vz h ax ay az. choose_digit a b c _ _ _ _ ax ay az (choose_bit x.0 y.0 z.0 p vx h);
 }
+
+pub words_choice_known : (c : Word64) (b : Bool) → IsWord c → words.choice c (words.known b) (words.known b) ≡ words.known b
+words_choice_known c b v = words_lattice.choice_equal c (words.known b) v (words_lattice.known_value b)

@@ -4,9 +4,11 @@
 mod asked;
 mod causes;
 mod fault;
+mod group_tree;
 mod groups;
 mod lanes;
 pub mod laws;
+mod likening;
 mod order;
 mod probe;
 mod rails;

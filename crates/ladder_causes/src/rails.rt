@@ -2,11 +2,11 @@
 
 ghost use Rattle.std.specs.Prelude.{◌≡◌, ◌<◌, ◌%◌};
 ghost use Rattle.ladder_causes.specs.Rails.{InLane, IsRails, lane_allows, lane_off, lane_on, rails, rails_opened};
-ghost use Rattle.ladder_causes.specs.RailLaws.{number_kept, rails_allowed, rails_lattice};
+ghost use Rattle.ladder_causes.specs.RailLaws.{number_kept, rails_allowed, rails_choice_known, rails_lattice};
 ghost use Rattle.ladder_causes.specs.Words.{IsBit};
 
 use crate::tri::Tri;
-use ladder_scan::{Lane, Relation, Signal};
+use ladder_scan::{Lane, Operations, Relation, Signal};
 use std::marker::Model;
 
 /// Sixty-four lanes of three values. A lane is ON where its bit of `on` is 1, OFF where its bit of `off` is 1, and OPEN where
@@ -29,18 +29,12 @@ impl Model for Rails {
     ghost inverse = { λ v. record { on = v.on; off = v.off } };
 }
 
-impl Signal for Rails {
+impl Operations for Rails {
     ghost algebra = { rails };
 
     ghost value = { IsRails };
 
-    ghost place = { IsBit };
-
-    ghost allows = { lane_allows };
-
-    ghost lattice = { rails_lattice };
-
-    ghost allowed = { rails_allowed };
+    ghost choice_known = { rails_choice_known };
 
     fn known(b: bool) -> Rails {
         Rails {
@@ -81,6 +75,16 @@ impl Signal for Rails {
         let _rails = self.on;
         true
     }
+}
+
+impl Signal for Rails {
+    ghost place = { IsBit };
+
+    ghost allows = { lane_allows };
+
+    ghost lattice = { rails_lattice };
+
+    ghost allowed = { rails_allowed };
 }
 
 fn lane_on(t: u32) -> u64

@@ -4,9 +4,9 @@ ghost use Rattle.std.specs.Prelude.{◌≡◌};
 ghost use Rattle.ladder_scan.specs.Truth.{OnePlace};
 ghost use Rattle.ladder_causes.specs.Three.{AnyTri, three, three_allows, three_choice};
 ghost use Rattle.ladder_causes.specs.declared.tri.Tri.TheVariants.{Unsure};
-ghost use Rattle.ladder_causes.specs.ThreeLaws.{three_allowed, three_lattice};
+ghost use Rattle.ladder_causes.specs.ThreeLaws.{three_allowed, three_choice_known, three_lattice};
 
-use ladder_scan::Signal;
+use ladder_scan::{Operations, Signal};
 
 /// What is known of a truth value. An input whose bit a prefix leaves open is `Unsure`, and so is what may come out either way.
 ///
@@ -19,18 +19,12 @@ pub enum Tri {
     On,
 }
 
-impl Signal for Tri {
+impl Operations for Tri {
     ghost algebra = { three };
 
     ghost value = { AnyTri };
 
-    ghost place = { OnePlace };
-
-    ghost allows = { three_allows };
-
-    ghost lattice = { three_lattice };
-
-    ghost allowed = { three_allowed };
+    ghost choice_known = { three_choice_known };
 
     fn known(b: bool) -> Tri {
         if b { Tri::On } else { Tri::Off }
@@ -71,6 +65,16 @@ impl Signal for Tri {
     fn is_value(self) -> bool {
         true
     }
+}
+
+impl Signal for Tri {
+    ghost place = { OnePlace };
+
+    ghost allows = { three_allows };
+
+    ghost lattice = { three_lattice };
+
+    ghost allowed = { three_allowed };
 }
 
 /// What two values agree on; otherwise it stays open.

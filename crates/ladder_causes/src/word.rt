@@ -1,26 +1,20 @@
 //! The signal of 64 places in one word.
 
-ghost use Rattle.ladder_causes.specs.WordLaws.{words_allowed, words_lattice};
+ghost use Rattle.ladder_causes.specs.WordLaws.{words_allowed, words_choice_known, words_lattice};
 ghost use Rattle.ladder_causes.specs.Words.{IsBit, IsWord, word_allows, words};
 
-use ladder_scan::Signal;
+use ladder_scan::{Operations, Signal};
 
 /// Sixty-four truth values: place i is the bit of weight 2 ^ i.
 #[derive(Clone, Copy, Debug, PartialEq, Eq)]
 pub struct Word64(pub u64);
 
-impl Signal for Word64 {
+impl Operations for Word64 {
     ghost algebra = { words };
 
     ghost value = { IsWord };
 
-    ghost place = { IsBit };
-
-    ghost allows = { word_allows };
-
-    ghost lattice = { words_lattice };
-
-    ghost allowed = { words_allowed };
+    ghost choice_known = { words_choice_known };
 
     fn known(b: bool) -> Word64 {
         Word64(if b { u64::MAX } else { 0 })
@@ -46,4 +40,14 @@ impl Signal for Word64 {
         let _number = self.0;
         true
     }
+}
+
+impl Signal for Word64 {
+    ghost place = { IsBit };
+
+    ghost allows = { word_allows };
+
+    ghost lattice = { words_lattice };
+
+    ghost allowed = { words_allowed };
 }

@@ -2,12 +2,12 @@
 use Rattle.std.specs.Prelude.{◌≡◌, Bool, true, false, refl}
 use Rattle.ladder_scan.specs.declared.likeness.Likeness.{Likeness}
 use Rattle.ladder_scan.specs.declared.likeness.Likeness.TheVariants.{Off, On, Alike, Open}
-use Rattle.ladder_scan.specs.Likenesses.{like_choice, like_known}
+use Rattle.ladder_scan.specs.Likenesses.{AnyLikeness, like_choice, like_known}
 
-pub like_choice_known : (c : Likeness) (b : Bool) → like_choice c (like_known b) (like_known b) ≡ like_known b
-like_choice_known Off b = refl
-like_choice_known On b = refl
-like_choice_known Alike true = refl
-like_choice_known Alike false = refl
-like_choice_known Open true = refl
-like_choice_known Open false = refl
+pub like_choice_known : (c : Likeness) (b : Bool) → AnyLikeness c → like_choice c (like_known b) (like_known b) ≡ like_known b
+like_choice_known Off b v = refl
+like_choice_known On b v = refl
+like_choice_known Alike true v = refl
+like_choice_known Alike false v = refl
+like_choice_known Open true v = refl
+like_choice_known Open false v = refl

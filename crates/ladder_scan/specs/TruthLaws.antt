@@ -1,5 +1,5 @@
 -- Private to the signal of truth values: its laws.
-use Rattle.std.specs.Prelude.{◌≡◌, Bool, true, false}
+use Rattle.std.specs.Prelude.{◌≡◌, Bool}
 use Rattle.std.proofs.Common.{arith, refl, sym}
 use Rattle.ladder_scan.specs.Algebra.{LatticeLaws, AllowsLaws}
 use Rattle.ladder_scan.specs.Truth.{plain, AnyBool, OnePlace, plain_allows}
@@ -43,6 +43,5 @@ plain_allowed = record {
   choice_allows = λ c x y p d a b vc vx vy h ac ax ay. cc;
 }
 
-pub plain_choice_known : (c b : Bool) → plain.choice c b b ≡ b
-plain_choice_known true b = refl
-plain_choice_known false b = refl
+pub plain_choice_known : (c b : Bool) → AnyBool c → plain.choice c b b ≡ b
+plain_choice_known c b v = plain_lattice.choice_equal c b tt tt

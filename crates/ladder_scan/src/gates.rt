@@ -90,6 +90,7 @@ pub(crate) fn q_from<S: Operations>(
         )
     } else {
         // whatever the second input is, the Q is the same
+        let _is_value = second.is_value();
         S::choose(first, S::known(on), S::known(off))
     }
 }

@@ -1,7 +1,7 @@
 //! What is known of a truth value in two scans at once.
 
 ghost use Rattle.std.specs.Prelude.{◌≡◌};
-ghost use Rattle.ladder_scan.specs.Likenesses.{like_either, likenesses};
+ghost use Rattle.ladder_scan.specs.Likenesses.{AnyLikeness, like_either, likenesses};
 ghost use Rattle.ladder_scan.specs.LikenessLaws.{like_choice_known};
 
 use crate::operations::Operations;
@@ -36,6 +36,8 @@ fn either(one: Likeness, other: Likeness) -> Likeness
 
 impl Operations for Likeness {
     ghost algebra = { likenesses };
+
+    ghost value = { AnyLikeness };
 
     ghost choice_known = { like_choice_known };
 
@@ -82,5 +84,9 @@ impl Operations for Likeness {
                 _ => Likeness::Open,
             },
         }
+    }
+
+    fn is_value(self) -> bool {
+        true
     }
 }

@@ -1,37 +1,26 @@
 //! What travels through a diagram in place of a truth value.
 
-ghost use Rattle.std.specs.Prelude.{◌≡◌, ℕ, Bool, true};
+ghost use Rattle.std.specs.Prelude.{ℕ, Bool};
 ghost use Rattle.ladder_scan.specs.Algebra.{LatticeLaws, AllowsLaws};
-ghost use Rattle.ladder_scan.specs.Truth.{AnyBool, OnePlace, plain_allows};
+ghost use Rattle.ladder_scan.specs.Truth.{OnePlace, plain_allows};
 ghost use Rattle.ladder_scan.specs.TruthLaws.{plain_lattice, plain_allowed};
 
 use crate::operations::Operations;
 
 /// What travels through a diagram in place of a truth value: at each of its places it allows OFF, ON or both. `known` is the signal
-/// that allows just this truth value, at every place.
-///
-/// The laws speak of the values of the type, which are what a program makes by its operations; a type may hold more.
+/// that allows just this truth value, at every place. The laws speak of the values of the type.
 pub trait Signal: Operations {
-    ghost value: { Self → Type 0 };
-
     ghost place: { ℕ → Type 0 };
 
     ghost allows: { Self → ℕ → Bool → Type 0 };
 
-    /// Returns true: each signal that a program holds is a value.
-    fn is_value(self) -> bool
-        ensures answer { result ≡ true }
-        ensures is { value self };
+    ghost lattice: { LatticeLaws Self Self.value Self.algebra };
 
-    ghost lattice: { LatticeLaws Self value Self.algebra };
-
-    ghost allowed: { AllowsLaws Self value Self.algebra place allows };
+    ghost allowed: { AllowsLaws Self Self.value Self.algebra place allows };
 }
 
 /// A truth value is a signal with one place.
 impl Signal for bool {
-    ghost value = { AnyBool };
-
     ghost place = { OnePlace };
 
     ghost allows = { plain_allows };
@@ -39,8 +28,4 @@ impl Signal for bool {
     ghost lattice = { plain_lattice };
 
     ghost allowed = { plain_allowed };
-
-    fn is_value(self) -> bool {
-        true
-    }
 }

@@ -8,7 +8,7 @@ run-requires-clause-gates g c = gates_inside c.args.scene.program.now c.args.sce
 
 pub returns-clause-links : goal.returns-clause-links
 returns-clause-links g c =
-    let s = g.S.Signal in
+    let s = g.S.Operations in
     let o = g.S.Operations.algebra in
     subst (λ (xs : List _). AreLinks o c.args.scene.program.now c.args.storage.now.kept c.args.scene.now c.args.scene.rung c.args.seen.now xs) (sym c.run.ensures)
     (links_are o s.value g.met.S.Signal.lattice c.args.scene.program.now c.args.storage.now.kept c.args.scene.now c.args.scene.rung c.args.seen.now c.requires.values

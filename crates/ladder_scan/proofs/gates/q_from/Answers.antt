@@ -32,7 +32,7 @@ returns-else-has_second g c =
     let o = g.S.Operations.algebra in
     let none : is_some (traits_of a.kind).second_input ≡ false = sym c.has_second.ensures ∙ c.if-has_second.false in
     let same : (x y : Bool) → x ≡ y → o.known y ≡ o.choice a.second (o.known x) (o.known y) =
-    λ x y e. sym (ap (λ z. o.choice a.second (o.known z) (o.known y)) e ∙ g.S.Operations.choice_known a.second y) in
+    λ x y e. sym (ap (λ z. o.choice a.second (o.known z) (o.known y)) e ∙ g.S.Operations.choice_known a.second y c.is_value-is_value.ensures.is) in
     let on = c.known-else-has_second.ensures ∙ ap o.known c.q_after-on.ensures
     ∙ same (q_of (step a.kind a.preset a.stored true true a.now)) _ (ap q_of (one_input a.kind none a.preset a.stored true true false a.now)) in
     let off = c.known-else-has_second-2.ensures ∙ ap o.known c.q_after-off.ensures

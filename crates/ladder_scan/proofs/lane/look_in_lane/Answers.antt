@@ -6,8 +6,8 @@ use Rattle.ladder_scan.proofs.lane.look_in_lane.Goals as goal
 
 pub returns-clause-value : goal.returns-clause-value
 returns-clause-value g c = λ d h now xs ys both wide_is.
-    let a = g.L.Left.Signal.algebra in
-    let b = g.L.Right.Signal.algebra in
+    let a = g.L.Left.Operations.algebra in
+    let b = g.L.Right.Operations.algebra in
     let R = g.L.Relation.related c.args.lane in
     let kept = g.met.L.Relation.kept c.args.lane in
     let there = get_kept a b R kept (after_look a d now xs h) (after_look b d now ys h) (c.related.ensures c.args.lane d h now xs ys both)

@@ -9,7 +9,7 @@ use Rattle.ladder_scan.proofs.looking.look.Goals as goal
 
 pub look_rungs-requires-clause-values : goal.look_rungs-requires-clause-values
 look_rungs-requires-clause-values g c =
-    begin_values g.S.Operations.algebra g.S.Signal.value g.met.S.Signal.lattice (diagram_of c.args.program.now) c.args.inputs.now c.requires.inputs c.state.inside.storage c.begin.new.seen c.begin.ensures
+    begin_values g.S.Operations.algebra g.S.Operations.value g.met.S.Signal.lattice (diagram_of c.args.program.now) c.args.inputs.now c.requires.inputs c.state.inside.storage c.begin.new.seen c.begin.ensures
 
 pub returns-clause-values : goal.returns-clause-values
 returns-clause-values g c =

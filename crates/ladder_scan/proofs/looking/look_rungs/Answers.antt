@@ -12,7 +12,7 @@ go-requires-clause-steps g c =
 
 pub returns : goal.returns
 returns g c =
-    let s = g.S.Signal in
+    let s = g.S.Operations in
     let o = g.S.Operations.algebra in
     let p = c.args.base.program.now in
     let k = c.args.base.storage.now.kept in
