@@ -1,5 +1,5 @@
--- The signal of 64 lanes of three values in two words: a lane is ON where its bit of `on` is 1, OFF where its bit of `off` is 1, and OPEN
--- where neither is.
+-- Private to the cursor: the signal of 64 lanes of three values in two words. A lane is ON where its bit of `on` is 1, OFF where its bit
+-- of `off` is 1, and OPEN where neither is.
 use Rattle.std.specs.Prelude.{◌≡◌, ℕ, ◌+◌, ◌-◌, ◌/◌, ◌%◌, ◌^◌, ◌<◌, ◌≤◌, ◌==◌, Bool, true, false, if◌then◌else◌, nat_lt, bit_and, bit_or}
 use Rattle.std.specs.Int.{bit_at}
 use Rattle.ladder_scan.specs.Algebra.{Algebra}
@@ -35,9 +35,11 @@ pub record AreRails (on off : ℕ) : Type 0 where
 abbrev pub IsRails : Lanes → Type 0
 IsRails x = AreRails x.on x.off
 
+-- the truth values that a lane allows
 abbrev pub lane_allows : Lanes → ℕ → Bool → Type 0
 lane_allows x p b = (bit_at x.on p ≡ 1 → b ≡ true) × (bit_at x.off p ≡ 1 → b ≡ false)
 
+-- the two bits of a value
 abbrev pub on_digit : Tri → ℕ
 on_digit On = 1
 on_digit Off = 0
@@ -53,7 +55,8 @@ abbrev pub InLane : ℕ → Lanes → Tri → Type 0
 InLane p x t = (bit_at x.on p ≡ on_digit t) × (bit_at x.off p ≡ off_digit t)
 
 -- ---- Lanes as prefixes. Of 64 * 2 ^ u numbers, all with the same higher bits, lane l stands for the longest open part whose middle is
--- l * 2 ^ u: the prefix whose completions have this middle. So a lane knows the bits above its lowest 1.
+-- l * 2 ^ u: the prefix whose completions have this middle. So lane l knows bit t, counted from the unit, where l has a 1 below it, and has
+-- it as l has it: here the lanes that know it as 1, and those that know it as 0.
 abbrev pub lane_on : ℕ → ℕ
 lane_on t = if t == 1 then 9838263505978427528 else (if t == 2 then 16204198715729174752 else (if t == 3 then 18302908165848628736
     else (if t == 4 then 18446181128050966528 else (if t == 5 then 18446744065119617024 else 0))))

@@ -1,4 +1,4 @@
-use Rattle.std.proofs.Common.{◌∙◌, ap, false, slice_index_or, subst}
+use Rattle.std.proofs.Common.{◌∙◌, ap, false, slice_index_or}
 use Rattle.std.proofs.lemmas.List.{get_or-set_same}
 use Rattle.ladder_scan.specs.SignalScan.{after_look}
 use Rattle.ladder_scan.proofs.Kept.{get_kept}
