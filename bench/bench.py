@@ -40,6 +40,8 @@ CASES = [
     Case("6 pairs, 12 inputs", "six_pairs", inputs(1, 12), 3_367, 79, 63),
     Case("12 pairs, 24 inputs", "twelve_pairs", inputs(1, 24), 16_245_775, 59_047, 4_095),
     Case("parity of 20 inputs", "parity20", inputs(1, 20), 524_288, 32_767, 524_288),
+    Case("parity of 20, 12 in a row", "xorand32", inputs(1, 32), 524_288, 8_388_607, 524_288),
+    Case("two equal words of 16", "equal32", inputs(1, 32), 65_536, 1_441_791, 65_536),
     Case("three stations: feed", "three_stations", STATIONS, 46_336, 1_503, 71, "Feed", STORED),
     Case("three stations: second", "three_stations", STATIONS, 8_192, 1_055, 1, "Run2", STORED),
     Case("three stations: horn", "three_stations", STATIONS, 0, 1_071, 0, "Horn", STORED),

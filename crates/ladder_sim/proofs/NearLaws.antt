@@ -127,7 +127,7 @@ part_of_front a m e xs ys h same =
     sym (cut_front a m e xs h) ∙ ap (λ zs. take m (drop a zs)) same ∙ cut_front a m e ys h
 
 -- one part more, of parts that stand one behind the other
-parts_more : (f : ℕ → List ℕ) (step m : ℕ) (text part : List ℕ) (at k i : ℕ) → at ≡ step * i → ((j : ℕ) → j < i → step * j + m ≤ at)
+pub parts_more : (f : ℕ → List ℕ) (step m : ℕ) (text part : List ℕ) (at k i : ℕ) → at ≡ step * i → ((j : ℕ) → j < i → step * j + m ≤ at)
     → at ≤ length text → m ≤ length part → ((j : ℕ) → j < i → take m (drop (step * j) text) ≡ f j) → take m part ≡ f i
     → (j : ℕ) → j < i + 1 → take m (drop (step * j) (put_mid at k text part)) ≡ f j
 parts_more f step m text part at k i here apart room long so_far is j less =

@@ -3,6 +3,7 @@ pub mod Rows
 pub mod Kept
 pub mod Limit
 pub mod GroupText
+pub mod Fours
 pub mod TermText
 pub mod TermParts
 pub mod Forms

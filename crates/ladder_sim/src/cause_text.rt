@@ -78,7 +78,7 @@ pub(crate) fn add_header<W: Sink>(
 }
 
 /// The digit of a bit.
-fn digit(bit: bool) -> u8
+pub(crate) fn digit(bit: bool) -> u8
     ensures { result ∷ [] ≡ bit_text bit }
 {
     if bit { b'1' } else { b'0' }

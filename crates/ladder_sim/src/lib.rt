@@ -5,6 +5,7 @@ mod cause_text;
 mod group_text;
 mod kept;
 mod near;
+mod table;
 mod term_text;
 
 pub use cause_text::{Summary, write_causes};
