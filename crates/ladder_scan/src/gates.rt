@@ -40,7 +40,7 @@ fn contact<S: Signal>(mode: Mode, operand: S, memory: S) -> S
     }
 }
 
-fn closed<S: Signal>(cell: Cell, seen: &Signals<S>, memory: S) -> S
+pub(crate) fn closed<S: Signal>(cell: Cell, seen: &Signals<S>, memory: S) -> S
     ensures { result ≡ closed S.algebra seen.now memory cell }
 {
     match cell {
