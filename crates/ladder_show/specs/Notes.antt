@@ -1,5 +1,6 @@
 -- What is written beside the drawing: the values of the variables, and how far timers and counters are.
-use Rattle.std.specs.Prelude.{ℕ, ◌+◌, ◌-◌, ◌/◌, ◌%◌, min, Bool, true, false, not, ◌&&◌, ◌||◌, ◌==◌, position, if◌then◌else◌, List, [], ◌++◌, codes, decimal, length, slice_get, slice_index_or, Option, Some, None}
+use Rattle.std.specs.Prelude.{ℕ, ◌+◌, ◌-◌, ◌/◌, ◌%◌, min, Bool, true, false, not, ◌&&◌, ◌||◌, ◌==◌, position, if◌then◌else◌, List, [], ◌++◌, codes, nat_lt, take, decimal, length, slice_get, slice_index_or, Option, Some, None}
+use Rattle.std.specs.List.{count_by}
 use Rattle.std.specs.Fmt.{signed_decimal}
 use Rattle.ladder_vars.specs.Decls.{Declared, is_input}
 use Rattle.ladder_vars.specs.declared.decls.Var.{Var}
@@ -49,23 +50,34 @@ rung_notes p after marks rung = each (place_note p after marks rung) PLACES
 
 -- ---- variables
 
-abbrev pub value_text : List ℕ → Bool → List ℕ
-value_text name true = codes " " ++ (name ++ codes "=1")
-value_text name false = codes " " ++ (name ++ codes "=0")
-
 -- an input, or a variable that is none
 abbrev pub is_among : Bool → Var → Bool
 is_among true v = is_input v
 is_among false v = not (is_input v)
 
+-- how many of these are declared before the variable
+abbrev pub noted_before : Bool → List Var → ℕ → ℕ
+noted_before inputs vars var = count_by (is_among inputs) (take var vars)
+
+-- What stands before a value, where so many come before it: a comment has eight values.
+abbrev pub lead : ℕ → List ℕ
+lead many = if nat_lt 0 many && many % 8 == 0 then codes " *)\n(* " else codes " "
+
+abbrev pub value_text : ℕ → List ℕ → Bool → List ℕ
+value_text many name true = lead many ++ (name ++ codes "=1")
+value_text many name false = lead many ++ (name ++ codes "=0")
+
 -- a variable with its value, where it is one of these
-abbrev pub var_note : Bool → Standing → ℕ → Option Var → List ℕ
-var_note inputs after var None = []
-var_note inputs after var (Some v) =
-    if is_among inputs v then value_text v.name (slice_index_or after.held.values var false) else []
+abbrev pub var_note : Bool → Standing → ℕ → ℕ → Option Var → List ℕ
+var_note inputs after many var None = []
+var_note inputs after many var (Some v) =
+    if is_among inputs v then value_text many v.name (slice_index_or after.held.values var false) else []
+
+abbrev pub numbered_note : Bool → Declared → Standing → ℕ → List ℕ
+numbered_note inputs declared after var = var_note inputs after (noted_before inputs declared.vars var) var (slice_get declared.vars var)
 
 abbrev pub var_notes : Bool → Declared → Standing → List ℕ
-var_notes inputs declared after = each (λ var. var_note inputs after var (slice_get declared.vars var)) (length declared.vars)
+var_notes inputs declared after = each (numbered_note inputs declared after) (length declared.vars)
 
 abbrev pub moment_text : Standing → List ℕ
 moment_text after = codes "(* at " ++ (decimal after.moment ++ codes " ms:")

@@ -1,9 +1,9 @@
 //! What is written beside the drawing.
 
-ghost use Rattle.std.specs.Prelude.{◌≡◌, ◌<◌, option_map, slice_get};
+ghost use Rattle.std.specs.Prelude.{◌≡◌, ◌<◌, ◌≤◌, ◌+◌, length, option_map};
 ghost use Rattle.ladder_page.specs.declared.geometry.TheConstants.{PLACES};
 ghost use Rattle.ladder_text.specs.Block.{Sends};
-ghost use Rattle.ladder_show.specs.Notes.{cell_note, head_line, instance_note, is_among, moment_text, place_note, rung_notes, stored_note, tail_line, value_text, var_note, var_notes};
+ghost use Rattle.ladder_show.specs.Notes.{cell_note, head_line, instance_note, is_among, lead, moment_text, noted_before, numbered_note, place_note, rung_notes, stored_note, tail_line, value_text, var_note, var_notes};
 
 use crate::show::mark_in;
 use ladder_grid::{Cell, Program};
@@ -161,20 +161,31 @@ fn is_among(inputs: bool, var: &Var) -> bool
     }
 }
 
+fn lead(many: usize) -> &'static [u8]
+    ensures { result.now ≡ lead many }
+{
+    if 0 < many && many % 8 == 0 {
+        b" *)\n(* "
+    } else {
+        b" "
+    }
+}
+
 fn add_value<W: Sink>(
     block: &mut Block,
+    many: usize,
     name: &[u8],
     value: bool,
     writer: &mut W,
 ) -> Result<(), WriteFault>
-    ensures { Sends (W.log writer.old) (W.log writer.new) block.old block.new result (value_text name.now value) }
+    ensures { Sends (W.log writer.old) (W.log writer.new) block.old block.new result (value_text many name.now value) }
 {
     let end = if value {
         Piece::Text(b"=1")
     } else {
         Piece::Text(b"=0")
     };
-    let pieces = [Piece::Text(b" "), Piece::Text(name), end];
+    let pieces = [Piece::Text(lead(many)), Piece::Text(name), end];
     add_pieces(block, pieces.as_slice(), writer)
 }
 
@@ -182,16 +193,23 @@ fn add_var_note<W: Sink>(
     block: &mut Block,
     inputs: bool,
     after: &State,
+    many: usize,
     number: usize,
     var: Option<&Var>,
     writer: &mut W,
 ) -> Result<(), WriteFault>
-    ensures { Sends (W.log writer.old) (W.log writer.new) block.old block.new result (var_note inputs after.now number (option_map (λ v. v.now) var.entry)) }
+    ensures { Sends (W.log writer.old) (W.log writer.new) block.old block.new result (var_note inputs after.now many number (option_map (λ v. v.now) var.entry)) }
 {
     match var {
         Some(var) => {
             if is_among(inputs, var) {
-                add_value(block, var.name.bytes(), after.value_or_off(number), writer)
+                add_value(
+                    block,
+                    many,
+                    var.name.bytes(),
+                    after.value_or_off(number),
+                    writer,
+                )
             } else {
                 block.add(b"", writer)
             }
@@ -205,19 +223,37 @@ fn add_numbered_note<W: Sink>(
     inputs: bool,
     decls: &Decls,
     after: &State,
+    many: usize,
     number: usize,
     writer: &mut W,
 ) -> Result<(), WriteFault>
-    ensures { Sends (W.log writer.old) (W.log writer.new) block.old block.new result (var_note inputs after.now number (slice_get decls.now.vars number)) }
+    requires { many ≡ noted_before inputs decls.now.vars number }
+    ensures { Sends (W.log writer.old) (W.log writer.new) block.old block.new result (numbered_note inputs decls.now after.now number) }
 {
     add_var_note(
         block,
         inputs,
         after,
+        many,
         number,
         decls.vars().get(number),
         writer,
     )
+}
+
+/// How many of these variables are declared up to this one, where so many come before it.
+fn noted_with(inputs: bool, vars: &[Var], number: usize, many: usize) -> usize
+    requires within { number < length vars.now }
+    requires many { many ≡ noted_before inputs vars.now number }
+    requires few { many ≤ number }
+    ensures value { result ≡ noted_before inputs vars.now (number + 1) }
+    ensures few { result ≤ number + 1 }
+{
+    if is_among(inputs, &vars[number]) {
+        many + 1
+    } else {
+        many
+    }
 }
 
 /// Adds the values of the inputs, or of all other variables.
@@ -230,8 +266,11 @@ fn add_var_notes<W: Sink>(
 ) -> Result<(), WriteFault>
     ensures { Sends (W.log writer.old) (W.log writer.new) block.old block.new result (var_notes inputs decls.now after.now) }
 {
-    for number in 0..decls.vars().len() {
-        add_numbered_note(block, inputs, decls, after, number, writer)?;
+    let vars = decls.vars();
+    let mut many = 0;
+    for number in 0..vars.len() {
+        add_numbered_note(block, inputs, decls, after, many, number, writer)?;
+        many = noted_with(inputs, vars, number, many);
     }
     Ok(())
 }
