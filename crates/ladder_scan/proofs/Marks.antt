@@ -5,7 +5,7 @@ use Rattle.std.proofs.lemmas.Bool.Decides.{nat_tests}
 use Rattle.std.proofs.lemmas.List.{get_or_append_left, get_or-append_right}
 use Rattle.ladder_vars.specs.Decls.{is_input}
 use Rattle.ladder_page.specs.AllPlaces.{first_places}
-use Rattle.ladder_page.proofs.PlaceLaws.{first_places-at, length-first_places}
+use Rattle.ladder_page.proofs.PlaceLaws.{first_places-at, length-first_places, same_list}
 use Rattle.ladder_grid.specs.Program.{Drawing}
 use Rattle.ladder_scan.specs.declared.seen.Mark.{Mark}
 use Rattle.ladder_scan.specs.Cells.{Diagram}
@@ -14,7 +14,7 @@ use Rattle.ladder_scan.specs.Rung.{Held, evaluated, link_at}
 use Rattle.ladder_scan.specs.RungByRung.{Scanned, scanned}
 use Rattle.ladder_scan.specs.Scan.{given, next_rung}
 use Rattle.ladder_scan.specs.Programs.{diagram_of, IsSound}
-use Rattle.ladder_scan.specs.Seen.{AreMarks, AreMarksFrom, Comes, PassesOver, at_first, goes_on, mark_in, mark_passed}
+use Rattle.ladder_scan.specs.Seen.{AreMarks, AreMarksFrom, Comes, OneSight, PassesOver, at_first, goes_on, mark_in, mark_passed}
 use Rattle.ladder_scan.specs.Marking.{mark_of, marks_below}
 use Rattle.ladder_scan.proofs.ByList.{next_after}
 use Rattle.ladder_scan.proofs.Rungs.{gone_through, passed_over}
@@ -197,3 +197,59 @@ marks_begun p sound now inputs h begun marks b e =
     (sym (e ∙ ap (marks_below d now begun) (rungs_back p)
     ∙ ap (λ (x : Held). marks_below d now x d.rungs) (b ∙ ap (λ (fs : List Bool). record h { values = given fs inputs h.values }) (inputs_back p))))
     (marks_from d sound.forward now first)
+
+-- ---- no other marks
+
+-- until the rung at which it goes on, the scan stays as it is
+stays : (d : Diagram) (now : ℕ) (first : Held) (i n : ℕ) (s : Scanned) → scanned d now first i ≡ s → i + n ≤ s.resume → scanned d now first (i + n) ≡ s
+stays d now first i zero s e h =
+    let here : i + 0 ≡ i = omega arith in ap (scanned d now first) here ∙ e
+stays d now first i (suc n) s e h =
+    let there : i + suc n ≡ i + n + 1 = omega arith in
+    let before = stays d now first i n s e (omega (arith, h)) in
+    let over : i + n < s.resume = omega (arith, h) in
+    ap (scanned d now first) there
+    ∙ passed_over d now first (i + n) (subst (λ (x : Scanned). i + n < x.resume) (sym before) over)
+    ∙ before
+
+-- from a rung that is evaluated to the next one
+until_next : (d : Diagram) (now : ℕ) (first start : Held) (j i : ℕ) → scanned d now first j ≡ record { held = start; resume = j } → j < i → i ≤ next_rung d now j start
+    → scanned d now first i ≡ record { held = evaluated d now j start; resume = next_rung d now j start }
+until_next d now first start j i here above within =
+    let s : Scanned = record { held = evaluated d now j start; resume = next_rung d now j start } in
+    let on : (scanned d now first j).resume ≤ j = omega (arith, ap (λ (x : Scanned). x.resume) here) in
+    let one : scanned d now first (j + 1) ≡ s =
+    gone_through d now first j on ∙ ap (λ (x : Scanned). record { held = evaluated d now j x.held; resume = next_rung d now j x.held }) here in
+    let there : i ≡ j + 1 + (i - (j + 1)) = omega (arith, above) in
+    let far : j + 1 + (i - (j + 1)) ≤ next_rung d now j start = omega (arith, above, within) in
+    ap (scanned d now first) there ∙ stays d now first (j + 1) (i - (j + 1)) s one far
+
+at_rung : (d : Diagram) → Forward d → (now : ℕ) (first : Held) (j : ℕ) (start : Held) → Comes d now first j start
+    → scanned d now first j ≡ record { held = start; resume = j }
+unfolding scanned
+at_rung d forward now first _ _ at_first = refl
+at_rung d forward now first _ _ (goes_on j start comes) =
+    let ahead : j < next_rung d now j start = next_after j (d.jump j) (link_at d now j start) (forward j) in
+    until_next d now first start j (next_rung d now j start) (at_rung d forward now first j start comes) ahead (omega arith)
+
+told : (d : Diagram) → Forward d → (now : ℕ) (first : Held) (j place : ℕ) (m : Mark) → Marked d now first j place m
+    → m ≡ mark_of d now j (scanned d now first j) place
+told d forward now first j place m (inl (start, comes, e)) =
+    let by = λ (b : Bool). cond b (mark_passed start (d.cell j place)) (mark_in d now j start place) in
+    e ∙ sym (ap (λ (s : Scanned). mark_of d now j s place) (at_rung d forward now first j start comes) ∙ ap by (is_not_less j j (omega arith)))
+told d forward now first j place m (inr (kept, over, e)) =
+    let by = λ (b : Bool). cond b (mark_passed (evaluated d now over.above over.start) (d.cell j place)) (mark_in d now j (evaluated d now over.above over.start) place) in
+    let here = at_rung d forward now first over.above over.start over.comes in
+    let within : j ≤ next_rung d now over.above over.start = omega (arith, over.between.1) in
+    e
+    ∙ ap (λ (h : Held). mark_passed h (d.cell j place)) over.leaves
+    ∙ sym (ap (λ (s : Scanned). mark_of d now j s place) (until_next d now first over.start over.above j here over.between.0 within)
+    ∙ ap by (is_less j (next_rung d now over.above over.start) over.between.1))
+
+pub one_sight : (d : Diagram) → Forward d → OneSight d
+one_sight d forward = λ now inputs h a b p q.
+    let first : Held = record { values = given d.inputs inputs h.values; kept = h.kept } in
+    same_list (record { evaluated = false; left = false; right = false; on = false }) d.rungs a b p.as_many q.as_many (λ k r c below rows columns.
+    let within : 6 * c + r < 60 = omega (arith, rows, columns) in
+    told d forward now first k (6 * c + r) _ (p.each k (6 * c + r) below within)
+    ∙ sym (told d forward now first k (6 * c + r) _ (q.each k (6 * c + r) below within)))
