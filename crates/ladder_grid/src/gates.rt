@@ -108,7 +108,7 @@ fn last_feeder(sheet: Sheet<'_>, rung: usize, row: usize, column: usize, count: 
     last
 }
 
-fn left_of(sheet: Sheet<'_>, rung: usize, at: usize) -> u8
+pub(crate) fn left_of(sheet: Sheet<'_>, rung: usize, at: usize) -> u8
     requires rungs { rung < RUNGS }
     requires places { at < PLACES }
     ensures { result ≡ left_of (drawing_of sheet.entry) rung at }
@@ -147,7 +147,7 @@ fn is_linked(cell: Cell) -> bool
     }
 }
 
-fn below_of(sheet: Sheet<'_>, rung: usize, at: usize) -> u8
+pub(crate) fn below_of(sheet: Sheet<'_>, rung: usize, at: usize) -> u8
     requires rungs { rung < RUNGS }
     requires places { at < PLACES }
     ensures { result ≡ below_of (drawing_of sheet.entry) rung at }

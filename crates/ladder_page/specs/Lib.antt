@@ -21,3 +21,4 @@ pub mod PageRules
 pub mod Checks
 pub mod ReadLines
 pub mod Stops
+pub mod Outline

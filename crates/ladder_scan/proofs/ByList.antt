@@ -22,7 +22,7 @@ either_after n target true h = h
 either_after n target false h = omega arith
 
 -- the next rung is a later one
-next_after : (n : ℕ) (leap : Option (ℕ × ℕ)) (links : ℕ → Bool) → ((place target : ℕ) → leap ≡ Some (place, target) → n < target)
+pub next_after : (n : ℕ) (leap : Option (ℕ × ℕ)) (links : ℕ → Bool) → ((place target : ℕ) → leap ≡ Some (place, target) → n < target)
     → n < rung_after n leap links
 next_after n None links h = omega arith
 next_after n (Some (place, target)) links h = either_after n target (links place) (h place target refl)

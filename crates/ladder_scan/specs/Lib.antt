@@ -16,6 +16,8 @@ pub mod Lanes
 pub mod Programs
 pub mod Standing
 pub mod Sheets
+pub mod Seen
 pub mod RungByRung
+pub mod Marking
 pub mod Gating
 pub mod Stepping

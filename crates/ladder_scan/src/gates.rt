@@ -41,7 +41,7 @@ fn contact<S: Operations>(mode: Mode, operand: S, memory: S) -> S
     }
 }
 
-fn closed<S: Operations>(cell: Cell, seen: &Signals<S>, memory: S) -> S
+pub(crate) fn closed<S: Operations>(cell: Cell, seen: &Signals<S>, memory: S) -> S
     ensures { result ≡ closed S.algebra seen.now memory cell }
 {
     match cell {

@@ -3,6 +3,7 @@
 ghost use Rattle.ladder_scan.specs.Relations.{AllowsAt, IsKept, allows_kept};
 ghost use Rattle.ladder_scan.specs.Laws.{FollowsJumps, LookAllows, LookIsScan, LookKeeps};
 ghost use Rattle.ladder_scan.specs.Programs.{diagram_of};
+ghost use Rattle.ladder_scan.specs.Seen.{OneSight};
 ghost use Rattle.ladder_scan.specs.Histories.{TonHistory, TofHistory, TpHistory, CtuHistory, CtdHistory, SrHistory, RsHistory};
 
 use crate::scene::checked;
@@ -73,6 +74,13 @@ pub fn look_is_scan(program: &Program)
 /// What a scan leaves is what the evaluation of its rungs leaves, one after the other along the jumps that are taken.
 pub fn scan_follows_jumps(program: &Program)
     ensures { FollowsJumps (diagram_of program.now) }
+{
+    checked(program);
+}
+
+/// A scan has one list of marks.
+pub fn one_sight(program: &Program)
+    ensures { OneSight (diagram_of program.now) }
 {
     checked(program);
 }

@@ -4,13 +4,13 @@ ghost use Rattle.std.specs.Prelude.{◌≡◌, ◌<◌, ◌↔◌, length, map, 
 ghost use Rattle.ladder_page.specs.declared.geometry.TheConstants.{RUNGS};
 ghost use Rattle.ladder_grid.specs.declared.gates.TheConstants.{LINKS};
 ghost use Rattle.ladder_grid.specs.Gates.{left_of};
-ghost use Rattle.ladder_scan.specs.Rung.{evaluated, SameSizes, SameLengths};
+ghost use Rattle.ladder_scan.specs.Rung.{evaluated, frame_of, SameSizes, SameLengths};
 ghost use Rattle.ladder_scan.specs.Scan.{next_rung, after_scan};
 ghost use Rattle.ladder_scan.specs.RungByRung.{rung_after};
 ghost use Rattle.ladder_scan.specs.Programs.{diagram_of, IsSound};
 ghost use Rattle.ladder_scan.specs.Standing.{Fits};
 ghost use Rattle.ladder_scan.specs.RungByRung.{ArePossible, scanned, shape};
-ghost use Rattle.ladder_scan.specs.Gating.{among};
+ghost use Rattle.ladder_scan.specs.Gating.{among, AreLinks};
 ghost use Rattle.ladder_scan.specs.Truth.{plain};
 
 use crate::effects::changes;
@@ -44,9 +44,9 @@ fn rung_after(program: &Program, rung: usize, links: &[bool]) -> usize
     }
 }
 
-/// Evaluates a rung, and returns the rung after it.
+/// Evaluates a rung, and returns the rung after it. What its contacts saw, and its links, are left as it began.
 #[tactic(auto, using(crate::proofs::Acting::by_actions, crate::proofs::Sizes::rung_sizes))]
-fn evaluate(
+pub(crate) fn evaluate(
     scene: Scene<'_>,
     storage: &mut Storage,
     start: &mut Signals<bool>,
@@ -61,6 +61,8 @@ fn evaluate(
     ensures next { result ≡ next_rung (diagram_of scene.entry.program.now) scene.entry.now scene.entry.rung storage.old }
     ensures sizes { SameSizes start.new storage.new }
     ensures links { length links.new ≡ LINKS }
+    ensures start { start.new ≡ frame_of storage.old }
+    ensures flow { AreLinks plain scene.entry.program.now storage.old.kept scene.entry.now scene.entry.rung start.new links.new }
 {
     copy_start(storage, start);
     find_links(scene, storage, start, links);

@@ -1,7 +1,8 @@
 //! The state that is kept from scan to scan.
 
-ghost use Rattle.std.specs.Prelude.{◌≡◌, ◌<◌, ◌≤◌, ◌↔◌, length, map, set, IfOk, IsTrue, slice_get, slice_index_or, Some};
+ghost use Rattle.std.specs.Prelude.{◌≡◌, ◌<◌, ◌≤◌, ◌↔◌, length, map, set, IfOk, IsTrue, slice_get, slice_index_or, false, Some};
 ghost use Rattle.ladder_vars.specs.declared.kind.BlockKind.TheVariants.{Ton};
+ghost use Rattle.ladder_scan.specs.Blocks.{new_block};
 ghost use Rattle.ladder_scan.specs.Standing.{fresh, CanStore, Fits, IsStanding, with_blocks, with_memories, with_moment, with_values};
 
 use crate::block::Stored;
@@ -147,6 +148,20 @@ impl State {
         ensures { slice_get self.now.held.kept.blocks inst ≡ Some result }
     {
         self.storage.blocks[inst]
+    }
+
+    /// What an instance stores, and a timer that was never used past the last one.
+    pub fn stored(&self, inst: usize) -> Stored
+        ensures { result ≡ slice_index_or self.now.held.kept.blocks inst (new_block Ton) }
+    {
+        self.storage.stored(inst)
+    }
+
+    /// The value of a variable, and OFF past the last one.
+    pub fn value_or_off(&self, var: usize) -> bool
+        ensures { result ≡ slice_index_or self.now.held.values var false }
+    {
+        self.storage.value(var)
     }
 
     /// Writes a variable, by its number in order of declaration.

@@ -12,7 +12,7 @@ mod text;
 
 pub use block::Block;
 pub use fault::{ReadFault, WriteFault};
-pub use pieces::{Piece, put_pieces};
+pub use pieces::{Piece, add_pieces, put_pieces};
 pub use short::{SHORT, Short};
 pub use sink::{Sink, WriteFailed, Writing, put};
 pub use source::{ReadFailed, Reading, Source};

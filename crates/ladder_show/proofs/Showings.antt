@@ -1,0 +1,36 @@
+-- What was written is the text of a scan.
+use Rattle.std.proofs.Common.{◌≡◌, ◌∙◌, ℕ, List, ap, drop, length, sym}
+use Rattle.std.specs.Prelude.{◌==◌}
+use Rattle.std.specs.List.{slice_split}
+use Rattle.ladder_page.specs.Outline.{HasOutline, IsOnlyOutline}
+use Rattle.ladder_page.specs.Picture.{Lines}
+use Rattle.ladder_page.specs.declared.lines.Part.{Part}
+use Rattle.ladder_grid.specs.Program.{Drawing}
+use Rattle.ladder_grid.specs.Reading.{IsProgram}
+use Rattle.ladder_scan.specs.declared.seen.Mark.{Mark}
+use Rattle.ladder_scan.specs.Programs.{diagram_of}
+use Rattle.ladder_scan.specs.Seen.{AreMarks}
+use Rattle.ladder_scan.specs.Standing.{Standing}
+use Rattle.ladder_show.specs.Notes.{noted_text}
+use Rattle.ladder_show.specs.Showing.{IsShown, OneScan, state_after}
+
+-- a program has as many rungs as the outline of its text
+pub rungs_of : (text : List ℕ) (p : Drawing) (place : ℕ) (parts ps : List Part) → IsProgram text p → IsOnlyOutline text place parts → ps ≡ parts → length ps ≡ p.rungs
+rungs_of text p place parts ps program only e =
+    ap (λ (xs : List Part). length xs) (e ∙ sym (only program.page program.rest program.read program.reads).1) ∙ sym program.drawn.rungs
+
+pub is_shown : (s : OneScan) (place : ℕ) (parts ps : List Part) (marks ms : List Mark) (after : Standing) (lines : Lines) (rest : List ℕ)
+    → HasOutline s.text place parts → after ≡ state_after s → ps ≡ parts → ms ≡ marks → AreMarks (diagram_of s.program) s.now s.inputs s.state.held marks
+    → lines ≡ slice_split (λ b. b == 10) rest → rest ≡ drop place s.text → IsShown s (noted_text s.program after ps ms lines)
+is_shown s place parts ps marks ms after lines rest outline ea ep em seen el er = record {
+  place = place;
+  parts = parts;
+  marks = marks;
+  outline = outline;
+  seen = seen;
+  text =
+      ap (λ a. noted_text s.program a ps ms lines) ea
+      ∙ ap (λ x. noted_text s.program (state_after s) x ms lines) ep
+      ∙ ap (λ x. noted_text s.program (state_after s) parts x lines) em
+      ∙ ap (noted_text s.program (state_after s) parts marks) (el ∙ ap (slice_split (λ b. b == 10)) er);
+}

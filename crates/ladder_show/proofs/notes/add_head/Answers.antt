@@ -1,0 +1,22 @@
+use Rattle.std.proofs.Common.{◌++◌, true, [], refl, sym, append_assoc}
+use Rattle.ladder_text.proofs.Sending.{sends_prefix, sends_last, sends_more, sends_none, sends_err}
+use Rattle.ladder_show.specs.Notes.{head_line, legend, moment_text, var_notes}
+use Rattle.ladder_show.proofs.notes.add_head.Goals as goal
+
+pub returns-in_err-add_moment : goal.returns-in_err-add_moment
+returns-in_err-add_moment g c = sends_err _ _ _ _ _ _ c.from_residual.ensures.0
+    (let notes = var_notes true c.args.program.now.decls c.args.after.now in
+    sends_prefix _ _ _ c.args.block.now c.args.block.now (head_line c.args.program.now c.args.after.now) [] (moment_text c.args.after.now) (notes ++ legend) refl
+    (sends_none _ c.args.block.now) c.in_err-add_moment.ensures)
+
+pub returns-in_err-add_var_notes : goal.returns-in_err-add_var_notes
+returns-in_err-add_var_notes g c = sends_err _ _ _ _ _ _ c.from_residual-in_err-add_var_notes.ensures.0
+    (let notes = var_notes true c.args.program.now.decls c.args.after.now in
+    sends_prefix _ _ _ _ _ (head_line c.args.program.now c.args.after.now) (moment_text c.args.after.now) notes (legend) refl c.in_ok-add_moment.ensures
+    (rw c.decls.ensures at c.in_err-add_var_notes.ensures))
+
+pub returns : goal.returns
+returns g c =
+    let notes = var_notes true c.args.program.now.decls c.args.after.now in
+    sends_last _ _ _ _ _ _ (head_line c.args.program.now c.args.after.now) ((moment_text c.args.after.now) ++ notes) (legend) _ (sym (append_assoc (moment_text c.args.after.now) notes (legend)))
+    (sends_more _ _ _ _ _ _ (moment_text c.args.after.now) notes c.in_ok-add_moment.ensures (rw c.decls.ensures at c.in_ok-add_var_notes.ensures)) c.add.ensures

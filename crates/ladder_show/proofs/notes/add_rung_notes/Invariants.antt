@@ -1,0 +1,8 @@
+use Rattle.ladder_text.specs.Block.{SendsAll}
+use Rattle.ladder_show.specs.Show.{each}
+use Rattle.ladder_show.specs.Notes.{place_note}
+use Rattle.ladder_show.proofs.notes.add_rung_notes.Given as goal
+
+abbrev pub invariant-loop-at : goal.invariant-loop-at
+invariant-loop-at g l =
+    SendsAll (g.W.Sink.log l.fn.writer) (g.W.Sink.log l.writer) l.fn.block l.block (each (place_note l.program l.after l.marks l.rung) l.at)

@@ -1,0 +1,3 @@
+pub mod Show
+pub mod Notes
+pub mod Showing
