@@ -291,7 +291,6 @@ module _ (p : Drawing) (sound : IsSound (diagram_of p)) (now : ℕ) (h : Held) (
     (long : length links ≡ LINKS) (on : get_or links ON Off ≡ On) (off : get_or links OFF Off ≡ Off)
     (count : length ts ≡ p.rungs) (none : (i : ℕ) → get_or ts i Off ≡ Off)
     (goes : next ≡ (all_gone likenesses p h.kept now (steps_below p p.rungs) (going begun ts links On)).frame) where
-
   abbrev d : Diagram
   d = diagram_of p
 
@@ -307,7 +306,7 @@ module _ (p : Drawing) (sound : IsSound (diagram_of p)) (now : ℕ) (h : Held) (
   known_last : (ws : List (Bool × Bool)) → Both Knows ls ws → BothFrames Knows next (last ws)
   known_last ws k =
       let all : BothGoing likenesses doubled Knows knows_kept p h.kept now (going begun ts links On)
-          (going (look_frame doubled d ws h) (map some ts) (map some links) (true, true)) =
+      (going (look_frame doubled d ws h) (map some ts) (map some links) (true, true)) =
       record { frame = start ws k; taken = all_some ts; links = all_some links; guard = (refl, refl) } in
       subst (λ (f : Frame Likeness). BothFrames Knows f (last ws)) (sym goes)
       (all_gone_kept likenesses doubled Knows knows_kept p h.kept now (steps_below p p.rungs) _ _ all).frame

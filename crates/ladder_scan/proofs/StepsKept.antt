@@ -69,10 +69,9 @@ module _ {A B : Type 0} (a : Algebra A) (b : Algebra B) (R : A → B → Type 0)
       → BothFrames R (acted a k m xs act f) (acted b k n vs act g)
   acted_kept m n e xs vs l act f g h =
       let value = at_kept a b R r f.values g.values h.0 (var_in act.cell) in
-      let end = at_kept a b R r f.ends g.ends h.1 (block_in act.cell) in
-      (
+      let end = at_kept a b R r f.ends g.ends h.1 (block_in act.cell) in (
         put_kept a b R r f.values g.values h.0 (var_in act.cell) _ _
-        (r.choice _ _ _ _ _ _ e (coil_kept a b R r act.cell _ _ _ _ _ _ (among_kept xs vs l act.left) (r.known _) value) value),
+            (r.choice _ _ _ _ _ _ e (coil_kept a b R r act.cell _ _ _ _ _ _ (among_kept xs vs l act.left) (r.known _) value) value),
         put_kept a b R r f.ends g.ends h.1 (block_in act.cell) _ _ (r.choice _ _ _ _ _ _ e (among_kept xs vs l (OWN + act.place)) end),
       )
 

@@ -10,8 +10,8 @@ ghost use Rattle.ladder_scan.specs.Programs.{diagram_of, IsSound};
 ghost use Rattle.ladder_scan.specs.Gating.{IsPlaced, among, acted, changes_of};
 
 use crate::block;
-use crate::scene::{Scene, instance};
 use crate::operations::Operations;
+use crate::scene::{Scene, instance};
 use crate::signals::Signals;
 use crate::storage::Storage;
 use ladder_grid::Cell;

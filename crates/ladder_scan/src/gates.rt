@@ -10,9 +10,9 @@ ghost use Rattle.ladder_scan.specs.Programs.{diagram_of, IsSound};
 ghost use Rattle.ladder_scan.specs.Gating.{among, own, passed, ran, IsInside, AreLinks, AreValues};
 
 use crate::block::{Stored, has_second, step};
+use crate::operations::Operations;
 use crate::scene::{Scene, cell, instance};
 use crate::signal::Signal;
-use crate::operations::Operations;
 use crate::signals::Signals;
 use crate::storage::Storage;
 use ladder_grid::Cell;

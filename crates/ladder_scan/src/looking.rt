@@ -105,7 +105,12 @@ impl<S: Operations> Work<S> {
 }
 
 /// What the rungs of a look begin with: the given inputs, and all that is stored.
-pub(crate) fn begin<S: Operations>(program: &Program, storage: &Storage, inputs: &[S], seen: &mut Signals<S>)
+pub(crate) fn begin<S: Operations>(
+    program: &Program,
+    storage: &Storage,
+    inputs: &[S],
+    seen: &mut Signals<S>,
+)
     requires { SameSizes seen.old storage.now }
     ensures { seen.new ≡ look_frame S.algebra (diagram_of program.now) inputs.now storage.now }
 {

@@ -14,8 +14,8 @@ ghost use Rattle.ladder_scan.specs.Stepping.{keeping, passing, storing, links_af
 
 use crate::effects::any_effect;
 use crate::gates::{link_at, q_from, through_cell};
-use crate::scene::{Scene, cell, instance};
 use crate::operations::Operations;
+use crate::scene::{Scene, cell, instance};
 use crate::signals::Signals;
 use crate::storage::Storage;
 use ladder_grid::Program;
