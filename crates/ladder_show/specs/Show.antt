@@ -1,15 +1,15 @@
 -- The drawing with the power flow of a scan: the text itself, in which the characters of what has power or is ON are replaced.
 -- Rungs, rows, columns, lines and places are counted from 0.
-use Rattle.std.specs.Prelude.{◌≡◌, ◌<◌, ℕ, ◌+◌, ◌-◌, ◌*◌, ◌/◌, ◌%◌, Bool, true, false, not, ◌&&◌, ◌||◌, ◌==◌, nat_le, nat_lt, codes, position, Option, Some, None, if◌then◌else◌, List, [], ◌∷◌, ◌++◌, length, slice_index_or, slice_range}
+use Rattle.std.specs.Prelude.{◌≡◌, ◌<◌, ℕ, ◌+◌, ◌-◌, ◌*◌, ◌/◌, ◌%◌, Bool, not, ◌&&◌, ◌||◌, ◌==◌, nat_le, nat_lt, codes, position, Option, Some, None, if◌then◌else◌, List, [], ◌∷◌, ◌++◌, length, slice_index_or, slice_range, zero, suc}
 use Rattle.std.specs.List.{list_all}
-use Rattle.std.proofs.Common.{zero, suc}
 use Rattle.ladder_page.specs.declared.geometry.TheConstants.{PITCH, RAIL}
 use Rattle.ladder_page.specs.Bytes.{space, dash, plus, bar}
-use Rattle.ladder_page.specs.Geometry.{place}
 use Rattle.ladder_page.specs.Picture.{Lines, line_at}
 use Rattle.ladder_page.specs.Lines.{part_in}
 use Rattle.ladder_page.specs.declared.lines.Part.{Part}
 use Rattle.ladder_scan.specs.declared.seen.Mark.{Mark}
+use Rattle.ladder_scan.specs.Cells.{place_at}
+use Rattle.ladder_scan.specs.Seen.{mark_at}
 
 -- the texts of the numbers below n, one after the other
 unfoldable pub each : (ℕ → List ℕ) → ℕ → List ℕ
@@ -18,10 +18,9 @@ each f (suc n) = each f n ++ f n
 
 -- ---- one character
 
--- What is seen at a place; nothing has power or is ON past the last.
+-- what is seen at a place
 abbrev pub mark_in : List Mark → ℕ → ℕ → ℕ → Mark
-mark_in marks rung row column =
-    slice_index_or marks (place rung row column) (record { evaluated = true; left = false; right = false; on = false })
+mark_in marks rung row column = mark_at marks rung (place_at row column)
 
 -- A dash: `=` (61) where it has power, and `.` (46) in a rung that was passed over.
 abbrev pub wire_char : Bool → Bool → ℕ

@@ -23,7 +23,7 @@ pub(crate) fn mark_in(marks: &[Mark], rung: usize, row: usize, column: usize) ->
     match marks.get(PLACES * rung + (ROWS * column + row)) {
         Some(mark) => *mark,
         None => Mark {
-            evaluated: true,
+            evaluated: false,
             left: false,
             right: false,
             on: false,
