@@ -1,6 +1,6 @@
 -- What a look over likenesses leaves is what is known of two scans: likenesses are kept beside the pairs of truth values, which are a
 -- signal, and each side of a pair goes through a look as it does alone.
-use Rattle.std.proofs.Common.{◌≡◌, ℕ, ◌+◌, ◌<◌, Bool, true, false, not, ◌&&◌, ◌||◌, cond, List, [], ◌∷◌, map, length, get_or, zero, suc, refl, sym, ap, ap₂, subst, ◌∙◌, arith}
+use Rattle.std.proofs.Common.{◌≡◌, ℕ, Bool, true, false, not, ◌&&◌, ◌||◌, cond, List, [], ◌∷◌, map, length, get_or, zero, suc, refl, sym, ap, ap₂, subst, ◌∙◌}
 use Rattle.std.proofs.lemmas.List.{length-map}
 use Rattle.ladder_grid.specs.declared.gates.TheConstants.{ON, OFF, LINKS}
 use Rattle.ladder_grid.specs.Program.{Drawing}
@@ -8,18 +8,16 @@ use Rattle.ladder_grid.specs.Steps.{steps_below}
 use Rattle.ladder_scan.specs.Algebra.{Algebra, LatticeLaws}
 use Rattle.ladder_scan.specs.Blocks.{q_of}
 use Rattle.ladder_scan.specs.Cells.{Diagram, Frame}
-use Rattle.ladder_scan.specs.Gating.{AreValues}
 use Rattle.ladder_scan.specs.Likenesses.{AreLike, IsLike, like_choice, like_either, like_inverse, like_join, like_meet, likenesses}
 use Rattle.ladder_scan.specs.Programs.{diagram_of, IsSound}
 use Rattle.ladder_scan.specs.Relations.{Both, BothFrames, IsKept}
 use Rattle.ladder_scan.specs.Rung.{Held, SameSizes}
 use Rattle.ladder_scan.specs.SignalScan.{after_look, look_frame, looked}
-use Rattle.ladder_scan.specs.Stepping.{Going, all_gone, going}
+use Rattle.ladder_scan.specs.Stepping.{all_gone, going}
 use Rattle.ladder_scan.specs.Truth.{plain}
 use Rattle.ladder_scan.specs.TruthLaws.{plain_lattice}
 use Rattle.ladder_scan.specs.declared.likeness.Likeness.{Likeness}
 use Rattle.ladder_scan.specs.declared.likeness.Likeness.TheVariants.{Off, On, Alike, Open}
-use Rattle.ladder_scan.proofs.GateLaws.{AreRailed}
 use Rattle.ladder_scan.proofs.Kept.{all_known, given_kept, look_kept}
 use Rattle.ladder_scan.proofs.Sizes.{look_sizes}
 use Rattle.ladder_scan.proofs.Starts.{by_looks}

@@ -1,6 +1,5 @@
 -- A relation that the operations keep is kept by each step of a look, and by all of them.
 use Rattle.std.proofs.Common.{ℕ, ◌+◌, ◌&&◌, false, List, [], ◌∷◌, nat_lt, refl}
-use Rattle.ladder_vars.specs.declared.kind.BlockKind.TheVariants.{Ton}
 use Rattle.ladder_grid.specs.declared.cell.Cell.{Cell}
 use Rattle.ladder_grid.specs.declared.gates.Action.{Action}
 use Rattle.ladder_grid.specs.declared.gates.Leap.{Leap}

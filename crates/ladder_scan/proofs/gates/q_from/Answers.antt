@@ -4,7 +4,6 @@ use Rattle.ladder_vars.specs.declared.kind.BlockKind.TheVariants.{Ton, Tof, Tp, 
 use Rattle.ladder_vars.specs.Kind.{traits_of}
 use Rattle.ladder_scan.specs.declared.block.Stored.{Stored}
 use Rattle.ladder_scan.specs.declared.block.Stored.TheVariants.{Timer, Counter, Bistable}
-use Rattle.ladder_scan.specs.Algebra.{Algebra, LatticeLaws}
 use Rattle.ladder_scan.specs.Blocks.{step, q_of}
 use Rattle.ladder_scan.proofs.gates.q_from.Goals as goal
 
