@@ -3,7 +3,7 @@ PREFIX ?= /usr/local
 PROGRAM := crates/ladder/out/ladder
 SOURCES := crates.txt $(shell find crates -path '*/out' -prune -o -type f -print)
 
-.PHONY: all run test stress bench install clean
+.PHONY: all run test stress browser bench install clean
 
 all: bin/ladder
 
@@ -29,6 +29,10 @@ test:
 stress: bin/ladder
 	python3 tests/stress.py bin/ladder
 	python3 tests/wrong_bodies.py bin/ladder
+
+# Pages of HTML in a real browser, in light and dark; passed over where there is none.
+browser: bin/ladder
+	python3 tests/browser.py bin/ladder bin/pages
 
 # Timings; they prove nothing and fail nothing.
 bench: bin/ladder

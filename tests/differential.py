@@ -3,11 +3,14 @@
 
 Each drawing has one to five rungs of all forms of cells, joints and vertical links, and breaks no rule; it is asked from the fresh
 state, at any moment. Rows and looks must be the model's, and the rows of groups too,
-in each form and in the sifted order. A drawing with a difference is printed whole.
+in each form and in the sifted order; so must the drawing with the power flow of one number, and its page, with the elements read as
+marks. A drawing with a difference is printed whole.
 """
+import html
 import os
 import pathlib
 import random
+import re
 import sys
 import tempfile
 
@@ -150,8 +153,30 @@ def question(chance, text):
     return chance.choice(depending or coils or [None]), listed
 
 
-def compare(program, folder, text, coil, listed, moment):
-    """The differences of one question."""
+def marked(element):
+    """What an element of a page says of its characters, as marks."""
+    is_live, kind, text = element[1] == "b", element[2], html.unescape(element[3])
+    if kind == "s":
+        return {"|": "[", "(": "{"}[text[0]] + text[1:-1] + {"|": "]", ")": "}"}[text[-1]]
+    signs = {"w": "=" if is_live else "-", "p": ".", "j": "#" if is_live else "+", "v": "!" if is_live else "|", "r": "|"}
+    return signs[kind] * len(text)
+
+
+def without_legend(text, length):
+    """The lines without the first ones behind the inputs, which say what the marks mean."""
+    lines = text.splitlines()
+    legend = next(number for number, line in enumerate(lines) if line.startswith("(* ==="))
+    return lines[:legend] + lines[legend + length:]
+
+
+def read_page(page):
+    """The marked drawing that a page shows."""
+    body = page.split("<pre>\n", 1)[1].rsplit("</pre>", 1)[0]
+    return html.unescape(re.sub(r"<([bi]) class=(\w)>(.*?)</\1>", marked, body))
+
+
+def compare(program, folder, text, coil, listed, moment, number):
+    """The differences of one question, and of the scan with the assignment of this number."""
     pathlib.Path(folder, "program.ld").write_text(text, "ascii")
     model, found = Program(text), []
     wanted = [([], model.answer(coil, listed))]
@@ -160,7 +185,11 @@ def compare(program, folder, text, coil, listed, moment):
     for flags, (out, err) in wanted:
         have = run(program, ["causes", *flags, *moment, "program.ld", coil, *listed], folder)
         found += differences(have, (out.encode(), err.encode(), 0))
-    return found
+    have = run(program, ["show", *moment, "--number", str(number), "program.ld", *listed], folder)
+    drawn = model.shown(listed, number, int((moment or ["", "0"])[1]))
+    found += differences(have, (drawn.encode(), b"", 0))
+    page, said, status = run(program, ["show", "--html", *moment, "--number", str(number), "program.ld", *listed], folder)
+    return found + differences((without_legend(read_page(page.decode()), 2), said, status), (without_legend(drawn, 1), b"", 0))
 
 
 def main():
@@ -176,10 +205,11 @@ def main():
             if coil is None:
                 continue
             compared += 1
-            found = compare(program, folder, text, coil, listed, moment)
+            shown = chance.randrange(2 ** len(listed))
+            found = compare(program, folder, text, coil, listed, moment, shown)
             if found:
                 different += 1
-                print(text, " ".join([*moment, coil, *listed]), *found, sep="\n")
+                print(text, " ".join([*moment, coil, *listed]), f"number {shown}", *found, sep="\n")
     print(f"{number - different} of {number} alike")
     return 1 if different else 0
 

@@ -32,6 +32,7 @@ REQUESTS = (
     (("causes", "--state", "running.csv", "motor.ld", "Motor", "Start", "Stop"), LINES),
     (("causes", "--grouped", "--state", "running.csv", "motor.ld", "Motor", "Start", "Stop"), LINES),
     (("causes", "--grouped", "--st", "--order", "auto", "motor.ld", "Motor", "Start", "Stop"), LINES),
+    (("show", "--state", "running.csv", "--number", "2", "motor.ld", "Start", "Stop"), LINES),
     (("sim", "motor.ld", "back.csv"), ("fault V9\n", "fault X7\n")),
     (("sim", "--save", "saved.csv", "motor.ld", "long.csv"), ("fault V9\n", "fault X7\n")),
     (("sim", "--state", "running.csv", "--save", "saved.csv", "motor.ld", "long.csv"), ("fault V9\n", "fault X7\n")),

@@ -3,8 +3,10 @@
 ghost use Rattle.std.specs.Prelude.{All};
 
 use ladder_causes::{Tri, Word64};
+use ladder_elements::Signal;
 use ladder_grid::{Program, read_program};
-use ladder_scan::{Memory, Signal, State, Work, look, scan};
+use ladder_look::{Work, look};
+use ladder_scan::{Memory, State, scan};
 use std::alloc::Global;
 
 pub(crate) const MOTOR: &[u8] =

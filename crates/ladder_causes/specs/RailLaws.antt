@@ -4,8 +4,8 @@ use Rattle.std.specs.Int.{bit_at}
 use Rattle.std.proofs.Common.{arith, sym, ap, ap₂, ◌∙◌, lit<, zero, suc, ◌⊎◌, inl, inr}
 use Rattle.std.proofs.lemmas.Nat.{or_comm, and_comm, or_lt, and_le_l, and_le_r}
 use Rattle.std.proofs.lemmas.Nat.Bits.{bit_at_and, bit_at_or, same_from_bits, same_from_bits_below, bit_at-lt, bit_at_ones, bit_at-zero}
-use Rattle.ladder_scan.specs.Algebra.{LatticeLaws, AllowsLaws}
-use Rattle.ladder_scan.specs.Relations.{IsKept}
+use Rattle.ladder_elements.specs.Algebra.{LatticeLaws, AllowsLaws}
+use Rattle.ladder_elements.specs.Relations.{IsKept}
 use Rattle.std.specs.Prelude.{◌==◌, nat_lt}
 use Rattle.ladder_causes.specs.Rails.{lane_on, lane_off, rails_opened}
 use Rattle.ladder_causes.specs.Rails.{Lanes, lanes, picked, rails, AreRails, IsRails, lane_allows, on_digit, off_digit, InLane}

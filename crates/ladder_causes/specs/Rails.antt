@@ -2,7 +2,7 @@
 -- of `off` is 1, and OPEN where neither is.
 use Rattle.std.specs.Prelude.{◌≡◌, ℕ, ◌+◌, ◌-◌, ◌/◌, ◌%◌, ◌^◌, ◌<◌, ◌≤◌, ◌==◌, Bool, true, false, if◌then◌else◌, nat_lt, bit_and, bit_or}
 use Rattle.std.specs.Int.{bit_at}
-use Rattle.ladder_scan.specs.Algebra.{Algebra}
+use Rattle.ladder_elements.specs.Algebra.{Algebra}
 use Rattle.ladder_causes.specs.declared.tri.Tri.{Tri}
 use Rattle.ladder_causes.specs.declared.tri.Tri.TheVariants.{Off, On, Unsure}
 

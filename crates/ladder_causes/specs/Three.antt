@@ -1,6 +1,6 @@
 -- The signal of three values: OFF, ON, and OPEN (`Unsure`), which allows both.
 use Rattle.std.specs.Prelude.{◌≡◌, ℕ, Bool, true, false}
-use Rattle.ladder_scan.specs.Algebra.{Algebra}
+use Rattle.ladder_elements.specs.Algebra.{Algebra}
 use Rattle.ladder_causes.specs.declared.tri.Tri.{Tri}
 use Rattle.ladder_causes.specs.declared.tri.Tri.TheVariants.{Off, On, Unsure}
 

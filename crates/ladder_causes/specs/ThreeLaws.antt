@@ -1,8 +1,8 @@
 -- Private to the signal of three values: its laws.
 use Rattle.std.specs.Prelude.{◌≡◌, ℕ, Bool, true, false, not, ◌&&◌, ◌||◌, if◌then◌else◌, refl}
 use Rattle.std.proofs.Common.{arith}
-use Rattle.ladder_scan.specs.Algebra.{LatticeLaws, AllowsLaws}
-use Rattle.ladder_scan.specs.Truth.{OnePlace}
+use Rattle.ladder_elements.specs.Algebra.{LatticeLaws, AllowsLaws}
+use Rattle.ladder_elements.specs.Truth.{OnePlace}
 use Rattle.ladder_causes.specs.Three.{AnyTri, three, three_allows, three_choice, three_inverse, three_join, three_known, three_meet}
 use Rattle.ladder_causes.specs.declared.tri.Tri.{Tri}
 use Rattle.ladder_causes.specs.declared.tri.Tri.TheVariants.{Off, On, Unsure}

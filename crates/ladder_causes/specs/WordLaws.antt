@@ -4,7 +4,7 @@ use Rattle.std.specs.Int.{bit_at, bit_not, w64}
 use Rattle.std.proofs.Common.{arith, sym, ap, ◌∙◌, lit<, zero, suc}
 use Rattle.std.proofs.lemmas.Nat.{or_comm, and_comm, or_lt, and_le_l, and_le_r}
 use Rattle.std.proofs.lemmas.Nat.Bits.{bit_at_and, bit_at_or, bit_at_not, same_from_bits, same_from_bits_below, bit_at-lt, bit_at_ones, bit_at-zero}
-use Rattle.ladder_scan.specs.Algebra.{LatticeLaws, AllowsLaws}
+use Rattle.ladder_elements.specs.Algebra.{LatticeLaws, AllowsLaws}
 use Rattle.ladder_causes.specs.Words.{IsBit, IsWord, word, word_allows, words}
 use Rattle.ladder_causes.specs.declared.word.Word64.{Word64}
 

@@ -1,7 +1,7 @@
 -- The signal of 64 places in a word: place i is the bit of weight 2 ^ i, and allows just that truth value.
 use Rattle.std.specs.Prelude.{◌≡◌, ℕ, ◌-◌, ◌^◌, ◌<◌, Bool, if◌then◌else◌, bit_and, bit_or}
 use Rattle.std.specs.Int.{bit_at, bit_not, w64}
-use Rattle.ladder_scan.specs.Algebra.{Algebra}
+use Rattle.ladder_elements.specs.Algebra.{Algebra}
 use Rattle.ladder_causes.specs.declared.word.Word64.{Word64}
 
 abbrev pub word : ℕ → Word64

@@ -13,6 +13,7 @@ mod order;
 mod probe;
 mod rails;
 mod refusal;
+mod scan_inputs;
 mod source;
 mod tree;
 mod tri;
@@ -22,6 +23,7 @@ pub use causes::Causes;
 pub use fault::CauseFault;
 pub use groups::Groups;
 pub use order::sifted;
+pub use scan_inputs::assignment;
 pub use tri::Tri;
 pub use word::Word64;
 

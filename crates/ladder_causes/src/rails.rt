@@ -6,7 +6,7 @@ ghost use Rattle.ladder_causes.specs.RailLaws.{number_kept, rails_allowed, rails
 ghost use Rattle.ladder_causes.specs.Words.{IsBit};
 
 use crate::tri::Tri;
-use ladder_scan::{Lane, Operations, Relation, Signal};
+use ladder_elements::{Lane, Operations, Relation, Signal};
 use std::marker::Model;
 
 /// Sixty-four lanes of three values. A lane is ON where its bit of `on` is 1, OFF where its bit of `off` is 1, and OPEN where

@@ -1,12 +1,12 @@
 //! The signal of three values.
 
 ghost use Rattle.std.specs.Prelude.{◌≡◌};
-ghost use Rattle.ladder_scan.specs.Truth.{OnePlace};
+ghost use Rattle.ladder_elements.specs.Truth.{OnePlace};
 ghost use Rattle.ladder_causes.specs.Three.{AnyTri, three, three_allows, three_choice};
 ghost use Rattle.ladder_causes.specs.declared.tri.Tri.TheVariants.{Unsure};
 ghost use Rattle.ladder_causes.specs.ThreeLaws.{three_allowed, three_choice_known, three_lattice};
 
-use ladder_scan::{Operations, Signal};
+use ladder_elements::{Operations, Signal};
 
 /// What is known of a truth value. An input whose bit a prefix leaves open is `Unsure`, and so is what may come out either way.
 ///

@@ -3,7 +3,7 @@
 ghost use Rattle.ladder_causes.specs.WordLaws.{words_allowed, words_choice_known, words_lattice};
 ghost use Rattle.ladder_causes.specs.Words.{IsBit, IsWord, word_allows, words};
 
-use ladder_scan::{Operations, Signal};
+use ladder_elements::{Operations, Signal};
 
 /// Sixty-four truth values: place i is the bit of weight 2 ^ i.
 #[derive(Clone, Copy, Debug, PartialEq, Eq)]

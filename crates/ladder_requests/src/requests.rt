@@ -2,7 +2,7 @@
 
 use ladder_calls::memory::{ENDS, End, with_room};
 use ladder_tool::{Texts, perform};
-use ladder_words::{Form, Grouping, InputOrder, Request};
+use ladder_words::{Form, Grouping, InputOrder, Medium, Request};
 use std::alloc::{AllocError, Global};
 
 const MOTOR: &[u8] =
@@ -26,6 +26,10 @@ const COUNT: &[u8] = b"rows 2 looks 1\n";
 /// The same causes in groups.
 const GROUPS: &[u8] = b"causes,Start,Stop\n2,-,0\n";
 
+/// The drawing of the running motor with no button pressed.
+const SHOWN: &[u8] =
+    b"(* at 10 ms: Start=0 Stop=0 *)\n(* === live  [ ] closed, or Q is ON  { } ON after its rung  ... passed over *)\n\n|   Start       Stop        Motor\n|====| |----#====[/]========={ }====\n|   Motor   !\n|====[ ]====#\n\n(* after it: Motor=1 *)\n";
+
 const USES: &[u8] =
     b"name,use,rung,row,column\nStart,contact,1,1,1\nStop,not_contact,1,1,2\nMotor,contact,1,2,1\nMotor,coil,1,1,3\n";
 
@@ -38,6 +42,8 @@ pub(crate) enum Asked {
     Causes(Option<u64>),
     /// The same in groups.
     Groups,
+    /// The drawing with the power flow of a scan from the running motor.
+    Shown,
     /// The trace of a stimulus, and the state after it.
     Saved,
     /// The trace of a stimulus whose last record goes back in time.
@@ -107,6 +113,14 @@ pub(crate) fn request(alloc: Global, asked: Asked) -> Result<Request, AllocError
             coil: String::from_str(alloc, "Motor")?,
             inputs: listed(alloc)?,
         }),
+        Asked::Shown => Ok(Request::Show {
+            state: None,
+            moment: None,
+            number: None,
+            medium: Medium::Text,
+            file,
+            inputs: listed(alloc)?,
+        }),
         Asked::Saved | Asked::Back => {
             let save = String::from_str(alloc, "state.csv")?;
             let stimulus = String::from_str(alloc, "stimulus.csv")?;
@@ -123,7 +137,7 @@ pub(crate) fn request(alloc: Global, asked: Asked) -> Result<Request, AllocError
 fn texts(alloc: Global, asked: Asked) -> Result<Texts, AllocError> {
     let (state, stimulus): (Option<&[u8]>, Option<&[u8]>) = match asked {
         Asked::Check | Asked::Uses => (None, None),
-        Asked::Causes(_) | Asked::Groups => (Some(SAVED), None),
+        Asked::Causes(_) | Asked::Groups | Asked::Shown => (Some(SAVED), None),
         Asked::Saved => (None, Some(STIMULUS)),
         Asked::Back => (None, Some(BACK)),
     };
@@ -160,7 +174,7 @@ fn performed(alloc: Global, asked: Asked, rooms: Rooms) -> Result<Done, AllocErr
 }
 
 /// What is asked, the status, and what is written on each writer.
-const ENDINGS: [(Asked, u8, [&[u8]; 3]); 7] = [
+const ENDINGS: [(Asked, u8, [&[u8]; 3]); 8] = [
     (
         Asked::Check,
         0,
@@ -174,6 +188,7 @@ const ENDINGS: [(Asked, u8, [&[u8]; 3]); 7] = [
         [b"number,Start,Stop\n2,1,0\n", b"", b"rows 1 looks 1\n"],
     ),
     (Asked::Groups, 0, [GROUPS, b"", b"rows 1 causes 2\n"]),
+    (Asked::Shown, 0, [SHOWN, b"", b""]),
     (Asked::Saved, 0, [TRACE, SAVED, b""]),
     (Asked::Back, 1, [TRACE, b"", b"fault X4 row 4\n"]),
 ];
@@ -192,9 +207,10 @@ fn a_request_writes_its_texts(rt: HostRuntime) -> Result<(), AllocError> {
 }
 
 /// A text, and what asks for it.
-const TEXTS: [(Asked, &[u8]); 5] = [
+const TEXTS: [(Asked, &[u8]); 6] = [
     (Asked::Causes(None), ROWS),
     (Asked::Groups, GROUPS),
+    (Asked::Shown, SHOWN),
     (Asked::Uses, USES),
     (Asked::Saved, TRACE),
     (Asked::Back, TRACE),

@@ -4,8 +4,7 @@ use Rattle.std.proofs.lemmas.Bool.Decides.{nat_tests}
 use Rattle.ladder_scan.specs.Cells.{Diagram}
 use Rattle.ladder_scan.specs.Rung.{Held, link_at, evaluated}
 use Rattle.ladder_scan.specs.Scan.{Evaluates, none_left, one_more, evaluated_from, next_rung, given}
-use Rattle.ladder_scan.specs.RungByRung.{rung_after}
-use Rattle.ladder_scan.specs.RungByRung.{Scanned, scanned}
+use Rattle.ladder_scan.specs.RungByRung.{rung_after, Scanned, scanned}
 use Rattle.ladder_scan.specs.Laws.{Forward, FollowsJumps}
 
 unfoldable From : Diagram → ℕ → ℕ → Scanned → Held → Type 0

@@ -3,9 +3,9 @@ use Rattle.std.proofs.Common.{◌≡◌, ℕ, Bool, false, refl}
 use Rattle.ladder_grid.specs.declared.cell.Cell.{Cell}
 use Rattle.ladder_grid.specs.declared.cell.Cell.TheVariants.{Empty, Wire, Contact, Coil, Block, Lower, Jump, Return}
 use Rattle.ladder_grid.specs.Program.{memory_in, block_in}
-use Rattle.ladder_scan.specs.declared.block.Stored.{Stored}
-use Rattle.ladder_scan.specs.Blocks.{step}
-use Rattle.ladder_scan.specs.Truth.{plain}
+use Rattle.ladder_elements.specs.declared.block.Stored.{Stored}
+use Rattle.ladder_elements.specs.Blocks.{step}
+use Rattle.ladder_elements.specs.Truth.{plain}
 use Rattle.ladder_scan.specs.Cells.{Diagram, Frame, at, put_in, var_in, memory_of, operand_value, coil_value}
 use Rattle.ladder_scan.specs.Rung.{Held, held, changed}
 use Rattle.ladder_scan.proofs.Kept.{stored_of}

@@ -6,7 +6,7 @@ use Rattle.std.proofs.lemmas.List.{map-append, append-nil}
 use Rattle.std.proofs.lemmas.List.Elements.{filter-append}
 use Rattle.std.proofs.lemmas.Grind.{flat_map-append}
 use Rattle.std.proofs.lemmas.Bool.Decides.{nat_tests}
-use Rattle.ladder_scan.specs.Algebra.{Algebra, LatticeLaws}
+use Rattle.ladder_elements.specs.Algebra.{Algebra, LatticeLaws}
 use Rattle.ladder_scan.specs.Gating.{join_where}
 use Rattle.ladder_scan.specs.Routes.{join_all, Route, rail, block_end, through, Circuit, routes, route_value, link_with, ends_below, left_link}
 use Rattle.ladder_scan.proofs.Joins.{join_all-value, join_all-append, join_all-meet}

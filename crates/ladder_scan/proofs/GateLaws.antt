@@ -15,7 +15,7 @@ use Rattle.ladder_grid.specs.declared.gates.Gate.{Gate}
 use Rattle.ladder_grid.specs.declared.gates.Literal.TheVariants.{Is, Not, Other}
 use Rattle.ladder_grid.specs.Program.{Drawing, feeds, cell_of, is_block, is_linked}
 use Rattle.ladder_grid.specs.Gates.{literal_on, literal_of, last_of, last_feeder, left_of, other_of, below_of, gate_at, feeds_on, has_gate, gates_before, gates_of}
-use Rattle.ladder_scan.specs.Algebra.{Algebra, LatticeLaws}
+use Rattle.ladder_elements.specs.Algebra.{Algebra, LatticeLaws}
 use Rattle.ladder_scan.specs.Routes.{left_link}
 use Rattle.ladder_scan.specs.Cells.{Diagram, Frame, Kept, q_here}
 use Rattle.ladder_scan.specs.Rung.{second, lower, circuit, link}

@@ -7,8 +7,8 @@ use Rattle.ladder_grid.specs.declared.cell.Operand.{Operand}
 use Rattle.ladder_grid.specs.declared.cell.Operand.TheVariants.{Var, Output}
 use Rattle.ladder_grid.specs.declared.cell.Cell.{Cell}
 use Rattle.ladder_grid.specs.declared.cell.Cell.TheVariants.{Empty, Wire, Contact, Coil, Block, Lower, Jump, Return}
-use Rattle.ladder_scan.specs.declared.block.Stored.{Stored}
-use Rattle.ladder_scan.specs.Algebra.{Algebra, LatticeLaws}
+use Rattle.ladder_elements.specs.declared.block.Stored.{Stored}
+use Rattle.ladder_elements.specs.Algebra.{Algebra, LatticeLaws}
 use Rattle.ladder_scan.specs.Routes.{join_all, left_link, routes, route_value}
 use Rattle.ladder_grid.specs.Program.{is_block}
 use Rattle.ladder_scan.specs.Cells.{Diagram, Frame, Kept, memory_of, closed, contact, operand_value, q_here, q_from}

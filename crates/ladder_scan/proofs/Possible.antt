@@ -11,11 +11,11 @@ use Rattle.ladder_vars.specs.declared.decls.Instance.{Instance}
 use Rattle.ladder_vars.specs.Kind.{largest_preset}
 use Rattle.ladder_grid.specs.declared.cell.Cell.{Cell}
 use Rattle.ladder_grid.specs.declared.cell.Cell.TheVariants.{Empty, Wire, Contact, Coil, Block, Lower, Jump, Return}
-use Rattle.ladder_scan.specs.declared.block.Stored.{Stored}
-use Rattle.ladder_scan.specs.declared.block.Stored.TheVariants.{Timer, Counter, Bistable}
-use Rattle.ladder_scan.specs.Truth.{plain}
-use Rattle.ladder_scan.specs.Blocks.{step, new_block}
-use Rattle.ladder_scan.proofs.Counters.{counted_up, counted_down}
+use Rattle.ladder_elements.specs.declared.block.Stored.{Stored}
+use Rattle.ladder_elements.specs.declared.block.Stored.TheVariants.{Timer, Counter, Bistable}
+use Rattle.ladder_elements.specs.Truth.{plain}
+use Rattle.ladder_elements.specs.Blocks.{step, new_block}
+use Rattle.ladder_elements.proofs.Counters.{counted_up, counted_down}
 use Rattle.ladder_grid.specs.Program.{Drawing, block_in}
 use Rattle.ladder_scan.specs.Cells.{Diagram, Frame, Kept, put_in}
 use Rattle.ladder_scan.proofs.Changes.{stepped, changed_is}
@@ -23,9 +23,8 @@ use Rattle.ladder_scan.proofs.Kept.{stored_of}
 use Rattle.ladder_scan.specs.Rung.{Held, second, changes, frame_of, link_at, evaluated}
 use Rattle.ladder_scan.specs.Scan.{next_rung}
 use Rattle.ladder_scan.specs.Programs.{IsSound}
-use Rattle.ladder_scan.specs.RungByRung.{Scanned, scanned}
+use Rattle.ladder_scan.specs.RungByRung.{Scanned, scanned, ArePossible, IsPossible, shape}
 use Rattle.ladder_scan.specs.Standing.{fresh, AreSound, CanStore}
-use Rattle.ladder_scan.specs.RungByRung.{ArePossible, IsPossible, shape}
 
 -- ---- what an instance can store: its shape, and what is possible
 

@@ -1,14 +1,12 @@
--- A scan, and a look, keep the numbers of variables, memories and instances.
-use Rattle.std.proofs.Common.{length, ◌≡◌, ℕ, Bool, true, false, cond, List, [], ◌∷◌, map, zero, suc, nat_lt, subst, sym, ap, ◌∙◌, refl, Option, Some, None}
+-- A scan keeps the numbers of variables, memories and instances.
+use Rattle.std.proofs.Common.{length, ◌≡◌, ℕ, Bool, true, false, cond, List, [], ◌∷◌, zero, suc, nat_lt, subst, sym, ap, ◌∙◌, refl, Option, Some, None}
 use Rattle.std.proofs.lemmas.List.{length-map, length-set}
 use Rattle.ladder_grid.specs.Program.{block_in, memory_in}
-use Rattle.ladder_scan.specs.Algebra.{Algebra}
-use Rattle.ladder_scan.specs.Truth.{plain}
-use Rattle.ladder_scan.specs.Blocks.{q_of}
-use Rattle.ladder_scan.specs.Cells.{Diagram, Frame, Kept, put_in, var_in}
-use Rattle.ladder_scan.specs.Rung.{Held, changes, effects, frame_of, second, link, link_at, evaluated, SameSizes, SameLengths}
+use Rattle.ladder_elements.specs.Truth.{plain}
+use Rattle.ladder_elements.specs.Blocks.{q_of}
+use Rattle.ladder_scan.specs.Cells.{Diagram, Frame, put_in, var_in}
+use Rattle.ladder_scan.specs.Rung.{Held, changes, frame_of, second, link_at, evaluated, SameSizes, SameLengths}
 use Rattle.ladder_scan.specs.Scan.{given, next_rung}
-use Rattle.ladder_scan.specs.SignalScan.{looked, look_frame, guard_of}
 use Rattle.ladder_scan.specs.RungByRung.{Scanned, scanned}
 use Rattle.ladder_scan.proofs.Changes.{changed_is}
 
@@ -24,7 +22,6 @@ size-given (true ∷ flags) (x ∷ xs) (v ∷ values) = ap suc (size-given flags
 size-given (false ∷ flags) xs [] = refl
 size-given (false ∷ flags) xs (v ∷ values) = ap suc (size-given flags xs values)
 
--- ---- a scan
 size_changes : (d : Diagram) (now j : ℕ) (start : Frame Bool) (links : ℕ → Bool) (n : ℕ) (h : Held) → SameLengths (changes d now j start links n h) h
 unfolding changes
 size_changes d now j start links zero h = record { values = refl; memories = refl; blocks = refl }
@@ -76,49 +73,3 @@ scan_lengths d now flags inputs h begun next n b e =
       memories = ap (λ (x : Held). length x.kept.memories) e ∙ s.memories ∙ ap (λ (x : Held). length x.kept.memories) b;
       blocks = ap (λ (x : Held). length x.kept.blocks) e ∙ s.blocks ∙ ap (λ (x : Held). length x.kept.blocks) b;
     }
-
--- ---- a look
-module _ {S : Type 0} (o : Algebra S) (d : Diagram) (k : Kept) (now : ℕ) where
-  size_effects_values : (j : ℕ) (guard : S) (links : ℕ → S) (n : ℕ) (f : Frame S) → length (effects o d k now j guard links n f).values ≡ length f.values
-  unfolding effects
-  size_effects_values j guard links zero f = refl
-  size_effects_values j guard links (suc n) f = size-put_in (effects o d k now j guard links n f).values (var_in (d.cell j n)) _ ∙ size_effects_values j guard links n f
-
-  size_effects_ends : (j : ℕ) (guard : S) (links : ℕ → S) (n : ℕ) (f : Frame S) → length (effects o d k now j guard links n f).ends ≡ length f.ends
-  unfolding effects
-  size_effects_ends j guard links zero f = refl
-  size_effects_ends j guard links (suc n) f = size-put_in (effects o d k now j guard links n f).ends (block_in (d.cell j n)) _ ∙ size_effects_ends j guard links n f
-
-  size_looked_values : (f : Frame S) (n : ℕ) → length (looked o d k now f n).frame.values ≡ length f.values
-  unfolding looked
-  size_looked_values f zero = refl
-  size_looked_values f (suc n) =
-      let s = looked o d k now f n in
-      size_effects_values n (guard_of o d s.taken n) (link o d k now n s.frame) 60 s.frame ∙ size_looked_values f n
-
-  size_looked_ends : (f : Frame S) (n : ℕ) → length (looked o d k now f n).frame.ends ≡ length f.ends
-  unfolding looked
-  size_looked_ends f zero = refl
-  size_looked_ends f (suc n) =
-      let s = looked o d k now f n in
-      size_effects_ends n (guard_of o d s.taken n) (link o d k now n s.frame) 60 s.frame ∙ size_looked_ends f n
-
-pub look_sizes : {S : Type 0} (o : Algebra S) (d : Diagram) (now : ℕ) (inputs : List S) (h : Held) (f next : Frame S) (n : ℕ) → f ≡ look_frame o d inputs h
-    → next ≡ (looked o d h.kept now f n).frame → SameSizes next h
-look_sizes o d now inputs h f next n b e = record {
-  values =
-      ap (λ (x : Frame _). length x.values) e
-      ∙ size_looked_values o d h.kept now f n
-      ∙ ap (λ (x : Frame _). length x.values) b
-      ∙ size-given d.inputs inputs (map o.known h.values)
-      ∙ length-map h.values o.known;
-  ends =
-      ap (λ (x : Frame _). length x.ends) e
-      ∙ size_looked_ends o d h.kept now f n
-      ∙ ap (λ (x : Frame _). length x.ends) b
-      ∙ length-map h.kept.blocks (λ b. o.known (q_of b));
-}
-
-pub begin_size : {S : Type 0} (o : Algebra S) (d : Diagram) (inputs : List S) (h : Held) (f : Frame S) → f ≡ look_frame o d inputs h → length f.values ≡ length h.values
-begin_size o d inputs h f e =
-    ap (λ (x : Frame _). length x.values) e ∙ size-given d.inputs inputs (map o.known h.values) ∙ length-map h.values o.known

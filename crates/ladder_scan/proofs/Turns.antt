@@ -2,7 +2,7 @@
 use Rattle.std.proofs.Common.{◌≡◌, ℕ, ◌+◌, ◌<◌, ◌≤◌, Bool, List, drop, length, get_or, sym, ap, ◌∙◌}
 use Rattle.std.proofs.lemmas.List.{drop_more, drop_all}
 use Rattle.ladder_grid.specs.declared.gates.Action.{Action}
-use Rattle.ladder_scan.specs.Truth.{plain}
+use Rattle.ladder_elements.specs.Truth.{plain}
 use Rattle.ladder_scan.specs.Cells.{Diagram, Frame}
 use Rattle.ladder_scan.specs.Rung.{Held, changed}
 use Rattle.ladder_scan.specs.Gating.{among, changes_of}

@@ -1,17 +1,16 @@
--- Every step leaves values of the signal: the relational law at the relation that the first is a value.
-use Rattle.std.proofs.Common.{ℕ, Bool, false, List, [], ◌∷◌, map, get_or, zero, suc, refl}
-use Rattle.ladder_scan.specs.Algebra.{Algebra, LatticeLaws}
-use Rattle.ladder_scan.specs.Truth.{plain}
+-- A left link is a value of the signal: the relational law at the relation that the first is a value.
+use Rattle.std.proofs.Common.{ℕ, Bool, false, List, [], ◌∷◌, map, get_or, suc, refl}
+use Rattle.ladder_elements.specs.Algebra.{Algebra, LatticeLaws}
+use Rattle.ladder_elements.specs.Truth.{plain}
 use Rattle.ladder_scan.specs.Routes.{left_link}
-use Rattle.ladder_scan.specs.Relations.{IsKept, Both, BothFrames}
+use Rattle.ladder_elements.specs.Relations.{IsKept, Both}
+use Rattle.ladder_scan.proofs.Kept.{BothFrames, left_kept}
 use Rattle.ladder_scan.specs.Cells.{Diagram, Frame, Kept}
 use Rattle.ladder_scan.specs.Rung.{circuit}
-use Rattle.ladder_scan.specs.SignalScan.{looked}
 use Rattle.ladder_scan.specs.Gating.{AreValues}
-use Rattle.ladder_scan.proofs.Kept.{left_kept, frames_kept}
 
 module _ {S : Type 0} (o : Algebra S) (V : S → Type 0) (l : LatticeLaws S V o) where
-  values_kept : IsKept o plain (λ x u. V x)
+  pub values_kept : IsKept o plain (λ x u. V x)
   values_kept = record {
     known = λ c. l.known_value c;
     join = λ x y u v r s. l.join_value x y r s;
@@ -24,22 +23,11 @@ module _ {S : Type 0} (o : Algebra S) (V : S → Type 0) (l : LatticeLaws S V o)
   both_of d [] h = tt
   both_of d (x ∷ xs) h = (h 0, both_of d xs (λ i. h (suc i)))
 
-  of_both : (d : S) → V d → (xs : List S) (vs : List Bool) → Both (λ (x : S) (u : Bool). V x) xs vs → (i : ℕ) → V (get_or xs i d)
-  of_both d vd [] vs h i = vd
-  of_both d vd (x ∷ xs) [] h i = absurd h
-  of_both d vd (x ∷ xs) (v ∷ vs) h zero = h.0
-  of_both d vd (x ∷ xs) (v ∷ vs) h (suc i) = of_both d vd xs vs h.1 i
-
-  abbrev shadow : Frame S → Frame Bool
+  abbrev pub shadow : Frame S → Frame Bool
   shadow f = record { values = map (λ x. false) f.values; ends = map (λ x. false) f.ends }
 
-  shadowed : (f : Frame S) → AreValues o V f → BothFrames (λ (x : S) (u : Bool). V x) f (shadow f)
+  pub shadowed : (f : Frame S) → AreValues o V f → BothFrames (λ (x : S) (u : Bool). V x) f (shadow f)
   shadowed f h = (both_of (o.known false) f.values h.values, both_of (o.known false) f.ends h.ends)
 
   pub left_value : (d : Diagram) (k : Kept) (now j : ℕ) (f : Frame S) → AreValues o V f → (row column : ℕ) → V (left_link o (circuit o d k now j f) row column)
   left_value d k now j f h row column = left_kept o plain (λ x u. V x) values_kept d k k now j (λ i. (refl, refl)) f (shadow f) (shadowed f h) row column
-
-  pub looked_values : (d : Diagram) (k : Kept) (now : ℕ) (f : Frame S) → AreValues o V f → (n : ℕ) → AreValues o V (looked o d k now f n).frame
-  looked_values d k now f h n =
-      let w : BothFrames (λ (x : S) (u : Bool). V x) (looked o d k now f n).frame (looked plain d k now (shadow f) n).frame = frames_kept o plain (λ x u. V x) values_kept d k now f (shadow f) (shadowed f h) n in
-      record { values = of_both (o.known false) (l.known_value false) _ _ w.0; ends = of_both (o.known false) (l.known_value false) _ _ w.1 }

@@ -12,9 +12,9 @@ use Rattle.ladder_grid.specs.declared.cell.Operand.TheVariants.{Var, Output}
 use Rattle.ladder_grid.specs.declared.cell.Cell.{Cell}
 use Rattle.ladder_grid.specs.declared.cell.Cell.TheVariants.{Wire, Contact, Coil, Block}
 use Rattle.ladder_grid.specs.Program.{memory_in}
-use Rattle.ladder_scan.specs.declared.block.Stored.{Stored}
-use Rattle.ladder_scan.specs.Algebra.{Algebra}
-use Rattle.ladder_scan.specs.Blocks.{step, q_of, new_block}
+use Rattle.ladder_elements.specs.declared.block.Stored.{Stored}
+use Rattle.ladder_elements.specs.Algebra.{Algebra}
+use Rattle.ladder_elements.specs.Blocks.{step, q_of, new_block}
 
 -- The place of a cell in its rung. Rows and columns are counted from 0.
 abbrev pub place_at : ℕ → ℕ → ℕ

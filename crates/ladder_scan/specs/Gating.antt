@@ -1,19 +1,17 @@
 -- Private: a rung as the code evaluates it, by its gates and then by its actions.
-use Rattle.std.specs.Prelude.{◌≡◌, ℕ, ◌+◌, ◌<◌, Bool, true, false, if◌then◌else◌, List, [], ◌∷◌, nat_lt, ◌&&◌, Option, Some, None, slice_index_or, slice_set, zero, suc}
+use Rattle.std.specs.Prelude.{◌≡◌, ℕ, ◌+◌, ◌<◌, Bool, true, false, if◌then◌else◌, List, [], ◌∷◌, slice_index_or, slice_set, zero, suc}
 use Rattle.ladder_page.specs.declared.geometry.TheConstants.{PLACES}
 use Rattle.ladder_grid.specs.declared.gates.TheConstants.{OWN}
 use Rattle.ladder_grid.specs.declared.cell.Cell.{Cell}
 use Rattle.ladder_grid.specs.declared.gates.Gate.{Gate}
 use Rattle.ladder_grid.specs.declared.gates.Action.{Action}
-use Rattle.ladder_grid.specs.declared.gates.Exit.{Exit}
-use Rattle.ladder_grid.specs.declared.gates.Leap.{Leap}
 use Rattle.ladder_grid.specs.declared.gates.Literal.{Literal}
 use Rattle.ladder_grid.specs.declared.gates.Literal.TheVariants.{Is, Not, Other}
-use Rattle.ladder_grid.specs.Program.{Drawing, block_in, is_block}
+use Rattle.ladder_grid.specs.Program.{Drawing, is_block}
 use Rattle.ladder_grid.specs.Gates.{left_of, below_of}
-use Rattle.ladder_scan.specs.Algebra.{Algebra}
-use Rattle.ladder_scan.specs.Truth.{plain}
-use Rattle.ladder_scan.specs.Cells.{Diagram, Frame, Kept, at, put_in, var_in, memory_of, closed, q_here, coil_value}
+use Rattle.ladder_elements.specs.Algebra.{Algebra}
+use Rattle.ladder_elements.specs.Truth.{plain}
+use Rattle.ladder_scan.specs.Cells.{Diagram, Frame, Kept, memory_of, closed, q_here}
 use Rattle.ladder_scan.specs.Rung.{second, changed, Held, link}
 use Rattle.ladder_scan.specs.Programs.{diagram_of}
 
@@ -73,21 +71,7 @@ pub record AreLinks {S : Type 0} (o : Algebra S) (p : Drawing) (k : Kept) (now j
 
 -- ---- actions
 
--- What an action leaves, over any signal.
-abbrev pub acted : {S : Type 0} → Algebra S → Kept → S → List S → Action → Frame S → Frame S
-acted o k guard links a f =
-    let value = at f.values (var_in a.cell) (o.known false) in
-    let end = at f.ends (block_in a.cell) (o.known false) in
-    record {
-      values = put_in f.values (var_in a.cell) (o.choice guard (coil_value o a.cell (among o links a.left) (o.known (memory_of k a.cell)) value) value);
-      ends = put_in f.ends (block_in a.cell) (o.choice guard (among o links (OWN + a.place)) end);
-    }
-
--- What these actions leave, over any signal and over truth values.
-unfoldable pub effects_of : {S : Type 0} → Algebra S → Kept → S → List S → List Action → Frame S → Frame S
-effects_of o k guard links [] f = f
-effects_of o k guard links (a ∷ more) f = effects_of o k guard links more (acted o k guard links a f)
-
+-- What these actions leave.
 unfoldable pub changes_of : Diagram → ℕ → Frame Bool → List Bool → List Action → Held → Held
 changes_of d now start links [] h = h
 changes_of d now start links (a ∷ more) h =
@@ -96,18 +80,7 @@ changes_of d now start links (a ∷ more) h =
 abbrev pub IsPlaced : Action → Type 0
 IsPlaced a = (a.place < PLACES) × (a.left < OWN) × (a.below < OWN)
 
--- ---- jumps and guards
-
--- Whether a rung's jump is taken, under the rung's guard.
-abbrev pub taken_by_exit : {S : Type 0} → Algebra S → Option Exit → S → List S → S
-taken_by_exit o None guard links = o.known false
-taken_by_exit o (Some exit) guard links = o.meet guard (among o links exit.left)
-
--- The AND, over the rungs before rung j with a jump past it, of NOT that this jump is taken.
-unfoldable pub guard_by : {S : Type 0} → Algebra S → List S → ℕ → List Leap → S → S
-guard_by o taken j [] all = all
-guard_by o taken j (l ∷ ls) all =
-    guard_by o taken j ls (if nat_lt l.rung j && nat_lt j l.target then o.meet all (o.inverse (among o taken l.rung)) else all)
+-- ---- values
 
 -- All values and all Qs are values of the signal.
 pub record AreValues {S : Type 0} (o : Algebra S) (V : S → Type 0) (f : Frame S) : Type 0 where

@@ -2,7 +2,7 @@
 use Rattle.std.specs.Prelude.{ℕ, ◌+◌, Bool, true, false, List, [], ◌∷◌, map, filter, flat_map, if◌then◌else◌, ◌==◌, zero, suc}
 use Rattle.std.specs.List.{range_with_len}
 use Rattle.ladder_page.specs.declared.geometry.TheConstants.{ROWS}
-use Rattle.ladder_scan.specs.Algebra.{Algebra}
+use Rattle.ladder_elements.specs.Algebra.{Algebra}
 
 -- A route: it starts at the left rail, or at the right end of the block at a row and column, and goes on through one cell a column.
 pub data Route : Type 0 where

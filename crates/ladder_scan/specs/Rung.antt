@@ -1,17 +1,17 @@
--- The evaluation of one rung: its power flow, from the values at its start, and then its effects by column, then row, each seeing what
--- the ones before it left. First over any signal, under a guard, and then over truth values, where memories and blocks change too.
+-- The evaluation of one rung: its power flow, over any signal, from the values at its start, and then its effects over truth values, by
+-- column, then row, each seeing what the ones before it left.
 use Rattle.std.specs.Prelude.{◌≡◌, ℕ, ◌+◌, ◌/◌, ◌%◌, Bool, false, if◌then◌else◌, List, length, map, slice_index_or, slice_set, zero, suc}
 use Rattle.ladder_page.specs.declared.geometry.TheConstants.{ROWS, PLACES}
 use Rattle.ladder_grid.specs.declared.cell.Cell.{Cell}
 use Rattle.ladder_grid.specs.declared.cell.Cell.TheVariants.{Contact, Coil, Block}
 use Rattle.ladder_vars.specs.declared.kind.BlockKind.TheVariants.{Ton}
-use Rattle.ladder_scan.specs.declared.block.Stored.{Stored}
-use Rattle.ladder_scan.specs.Algebra.{Algebra}
-use Rattle.ladder_scan.specs.Truth.{plain}
+use Rattle.ladder_elements.specs.declared.block.Stored.{Stored}
+use Rattle.ladder_elements.specs.Algebra.{Algebra}
+use Rattle.ladder_elements.specs.Truth.{plain}
 use Rattle.ladder_scan.specs.Routes.{Circuit, left_link}
-use Rattle.ladder_scan.specs.Blocks.{step, q_of, new_block}
-use Rattle.ladder_grid.specs.Program.{block_in, is_block}
-use Rattle.ladder_scan.specs.Cells.{place_at, Diagram, Frame, Kept, at, put_in, var_in, memory_of, operand_value, stored_by, closed, q_here, coil_value}
+use Rattle.ladder_elements.specs.Blocks.{step, q_of, new_block}
+use Rattle.ladder_grid.specs.Program.{is_block}
+use Rattle.ladder_scan.specs.Cells.{place_at, Diagram, Frame, Kept, at, put_in, memory_of, operand_value, stored_by, closed, q_here}
 
 -- A lower cell without a link has OFF.
 abbrev pub lower : {S : Type 0} → Algebra S → Bool → S → S
@@ -34,28 +34,6 @@ link o d k now j f place = left_link o (circuit o d k now j f) (place % ROWS) (p
 -- The second input of the block at a place, where these are the left links of the rung.
 abbrev pub second : {S : Type 0} → Algebra S → Diagram → ℕ → (ℕ → S) → ℕ → S
 second o d j links place = lower o (d.linked j place) (links (place + 1))
-
--- ---- over any signal
-
--- What a cell with left link x and second input y leaves: each single write is the choice, by the rung's guard, between the new value
--- and the old one. Memories and blocks are those of the stored state, since no element is evaluated twice in a scan.
-abbrev pub written : {S : Type 0} → Algebra S → Diagram → Kept → ℕ → S → Cell → S → S → Frame S → Frame S
-written o d k now guard c x y f =
-    let value = at f.values (var_in c) (o.known false) in
-    let end = at f.ends (block_in c) (o.known false) in
-    record {
-      values = put_in f.values (var_in c) (o.choice guard (coil_value o c x (o.known (memory_of k c)) value) value);
-      ends = put_in f.ends (block_in c) (o.choice guard (q_here o d k now c x y) end);
-    }
-
--- After the cells at the places below n.
-unfoldable pub effects : {S : Type 0} → Algebra S → Diagram → Kept → ℕ → ℕ → S → (ℕ → S) → ℕ → Frame S → Frame S
-effects o d k now j guard links zero f = f
-effects o d k now j guard links (suc n) f =
-    written o d k now guard (d.cell j n) (links n) (second o d j links n) (effects o d k now j guard links n f)
-
-abbrev pub after_rung : {S : Type 0} → Algebra S → Diagram → Kept → ℕ → ℕ → S → Frame S → Frame S
-after_rung o d k now j guard f = effects o d k now j guard (link o d k now j f) PLACES f
 
 -- ---- over truth values
 

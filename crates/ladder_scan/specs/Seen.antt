@@ -6,8 +6,8 @@ use Rattle.ladder_grid.specs.declared.cell.Cell.{Cell}
 use Rattle.ladder_grid.specs.declared.cell.Cell.TheVariants.{Contact, Coil, Block}
 use Rattle.ladder_grid.specs.Program.{is_block}
 use Rattle.ladder_scan.specs.declared.seen.Mark.{Mark}
-use Rattle.ladder_scan.specs.Truth.{plain}
-use Rattle.ladder_scan.specs.Blocks.{q_of, new_block}
+use Rattle.ladder_elements.specs.Truth.{plain}
+use Rattle.ladder_elements.specs.Blocks.{q_of, new_block}
 use Rattle.ladder_scan.specs.Cells.{Diagram, memory_of, closed, q_here}
 use Rattle.ladder_scan.specs.Rung.{Held, frame_of, link_at, second, evaluated}
 use Rattle.ladder_scan.specs.Scan.{given, next_rung}

@@ -1,24 +1,24 @@
 //! The effects of a rung, once its power flow is known: what its coils, blocks and edge contacts write.
 
-ghost use Rattle.std.specs.Prelude.{◌≡◌, ◌<◌, ◌+◌, length, All};
-ghost use Rattle.ladder_grid.specs.declared.gates.TheConstants.{OWN, LINKS};
+ghost use Rattle.std.specs.Prelude.{◌≡◌, ◌<◌, length, All};
+ghost use Rattle.ladder_grid.specs.declared.gates.TheConstants.{LINKS};
 ghost use Rattle.ladder_grid.specs.Gates.{actions_of};
-ghost use Rattle.ladder_scan.specs.Truth.{plain};
+ghost use Rattle.ladder_elements.specs.Truth.{plain};
 ghost use Rattle.ladder_scan.specs.Cells.{stored_by};
 ghost use Rattle.ladder_scan.specs.Rung.{changed};
 ghost use Rattle.ladder_scan.specs.Programs.{diagram_of, IsSound};
-ghost use Rattle.ladder_scan.specs.Gating.{IsPlaced, among, acted, changes_of};
+ghost use Rattle.ladder_scan.specs.Gating.{IsPlaced, among, changes_of};
 
-use crate::block;
-use crate::operations::Operations;
 use crate::scene::{Scene, instance};
 use crate::signals::Signals;
 use crate::storage::Storage;
+use ladder_elements::{Operations, block};
 use ladder_grid::Cell;
-use ladder_grid::gates::{Action, OWN};
+use ladder_grid::gates::Action;
 use ladder_page::CoilMode;
 
-fn stored_by<S: Operations>(mode: CoilMode, link: S, memory: S, old: S) -> S
+/// What a coil writes, by its left link, its memory and the old value of its variable.
+pub fn stored_by<S: Operations>(mode: CoilMode, link: S, memory: S, old: S) -> S
     ensures { result ≡ stored_by S.algebra mode link memory old }
 {
     match mode {
@@ -28,40 +28,6 @@ fn stored_by<S: Operations>(mode: CoilMode, link: S, memory: S, old: S) -> S
         CoilMode::Reset => S::choose(link, S::known(false), old),
         CoilMode::Rising => link.and(memory.not()),
         CoilMode::Falling => link.not().and(memory),
-    }
-}
-
-/// What one action writes, over any signal, under the guard of its rung. Out of line; see `effect`.
-#[inline(never)]
-pub(crate) fn any_effect<S: Operations>(
-    storage: &Storage,
-    guard: S,
-    links: &[S],
-    action: &Action,
-    seen: &mut Signals<S>,
-)
-    requires action { IsPlaced action.now }
-    requires links { length links.now ≡ LINKS }
-    ensures { seen.new ≡ acted S.algebra storage.now.kept guard links.now action.now seen.old }
-{
-    match action.cell {
-        Cell::Coil { mode, var, .. } => {
-            let link = links[action.left as usize];
-            let old = seen.value(var);
-            let new = stored_by(mode, link, S::known(storage.memory(action.cell)), old);
-            seen.put_value(var, S::choose(guard, new, old));
-        }
-        Cell::Block { inst } => {
-            let old = seen.end(inst);
-            let new = links[OWN + action.place as usize];
-            seen.put_end(inst, S::choose(guard, new, old));
-        }
-        Cell::Empty
-        | Cell::Wire
-        | Cell::Contact { .. }
-        | Cell::Lower { .. }
-        | Cell::Jump { .. }
-        | Cell::Return => {}
     }
 }
 

@@ -4,24 +4,23 @@ ghost use Rattle.std.specs.Prelude.{◌≡◌, ◌<◌, ◌≤◌, ◌+◌, leng
 ghost use Rattle.ladder_vars.specs.Kind.{largest_preset};
 ghost use Rattle.ladder_grid.specs.declared.gates.TheConstants.{ON, OFF, OWN, LINKS};
 ghost use Rattle.ladder_grid.specs.Gates.{gates_of};
-ghost use Rattle.ladder_scan.specs.Blocks.{step, q_of};
+ghost use Rattle.ladder_elements.specs.Blocks.{step, q_of};
 ghost use Rattle.ladder_scan.specs.Cells.{closed, contact, q_from};
 ghost use Rattle.ladder_scan.specs.Programs.{diagram_of, IsSound};
 ghost use Rattle.ladder_scan.specs.Gating.{among, own, passed, ran, IsInside, AreLinks, AreValues};
 
-use crate::block::{Stored, has_second, step};
-use crate::operations::Operations;
 use crate::scene::{Scene, cell, instance};
-use crate::signal::Signal;
 use crate::signals::Signals;
 use crate::storage::Storage;
+use ladder_elements::block::{has_second, step};
+use ladder_elements::{Operations, Signal, Stored};
 use ladder_grid::Cell;
 use ladder_grid::gates::{Gate, LINKS, Literal, OFF, ON, OWN};
 use ladder_page::Mode;
 use ladder_vars::BlockKind;
 
 /// The signal at a place, and OFF past the last one.
-pub(crate) fn link_at<S: Operations>(links: &[S], place: usize) -> S
+pub fn link_at<S: Operations>(links: &[S], place: usize) -> S
     ensures { result ≡ slice_index_or links.now place (S.algebra.known false) }
 {
     match links.get(place) {
@@ -66,8 +65,9 @@ fn q_after(
     step(kind, preset, stored, first, second, now).q()
 }
 
+/// The Q of a block in this evaluation, by its inputs.
 #[inline(always)]
-pub(crate) fn q_from<S: Operations>(
+pub fn q_from<S: Operations>(
     kind: BlockKind,
     preset: u32,
     stored: Stored,
@@ -96,7 +96,7 @@ pub(crate) fn q_from<S: Operations>(
 }
 
 /// What a cell lets through by itself, by its left link and its second input.
-pub(crate) fn through_cell<S: Operations>(
+pub fn through_cell<S: Operations>(
     scene: Scene<'_>,
     storage: &Storage,
     seen: &Signals<S>,
@@ -191,7 +191,7 @@ fn run<S: Operations>(scene: Scene<'_>, storage: &Storage, seen: &Signals<S>, li
 }
 
 /// Puts ON and OFF where the gates look for them.
-pub(crate) fn set_rails<S: Operations>(links: &mut [S])
+pub fn set_rails<S: Operations>(links: &mut [S])
     requires { length links.old ≡ LINKS }
     ensures length { length links.new ≡ LINKS }
     ensures on { slice_index_or links.new ON (S.algebra.known false) ≡ S.algebra.known true }

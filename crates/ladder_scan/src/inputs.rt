@@ -4,7 +4,7 @@ ghost use Rattle.std.specs.Prelude.{◌≡◌, ◌≤◌, ◌++◌, drop, length
 ghost use Rattle.ladder_vars.specs.Decls.{is_input};
 ghost use Rattle.ladder_scan.specs.Scan.{given};
 
-use crate::operations::Operations;
+use ladder_elements::Operations;
 use ladder_vars::{Decls, Var};
 
 fn is_input_at(vars: &[Var], number: usize) -> bool

@@ -6,12 +6,11 @@ ghost use Rattle.ladder_grid.specs.declared.gates.TheConstants.{LINKS};
 ghost use Rattle.ladder_grid.specs.Gates.{left_of};
 ghost use Rattle.ladder_scan.specs.Rung.{evaluated, frame_of, SameSizes, SameLengths};
 ghost use Rattle.ladder_scan.specs.Scan.{next_rung, after_scan};
-ghost use Rattle.ladder_scan.specs.RungByRung.{rung_after};
+ghost use Rattle.ladder_scan.specs.RungByRung.{rung_after, ArePossible, scanned, shape};
 ghost use Rattle.ladder_scan.specs.Programs.{diagram_of, IsSound};
 ghost use Rattle.ladder_scan.specs.Standing.{Fits};
-ghost use Rattle.ladder_scan.specs.RungByRung.{ArePossible, scanned, shape};
 ghost use Rattle.ladder_scan.specs.Gating.{among, AreLinks};
-ghost use Rattle.ladder_scan.specs.Truth.{plain};
+ghost use Rattle.ladder_elements.specs.Truth.{plain};
 
 use crate::effects::changes;
 use crate::gates::{find_links, link_at};

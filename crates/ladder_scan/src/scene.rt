@@ -10,14 +10,14 @@ use ladder_vars::BlockKind;
 
 /// The rung that is evaluated.
 #[derive(Clone, Copy)]
-pub(crate) struct Scene<'a> {
+pub struct Scene<'a> {
     pub program: &'a Program,
     pub now: u64,
     pub rung: usize,
 }
 
 /// Does nothing: its contract is what holds of every program that was read.
-pub(crate) fn checked(program: &Program)
+pub fn checked(program: &Program)
     ensures { IsSound (diagram_of program.now) }
 {
     program.checked();
@@ -26,7 +26,7 @@ pub(crate) fn checked(program: &Program)
 
 /// The kind and the preset of an instance.
 #[tactic(auto, unfolding(crate::specs::Programs::diagram_of))]
-pub(crate) fn instance(program: &Program, inst: usize) -> (BlockKind, u32)
+pub fn instance(program: &Program, inst: usize) -> (BlockKind, u32)
     ensures kind { result.0 ≡ (diagram_of program.now).kind inst }
     ensures preset { result.1 ≡ (diagram_of program.now).preset inst }
 {
@@ -38,7 +38,7 @@ pub(crate) fn instance(program: &Program, inst: usize) -> (BlockKind, u32)
 
 /// The cell at a place of a rung, by column and row.
 #[tactic(auto, unfolding(crate::specs::Programs::diagram_of))]
-pub(crate) fn cell(program: &Program, rung: usize, place: usize) -> Cell
+pub fn cell(program: &Program, rung: usize, place: usize) -> Cell
     requires rung { rung < program.now.rungs }
     requires place { place < PLACES }
     ensures { result ≡ (diagram_of program.now).cell rung place }

@@ -4,7 +4,7 @@ ghost use Rattle.std.specs.Prelude.{◌≡◌, ◌<◌, ◌≤◌, ◌++◌, len
 ghost use Rattle.ladder_page.specs.AllPlaces.{first_places};
 ghost use Rattle.ladder_page.specs.declared.geometry.TheConstants.{RUNGS, PLACES};
 ghost use Rattle.ladder_grid.specs.declared.gates.TheConstants.{LINKS};
-ghost use Rattle.ladder_scan.specs.Truth.{plain};
+ghost use Rattle.ladder_elements.specs.Truth.{plain};
 ghost use Rattle.ladder_scan.specs.Cells.{memory_of};
 ghost use Rattle.ladder_scan.specs.Rung.{evaluated, frame_of, SameSizes};
 ghost use Rattle.ladder_scan.specs.Scan.{after_scan, next_rung};

@@ -2,16 +2,15 @@
 
 ghost use Rattle.std.specs.Prelude.{◌≡◌, length, map, slice_index_or, slice_set, false, IfOk};
 ghost use Rattle.ladder_vars.specs.Decls.{is_input};
-ghost use Rattle.ladder_scan.specs.Blocks.{q_of};
+ghost use Rattle.ladder_elements.specs.Blocks.{q_of};
 ghost use Rattle.ladder_scan.specs.Cells.{frame, operand_value};
 ghost use Rattle.ladder_scan.specs.Rung.{frame_of, SameSizes};
 ghost use Rattle.ladder_scan.specs.Scan.{given};
 
-use crate::block::Stored;
 use crate::inputs::give;
 use crate::memory::Memory;
-use crate::operations::Operations;
 use crate::storage::Storage;
+use ladder_elements::{Operations, Stored};
 use ladder_grid::Operand;
 use ladder_vars::Decls;
 use std::alloc::Global;
@@ -19,7 +18,7 @@ use std::marker::Model;
 
 /// The signal of each variable, and that of each instance's Q.
 #[derive(Drop)]
-pub(crate) struct Signals<S> {
+pub struct Signals<S> {
     pub values: Vec<S>,
     pub ends: Vec<S>,
 }
@@ -34,11 +33,7 @@ impl<S> Model for Signals<S> {
 
 impl<S: Operations> Signals<S> {
     /// Buffers for the signals of this many variables and instances.
-    pub(crate) fn new(
-        alloc: Global,
-        variables: usize,
-        instances: usize,
-    ) -> Result<Signals<S>, Memory>
+    pub fn new(alloc: Global, variables: usize, instances: usize) -> Result<Signals<S>, Memory>
         ensures values { IfOk result (λ f. length f.values ≡ variables) }
         ensures ends { IfOk result (λ f. length f.ends ≡ instances) }
     {
@@ -49,7 +44,7 @@ impl<S: Operations> Signals<S> {
     }
 
     /// Takes all that is stored.
-    pub(crate) fn know(&mut self, storage: &Storage)
+    pub fn know(&mut self, storage: &Storage)
         requires { SameSizes self.old storage.now }
         ensures { self.new ≡ frame (map S.algebra.known storage.now.values) (map (λ b. S.algebra.known (q_of b)) storage.now.kept.blocks) }
     {
@@ -58,14 +53,14 @@ impl<S: Operations> Signals<S> {
     }
 
     /// Gives the input variables their signals, in order of declaration.
-    pub(crate) fn give(&mut self, decls: &Decls, inputs: &[S])
+    pub fn give(&mut self, decls: &Decls, inputs: &[S])
         ensures { self.new ≡ frame (given (map is_input decls.now.vars) inputs.now self.old.values) self.old.ends }
     {
         give(decls, inputs, &mut self.values);
     }
 
     /// The signal of a variable, and OFF past the last one.
-    pub(crate) fn value(&self, var: usize) -> S
+    pub fn value(&self, var: usize) -> S
         ensures { result ≡ slice_index_or self.now.values var (S.algebra.known false) }
     {
         match self.values.get(var) {
@@ -75,7 +70,7 @@ impl<S: Operations> Signals<S> {
     }
 
     /// The signal of an instance's Q, and OFF past the last one.
-    pub(crate) fn end(&self, inst: usize) -> S
+    pub fn end(&self, inst: usize) -> S
         ensures { result ≡ slice_index_or self.now.ends inst (S.algebra.known false) }
     {
         match self.ends.get(inst) {
@@ -94,7 +89,7 @@ impl<S: Operations> Signals<S> {
     }
 
     /// Writes a variable; past the last one there is none.
-    pub(crate) fn put_value(&mut self, var: usize, value: S)
+    pub fn put_value(&mut self, var: usize, value: S)
         ensures { self.new ≡ frame (slice_set self.old.values var value) self.old.ends }
     {
         if var < self.values.len() {
@@ -103,7 +98,7 @@ impl<S: Operations> Signals<S> {
     }
 
     /// Writes the Q of an instance; past the last one there is none.
-    pub(crate) fn put_end(&mut self, inst: usize, end: S)
+    pub fn put_end(&mut self, inst: usize, end: S)
         ensures { self.new ≡ frame self.old.values (slice_set self.old.ends inst end) }
     {
         if inst < self.ends.len() {

@@ -2,13 +2,13 @@
 
 ghost use Rattle.std.specs.Prelude.{◌≡◌, ◌<◌, ◌≤◌, ◌↔◌, length, map, set, IfOk, IsTrue, slice_get, slice_index_or, false, Some};
 ghost use Rattle.ladder_vars.specs.declared.kind.BlockKind.TheVariants.{Ton};
-ghost use Rattle.ladder_scan.specs.Blocks.{new_block};
+ghost use Rattle.ladder_elements.specs.Blocks.{new_block};
 ghost use Rattle.ladder_scan.specs.Standing.{fresh, CanStore, Fits, IsStanding, with_blocks, with_memories, with_moment, with_values};
 
-use crate::block::Stored;
 use crate::memory::Memory;
 use crate::signals::Signals;
 use crate::storage::Storage;
+use ladder_elements::Stored;
 use ladder_grid::Program;
 use ladder_vars::{BlockKind, Instance};
 use std::alloc::{AllocError, Global};
@@ -110,6 +110,13 @@ impl State {
         self.storage.values.len() == decls.vars().len()
             && self.storage.memories.len() == program.memories()
             && same_kinds(&self.kinds, decls.instances())
+    }
+
+    /// What a scan changes, which a look reads.
+    pub fn storage(&self) -> &Storage
+        ensures { result.now ≡ self.now.held }
+    {
+        &self.storage
     }
 
     /// The value of a variable, by its number in order of declaration.

@@ -3,16 +3,16 @@
 ghost use Rattle.std.specs.Prelude.{◌≡◌, map, slice_index_or, slice_set, false, IfOk};
 ghost use Rattle.ladder_vars.specs.Decls.{is_input};
 ghost use Rattle.ladder_vars.specs.declared.kind.BlockKind.TheVariants.{Ton};
-ghost use Rattle.ladder_scan.specs.Blocks.{new_block};
+ghost use Rattle.ladder_elements.specs.Blocks.{new_block};
 ghost use Rattle.ladder_scan.specs.Cells.{memory_of, put_in};
 ghost use Rattle.ladder_scan.specs.Rung.{held, SameSizes};
 ghost use Rattle.ladder_scan.specs.Scan.{given};
 ghost use Rattle.ladder_scan.specs.Standing.{fresh};
 
-use crate::block::Stored;
 use crate::inputs::give;
 use crate::memory::Memory;
 use crate::signals::Signals;
+use ladder_elements::Stored;
 use ladder_grid::{Cell, Program};
 use ladder_vars::{BlockKind, Decls, Instance, Var};
 use std::alloc::{AllocError, Global};
@@ -20,10 +20,10 @@ use std::marker::Model;
 
 /// The value of each variable, each memory, and what each instance stores.
 #[derive(Drop)]
-pub(crate) struct Storage {
-    pub values: Vec<bool>,
-    pub memories: Vec<bool>,
-    pub blocks: Vec<Stored>,
+pub struct Storage {
+    pub(crate) values: Vec<bool>,
+    pub(crate) memories: Vec<bool>,
+    pub(crate) blocks: Vec<Stored>,
 }
 
 impl Model for Storage {
@@ -97,7 +97,7 @@ impl Storage {
     }
 
     /// A memory, and OFF past the last one.
-    pub(crate) fn memory_at(&self, number: usize) -> bool
+    pub fn memory_at(&self, number: usize) -> bool
         ensures { result ≡ slice_index_or self.now.kept.memories number false }
     {
         match self.memories.get(number) {
@@ -107,7 +107,7 @@ impl Storage {
     }
 
     /// The memory of a cell, and OFF where it has none.
-    pub(crate) fn memory(&self, cell: Cell) -> bool
+    pub fn memory(&self, cell: Cell) -> bool
         ensures { result ≡ memory_of self.now.kept cell }
     {
         match cell {
@@ -131,7 +131,7 @@ impl Storage {
     }
 
     /// What an instance stores, and a timer that was never used past the last one.
-    pub(crate) fn stored(&self, inst: usize) -> Stored
+    pub fn stored(&self, inst: usize) -> Stored
         ensures { result ≡ slice_index_or self.now.kept.blocks inst (new_block Ton) }
     {
         match self.blocks.get(inst) {

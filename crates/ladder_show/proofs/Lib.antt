@@ -1,3 +1,5 @@
 pub mod Each
 pub mod Erasing
 pub mod Showings
+pub mod PlainNames
+pub mod Untagging

@@ -11,26 +11,27 @@ use Rattle.ladder_scan.specs.declared.seen.Mark.{Mark}
 use Rattle.ladder_scan.specs.Programs.{diagram_of}
 use Rattle.ladder_scan.specs.Seen.{AreMarks}
 use Rattle.ladder_scan.specs.Standing.{Standing}
-use Rattle.ladder_show.specs.Notes.{noted_text}
-use Rattle.ladder_show.specs.Showing.{IsShown, OneScan, state_after}
+use Rattle.ladder_show.specs.declared.picture.Style.{Style}
+use Rattle.ladder_show.specs.Showing.{IsDrawn, OneScan, state_after, whole_of}
 
 -- a program has as many rungs as the outline of its text
 pub rungs_of : (text : List ℕ) (p : Drawing) (place : ℕ) (parts ps : List Part) → IsProgram text p → IsOnlyOutline text place parts → ps ≡ parts → length ps ≡ p.rungs
 rungs_of text p place parts ps program only e =
     ap (λ (xs : List Part). length xs) (e ∙ sym (only program.page program.rest program.read program.reads).1) ∙ sym program.drawn.rungs
 
-pub is_shown : (s : OneScan) (place : ℕ) (parts ps : List Part) (marks ms : List Mark) (after : Standing) (lines : Lines) (rest : List ℕ)
-    → HasOutline s.text place parts → after ≡ state_after s → ps ≡ parts → ms ≡ marks → AreMarks (diagram_of s.program) s.now s.inputs s.state.held marks
-    → lines ≡ slice_split (λ b. b == 10) rest → rest ≡ drop place s.text → IsShown s (noted_text s.program after ps ms lines)
-is_shown s place parts ps marks ms after lines rest outline ea ep em seen el er = record {
+pub is_drawn : (style : Style) (s : OneScan) (place : ℕ) (parts ps : List Part) (marks ms : List Mark)
+    (after : Standing) (lines : Lines) (rest : List ℕ) → HasOutline s.text place parts → after ≡ state_after s → ps ≡ parts → ms ≡ marks
+    → AreMarks (diagram_of s.program) s.now s.inputs s.state.held marks → lines ≡ slice_split (λ b. b == 10) rest → rest ≡ drop place s.text
+    → IsDrawn style s (whole_of style s.program after ps ms lines)
+is_drawn style s place parts ps marks ms after lines rest outline ea ep em seen el er = record {
   place = place;
   parts = parts;
   marks = marks;
   outline = outline;
   seen = seen;
   text =
-      ap (λ a. noted_text s.program a ps ms lines) ea
-      ∙ ap (λ x. noted_text s.program (state_after s) x ms lines) ep
-      ∙ ap (λ x. noted_text s.program (state_after s) parts x lines) em
-      ∙ ap (noted_text s.program (state_after s) parts marks) (el ∙ ap (slice_split (λ b. b == 10)) er);
+      ap (λ a. whole_of style s.program a ps ms lines) ea
+      ∙ ap (λ x. whole_of style s.program (state_after s) x ms lines) ep
+      ∙ ap (λ x. whole_of style s.program (state_after s) parts x lines) em
+      ∙ ap (whole_of style s.program (state_after s) parts marks) (el ∙ ap (slice_split (λ b. b == 10)) er);
 }

@@ -10,12 +10,12 @@ use Rattle.ladder_page.specs.declared.geometry.TheConstants.{ROWS, PLACES}
 use Rattle.ladder_grid.specs.declared.cell.Cell.{Cell}
 use Rattle.ladder_grid.specs.declared.cell.Cell.TheVariants.{Block}
 use Rattle.ladder_grid.specs.Program.{Drawing, cell_of}
-use Rattle.ladder_scan.specs.declared.block.Stored.{Stored}
-use Rattle.ladder_scan.specs.declared.block.Stored.TheVariants.{Timer, Counter, Bistable}
+use Rattle.ladder_elements.specs.declared.block.Stored.{Stored}
+use Rattle.ladder_elements.specs.declared.block.Stored.TheVariants.{Timer, Counter, Bistable}
 use Rattle.ladder_scan.specs.declared.seen.Mark.{Mark}
-use Rattle.ladder_scan.specs.Blocks.{new_block}
+use Rattle.ladder_elements.specs.Blocks.{new_block}
 use Rattle.ladder_scan.specs.Standing.{Standing}
-use Rattle.ladder_show.specs.Show.{each, is_line_of, mark_in, shown_whole}
+use Rattle.ladder_show.specs.Show.{each, is_line_of, mark_in}
 use Rattle.ladder_page.specs.declared.lines.Part.{Part}
 use Rattle.ladder_page.specs.Lines.{part_in}
 use Rattle.ladder_page.specs.Picture.{Lines, line_at}
@@ -86,9 +86,12 @@ moment_text after = codes "(* at " ++ (decimal after.moment ++ codes " ms:")
 abbrev pub legend : List ℕ
 legend = codes " *)\n(* === live  [ ] closed, or Q is ON  { } ON after its rung  ... passed over *)\n"
 
--- Above the drawing: the moment of the scan, its inputs and the legend.
+-- Above the drawing: the moment of the scan, its inputs and what the marks mean.
+abbrev pub above : Drawing → Standing → List ℕ → List ℕ
+above p after meaning = moment_text after ++ (var_notes true p.decls after ++ meaning)
+
 abbrev pub head_line : Drawing → Standing → List ℕ
-head_line p after = moment_text after ++ (var_notes true p.decls after ++ legend)
+head_line p after = above p after legend
 
 -- Below it: the other variables, as the scan leaves them.
 
@@ -106,17 +109,12 @@ notes_behind p after parts marks n (Some k) = if n + 1 == (part_in parts k).end 
 abbrev pub is_left_out : Lines → ℕ → Bool
 is_left_out lines n = n == 0 || (n + 1 == length lines && length (line_at lines n) == 0)
 
--- A line of a text with its marks and its end, and what is noted behind it.
-abbrev pub noted_line : Drawing → Standing → List Part → List Mark → Lines → ℕ → List ℕ
-noted_line p after parts marks lines n =
-    shown_whole parts marks lines n ++ notes_behind p after parts marks n (position (is_line_of n) parts)
+-- A line of a text, drawn with its end, and what is noted behind it.
+abbrev pub noted_line : (ℕ → List ℕ) → Drawing → Standing → List Part → List Mark → ℕ → List ℕ
+noted_line drawn p after parts marks n = drawn n ++ notes_behind p after parts marks n (position (is_line_of n) parts)
 
-abbrev pub kept_line : Drawing → Standing → List Part → List Mark → Lines → ℕ → List ℕ
-kept_line p after parts marks lines n = if is_left_out lines n then [] else noted_line p after parts marks lines n
+abbrev pub kept_line : (ℕ → List ℕ) → Drawing → Standing → List Part → List Mark → Lines → ℕ → List ℕ
+kept_line drawn p after parts marks lines n = if is_left_out lines n then [] else noted_line drawn p after parts marks n
 
-abbrev pub noted_lines : Drawing → Standing → List Part → List Mark → Lines → List ℕ
-noted_lines p after parts marks lines = each (kept_line p after parts marks lines) (length lines)
-
--- The line above, the lines of the text, and the line below.
-abbrev pub noted_text : Drawing → Standing → List Part → List Mark → Lines → List ℕ
-noted_text p after parts marks lines = head_line p after ++ (noted_lines p after parts marks lines ++ tail_line p after)
+abbrev pub noted_lines : (ℕ → List ℕ) → Drawing → Standing → List Part → List Mark → Lines → List ℕ
+noted_lines drawn p after parts marks lines = each (kept_line drawn p after parts marks lines) (length lines)

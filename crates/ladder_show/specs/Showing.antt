@@ -1,8 +1,9 @@
 -- The drawing of a program text with the power flow of one scan.
-use Rattle.std.specs.Prelude.{◌≡◌, ◌==◌, ℕ, Bool, List, drop}
+use Rattle.std.specs.Prelude.{◌≡◌, ◌==◌, ◌++◌, ℕ, Bool, List, drop}
 use Rattle.std.specs.List.{slice_split}
 use Rattle.ladder_page.specs.Bytes.{line_feed}
 use Rattle.ladder_page.specs.Outline.{HasOutline}
+use Rattle.ladder_page.specs.Picture.{Lines}
 use Rattle.ladder_page.specs.declared.lines.Part.{Part}
 use Rattle.ladder_grid.specs.Program.{Drawing}
 use Rattle.ladder_scan.specs.Programs.{diagram_of}
@@ -13,7 +14,12 @@ use Rattle.ladder_scan.specs.declared.seen.Mark.{Mark}
 use Rattle.ladder_text.specs.Log.{PutsAll, PutsPrefix, WriteLog}
 use Rattle.ladder_show.specs.declared.fault.ShowFault.{ShowFault}
 use Rattle.ladder_show.specs.declared.fault.ShowFault.TheVariants.{Memory, Write}
-use Rattle.ladder_show.specs.Notes.{noted_text}
+use Rattle.ladder_show.specs.declared.picture.Style.{Style}
+use Rattle.ladder_show.specs.declared.picture.Style.TheVariants.{Marked, Page}
+use Rattle.ladder_show.specs.declared.showing.Scan.{Scan}
+use Rattle.ladder_show.specs.Notes.{head_line, noted_lines, tail_line}
+use Rattle.ladder_show.specs.Page.{drawn_whole, page_head, page_tail}
+use Rattle.ladder_show.specs.Show.{shown_whole}
 
 -- What is shown: a text and its program, the state before the scan, and the inputs and the moment of the scan.
 pub record OneScan : Type 0 where
@@ -34,28 +40,53 @@ state_after s = record {
   moment = s.now;
 }
 
--- The text that is shown: the lines behind END_VAR, those of rungs with the marks of the scan, and its notes.
-pub record IsShown (s : OneScan) (shown : List ℕ) : Type 0 where
+abbrev pub scan_of : Scan → OneScan
+scan_of s = one_scan s.text.now s.program.now s.state.now s.inputs.now s.moment
+
+-- ---- by style
+
+-- As text, marks take the place of characters; as a page of HTML, characters stand in elements.
+abbrev pub drawn_of : Style → List Part → List Mark → Lines → ℕ → List ℕ
+drawn_of Marked parts marks lines n = shown_whole parts marks lines n
+drawn_of Page parts marks lines n = drawn_whole parts marks lines n
+
+abbrev pub head_of : Style → Drawing → Standing → List ℕ
+head_of Marked p after = head_line p after
+head_of Page p after = page_head p after
+
+abbrev pub tail_of : Style → Drawing → Standing → List ℕ
+tail_of Marked p after = tail_line p after
+tail_of Page p after = page_tail p after
+
+-- What is above, the lines with their notes, and what is below.
+abbrev pub whole_of : Style → Drawing → Standing → List Part → List Mark → Lines → List ℕ
+whole_of style p after parts marks lines =
+    head_of style p after ++ (noted_lines (drawn_of style parts marks lines) p after parts marks lines ++ tail_of style p after)
+
+-- ---- what is written
+
+-- The drawing of a scan: the lines behind END_VAR, those of rungs with the power flow of the scan, and its notes.
+pub record IsDrawn (style : Style) (s : OneScan) (drawn : List ℕ) : Type 0 where
   pub place : ℕ
   pub parts : List Part
   pub marks : List Mark
   pub outline : HasOutline s.text place parts
   pub seen : AreMarks (diagram_of s.program) s.now s.inputs s.state.held marks
-  pub text : shown ≡ noted_text s.program (state_after s) parts marks (slice_split (λ b. b == line_feed) (drop place s.text))
+  pub text : drawn ≡ whole_of style s.program (state_after s) parts marks (slice_split (λ b. b == line_feed) (drop place s.text))
 
--- The marked text was written.
-pub record Written (s : OneScan) (old new : WriteLog) : Type 0 where
-  pub shown : List ℕ
-  pub is : IsShown s shown
-  pub wrote : PutsAll old new shown
+-- The drawing was written.
+pub record Written (style : Style) (s : OneScan) (old new : WriteLog) : Type 0 where
+  pub text : List ℕ
+  pub is : IsDrawn style s text
+  pub wrote : PutsAll old new text
 
 -- A prefix of it was written before the writer failed.
-pub record WrittenInPart (s : OneScan) (old new : WriteLog) : Type 0 where
-  pub shown : List ℕ
-  pub is : IsShown s shown
-  pub wrote : PutsPrefix old new shown
+pub record WrittenInPart (style : Style) (s : OneScan) (old new : WriteLog) : Type 0 where
+  pub text : List ℕ
+  pub is : IsDrawn style s text
+  pub wrote : PutsPrefix old new text
 
 -- Out of memory nothing is written.
-abbrev pub Fails : OneScan → WriteLog → WriteLog → ShowFault → Type 0
-Fails s old new Memory = new ≡ old
-Fails s old new Write = WrittenInPart s old new
+abbrev pub Fails : Style → OneScan → WriteLog → WriteLog → ShowFault → Type 0
+Fails style s old new Memory = new ≡ old
+Fails style s old new Write = WrittenInPart style s old new

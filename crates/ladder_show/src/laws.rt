@@ -1,10 +1,44 @@
 //! Laws over the definitions, each the contract of a function without effect.
 
-ghost use Rattle.std.specs.Prelude.{ℕ, List};
+ghost use Rattle.std.specs.Prelude.{ℕ, All, List};
 ghost use Rattle.ladder_scan.specs.declared.seen.Mark.{Mark};
+ghost use Rattle.ladder_show.specs.Browser.{HasPlainNames, IsPlain, KeepsCharacters};
 ghost use Rattle.ladder_show.specs.Show.{IsErased};
+
+use ladder_grid::Program;
+use ladder_vars::{Instance, Var};
 
 /// Erasing the marks of a line gives the line, where it has none of their characters.
 pub fn erased()
     ensures { (marks : List Mark) (rung line : ℕ) (text : List ℕ) → IsErased marks rung line text }
 {}
+
+/// The elements of a page change no character of a line.
+pub fn keeps_characters()
+    ensures { (marks : List Mark) (rung line : ℕ) (text : List ℕ) → KeepsCharacters marks rung line text }
+{}
+
+// Looks at each name for its contract.
+fn plain_vars(vars: &[Var])
+    ensures { All (λ v. IsPlain v.name) vars.now }
+{
+    for number in 0..vars.len() {
+        let _name = vars[number].name.bytes();
+    }
+}
+
+fn plain_instances(instances: &[Instance])
+    ensures { All (λ i. IsPlain i.name) instances.now }
+{
+    for number in 0..instances.len() {
+        let _name = instances[number].name.bytes();
+    }
+}
+
+/// The names of a program have no character that HTML escapes.
+pub fn plain_names(program: &Program)
+    ensures { HasPlainNames program.now.decls }
+{
+    plain_vars(program.decls().vars());
+    plain_instances(program.decls().instances());
+}

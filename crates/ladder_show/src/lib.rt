@@ -3,10 +3,14 @@
 
 mod fault;
 pub mod laws;
+mod look;
 mod notes;
 mod noting;
+mod page;
+mod picture;
 mod show;
 mod showing;
 
 pub use fault::ShowFault;
-pub use showing::write_shown;
+pub use picture::Style;
+pub use showing::{Scan, write_drawing};

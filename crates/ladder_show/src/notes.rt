@@ -3,14 +3,16 @@
 ghost use Rattle.std.specs.Prelude.{◌≡◌, ◌<◌, ◌≤◌, ◌+◌, length, option_map};
 ghost use Rattle.ladder_page.specs.declared.geometry.TheConstants.{PLACES};
 ghost use Rattle.ladder_text.specs.Block.{Sends};
-ghost use Rattle.ladder_show.specs.Notes.{cell_note, head_line, instance_note, is_among, lead, moment_text, noted_before, numbered_note, place_note, rung_notes, stored_note, tail_line, value_text, var_note, var_notes};
+ghost use Rattle.ladder_show.specs.Notes.{above, cell_note, instance_note, is_among, lead, moment_text, noted_before, numbered_note, place_note, rung_notes, stored_note, tail_line, value_text, var_note, var_notes};
 
+use crate::picture::Picture;
 use crate::show::mark_in;
-use ladder_grid::{Cell, Program};
+use ladder_elements::Stored;
+use ladder_grid::Cell;
 use ladder_page::geometry::{PLACES, ROWS};
-use ladder_scan::{Mark, State, Stored};
+use ladder_scan::State;
 use ladder_text::{Block, Piece, Sink, WriteFault, add_pieces};
-use ladder_vars::{Decls, Instance, Var};
+use ladder_vars::{Instance, Var};
 
 fn add_stored_note<W: Sink>(
     block: &mut Block,
@@ -79,20 +81,19 @@ fn add_instance_note<W: Sink>(
 
 fn add_cell_note<W: Sink>(
     block: &mut Block,
-    program: &Program,
-    after: &State,
+    picture: Picture<'_>,
     cell: Cell,
     writer: &mut W,
 ) -> Result<(), WriteFault>
-    ensures { Sends (W.log writer.old) (W.log writer.new) block.old block.new result (cell_note program.now after.now cell) }
+    ensures { Sends (W.log writer.old) (W.log writer.new) block.old block.new result (cell_note picture.entry.program.now picture.entry.after.now cell) }
 {
     match cell {
         Cell::Block { inst } => {
             add_instance_note(
                 block,
-                after,
+                picture.after,
                 inst,
-                program.decls().instances().get(inst),
+                picture.program.decls().instances().get(inst),
                 writer,
             )
         }
@@ -108,26 +109,19 @@ fn add_cell_note<W: Sink>(
 
 fn add_place_note<W: Sink>(
     block: &mut Block,
-    program: &Program,
-    after: &State,
-    marks: &[Mark],
+    picture: Picture<'_>,
     rung: usize,
     at: usize,
     writer: &mut W,
 ) -> Result<(), WriteFault>
-    requires rung { rung < program.now.rungs }
+    requires rung { rung < picture.program.now.rungs }
     requires at { at < PLACES }
-    ensures { Sends (W.log writer.old) (W.log writer.new) block.old block.new result (place_note program.now after.now marks.now rung at) }
+    ensures { Sends (W.log writer.old) (W.log writer.new) block.old block.new result (place_note picture.entry.program.now picture.entry.after.now picture.entry.marks.now rung at) }
 {
-    let _rungs = program.rungs();
-    if mark_in(marks, rung, at % ROWS, at / ROWS).evaluated {
-        add_cell_note(
-            block,
-            program,
-            after,
-            program.cell(rung, at % ROWS, at / ROWS),
-            writer,
-        )
+    let _rungs = picture.program.rungs();
+    if mark_in(picture.marks, rung, at % ROWS, at / ROWS).evaluated {
+        let cell = picture.program.cell(rung, at % ROWS, at / ROWS);
+        add_cell_note(block, picture, cell, writer)
     } else {
         block.add(b"", writer)
     }
@@ -136,17 +130,15 @@ fn add_place_note<W: Sink>(
 /// Adds the notes of a rung.
 pub(crate) fn add_rung_notes<W: Sink>(
     block: &mut Block,
-    program: &Program,
-    after: &State,
-    marks: &[Mark],
+    picture: Picture<'_>,
     rung: usize,
     writer: &mut W,
 ) -> Result<(), WriteFault>
-    requires { rung < program.now.rungs }
-    ensures { Sends (W.log writer.old) (W.log writer.new) block.old block.new result (rung_notes program.now after.now marks.now rung) }
+    requires { rung < picture.program.now.rungs }
+    ensures { Sends (W.log writer.old) (W.log writer.new) block.old block.new result (rung_notes picture.entry.program.now picture.entry.after.now picture.entry.marks.now rung) }
 {
     for at in 0..PLACES {
-        add_place_note(block, program, after, marks, rung, at, writer)?;
+        add_place_note(block, picture, rung, at, writer)?;
     }
     Ok(())
 }
@@ -189,56 +181,28 @@ fn add_value<W: Sink>(
     add_pieces(block, pieces.as_slice(), writer)
 }
 
-fn add_var_note<W: Sink>(
+fn add_numbered_note<W: Sink>(
     block: &mut Block,
+    picture: Picture<'_>,
     inputs: bool,
-    after: &State,
     many: usize,
     number: usize,
-    var: Option<&Var>,
     writer: &mut W,
 ) -> Result<(), WriteFault>
-    ensures { Sends (W.log writer.old) (W.log writer.new) block.old block.new result (var_note inputs after.now many number (option_map (λ v. v.now) var.entry)) }
+    requires { many ≡ noted_before inputs picture.program.now.decls.vars number }
+    ensures { Sends (W.log writer.old) (W.log writer.new) block.old block.new result (numbered_note inputs picture.entry.program.now.decls picture.entry.after.now number) }
 {
-    match var {
+    match picture.program.decls().vars().get(number) {
         Some(var) => {
             if is_among(inputs, var) {
-                add_value(
-                    block,
-                    many,
-                    var.name.bytes(),
-                    after.value_or_off(number),
-                    writer,
-                )
+                let value = picture.after.value_or_off(number);
+                add_value(block, many, var.name.bytes(), value, writer)
             } else {
                 block.add(b"", writer)
             }
         }
         None => block.add(b"", writer),
     }
-}
-
-fn add_numbered_note<W: Sink>(
-    block: &mut Block,
-    inputs: bool,
-    decls: &Decls,
-    after: &State,
-    many: usize,
-    number: usize,
-    writer: &mut W,
-) -> Result<(), WriteFault>
-    requires { many ≡ noted_before inputs decls.now.vars number }
-    ensures { Sends (W.log writer.old) (W.log writer.new) block.old block.new result (numbered_note inputs decls.now after.now number) }
-{
-    add_var_note(
-        block,
-        inputs,
-        after,
-        many,
-        number,
-        decls.vars().get(number),
-        writer,
-    )
 }
 
 /// How many of these variables are declared up to this one, where so many come before it.
@@ -259,17 +223,16 @@ fn noted_with(inputs: bool, vars: &[Var], number: usize, many: usize) -> usize
 /// Adds the values of the inputs, or of all other variables.
 fn add_var_notes<W: Sink>(
     block: &mut Block,
+    picture: Picture<'_>,
     inputs: bool,
-    decls: &Decls,
-    after: &State,
     writer: &mut W,
 ) -> Result<(), WriteFault>
-    ensures { Sends (W.log writer.old) (W.log writer.new) block.old block.new result (var_notes inputs decls.now after.now) }
+    ensures { Sends (W.log writer.old) (W.log writer.new) block.old block.new result (var_notes inputs picture.entry.program.now.decls picture.entry.after.now) }
 {
-    let vars = decls.vars();
+    let vars = picture.program.decls().vars();
     let mut many = 0;
     for number in 0..vars.len() {
-        add_numbered_note(block, inputs, decls, after, many, number, writer)?;
+        add_numbered_note(block, picture, inputs, many, number, writer)?;
         many = noted_with(inputs, vars, number, many);
     }
     Ok(())
@@ -286,33 +249,29 @@ fn add_moment<W: Sink>(block: &mut Block, after: &State, writer: &mut W) -> Resu
     add_pieces(block, pieces.as_slice(), writer)
 }
 
-/// Adds the lines above the drawing.
-pub(crate) fn add_head<W: Sink>(
+/// Adds what is above the drawing, up to what the marks mean.
+pub(crate) fn add_above<W: Sink>(
     block: &mut Block,
-    program: &Program,
-    after: &State,
+    picture: Picture<'_>,
+    meaning: &[u8],
     writer: &mut W,
 ) -> Result<(), WriteFault>
-    ensures { Sends (W.log writer.old) (W.log writer.new) block.old block.new result (head_line program.now after.now) }
+    ensures { Sends (W.log writer.old) (W.log writer.new) block.old block.new result (above picture.entry.program.now picture.entry.after.now meaning.now) }
 {
-    add_moment(block, after, writer)?;
-    add_var_notes(block, true, program.decls(), after, writer)?;
-    block.add(
-        b" *)\n(* === live  [ ] closed, or Q is ON  { } ON after its rung  ... passed over *)\n",
-        writer,
-    )
+    add_moment(block, picture.after, writer)?;
+    add_var_notes(block, picture, true, writer)?;
+    block.add(meaning, writer)
 }
 
 /// Adds what is below it.
 pub(crate) fn add_tail<W: Sink>(
     block: &mut Block,
-    program: &Program,
-    after: &State,
+    picture: Picture<'_>,
     writer: &mut W,
 ) -> Result<(), WriteFault>
-    ensures { Sends (W.log writer.old) (W.log writer.new) block.old block.new result (tail_line program.now after.now) }
+    ensures { Sends (W.log writer.old) (W.log writer.new) block.old block.new result (tail_line picture.entry.program.now picture.entry.after.now) }
 {
     block.add(b"\n(* after it:", writer)?;
-    add_var_notes(block, false, program.decls(), after, writer)?;
+    add_var_notes(block, picture, false, writer)?;
     block.add(b" *)\n", writer)
 }

@@ -1,36 +1,33 @@
 //! The whole text: the lines with their marks, and what is noted beside them.
 
 ghost use Rattle.std.specs.Prelude.{◌≡◌, ◌<◌, ◌≤◌, ◌^◌, length, map, position};
-ghost use Rattle.ladder_page.specs.declared.geometry.TheConstants.{RUNGS};
 ghost use Rattle.ladder_text.specs.Block.{Sends};
 ghost use Rattle.ladder_text.specs.Log.{Puts};
 ghost use Rattle.ladder_show.specs.Show.{is_line_of};
-ghost use Rattle.ladder_show.specs.Notes.{is_left_out, kept_line, noted_line, noted_lines, noted_text, notes_behind};
+ghost use Rattle.ladder_show.specs.Pictures.{Fits, lines_drawn, of_picture};
+ghost use Rattle.ladder_show.specs.Showing.{head_of, tail_of, whole_of};
+ghost use Rattle.ladder_show.specs.Notes.{is_left_out, kept_line, noted_line, noted_lines, notes_behind};
 
-use crate::notes::{add_head, add_rung_notes, add_tail};
+use crate::notes::{add_above, add_rung_notes, add_tail};
+use crate::page::{add_drawn_line, add_page_head, add_page_tail};
+use crate::picture::{Picture, Style};
 use crate::show::{add_whole_line, rung_of};
-use ladder_grid::Program;
-use ladder_page::Part;
-use ladder_scan::{Mark, State};
 use ladder_text::{Block, Sink, WriteFault};
 
 fn add_notes_behind<W: Sink>(
     block: &mut Block,
-    program: &Program,
-    after: &State,
-    parts: &[Part],
-    marks: &[Mark],
+    picture: Picture<'_>,
     line: usize,
     writer: &mut W,
 ) -> Result<(), WriteFault>
-    requires same { length parts.now ≡ program.now.rungs }
-    requires line { line < 2 ^ 59 }
-    ensures { Sends (W.log writer.old) (W.log writer.new) block.old block.new result (notes_behind program.now after.now parts.now marks.now line (position (is_line_of line) parts.now)) }
+    requires fits { Fits picture }
+    requires line { line < length picture.lines.now }
+    ensures { Sends (W.log writer.old) (W.log writer.new) block.old block.new result (notes_behind picture.entry.program.now picture.entry.after.now picture.entry.parts.now picture.entry.marks.now line (position (is_line_of line) picture.entry.parts.now)) }
 {
-    match rung_of(parts, line) {
+    match rung_of(picture.parts, line) {
         Some(rung) => {
-            if line + 1 == parts[rung].end {
-                add_rung_notes(block, program, after, marks, rung, writer)
+            if line + 1 == picture.parts[rung].end {
+                add_rung_notes(block, picture, rung, writer)
             } else {
                 block.add(b"", writer)
             }
@@ -39,24 +36,35 @@ fn add_notes_behind<W: Sink>(
     }
 }
 
-fn add_noted_line<W: Sink>(
+/// Adds a line and its end.
+fn add_line<W: Sink>(
     block: &mut Block,
-    program: &Program,
-    after: &State,
-    parts: &[Part],
-    marks: &[Mark],
-    lines: &[&[u8]],
+    picture: Picture<'_>,
     line: usize,
     writer: &mut W,
 ) -> Result<(), WriteFault>
-    requires same { length parts.now ≡ program.now.rungs }
-    requires few { length parts.now ≤ RUNGS }
-    requires line { line < length lines.now }
-    requires small { length lines.now < 2 ^ 59 }
-    ensures { Sends (W.log writer.old) (W.log writer.new) block.old block.new result (noted_line program.now after.now parts.now marks.now (map (λ l. l.now) lines.now) line) }
+    requires fits { Fits picture }
+    requires line { line < length picture.lines.now }
+    ensures { Sends (W.log writer.old) (W.log writer.new) block.old block.new result (lines_drawn picture.entry line) }
 {
-    add_whole_line(block, parts, marks, lines, line, writer)?;
-    add_notes_behind(block, program, after, parts, marks, line, writer)
+    match picture.style {
+        Style::Marked => add_whole_line(block, picture, line, writer),
+        Style::Page => add_drawn_line(block, picture, line, writer),
+    }
+}
+
+fn add_noted_line<W: Sink>(
+    block: &mut Block,
+    picture: Picture<'_>,
+    line: usize,
+    writer: &mut W,
+) -> Result<(), WriteFault>
+    requires fits { Fits picture }
+    requires line { line < length picture.lines.now }
+    ensures { Sends (W.log writer.old) (W.log writer.new) block.old block.new result (noted_line (lines_drawn picture.entry) picture.entry.program.now picture.entry.after.now picture.entry.parts.now picture.entry.marks.now line) }
+{
+    add_line(block, picture, line, writer)?;
+    add_notes_behind(block, picture, line, writer)
 }
 
 fn is_left_out(lines: &[&[u8]], line: usize) -> bool
@@ -68,64 +76,79 @@ fn is_left_out(lines: &[&[u8]], line: usize) -> bool
 
 fn add_kept_line<W: Sink>(
     block: &mut Block,
-    program: &Program,
-    after: &State,
-    parts: &[Part],
-    marks: &[Mark],
-    lines: &[&[u8]],
+    picture: Picture<'_>,
     line: usize,
     writer: &mut W,
 ) -> Result<(), WriteFault>
-    requires same { length parts.now ≡ program.now.rungs }
-    requires few { length parts.now ≤ RUNGS }
-    requires line { line < length lines.now }
-    requires small { length lines.now < 2 ^ 59 }
-    ensures { Sends (W.log writer.old) (W.log writer.new) block.old block.new result (kept_line program.now after.now parts.now marks.now (map (λ l. l.now) lines.now) line) }
+    requires fits { Fits picture }
+    requires line { line < length picture.lines.now }
+    ensures { Sends (W.log writer.old) (W.log writer.new) block.old block.new result (of_picture (kept_line (lines_drawn picture.entry)) picture.entry line) }
 {
-    if is_left_out(lines, line) {
+    if is_left_out(picture.lines, line) {
         block.add(b"", writer)
     } else {
-        add_noted_line(block, program, after, parts, marks, lines, line, writer)
+        add_noted_line(block, picture, line, writer)
     }
 }
 
 fn add_noted_lines<W: Sink>(
     block: &mut Block,
-    program: &Program,
-    after: &State,
-    parts: &[Part],
-    marks: &[Mark],
-    lines: &[&[u8]],
+    picture: Picture<'_>,
     writer: &mut W,
 ) -> Result<(), WriteFault>
-    requires same { length parts.now ≡ program.now.rungs }
-    requires few { length parts.now ≤ RUNGS }
-    requires small { length lines.now < 2 ^ 59 }
-    ensures { Sends (W.log writer.old) (W.log writer.new) block.old block.new result (noted_lines program.now after.now parts.now marks.now (map (λ l. l.now) lines.now)) }
+    requires { Fits picture }
+    ensures { Sends (W.log writer.old) (W.log writer.new) block.old block.new result (of_picture (noted_lines (lines_drawn picture.entry)) picture.entry) }
 {
-    for line in 0..lines.len() {
-        add_kept_line(block, program, after, parts, marks, lines, line, writer)?;
+    for line in 0..picture.lines.len() {
+        add_kept_line(block, picture, line, writer)?;
     }
     Ok(())
 }
 
-fn add_noted<W: Sink>(
+/// Adds what is above the lines.
+fn add_head<W: Sink>(
     block: &mut Block,
-    program: &Program,
-    after: &State,
-    parts: &[Part],
-    marks: &[Mark],
-    lines: &[&[u8]],
+    picture: Picture<'_>,
     writer: &mut W,
 ) -> Result<(), WriteFault>
-    requires same { length parts.now ≡ program.now.rungs }
-    requires few { length parts.now ≤ RUNGS }
-    requires small { length lines.now < 2 ^ 59 }
-    ensures { Sends (W.log writer.old) (W.log writer.new) block.old block.new result (noted_text program.now after.now parts.now marks.now (map (λ l. l.now) lines.now)) }
+    ensures { Sends (W.log writer.old) (W.log writer.new) block.old block.new result (head_of picture.entry.style picture.entry.program.now picture.entry.after.now) }
 {
-    add_head(block, program, after, writer)?;
-    add_noted_lines(block, program, after, parts, marks, lines, writer)?;
-    add_tail(block, program, after, writer)
+    match picture.style {
+        Style::Marked => add_above(
+            block,
+            picture,
+            b" *)\n(* === live  [ ] closed, or Q is ON  { } ON after its rung  ... passed over *)\n",
+            writer,
+        ),
+        Style::Page => add_page_head(block, picture, writer),
+    }
+}
+
+/// Adds what is below them.
+fn add_end<W: Sink>(
+    block: &mut Block,
+    picture: Picture<'_>,
+    writer: &mut W,
+) -> Result<(), WriteFault>
+    ensures { Sends (W.log writer.old) (W.log writer.new) block.old block.new result (tail_of picture.entry.style picture.entry.program.now picture.entry.after.now) }
+{
+    match picture.style {
+        Style::Marked => add_tail(block, picture, writer),
+        Style::Page => add_page_tail(block, picture, writer),
+    }
+}
+
+fn add_noted<W: Sink>(
+    block: &mut Block,
+    picture: Picture<'_>,
+    writer: &mut W,
+) -> Result<(), WriteFault>
+    requires { Fits picture }
+    ensures { Sends (W.log writer.old) (W.log writer.new) block.old block.new result (of_picture (whole_of picture.entry.style) picture.entry) }
+{
+    add_head(block, picture, writer)?;
+    add_noted_lines(block, picture, writer)?;
+    add_end(block, picture, writer)
 }
 
 /// Writes the whole text.
@@ -133,20 +156,11 @@ fn add_noted<W: Sink>(
 /// # Errors
 ///
 /// The writer failed. What was written is a prefix of the text.
-pub(crate) fn write_noted<W: Sink>(
-    program: &Program,
-    after: &State,
-    parts: &[Part],
-    marks: &[Mark],
-    lines: &[&[u8]],
-    writer: &mut W,
-) -> Result<(), WriteFault>
-    requires same { length parts.now ≡ program.now.rungs }
-    requires few { length parts.now ≤ RUNGS }
-    requires small { length lines.now < 2 ^ 59 }
-    ensures { Puts (W.log writer.old) (W.log writer.new) result (noted_text program.now after.now parts.now marks.now (map (λ l. l.now) lines.now)) }
+pub(crate) fn write_noted<W: Sink>(picture: Picture<'_>, writer: &mut W) -> Result<(), WriteFault>
+    requires { Fits picture }
+    ensures { Puts (W.log writer.old) (W.log writer.new) result (of_picture (whole_of picture.entry.style) picture.entry) }
 {
     let mut block = Block::new();
-    add_noted(&mut block, program, after, parts, marks, lines, writer)?;
+    add_noted(&mut block, picture, writer)?;
     block.flush(writer)
 }

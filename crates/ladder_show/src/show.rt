@@ -6,8 +6,10 @@ ghost use Rattle.ladder_page.specs.declared.geometry.TheConstants.{RUNGS};
 ghost use Rattle.ladder_page.specs.Bytes.{dash};
 ghost use Rattle.ladder_page.specs.Lines.{part_in};
 ghost use Rattle.ladder_text.specs.Block.{Sends};
-ghost use Rattle.ladder_show.specs.Show.{cell_char, is_line_of, joint_char, link_char, mark_in, shown_at, shown_in, shown_line, symbol_char, wire_char};
+ghost use Rattle.ladder_show.specs.Pictures.{Fits, lines_of};
+ghost use Rattle.ladder_show.specs.Show.{cell_char, is_line_of, joint_char, link_char, mark_in, shown_at, shown_in, shown_line, shown_whole, symbol_char, wire_char};
 
+use crate::picture::Picture;
 use ladder_page::Part;
 use ladder_page::geometry::{PITCH, PLACES, RAIL, ROWS};
 use ladder_scan::Mark;
@@ -86,7 +88,7 @@ fn cell_char(mark: Mark, front: bool, b: u8) -> u8
     }
 }
 
-fn are_dashes(text: &[u8]) -> bool
+pub(crate) fn are_dashes(text: &[u8]) -> bool
     ensures { result ≡ list_all (λ c. c == dash) text.now }
 {
     text.iter().all(|b| *b == b'-')
@@ -151,44 +153,38 @@ pub(crate) fn rung_of(parts: &[Part], line: usize) -> Option<usize>
 /// Adds a line of a text, with its marks where it is a line of a rung.
 fn add_line_in<W: Sink>(
     block: &mut Block,
-    parts: &[Part],
-    marks: &[Mark],
-    lines: &[&[u8]],
+    picture: Picture<'_>,
     line: usize,
     writer: &mut W,
 ) -> Result<(), WriteFault>
-    requires few { length parts.now ≤ RUNGS }
-    requires line { line < length lines.now }
-    requires small { length lines.now < 2 ^ 59 }
-    ensures { Sends (W.log writer.old) (W.log writer.new) block.old block.new result (shown_in parts.now marks.now (map (λ l. l.now) lines.now) line (position (is_line_of line) parts.now)) }
+    requires fits { Fits picture }
+    requires line { line < length picture.lines.now }
+    ensures { Sends (W.log writer.old) (W.log writer.new) block.old block.new result (shown_in picture.entry.parts.now picture.entry.marks.now (lines_of picture.entry) line (position (is_line_of line) picture.entry.parts.now)) }
 {
-    match rung_of(parts, line) {
+    match rung_of(picture.parts, line) {
         Some(rung) => add_shown_line(
             block,
-            marks,
+            picture.marks,
             rung,
-            line - parts[rung].start,
-            lines[line],
+            line - picture.parts[rung].start,
+            picture.lines[line],
             writer,
         ),
-        None => block.add(lines[line], writer),
+        None => block.add(picture.lines[line], writer),
     }
 }
 
 /// Adds a line and its end.
 pub(crate) fn add_whole_line<W: Sink>(
     block: &mut Block,
-    parts: &[Part],
-    marks: &[Mark],
-    lines: &[&[u8]],
+    picture: Picture<'_>,
     line: usize,
     writer: &mut W,
 ) -> Result<(), WriteFault>
-    requires few { length parts.now ≤ RUNGS }
-    requires line { line < length lines.now }
-    requires small { length lines.now < 2 ^ 59 }
-    ensures { Sends (W.log writer.old) (W.log writer.new) block.old block.new result (shown_in parts.now marks.now (map (λ l. l.now) lines.now) line (position (is_line_of line) parts.now) ++ codes "\n") }
+    requires fits { Fits picture }
+    requires line { line < length picture.lines.now }
+    ensures { Sends (W.log writer.old) (W.log writer.new) block.old block.new result (shown_whole picture.entry.parts.now picture.entry.marks.now (lines_of picture.entry) line) }
 {
-    add_line_in(block, parts, marks, lines, line, writer)?;
+    add_line_in(block, picture, line, writer)?;
     block.add(b"\n", writer)
 }

@@ -7,7 +7,7 @@ use Rattle.csv.specs.declared.reader.Reader.{Reader}
 use Rattle.ladder_grid.specs.Program.{Drawing}
 use Rattle.ladder_records.specs.Left.{Fields, Left}
 use Rattle.ladder_vars.specs.declared.decls.Instance.{Instance}
-use Rattle.ladder_scan.specs.declared.block.Stored.{Stored}
+use Rattle.ladder_elements.specs.declared.block.Stored.{Stored}
 use Rattle.ladder_scan.specs.Standing.{Standing, fresh}
 use Rattle.ladder_state.specs.declared.fault.StateFault.{StateFault}
 use Rattle.ladder_state.specs.declared.fault.StateFault.TheVariants as fault

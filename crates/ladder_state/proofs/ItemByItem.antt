@@ -7,8 +7,8 @@ use Rattle.std.specs.Prelude.{⊤}
 use Rattle.std.specs.Borrow.{Bor}
 use Rattle.csv.specs.declared.reader.Reader.{Reader}
 use Rattle.ladder_records.specs.Left.{Fields, Left, TakesFirst}
-use Rattle.ladder_scan.specs.declared.block.Stored.{Stored}
-use Rattle.ladder_scan.specs.Blocks.{new_block}
+use Rattle.ladder_elements.specs.declared.block.Stored.{Stored}
+use Rattle.ladder_elements.specs.Blocks.{new_block}
 use Rattle.ladder_scan.specs.Standing.{CanStore, Standing, with_blocks, with_memories, with_values}
 use Rattle.ladder_state.specs.Parts.{IsRead, IsStuck, TakesItem, each, every, some}
 use Rattle.ladder_state.specs.StateText.{AreTold, has_record}

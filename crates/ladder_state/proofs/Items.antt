@@ -9,9 +9,9 @@ use Rattle.ladder_vars.specs.declared.kind.BlockKind.{BlockKind}
 use Rattle.ladder_vars.specs.declared.kind.BlockKind.TheVariants.{Ton, Ctu, Sr}
 use Rattle.ladder_scan.specs.Standing.{CanStore}
 use Rattle.ladder_scan.proofs.Possible.{can_possible, can_shape, can_store}
-use Rattle.ladder_scan.specs.Blocks.{new_block}
-use Rattle.ladder_scan.specs.declared.block.Stored.{Stored}
-use Rattle.ladder_scan.specs.declared.block.Stored.TheVariants.{Timer, Counter, Bistable}
+use Rattle.ladder_elements.specs.Blocks.{new_block}
+use Rattle.ladder_elements.specs.declared.block.Stored.{Stored}
+use Rattle.ladder_elements.specs.declared.block.Stored.TheVariants.{Timer, Counter, Bistable}
 use Rattle.ladder_records.specs.Text.{bit_text}
 use Rattle.ladder_state.specs.Item.{is_on, IsBlockRecord}
 use Rattle.ladder_state.specs.StateText.{block_record}

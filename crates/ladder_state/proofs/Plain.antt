@@ -18,8 +18,8 @@ use Rattle.ladder_vars.specs.Name.{is_name, is_name_byte}
 use Rattle.ladder_vars.specs.declared.decls.Var.{Var}
 use Rattle.ladder_page.specs.declared.geometry.TheConstants.{PLACES, RUNGS}
 use Rattle.ladder_grid.specs.Program.{Drawing, IsWhole}
-use Rattle.ladder_scan.specs.declared.block.Stored.{Stored}
-use Rattle.ladder_scan.specs.declared.block.Stored.TheVariants.{Timer, Counter, Bistable}
+use Rattle.ladder_elements.specs.declared.block.Stored.{Stored}
+use Rattle.ladder_elements.specs.declared.block.Stored.TheVariants.{Timer, Counter, Bistable}
 use Rattle.ladder_scan.specs.RungByRung.{IsPossible}
 use Rattle.ladder_scan.specs.Standing.{Standing}
 use Rattle.ladder_scan.proofs.Possible.{can_possible}

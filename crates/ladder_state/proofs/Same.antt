@@ -7,8 +7,8 @@ use Rattle.ladder_state.specs.declared.fault.StateFault.TheVariants as fault
 use Rattle.ladder_vars.specs.declared.decls.Instance.{Instance}
 use Rattle.ladder_vars.specs.declared.decls.Var.{Var}
 use Rattle.ladder_grid.specs.Program.{Drawing}
-use Rattle.ladder_scan.specs.declared.block.Stored.{Stored}
-use Rattle.ladder_scan.specs.declared.block.Stored.TheVariants.{Timer, Counter, Bistable}
+use Rattle.ladder_elements.specs.declared.block.Stored.{Stored}
+use Rattle.ladder_elements.specs.declared.block.Stored.TheVariants.{Timer, Counter, Bistable}
 use Rattle.ladder_scan.specs.RungByRung.{IsPossible, shape}
 use Rattle.ladder_scan.specs.Standing.{Standing}
 use Rattle.ladder_scan.proofs.Possible.{can_possible, can_shape}

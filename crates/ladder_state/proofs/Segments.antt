@@ -6,7 +6,7 @@ use Rattle.std.proofs.lemmas.List.{length-map, take_at}
 use Rattle.ladder_vars.specs.declared.decls.Instance.{Instance}
 use Rattle.ladder_grid.specs.Program.{Drawing, memories_of}
 use Rattle.ladder_records.specs.Left.{Fields}
-use Rattle.ladder_scan.specs.declared.block.Stored.{Stored}
+use Rattle.ladder_elements.specs.declared.block.Stored.{Stored}
 use Rattle.ladder_scan.specs.Standing.{CanStore, Standing}
 use Rattle.ladder_state.specs.declared.version.Version.{Version}
 use Rattle.ladder_state.specs.Parts.{CanHold, IsItemsBad, IsStuck, block_item, block_records, each, every, memory_records, some, tells, var_records}

@@ -1,7 +1,7 @@
 -- Private to the reading of a state: what the record of an instance says.
 use Rattle.std.specs.Prelude.{◌≡◌, ℕ, List, Option, Some, None, Bool, false, codes, bytes_eq}
 use Rattle.ladder_records.specs.Left.{Fields}
-use Rattle.ladder_scan.specs.declared.block.Stored.{Stored}
+use Rattle.ladder_elements.specs.declared.block.Stored.{Stored}
 use Rattle.ladder_scan.specs.RungByRung.{IsPossible, shape}
 use Rattle.ladder_state.specs.StateText.{block_record}
 

@@ -6,8 +6,8 @@ use Rattle.csv.specs.declared.reader.Reader.{Reader}
 use Rattle.ladder_records.specs.Left.{Fields, Left}
 use Rattle.ladder_vars.specs.declared.decls.Var.{Var}
 use Rattle.ladder_vars.specs.declared.decls.Instance.{Instance}
-use Rattle.ladder_scan.specs.Blocks.{new_block}
-use Rattle.ladder_scan.specs.declared.block.Stored.{Stored}
+use Rattle.ladder_elements.specs.Blocks.{new_block}
+use Rattle.ladder_elements.specs.declared.block.Stored.{Stored}
 use Rattle.ladder_scan.specs.Standing.{CanStore, Standing}
 use Rattle.ladder_grid.specs.Program.{Drawing, cell_in, has_memory}
 use Rattle.ladder_state.specs.declared.fault.StateFault.{StateFault}

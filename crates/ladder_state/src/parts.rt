@@ -12,10 +12,11 @@ use crate::fault::StateFault;
 use crate::row::{read_block, read_memory, read_var};
 use crate::version::Version;
 use csv::ByteRecord;
+use ladder_elements::Stored;
 use ladder_grid::{Cell, Program};
 use ladder_page::geometry::{PLACES, ROWS};
 use ladder_records::{Records, next};
-use ladder_scan::{State, Stored};
+use ladder_scan::State;
 use ladder_vars::{Instance, Var};
 use std::alloc::AllocError;
 

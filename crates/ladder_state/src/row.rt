@@ -4,8 +4,8 @@ ghost use Rattle.std.specs.Prelude.{◌≡◌, ◌≢◌, ◌<◌, ◌≤◌, �
 ghost use Rattle.csv.specs.Records.{field_at, fields_of};
 ghost use Rattle.ladder_page.specs.declared.geometry.TheConstants.{PLACES, RUNGS};
 ghost use Rattle.ladder_vars.specs.declared.kind.BlockKind.TheVariants.{Ton, Ctu, Sr};
-ghost use Rattle.ladder_scan.specs.Blocks.{new_block};
-ghost use Rattle.ladder_scan.specs.declared.block.Stored.{Stored};
+ghost use Rattle.ladder_elements.specs.Blocks.{new_block};
+ghost use Rattle.ladder_elements.specs.declared.block.Stored.{Stored};
 ghost use Rattle.ladder_scan.specs.Standing.{CanStore};
 ghost use Rattle.ladder_state.specs.Item.{is_on, IsBlockRecord};
 ghost use Rattle.ladder_state.specs.StateText.{block_record, memory_record, var_record};
@@ -13,9 +13,9 @@ ghost use Rattle.ladder_state.specs.Parts.{moment_record};
 
 use csv::ByteRecord;
 use itoa::Buffer;
+use ladder_elements::Stored;
 use ladder_page::geometry::{PLACES, ROWS};
 use ladder_records::{bit_field, is_record, read_number, read_signed};
-use ladder_scan::Stored;
 use ladder_vars::{BlockKind, Instance, Var};
 
 fn is_moment(field: &[u8], row: &ByteRecord) -> bool

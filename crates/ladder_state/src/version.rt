@@ -2,7 +2,7 @@
 
 ghost use Rattle.std.specs.Prelude.{◌≡◌, ◌≢◌, None, IfSome};
 ghost use Rattle.csv.specs.Records.{fields_of};
-ghost use Rattle.ladder_scan.specs.Blocks.{new_block};
+ghost use Rattle.ladder_elements.specs.Blocks.{new_block};
 ghost use Rattle.ladder_state.specs.StateText.{has_record, version_record};
 ghost use Rattle.ladder_state.specs.declared.version.Version as version;
 

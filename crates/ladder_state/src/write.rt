@@ -4,7 +4,7 @@ ghost use Rattle.std.specs.Prelude.{◌≡◌, ◌*◌, ◌<◌, ◌∷◌, [], 
 ghost use Rattle.ladder_page.specs.declared.geometry.TheConstants.{PLACES, RUNGS};
 ghost use Rattle.ladder_grid.specs.Program.{memories_of};
 ghost use Rattle.ladder_records.specs.Text.{line_text, lines_text};
-ghost use Rattle.ladder_scan.specs.declared.block.Stored.TheVariants.{Bistable, Counter, Timer};
+ghost use Rattle.ladder_elements.specs.declared.block.Stored.TheVariants.{Bistable, Counter, Timer};
 ghost use Rattle.ladder_scan.specs.Standing.{Fits};
 ghost use Rattle.ladder_state.specs.StateText.{block_record, item_records, memory_places, memory_record, state_text, var_record, version_record, IsStateOf};
 ghost use Rattle.ladder_state.specs.Parts.{moment_record};
@@ -15,10 +15,11 @@ ghost use Rattle.ladder_text.specs.Log.{Puts};
 
 use crate::parts::is_memory_place;
 use itoa::Buffer;
+use ladder_elements::Stored;
 use ladder_grid::Program;
 use ladder_page::geometry::{PLACES, ROWS};
 use ladder_records::{add_line, bit_field};
-use ladder_scan::{State, Stored};
+use ladder_scan::State;
 use ladder_text::{Block, Sink, WriteFault};
 use ladder_vars::{Instance, Var};
 

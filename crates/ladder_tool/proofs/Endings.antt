@@ -1,9 +1,13 @@
 -- How a request for causes ends, from what each step of it ensures.
-use Rattle.std.proofs.Common.{◌≡◌, ◌⊎◌, ◌∙◌, ap, refl, ℕ, List, Some, inl, inr, length}
+use Rattle.std.proofs.Common.{◌≡◌, ◌⊎◌, ◌∙◌, ap, refl, subst, sym, ℕ, Bool, List, Option, Some, inl, inr, length}
 use Rattle.std.specs.Prelude.{unwrap_or}
 use Rattle.ladder_vars.specs.Decls.{Declared}
 use Rattle.ladder_grid.specs.Program.{Drawing}
+use Rattle.ladder_scan.specs.Programs.{diagram_of}
 use Rattle.ladder_scan.specs.Standing.{Standing}
+use Rattle.ladder_show.specs.Showing.{IsDrawn, OneScan, one_scan}
+use Rattle.ladder_show.specs.declared.picture.Style.{Style}
+use Rattle.ladder_causes.specs.Assignment.{assignment}
 use Rattle.ladder_search.specs.Looks.{Search}
 use Rattle.ladder_causes.specs.declared.fault.CauseFault.{CauseFault}
 use Rattle.ladder_causes.specs.declared.fault.CauseFault.TheVariants as cause
@@ -11,14 +15,14 @@ use Rattle.ladder_causes.specs.Causes.{Question, causes_after, is_cause, questio
 use Rattle.ladder_causes.specs.Cursor.{Cursor, first_number, looks_given, looks_of, searched}
 use Rattle.ladder_causes.specs.GroupCursor.{GroupCursor, causes_in, rows_left}
 use Rattle.ladder_causes.specs.Prefixes.{search_of}
-use Rattle.ladder_causes.specs.Refusal.{reason, refusal}
+use Rattle.ladder_causes.specs.Refusal.{reason, scan_refusal}
 use Rattle.ladder_groups.specs.Groups.{rows}
 use Rattle.ladder_sim.specs.CauseText.{cause_text, limited}
 use Rattle.ladder_sim.specs.TermText.{form_text}
 use Rattle.ladder_sim.specs.declared.group_text.GroupForm.{GroupForm}
 use Rattle.ladder_text.specs.Log.{PutsAll, PutsPrefix, WriteLog}
 use Rattle.ladder_tool.specs.declared.fault.ToolFault.TheVariants as fault
-use Rattle.ladder_tool.specs.Performs.{Asking, HasCauseFault, IsAsked, causes_for, counts_text, groups_line, looks_for, rows_for, rows_line, rows_text}
+use Rattle.ladder_tool.specs.Performs.{Asking, HasCauseFault, IsAsked, Viewing, broken_first, causes_for, counts_text, groups_line, looks_for, rows_for, rows_line, rows_text, shown_scan, style_for}
 use Rattle.ladder_tool.specs.Setting.{Given, IsSet}
 use Rattle.ladder_tool.specs.Variables.{AreVariables, variable_of}
 
@@ -28,14 +32,14 @@ pub asked_by : (g : Given) (a : Asking) (p : Drawing) (s : Standing) (decls : De
 asked_by g a p s decls now var listed given set same as_given at on among =
     record { set = set; at = at; on = rw same at on; among = rw as_given (rw same at among) }
 
-pub cause_fault : (a : Asking) (q : Question) (f : CauseFault) → refusal q a.after ≡ reason f → HasCauseFault a q (fault.Cause f)
-cause_fault a q cause.MomentBack h = inr h
-cause_fault a q cause.NotACoil h = inr h
-cause_fault a q cause.TooManyFree h = inr h
-cause_fault a q cause.NotAnInput h = inr h
-cause_fault a q cause.RepeatedInput h = inr h
-cause_fault a q cause.AfterOutOfRange h = inr h
-cause_fault a q cause.Memory h = inl refl
+pub cause_fault : (first : Option CauseFault) (f : CauseFault) → first ≡ reason f → HasCauseFault first (fault.Cause f)
+cause_fault first cause.MomentBack h = inr h
+cause_fault first cause.NotACoil h = inr h
+cause_fault first cause.TooManyFree h = inr h
+cause_fault first cause.NotAnInput h = inr h
+cause_fault first cause.RepeatedInput h = inr h
+cause_fault first cause.AfterOutOfRange h = inr h
+cause_fault first cause.Memory h = inl refl
 
 -- What the cursor that was made for a subject has to give is what is asked.
 module _ (a : Asking) (q : Question) (c : Cursor) (of_program : c.program ≡ q.program) (of_listed : c.listed ≡ q.listed)
@@ -75,6 +79,30 @@ pub counts_are : (a : Asking) (q : Question) (c : GroupCursor) → rows_left c �
 counts_are a q c made many causes h l =
     ap (λ n. groups_line n causes) (h ∙ ap (λ rs. length (limited a.limit rs)) made)
     ∙ ap (groups_line (length (rows_for a q))) (l ∙ ap (λ rs. causes_in (limited a.limit rs)) made)
+
+-- ---- one scan that is shown
+
+-- It is refused as what is asked is, where its moment, its listed inputs and its number are those that are asked for.
+pub same_refusal : (v : Viewing) (p : Drawing) (s : Standing) (now n : ℕ) (listed given : List ℕ) → given ≡ listed → now ≡ unwrap_or v.moment s.moment
+    → n ≡ unwrap_or v.number 0 → broken_first v p s listed ≡ scan_refusal (question p s now 0 given) n
+same_refusal v p s now n listed given as_given at number =
+    ap (λ xs. scan_refusal (question p s (unwrap_or v.moment s.moment) 0 xs) (unwrap_or v.number 0)) (sym as_given)
+    ∙ ap (λ t. scan_refusal (question p s t 0 given) (unwrap_or v.number 0)) (sym at)
+    ∙ ap (λ k. scan_refusal (question p s now 0 given) k) (sym number)
+
+-- What is drawn of it is what is asked.
+pub same_drawing : (g : Given) (v : Viewing) (p : Drawing) (s : Standing) (now n : ℕ) (listed given text : List ℕ) (inputs image : List Bool) (style : Style)
+    (shown : List ℕ) → given ≡ listed → now ≡ unwrap_or v.moment s.moment → n ≡ unwrap_or v.number 0 → text ≡ g.program → image ≡ inputs
+    → inputs ≡ assignment (diagram_of p).inputs given n s.held.values → style ≡ style_for v.medium
+    → IsDrawn style (one_scan text p s image now) shown → IsDrawn (style_for v.medium) (shown_scan g v p s listed) shown
+same_drawing g v p s now n listed given text inputs image style shown as_given at number same read made by drawn =
+    let flags = (diagram_of p).inputs in
+    let values : image ≡ assignment flags listed (unwrap_or v.number 0) s.held.values =
+    read ∙ made ∙ ap (λ xs. assignment flags xs n s.held.values) as_given ∙ ap (λ k. assignment flags listed k s.held.values) number in
+    let scan : one_scan text p s image now ≡ shown_scan g v p s listed =
+    ap (λ t. one_scan t p s image now) same ∙ ap (λ xs. one_scan g.program p s xs now) values
+    ∙ ap (one_scan g.program p s (assignment flags listed (unwrap_or v.number 0) s.held.values)) at in
+    subst (λ (x : OneScan). IsDrawn (style_for v.medium) x shown) scan (subst (λ (x : Style). IsDrawn x (one_scan text p s image now) shown) by drawn)
 
 pub all_same : (a b : WriteLog) (xs ys : List ℕ) → xs ≡ ys → PutsAll a b xs → PutsAll a b ys
 all_same a b xs ys e h = rw e at h

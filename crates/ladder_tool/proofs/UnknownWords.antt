@@ -1,8 +1,8 @@
 -- The first word that names no variable.
-use Rattle.std.proofs.Common.{◌≡◌, ◌∙◌, ap, sym, refl, ℕ, zero, suc, Bool, true, ◌+◌, ◌<◌, ◌≤◌, List, [], ◌∷◌, length, take, map, position, Some, None, get_or, slice_index_or, arith, is_none, nat_lt}
+use Rattle.std.proofs.Common.{◌≡◌, ◌∙◌, ap, sym, refl, ℕ, zero, suc, Bool, true, ◌+◌, ◌<◌, ◌≤◌, List, [], ◌∷◌, ◌++◌, length, take, map, position, Some, None, get_or, slice_index_or, arith, is_none, nat_lt}
 use Rattle.std.specs.List.{position_or_len}
 use Rattle.std.proofs.lemmas.Bool.{lt-ltb}
-use Rattle.std.proofs.lemmas.List.{get_or-map, length-map, length-take-le, take-map}
+use Rattle.std.proofs.lemmas.List.{get_or-map, length-append, length-map, length-take-le, take-map}
 use Rattle.ladder_vars.specs.Decls.{Declared}
 use Rattle.ladder_tool.specs.Variables.{AreVariables, IsUnknownWord, variable_of}
 
@@ -31,23 +31,39 @@ position_there p xs i there is =
     let below : nat_lt i (length xs) ≡ true = lt-ltb i (length xs) there in
     rw (is, below) refl
 
--- behind a first word that names a variable
-pub unknown_behind : (decls : Declared) (first : List ℕ) (v : ℕ) (words : List (List ℕ)) (i : ℕ) (vars : List ℕ)
-    → variable_of decls first ≡ Some v → i < length words → variable_of decls (slice_index_or words i []) ≡ None
-    → AreVariables decls (take i words) vars → IsUnknownWord decls (first ∷ words) (length vars + 2)
-unknown_behind decls first v words i vars is_first there unknown known =
+-- behind words that name variables
+first_behind : (decls : Declared) (before : List (List ℕ)) (named : List ℕ) (words : List (List ℕ)) (i : ℕ) (vars : List ℕ)
+    → AreVariables decls before named → i < length words → variable_of decls (slice_index_or words i []) ≡ None
+    → AreVariables decls (take i words) vars → position_or_len (λ word. is_none (variable_of decls word)) (before ++ words) ≡ length before + i
+first_behind decls [] named words i vars are there unknown known =
+    let none : i ≡ 0 + i = omega arith in
+    first_at decls words i vars there unknown known ∙ none
+first_behind decls (b ∷ before) [] words i vars are there unknown known = cc
+first_behind decls (b ∷ before) (v ∷ named) words i vars are there unknown known =
+    let is_known : variable_of decls b ≡ Some v = cc in
+    let others : AreVariables decls before named = cc in
+    let one_more : 1 + (length before + i) ≡ suc (length before) + i = omega arith in
+    rw is_known (ap (λ n. 1 + n) (first_behind decls before named words i vars others there unknown known) ∙ one_more)
+
+pub unknown_behind : (decls : Declared) (before : List (List ℕ)) (named : List ℕ) (words : List (List ℕ)) (i : ℕ) (vars : List ℕ)
+    → AreVariables decls before named → i < length words → variable_of decls (slice_index_or words i []) ≡ None
+    → AreVariables decls (take i words) vars → IsUnknownWord decls (before ++ words) (length vars + (length before + 1))
+unknown_behind decls before named words i vars are there unknown known =
     let counted = known_count decls words i vars (omega arith) known in
-    let known_first : AreVariables decls (take (suc i) (first ∷ words)) (v ∷ vars) = rw (is_first, known) refl in
-    (suc i, position_there (λ word. is_none (variable_of decls word)) (first ∷ words) (suc i) (omega arith) (first_at decls (first ∷ words) (suc i) (v ∷ vars) (omega arith) unknown known_first), omega arith)
+    let all : length (before ++ words) ≡ length before + length words = length-append before words in (
+      length before + i,
+      position_there (λ word. is_none (variable_of decls word)) (before ++ words) (length before + i) (omega (arith, all, there)) (first_behind decls before named words i vars are there unknown known),
+      omega (arith, counted),
+    )
 
 -- the same of words that are the texts of items
-pub unknown_item : {A : Type 0} (decls : Declared) (first : List ℕ) (v : ℕ) (show : A → List ℕ) (items : List A) (i : ℕ) (item : A) (vars : List ℕ)
-    → variable_of decls first ≡ Some v → i < length items → item ≡ get_or items i item → variable_of decls (show item) ≡ None
-    → AreVariables decls (map show (take i items)) vars → IsUnknownWord decls (first ∷ map show items) (length vars + 2)
-unknown_item decls first v show items i item vars is_first there is unknown known =
+pub unknown_item : {A : Type 0} (decls : Declared) (before : List (List ℕ)) (named : List ℕ) (show : A → List ℕ) (items : List A) (i : ℕ) (item : A) (vars : List ℕ)
+    → AreVariables decls before named → i < length items → item ≡ get_or items i item → variable_of decls (show item) ≡ None
+    → AreVariables decls (map show (take i items)) vars → IsUnknownWord decls (before ++ map show items) (length vars + (length before + 1))
+unknown_item decls before named show items i item vars are there is unknown known =
     let same : slice_index_or (map show items) i [] ≡ show item = get_or-map show items i item [] there ∙ sym (ap show is) in
     let front : take i (map show items) ≡ map show (take i items) = take-map show i items in
-    unknown_behind decls first v (map show items) i vars is_first (rw (length-map items show) there) (rw same unknown) (rw front known)
+    unknown_behind decls before named (map show items) i vars are (rw (length-map items show) there) (rw same unknown) (rw front known)
 
 -- a first word that names no variable
 pub unknown_first : (decls : Declared) (first : List ℕ) (words : List (List ℕ)) → variable_of decls first ≡ None → IsUnknownWord decls (first ∷ words) 1

@@ -1,4 +1,4 @@
--- Private to the tool: which text is asked for, and what a request for causes asks.
+-- Private to the tool: which text is asked for, and what a request for causes, or to show a scan, asks.
 use Rattle.std.specs.Prelude.{ℕ, List, map, string_bytes}
 use Rattle.ladder_grid.specs.Program.{Drawing}
 use Rattle.ladder_uses.specs.Uses.{uses_text}
@@ -8,6 +8,7 @@ use Rattle.ladder_tool.specs.declared.setting.Setting.{Setting}
 use Rattle.ladder_tool.specs.declared.variables.CauseVariables.{CauseVariables}
 use Rattle.ladder_tool.specs.declared.printing.About.{About}
 use Rattle.ladder_tool.specs.declared.printing.About.TheVariants.{Counts, Uses}
+use Rattle.ladder_tool.specs.declared.showing.Viewing.{Viewing}
 use Rattle.ladder_tool.specs.Performs as performs
 
 abbrev pub about_text : About → Drawing → List ℕ
@@ -20,3 +21,6 @@ question_of s now v = question s.program s.state now v.coil v.inputs.items
 
 abbrev pub asking_of : Asking → performs.Asking
 asking_of a = record { moment = a.moment; after = a.after; limit = a.limit; coil = a.coil.now; inputs = map string_bytes a.inputs.now }
+
+abbrev pub viewing_of : Viewing → performs.Viewing
+viewing_of v = record { moment = v.moment; number = v.number; medium = v.medium; inputs = map string_bytes v.inputs.now }

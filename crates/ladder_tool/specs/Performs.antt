@@ -3,16 +3,23 @@ use Rattle.std.specs.Prelude.{◌≡◌, ◌⊎◌, ◌++◌, ◌∷◌, ℕ, Li
 use Rattle.ladder_vars.specs.Decls.{Declared}
 use Rattle.ladder_grid.specs.Program.{Drawing}
 use Rattle.ladder_grid.specs.Reading.{IsProgram}
+use Rattle.ladder_scan.specs.Programs.{diagram_of}
 use Rattle.ladder_scan.specs.Standing.{Standing}
+use Rattle.ladder_causes.specs.Assignment.{assignment}
+use Rattle.ladder_causes.specs.declared.fault.CauseFault.{CauseFault}
 use Rattle.ladder_causes.specs.declared.fault.CauseFault.TheVariants as cause
 use Rattle.ladder_causes.specs.Causes.{Question, causes_after, is_cause}
+use Rattle.ladder_causes.specs.Causes as causes
 use Rattle.ladder_causes.specs.Cursor.{first_number, looks_given}
 use Rattle.ladder_causes.specs.GroupCursor.{causes_in}
 use Rattle.ladder_causes.specs.Order.{in_order, sifted}
 use Rattle.ladder_causes.specs.Prefixes.{search_of}
-use Rattle.ladder_causes.specs.Refusal.{refusal}
+use Rattle.ladder_causes.specs.Refusal.{refusal, scan_refusal}
 use Rattle.ladder_groups.specs.Groups.{Row}
 use Rattle.ladder_groups.specs.Groups as groups
+use Rattle.ladder_show.specs.Showing.{IsDrawn, OneScan, one_scan}
+use Rattle.ladder_show.specs.declared.picture.Style.{Style}
+use Rattle.ladder_show.specs.declared.picture.Style.TheVariants as style
 use Rattle.ladder_sim.specs.CauseText.{cause_text, limited}
 use Rattle.ladder_sim.specs.TermText.{form_text}
 use Rattle.ladder_sim.specs.declared.group_text.GroupForm.{GroupForm}
@@ -29,8 +36,10 @@ use Rattle.ladder_words.specs.declared.request.Form.TheVariants.{Statement, Tabl
 use Rattle.ladder_words.specs.declared.request.Grouping.{Grouping}
 use Rattle.ladder_words.specs.declared.request.InputOrder.{InputOrder}
 use Rattle.ladder_words.specs.declared.request.InputOrder.TheVariants as order
+use Rattle.ladder_words.specs.declared.request.Medium.{Medium}
+use Rattle.ladder_words.specs.declared.request.Medium.TheVariants as medium
 use Rattle.ladder_words.specs.declared.request.Request.{Request}
-use Rattle.ladder_words.specs.declared.request.Request.TheVariants.{Causes, Check, Groups, Sim, Uses}
+use Rattle.ladder_words.specs.declared.request.Request.TheVariants.{Causes, Check, Groups, Show, Sim, Uses}
 use Rattle.ladder_tool.specs.FaultLine.{fault_line}
 use Rattle.ladder_tool.specs.Setting.{Given, HasProgramFault, HasSettingFault, IsSet, stimulus_records}
 use Rattle.ladder_tool.specs.Variables.{AreVariables, IsUnknownWord, variable_of}
@@ -107,17 +116,17 @@ HasWordFault decls words (fault.Word number) = IsUnknownWord decls words number
 HasWordFault decls words fault.Memory = Unit {0}
 HasWordFault decls words other = ⊥
 
--- The question breaks this rule first; being out of memory has no reason in it.
-abbrev pub HasCauseFault : Asking → Question → ToolFault → Type 0
-HasCauseFault a q (fault.Cause f) = (f ≡ cause.Memory) ⊎ (refusal q a.after ≡ Some f)
-HasCauseFault a q other = ⊥
+-- This is the rule that is broken first; being out of memory has no reason in what is asked.
+abbrev pub HasCauseFault : Option CauseFault → ToolFault → Type 0
+HasCauseFault first (fault.Cause f) = (f ≡ cause.Memory) ⊎ (first ≡ Some f)
+HasCauseFault first other = ⊥
 
 -- Faults are looked for in this order: in the program text, in the state text, in the names, in what is asked.
 abbrev pub HasListFault : Given → Asking → ToolFault → Type 0
 HasListFault g a f =
     HasSettingFault g f
     ⊎ (((p : Drawing) × (s : Standing) × IsSet g p s × HasWordFault p.decls (a.coil ∷ a.inputs) f)
-    ⊎ ((q : Question) × IsAsked g a q × HasCauseFault a q f))
+    ⊎ ((q : Question) × IsAsked g a q × HasCauseFault (refusal q a.after) f))
 
 -- ---- the count of a list's rows and of the looks for them
 
@@ -188,6 +197,59 @@ BreaksGroups g a how old new =
     (Grouped g a how (PutsPrefix old.out new.out) × IsReported old.err new.err fault.Write)
     ⊎ CountsGroups g a how old.out new.out (PutsPrefix old.err new.err)
 
+-- ---- the drawing with its power flow
+
+-- The names and numbers of a request to show one scan: its moment, the number of its assignment, how the drawing is written, and the
+-- listed inputs.
+pub record Viewing : Type 0 where
+  pub moment : Option ℕ
+  pub number : Option ℕ
+  pub medium : Medium
+  pub inputs : List (List ℕ)
+
+abbrev pub style_for : Medium → Style
+style_for medium.Text = style.Marked
+style_for medium.Page = style.Page
+
+-- The texts describe the program and the state before the scan, and the names are those of the listed inputs.
+pub record IsViewed (g : Given) (p : Drawing) (s : Standing) (inputs : List (List ℕ)) (listed : List ℕ) : Type 0 where
+  pub set : IsSet g p s
+  pub among : AreVariables p.decls inputs listed
+
+-- The moment of the scan is the stored one where none is asked for.
+abbrev pub moment_of : Viewing → Standing → ℕ
+moment_of v s = unwrap_or v.moment s.moment
+
+-- The number of its assignment is 0 where none is asked for: all listed inputs are OFF.
+abbrev pub number_of : Viewing → ℕ
+number_of v = unwrap_or v.number 0
+
+-- the first rule that the scan breaks
+abbrev pub broken_first : Viewing → Drawing → Standing → List ℕ → Option CauseFault
+broken_first v p s listed = scan_refusal (causes.question p s (moment_of v s) 0 listed) (number_of v)
+
+-- the scan that is shown
+abbrev pub shown_scan : Given → Viewing → Drawing → Standing → List ℕ → OneScan
+shown_scan g v p s listed = one_scan g.program p s (assignment (diagram_of p).inputs listed (number_of v) s.held.values) (moment_of v s)
+
+-- The drawing is written with the power flow of that scan, whole or as far as `Written` says.
+pub record Shows (g : Given) (v : Viewing) (Written : List ℕ → Type 0) : Type 0 where
+  pub program : Drawing
+  pub state : Standing
+  pub listed : List ℕ
+  pub viewed : IsViewed g program state v.inputs listed
+  pub accepted : broken_first v program state listed ≡ None
+  pub shown : List ℕ
+  pub is : IsDrawn (style_for v.medium) (shown_scan g v program state listed) shown
+  pub written : Written shown
+
+-- Faults are looked for in this order: in the program text, in the state text, in the names, in what is asked.
+abbrev pub HasShowFault : Given → Viewing → ToolFault → Type 0
+HasShowFault g v f =
+    HasSettingFault g f
+    ⊎ (((p : Drawing) × (s : Standing) × IsSet g p s × HasWordFault p.decls v.inputs f)
+    ⊎ ((p : Drawing) × (s : Standing) × (listed : List ℕ) × IsViewed g p s v.inputs listed × HasCauseFault (broken_first v p s listed) f))
+
 -- ---- a simulation
 
 -- The stimulus was simulated from the state that is given, with this result, and this holds of the state after its last scan.
@@ -221,6 +283,10 @@ BreaksTrace g saves old new =
 abbrev pub asking : Option ℕ → Option ℕ → Option ℕ → List ℕ → List (List ℕ) → Asking
 asking moment after limit coil inputs = record { moment = moment; after = after; limit = limit; coil = coil; inputs = inputs }
 
+-- what a request to show one scan asks
+abbrev pub viewing : Option ℕ → Option ℕ → Medium → List (List ℕ) → Viewing
+viewing moment number medium inputs = record { moment = moment; number = number; medium = medium; inputs = inputs }
+
 -- Status 0. Only a simulation writes on `save`, and only a list on `err`.
 abbrev pub IsDone : Request → Given → Logs → Logs → Type 0
 IsDone (Check file) g old new = Prints check_line g.program (PutsAll old.out new.out) × (new.save ≡ old.save) × (new.err ≡ old.err)
@@ -230,6 +296,8 @@ IsDone (Causes state moment after limit file coil inputs) g old new =
 IsDone (Groups state moment limit grouping file coil inputs) g old new =
     CountsGroups g (asking moment None limit (string_bytes coil) (map string_bytes inputs.items)) grouping old.out new.out (PutsAll old.err new.err)
     × (new.save ≡ old.save)
+IsDone (Show state moment number medium file inputs) g old new =
+    Shows g (viewing moment number medium (map string_bytes inputs.items)) (PutsAll old.out new.out) × (new.save ≡ old.save) × (new.err ≡ old.err)
 IsDone (Sim state save file stimulus) g old new = IsTraced g (is_some save) old new
 IsDone (Uses file) g old new = Prints uses_text g.program (PutsAll old.out new.out) × (new.save ≡ old.save) × (new.err ≡ old.err)
 
@@ -240,6 +308,7 @@ HasFault (Causes state moment after limit file coil inputs) g =
     HasListFault g (asking moment after limit (string_bytes coil) (map string_bytes inputs.items))
 HasFault (Groups state moment limit grouping file coil inputs) g =
     HasListFault g (asking moment None limit (string_bytes coil) (map string_bytes inputs.items))
+HasFault (Show state moment number medium file inputs) g = HasShowFault g (viewing moment number medium (map string_bytes inputs.items))
 HasFault (Sim state save file stimulus) g = HasSettingFault g
 HasFault (Uses file) g = HasProgramFault g.program
 
@@ -251,6 +320,9 @@ Breaks (Causes state moment after limit file coil inputs) g old new =
     BreaksList g (asking moment after limit (string_bytes coil) (map string_bytes inputs.items)) old new × (new.save ≡ old.save)
 Breaks (Groups state moment limit grouping file coil inputs) g old new =
     BreaksGroups g (asking moment None limit (string_bytes coil) (map string_bytes inputs.items)) grouping old new × (new.save ≡ old.save)
+Breaks (Show state moment number medium file inputs) g old new =
+    Shows g (viewing moment number medium (map string_bytes inputs.items)) (PutsPrefix old.out new.out)
+    × (new.save ≡ old.save) × IsReported old.err new.err fault.Write
 Breaks (Sim state save file stimulus) g old new = BreaksTrace g (is_some save) old new
 Breaks (Uses file) g old new =
     Prints uses_text g.program (PutsPrefix old.out new.out) × (new.save ≡ old.save) × IsReported old.err new.err fault.Write

@@ -12,6 +12,7 @@ mod program;
 mod report;
 mod saving;
 mod setting;
+mod showing;
 mod texts;
 mod tracing;
 mod variables;

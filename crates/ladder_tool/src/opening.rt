@@ -57,7 +57,9 @@ pub(crate) fn readers_of<'a>(
             state: None,
             stimulus: None,
         },
-        Request::Causes { state, file, .. } | Request::Groups { state, file, .. } => Readers {
+        Request::Causes { state, file, .. }
+        | Request::Groups { state, file, .. }
+        | Request::Show { state, file, .. } => Readers {
             program: reading(rt, file.as_str()),
             state: reading_named(rt, state),
             stimulus: None,

@@ -7,6 +7,7 @@ ghost use Rattle.ladder_tool.specs.Setting.{given_by};
 use crate::grouping::list_groups;
 use crate::listing::{Asking, list_causes};
 use crate::printing::{About, print};
+use crate::showing::{Viewing, show};
 use crate::texts::Texts;
 use crate::tracing::trace;
 use ladder_text::Sink;
@@ -63,6 +64,21 @@ pub fn perform<O: Sink, S: Sink, E: Sink>(
                 inputs,
             };
             list_groups(alloc, asking, *grouping, texts, out, err)
+        }
+        Request::Show {
+            moment,
+            number,
+            medium,
+            inputs,
+            ..
+        } => {
+            let viewing = Viewing {
+                moment: *moment,
+                number: *number,
+                medium: *medium,
+                inputs,
+            };
+            show(alloc, viewing, texts, out, err)
         }
         Request::Sim { save: file, .. } => trace(alloc, texts, file.is_some(), out, save, err),
     }

@@ -47,6 +47,7 @@ fn run_request(rt: &HostRuntime, alloc: Global, request: &Request) -> u8
         | Request::Check { .. }
         | Request::Causes { .. }
         | Request::Groups { .. }
+        | Request::Show { .. }
         | Request::Uses { .. } => run_saving(rt, alloc, request, io::sink()),
     }
 }

@@ -1,6 +1,6 @@
 //! The variables that arguments name.
 
-ghost use Rattle.std.specs.Prelude.{◌≡◌, ◌∷◌, IfOk, IfErr, List, Some, ℕ, map, string_bytes};
+ghost use Rattle.std.specs.Prelude.{◌≡◌, ◌∷◌, ◌++◌, ◌+◌, ◌≤◌, IfOk, IfErr, List, Some, ℕ, length, map, string_bytes};
 ghost use Rattle.ladder_tool.specs.Variables.{AreVariables, variable_of};
 ghost use Rattle.ladder_tool.specs.Performs.{HasWordFault};
 
@@ -42,22 +42,29 @@ pub(crate) fn asked_variables(
     let Some(coil) = variable(decls, coil) else {
         return Err(ToolFault::Word { number: 1 });
     };
-    match input_variables(alloc, decls, inputs) {
+    match named_variables(alloc, decls, inputs, 2) {
         Ok(inputs) => Ok(CauseVariables { coil, inputs }),
         Err(fault) => Err(fault),
     }
 }
 
-// The words after a first one that names a variable.
-fn input_variables(alloc: Global, decls: &Decls, words: &[String]) -> Result<Vec<usize>, ToolFault>
+/// The variables that the words name, of which the first has this number; the words before it name variables.
+pub(crate) fn named_variables(
+    alloc: Global,
+    decls: &Decls,
+    words: &[String],
+    first: usize,
+) -> Result<Vec<usize>, ToolFault>
+    requires { first ≤ 2 }
     ensures ok { IfOk result (λ v. AreVariables decls.now (map string_bytes words.now) v.items) }
-    ensures fault { (first : List ℕ) (v : ℕ) → variable_of decls.now first ≡ Some v → IfErr result (HasWordFault decls.now (first ∷ map string_bytes words.now)) }
+    ensures fault { (before : List (List ℕ)) (named : List ℕ) → AreVariables decls.now before named → length before + 1 ≡ first
+        → IfErr result (HasWordFault decls.now (before ++ map string_bytes words.now)) }
 {
     let mut variables = Vec::new(alloc);
     for word in words {
         let Some(number) = variable(decls, word.as_str()) else {
             return Err(ToolFault::Word {
-                number: variables.len() + 2,
+                number: variables.len() + first,
             });
         };
         if variables.push(number).is_err() {

@@ -6,8 +6,10 @@ use Rattle.ladder_words.specs.declared.request.Form.{Form}
 use Rattle.ladder_words.specs.declared.request.Form.TheVariants.{Statement, Table, Terms}
 use Rattle.ladder_words.specs.declared.request.InputOrder.{InputOrder}
 use Rattle.ladder_words.specs.declared.request.InputOrder.TheVariants.{Given, Sifted}
+use Rattle.ladder_words.specs.declared.request.Medium.{Medium}
+use Rattle.ladder_words.specs.declared.request.Medium.TheVariants as medium
 use Rattle.ladder_words.specs.declared.request.Request.{Request}
-use Rattle.ladder_words.specs.declared.request.Request.TheVariants.{Causes, Check, Groups, Sim, Uses}
+use Rattle.ladder_words.specs.declared.request.Request.TheVariants.{Causes, Check, Groups, Show, Sim, Uses}
 
 abbrev pub HasText : Text → List Row → List ℕ → Type 0
 HasText id rows text = first_of id rows ≡ Some text
@@ -31,6 +33,11 @@ abbrev pub HasForm : Form → List Row → Type 0
 HasForm Table rows = (HasFlag (codes "terms") rows → ⊥) × (HasFlag (codes "st") rows → ⊥)
 HasForm Terms rows = HasFlag (codes "terms") rows × (HasFlag (codes "st") rows → ⊥)
 HasForm Statement rows = (HasFlag (codes "terms") rows → ⊥) × HasFlag (codes "st") rows
+
+-- how a drawing is to be written
+abbrev pub HasMedium : Medium → List Row → Type 0
+HasMedium medium.Text rows = HasFlag (codes "html") rows → ⊥
+HasMedium medium.Page rows = HasFlag (codes "html") rows
 
 -- how an order is named
 abbrev pub IsNamed : List ℕ → InputOrder → Type 0
@@ -72,6 +79,13 @@ Asks name rows (Groups state moment limit grouping file coil inputs) = (name ≡
     × HasNumber (codes "limit") rows limit
     × HasText (codes "file") rows (string_bytes file)
     × HasText (codes "coil") rows (string_bytes coil)
+    × (unwrap_or (all_of (codes "inputs") rows) [] ≡ map string_bytes inputs.items)
+Asks name rows (Show state moment number medium file inputs) = (name ≡ codes "show")
+    × HasPath (codes "state") rows (option_map string_bytes state)
+    × HasNumber (codes "at") rows moment
+    × HasNumber (codes "number") rows number
+    × HasMedium medium rows
+    × HasText (codes "file") rows (string_bytes file)
     × (unwrap_or (all_of (codes "inputs") rows) [] ≡ map string_bytes inputs.items)
 Asks name rows (Sim state save file stimulus) = (name ≡ codes "sim")
     × HasPath (codes "state") rows (option_map string_bytes state)

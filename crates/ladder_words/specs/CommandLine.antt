@@ -1,6 +1,7 @@
 -- The command line, as clap's definitions of a simple command read it: `ladder check FILE`,
 -- `ladder causes [--state STATE] [--at MS] [--after N] [--limit N] [--grouped] [--terms] [--st] FILE COIL [INPUT]...`,
--- `ladder sim [--state STATE] [--save STATE] FILE STIMULUS` and `ladder uses FILE`.
+-- `ladder show [--state STATE] [--at MS] [--number N] [--html] FILE [INPUT]...`, `ladder sim [--state STATE] [--save STATE] FILE STIMULUS` and
+-- `ladder uses FILE`.
 use Rattle.std.specs.Prelude.{◌≡◌, Some, codes, true, false}
 use Rattle.clap.specs.Words.{App, Rule, Text, app_of, new_app, new_rule, with_rule, with_subcommand}
 use Rattle.clap.specs.declared.builder.ArgAction.TheVariants.{Append, SetTrue}
@@ -52,6 +53,18 @@ causes_app = with_rule (with_rule (with_rule causes_forms
     (place_rule (codes "coil")))
     (list_rule (codes "inputs"))
 
+abbrev pub show_options : App
+show_options = with_rule (with_rule (with_rule (with_rule (new_app (codes "show"))
+    (text_rule (codes "state")))
+    (number_rule (codes "at")))
+    (number_rule (codes "number")))
+    (flag_rule (codes "html"))
+
+abbrev pub show_app : App
+show_app = with_rule (with_rule show_options
+    (place_rule (codes "file")))
+    (list_rule (codes "inputs"))
+
 abbrev pub sim_app : App
 sim_app = with_rule (with_rule (with_rule (with_rule (new_app (codes "sim"))
     (text_rule (codes "state")))
@@ -64,9 +77,10 @@ needs_subcommand a = record a { top = record a.top { subcommand_required = true 
 
 abbrev pub ladder_app : App
 ladder_app =
-    with_subcommand (with_subcommand (with_subcommand (with_subcommand (needs_subcommand (new_app (codes "ladder")))
+    with_subcommand (with_subcommand (with_subcommand (with_subcommand (with_subcommand (needs_subcommand (new_app (codes "ladder")))
     (file_app (codes "check")).top)
     causes_app.top)
+    show_app.top)
     sim_app.top)
     (file_app (codes "uses")).top
 

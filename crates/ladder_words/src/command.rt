@@ -3,12 +3,13 @@
 ghost use Rattle.std.specs.Prelude.{◌≡◌, IfOk, codes, false};
 ghost use Rattle.clap.specs.Words.{app_of, new_app, rule_of, with_rule, with_subcommand};
 ghost use Rattle.clap.specs.declared.builder.Command.TheViews.{out-Command};
-ghost use Rattle.ladder_words.specs.CommandLine.{IsApp, causes_app, causes_forms, causes_options, file_app, flag_rule, ladder_app, list_rule, needs_subcommand, number_rule, text_rule, place_rule, sim_app};
+ghost use Rattle.ladder_words.specs.CommandLine.{IsApp, causes_app, causes_forms, causes_options, file_app, flag_rule, ladder_app, list_rule, needs_subcommand, number_rule, text_rule, place_rule, show_app, show_options, sim_app};
 
 use crate::help::{
     AFTER_HELP, AT_HELP, CAUSES_ABOUT, CHECK_ABOUT, COIL_HELP, FAULTS, FILE_HELP, GROUPED_HELP,
-    INPUTS_HELP, LADDER_ABOUT, LIMIT_HELP, ORDER_HELP, SAVE_HELP, SIM_ABOUT, STATE_HELP,
-    STATEMENT_HELP, STIMULUS_HELP, TERMS_HELP, USES_ABOUT,
+    HTML_HELP, INPUTS_HELP, LADDER_ABOUT, LIMIT_HELP, NUMBER_HELP, ORDER_HELP, SAVE_HELP,
+    SHOW_ABOUT, SHOWN_HELP, SIM_ABOUT, STATE_HELP, STATEMENT_HELP, STIMULUS_HELP, TERMS_HELP,
+    USES_ABOUT,
 };
 use clap::{Arg, ArgAction, Command, value_parser};
 use std::alloc::{AllocError, Global};
@@ -119,6 +120,24 @@ fn causes<'a>(alloc: Global) -> Result<Command<'a>, AllocError>
     add(command, list(alloc, "inputs", "INPUT", INPUTS_HELP))
 }
 
+fn show_options<'a>(alloc: Global) -> Result<Command<'a>, AllocError>
+    ensures { IfOk result (IsApp show_options) }
+{
+    let command = new(alloc, "show", SHOW_ABOUT);
+    let command = add(command, option(alloc, "state", "STATE", STATE_HELP))?;
+    let command = add(command, number(alloc, "at", "MS", AT_HELP))?;
+    let command = add(command, number(alloc, "number", "N", NUMBER_HELP))?;
+    add(command, flag(alloc, "html", HTML_HELP))
+}
+
+fn show<'a>(alloc: Global) -> Result<Command<'a>, AllocError>
+    ensures { IfOk result (IsApp show_app) }
+{
+    let command = show_options(alloc)?;
+    let command = add(command, place(alloc, "file", "FILE", FILE_HELP))?;
+    add(command, list(alloc, "inputs", "INPUT", SHOWN_HELP))
+}
+
 fn sim<'a>(alloc: Global) -> Result<Command<'a>, AllocError>
     ensures { IfOk result (IsApp sim_app) }
 {
@@ -151,6 +170,7 @@ pub(crate) fn ladder<'a>(alloc: Global) -> Result<Command<'a>, AllocError>
 {
     let command = join(top(alloc), of_file(alloc, "check", CHECK_ABOUT)?)?;
     let command = join(command, causes(alloc)?)?;
+    let command = join(command, show(alloc)?)?;
     let command = join(command, sim(alloc)?)?;
     join(command, of_file(alloc, "uses", USES_ABOUT)?)
 }

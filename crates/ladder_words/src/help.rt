@@ -1,13 +1,13 @@
 //! The texts of help.
 
 pub(crate) const LADDER_ABOUT: &str =
-    "Checks ladder diagrams, lists what switches a coil on, and simulates (IEC 61131-3 drawn in characters)";
+    "Checks ladder diagrams, lists what switches a coil on, shows why, and simulates (IEC 61131-3 drawn in characters)";
 
 pub(crate) const FAULTS: &str =
     "A line `fault CODE ..` on standard error says what is wrong, and where:
   V1 to V9    the declarations break a rule on that line
   G1 to G15   the drawing breaks a rule in that rung, on that line
-  C1 to C7    there is no list of causes for this question
+  C1 to C7    there is no list of causes, or no scan to show, for this question
   X1 to X7    a file can't be read, or a word or record of it is bad; X6: a write failed; X7: out of memory
   usage       the words are not those of a request
 Status: 0 all was written, 1 a fault stopped it, 2 wrong words.
@@ -19,6 +19,9 @@ pub(crate) const CHECK_ABOUT: &str =
 pub(crate) const CAUSES_ABOUT: &str =
     "Lists each assignment of the inputs after which one scan leaves the coil ON, \
      with the first input most significant";
+
+pub(crate) const SHOW_ABOUT: &str =
+    "Prints the drawing with the power flow of one scan: live wires, closed contacts, coils that are ON";
 
 pub(crate) const SIM_ABOUT: &str =
     "Scans a stimulus record by record, and prints the outputs after each scan";
@@ -47,6 +50,15 @@ pub(crate) const AT_HELP: &str =
 pub(crate) const AFTER_HELP: &str = "Lists the causes with a greater number than N only";
 
 pub(crate) const LIMIT_HELP: &str = "Lists at most N rows";
+
+pub(crate) const NUMBER_HELP: &str =
+    "The number of the row that a list of causes has for these inputs; without it 0, all of them OFF";
+
+pub(crate) const HTML_HELP: &str =
+    "Writes one page of HTML, with lines in place of the characters, for a browser and for printing";
+
+pub(crate) const SHOWN_HELP: &str =
+    "The inputs of that list, at most 32, the first one most significant; the others keep what the state stores";
 
 pub(crate) const GROUPED_HELP: &str =
     "Lists the causes in groups: how many each has, and - for an input that doesn't matter there; not with --after";

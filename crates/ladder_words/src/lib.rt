@@ -6,5 +6,5 @@ mod help;
 mod request;
 mod words;
 
-pub use request::{Form, Grouping, InputOrder, Request, WordFault};
+pub use request::{Form, Grouping, InputOrder, Medium, Request, WordFault};
 pub use words::read_words;

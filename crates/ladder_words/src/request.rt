@@ -31,6 +31,15 @@ pub struct Grouping {
     pub order: InputOrder,
 }
 
+/// How a drawing is written.
+#[derive(Clone, Copy, Debug, PartialEq, Eq)]
+pub enum Medium {
+    /// As text, with marks in the place of characters.
+    Text,
+    /// As a page of HTML.
+    Page,
+}
+
 /// What the arguments ask for.
 #[derive(Drop)]
 pub enum Request {
@@ -71,6 +80,21 @@ pub enum Request {
         /// The name of the coil's variable.
         coil: String,
         /// The names of the listed inputs, in the order in which they are looked at.
+        inputs: Vec<String>,
+    },
+    /// The drawing with the power flow of one scan.
+    Show {
+        /// The file of the state in which the scan begins; the fresh one where there is none.
+        state: Option<String>,
+        /// The moment of the scan, in ms; the stored one where there is none.
+        moment: Option<u64>,
+        /// The number of the assignment of the listed inputs; 0 where there is none.
+        number: Option<u64>,
+        /// How the drawing is written.
+        medium: Medium,
+        /// The file of the program text.
+        file: String,
+        /// The names of the listed inputs, the first one most significant.
         inputs: Vec<String>,
     },
     /// The trace of a stimulus: one scan for each of its records.

@@ -4,10 +4,10 @@ ghost use Rattle.std.specs.Prelude.{◌≡◌, [], true, false, codes, IfSome, I
 ghost use Rattle.clap.specs.Words.{all_of, first_of, found_of, rows_of, subcommand_rows_of};
 ghost use Rattle.clap.specs.Words.{fault_of as clap_fault};
 ghost use Rattle.ladder_words.specs.CommandLine.{ladder_app};
-ghost use Rattle.ladder_words.specs.Asking.{Asks, AsksBy, HasFlag, HasForm, HasNumber, HasOrder, HasPath, IsNamed, MayHaveLimit};
+ghost use Rattle.ladder_words.specs.Asking.{Asks, AsksBy, HasFlag, HasForm, HasMedium, HasNumber, HasOrder, HasPath, IsNamed, MayHaveLimit};
 
 use crate::command::ladder;
-use crate::request::{Form, Grouping, InputOrder, Request, WordFault};
+use crate::request::{Form, Grouping, InputOrder, Medium, Request, WordFault};
 use clap::ArgMatches;
 use clap::error::ErrorKind;
 use std::alloc::Global;
@@ -67,6 +67,7 @@ fn request_of(alloc: Global, name: &str, found: &ArgMatches<'_>) -> Result<Reque
             Ok(Request::Uses { file })
         }
         "causes" => causes_request(alloc, found),
+        "show" => show_request(alloc, found),
         "sim" => sim_request(alloc, found),
         _ => Err(WordFault::Usage),
     }
@@ -169,6 +170,36 @@ fn order_named(name: &str) -> Result<InputOrder, WordFault>
         "given" => Ok(InputOrder::Given),
         "auto" => Ok(InputOrder::Sifted),
         _ => Err(WordFault::Usage),
+    }
+}
+
+fn show_request(alloc: Global, found: &ArgMatches<'_>) -> Result<Request, WordFault>
+    ensures { IfOk result (Asks (codes "show") (rows_of (found_of found.now))) }
+{
+    let state = path(alloc, found, "state")?;
+    let moment = number(found, "at")?;
+    let number = number(found, "number")?;
+    let medium = medium_of(found);
+    let file = text(alloc, found, "file")?;
+    let inputs = texts(alloc, found, "inputs")?;
+    Ok(Request::Show {
+        state,
+        moment,
+        number,
+        medium,
+        file,
+        inputs,
+    })
+}
+
+/// How the flag wants a drawing to be written.
+fn medium_of(found: &ArgMatches<'_>) -> Medium
+    ensures { HasMedium result (rows_of (found_of found.now)) }
+{
+    if is_set(found, "html") {
+        Medium::Page
+    } else {
+        Medium::Text
     }
 }
 

@@ -1,12 +1,12 @@
 use Rattle.std.proofs.Common.{◌∙◌, ap, Bool, ℕ}
 use Rattle.ladder_grid.specs.Gates.{left_of}
-use Rattle.ladder_scan.specs.Truth.{plain}
+use Rattle.ladder_elements.specs.Truth.{plain}
 use Rattle.ladder_scan.specs.Cells.{Frame}
 use Rattle.ladder_scan.specs.Rung.{link, link_at}
 use Rattle.ladder_scan.specs.Programs.{diagram_of}
 use Rattle.ladder_scan.specs.Gating.{among}
 use Rattle.ladder_scan.proofs.Acting.{places, by_actions}
-use Rattle.ladder_scan.proofs.Looks.{after_same}
+use Rattle.ladder_scan.proofs.Exits.{after_same}
 use Rattle.ladder_scan.proofs.Sizes.{rung_sizes}
 use Rattle.ladder_scan.proofs.scanning.evaluate.Goals as goal
 

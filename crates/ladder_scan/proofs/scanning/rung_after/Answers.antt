@@ -1,5 +1,5 @@
 use Rattle.std.proofs.Common.{◌∙◌, ◌+◌, sym, ap, cond, Bool}
-use Rattle.ladder_scan.specs.Truth.{plain}
+use Rattle.ladder_elements.specs.Truth.{plain}
 use Rattle.ladder_scan.specs.Gating.{among}
 use Rattle.ladder_scan.proofs.Exits.{after_exit, after_none}
 use Rattle.ladder_scan.proofs.scanning.rung_after.Goals as goal

@@ -1,5 +1,5 @@
 use Rattle.std.proofs.Common.{◌≡◌, take, map}
-use Rattle.ladder_scan.specs.Blocks.{q_of}
+use Rattle.ladder_elements.specs.Blocks.{q_of}
 use Rattle.ladder_scan.proofs.signals.know_ends.Given as goal
 
 abbrev pub invariant-loop-inst : goal.invariant-loop-inst

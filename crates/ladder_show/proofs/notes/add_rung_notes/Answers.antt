@@ -10,9 +10,9 @@ loop-at-init g c = none_yet _ _ _
 
 pub returns-in_err-add_place_note : goal.returns-in_err-add_place_note
 returns-in_err-add_place_note g c = sends_err _ _ _ _ _ _ c.from_residual.ensures.0
-    (cut_off (place_note c.args.program.now c.args.after.now c.args.marks.now c.args.rung) PLACES c.loop-at.at _ _ _ _ _ _ c.loop-at-test.true refl
+    (cut_off (place_note c.args.picture.program.now c.args.picture.after.now c.args.picture.marks.now c.args.rung) PLACES c.loop-at.at _ _ _ _ _ _ c.loop-at-test.true refl
     c.loop-at.invariant c.in_err-add_place_note.ensures)
 
 pub loop-at-preserved : goal.loop-at-preserved
 loop-at-preserved g c =
-    more (place_note c.args.program.now c.args.after.now c.args.marks.now c.args.rung) c.loop-at.at _ _ _ _ _ _ _ refl c.loop-at.invariant c.in_ok-add_place_note.ensures
+    more (place_note c.args.picture.program.now c.args.picture.after.now c.args.picture.marks.now c.args.rung) c.loop-at.at _ _ _ _ _ _ _ refl c.loop-at.invariant c.in_ok-add_place_note.ensures

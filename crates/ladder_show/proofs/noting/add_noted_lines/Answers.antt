@@ -1,8 +1,9 @@
-use Rattle.std.proofs.Common.{◌<◌, ℕ, List, length, map, refl, arith}
+use Rattle.std.proofs.Common.{◌<◌, ℕ, List, length, refl, arith}
 use Rattle.std.specs.Borrow.{Bor}
 use Rattle.std.proofs.lemmas.List.{length-map}
 use Rattle.ladder_text.proofs.Sending.{sends_err}
 use Rattle.ladder_show.specs.Notes.{kept_line}
+use Rattle.ladder_show.specs.Pictures.{lines_drawn, lines_of, of_picture}
 use Rattle.ladder_show.proofs.Each.{cut_off, more, none_yet}
 use Rattle.ladder_show.proofs.noting.add_noted_lines.Goals as goal
 
@@ -14,13 +15,9 @@ loop-line-init g c = none_yet _ _ _
 
 pub returns-in_err-add_kept_line : goal.returns-in_err-add_kept_line
 returns-in_err-add_kept_line g c = sends_err _ _ _ _ _ _ c.from_residual.ensures.0
-    (let lines = map now c.args.lines.now in
-    let inside : c.loop-line.line < length lines = omega (arith, c.loop-line-test.true, length-map c.args.lines.now now) in
-    cut_off (kept_line c.args.program.now c.args.after.now c.args.parts.now c.args.marks.now lines)
-    (length lines) c.loop-line.line _ _ _ _ _ _ inside refl c.loop-line.invariant c.in_err-add_kept_line.ensures)
+    (let inside : c.loop-line.line < length (lines_of c.args.picture) = omega (arith, c.loop-line-test.true, length-map c.args.picture.lines.now now) in
+    cut_off (of_picture (kept_line (lines_drawn c.args.picture)) c.args.picture) (length (lines_of c.args.picture)) c.loop-line.line _ _ _ _ _ _ inside refl c.loop-line.invariant
+    c.in_err-add_kept_line.ensures)
 
 pub loop-line-preserved : goal.loop-line-preserved
-loop-line-preserved g c =
-    let lines = map now c.args.lines.now in
-    more (kept_line c.args.program.now c.args.after.now c.args.parts.now c.args.marks.now lines)
-    c.loop-line.line _ _ _ _ _ _ _ refl c.loop-line.invariant c.in_ok-add_kept_line.ensures
+loop-line-preserved g c = more (of_picture (kept_line (lines_drawn c.args.picture)) c.args.picture) c.loop-line.line _ _ _ _ _ _ _ refl c.loop-line.invariant c.in_ok-add_kept_line.ensures

@@ -2,7 +2,7 @@ use Rattle.std.proofs.Common.{◌≡◌, ◌∙◌, ◌⊎◌, IfSome, ap, inl, 
 use Rattle.csv.specs.Records.{fields_of}
 use Rattle.ladder_vars.specs.declared.kind.BlockKind.{BlockKind}
 use Rattle.ladder_vars.specs.declared.kind.BlockKind.TheVariants.{Ctu, Ctd, Sr, Rs}
-use Rattle.ladder_scan.specs.Blocks.{new_block}
+use Rattle.ladder_elements.specs.Blocks.{new_block}
 use Rattle.ladder_state.specs.StateText.{block_record}
 use Rattle.ladder_state.proofs.Items.{can_of, record_of, record_with}
 use Rattle.ladder_state.proofs.row.read_block.Goals as goal

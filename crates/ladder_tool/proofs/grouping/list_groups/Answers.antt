@@ -40,7 +40,7 @@ returns-in-Err-cursor-clause-failed g c = λ save status.
       has = inr (inr (
         q,
         asked_by (given_by c.args.texts.now) a s.program s.state c.decls-decls.result.now c.moment-now.result asked.asked.coil asked.asked.inputs.items asked.asked.inputs.items c.in-Ok.ensures.set c.decls-decls.ensures refl at asked.ensures.coil asked.ensures.inputs,
-        cause_fault a q c.in-Err-cursor.fault (ap (refusal q) c.requires.all ∙ c.in-Err-cursor.ensures.refused),
+        cause_fault (refusal q a.after) c.in-Err-cursor.fault (ap (refusal q) c.requires.all ∙ c.in-Err-cursor.ensures.refused),
       ));
       unwritten = refl {a = g.O.Sink.log c.args.out.now};
       unsaved = refl {a = save};

@@ -1,6 +1,7 @@
 use Rattle.std.proofs.Common.{◌∙◌, ap, refl, inl, inr}
 use Rattle.std.specs.Prelude.{unwrap_or}
 use Rattle.ladder_causes.specs.Causes.{question}
+use Rattle.ladder_causes.specs.Refusal.{refusal}
 use Rattle.ladder_tool.specs.declared.fault.ToolFault.TheVariants as fault
 use Rattle.ladder_tool.specs.Asked.{asking_of}
 use Rattle.ladder_tool.specs.Setting.{given_by}
@@ -39,7 +40,7 @@ returns-in-Err-new-clause-failed g c = λ save status.
       has = inr (inr (
         q,
         asked_by (given_by c.args.texts.now) a s.program s.state c.decls-decls.result.now c.moment-2.result asked.asked.coil asked.asked.inputs.items c.deref.result.now c.in-Ok.ensures.set c.decls-decls.ensures c.deref.ensures.value at asked.ensures.coil asked.ensures.inputs,
-        cause_fault a q c.in-Err-new.fault c.in-Err-new.ensures.refused,
+        cause_fault (refusal q a.after) c.in-Err-new.fault c.in-Err-new.ensures.refused,
       ));
       unwritten = refl {a = g.O.Sink.log c.args.out.now};
       unsaved = refl {a = save};

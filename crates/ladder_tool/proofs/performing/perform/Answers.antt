@@ -17,3 +17,7 @@ returns-in-Causes-clause-failed g c = λ status.
 pub returns-in-Groups-clause-failed : goal.returns-in-Groups-clause-failed
 returns-in-Groups-clause-failed g c = λ status.
     rw c.in-Groups.is (with_third refl (rw (c.as_str-in-Groups.ensures.value, c.deref-in-Groups.ensures.value) at c.list_groups.ensures.failed (g.S.Sink.log c.args.save.now) status))
+
+pub returns-in-Show-clause-failed : goal.returns-in-Show-clause-failed
+returns-in-Show-clause-failed g c = λ status.
+    rw c.in-Show.is (with_second refl (rw c.deref-in-Show.ensures.value at c.show.ensures.failed (g.S.Sink.log c.args.save.now) status))

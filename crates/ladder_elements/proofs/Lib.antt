@@ -1,0 +1,4 @@
+pub mod Timers
+pub mod Counters
+pub mod Pulses
+pub mod Bistables

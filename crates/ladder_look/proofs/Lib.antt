@@ -1,0 +1,14 @@
+pub mod Kept
+pub mod OneRung
+pub mod LookAtBool
+pub mod Acting
+pub mod StepWise
+pub mod StepLaws
+pub mod StepLooks
+pub mod StepsKept
+pub mod Likened
+pub mod Exits
+pub mod Looks
+pub mod Values
+pub mod Starts
+pub mod Sizes

@@ -1,0 +1,13 @@
+-- Looks that stand in the lanes of another look.
+use Rattle.std.specs.Prelude.{◌≡◌, ℕ, false, List, slice_index_or}
+use Rattle.ladder_elements.specs.Algebra.{Algebra}
+use Rattle.ladder_scan.specs.Cells.{Diagram}
+use Rattle.ladder_elements.specs.Relations.{Both}
+use Rattle.ladder_scan.specs.Rung.{Held}
+use Rattle.ladder_look.specs.SignalScan.{after_look}
+
+-- `value` is what a look leaves of a variable, wherever `wide` is what a look leaves of it whose inputs have those of the first in their
+-- lane.
+abbrev pub IsLookInLane : {A B : Type 0} → Algebra A → Algebra B → (A → B → Type 0) → ℕ → A → B → Type 0
+IsLookInLane {A} {B} a b InLane var wide value = (d : Diagram) (h : Held) (now : ℕ) (xs : List A) (ys : List B) → Both InLane xs ys
+    → wide ≡ slice_index_or (after_look a d now xs h) var (a.known false) → value ≡ slice_index_or (after_look b d now ys h) var (b.known false)

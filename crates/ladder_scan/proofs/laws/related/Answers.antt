@@ -1,5 +1,0 @@
-use Rattle.ladder_scan.proofs.Kept.{look_kept}
-use Rattle.ladder_scan.proofs.laws.related.Goals as goal
-
-pub returns : goal.returns
-returns g c = λ at. look_kept _ _ _ (g.met.R.Relation.kept at)

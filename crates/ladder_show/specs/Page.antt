@@ -1,0 +1,131 @@
+-- The drawing as a page of HTML: the lines of the text with their own characters, and elements round those of what has power or is ON.
+-- Rungs, rows, columns, lines and places are counted from 0.
+use Rattle.std.specs.Prelude.{ℕ, ◌+◌, ◌-◌, ◌*◌, ◌/◌, ◌%◌, Bool, true, false, not, ◌&&◌, ◌||◌, ◌==◌, nat_le, codes, bytes_eq, position, Option, Some, None, if◌then◌else◌, List, [], ◌∷◌, ◌++◌, length, slice_index_or, slice_range}
+use Rattle.std.specs.List.{list_all}
+use Rattle.ladder_page.specs.declared.geometry.TheConstants.{PITCH, RAIL}
+use Rattle.ladder_page.specs.declared.lines.Part.{Part}
+use Rattle.ladder_page.specs.Bytes.{space, dash, plus, bar}
+use Rattle.ladder_page.specs.Lines.{part_in}
+use Rattle.ladder_page.specs.Picture.{Lines, line_at}
+use Rattle.ladder_grid.specs.Program.{Drawing}
+use Rattle.ladder_scan.specs.declared.seen.Mark.{Mark}
+use Rattle.ladder_scan.specs.Standing.{Standing}
+use Rattle.ladder_show.specs.declared.look.Look.{Look}
+use Rattle.ladder_show.specs.declared.look.Look.TheVariants.{Plain, Rail, Passed, Wire, Link, Joint, On}
+use Rattle.ladder_show.specs.declared.page.TheConstants.{PAGE_START, PAGE_LEGEND}
+use Rattle.ladder_show.specs.Notes.{above, tail_line}
+use Rattle.ladder_show.specs.Show.{each, is_line_of, mark_in}
+
+-- ---- one character
+
+-- `&` (38), `<` (60), `>` (62) and `"` (34) have names in HTML.
+abbrev pub escaped : ℕ → List ℕ
+escaped b =
+    if b == 38 then codes "&amp;"
+    else (if b == 60 then codes "&lt;" else (if b == 62 then codes "&gt;" else (if b == 34 then codes "&quot;" else b ∷ [])))
+
+-- An element is `b` where there is power, or something is ON, and `i` elsewhere. Its class says what the characters are: `r` a rail, `p` a
+-- wire that was passed over, `w` another wire, `v` a vertical link, `j` a joint, and `s` a symbol.
+abbrev pub opening : Look → List ℕ
+opening Plain = []
+opening Rail = codes "<i class=r>"
+opening Passed = codes "<i class=p>"
+opening (Wire false) = codes "<i class=w>"
+opening (Wire true) = codes "<b class=w>"
+opening (Link false) = codes "<i class=v>"
+opening (Link true) = codes "<b class=v>"
+opening (Joint false) = codes "<i class=j>"
+opening (Joint true) = codes "<b class=j>"
+opening On = codes "<b class=s>"
+
+abbrev pub closing : Look → List ℕ
+closing Plain = []
+closing Rail = codes "</i>"
+closing Passed = codes "</i>"
+closing (Wire false) = codes "</i>"
+closing (Wire true) = codes "</b>"
+closing (Link false) = codes "</i>"
+closing (Link true) = codes "</b>"
+closing (Joint false) = codes "</i>"
+closing (Joint true) = codes "</b>"
+closing On = codes "</b>"
+
+abbrev pub rail_look : ℕ → Look
+rail_look b = if b == bar then Rail else Plain
+
+abbrev pub wire_look : Bool → Bool → Look
+wire_look evaluated power = if evaluated then Wire power else Passed
+
+-- A character at a joint's place, by what is seen at the cell on its right.
+abbrev pub joint_look : Mark → ℕ → Look
+joint_look m b =
+    if b == dash then wire_look m.evaluated m.left
+    else (if b == plus then Joint m.left else (if b == bar then Link m.left else Plain))
+
+-- A character of a cell; front: only dashes come before it; blank: only blanks are left of the cell. Dashes in front have the power of the
+-- left link, those behind the symbol what the cell lets through.
+abbrev pub cell_look : Mark → Bool → Bool → ℕ → Look
+cell_look m front blank b =
+    if b == dash then wire_look m.evaluated (if front then m.left else m.right) else (if m.on && not blank then On else Plain)
+
+-- The character at a place of a line of a rung. Line 2 * r has the names of row r and the vertical links from the row above, line
+-- 2 * r + 1 its joints and cells. What comes after the right rail is plain.
+abbrev pub look_at : List Mark → ℕ → ℕ → List ℕ → ℕ → Look
+look_at marks rung line text at =
+    let b = slice_index_or text at space in
+    let m = mark_in marks rung (line / 2) (at / PITCH) in
+    if at == 0 || at == RAIL then rail_look b
+    else (if nat_le RAIL at then Plain
+    else (if at % PITCH == 0 then joint_look m b
+    else (if line % 2 == 0 then Plain
+    else cell_look m (list_all (λ c. c == dash) (slice_range text (PITCH * (at / PITCH) + 1) at))
+    (list_all (λ c. c == space) (slice_range text at (PITCH * (at / PITCH) + PITCH))) b)))
+
+-- ---- lines
+
+-- the look of the character before a place
+abbrev pub before : (ℕ → Look) → ℕ → Look
+before look at = if at == 0 then Plain else look (at - 1)
+
+-- Between two characters: where the look changes, an element ends and another begins.
+abbrev pub turn : Look → Look → List ℕ
+turn from to = if bytes_eq (opening from) (opening to) then [] else closing from ++ opening to
+
+-- A character behind the turn to its look.
+abbrev pub drawn_place : (ℕ → Look) → List ℕ → ℕ → List ℕ
+drawn_place look text at = turn (before look at) (look at) ++ escaped (slice_index_or text at space)
+
+-- A line of a rung. The last element ends with it.
+abbrev pub drawn_line : List Mark → ℕ → ℕ → List ℕ → List ℕ
+drawn_line marks rung line text =
+    each (drawn_place (look_at marks rung line text) text) (length text) ++ closing (before (look_at marks rung line text) (length text))
+
+-- Another line.
+abbrev pub escaped_line : List ℕ → List ℕ
+escaped_line text = each (λ at. escaped (slice_index_or text at space)) (length text)
+
+-- A line of a text; k is the number of its rung.
+abbrev pub drawn_in : List Part → List Mark → Lines → ℕ → Option ℕ → List ℕ
+drawn_in parts marks lines n None = escaped_line (line_at lines n)
+drawn_in parts marks lines n (Some k) = drawn_line marks k (n - (part_in parts k).start) (line_at lines n)
+
+-- the same with its end
+abbrev pub drawn_whole : List Part → List Mark → Lines → ℕ → List ℕ
+drawn_whole parts marks lines n = drawn_in parts marks lines n (position (is_line_of n) parts) ++ codes "\n"
+
+-- ---- the whole page
+
+-- What begins each page, what the looks mean, and what ends it.
+unfoldable pub page_start : List ℕ
+page_start = PAGE_START.now
+
+unfoldable pub page_legend : List ℕ
+page_legend = PAGE_LEGEND.now
+
+-- Above the drawing: the moment of the scan and its inputs, as in the text, and what the looks mean.
+abbrev pub page_head : Drawing → Standing → List ℕ
+page_head p after = page_start ++ above p after page_legend
+
+-- Below it: the other variables, as in the text.
+abbrev pub page_tail : Drawing → Standing → List ℕ
+page_tail p after = tail_line p after ++ codes "</pre>\n</html>\n"

@@ -1,0 +1,160 @@
+//! How a character of the drawing looks on a page.
+
+ghost use Rattle.std.specs.Prelude.{◌≡◌, ◌<◌, ◌^◌, ◌≤◌, ◌==◌, ◌+◌, ◌*◌, ◌/◌, length, slice_range};
+ghost use Rattle.std.specs.List.{list_all};
+ghost use Rattle.ladder_page.specs.declared.geometry.TheConstants.{PITCH, RUNGS};
+ghost use Rattle.ladder_page.specs.Bytes.{space};
+ghost use Rattle.ladder_show.specs.Page.{before, cell_look, closing, joint_look, opening, rail_look, wire_look};
+ghost use Rattle.ladder_show.specs.Pictures.{looks_of};
+
+use crate::show::{are_dashes, mark_in};
+use ladder_page::geometry::{PITCH, RAIL};
+use ladder_scan::Mark;
+
+/// What a character of a drawing is, and where it is one of a wire, a link or a joint, whether that has power.
+#[derive(Clone, Copy)]
+pub(crate) enum Look {
+    /// A name, a blank, or a symbol that is not on.
+    Plain,
+    Rail,
+    /// A wire of a rung that was passed over.
+    Passed,
+    Wire(bool),
+    Link(bool),
+    Joint(bool),
+    /// A symbol that is on.
+    On,
+}
+
+/// A line of a rung with what was seen, by the number of the rung and the place of the line in it.
+#[derive(Clone, Copy)]
+pub(crate) struct RungLine<'a> {
+    pub marks: &'a [Mark],
+    pub rung: usize,
+    pub line: usize,
+    pub text: &'a [u8],
+}
+
+/// The tag before characters that look so.
+pub(crate) fn opening(look: Look) -> &'static [u8]
+    ensures { result.now ≡ opening look }
+{
+    match look {
+        Look::Plain => b"",
+        Look::Rail => b"<i class=r>",
+        Look::Passed => b"<i class=p>",
+        Look::Wire(false) => b"<i class=w>",
+        Look::Wire(true) => b"<b class=w>",
+        Look::Link(false) => b"<i class=v>",
+        Look::Link(true) => b"<b class=v>",
+        Look::Joint(false) => b"<i class=j>",
+        Look::Joint(true) => b"<b class=j>",
+        Look::On => b"<b class=s>",
+    }
+}
+
+/// The tag behind them.
+pub(crate) fn closing(look: Look) -> &'static [u8]
+    ensures { result.now ≡ closing look }
+{
+    match look {
+        Look::Plain => b"",
+        Look::Rail | Look::Passed | Look::Wire(false) | Look::Link(false) | Look::Joint(false) => {
+            b"</i>"
+        }
+        Look::Wire(true) | Look::Link(true) | Look::Joint(true) | Look::On => b"</b>",
+    }
+}
+
+fn rail_look(b: u8) -> Look
+    ensures { result ≡ rail_look b }
+{
+    if b == b'|' { Look::Rail } else { Look::Plain }
+}
+
+fn wire_look(evaluated: bool, power: bool) -> Look
+    ensures { result ≡ wire_look evaluated power }
+{
+    if evaluated {
+        Look::Wire(power)
+    } else {
+        Look::Passed
+    }
+}
+
+fn joint_look(mark: Mark, b: u8) -> Look
+    ensures { result ≡ joint_look mark b }
+{
+    match b {
+        b'-' => wire_look(mark.evaluated, mark.left),
+        b'+' => Look::Joint(mark.left),
+        b'|' => Look::Link(mark.left),
+        _ => Look::Plain,
+    }
+}
+
+fn cell_look(mark: Mark, front: bool, blank: bool, b: u8) -> Look
+    ensures { result ≡ cell_look mark front blank b }
+{
+    if b == b'-' {
+        wire_look(mark.evaluated, if front { mark.left } else { mark.right })
+    } else if mark.on && !blank {
+        Look::On
+    } else {
+        Look::Plain
+    }
+}
+
+fn are_blank(text: &[u8]) -> bool
+    ensures { result ≡ list_all (λ c. c == space) text.now }
+{
+    text.iter().all(|b| *b == b' ')
+}
+
+/// Whether only blanks are left of the cell.
+fn is_blank_from(text: &[u8], at: usize) -> bool
+    requires { at < length text.now }
+    ensures { result ≡ list_all (λ c. c == space) (slice_range text.now at (PITCH * (at / PITCH) + PITCH)) }
+{
+    let end = PITCH * (at / PITCH) + PITCH;
+    are_blank(&text[at..end.min(text.len())])
+}
+
+/// How the character at a place looks.
+pub(crate) fn look_at(line: RungLine<'_>, at: usize) -> Look
+    requires rung { line.rung < RUNGS }
+    requires line { line.line < 2 ^ 59 }
+    requires within { at < length line.text.now }
+    ensures { result ≡ looks_of line.entry at }
+{
+    let b = line.text[at];
+    if at == 0 || at == RAIL {
+        return rail_look(b);
+    }
+    if RAIL < at {
+        return Look::Plain;
+    }
+    let mark = mark_in(line.marks, line.rung, line.line / 2, at / PITCH);
+    if at % PITCH == 0 {
+        return joint_look(mark, b);
+    }
+    if line.line % 2 == 0 {
+        return Look::Plain;
+    }
+    let front = are_dashes(&line.text[PITCH * (at / PITCH) + 1..at]);
+    cell_look(mark, front, is_blank_from(line.text, at), b)
+}
+
+/// How the character before a place looks.
+pub(crate) fn look_before(line: RungLine<'_>, at: usize) -> Look
+    requires rung { line.rung < RUNGS }
+    requires line { line.line < 2 ^ 59 }
+    requires within { at ≤ length line.text.now }
+    ensures { result ≡ before (looks_of line.entry) at }
+{
+    if at == 0 {
+        Look::Plain
+    } else {
+        look_at(line, at - 1)
+    }
+}

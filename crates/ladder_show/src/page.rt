@@ -1,0 +1,228 @@
+//! The lines of a drawing as they stand on a page of HTML.
+
+ghost use Rattle.std.specs.Prelude.{◌≡◌, ◌<◌, ◌^◌, length, position, slice_index_or};
+ghost use Rattle.ladder_page.specs.declared.geometry.TheConstants.{RUNGS};
+ghost use Rattle.ladder_page.specs.Bytes.{space};
+ghost use Rattle.ladder_text.specs.Block.{Sends};
+ghost use Rattle.ladder_show.specs.Page.{drawn_in, drawn_line, drawn_place, drawn_whole, escaped, escaped_line, page_head, page_legend, page_start, page_tail, turn};
+ghost use Rattle.ladder_show.specs.Pictures.{Fits, lines_of, looks_of};
+ghost use Rattle.ladder_show.specs.Show.{each, is_line_of};
+
+use crate::look::{Look, RungLine, closing, look_at, look_before, opening};
+use crate::notes::{add_above, add_tail};
+use crate::picture::Picture;
+use crate::show::rung_of;
+use ladder_text::{Block, Piece, Sink, WriteFault, add_pieces};
+
+/// What begins a page: its style. Lines are drawn over the characters, so that those can be copied. A wire reaches into the middle of the
+/// characters beside it, and a vertical link into those above and below.
+const PAGE_START: &[u8] = b"<!DOCTYPE html>
+<html lang=en>
+<meta charset=utf-8>
+<meta name=viewport content=\"width=device-width,initial-scale=1\">
+<title>Ladder diagram</title>
+<style>
+:root{color-scheme:light dark;--back:#fff;--text:#1b1f24;--on:#0a6b2d;--tint:#d8f5e2;--off:#6b737c}
+@media screen and (prefers-color-scheme:dark){:root{--back:#14171a;--text:#e6e8ea;--on:#3fdc7a;--tint:#123d24;--off:#8d959e}}
+body{margin:1.5em;background:var(--back);color:var(--text)}
+pre{margin:0;font:1em/1.4 ui-monospace,\"DejaVu Sans Mono\",Consolas,monospace;overflow-x:auto}
+b,i{font:inherit;color:transparent;background:linear-gradient(var(--c),var(--c)) no-repeat 50%;-webkit-print-color-adjust:exact;print-color-adjust:exact}
+i{--c:var(--off);--t:1px}
+b{--c:var(--on);--t:3px}
+.w,.p{padding:.1em .5ch;margin:0 -.5ch;background-size:100% var(--t)}
+.p{background-image:repeating-linear-gradient(90deg,var(--c) 0 2px,transparent 2px 6px)}
+.v{padding:.8em 0;background-size:var(--t) 100%}
+.r{--c:var(--text);padding:.2em 0;background-size:2px 100%}
+.j{background-image:radial-gradient(circle,var(--c) calc(1.5px + var(--t)/2),transparent calc(2px + var(--t)/2))}
+.s{position:relative;color:var(--on);background:var(--tint);font-weight:bold}
+@page{size:landscape;margin:1cm}
+@media print{body{margin:0}pre{font-size:10pt;overflow:visible}}
+</style>
+<pre>
+";
+
+/// What the looks mean, after the end of the line above it.
+const PAGE_LEGEND: &[u8] = b" *)
+(* <b class=w>----</b> has power  <i class=w>----</i> has none  <i class=p>----</i> was passed over *)
+(* <b class=s>| |</b> is closed, or Q is ON  <b class=s>( )</b> is ON after its rung *)
+";
+
+fn char_at(text: &[u8], at: usize) -> u8
+    requires { at < length text.now }
+    ensures { result ≡ slice_index_or text.now at space }
+{
+    text[at]
+}
+
+/// Adds a character.
+fn add_escaped<W: Sink>(block: &mut Block, b: u8, writer: &mut W) -> Result<(), WriteFault>
+    ensures { Sends (W.log writer.old) (W.log writer.new) block.old block.new result (escaped b) }
+{
+    match b {
+        b'&' => block.add(b"&amp;", writer),
+        b'<' => block.add(b"&lt;", writer),
+        b'>' => block.add(b"&gt;", writer),
+        b'"' => block.add(b"&quot;", writer),
+        _ => {
+            let one = [b];
+            block.add(one.as_slice(), writer)
+        }
+    }
+}
+
+/// Adds the tags between two characters.
+fn add_turn<W: Sink>(
+    block: &mut Block,
+    from: Look,
+    to: Look,
+    writer: &mut W,
+) -> Result<(), WriteFault>
+    ensures { Sends (W.log writer.old) (W.log writer.new) block.old block.new result (turn from to) }
+{
+    let (before, after) = (opening(from), opening(to));
+    if before == after {
+        return block.add(b"", writer);
+    }
+    let tags = [Piece::Text(closing(from)), Piece::Text(after)];
+    add_pieces(block, tags.as_slice(), writer)
+}
+
+/// Adds a character behind the turn to its look.
+fn add_place<W: Sink>(
+    block: &mut Block,
+    line: RungLine<'_>,
+    at: usize,
+    writer: &mut W,
+) -> Result<(), WriteFault>
+    requires rung { line.rung < RUNGS }
+    requires line { line.line < 2 ^ 59 }
+    requires within { at < length line.text.now }
+    ensures { Sends (W.log writer.old) (W.log writer.new) block.old block.new result (drawn_place (looks_of line.entry) line.entry.text.now at) }
+{
+    add_turn(block, look_before(line, at), look_at(line, at), writer)?;
+    add_escaped(block, char_at(line.text, at), writer)
+}
+
+/// Adds the characters of a line of a rung.
+fn add_places<W: Sink>(
+    block: &mut Block,
+    line: RungLine<'_>,
+    writer: &mut W,
+) -> Result<(), WriteFault>
+    requires rung { line.rung < RUNGS }
+    requires line { line.line < 2 ^ 59 }
+    ensures { Sends (W.log writer.old) (W.log writer.new) block.old block.new result (each (drawn_place (looks_of line.entry) line.entry.text.now) (length line.entry.text.now)) }
+{
+    for at in 0..line.text.len() {
+        add_place(block, line, at, writer)?;
+    }
+    Ok(())
+}
+
+/// Adds a line of a rung.
+fn add_rung_line<W: Sink>(
+    block: &mut Block,
+    line: RungLine<'_>,
+    writer: &mut W,
+) -> Result<(), WriteFault>
+    requires rung { line.rung < RUNGS }
+    requires line { line.line < 2 ^ 59 }
+    ensures { Sends (W.log writer.old) (W.log writer.new) block.old block.new result (drawn_line line.entry.marks.now line.entry.rung line.entry.line line.entry.text.now) }
+{
+    add_places(block, line, writer)?;
+    block.add(closing(look_before(line, line.text.len())), writer)
+}
+
+/// Adds a line that is of no rung.
+fn add_escaped_line<W: Sink>(
+    block: &mut Block,
+    text: &[u8],
+    writer: &mut W,
+) -> Result<(), WriteFault>
+    ensures { Sends (W.log writer.old) (W.log writer.new) block.old block.new result (escaped_line text.now) }
+{
+    for at in 0..text.len() {
+        add_escaped(block, char_at(text, at), writer)?;
+    }
+    Ok(())
+}
+
+/// Adds a line of a text.
+fn add_drawn_in<W: Sink>(
+    block: &mut Block,
+    picture: Picture<'_>,
+    line: usize,
+    writer: &mut W,
+) -> Result<(), WriteFault>
+    requires fits { Fits picture }
+    requires line { line < length picture.lines.now }
+    ensures { Sends (W.log writer.old) (W.log writer.new) block.old block.new result (drawn_in picture.entry.parts.now picture.entry.marks.now (lines_of picture.entry) line (position (is_line_of line) picture.entry.parts.now)) }
+{
+    match rung_of(picture.parts, line) {
+        Some(rung) => {
+            let line = RungLine {
+                marks: picture.marks,
+                rung,
+                line: line - picture.parts[rung].start,
+                text: picture.lines[line],
+            };
+            add_rung_line(block, line, writer)
+        }
+        None => add_escaped_line(block, picture.lines[line], writer),
+    }
+}
+
+/// Adds a line and its end.
+pub(crate) fn add_drawn_line<W: Sink>(
+    block: &mut Block,
+    picture: Picture<'_>,
+    line: usize,
+    writer: &mut W,
+) -> Result<(), WriteFault>
+    requires fits { Fits picture }
+    requires line { line < length picture.lines.now }
+    ensures { Sends (W.log writer.old) (W.log writer.new) block.old block.new result (drawn_whole picture.entry.parts.now picture.entry.marks.now (lines_of picture.entry) line) }
+{
+    add_drawn_in(block, picture, line, writer)?;
+    block.add(b"\n", writer)
+}
+
+/// What begins each page.
+#[tactic(auto, unfolding(crate::specs::Page::page_start))]
+fn page_start() -> &'static [u8]
+    ensures { result.now ≡ page_start }
+{
+    PAGE_START
+}
+
+/// What the looks mean.
+#[tactic(auto, unfolding(crate::specs::Page::page_legend))]
+fn page_legend() -> &'static [u8]
+    ensures { result.now ≡ page_legend }
+{
+    PAGE_LEGEND
+}
+
+/// Adds what is above the lines.
+pub(crate) fn add_page_head<W: Sink>(
+    block: &mut Block,
+    picture: Picture<'_>,
+    writer: &mut W,
+) -> Result<(), WriteFault>
+    ensures { Sends (W.log writer.old) (W.log writer.new) block.old block.new result (page_head picture.entry.program.now picture.entry.after.now) }
+{
+    block.add(page_start(), writer)?;
+    add_above(block, picture, page_legend(), writer)
+}
+
+/// Adds what is below them.
+pub(crate) fn add_page_tail<W: Sink>(
+    block: &mut Block,
+    picture: Picture<'_>,
+    writer: &mut W,
+) -> Result<(), WriteFault>
+    ensures { Sends (W.log writer.old) (W.log writer.new) block.old block.new result (page_tail picture.entry.program.now picture.entry.after.now) }
+{
+    add_tail(block, picture, writer)?;
+    block.add(b"</pre>\n</html>\n", writer)
+}

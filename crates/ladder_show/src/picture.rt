@@ -1,0 +1,25 @@
+//! What a drawing is written from.
+
+use ladder_grid::Program;
+use ladder_page::Part;
+use ladder_scan::{Mark, State};
+
+/// How a drawing is written.
+#[derive(Clone, Copy, Debug, PartialEq, Eq)]
+pub enum Style {
+    /// As text, with marks in the place of characters.
+    Marked,
+    /// As a page of HTML, with elements round characters.
+    Page,
+}
+
+/// How a program is drawn, the state after the scan, the rungs among the lines of its text, what was seen, and these lines.
+#[derive(Clone, Copy)]
+pub(crate) struct Picture<'a> {
+    pub style: Style,
+    pub program: &'a Program,
+    pub after: &'a State,
+    pub parts: &'a [Part],
+    pub marks: &'a [Mark],
+    pub lines: &'a [&'a [u8]],
+}

@@ -1,0 +1,81 @@
+//! A request for the drawing with the power flow of one scan.
+
+ghost use Rattle.std.specs.Prelude.{◌≡◌, ◌≤◌, ◌⊎◌};
+ghost use Rattle.ladder_text.specs.Log.{PutsAll, PutsPrefix, WriteLog};
+ghost use Rattle.ladder_tool.specs.Asked.{viewing_of};
+ghost use Rattle.ladder_tool.specs.Performs.{HasShowFault, IsReported, Refuses, Shows, logs, style_for};
+ghost use Rattle.ladder_tool.specs.Setting.{given_by};
+
+use crate::fault::ToolFault;
+use crate::listing::moment;
+use crate::report::report;
+use crate::setting::read_setting;
+use crate::texts::Texts;
+use crate::variables::named_variables;
+use ladder_causes::assignment;
+use ladder_show::{Scan, ShowFault, Style, write_drawing};
+use ladder_text::Sink;
+use ladder_words::Medium;
+use std::alloc::Global;
+
+/// The names and numbers of a request to show one scan.
+#[derive(Clone, Copy)]
+pub(crate) struct Viewing<'a> {
+    pub moment: Option<u64>,
+    pub number: Option<u64>,
+    pub medium: Medium,
+    pub inputs: &'a [String],
+}
+
+/// The style of a drawing.
+fn style_for(medium: Medium) -> Style
+    ensures { result ≡ style_for medium }
+{
+    match medium {
+        Medium::Text => Style::Marked,
+        Medium::Page => Style::Page,
+    }
+}
+
+/// Shows one scan in the state of the texts.
+pub(crate) fn show<O: Sink, E: Sink>(
+    alloc: Global,
+    viewing: Viewing<'_>,
+    texts: &Texts,
+    out: &mut O,
+    err: &mut E,
+) -> u8
+    ensures status { result ≤ 1 }
+    ensures done { result ≡ 0 → Shows (given_by texts.now) (viewing_of viewing.entry) (PutsAll (O.log out.old) (O.log out.new)) × (E.log err.new ≡ E.log err.old) }
+    ensures failed { (save : WriteLog) → result ≡ 1
+        → Refuses (HasShowFault (given_by texts.now) (viewing_of viewing.entry)) (logs (O.log out.old) save (E.log err.old)) (logs (O.log out.new) save (E.log err.new))
+        ⊎ (Shows (given_by texts.now) (viewing_of viewing.entry) (PutsPrefix (O.log out.old) (O.log out.new)) × IsReported (E.log err.old) (E.log err.new) ToolFault.Write) }
+{
+    let setting = match read_setting(alloc, texts) {
+        Ok(setting) => setting,
+        Err(fault) => return report(&fault, err),
+    };
+    let (program, state) = (&setting.program, &setting.state);
+    let listed = match named_variables(alloc, program.decls(), viewing.inputs, 1) {
+        Ok(listed) => listed,
+        Err(fault) => return report(&fault, err),
+    };
+    let now = moment(viewing.moment, state.moment());
+    let number = viewing.number.unwrap_or(0);
+    let inputs = match assignment(alloc, program, state, now, &listed, number) {
+        Ok(inputs) => inputs,
+        Err(fault) => return report(&ToolFault::Cause(fault), err),
+    };
+    let scan = Scan {
+        text: &texts.program,
+        program,
+        state,
+        inputs: &inputs,
+        moment: now,
+    };
+    match write_drawing(alloc, style_for(viewing.medium), scan, out) {
+        Ok(_) => 0,
+        Err(ShowFault::Memory) => report(&ToolFault::Memory, err),
+        Err(ShowFault::Write) => report(&ToolFault::Write, err),
+    }
+}

@@ -1,0 +1,94 @@
+#!/usr/bin/env python3
+"""Opens pages of `show --html` in a browser: browser.py PROGRAM [FOLDER].
+
+For each program of examples/, in the fresh state with its inputs OFF and with all of them ON: the text that the browser has is that of
+the drawing, line by line, and a picture in the light and in the dark mode is made, which differ. FOLDER gets the pages and pictures, to
+be looked at. Needs chromium; without it the test is passed over.
+"""
+import html.parser
+import os
+import pathlib
+import shutil
+import subprocess
+import sys
+import tempfile
+
+ROOT = pathlib.Path(__file__).resolve().parent.parent
+BROWSERS = ("chromium", "chromium-browser", "google-chrome")
+MODES = {"light": "1", "dark": "0"}
+
+
+class Preformatted(html.parser.HTMLParser):
+    """The text of the drawing, and whether there is a script."""
+
+    def __init__(self):
+        super().__init__()
+        self.text, self.inside, self.has_script = "", False, False
+
+    def handle_starttag(self, tag, attrs):
+        self.inside |= tag == "pre"
+        self.has_script |= tag == "script"
+
+    def handle_endtag(self, tag):
+        self.inside &= tag != "pre"
+
+    def handle_data(self, data):
+        self.text += data if self.inside else ""
+
+
+def opened(browser, page, *words):
+    """What the browser prints of a page."""
+    done = subprocess.run([browser, "--headless", "--no-sandbox", "--disable-gpu", "--hide-scrollbars", *words, page.as_uri()],
+                          stdout=subprocess.PIPE, stderr=subprocess.DEVNULL, check=True, timeout=120)
+    return done.stdout
+
+
+def drawing(program):
+    """The lines behind END_VAR, without the rest of its line."""
+    return program.read_text("ascii").split("END_VAR", 1)[1].splitlines()[1:]
+
+
+def inputs(program):
+    return [line.split()[0] for line in program.read_text("ascii").splitlines() if " AT %I" in line]
+
+
+def faults(browser, program, words, page):
+    """What is wrong with the page of one scan."""
+    page.write_bytes(subprocess.run(words, stdout=subprocess.PIPE, check=True).stdout)
+    found = Preformatted()
+    found.feed(opened(browser, page, "--dump-dom").decode())
+    have, wrong = iter(found.text.splitlines()), []
+    wrong += [f"the line {line!r} isn't there, or not in its place" for line in drawing(program) if line not in have]
+    wrong += ["there is a script"] if found.has_script else []
+    pictures = {mode: page.with_suffix(f".{mode}.png") for mode in MODES}
+    for mode, scheme in MODES.items():
+        opened(browser, page, f"--blink-settings=preferredColorScheme={scheme}", "--window-size=1250,1000", f"--screenshot={pictures[mode]}")
+    if len({picture.read_bytes() for picture in pictures.values()}) != len(MODES):
+        wrong.append("the modes look alike")
+    return wrong
+
+
+def main():
+    """Opens all pages and answers the status."""
+    ladder, browser = os.path.abspath(sys.argv[1]), next(filter(None, map(shutil.which, BROWSERS)), None)
+    if not browser:
+        print("no browser: the test of pages is passed over")
+        return 0
+    passed = tried = 0
+    with tempfile.TemporaryDirectory() as scratch:
+        folder = pathlib.Path((sys.argv[2:] or [scratch])[0]).resolve()
+        folder.mkdir(parents=True, exist_ok=True)
+        for program in sorted(ROOT.glob("examples/*/*.ld")):
+            listed = inputs(program)
+            for number in (0, 2 ** len(listed) - 1):
+                page = folder / f"{program.parent.name}.{program.stem}.{number}.html"
+                wrong = faults(browser, program, [ladder, "show", "--html", "--number", str(number), program, *listed], page)
+                tried, passed = tried + 1, passed + (not wrong)
+                for fault in wrong:
+                    print(f"{page.name}: {fault}")
+    print(f"{passed} of {tried} pages are shown as they must be")
+    return 0 if passed == tried else 1
+
+
+if __name__ == "__main__":
+    sys.exit(main())
