@@ -3,3 +3,4 @@ pub mod Erasing
 pub mod Showings
 pub mod PlainNames
 pub mod Untagging
+pub mod RouteEnds

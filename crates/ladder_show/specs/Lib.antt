@@ -4,3 +4,5 @@ pub mod Page
 pub mod Browser
 pub mod Pictures
 pub mod Showing
+pub mod Why
+pub mod Ends
