@@ -4,3 +4,4 @@ pub mod Page
 pub mod Browser
 pub mod Pictures
 pub mod Showing
+pub mod Marks
