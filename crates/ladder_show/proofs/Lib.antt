@@ -4,3 +4,6 @@ pub mod Showings
 pub mod PlainNames
 pub mod Untagging
 pub mod RouteEnds
+pub mod Told
+pub mod LinkedEnds
+pub mod LoneCoils

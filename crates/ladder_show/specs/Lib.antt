@@ -6,3 +6,4 @@ pub mod Pictures
 pub mod Showing
 pub mod Why
 pub mod Ends
+pub mod Marks
