@@ -122,16 +122,17 @@ or_false false = refl
 live_past : (p : Drawing) (marks : List Mark) (j row column : ℕ) → row < 6
     → any_past (is_live p marks j) p j row column
     ≡ cond (is_block (site_at p j row column).cell) (mark_in marks j row column).right
-        (any_to (is_live p marks j) p j (6 * column + row) && is_closed (mark_in marks j row column) (site_at p j row column).cell)
+    (any_to (is_live p marks j) p j (6 * column + row) && is_closed (mark_in marks j row column) (site_at p j row column).cell)
 unfolding end_of
 live_past p marks j row column h = by (is_block (site_at p j row column).cell)
   where
     at_block : (b : Bool) → is_nowhere (end_unless b (place_at row column)) ≡ b
     at_block true = refl
     at_block false = refl
+
     by : (b : Bool) → list_any (is_live p marks j) (cond b (block_end row column ∷ []) (map (λ r. through r row column) (routes_to p j row column)))
         ≡ cond b (mark_in marks j row column).right
-            (any_to (is_live p marks j) p j (6 * column + row) && is_closed (mark_in marks j row column) (site_at p j row column).cell)
+        (any_to (is_live p marks j) p j (6 * column + row) && is_closed (mark_in marks j row column) (site_at p j row column).cell)
     by true = or_false _ ∙ at_block (mark_in marks j row column).right
     by false = live_through p marks j row column (routes_to p j row column)
         ∙ ap (λ b. b && is_closed (mark_in marks j row column) (site_at p j row column).cell) (sym (to_place (is_live p marks j) p j row column h))
@@ -152,21 +153,24 @@ past_live p marks j row column m cell block live h ec em eb el =
 ended_past : (p : Drawing) (marks : List Mark) (j n row column : ℕ) → row < 6
     → any_past (is_ended n p marks j) p j row column
     ≡ cond (is_block (site_at p j row column).cell) (not (mark_in marks j row column).right && place_at row column == n)
-        (any_to (is_ended n p marks j) p j (6 * column + row)
-        || ((any_to (is_live p marks j) p j (6 * column + row) && not (is_closed (mark_in marks j row column) (site_at p j row column).cell)) && place_at row column == n))
+    (any_to (is_ended n p marks j) p j (6 * column + row)
+    || ((any_to (is_live p marks j) p j (6 * column + row) && not (is_closed (mark_in marks j row column) (site_at p j row column).cell)) && place_at row column == n))
 unfolding end_of
 ended_past p marks j n row column h = by (is_block (site_at p j row column).cell)
   where
     c : Bool
     c = not (is_closed (mark_in marks j row column) (site_at p j row column).cell)
+
     here : Bool
     here = place_at row column == n
+
     at_block : (b : Bool) → is_some_of n (end_unless b (place_at row column)) ≡ (not b && here)
     at_block true = refl
     at_block false = refl
+
     by : (b : Bool) → list_any (is_ended n p marks j) (cond b (block_end row column ∷ []) (map (λ r. through r row column) (routes_to p j row column)))
         ≡ cond b (not (mark_in marks j row column).right && here)
-            (any_to (is_ended n p marks j) p j (6 * column + row) || ((any_to (is_live p marks j) p j (6 * column + row) && c) && here))
+        (any_to (is_ended n p marks j) p j (6 * column + row) || ((any_to (is_live p marks j) p j (6 * column + row) && c) && here))
     by true = or_false _ ∙ at_block (mark_in marks j row column).right
     by false = ended_through p marks j n row column (routes_to p j row column)
         ∙ ap (λ b. b || ((list_any (is_live p marks j) (routes_to p j row column) && c) && here)) (sym (to_place (is_ended n p marks j) p j row column h))
@@ -208,6 +212,7 @@ joined_more p j top column row le =
   where
     here : row ≡ top + (row - top)
     here = omega (arith, le)
+
     next : suc (row - top) ≡ row + 1 - top
     next = omega (arith, le)
 

@@ -68,10 +68,14 @@ abbrev pub tail_of : Style → Drawing → Standing → List ℕ
 tail_of Marked p after = tail_line p after
 tail_of Page p after = page_tail p after
 
--- Why the coils of a variable have power, or none, where that is asked.
+-- Why the coils of a variable have power, or none.
+abbrev pub why_on : Drawing → List Mark → ℕ → List ℕ
+why_on p marks var = codes "\n" ++ why p marks var
+
+-- the same where it is asked
 abbrev pub why_of : Option ℕ → Drawing → List Mark → List ℕ
 why_of None p marks = []
-why_of (Some var) p marks = codes "\n" ++ why p marks var
+why_of (Some var) p marks = why_on p marks var
 
 -- What is below the lines.
 abbrev pub end_of : Style → Option ℕ → Drawing → Standing → List Mark → List ℕ

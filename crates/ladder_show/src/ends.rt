@@ -78,11 +78,8 @@ fn is_closed(mark: Mark, cell: Cell) -> bool
     match cell {
         Cell::Wire | Cell::Coil { .. } => true,
         Cell::Contact { .. } => mark.on,
-        Cell::Empty
-        | Cell::Block { .. }
-        | Cell::Lower { .. }
-        | Cell::Jump { .. }
-        | Cell::Return => false,
+        Cell::Empty | Cell::Block { .. } | Cell::Lower { .. } | Cell::Jump { .. } | Cell::Return =>
+            false,
     }
 }
 
@@ -105,14 +102,7 @@ fn passes(rung: Rung<'_>, row: usize, column: usize, live: bool) -> bool
 }
 
 /// Whether power ends at the place `end` on a route past a cell.
-fn ends(
-    rung: Rung<'_>,
-    row: usize,
-    column: usize,
-    live: bool,
-    ended: bool,
-    end: usize,
-) -> bool
+fn ends(rung: Rung<'_>, row: usize, column: usize, live: bool, ended: bool, end: usize) -> bool
     requires number { rung.number < rung.program.now.rungs }
     requires few { rung.program.now.rungs ≤ RUNGS }
     requires row { row < ROWS }

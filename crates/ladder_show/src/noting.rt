@@ -5,7 +5,7 @@ ghost use Rattle.ladder_text.specs.Block.{Sends};
 ghost use Rattle.ladder_text.specs.Log.{Puts};
 ghost use Rattle.ladder_show.specs.Show.{is_line_of};
 ghost use Rattle.ladder_show.specs.Pictures.{Fits, lines_drawn, of_picture};
-ghost use Rattle.ladder_show.specs.Showing.{end_of, head_of, tail_of, whole_of, why_of};
+ghost use Rattle.ladder_show.specs.Showing.{end_of, head_of, tail_of, whole_of, why_of, why_on};
 ghost use Rattle.ladder_show.specs.Notes.{is_left_out, kept_line, noted_line, noted_lines, notes_behind};
 
 use crate::notes::{add_above, add_rung_notes, add_tail};
@@ -125,6 +125,18 @@ fn add_head<W: Sink>(
     }
 }
 
+fn add_why_on<W: Sink>(
+    block: &mut Block,
+    picture: Picture<'_>,
+    var: usize,
+    writer: &mut W,
+) -> Result<(), WriteFault>
+    ensures { Sends (W.log writer.old) (W.log writer.new) block.old block.new result (why_on picture.entry.program.now picture.entry.marks.now var) }
+{
+    block.add(b"\n", writer)?;
+    add_why(block, picture.program, picture.marks, var, writer)
+}
+
 /// Adds why the coils that are asked for have power, or none.
 fn add_why_of<W: Sink>(
     block: &mut Block,
@@ -134,10 +146,7 @@ fn add_why_of<W: Sink>(
     ensures { Sends (W.log writer.old) (W.log writer.new) block.old block.new result (why_of picture.entry.coil picture.entry.program.now picture.entry.marks.now) }
 {
     match picture.coil {
-        Some(var) => {
-            block.add(b"\n", writer)?;
-            add_why(block, picture.program, picture.marks, var, writer)
-        }
+        Some(var) => add_why_on(block, picture, var, writer),
         None => block.add(b"", writer),
     }
 }

@@ -38,10 +38,15 @@ fn open_name(decls: &Decls, cell: Cell) -> &[u8]
     ensures { result.now ≡ open_name decls.now cell }
 {
     match cell {
-        Cell::Contact { operand: Operand::Var(var), .. } => var_name(decls, var),
-        Cell::Contact { operand: Operand::Output(inst), .. } | Cell::Block { inst } => {
-            instance_name(decls, inst)
+        Cell::Contact {
+            operand: Operand::Var(var),
+            ..
+        } => var_name(decls, var),
+        Cell::Contact {
+            operand: Operand::Output(inst),
+            ..
         }
+        | Cell::Block { inst } => { instance_name(decls, inst) }
         Cell::Empty
         | Cell::Wire
         | Cell::Coil { .. }
@@ -55,8 +60,15 @@ fn open_output(cell: Cell) -> &'static [u8]
     ensures { result.now ≡ open_output cell }
 {
     match cell {
-        Cell::Contact { operand: Operand::Output(_), .. } | Cell::Block { .. } => b".Q",
-        Cell::Contact { operand: Operand::Var(_), .. }
+        Cell::Contact {
+            operand: Operand::Output(_),
+            ..
+        }
+        | Cell::Block { .. } => b".Q",
+        Cell::Contact {
+            operand: Operand::Var(_),
+            ..
+        }
         | Cell::Empty
         | Cell::Wire
         | Cell::Coil { .. }
@@ -70,10 +82,23 @@ fn open_reason(cell: Cell) -> &'static [u8]
     ensures { result.now ≡ open_reason cell }
 {
     match cell {
-        Cell::Contact { mode: Mode::Plain, .. } | Cell::Block { .. } => b" is OFF",
-        Cell::Contact { mode: Mode::Negated, .. } => b" is ON",
-        Cell::Contact { mode: Mode::Rising, .. } => b" has not become ON",
-        Cell::Contact { mode: Mode::Falling, .. } => b" has not become OFF",
+        Cell::Contact {
+            mode: Mode::Plain,
+            ..
+        }
+        | Cell::Block { .. } => b" is OFF",
+        Cell::Contact {
+            mode: Mode::Negated,
+            ..
+        } => b" is ON",
+        Cell::Contact {
+            mode: Mode::Rising,
+            ..
+        } => b" has not become ON",
+        Cell::Contact {
+            mode: Mode::Falling,
+            ..
+        } => b" has not become OFF",
         Cell::Empty
         | Cell::Wire
         | Cell::Coil { .. }

@@ -16,9 +16,9 @@ loop-from-preserved c =
     let past = any_past test c.args.rung.program.now c.args.rung.number c.loop-from.from (c.args.at / 6 - 1) in
     let fed = feeds c.args.rung.program.now c.args.rung.number (c.args.at % 6) (c.args.at / 6) c.loop-from.from in
     below_more
-        (λ from. feeds c.args.rung.program.now c.args.rung.number (c.args.at % 6) (c.args.at / 6) from && any_past test c.args.rung.program.now c.args.rung.number from (c.args.at / 6 - 1))
-        c.loop-from.from c.loop-from.found c.feeds.result c.ends-past.result c.loop-from.invariant
-        (ap (λ b. b && c.ends-past.result) c.feeds.ensures ∙ ap (λ b. fed && b) c.ends-past.ensures)
+    (λ from. feeds c.args.rung.program.now c.args.rung.number (c.args.at % 6) (c.args.at / 6) from && any_past test c.args.rung.program.now c.args.rung.number from (c.args.at / 6 - 1))
+    c.loop-from.from c.loop-from.found c.feeds.result c.ends-past.result c.loop-from.invariant
+    (ap (λ b. b && c.ends-past.result) c.feeds.ensures ∙ ap (λ b. fed && b) c.ends-past.ensures)
 
 pub returns : goal.returns
 returns c =

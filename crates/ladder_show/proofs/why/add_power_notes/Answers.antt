@@ -10,6 +10,6 @@ returns-then-mark-2 g c =
     let dead = dead_notes x.program.now x.marks.now x.number c.args.at in
     let passed = passed_note (evaluated_above x.marks.now x.number) in
     subst (λ b. Sends (g.W.Sink.log c.args.writer.now) (g.W.Sink.log c.add.new.writer) c.args.block.now c.add.new.self c.add.result
-        (if b then (if c.args.mark.left then codes ": power *)\n" else dead) else passed)) (sym c.if-mark.true)
+    (if b then (if c.args.mark.left then codes ": power *)\n" else dead) else passed)) (sym c.if-mark.true)
     (subst (λ b. Sends (g.W.Sink.log c.args.writer.now) (g.W.Sink.log c.add.new.writer) c.args.block.now c.add.new.self c.add.result
-        (if b then codes ": power *)\n" else dead)) (sym c.if-mark-2.true) c.add.ensures)
+    (if b then codes ": power *)\n" else dead)) (sym c.if-mark-2.true) c.add.ensures)
