@@ -94,6 +94,14 @@ Asks name rows (Sim state save file stimulus) = (name ≡ codes "sim")
     × HasText (codes "stimulus") rows (string_bytes stimulus)
 Asks name rows (Uses file) = (name ≡ codes "uses") × HasText (codes "file") rows (string_bytes file)
 
+-- the subcommand's name and values ask for no request
+abbrev pub AsksNone : Text → List Row → Type 0
+AsksNone name rows = (r : Request) → Asks name rows r → ⊥
+
 -- the command takes the arguments, and they ask this
 abbrev pub AsksBy : App → List Text → Request → Type 0
 AsksBy app words r = (name : Text) × (rows : List Row) × (subcommand_of app words ≡ Some (name, rows)) × Asks name rows r
+
+-- the arguments ask for no request
+abbrev pub AsksNothing : App → List Text → Type 0
+AsksNothing app words = (r : Request) → AsksBy app words r → ⊥
