@@ -69,6 +69,7 @@ pub fn perform<O: Sink, S: Sink, E: Sink>(
             moment,
             number,
             medium,
+            coil,
             inputs,
             ..
         } => {
@@ -76,6 +77,7 @@ pub fn perform<O: Sink, S: Sink, E: Sink>(
                 moment: *moment,
                 number: *number,
                 medium: *medium,
+                coil: coil.as_deref(),
                 inputs,
             };
             show(alloc, viewing, texts, out, err)

@@ -31,7 +31,7 @@ pub no_causes_of_form : (rows : List Row) → ((f : Form) → HasForm f rows →
 no_causes_of_form rows none (Check file) h = let other = h.0 in cc
 no_causes_of_form rows none (Causes state moment after limit file coil inputs) h = none Table h.2
 no_causes_of_form rows none (Groups state moment limit grouping file coil inputs) h = none grouping.form h.2
-no_causes_of_form rows none (Show state moment number medium file inputs) h = let other = h.0 in cc
+no_causes_of_form rows none (Show state moment number medium coil file inputs) h = let other = h.0 in cc
 no_causes_of_form rows none (Sim state save file stimulus) h = let other = h.0 in cc
 no_causes_of_form rows none (Uses file) h = let other = h.0 in cc
 
@@ -39,7 +39,7 @@ pub no_causes_of_order : (rows : List Row) → ((o : InputOrder) → HasOrder o 
 no_causes_of_order rows none (Check file) h = let other = h.0 in cc
 no_causes_of_order rows none (Causes state moment after limit file coil inputs) h = none Given h.3
 no_causes_of_order rows none (Groups state moment limit grouping file coil inputs) h = none grouping.order h.3
-no_causes_of_order rows none (Show state moment number medium file inputs) h = let other = h.0 in cc
+no_causes_of_order rows none (Show state moment number medium coil file inputs) h = let other = h.0 in cc
 no_causes_of_order rows none (Sim state save file stimulus) h = let other = h.0 in cc
 no_causes_of_order rows none (Uses file) h = let other = h.0 in cc
 
@@ -47,6 +47,6 @@ pub no_causes_of_start : (rows : List Row) → ((o : Option ℕ) → HasNumber (
 no_causes_of_start rows none (Check file) h = let other = h.0 in cc
 no_causes_of_start rows none (Causes state moment after limit file coil inputs) h = none after h.6
 no_causes_of_start rows none (Groups state moment limit grouping file coil inputs) h = none None h.7
-no_causes_of_start rows none (Show state moment number medium file inputs) h = let other = h.0 in cc
+no_causes_of_start rows none (Show state moment number medium coil file inputs) h = let other = h.0 in cc
 no_causes_of_start rows none (Sim state save file stimulus) h = let other = h.0 in cc
 no_causes_of_start rows none (Uses file) h = let other = h.0 in cc

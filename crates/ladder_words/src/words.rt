@@ -4,7 +4,7 @@ ghost use Rattle.std.specs.Prelude.{◌≡◌, ℕ, [], true, false, codes, IfSo
 ghost use Rattle.clap.specs.Words.{all_of, first_of, found_of, kind_of, rows_of, subcommand_rows_of};
 ghost use Rattle.clap.specs.Words.{fault_of as clap_fault};
 ghost use Rattle.ladder_words.specs.CommandLine.{ladder_app};
-ghost use Rattle.ladder_words.specs.Asking.{Asks, AsksBy, AsksNone, HasFlag, HasForm, HasMedium, HasNumber, HasOrder, HasPath, IsNamed, MayHaveLimit};
+ghost use Rattle.ladder_words.specs.Asking.{Asks, AsksBy, AsksNone, HasFlag, HasForm, HasMedium, HasNumber, HasOrder, HasOption, IsNamed, MayHaveLimit};
 ghost use Rattle.ladder_words.specs.Faults.{IsFaultOf, SaysOf, UsageWhere};
 
 use crate::command::ladder;
@@ -100,7 +100,7 @@ fn list_request(alloc: Global, found: &ArgMatches<'_>) -> Result<Request, WordFa
     if form_of(found)? != Form::Table || order_of(found)? != InputOrder::Given {
         return Err(WordFault::Usage);
     }
-    let state = path(alloc, found, "state")?;
+    let state = optional(alloc, found, "state")?;
     let moment = number(found, "at")?;
     let after = number(found, "after")?;
     let limit = number(found, "limit")?;
@@ -131,7 +131,7 @@ fn groups_request(alloc: Global, found: &ArgMatches<'_>) -> Result<Request, Word
         return Err(WordFault::Usage);
     }
     Ok(Request::Groups {
-        state: path(alloc, found, "state")?,
+        state: optional(alloc, found, "state")?,
         moment: number(found, "at")?,
         limit,
         grouping: Grouping { form, order },
@@ -192,10 +192,11 @@ fn show_request(alloc: Global, found: &ArgMatches<'_>) -> Result<Request, WordFa
     ensures ok { IfOk result (Asks (codes "show") (rows_of (found_of found.now))) }
     ensures err { IfErr result (UsageWhere (AsksNone (codes "show") (rows_of (found_of found.now)))) }
 {
-    let state = path(alloc, found, "state")?;
+    let state = optional(alloc, found, "state")?;
     let moment = number(found, "at")?;
     let number = number(found, "number")?;
     let medium = medium_of(found);
+    let coil = optional(alloc, found, "coil")?;
     let file = text(alloc, found, "file")?;
     let inputs = texts(alloc, found, "inputs")?;
     Ok(Request::Show {
@@ -203,6 +204,7 @@ fn show_request(alloc: Global, found: &ArgMatches<'_>) -> Result<Request, WordFa
         moment,
         number,
         medium,
+        coil,
         file,
         inputs,
     })
@@ -223,8 +225,8 @@ fn sim_request(alloc: Global, found: &ArgMatches<'_>) -> Result<Request, WordFau
     ensures ok { IfOk result (Asks (codes "sim") (rows_of (found_of found.now))) }
     ensures err { IfErr result (UsageWhere (AsksNone (codes "sim") (rows_of (found_of found.now)))) }
 {
-    let state = path(alloc, found, "state")?;
-    let save = path(alloc, found, "save")?;
+    let state = optional(alloc, found, "state")?;
+    let save = optional(alloc, found, "save")?;
     let file = text(alloc, found, "file")?;
     let stimulus = text(alloc, found, "stimulus")?;
     Ok(Request::Sim {
@@ -246,9 +248,9 @@ fn is_set(found: &ArgMatches<'_>, id: &str) -> bool
     }
 }
 
-/// The path of an option, where it was given.
-fn path(alloc: Global, found: &ArgMatches<'_>, id: &str) -> Result<Option<String>, WordFault>
-    ensures ok { IfOk result (λ o. HasPath id.now (rows_of (found_of found.now)) (option_map string_bytes o)) }
+/// The text of an option, where it was given.
+fn optional(alloc: Global, found: &ArgMatches<'_>, id: &str) -> Result<Option<String>, WordFault>
+    ensures ok { IfOk result (λ o. HasOption id.now (rows_of (found_of found.now)) (option_map string_bytes o)) }
     ensures err { IfErr result (λ e. e ≡ WordFault.Memory) }
 {
     match found.get_str(id) {

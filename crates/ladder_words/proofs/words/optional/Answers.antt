@@ -1,7 +1,7 @@
 use Rattle.std.proofs.Common.{◌∙◌, ap, sym, Some}
 use Rattle.clap.specs.Words.{found_of}
 use Rattle.clap.proofs.WalkLemmas.{first_value-rows}
-use Rattle.ladder_words.proofs.words.path.Goals as goal
+use Rattle.ladder_words.proofs.words.optional.Goals as goal
 
 pub returns-in_ok-copy-in-Some-clause-ok : goal.returns-in_ok-copy-in-Some-clause-ok
 returns-in_ok-copy-in-Some-clause-ok c =
