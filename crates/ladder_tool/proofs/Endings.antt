@@ -1,6 +1,7 @@
 -- How a request for causes ends, from what each step of it ensures.
 use Rattle.std.proofs.Common.{◌≡◌, ◌⊎◌, ◌∙◌, ap, refl, subst, sym, ℕ, Bool, List, Option, Some, inl, inr, length}
-use Rattle.std.specs.Prelude.{unwrap_or}
+use Rattle.std.specs.Prelude.{None, unwrap_or}
+use Rattle.std.specs.Option.{option_or}
 use Rattle.ladder_vars.specs.Decls.{Declared}
 use Rattle.ladder_grid.specs.Program.{Drawing}
 use Rattle.ladder_scan.specs.Programs.{diagram_of}
@@ -81,6 +82,11 @@ counts_are a q c made many causes h l =
     ∙ ap (groups_line (length (rows_for a q))) (l ∙ ap (λ rs. causes_in (limited a.limit rs)) made)
 
 -- ---- one scan that is shown
+
+-- The coil's rule comes first.
+pub coil_first : (v : Viewing) (p : Drawing) (s : Standing) (coil : Option ℕ) (listed : List ℕ) (f : CauseFault) → coil_refusal p coil ≡ Some f
+    → broken_first v p s coil listed ≡ Some f
+coil_first v p s coil listed f e = ap (λ x. option_or x (scan_refusal (question p s (unwrap_or v.moment s.moment) 0 listed) (unwrap_or v.number 0))) e
 
 -- It is refused as what is asked is, where its moment, its listed inputs and its number are those that are asked for.
 pub same_refusal : (v : Viewing) (p : Drawing) (s : Standing) (now n : ℕ) (coil : Option ℕ) (listed given : List ℕ) → coil_refusal p coil ≡ None → given ≡ listed

@@ -78,8 +78,9 @@ pub(crate) fn show<O: Sink, E: Sink>(
         Ok(asked) => asked,
         Err(fault) => return report(&fault, err),
     };
-    if let Some(fault) = coil_refusal(program, asked.coil) {
-        return report(&ToolFault::Cause(fault), err);
+    match coil_refusal(program, asked.coil) {
+        Some(fault) => return report(&ToolFault::Cause(fault), err),
+        None => (),
     }
     let now = moment(viewing.moment, state.moment());
     let number = viewing.number.unwrap_or(0);

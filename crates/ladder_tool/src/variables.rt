@@ -62,22 +62,22 @@ pub(crate) fn shown_variables(
     coil: Option<&str>,
     inputs: &[String],
 ) -> Result<ShownVariables, ToolFault>
-    ensures coil { IfOk result (λ a. option_map (variable_of decls.now) (option_map (λ name. name.now) coil) ≡ option_map Some a.coil) }
+    ensures coil { IfOk result (λ a. option_map (variable_of decls.now) (option_map (λ name. name.now) coil.entry) ≡ option_map Some a.coil) }
     ensures inputs { IfOk result (λ a. AreVariables decls.now (map string_bytes inputs.now) a.inputs.items) }
-    ensures fault { IfErr result (HasWordFault decls.now (names_in (option_map (λ name. name.now) coil) (map string_bytes inputs.now))) }
+    ensures fault { IfErr result (HasWordFault decls.now (names_in (option_map (λ name. name.now) coil.entry) (map string_bytes inputs.now))) }
 {
-    let Some(coil) = coil else {
-        return match named_variables(alloc, decls, inputs, 1) {
+    match coil {
+        Some(coil) => match asked_variables(alloc, decls, coil, inputs) {
+            Ok(asked) => Ok(ShownVariables {
+                coil: Some(asked.coil),
+                inputs: asked.inputs,
+            }),
+            Err(fault) => Err(fault),
+        },
+        None => match named_variables(alloc, decls, inputs, 1) {
             Ok(inputs) => Ok(ShownVariables { coil: None, inputs }),
             Err(fault) => Err(fault),
-        };
-    };
-    match asked_variables(alloc, decls, coil, inputs) {
-        Ok(asked) => Ok(ShownVariables {
-            coil: Some(asked.coil),
-            inputs: asked.inputs,
-        }),
-        Err(fault) => Err(fault),
+        },
     }
 }
 

@@ -1,10 +1,10 @@
-use Rattle.std.proofs.Common.{◌∙◌, ap, refl, inl, inr, []}
+use Rattle.std.proofs.Common.{◌∙◌, ap, sym, refl, inl, inr}
 use Rattle.std.specs.Prelude.{unwrap_or}
 use Rattle.ladder_tool.specs.declared.fault.ToolFault.TheVariants as fault
 use Rattle.ladder_tool.specs.Asked.{viewing_of}
 use Rattle.ladder_tool.specs.Performs.{broken_first}
 use Rattle.ladder_tool.specs.Setting.{given_by}
-use Rattle.ladder_tool.proofs.Endings.{cause_fault, same_drawing, same_refusal}
+use Rattle.ladder_tool.proofs.Endings.{cause_fault, coil_first, same_drawing, same_refusal}
 use Rattle.ladder_tool.proofs.showing.show.Goals as goal
 
 pub returns-in-Err-shown_variables-clause-failed :
@@ -26,7 +26,7 @@ returns-in-Err-assignment-clause-failed g c = λ save status.
     let coil = c.in-Ok-shown_variables.asked.coil in
     let listed = c.in-Ok-shown_variables.asked.inputs.items in
     let at = c.moment-now.ensures ∙ ap (unwrap_or v.moment) c.moment.ensures in
-    let same = same_refusal v s.program s.state c.moment-now.result c.unwrap_or-number.result coil listed c.deref.result.now OFCOIL c.deref.ensures.value at c.unwrap_or-number.ensures in
+    let same = same_refusal v s.program s.state c.moment-now.result c.unwrap_or-number.result coil listed c.deref.result.now (sym c.coil_refusal.ensures ∙ c.in-None.is) c.deref.ensures.value at c.unwrap_or-number.ensures in
     inl (record {
       reason = fault.Cause c.in-Err-assignment.fault;
       has = inr (inr (
@@ -61,7 +61,7 @@ returns-clause-failed g c = λ save status.
     let listed = c.in-Ok-shown_variables.asked.inputs.items in
     let at = c.moment-now.ensures ∙ ap (unwrap_or v.moment) c.moment.ensures in
     let given = c.deref.ensures.value in
-    let same = same_refusal v s.program s.state c.moment-now.result c.unwrap_or-number.result coil listed c.deref.result.now OFCOIL given at c.unwrap_or-number.ensures in
+    let same = same_refusal v s.program s.state c.moment-now.result c.unwrap_or-number.result coil listed c.deref.result.now (sym c.coil_refusal.ensures ∙ c.in-None.is) given at c.unwrap_or-number.ensures in
     let part = rw c.in-Err-Write.field-0-is at c.in-Err-Write.ensures.fails in
     inr ((
       record {
@@ -79,3 +79,24 @@ returns-clause-failed g c = λ save status.
       },
       c.report-in-Err-Write.ensures.line,
     ))
+
+pub returns-in-Some-clause-failed : goal.returns-in-Some-clause-failed
+returns-in-Some-clause-failed g c = λ save status.
+    let s = c.in-Ok.setting in
+    let v = viewing_of c.args.viewing in
+    let coil = c.in-Ok-shown_variables.asked.coil in
+    let listed = c.in-Ok-shown_variables.asked.inputs.items in
+    inl (record {
+      reason = fault.Cause c.in-Some.fault;
+      has = inr (inr (
+        s.program,
+        s.state,
+        coil,
+        listed,
+        record { set = c.in-Ok.ensures.set; on = rw c.decls.ensures at c.in-Ok-shown_variables.ensures.coil; among = rw c.decls.ensures at c.in-Ok-shown_variables.ensures.inputs },
+        inr (coil_first v s.program s.state coil listed c.in-Some.fault (sym c.coil_refusal.ensures ∙ c.in-Some.is)),
+      ));
+      unwritten = refl {a = g.O.Sink.log c.args.out.now};
+      unsaved = refl {a = save};
+      reported = c.report-in-Some.ensures.line;
+    })
