@@ -3,9 +3,12 @@ use Rattle.std.specs.Prelude.{ℕ, ◌+◌, ◌%◌, ◌/◌, ◌==◌, Bool, tr
 use Rattle.std.specs.List.{list_any}
 use Rattle.std.specs.Option.{option_or}
 use Rattle.ladder_vars.specs.Decls.{Declared}
+use Rattle.ladder_vars.specs.Kind.{traits_of}
+use Rattle.ladder_vars.specs.declared.kind.Output.{Output}
+use Rattle.ladder_vars.specs.declared.kind.Output.TheVariants as output
 use Rattle.ladder_page.specs.declared.geometry.TheConstants.{ROWS, PLACES}
 use Rattle.ladder_page.specs.declared.mode.Mode.TheVariants.{Plain, Negated, Rising, Falling}
-use Rattle.ladder_grid.specs.declared.cell.Operand.TheVariants.{Var, Output}
+use Rattle.ladder_grid.specs.declared.cell.Operand.TheVariants as operand
 use Rattle.ladder_grid.specs.declared.cell.Cell.{Cell}
 use Rattle.ladder_grid.specs.declared.cell.Cell.TheVariants.{Wire, Contact, Coil, Block}
 use Rattle.ladder_grid.specs.Program.{Drawing, cell_of, feeds, is_block, is_coil_of, site_at}
@@ -56,16 +59,23 @@ instance_name d inst = elim (slice_get d.instances inst) [ None ↦ [] | Some i 
 
 -- what a contact reads, or whose output a block gives
 abbrev pub open_name : Declared → Cell → List ℕ
-open_name d (Contact mode (Var var) memory) = var_name d var
-open_name d (Contact mode (Output inst) memory) = instance_name d inst
+open_name d (Contact mode (operand.Var var) memory) = var_name d var
+open_name d (Contact mode (operand.Output inst) memory) = instance_name d inst
 open_name d (Block inst) = instance_name d inst
 open_name d other = []
 
--- `.Q` where that is an output
-abbrev pub open_output : Cell → List ℕ
-open_output (Contact mode (Output inst) memory) = codes ".Q"
-open_output (Block inst) = codes ".Q"
-open_output other = []
+abbrev pub output_word : Output → List ℕ
+output_word output.Q = codes ".Q"
+output_word output.Q1 = codes ".Q1"
+
+abbrev pub output_of : Declared → ℕ → List ℕ
+output_of d inst = elim (slice_get d.instances inst) [ None ↦ [] | Some i ↦ output_word (traits_of i.kind).output ]
+
+-- which output that is, `.Q` or `.Q1`, where it is one
+abbrev pub open_output : Declared → Cell → List ℕ
+open_output d (Contact mode (operand.Output inst) memory) = output_of d inst
+open_output d (Block inst) = output_of d inst
+open_output d other = []
 
 -- why no power goes on there
 abbrev pub open_reason : Cell → List ℕ
@@ -80,7 +90,7 @@ open_reason other = []
 abbrev pub end_line : Drawing → ℕ → ℕ → List ℕ
 end_line p j n =
     codes "(* row " ++ (decimal (n % ROWS + 1) ++ (codes ", column " ++ (decimal (n / ROWS + 1) ++ (codes ": "
-    ++ (open_name p.decls (cell_of p j n) ++ (open_output (cell_of p j n) ++ (open_reason (cell_of p j n) ++ codes " *)\n")))))))
+    ++ (open_name p.decls (cell_of p j n) ++ (open_output p.decls (cell_of p j n) ++ (open_reason (cell_of p j n) ++ codes " *)\n")))))))
 
 -- A line for each place where power ends on a route to the cell at a place, by column and row.
 abbrev pub end_note : Drawing → List Mark → ℕ → ℕ → ℕ → List ℕ

@@ -5,7 +5,7 @@ ghost use Rattle.ladder_page.specs.declared.geometry.TheConstants.{PLACES, ROWS,
 ghost use Rattle.ladder_grid.specs.Program.{cell_of, is_coil_of};
 ghost use Rattle.ladder_text.specs.Block.{Sends};
 ghost use Rattle.ladder_show.specs.Ends.{AreAnswers, is_live, of_rung};
-ghost use Rattle.ladder_show.specs.Why.{coil_head, coil_notes, dead_notes, end_line, end_note, end_notes, evaluated_above, instance_name, open_name, open_output, open_reason, passed_note, place_notes, power_notes, rung_why, var_name, why};
+ghost use Rattle.ladder_show.specs.Why.{coil_head, coil_notes, dead_notes, end_line, end_note, end_notes, evaluated_above, instance_name, open_name, open_output, open_reason, output_of, output_word, passed_note, place_notes, power_notes, rung_why, var_name, why};
 
 use crate::ends::{Rung, ends_at, live_places};
 use crate::show::mark_in;
@@ -14,7 +14,7 @@ use ladder_page::Mode;
 use ladder_page::geometry::{PLACES, ROWS};
 use ladder_scan::Mark;
 use ladder_text::{Block, Piece, Sink, WriteFault, add_pieces};
-use ladder_vars::Decls;
+use ladder_vars::{Decls, Output};
 
 fn var_name(decls: &Decls, var: usize) -> &[u8]
     ensures { result.now ≡ var_name decls.now var }
@@ -56,15 +56,33 @@ fn open_name(decls: &Decls, cell: Cell) -> &[u8]
     }
 }
 
-fn open_output(cell: Cell) -> &'static [u8]
-    ensures { result.now ≡ open_output cell }
+fn output_word(output: Output) -> &'static [u8]
+    ensures { result.now ≡ output_word output }
+{
+    match output {
+        Output::Q => b".Q",
+        Output::Q1 => b".Q1",
+    }
+}
+
+fn output_of(decls: &Decls, inst: usize) -> &'static [u8]
+    ensures { result.now ≡ output_of decls.now inst }
+{
+    match decls.instances().get(inst) {
+        Some(instance) => output_word(instance.kind.traits().output),
+        None => b"",
+    }
+}
+
+fn open_output(decls: &Decls, cell: Cell) -> &'static [u8]
+    ensures { result.now ≡ open_output decls.now cell }
 {
     match cell {
         Cell::Contact {
-            operand: Operand::Output(_),
+            operand: Operand::Output(inst),
             ..
         }
-        | Cell::Block { .. } => b".Q",
+        | Cell::Block { inst } => output_of(decls, inst),
         Cell::Contact {
             operand: Operand::Var(_),
             ..
@@ -135,7 +153,7 @@ fn add_end_line<W: Sink>(
         Piece::Number((end / ROWS + 1) as u64),
         Piece::Text(b": "),
         Piece::Text(open_name(rung.program.decls(), cell)),
-        Piece::Text(open_output(cell)),
+        Piece::Text(open_output(rung.program.decls(), cell)),
         Piece::Text(open_reason(cell)),
         Piece::Text(b" *)\n"),
     ];
