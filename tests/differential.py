@@ -185,10 +185,12 @@ def compare(program, folder, text, coil, listed, moment, number):
     for flags, (out, err) in wanted:
         have = run(program, ["causes", *flags, *moment, "program.ld", coil, *listed], folder)
         found += differences(have, (out.encode(), err.encode(), 0))
-    have = run(program, ["show", *moment, "--number", str(number), "program.ld", *listed], folder)
-    drawn = model.shown(listed, number, int((moment or ["", "0"])[1]))
+    explained = coil if number % 3 else None
+    asked = [*(["--coil", coil] if explained else []), "--number", str(number), "program.ld", *listed]
+    have = run(program, ["show", *moment, *asked], folder)
+    drawn = model.shown(listed, number, int((moment or ["", "0"])[1]), explained)
     found += differences(have, (drawn.encode(), b"", 0))
-    page, said, status = run(program, ["show", "--html", *moment, "--number", str(number), "program.ld", *listed], folder)
+    page, said, status = run(program, ["show", "--html", *moment, *asked], folder)
     return found + differences((without_legend(read_page(page.decode()), 2), said, status), (without_legend(drawn, 1), b"", 0))
 
 

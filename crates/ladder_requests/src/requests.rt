@@ -118,6 +118,7 @@ pub(crate) fn request(alloc: Global, asked: Asked) -> Result<Request, AllocError
             moment: None,
             number: None,
             medium: Medium::Text,
+            coil: None,
             file,
             inputs: listed(alloc)?,
         }),

@@ -3,3 +3,7 @@ pub mod Erasing
 pub mod Showings
 pub mod PlainNames
 pub mod Untagging
+pub mod RouteEnds
+pub mod Told
+pub mod LinkedEnds
+pub mod LoneCoils

@@ -22,7 +22,7 @@ rungs_of text p place parts ps program only e =
 pub is_drawn : (style : Style) (s : OneScan) (place : ℕ) (parts ps : List Part) (marks ms : List Mark)
     (after : Standing) (lines : Lines) (rest : List ℕ) → HasOutline s.text place parts → after ≡ state_after s → ps ≡ parts → ms ≡ marks
     → AreMarks (diagram_of s.program) s.now s.inputs s.state.held marks → lines ≡ slice_split (λ b. b == 10) rest → rest ≡ drop place s.text
-    → IsDrawn style s (whole_of style s.program after ps ms lines)
+    → IsDrawn style s (whole_of style s.coil s.program after ps ms lines)
 is_drawn style s place parts ps marks ms after lines rest outline ea ep em seen el er = record {
   place = place;
   parts = parts;
@@ -30,8 +30,8 @@ is_drawn style s place parts ps marks ms after lines rest outline ea ep em seen 
   outline = outline;
   seen = seen;
   text =
-      ap (λ a. whole_of style s.program a ps ms lines) ea
-      ∙ ap (λ x. whole_of style s.program (state_after s) x ms lines) ep
-      ∙ ap (λ x. whole_of style s.program (state_after s) parts x lines) em
-      ∙ ap (whole_of style s.program (state_after s) parts marks) (el ∙ ap (slice_split (λ b. b == 10)) er);
+      ap (λ a. whole_of style s.coil s.program a ps ms lines) ea
+      ∙ ap (λ x. whole_of style s.coil s.program (state_after s) x ms lines) ep
+      ∙ ap (λ x. whole_of style s.coil s.program (state_after s) parts x lines) em
+      ∙ ap (whole_of style s.coil s.program (state_after s) parts marks) (el ∙ ap (slice_split (λ b. b == 10)) er);
 }

@@ -4,3 +4,6 @@ pub mod Page
 pub mod Browser
 pub mod Pictures
 pub mod Showing
+pub mod Why
+pub mod Ends
+pub mod Marks

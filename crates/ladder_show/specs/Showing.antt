@@ -1,5 +1,5 @@
 -- The drawing of a program text with the power flow of one scan.
-use Rattle.std.specs.Prelude.{◌≡◌, ◌==◌, ◌++◌, ℕ, Bool, List, drop}
+use Rattle.std.specs.Prelude.{◌≡◌, ◌==◌, ◌++◌, ℕ, Bool, List, [], Option, None, Some, codes, drop}
 use Rattle.std.specs.List.{slice_split}
 use Rattle.ladder_page.specs.Bytes.{line_feed}
 use Rattle.ladder_page.specs.Outline.{HasOutline}
@@ -20,17 +20,27 @@ use Rattle.ladder_show.specs.declared.showing.Scan.{Scan}
 use Rattle.ladder_show.specs.Notes.{head_line, noted_lines, tail_line}
 use Rattle.ladder_show.specs.Page.{drawn_whole, page_head, page_tail}
 use Rattle.ladder_show.specs.Show.{shown_whole}
+use Rattle.ladder_show.specs.Why.{why}
 
--- What is shown: a text and its program, the state before the scan, and the inputs and the moment of the scan.
+-- What is shown: a text and its program, the state before the scan, the inputs and the moment of the scan, and where that is asked, the
+-- variable of whose coils it is written why they have power, or none.
 pub record OneScan : Type 0 where
   pub text : List ℕ
   pub program : Drawing
   pub state : Standing
   pub inputs : List Bool
   pub now : ℕ
+  pub coil : Option ℕ
 
-abbrev pub one_scan : List ℕ → Drawing → Standing → List Bool → ℕ → OneScan
-one_scan text program state inputs now = record { text = text; program = program; state = state; inputs = inputs; now = now }
+abbrev pub one_scan : List ℕ → Drawing → Standing → List Bool → ℕ → Option ℕ → OneScan
+one_scan text program state inputs now coil = record {
+  text = text;
+  program = program;
+  state = state;
+  inputs = inputs;
+  now = now;
+  coil = coil;
+}
 
 -- the state after the scan
 abbrev pub state_after : OneScan → Standing
@@ -41,7 +51,7 @@ state_after s = record {
 }
 
 abbrev pub scan_of : Scan → OneScan
-scan_of s = one_scan s.text.now s.program.now s.state.now s.inputs.now s.moment
+scan_of s = one_scan s.text.now s.program.now s.state.now s.inputs.now s.moment s.coil
 
 -- ---- by style
 
@@ -58,10 +68,23 @@ abbrev pub tail_of : Style → Drawing → Standing → List ℕ
 tail_of Marked p after = tail_line p after
 tail_of Page p after = page_tail p after
 
+-- Why the coils of a variable have power, or none.
+abbrev pub why_on : Drawing → List Mark → ℕ → List ℕ
+why_on p marks var = codes "\n" ++ why p marks var
+
+-- the same where it is asked
+abbrev pub why_of : Option ℕ → Drawing → List Mark → List ℕ
+why_of None p marks = []
+why_of (Some var) p marks = why_on p marks var
+
+-- What is below the lines.
+abbrev pub end_of : Style → Option ℕ → Drawing → Standing → List Mark → List ℕ
+end_of style coil p after marks = why_of coil p marks ++ tail_of style p after
+
 -- What is above, the lines with their notes, and what is below.
-abbrev pub whole_of : Style → Drawing → Standing → List Part → List Mark → Lines → List ℕ
-whole_of style p after parts marks lines =
-    head_of style p after ++ (noted_lines (drawn_of style parts marks lines) p after parts marks lines ++ tail_of style p after)
+abbrev pub whole_of : Style → Option ℕ → Drawing → Standing → List Part → List Mark → Lines → List ℕ
+whole_of style coil p after parts marks lines =
+    head_of style p after ++ (noted_lines (drawn_of style parts marks lines) p after parts marks lines ++ end_of style coil p after marks)
 
 -- ---- what is written
 
@@ -72,7 +95,7 @@ pub record IsDrawn (style : Style) (s : OneScan) (drawn : List ℕ) : Type 0 whe
   pub marks : List Mark
   pub outline : HasOutline s.text place parts
   pub seen : AreMarks (diagram_of s.program) s.now s.inputs s.state.held marks
-  pub text : drawn ≡ whole_of style s.program (state_after s) parts marks (slice_split (λ b. b == line_feed) (drop place s.text))
+  pub text : drawn ≡ whole_of style s.coil s.program (state_after s) parts marks (slice_split (λ b. b == line_feed) (drop place s.text))
 
 -- The drawing was written.
 pub record Written (style : Style) (s : OneScan) (old new : WriteLog) : Type 0 where

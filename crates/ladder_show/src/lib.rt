@@ -1,6 +1,7 @@
 //! The drawing of a program with the power flow of a scan.
 #![tactic(auto)]
 
+mod ends;
 mod fault;
 pub mod laws;
 mod look;
@@ -10,6 +11,7 @@ mod page;
 mod picture;
 mod show;
 mod showing;
+mod why;
 
 pub use fault::ShowFault;
 pub use picture::Style;

@@ -5,13 +5,14 @@ ghost use Rattle.ladder_text.specs.Block.{Sends};
 ghost use Rattle.ladder_text.specs.Log.{Puts};
 ghost use Rattle.ladder_show.specs.Show.{is_line_of};
 ghost use Rattle.ladder_show.specs.Pictures.{Fits, lines_drawn, of_picture};
-ghost use Rattle.ladder_show.specs.Showing.{head_of, tail_of, whole_of};
+ghost use Rattle.ladder_show.specs.Showing.{end_of, head_of, tail_of, whole_of, why_of, why_on};
 ghost use Rattle.ladder_show.specs.Notes.{is_left_out, kept_line, noted_line, noted_lines, notes_behind};
 
 use crate::notes::{add_above, add_rung_notes, add_tail};
 use crate::page::{add_drawn_line, add_page_head, add_page_tail};
 use crate::picture::{Picture, Style};
 use crate::show::{add_whole_line, rung_of};
+use crate::why::add_why;
 use ladder_text::{Block, Sink, WriteFault};
 
 fn add_notes_behind<W: Sink>(
@@ -124,8 +125,34 @@ fn add_head<W: Sink>(
     }
 }
 
-/// Adds what is below them.
-fn add_end<W: Sink>(
+fn add_why_on<W: Sink>(
+    block: &mut Block,
+    picture: Picture<'_>,
+    var: usize,
+    writer: &mut W,
+) -> Result<(), WriteFault>
+    ensures { Sends (W.log writer.old) (W.log writer.new) block.old block.new result (why_on picture.entry.program.now picture.entry.marks.now var) }
+{
+    block.add(b"\n", writer)?;
+    add_why(block, picture.program, picture.marks, var, writer)
+}
+
+/// Adds why the coils that are asked for have power, or none.
+fn add_why_of<W: Sink>(
+    block: &mut Block,
+    picture: Picture<'_>,
+    writer: &mut W,
+) -> Result<(), WriteFault>
+    ensures { Sends (W.log writer.old) (W.log writer.new) block.old block.new result (why_of picture.entry.coil picture.entry.program.now picture.entry.marks.now) }
+{
+    match picture.coil {
+        Some(var) => add_why_on(block, picture, var, writer),
+        None => block.add(b"", writer),
+    }
+}
+
+/// Adds what stands last.
+fn add_tail_of<W: Sink>(
     block: &mut Block,
     picture: Picture<'_>,
     writer: &mut W,
@@ -138,13 +165,25 @@ fn add_end<W: Sink>(
     }
 }
 
+/// Adds what is below them.
+fn add_end<W: Sink>(
+    block: &mut Block,
+    picture: Picture<'_>,
+    writer: &mut W,
+) -> Result<(), WriteFault>
+    ensures { Sends (W.log writer.old) (W.log writer.new) block.old block.new result (end_of picture.entry.style picture.entry.coil picture.entry.program.now picture.entry.after.now picture.entry.marks.now) }
+{
+    add_why_of(block, picture, writer)?;
+    add_tail_of(block, picture, writer)
+}
+
 fn add_noted<W: Sink>(
     block: &mut Block,
     picture: Picture<'_>,
     writer: &mut W,
 ) -> Result<(), WriteFault>
     requires { Fits picture }
-    ensures { Sends (W.log writer.old) (W.log writer.new) block.old block.new result (of_picture (whole_of picture.entry.style) picture.entry) }
+    ensures { Sends (W.log writer.old) (W.log writer.new) block.old block.new result (of_picture (whole_of picture.entry.style picture.entry.coil) picture.entry) }
 {
     add_head(block, picture, writer)?;
     add_noted_lines(block, picture, writer)?;
@@ -158,7 +197,7 @@ fn add_noted<W: Sink>(
 /// The writer failed. What was written is a prefix of the text.
 pub(crate) fn write_noted<W: Sink>(picture: Picture<'_>, writer: &mut W) -> Result<(), WriteFault>
     requires { Fits picture }
-    ensures { Puts (W.log writer.old) (W.log writer.new) result (of_picture (whole_of picture.entry.style) picture.entry) }
+    ensures { Puts (W.log writer.old) (W.log writer.new) result (of_picture (whole_of picture.entry.style picture.entry.coil) picture.entry) }
 {
     let mut block = Block::new();
     add_noted(&mut block, picture, writer)?;

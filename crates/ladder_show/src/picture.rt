@@ -13,12 +13,14 @@ pub enum Style {
     Page,
 }
 
-/// How a program is drawn, the state after the scan, the rungs among the lines of its text, what was seen, and these lines.
+/// How a program is drawn, the state after the scan, the variable whose coils are explained, the rungs among the lines of its text, what
+/// was seen, and these lines.
 #[derive(Clone, Copy)]
 pub(crate) struct Picture<'a> {
     pub style: Style,
     pub program: &'a Program,
     pub after: &'a State,
+    pub coil: Option<usize>,
     pub parts: &'a [Part],
     pub marks: &'a [Mark],
     pub lines: &'a [&'a [u8]],

@@ -26,6 +26,8 @@ pub struct Scan<'a> {
     pub inputs: &'a [bool],
     /// The moment of the scan, in milliseconds.
     pub moment: u64,
+    /// The variable of whose coils it is written why they have power, or none.
+    pub coil: Option<usize>,
 }
 
 fn behind(text: &[u8], place: usize) -> &[u8]
@@ -66,6 +68,7 @@ pub fn write_drawing<W: Sink>(
         style,
         program: scan.program,
         after: &sight.state,
+        coil: scan.coil,
         parts: &outline.parts,
         marks: &sight.marks,
         lines: &lines,

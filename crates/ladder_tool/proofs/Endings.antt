@@ -1,6 +1,7 @@
 -- How a request for causes ends, from what each step of it ensures.
 use Rattle.std.proofs.Common.{◌≡◌, ◌⊎◌, ◌∙◌, ap, refl, subst, sym, ℕ, Bool, List, Option, Some, inl, inr, length}
-use Rattle.std.specs.Prelude.{unwrap_or}
+use Rattle.std.specs.Prelude.{None, unwrap_or}
+use Rattle.std.specs.Option.{option_or}
 use Rattle.ladder_vars.specs.Decls.{Declared}
 use Rattle.ladder_grid.specs.Program.{Drawing}
 use Rattle.ladder_scan.specs.Programs.{diagram_of}
@@ -22,7 +23,7 @@ use Rattle.ladder_sim.specs.TermText.{form_text}
 use Rattle.ladder_sim.specs.declared.group_text.GroupForm.{GroupForm}
 use Rattle.ladder_text.specs.Log.{PutsAll, PutsPrefix, WriteLog}
 use Rattle.ladder_tool.specs.declared.fault.ToolFault.TheVariants as fault
-use Rattle.ladder_tool.specs.Performs.{Asking, HasCauseFault, IsAsked, Viewing, broken_first, causes_for, counts_text, groups_line, looks_for, rows_for, rows_line, rows_text, shown_scan, style_for}
+use Rattle.ladder_tool.specs.Performs.{Asking, HasCauseFault, IsAsked, Viewing, broken_first, causes_for, coil_refusal, counts_text, groups_line, looks_for, rows_for, rows_line, rows_text, shown_scan, style_for}
 use Rattle.ladder_tool.specs.Setting.{Given, IsSet}
 use Rattle.ladder_tool.specs.Variables.{AreVariables, variable_of}
 
@@ -82,27 +83,33 @@ counts_are a q c made many causes h l =
 
 -- ---- one scan that is shown
 
+-- The coil's rule comes first.
+pub coil_first : (v : Viewing) (p : Drawing) (s : Standing) (coil : Option ℕ) (listed : List ℕ) (f : CauseFault) → coil_refusal p coil ≡ Some f
+    → broken_first v p s coil listed ≡ Some f
+coil_first v p s coil listed f e = ap (λ x. option_or x (scan_refusal (question p s (unwrap_or v.moment s.moment) 0 listed) (unwrap_or v.number 0))) e
+
 -- It is refused as what is asked is, where its moment, its listed inputs and its number are those that are asked for.
-pub same_refusal : (v : Viewing) (p : Drawing) (s : Standing) (now n : ℕ) (listed given : List ℕ) → given ≡ listed → now ≡ unwrap_or v.moment s.moment
-    → n ≡ unwrap_or v.number 0 → broken_first v p s listed ≡ scan_refusal (question p s now 0 given) n
-same_refusal v p s now n listed given as_given at number =
-    ap (λ xs. scan_refusal (question p s (unwrap_or v.moment s.moment) 0 xs) (unwrap_or v.number 0)) (sym as_given)
+pub same_refusal : (v : Viewing) (p : Drawing) (s : Standing) (now n : ℕ) (coil : Option ℕ) (listed given : List ℕ) → coil_refusal p coil ≡ None → given ≡ listed
+    → now ≡ unwrap_or v.moment s.moment → n ≡ unwrap_or v.number 0 → broken_first v p s coil listed ≡ scan_refusal (question p s now 0 given) n
+same_refusal v p s now n coil listed given of_coil as_given at number =
+    ap (λ x. option_or x (scan_refusal (question p s (unwrap_or v.moment s.moment) 0 listed) (unwrap_or v.number 0))) of_coil
+    ∙ ap (λ xs. scan_refusal (question p s (unwrap_or v.moment s.moment) 0 xs) (unwrap_or v.number 0)) (sym as_given)
     ∙ ap (λ t. scan_refusal (question p s t 0 given) (unwrap_or v.number 0)) (sym at)
     ∙ ap (λ k. scan_refusal (question p s now 0 given) k) (sym number)
 
 -- What is drawn of it is what is asked.
-pub same_drawing : (g : Given) (v : Viewing) (p : Drawing) (s : Standing) (now n : ℕ) (listed given text : List ℕ) (inputs image : List Bool) (style : Style)
+pub same_drawing : (g : Given) (v : Viewing) (p : Drawing) (s : Standing) (now n : ℕ) (coil : Option ℕ) (listed given text : List ℕ) (inputs image : List Bool) (style : Style)
     (shown : List ℕ) → given ≡ listed → now ≡ unwrap_or v.moment s.moment → n ≡ unwrap_or v.number 0 → text ≡ g.program → image ≡ inputs
     → inputs ≡ assignment (diagram_of p).inputs given n s.held.values → style ≡ style_for v.medium
-    → IsDrawn style (one_scan text p s image now) shown → IsDrawn (style_for v.medium) (shown_scan g v p s listed) shown
-same_drawing g v p s now n listed given text inputs image style shown as_given at number same read made by drawn =
+    → IsDrawn style (one_scan text p s image now coil) shown → IsDrawn (style_for v.medium) (shown_scan g v p s coil listed) shown
+same_drawing g v p s now n coil listed given text inputs image style shown as_given at number same read made by drawn =
     let flags = (diagram_of p).inputs in
     let values : image ≡ assignment flags listed (unwrap_or v.number 0) s.held.values =
     read ∙ made ∙ ap (λ xs. assignment flags xs n s.held.values) as_given ∙ ap (λ k. assignment flags listed k s.held.values) number in
-    let scan : one_scan text p s image now ≡ shown_scan g v p s listed =
-    ap (λ t. one_scan t p s image now) same ∙ ap (λ xs. one_scan g.program p s xs now) values
-    ∙ ap (one_scan g.program p s (assignment flags listed (unwrap_or v.number 0) s.held.values)) at in
-    subst (λ (x : OneScan). IsDrawn (style_for v.medium) x shown) scan (subst (λ (x : Style). IsDrawn x (one_scan text p s image now) shown) by drawn)
+    let scan : one_scan text p s image now coil ≡ shown_scan g v p s coil listed =
+    ap (λ t. one_scan t p s image now coil) same ∙ ap (λ xs. one_scan g.program p s xs now coil) values
+    ∙ ap (λ t. one_scan g.program p s (assignment flags listed (unwrap_or v.number 0) s.held.values) t coil) at in
+    subst (λ (x : OneScan). IsDrawn (style_for v.medium) x shown) scan (subst (λ (x : Style). IsDrawn x (one_scan text p s image now coil) shown) by drawn)
 
 pub all_same : (a b : WriteLog) (xs ys : List ℕ) → xs ≡ ys → PutsAll a b xs → PutsAll a b ys
 all_same a b xs ys e h = rw e at h

@@ -1,5 +1,5 @@
 -- Private to the tool: which text is asked for, and what a request for causes, or to show a scan, asks.
-use Rattle.std.specs.Prelude.{ℕ, List, map, string_bytes}
+use Rattle.std.specs.Prelude.{ℕ, List, map, option_map, string_bytes}
 use Rattle.ladder_grid.specs.Program.{Drawing}
 use Rattle.ladder_uses.specs.Uses.{uses_text}
 use Rattle.ladder_causes.specs.Causes.{Question, question}
@@ -23,4 +23,10 @@ abbrev pub asking_of : Asking → performs.Asking
 asking_of a = record { moment = a.moment; after = a.after; limit = a.limit; coil = a.coil.now; inputs = map string_bytes a.inputs.now }
 
 abbrev pub viewing_of : Viewing → performs.Viewing
-viewing_of v = record { moment = v.moment; number = v.number; medium = v.medium; inputs = map string_bytes v.inputs.now }
+viewing_of v = record {
+  moment = v.moment;
+  number = v.number;
+  medium = v.medium;
+  coil = option_map (λ name. name.now) v.coil;
+  inputs = map string_bytes v.inputs.now;
+}

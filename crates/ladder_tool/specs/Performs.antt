@@ -1,7 +1,8 @@
 -- How a request ends: all is written, or a fault stops it.
-use Rattle.std.specs.Prelude.{◌≡◌, ◌⊎◌, ◌++◌, ◌∷◌, ℕ, List, Bool, true, false, Option, None, Some, Result, Ok, Err, codes, decimal, is_some, length, map, string_bytes, unwrap_or}
+use Rattle.std.specs.Prelude.{◌≡◌, ◌⊎◌, ◌++◌, ◌∷◌, ℕ, List, Bool, true, false, Option, None, Some, Result, Ok, Err, codes, decimal, if◌then◌else◌, is_some, length, map, option_map, string_bytes, unwrap_or}
+use Rattle.std.specs.Option.{option_or}
 use Rattle.ladder_vars.specs.Decls.{Declared}
-use Rattle.ladder_grid.specs.Program.{Drawing}
+use Rattle.ladder_grid.specs.Program.{Drawing, has_coil}
 use Rattle.ladder_grid.specs.Reading.{IsProgram}
 use Rattle.ladder_scan.specs.Programs.{diagram_of}
 use Rattle.ladder_scan.specs.Standing.{Standing}
@@ -199,22 +200,29 @@ BreaksGroups g a how old new =
 
 -- ---- the drawing with its power flow
 
--- The names and numbers of a request to show one scan: its moment, the number of its assignment, how the drawing is written, and the
--- listed inputs.
+-- The names and numbers of a request to show one scan: its moment, the number of its assignment, how the drawing is written, the coil
+-- that is explained, and the listed inputs.
 pub record Viewing : Type 0 where
   pub moment : Option ℕ
   pub number : Option ℕ
   pub medium : Medium
+  pub coil : Option (List ℕ)
   pub inputs : List (List ℕ)
+
+-- the names in the order of a list's words: the coil, where there is one, and the inputs
+abbrev pub names_in : Option (List ℕ) → List (List ℕ) → List (List ℕ)
+names_in None inputs = inputs
+names_in (Some coil) inputs = coil ∷ inputs
 
 abbrev pub style_for : Medium → Style
 style_for medium.Text = style.Marked
 style_for medium.Page = style.Page
 
--- The texts describe the program and the state before the scan, and the names are those of the listed inputs.
-pub record IsViewed (g : Given) (p : Drawing) (s : Standing) (inputs : List (List ℕ)) (listed : List ℕ) : Type 0 where
+-- The texts describe the program and the state before the scan, and the names are those of the coil's variable and of the listed inputs.
+pub record IsViewed (g : Given) (v : Viewing) (p : Drawing) (s : Standing) (coil : Option ℕ) (listed : List ℕ) : Type 0 where
   pub set : IsSet g p s
-  pub among : AreVariables p.decls inputs listed
+  pub on : option_map (variable_of p.decls) v.coil ≡ option_map Some coil
+  pub among : AreVariables p.decls v.inputs listed
 
 -- The moment of the scan is the stored one where none is asked for.
 abbrev pub moment_of : Viewing → Standing → ℕ
@@ -224,31 +232,38 @@ moment_of v s = unwrap_or v.moment s.moment
 abbrev pub number_of : Viewing → ℕ
 number_of v = unwrap_or v.number 0
 
--- the first rule that the scan breaks
-abbrev pub broken_first : Viewing → Drawing → Standing → List ℕ → Option CauseFault
-broken_first v p s listed = scan_refusal (causes.question p s (moment_of v s) 0 listed) (number_of v)
+-- The variable that is explained is that of a coil.
+abbrev pub coil_refusal : Drawing → Option ℕ → Option CauseFault
+coil_refusal p None = None
+coil_refusal p (Some var) = if has_coil var p then None else Some cause.NotACoil
+
+-- the first rule that is broken: by the coil, and then by the scan
+abbrev pub broken_first : Viewing → Drawing → Standing → Option ℕ → List ℕ → Option CauseFault
+broken_first v p s coil listed =
+    option_or (coil_refusal p coil) (scan_refusal (causes.question p s (moment_of v s) 0 listed) (number_of v))
 
 -- the scan that is shown
-abbrev pub shown_scan : Given → Viewing → Drawing → Standing → List ℕ → OneScan
-shown_scan g v p s listed = one_scan g.program p s (assignment (diagram_of p).inputs listed (number_of v) s.held.values) (moment_of v s)
+abbrev pub shown_scan : Given → Viewing → Drawing → Standing → Option ℕ → List ℕ → OneScan
+shown_scan g v p s coil listed = one_scan g.program p s (assignment (diagram_of p).inputs listed (number_of v) s.held.values) (moment_of v s) coil
 
 -- The drawing is written with the power flow of that scan, whole or as far as `Written` says.
 pub record Shows (g : Given) (v : Viewing) (Written : List ℕ → Type 0) : Type 0 where
   pub program : Drawing
   pub state : Standing
+  pub coil : Option ℕ
   pub listed : List ℕ
-  pub viewed : IsViewed g program state v.inputs listed
-  pub accepted : broken_first v program state listed ≡ None
+  pub viewed : IsViewed g v program state coil listed
+  pub accepted : broken_first v program state coil listed ≡ None
   pub shown : List ℕ
-  pub is : IsDrawn (style_for v.medium) (shown_scan g v program state listed) shown
+  pub is : IsDrawn (style_for v.medium) (shown_scan g v program state coil listed) shown
   pub written : Written shown
 
 -- Faults are looked for in this order: in the program text, in the state text, in the names, in what is asked.
 abbrev pub HasShowFault : Given → Viewing → ToolFault → Type 0
 HasShowFault g v f =
     HasSettingFault g f
-    ⊎ (((p : Drawing) × (s : Standing) × IsSet g p s × HasWordFault p.decls v.inputs f)
-    ⊎ ((p : Drawing) × (s : Standing) × (listed : List ℕ) × IsViewed g p s v.inputs listed × HasCauseFault (broken_first v p s listed) f))
+    ⊎ (((p : Drawing) × (s : Standing) × IsSet g p s × HasWordFault p.decls (names_in v.coil v.inputs) f)
+    ⊎ ((p : Drawing) × (s : Standing) × (coil : Option ℕ) × (listed : List ℕ) × IsViewed g v p s coil listed × HasCauseFault (broken_first v p s coil listed) f))
 
 -- ---- a simulation
 
@@ -284,8 +299,8 @@ abbrev pub asking : Option ℕ → Option ℕ → Option ℕ → List ℕ → Li
 asking moment after limit coil inputs = record { moment = moment; after = after; limit = limit; coil = coil; inputs = inputs }
 
 -- what a request to show one scan asks
-abbrev pub viewing : Option ℕ → Option ℕ → Medium → List (List ℕ) → Viewing
-viewing moment number medium inputs = record { moment = moment; number = number; medium = medium; inputs = inputs }
+abbrev pub viewing : Option ℕ → Option ℕ → Medium → Option (List ℕ) → List (List ℕ) → Viewing
+viewing moment number medium coil inputs = record { moment = moment; number = number; medium = medium; coil = coil; inputs = inputs }
 
 -- Status 0. Only a simulation writes on `save`, and only a list on `err`.
 abbrev pub IsDone : Request → Given → Logs → Logs → Type 0
@@ -296,8 +311,8 @@ IsDone (Causes state moment after limit file coil inputs) g old new =
 IsDone (Groups state moment limit grouping file coil inputs) g old new =
     CountsGroups g (asking moment None limit (string_bytes coil) (map string_bytes inputs.items)) grouping old.out new.out (PutsAll old.err new.err)
     × (new.save ≡ old.save)
-IsDone (Show state moment number medium file inputs) g old new =
-    Shows g (viewing moment number medium (map string_bytes inputs.items)) (PutsAll old.out new.out) × (new.save ≡ old.save) × (new.err ≡ old.err)
+IsDone (Show state moment number medium coil file inputs) g old new =
+    Shows g (viewing moment number medium (option_map string_bytes coil) (map string_bytes inputs.items)) (PutsAll old.out new.out) × (new.save ≡ old.save) × (new.err ≡ old.err)
 IsDone (Sim state save file stimulus) g old new = IsTraced g (is_some save) old new
 IsDone (Uses file) g old new = Prints uses_text g.program (PutsAll old.out new.out) × (new.save ≡ old.save) × (new.err ≡ old.err)
 
@@ -308,7 +323,7 @@ HasFault (Causes state moment after limit file coil inputs) g =
     HasListFault g (asking moment after limit (string_bytes coil) (map string_bytes inputs.items))
 HasFault (Groups state moment limit grouping file coil inputs) g =
     HasListFault g (asking moment None limit (string_bytes coil) (map string_bytes inputs.items))
-HasFault (Show state moment number medium file inputs) g = HasShowFault g (viewing moment number medium (map string_bytes inputs.items))
+HasFault (Show state moment number medium coil file inputs) g = HasShowFault g (viewing moment number medium (option_map string_bytes coil) (map string_bytes inputs.items))
 HasFault (Sim state save file stimulus) g = HasSettingFault g
 HasFault (Uses file) g = HasProgramFault g.program
 
@@ -320,8 +335,8 @@ Breaks (Causes state moment after limit file coil inputs) g old new =
     BreaksList g (asking moment after limit (string_bytes coil) (map string_bytes inputs.items)) old new × (new.save ≡ old.save)
 Breaks (Groups state moment limit grouping file coil inputs) g old new =
     BreaksGroups g (asking moment None limit (string_bytes coil) (map string_bytes inputs.items)) grouping old new × (new.save ≡ old.save)
-Breaks (Show state moment number medium file inputs) g old new =
-    Shows g (viewing moment number medium (map string_bytes inputs.items)) (PutsPrefix old.out new.out)
+Breaks (Show state moment number medium coil file inputs) g old new =
+    Shows g (viewing moment number medium (option_map string_bytes coil) (map string_bytes inputs.items)) (PutsPrefix old.out new.out)
     × (new.save ≡ old.save) × IsReported old.err new.err fault.Write
 Breaks (Sim state save file stimulus) g old new = BreaksTrace g (is_some save) old new
 Breaks (Uses file) g old new =

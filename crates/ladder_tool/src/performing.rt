@@ -1,6 +1,6 @@
 //! What is done for a request.
 
-ghost use Rattle.std.specs.Prelude.{◌≡◌, ◌≤◌};
+ghost use Rattle.std.specs.Prelude.{◌≡◌, ◌≤◌, option_map, string_bytes};
 ghost use Rattle.ladder_tool.specs.Performs.{IsDone, IsFailed, logs};
 ghost use Rattle.ladder_tool.specs.Setting.{given_by};
 
@@ -13,6 +13,16 @@ use crate::tracing::trace;
 use ladder_text::Sink;
 use ladder_words::Request;
 use std::alloc::Global;
+
+/// The text of an option, where it was given.
+fn text_of(option: &Option<String>) -> Option<&str>
+    ensures { option_map (λ text. text.now) result ≡ option_map string_bytes option.now }
+{
+    match option {
+        Some(text) => Some(text.as_str()),
+        None => None,
+    }
+}
 
 /// Performs a request on its texts: its text on `out`, the line of counts on `err`, and the state that is to be saved on `save`.
 /// Returns the status: 0 where all was written, 1 where a fault stopped it, whose line is on `err`.
@@ -69,6 +79,7 @@ pub fn perform<O: Sink, S: Sink, E: Sink>(
             moment,
             number,
             medium,
+            coil,
             inputs,
             ..
         } => {
@@ -76,6 +87,7 @@ pub fn perform<O: Sink, S: Sink, E: Sink>(
                 moment: *moment,
                 number: *number,
                 medium: *medium,
+                coil: text_of(coil),
                 inputs,
             };
             show(alloc, viewing, texts, out, err)

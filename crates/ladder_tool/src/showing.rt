@@ -3,7 +3,7 @@
 ghost use Rattle.std.specs.Prelude.{◌≡◌, ◌≤◌, ◌⊎◌};
 ghost use Rattle.ladder_text.specs.Log.{PutsAll, PutsPrefix, WriteLog};
 ghost use Rattle.ladder_tool.specs.Asked.{viewing_of};
-ghost use Rattle.ladder_tool.specs.Performs.{HasShowFault, IsReported, Refuses, Shows, logs, style_for};
+ghost use Rattle.ladder_tool.specs.Performs.{HasShowFault, IsReported, Refuses, Shows, coil_refusal, logs, style_for};
 ghost use Rattle.ladder_tool.specs.Setting.{given_by};
 
 use crate::fault::ToolFault;
@@ -11,8 +11,9 @@ use crate::listing::moment;
 use crate::report::report;
 use crate::setting::read_setting;
 use crate::texts::Texts;
-use crate::variables::named_variables;
-use ladder_causes::assignment;
+use crate::variables::shown_variables;
+use ladder_causes::{CauseFault, assignment};
+use ladder_grid::Program;
 use ladder_show::{Scan, ShowFault, Style, write_drawing};
 use ladder_text::Sink;
 use ladder_words::Medium;
@@ -24,6 +25,7 @@ pub(crate) struct Viewing<'a> {
     pub moment: Option<u64>,
     pub number: Option<u64>,
     pub medium: Medium,
+    pub coil: Option<&'a str>,
     pub inputs: &'a [String],
 }
 
@@ -34,6 +36,22 @@ fn style_for(medium: Medium) -> Style
     match medium {
         Medium::Text => Style::Marked,
         Medium::Page => Style::Page,
+    }
+}
+
+/// Whether the variable that is explained is that of a coil.
+fn coil_refusal(program: &Program, coil: Option<usize>) -> Option<CauseFault>
+    ensures { result ≡ coil_refusal program.now coil }
+{
+    match coil {
+        Some(var) => {
+            if program.has_coil(var) {
+                None
+            } else {
+                Some(CauseFault::NotACoil)
+            }
+        }
+        None => None,
     }
 }
 
@@ -56,13 +74,17 @@ pub(crate) fn show<O: Sink, E: Sink>(
         Err(fault) => return report(&fault, err),
     };
     let (program, state) = (&setting.program, &setting.state);
-    let listed = match named_variables(alloc, program.decls(), viewing.inputs, 1) {
-        Ok(listed) => listed,
+    let asked = match shown_variables(alloc, program.decls(), viewing.coil, viewing.inputs) {
+        Ok(asked) => asked,
         Err(fault) => return report(&fault, err),
     };
+    match coil_refusal(program, asked.coil) {
+        Some(fault) => return report(&ToolFault::Cause(fault), err),
+        None => (),
+    }
     let now = moment(viewing.moment, state.moment());
     let number = viewing.number.unwrap_or(0);
-    let inputs = match assignment(alloc, program, state, now, &listed, number) {
+    let inputs = match assignment(alloc, program, state, now, &asked.inputs, number) {
         Ok(inputs) => inputs,
         Err(fault) => return report(&ToolFault::Cause(fault), err),
     };
@@ -72,6 +94,7 @@ pub(crate) fn show<O: Sink, E: Sink>(
         state,
         inputs: &inputs,
         moment: now,
+        coil: asked.coil,
     };
     match write_drawing(alloc, style_for(viewing.medium), scan, out) {
         Ok(_) => 0,

@@ -1,8 +1,8 @@
 //! The variables that arguments name.
 
-ghost use Rattle.std.specs.Prelude.{◌≡◌, ◌∷◌, ◌++◌, ◌+◌, ◌≤◌, IfOk, IfErr, List, Some, ℕ, length, map, string_bytes};
+ghost use Rattle.std.specs.Prelude.{◌≡◌, ◌∷◌, ◌++◌, ◌+◌, ◌≤◌, IfOk, IfErr, List, Some, ℕ, length, map, option_map, string_bytes};
 ghost use Rattle.ladder_tool.specs.Variables.{AreVariables, variable_of};
-ghost use Rattle.ladder_tool.specs.Performs.{HasWordFault};
+ghost use Rattle.ladder_tool.specs.Performs.{HasWordFault, names_in};
 
 use crate::fault::ToolFault;
 use ladder_vars::{Decls, Name, Symbol};
@@ -12,6 +12,13 @@ use std::alloc::Global;
 #[derive(Drop)]
 pub(crate) struct CauseVariables {
     pub coil: usize,
+    pub inputs: Vec<usize>,
+}
+
+/// The variables that a request to show a scan is about: that of the coil that is explained, where one is, and the listed inputs.
+#[derive(Drop)]
+pub(crate) struct ShownVariables {
+    pub coil: Option<usize>,
     pub inputs: Vec<usize>,
 }
 
@@ -45,6 +52,32 @@ pub(crate) fn asked_variables(
     match named_variables(alloc, decls, inputs, 2) {
         Ok(inputs) => Ok(CauseVariables { coil, inputs }),
         Err(fault) => Err(fault),
+    }
+}
+
+/// The variables of all names: as for a list of causes where there is a coil, and otherwise the first INPUT is word 1.
+pub(crate) fn shown_variables(
+    alloc: Global,
+    decls: &Decls,
+    coil: Option<&str>,
+    inputs: &[String],
+) -> Result<ShownVariables, ToolFault>
+    ensures coil { IfOk result (λ a. option_map (variable_of decls.now) (option_map (λ name. name.now) coil.entry) ≡ option_map Some a.coil) }
+    ensures inputs { IfOk result (λ a. AreVariables decls.now (map string_bytes inputs.now) a.inputs.items) }
+    ensures fault { IfErr result (HasWordFault decls.now (names_in (option_map (λ name. name.now) coil.entry) (map string_bytes inputs.now))) }
+{
+    match coil {
+        Some(coil) => match asked_variables(alloc, decls, coil, inputs) {
+            Ok(asked) => Ok(ShownVariables {
+                coil: Some(asked.coil),
+                inputs: asked.inputs,
+            }),
+            Err(fault) => Err(fault),
+        },
+        None => match named_variables(alloc, decls, inputs, 1) {
+            Ok(inputs) => Ok(ShownVariables { coil: None, inputs }),
+            Err(fault) => Err(fault),
+        },
     }
 }
 

@@ -14,9 +14,9 @@ use Rattle.ladder_words.specs.declared.request.Request.TheVariants.{Causes, Chec
 abbrev pub HasText : Text → List Row → List ℕ → Type 0
 HasText id rows text = first_of id rows ≡ Some text
 
--- the path of an option where it was given
-abbrev pub HasPath : Text → List Row → Option (List ℕ) → Type 0
-HasPath id rows path = first_of id rows ≡ path
+-- the text of an option where it was given
+abbrev pub HasOption : Text → List Row → Option (List ℕ) → Type 0
+HasOption id rows text = first_of id rows ≡ text
 
 -- the number of an option where it was given: a decimal number of 64 bits
 abbrev pub HasNumber : Text → List Row → Option ℕ → Type 0
@@ -61,7 +61,7 @@ Asks name rows (Causes state moment after limit file coil inputs) = (name ≡ co
     × (HasFlag (codes "grouped") rows → ⊥)
     × HasForm Table rows
     × HasOrder Given rows
-    × HasPath (codes "state") rows (option_map string_bytes state)
+    × HasOption (codes "state") rows (option_map string_bytes state)
     × HasNumber (codes "at") rows moment
     × HasNumber (codes "after") rows after
     × HasNumber (codes "limit") rows limit
@@ -73,27 +73,36 @@ Asks name rows (Groups state moment limit grouping file coil inputs) = (name ≡
     × HasForm grouping.form rows
     × HasOrder grouping.order rows
     × MayHaveLimit grouping.form limit
-    × HasPath (codes "state") rows (option_map string_bytes state)
+    × HasOption (codes "state") rows (option_map string_bytes state)
     × HasNumber (codes "at") rows moment
     × HasNumber (codes "after") rows None
     × HasNumber (codes "limit") rows limit
     × HasText (codes "file") rows (string_bytes file)
     × HasText (codes "coil") rows (string_bytes coil)
     × (unwrap_or (all_of (codes "inputs") rows) [] ≡ map string_bytes inputs.items)
-Asks name rows (Show state moment number medium file inputs) = (name ≡ codes "show")
-    × HasPath (codes "state") rows (option_map string_bytes state)
+Asks name rows (Show state moment number medium coil file inputs) = (name ≡ codes "show")
+    × HasOption (codes "state") rows (option_map string_bytes state)
     × HasNumber (codes "at") rows moment
     × HasNumber (codes "number") rows number
     × HasMedium medium rows
+    × HasOption (codes "coil") rows (option_map string_bytes coil)
     × HasText (codes "file") rows (string_bytes file)
     × (unwrap_or (all_of (codes "inputs") rows) [] ≡ map string_bytes inputs.items)
 Asks name rows (Sim state save file stimulus) = (name ≡ codes "sim")
-    × HasPath (codes "state") rows (option_map string_bytes state)
-    × HasPath (codes "save") rows (option_map string_bytes save)
+    × HasOption (codes "state") rows (option_map string_bytes state)
+    × HasOption (codes "save") rows (option_map string_bytes save)
     × HasText (codes "file") rows (string_bytes file)
     × HasText (codes "stimulus") rows (string_bytes stimulus)
 Asks name rows (Uses file) = (name ≡ codes "uses") × HasText (codes "file") rows (string_bytes file)
 
+-- the subcommand's name and values ask for no request
+abbrev pub AsksNone : Text → List Row → Type 0
+AsksNone name rows = (r : Request) → Asks name rows r → ⊥
+
 -- the command takes the arguments, and they ask this
 abbrev pub AsksBy : App → List Text → Request → Type 0
 AsksBy app words r = (name : Text) × (rows : List Row) × (subcommand_of app words ≡ Some (name, rows)) × Asks name rows r
+
+-- the arguments ask for no request
+abbrev pub AsksNothing : App → List Text → Type 0
+AsksNothing app words = (r : Request) → AsksBy app words r → ⊥

@@ -9,7 +9,7 @@ use crate::help::{
     AFTER_HELP, AT_HELP, CAUSES_ABOUT, CHECK_ABOUT, COIL_HELP, FAULTS, FILE_HELP, GROUPED_HELP,
     HTML_HELP, INPUTS_HELP, LADDER_ABOUT, LIMIT_HELP, NUMBER_HELP, ORDER_HELP, SAVE_HELP,
     SHOW_ABOUT, SHOWN_HELP, SIM_ABOUT, STATE_HELP, STATEMENT_HELP, STIMULUS_HELP, TERMS_HELP,
-    USES_ABOUT,
+    USES_ABOUT, WHY_HELP,
 };
 use clap::{Arg, ArgAction, Command, value_parser};
 use std::alloc::{AllocError, Global};
@@ -134,6 +134,7 @@ fn show<'a>(alloc: Global) -> Result<Command<'a>, AllocError>
     ensures { IfOk result (IsApp show_app) }
 {
     let command = show_options(alloc)?;
+    let command = add(command, option(alloc, "coil", "COIL", WHY_HELP))?;
     let command = add(command, place(alloc, "file", "FILE", FILE_HELP))?;
     add(command, list(alloc, "inputs", "INPUT", SHOWN_HELP))
 }

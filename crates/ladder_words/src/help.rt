@@ -57,6 +57,9 @@ pub(crate) const NUMBER_HELP: &str =
 pub(crate) const HTML_HELP: &str =
     "Writes one page of HTML, with lines in place of the characters, for a browser and for printing";
 
+pub(crate) const WHY_HELP: &str =
+    "Writes below the drawing whether there is power at each coil of this variable, and if not, where power ends";
+
 pub(crate) const SHOWN_HELP: &str =
     "The inputs of that list, at most 32, the first one most significant; the others keep what the state stores";
 

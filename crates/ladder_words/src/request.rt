@@ -92,6 +92,8 @@ pub enum Request {
         number: Option<u64>,
         /// How the drawing is written.
         medium: Medium,
+        /// The name of the variable of whose coils it is written why they have power, or none.
+        coil: Option<String>,
         /// The file of the program text.
         file: String,
         /// The names of the listed inputs, the first one most significant.

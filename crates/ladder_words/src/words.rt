@@ -1,10 +1,11 @@
 //! From the arguments of a command line to a request.
 
-ghost use Rattle.std.specs.Prelude.{◌≡◌, [], true, false, codes, IfSome, IsSome, OnOk, IfOk, IfErr, map, option_map, string_bytes, unwrap_or, Some};
-ghost use Rattle.clap.specs.Words.{all_of, first_of, found_of, rows_of, subcommand_rows_of};
+ghost use Rattle.std.specs.Prelude.{◌≡◌, ℕ, [], true, false, codes, IfSome, IsSome, OnOk, IfOk, IfErr, map, option_map, string_bytes, unwrap_or, None, Option, Some};
+ghost use Rattle.clap.specs.Words.{all_of, first_of, found_of, kind_of, rows_of, subcommand_rows_of};
 ghost use Rattle.clap.specs.Words.{fault_of as clap_fault};
 ghost use Rattle.ladder_words.specs.CommandLine.{ladder_app};
-ghost use Rattle.ladder_words.specs.Asking.{Asks, AsksBy, HasFlag, HasForm, HasMedium, HasNumber, HasOrder, HasPath, IsNamed, MayHaveLimit};
+ghost use Rattle.ladder_words.specs.Asking.{Asks, AsksBy, AsksNone, HasFlag, HasForm, HasMedium, HasNumber, HasOrder, HasOption, IsNamed, MayHaveLimit};
+ghost use Rattle.ladder_words.specs.Faults.{IsFaultOf, SaysOf, UsageWhere};
 
 use crate::command::ladder;
 use crate::request::{Form, Grouping, InputOrder, Medium, Request, WordFault};
@@ -16,14 +17,17 @@ use std::alloc::Global;
 ///
 /// # Errors
 ///
-/// `Usage` where `clap` finds a fault, where groups are to begin after a number, where a form or an order is asked for without groups,
-/// or both forms, or a statement with a limit, or an order that has another name; `Help` with its text where help is asked for;
-/// `Memory` when out of memory.
+/// `Usage` where `clap` finds a fault other than that help is asked for, where groups are to begin after a number, where a form or the
+/// order `auto` is asked for without groups, or both forms, or a statement with a limit, or an order that has another name, and nowhere
+/// else; `Help` with its text where help is asked for; `Memory` when out of memory.
 pub fn read_words(alloc: Global, words: Vec<String>) -> Result<Request, WordFault>
     ensures asks { IfOk result (AsksBy ladder_app (map string_bytes words.items)) }
 
     // Only arguments in which `clap` finds no fault are a request.
     ensures accepted { OnOk result (clap_fault ladder_app (map string_bytes words.items) ≡ []) }
+
+    // A usage fault comes only where `clap` finds one or the arguments ask for no request, and help only where it is asked for.
+    ensures fault { IfErr result (IsFaultOf ladder_app (map string_bytes words.items)) }
 {
     let Ok(command) = ladder(alloc) else {
         return Err(WordFault::Memory);
@@ -34,7 +38,9 @@ pub fn read_words(alloc: Global, words: Vec<String>) -> Result<Request, WordFaul
     }
 }
 
-fn fault_of(alloc: Global, error: &clap::Error) -> WordFault {
+fn fault_of(alloc: Global, error: &clap::Error) -> WordFault
+    ensures { SaysOf (kind_of error.now) result }
+{
     match error.kind() {
         ErrorKind::OutOfMemory => WordFault::Memory,
         ErrorKind::DisplayHelp => match error.to_string(alloc) {
@@ -46,7 +52,8 @@ fn fault_of(alloc: Global, error: &clap::Error) -> WordFault {
 }
 
 fn request_in(alloc: Global, matches: &ArgMatches<'_>) -> Result<Request, WordFault>
-    ensures { IfOk result (λ r. IfSome (subcommand_rows_of matches.now) (λ p. Asks p.0 p.1 r) × IsSome (subcommand_rows_of matches.now)) }
+    ensures ok { IfOk result (λ r. IfSome (subcommand_rows_of matches.now) (λ p. Asks p.0 p.1 r) × IsSome (subcommand_rows_of matches.now)) }
+    ensures err { IfErr result (UsageWhere (IfSome (subcommand_rows_of matches.now) (λ p. AsksNone p.0 p.1))) }
 {
     match matches.subcommand() {
         Some((name, found)) => request_of(alloc, name, found),
@@ -55,7 +62,8 @@ fn request_in(alloc: Global, matches: &ArgMatches<'_>) -> Result<Request, WordFa
 }
 
 fn request_of(alloc: Global, name: &str, found: &ArgMatches<'_>) -> Result<Request, WordFault>
-    ensures { IfOk result (Asks name.now (rows_of (found_of found.now))) }
+    ensures ok { IfOk result (Asks name.now (rows_of (found_of found.now))) }
+    ensures err { IfErr result (UsageWhere (AsksNone name.now (rows_of (found_of found.now)))) }
 {
     match name {
         "check" => {
@@ -74,7 +82,8 @@ fn request_of(alloc: Global, name: &str, found: &ArgMatches<'_>) -> Result<Reque
 }
 
 fn causes_request(alloc: Global, found: &ArgMatches<'_>) -> Result<Request, WordFault>
-    ensures { IfOk result (Asks (codes "causes") (rows_of (found_of found.now))) }
+    ensures ok { IfOk result (Asks (codes "causes") (rows_of (found_of found.now))) }
+    ensures err { IfErr result (UsageWhere (AsksNone (codes "causes") (rows_of (found_of found.now)))) }
 {
     if is_set(found, "grouped") {
         return groups_request(alloc, found);
@@ -84,13 +93,14 @@ fn causes_request(alloc: Global, found: &ArgMatches<'_>) -> Result<Request, Word
 
 fn list_request(alloc: Global, found: &ArgMatches<'_>) -> Result<Request, WordFault>
     requires { HasFlag (codes "grouped") (rows_of (found_of found.now)) → ⊥ }
-    ensures { IfOk result (Asks (codes "causes") (rows_of (found_of found.now))) }
+    ensures ok { IfOk result (Asks (codes "causes") (rows_of (found_of found.now))) }
+    ensures err { IfErr result (UsageWhere (AsksNone (codes "causes") (rows_of (found_of found.now)))) }
 {
     // A form and an order are those of groups.
     if form_of(found)? != Form::Table || order_of(found)? != InputOrder::Given {
         return Err(WordFault::Usage);
     }
-    let state = path(alloc, found, "state")?;
+    let state = optional(alloc, found, "state")?;
     let moment = number(found, "at")?;
     let after = number(found, "after")?;
     let limit = number(found, "limit")?;
@@ -110,7 +120,8 @@ fn list_request(alloc: Global, found: &ArgMatches<'_>) -> Result<Request, WordFa
 
 fn groups_request(alloc: Global, found: &ArgMatches<'_>) -> Result<Request, WordFault>
     requires { HasFlag (codes "grouped") (rows_of (found_of found.now)) }
-    ensures { IfOk result (Asks (codes "causes") (rows_of (found_of found.now))) }
+    ensures ok { IfOk result (Asks (codes "causes") (rows_of (found_of found.now))) }
+    ensures err { IfErr result (UsageWhere (AsksNone (codes "causes") (rows_of (found_of found.now)))) }
 {
     let form = form_of(found)?;
     let order = order_of(found)?;
@@ -120,7 +131,7 @@ fn groups_request(alloc: Global, found: &ArgMatches<'_>) -> Result<Request, Word
         return Err(WordFault::Usage);
     }
     Ok(Request::Groups {
-        state: path(alloc, found, "state")?,
+        state: optional(alloc, found, "state")?,
         moment: number(found, "at")?,
         limit,
         grouping: Grouping { form, order },
@@ -132,7 +143,8 @@ fn groups_request(alloc: Global, found: &ArgMatches<'_>) -> Result<Request, Word
 
 /// Whether a statement is to end after so many groups.
 fn is_cut(form: Form, limit: Option<u64>) -> bool
-    ensures { result ≡ false → MayHaveLimit form limit }
+    ensures whole { result ≡ false → MayHaveLimit form limit }
+    ensures cut { result ≡ true → MayHaveLimit form limit → ⊥ }
 {
     match form {
         Form::Statement => limit.is_some(),
@@ -142,7 +154,8 @@ fn is_cut(form: Form, limit: Option<u64>) -> bool
 
 /// The form that the flags ask for.
 fn form_of(found: &ArgMatches<'_>) -> Result<Form, WordFault>
-    ensures { IfOk result (λ f. HasForm f (rows_of (found_of found.now))) }
+    ensures ok { IfOk result (λ f. HasForm f (rows_of (found_of found.now))) }
+    ensures err { IfErr result (UsageWhere ((f : Form) → HasForm f (rows_of (found_of found.now)) → ⊥)) }
 {
     match (is_set(found, "terms"), is_set(found, "st")) {
         (false, false) => Ok(Form::Table),
@@ -154,7 +167,8 @@ fn form_of(found: &ArgMatches<'_>) -> Result<Form, WordFault>
 
 /// The order of the inputs that an option asks for.
 fn order_of(found: &ArgMatches<'_>) -> Result<InputOrder, WordFault>
-    ensures { IfOk result (λ o. HasOrder o (rows_of (found_of found.now))) }
+    ensures ok { IfOk result (λ o. HasOrder o (rows_of (found_of found.now))) }
+    ensures err { IfErr result (UsageWhere ((o : InputOrder) → HasOrder o (rows_of (found_of found.now)) → ⊥)) }
 {
     match found.get_str("order") {
         None => Ok(InputOrder::Given),
@@ -164,7 +178,8 @@ fn order_of(found: &ArgMatches<'_>) -> Result<InputOrder, WordFault>
 
 /// The order with this name.
 fn order_named(name: &str) -> Result<InputOrder, WordFault>
-    ensures { IfOk result (IsNamed name.now) }
+    ensures ok { IfOk result (IsNamed name.now) }
+    ensures err { IfErr result (UsageWhere ((o : InputOrder) → IsNamed name.now o → ⊥)) }
 {
     match name {
         "given" => Ok(InputOrder::Given),
@@ -174,12 +189,14 @@ fn order_named(name: &str) -> Result<InputOrder, WordFault>
 }
 
 fn show_request(alloc: Global, found: &ArgMatches<'_>) -> Result<Request, WordFault>
-    ensures { IfOk result (Asks (codes "show") (rows_of (found_of found.now))) }
+    ensures ok { IfOk result (Asks (codes "show") (rows_of (found_of found.now))) }
+    ensures err { IfErr result (UsageWhere (AsksNone (codes "show") (rows_of (found_of found.now)))) }
 {
-    let state = path(alloc, found, "state")?;
+    let state = optional(alloc, found, "state")?;
     let moment = number(found, "at")?;
     let number = number(found, "number")?;
     let medium = medium_of(found);
+    let coil = optional(alloc, found, "coil")?;
     let file = text(alloc, found, "file")?;
     let inputs = texts(alloc, found, "inputs")?;
     Ok(Request::Show {
@@ -187,6 +204,7 @@ fn show_request(alloc: Global, found: &ArgMatches<'_>) -> Result<Request, WordFa
         moment,
         number,
         medium,
+        coil,
         file,
         inputs,
     })
@@ -204,10 +222,11 @@ fn medium_of(found: &ArgMatches<'_>) -> Medium
 }
 
 fn sim_request(alloc: Global, found: &ArgMatches<'_>) -> Result<Request, WordFault>
-    ensures { IfOk result (Asks (codes "sim") (rows_of (found_of found.now))) }
+    ensures ok { IfOk result (Asks (codes "sim") (rows_of (found_of found.now))) }
+    ensures err { IfErr result (UsageWhere (AsksNone (codes "sim") (rows_of (found_of found.now)))) }
 {
-    let state = path(alloc, found, "state")?;
-    let save = path(alloc, found, "save")?;
+    let state = optional(alloc, found, "state")?;
+    let save = optional(alloc, found, "save")?;
     let file = text(alloc, found, "file")?;
     let stimulus = text(alloc, found, "stimulus")?;
     Ok(Request::Sim {
@@ -229,9 +248,10 @@ fn is_set(found: &ArgMatches<'_>, id: &str) -> bool
     }
 }
 
-/// The path of an option, where it was given.
-fn path(alloc: Global, found: &ArgMatches<'_>, id: &str) -> Result<Option<String>, WordFault>
-    ensures { IfOk result (λ o. HasPath id.now (rows_of (found_of found.now)) (option_map string_bytes o)) }
+/// The text of an option, where it was given.
+fn optional(alloc: Global, found: &ArgMatches<'_>, id: &str) -> Result<Option<String>, WordFault>
+    ensures ok { IfOk result (λ o. HasOption id.now (rows_of (found_of found.now)) (option_map string_bytes o)) }
+    ensures err { IfErr result (λ e. e ≡ WordFault.Memory) }
 {
     match found.get_str(id) {
         Some(text) => {
@@ -244,7 +264,8 @@ fn path(alloc: Global, found: &ArgMatches<'_>, id: &str) -> Result<Option<String
 
 /// The number of an option, where it was given.
 fn number(found: &ArgMatches<'_>, id: &str) -> Result<Option<u64>, WordFault>
-    ensures { IfOk result (HasNumber id.now (rows_of (found_of found.now))) }
+    ensures ok { IfOk result (HasNumber id.now (rows_of (found_of found.now))) }
+    ensures err { IfErr result (UsageWhere ((o : Option ℕ) → HasNumber id.now (rows_of (found_of found.now)) o → ⊥)) }
 {
     match found.try_get_one::<u64>(id) {
         Ok(number) => Ok(number),
@@ -253,7 +274,8 @@ fn number(found: &ArgMatches<'_>, id: &str) -> Result<Option<u64>, WordFault>
 }
 
 fn text(alloc: Global, found: &ArgMatches<'_>, id: &str) -> Result<String, WordFault>
-    ensures { IfOk result (λ s. first_of id.now (rows_of (found_of found.now)) ≡ Some (string_bytes s)) }
+    ensures ok { IfOk result (λ s. first_of id.now (rows_of (found_of found.now)) ≡ Some (string_bytes s)) }
+    ensures err { IfErr result (UsageWhere (first_of id.now (rows_of (found_of found.now)) ≡ None)) }
 {
     match found.get_str(id) {
         Some(text) => copied(alloc, text),

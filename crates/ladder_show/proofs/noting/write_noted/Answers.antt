@@ -5,4 +5,4 @@ use Rattle.ladder_show.proofs.noting.write_noted.Goals as goal
 
 pub returns : goal.returns
 returns g c =
-    flush_last _ _ _ _ (of_picture (whole_of c.args.picture.style) c.args.picture) _ (rw c.new-block.ensures at c.in_ok-add_noted.ensures) c.flush.ensures.wrote
+    flush_last _ _ _ _ (of_picture (whole_of c.args.picture.style c.args.picture.coil) c.args.picture) _ (rw c.new-block.ensures at c.in_ok-add_noted.ensures) c.flush.ensures.wrote

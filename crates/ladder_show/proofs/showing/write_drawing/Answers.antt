@@ -19,7 +19,7 @@ write_noted-requires g c =
 
 pub returns-in-Ok-write_noted-clause-wrote : goal.returns-in-Ok-write_noted-clause-wrote
 returns-in-Ok-write_noted-clause-wrote g c = record {
-  text = whole_of c.args.style c.args.scan.program.now c.in-Ok.sight.state c.deref.result.now c.deref-2.result.now (map now c.deref-3.result.now);
+  text = whole_of c.args.style c.args.scan.coil c.args.scan.program.now c.in-Ok.sight.state c.deref.result.now c.deref-2.result.now (map now c.deref-3.result.now);
   is = is_drawn c.args.style (scan_of c.args.scan) c.in-Ok-outline_of.outline.place
       c.in-Ok-outline_of.outline.parts.items _ c.in-Ok.sight.marks.items _ _ _ c.behind.result.now c.in-Ok-outline_of.ensures.found c.in-Ok.ensures.state
       c.deref.ensures.value c.deref-2.ensures.value c.in-Ok.ensures.marks
@@ -29,7 +29,7 @@ returns-in-Ok-write_noted-clause-wrote g c = record {
 
 pub returns-in-Err-clause-fails : goal.returns-in-Err-clause-fails
 returns-in-Err-clause-fails g c = record {
-  text = whole_of c.args.style c.args.scan.program.now c.in-Ok.sight.state c.deref.result.now c.deref-2.result.now (map now c.deref-3.result.now);
+  text = whole_of c.args.style c.args.scan.coil c.args.scan.program.now c.in-Ok.sight.state c.deref.result.now c.deref-2.result.now (map now c.deref-3.result.now);
   is = is_drawn c.args.style (scan_of c.args.scan) c.in-Ok-outline_of.outline.place
       c.in-Ok-outline_of.outline.parts.items _ c.in-Ok.sight.marks.items _ _ _ c.behind.result.now c.in-Ok-outline_of.ensures.found c.in-Ok.ensures.state
       c.deref.ensures.value c.deref-2.ensures.value c.in-Ok.ensures.marks

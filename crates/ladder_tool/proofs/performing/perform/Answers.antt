@@ -20,4 +20,4 @@ returns-in-Groups-clause-failed g c = λ status.
 
 pub returns-in-Show-clause-failed : goal.returns-in-Show-clause-failed
 returns-in-Show-clause-failed g c = λ status.
-    rw c.in-Show.is (with_second refl (rw c.deref-in-Show.ensures.value at c.show.ensures.failed (g.S.Sink.log c.args.save.now) status))
+    rw c.in-Show.is (with_second refl (rw (c.text_of.ensures, c.deref-in-Show.ensures.value) at c.show.ensures.failed (g.S.Sink.log c.args.save.now) status))

@@ -1,0 +1,52 @@
+-- Why the arguments ask for no request.
+use Rattle.std.proofs.Common.{◌≡◌, ◌∙◌, ℕ, List, Option, None, Some, codes, inl, inr, sym}
+use Rattle.clap.specs.Words.{Row, Text, first_of}
+use Rattle.ladder_words.specs.Asking.{AsksNone, HasForm, HasNumber, HasOrder, IsNamed}
+use Rattle.ladder_words.specs.Faults.{UsageWhere}
+use Rattle.ladder_words.specs.declared.request.Form.{Form}
+use Rattle.ladder_words.specs.declared.request.Form.TheVariants.{Table}
+use Rattle.ladder_words.specs.declared.request.InputOrder.{InputOrder}
+use Rattle.ladder_words.specs.declared.request.InputOrder.TheVariants.{Given}
+use Rattle.ladder_words.specs.declared.request.Request.TheVariants.{Causes, Check, Groups, Show, Sim, Uses}
+use Rattle.ladder_words.specs.declared.request.WordFault.{WordFault}
+use Rattle.ladder_words.specs.declared.request.WordFault.TheVariants.{Help, Memory, Usage}
+
+pub usage_weaker : {P Q : Type 0} (e : WordFault) → (P → Q) → UsageWhere P e → UsageWhere Q e
+usage_weaker Usage f p = f p
+usage_weaker (Help text) f p = absurd p
+usage_weaker Memory f p = tt
+
+pub out_of_memory : (P : Type 0) (e : WordFault) → e ≡ Memory → UsageWhere P e
+out_of_memory P e m = rw m tt
+
+pub no_order : (rows : List Row) (text : Text) → first_of (codes "order") rows ≡ Some text → ((o : InputOrder) → IsNamed text o → ⊥)
+    → (o : InputOrder) → HasOrder o rows → ⊥
+no_order rows text is none o (inl h) = let bad = sym is ∙ h.0 in cc
+no_order rows text is none o (inr h) =
+    let both = sym h.1 ∙ is in
+    let same : h.0 ≡ text = cc in
+    none o (rw same at h.2)
+
+pub no_causes_of_form : (rows : List Row) → ((f : Form) → HasForm f rows → ⊥) → AsksNone (codes "causes") rows
+no_causes_of_form rows none (Check file) h = let other = h.0 in cc
+no_causes_of_form rows none (Causes state moment after limit file coil inputs) h = none Table h.2
+no_causes_of_form rows none (Groups state moment limit grouping file coil inputs) h = none grouping.form h.2
+no_causes_of_form rows none (Show state moment number medium coil file inputs) h = let other = h.0 in cc
+no_causes_of_form rows none (Sim state save file stimulus) h = let other = h.0 in cc
+no_causes_of_form rows none (Uses file) h = let other = h.0 in cc
+
+pub no_causes_of_order : (rows : List Row) → ((o : InputOrder) → HasOrder o rows → ⊥) → AsksNone (codes "causes") rows
+no_causes_of_order rows none (Check file) h = let other = h.0 in cc
+no_causes_of_order rows none (Causes state moment after limit file coil inputs) h = none Given h.3
+no_causes_of_order rows none (Groups state moment limit grouping file coil inputs) h = none grouping.order h.3
+no_causes_of_order rows none (Show state moment number medium coil file inputs) h = let other = h.0 in cc
+no_causes_of_order rows none (Sim state save file stimulus) h = let other = h.0 in cc
+no_causes_of_order rows none (Uses file) h = let other = h.0 in cc
+
+pub no_causes_of_start : (rows : List Row) → ((o : Option ℕ) → HasNumber (codes "after") rows o → ⊥) → AsksNone (codes "causes") rows
+no_causes_of_start rows none (Check file) h = let other = h.0 in cc
+no_causes_of_start rows none (Causes state moment after limit file coil inputs) h = none after h.6
+no_causes_of_start rows none (Groups state moment limit grouping file coil inputs) h = none None h.7
+no_causes_of_start rows none (Show state moment number medium coil file inputs) h = let other = h.0 in cc
+no_causes_of_start rows none (Sim state save file stimulus) h = let other = h.0 in cc
+no_causes_of_start rows none (Uses file) h = let other = h.0 in cc
