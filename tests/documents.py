@@ -25,7 +25,8 @@ import sys
 import tempfile
 
 ROOT = pathlib.Path(__file__).resolve().parent.parent
-DOCUMENTS = ["README.md", "docs/DRAWING.md", "docs/FAULTS.md", "docs/TUTORIAL.md", "examples/*/README.md", "man/ladder.1"]
+DOCUMENTS = ["README.md", "docs/DRAWING.md", "docs/FAULTS.md", "docs/TUTORIAL.md", "examples/*/README.md", "examples/*/PICTURES.md",
+             "man/ladder.1"]
 SUBCOMMANDS = ["check", "causes", "show", "sim", "uses"]
 # the faults that a text or a command can show, and those that have a section alone
 SHOWN = [f"V{number}" for number in range(1, 9)] + [f"G{number}" for number in range(1, 16)]
