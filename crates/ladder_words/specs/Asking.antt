@@ -9,7 +9,7 @@ use Rattle.ladder_words.specs.declared.request.InputOrder.TheVariants.{Given, Si
 use Rattle.ladder_words.specs.declared.request.Medium.{Medium}
 use Rattle.ladder_words.specs.declared.request.Medium.TheVariants as medium
 use Rattle.ladder_words.specs.declared.request.Request.{Request}
-use Rattle.ladder_words.specs.declared.request.Request.TheVariants.{Causes, Check, Groups, Show, Sim, Uses}
+use Rattle.ladder_words.specs.declared.request.Request.TheVariants.{Causes, Check, Film, Groups, Show, Sim, Uses}
 
 abbrev pub HasText : Text → List Row → List ℕ → Type 0
 HasText id rows text = first_of id rows ≡ Some text
@@ -81,6 +81,7 @@ Asks name rows (Groups state moment limit grouping file coil inputs) = (name ≡
     × HasText (codes "coil") rows (string_bytes coil)
     × (unwrap_or (all_of (codes "inputs") rows) [] ≡ map string_bytes inputs.items)
 Asks name rows (Show state moment number medium coil file inputs) = (name ≡ codes "show")
+    × HasOption (codes "stimulus") rows None
     × HasOption (codes "state") rows (option_map string_bytes state)
     × HasNumber (codes "at") rows moment
     × HasNumber (codes "number") rows number
@@ -88,6 +89,15 @@ Asks name rows (Show state moment number medium coil file inputs) = (name ≡ co
     × HasOption (codes "coil") rows (option_map string_bytes coil)
     × HasText (codes "file") rows (string_bytes file)
     × (unwrap_or (all_of (codes "inputs") rows) [] ≡ map string_bytes inputs.items)
+Asks name rows (Film state medium coil file stimulus) = (name ≡ codes "show")
+    × HasOption (codes "stimulus") rows (Some (string_bytes stimulus))
+    × HasNumber (codes "at") rows None
+    × HasNumber (codes "number") rows None
+    × (unwrap_or (all_of (codes "inputs") rows) [] ≡ [])
+    × HasOption (codes "state") rows (option_map string_bytes state)
+    × HasMedium medium rows
+    × HasOption (codes "coil") rows (option_map string_bytes coil)
+    × HasText (codes "file") rows (string_bytes file)
 Asks name rows (Sim state save file stimulus) = (name ≡ codes "sim")
     × HasOption (codes "state") rows (option_map string_bytes state)
     × HasOption (codes "save") rows (option_map string_bytes save)

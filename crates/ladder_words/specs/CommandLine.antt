@@ -1,7 +1,7 @@
 -- The command line, as clap's definitions of a simple command read it: `ladder check FILE`,
 -- `ladder causes [--state STATE] [--at MS] [--after N] [--limit N] [--grouped] [--terms] [--st] FILE COIL [INPUT]...`,
--- `ladder show [--state STATE] [--at MS] [--number N] [--html] [--coil COIL] FILE [INPUT]...`, `ladder sim [--state STATE] [--save STATE] FILE STIMULUS` and
--- `ladder uses FILE`.
+-- `ladder show [--state STATE] [--at MS] [--number N] [--stimulus STIMULUS] [--html] [--coil COIL] FILE [INPUT]...`,
+-- `ladder sim [--state STATE] [--save STATE] FILE STIMULUS` and `ladder uses FILE`.
 use Rattle.std.specs.Prelude.{◌≡◌, Some, codes, true, false}
 use Rattle.clap.specs.Words.{App, Rule, Text, app_of, new_app, new_rule, with_rule, with_subcommand}
 use Rattle.clap.specs.declared.builder.ArgAction.TheVariants.{Append, SetTrue}
@@ -61,7 +61,8 @@ show_options = with_rule (with_rule (with_rule (with_rule (new_app (codes "show"
     (flag_rule (codes "html"))
 
 abbrev pub show_app : App
-show_app = with_rule (with_rule (with_rule show_options
+show_app = with_rule (with_rule (with_rule (with_rule show_options
+    (text_rule (codes "stimulus")))
     (text_rule (codes "coil")))
     (place_rule (codes "file")))
     (list_rule (codes "inputs"))

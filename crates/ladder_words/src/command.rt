@@ -6,10 +6,10 @@ ghost use Rattle.clap.specs.declared.builder.Command.TheViews.{out-Command};
 ghost use Rattle.ladder_words.specs.CommandLine.{IsApp, causes_app, causes_forms, causes_options, file_app, flag_rule, ladder_app, list_rule, needs_subcommand, number_rule, text_rule, place_rule, show_app, show_options, sim_app};
 
 use crate::help::{
-    AFTER_HELP, AT_HELP, CAUSES_ABOUT, CHECK_ABOUT, COIL_HELP, FAULTS, FILE_HELP, GROUPED_HELP,
-    HTML_HELP, INPUTS_HELP, LADDER_ABOUT, LIMIT_HELP, NUMBER_HELP, ORDER_HELP, SAVE_HELP,
-    SHOW_ABOUT, SHOWN_HELP, SIM_ABOUT, STATE_HELP, STATEMENT_HELP, STIMULUS_HELP, TERMS_HELP,
-    USES_ABOUT, WHY_HELP,
+    AFTER_HELP, AT_HELP, CAUSES_ABOUT, CHECK_ABOUT, COIL_HELP, FAULTS, FILE_HELP, FILM_HELP,
+    GROUPED_HELP, HTML_HELP, INPUTS_HELP, LADDER_ABOUT, LIMIT_HELP, NUMBER_HELP, ORDER_HELP,
+    SAVE_HELP, SHOW_ABOUT, SHOWN_HELP, SIM_ABOUT, STATE_HELP, STATEMENT_HELP, STIMULUS_HELP,
+    TERMS_HELP, USES_ABOUT, WHY_HELP,
 };
 use clap::{Arg, ArgAction, Command, value_parser};
 use std::alloc::{AllocError, Global};
@@ -134,6 +134,7 @@ fn show<'a>(alloc: Global) -> Result<Command<'a>, AllocError>
     ensures { IfOk result (IsApp show_app) }
 {
     let command = show_options(alloc)?;
+    let command = add(command, option(alloc, "stimulus", "STIMULUS", FILM_HELP))?;
     let command = add(command, option(alloc, "coil", "COIL", WHY_HELP))?;
     let command = add(command, place(alloc, "file", "FILE", FILE_HELP))?;
     add(command, list(alloc, "inputs", "INPUT", SHOWN_HELP))

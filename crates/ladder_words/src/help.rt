@@ -54,6 +54,9 @@ pub(crate) const LIMIT_HELP: &str = "Lists at most N rows";
 pub(crate) const NUMBER_HELP: &str =
     "The number of the row that a list of causes has for these inputs; without it 0, all of them OFF";
 
+pub(crate) const FILM_HELP: &str =
+    "Shows one scan for each record of a stimulus, as `ladder sim` makes it; at most 1000 records; not with --at, --number or INPUT";
+
 pub(crate) const HTML_HELP: &str =
     "Writes one page of HTML, with lines in place of the characters, for a browser and for printing";
 

@@ -99,6 +99,19 @@ pub enum Request {
         /// The names of the listed inputs, the first one most significant.
         inputs: Vec<String>,
     },
+    /// The drawings of a stimulus: one scan, with its power flow, for each of its records.
+    Film {
+        /// The file of the state in which the first scan begins; the fresh one where there is none.
+        state: Option<String>,
+        /// How the drawings are written.
+        medium: Medium,
+        /// The name of the variable of whose coils it is written why they have power, or none.
+        coil: Option<String>,
+        /// The file of the program text.
+        file: String,
+        /// The file of the stimulus.
+        stimulus: String,
+    },
     /// The trace of a stimulus: one scan for each of its records.
     Sim {
         /// The file of the state in which the first scan begins; the fresh one where there is none.

@@ -18,8 +18,8 @@ use std::alloc::Global;
 /// # Errors
 ///
 /// `Usage` where `clap` finds a fault other than that help is asked for, where groups are to begin after a number, where a form or the
-/// order `auto` is asked for without groups, or both forms, or a statement with a limit, or an order that has another name, and nowhere
-/// else; `Help` with its text where help is asked for; `Memory` when out of memory.
+/// order `auto` is asked for without groups, or both forms, or a statement with a limit, or an order that has another name, or a stimulus
+/// is to be shown with a moment, a number or listed inputs, and nowhere else; `Help` with its text where help is asked for; `Memory` when out of memory.
 pub fn read_words(alloc: Global, words: Vec<String>) -> Result<Request, WordFault>
     ensures asks { IfOk result (AsksBy ladder_app (map string_bytes words.items)) }
 
@@ -192,6 +192,17 @@ fn show_request(alloc: Global, found: &ArgMatches<'_>) -> Result<Request, WordFa
     ensures ok { IfOk result (Asks (codes "show") (rows_of (found_of found.now))) }
     ensures err { IfErr result (UsageWhere (AsksNone (codes "show") (rows_of (found_of found.now)))) }
 {
+    match optional(alloc, found, "stimulus")? {
+        Some(stimulus) => film_request(alloc, found, stimulus),
+        None => scan_request(alloc, found),
+    }
+}
+
+fn scan_request(alloc: Global, found: &ArgMatches<'_>) -> Result<Request, WordFault>
+    requires { HasOption (codes "stimulus") (rows_of (found_of found.now)) None }
+    ensures ok { IfOk result (Asks (codes "show") (rows_of (found_of found.now))) }
+    ensures err { IfErr result (UsageWhere (AsksNone (codes "show") (rows_of (found_of found.now)))) }
+{
     let state = optional(alloc, found, "state")?;
     let moment = number(found, "at")?;
     let number = number(found, "number")?;
@@ -207,6 +218,29 @@ fn show_request(alloc: Global, found: &ArgMatches<'_>) -> Result<Request, WordFa
         coil,
         file,
         inputs,
+    })
+}
+
+fn film_request(
+    alloc: Global,
+    found: &ArgMatches<'_>,
+    stimulus: String,
+) -> Result<Request, WordFault>
+    requires { HasOption (codes "stimulus") (rows_of (found_of found.now)) (Some (string_bytes stimulus)) }
+    ensures ok { IfOk result (Asks (codes "show") (rows_of (found_of found.now))) }
+    ensures err { IfErr result (UsageWhere (AsksNone (codes "show") (rows_of (found_of found.now)))) }
+{
+    let inputs = texts(alloc, found, "inputs")?;
+    // Each record has its moment and its inputs.
+    if number(found, "at")?.is_some() || number(found, "number")?.is_some() || !inputs.is_empty() {
+        return Err(WordFault::Usage);
+    }
+    Ok(Request::Film {
+        state: optional(alloc, found, "state")?,
+        medium: medium_of(found),
+        coil: optional(alloc, found, "coil")?,
+        file: text(alloc, found, "file")?,
+        stimulus,
     })
 }
 
