@@ -2,9 +2,9 @@
 """Compares the built program with the model on random drawings: differential.py PROGRAM [NUMBER] [SEED].
 
 Each drawing has one to five rungs of all forms of cells, joints and vertical links, and breaks no rule; it is asked from the fresh
-state, at any moment. Rows and looks must be the model's, and the rows of groups too,
-in each form and in the sifted order; so must the drawing with the power flow of one number, and its page, with the elements read as
-marks. A drawing with a difference is printed whole.
+state, at any moment. Rows and looks must be the model's, and the rows of groups too, in each form and in the sifted order; so must the
+drawing with the power flow of one number, and its page, with the elements read as marks. A film must have the drawings of its records,
+each shown by itself from the state that `sim --save` has left. A drawing with a difference is printed whole.
 """
 import html
 import os
@@ -25,6 +25,7 @@ UPPER = {
 LOWER = {"CTU": "|R       |", "CTD": "|LD      |", "SR": "|R       |", "RS": "|R1      |"}
 INSTANCES = {f"B{number}": kind for number, kind in enumerate([*UPPER, *UPPER], 1)}
 EMPTY = (" " * 11, " " * 11, False)
+FRAME = re.compile(r'<input type=radio name=record title="(.*?)">\n<pre>\n(.*?)</pre>', re.DOTALL)
 
 
 def names(letter, count):
@@ -194,6 +195,38 @@ def compare(program, folder, text, coil, listed, moment, number):
     return found + differences((without_legend(read_page(page.decode()), 2), said, status), (without_legend(drawn, 1), b"", 0))
 
 
+def stimulus(chance, listed):
+    """Moments that don't fall, each with a number of bits for the listed inputs."""
+    moments = sorted(chance.choice([0, 5, 700, 900, chance.randrange(5000)]) for _ in range(chance.randint(1, 4)))
+    return [(moment, chance.randrange(2 ** len(listed))) for moment in moments]
+
+
+def record(moment, number, length):
+    """A record of a stimulus."""
+    return ",".join([str(moment), *(f"{number:0{length}b}" if length else "")])
+
+
+def compare_film(program, folder, coil, listed, records):
+    """The differences of a film from its scans, each shown by itself from the state that the one before it has left."""
+    place, explained = pathlib.Path(folder), ["--coil", coil] if len(records) % 2 else []
+    header = ",".join(["moment", *listed])
+    (place / "stimulus.csv").write_text("\n".join([header, *(record(*one, len(listed)) for one in records)]) + "\n", "ascii")
+    pictures, state = [], []
+    for moment, number in records:
+        asked = [*state, *explained, "--at", str(moment), "--number", str(number), "program.ld", *listed]
+        pictures.append(run(program, ["show", *asked], folder)[0].decode())
+        (place / "one.csv").write_text(f"{header}\n{record(moment, number, len(listed))}\n", "ascii")
+        run(program, ["sim", *state, "--save", "next.csv", "program.ld", "one.csv"], folder)
+        (place / "next.csv").replace(place / "state.csv")
+        state = ["--state", "state.csv"]
+    asked = [*explained, "--stimulus", "stimulus.csv", "program.ld"]
+    found = differences(run(program, ["show", *asked], folder), ("".join(f"{one}\n" for one in pictures).encode(), b"", 0))
+    page, said, status = run(program, ["show", "--html", *asked], folder)
+    shown = [(title, without_legend(read_page(f"<pre>\n{body}</pre>"), 2)) for title, body in FRAME.findall(page.decode())]
+    wanted = [(f"{moment} ms", without_legend(one, 1)) for (moment, _), one in zip(records, pictures)]
+    return found + differences((shown, said, status), (wanted, b"", 0))
+
+
 def main():
     """Compares so many drawings and answers the status."""
     program = os.path.abspath(sys.argv[1])
@@ -209,6 +242,7 @@ def main():
             compared += 1
             shown = chance.randrange(2 ** len(listed))
             found = compare(program, folder, text, coil, listed, moment, shown)
+            found += compare_film(program, folder, coil, listed, stimulus(chance, listed))
             if found:
                 different += 1
                 print(text, " ".join([*moment, coil, *listed]), f"number {shown}", *found, sep="\n")

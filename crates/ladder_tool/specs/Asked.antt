@@ -1,4 +1,4 @@
--- Private to the tool: which text is asked for, and what a request for causes, or to show a scan, asks.
+-- Private to the tool: which text is asked for, and what a request for causes, or to show a scan or a stimulus, asks.
 use Rattle.std.specs.Prelude.{ℕ, List, map, option_map, string_bytes}
 use Rattle.ladder_grid.specs.Program.{Drawing}
 use Rattle.ladder_uses.specs.Uses.{uses_text}
@@ -8,6 +8,7 @@ use Rattle.ladder_tool.specs.declared.setting.Setting.{Setting}
 use Rattle.ladder_tool.specs.declared.variables.CauseVariables.{CauseVariables}
 use Rattle.ladder_tool.specs.declared.printing.About.{About}
 use Rattle.ladder_tool.specs.declared.printing.About.TheVariants.{Counts, Uses}
+use Rattle.ladder_tool.specs.declared.filming.Filming.{Filming}
 use Rattle.ladder_tool.specs.declared.showing.Viewing.{Viewing}
 use Rattle.ladder_tool.specs.Performs as performs
 
@@ -30,3 +31,6 @@ viewing_of v = record {
   coil = option_map (λ name. name.now) v.coil;
   inputs = map string_bytes v.inputs.now;
 }
+
+abbrev pub filming_of : Filming → performs.Filming
+filming_of f = record { medium = f.medium; coil = option_map (λ name. name.now) f.coil }

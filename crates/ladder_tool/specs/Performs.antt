@@ -1,5 +1,5 @@
 -- How a request ends: all is written, or a fault stops it.
-use Rattle.std.specs.Prelude.{◌≡◌, ◌⊎◌, ◌++◌, ◌∷◌, ℕ, List, Bool, true, false, Option, None, Some, Result, Ok, Err, codes, decimal, if◌then◌else◌, is_some, length, map, option_map, string_bytes, unwrap_or}
+use Rattle.std.specs.Prelude.{◌≡◌, ◌⊎◌, ◌++◌, ◌∷◌, ℕ, List, Bool, true, false, Option, None, Some, Result, Ok, Err, codes, decimal, if◌then◌else◌, is_some, [], length, map, option_map, string_bytes, unwrap_or}
 use Rattle.std.specs.Option.{option_or}
 use Rattle.ladder_vars.specs.Decls.{Declared}
 use Rattle.ladder_grid.specs.Program.{Drawing, has_coil}
@@ -28,7 +28,7 @@ use Rattle.ladder_sim.specs.declared.group_text.GroupForm.TheVariants as group_f
 use Rattle.ladder_state.specs.StateText.{state_text}
 use Rattle.ladder_text.specs.Log.{PutsAll, PutsPrefix, WriteLog}
 use Rattle.ladder_trace.specs.declared.fault.SimFault.{SimFault}
-use Rattle.ladder_trace.specs.Simulation.{Simulates}
+use Rattle.ladder_trace.specs.Simulation.{Films, Simulates}
 use Rattle.ladder_uses.specs.Uses.{uses_text}
 use Rattle.ladder_tool.specs.declared.fault.ToolFault.{ToolFault}
 use Rattle.ladder_tool.specs.declared.fault.ToolFault.TheVariants as fault
@@ -40,7 +40,7 @@ use Rattle.ladder_words.specs.declared.request.InputOrder.TheVariants as order
 use Rattle.ladder_words.specs.declared.request.Medium.{Medium}
 use Rattle.ladder_words.specs.declared.request.Medium.TheVariants as medium
 use Rattle.ladder_words.specs.declared.request.Request.{Request}
-use Rattle.ladder_words.specs.declared.request.Request.TheVariants.{Causes, Check, Groups, Show, Sim, Uses}
+use Rattle.ladder_words.specs.declared.request.Request.TheVariants.{Causes, Check, Film, Groups, Show, Sim, Uses}
 use Rattle.ladder_tool.specs.FaultLine.{fault_line}
 use Rattle.ladder_tool.specs.Setting.{Given, HasProgramFault, HasSettingFault, IsSet, stimulus_records}
 use Rattle.ladder_tool.specs.Variables.{AreVariables, IsUnknownWord, variable_of}
@@ -292,6 +292,47 @@ BreaksTrace g saves old new =
     ⊎ ((scans : ℕ) × (saves ≡ true) × Traces g old.out new.out (Ok scans) (λ p s. PutsPrefix old.save new.save (state_text p s))
     × IsReported old.err new.err fault.Write)
 
+-- ---- the film of a stimulus
+
+-- What a request to show a stimulus names: how each scan is drawn, and the coil that is explained.
+pub record Filming : Type 0 where
+  pub medium : Medium
+  pub coil : Option (List ℕ)
+
+abbrev pub frame_for : Medium → Style
+frame_for medium.Text = style.MarkedFrame
+frame_for medium.Page = style.PageFrame
+
+-- The variable that a name is that of, where there is one.
+abbrev pub IsExplained : Declared → Option (List ℕ) → Option ℕ → Type 0
+IsExplained decls name coil = option_map (variable_of decls) name ≡ option_map Some coil
+
+-- The stimulus was shown from the state that is given, with this result.
+pub record ShowsStimulus (g : Given) (f : Filming) (out out' : WriteLog) (r : Result ℕ SimFault) : Type 0 where
+  pub program : Drawing
+  pub before : Standing
+  pub after : Standing
+  pub coil : Option ℕ
+  pub set : IsSet g program before
+  pub explained : IsExplained program.decls f.coil coil
+  pub accepted : coil_refusal program coil ≡ None
+  pub film : Films (frame_for f.medium) g.program coil program before (stimulus_records g) after out out' r
+
+-- Status 0: each record was shown.
+abbrev pub IsFilmed : Given → Filming → WriteLog → WriteLog → Type 0
+IsFilmed g f out out' = (scans : ℕ) × ShowsStimulus g f out out' (Ok scans)
+
+-- Faults are looked for in this order: in the program text, in the state text, in the coil's name, by its rule, in the stimulus.
+abbrev pub HasFilmFault : Given → Filming → ToolFault → Type 0
+HasFilmFault g f reason =
+    HasSettingFault g reason
+    ⊎ (((p : Drawing) × (s : Standing) × IsSet g p s × HasWordFault p.decls (names_in f.coil []) reason)
+    ⊎ ((p : Drawing) × (s : Standing) × (coil : Option ℕ) × IsSet g p s × IsExplained p.decls f.coil coil × HasCauseFault (coil_refusal p coil) reason))
+
+-- Status 1: a fault stopped the film.
+abbrev pub BreaksFilm : Given → Filming → Logs → Logs → Type 0
+BreaksFilm g f old new = (reason : SimFault) × ShowsStimulus g f old.out new.out (Err reason) × IsReported old.err new.err (fault.Sim reason)
+
 -- ---- all requests
 
 -- what a request for causes asks
@@ -301,6 +342,10 @@ asking moment after limit coil inputs = record { moment = moment; after = after;
 -- what a request to show one scan asks
 abbrev pub viewing : Option ℕ → Option ℕ → Medium → Option (List ℕ) → List (List ℕ) → Viewing
 viewing moment number medium coil inputs = record { moment = moment; number = number; medium = medium; coil = coil; inputs = inputs }
+
+-- what a request to show a stimulus asks
+abbrev pub filming : Medium → Option (List ℕ) → Filming
+filming medium coil = record { medium = medium; coil = coil }
 
 -- Status 0. Only a simulation writes on `save`, and only a list on `err`.
 abbrev pub IsDone : Request → Given → Logs → Logs → Type 0
@@ -313,6 +358,8 @@ IsDone (Groups state moment limit grouping file coil inputs) g old new =
     × (new.save ≡ old.save)
 IsDone (Show state moment number medium coil file inputs) g old new =
     Shows g (viewing moment number medium (option_map string_bytes coil) (map string_bytes inputs.items)) (PutsAll old.out new.out) × (new.save ≡ old.save) × (new.err ≡ old.err)
+IsDone (Film state medium coil file stimulus) g old new =
+    IsFilmed g (filming medium (option_map string_bytes coil)) old.out new.out × (new.save ≡ old.save) × (new.err ≡ old.err)
 IsDone (Sim state save file stimulus) g old new = IsTraced g (is_some save) old new
 IsDone (Uses file) g old new = Prints uses_text g.program (PutsAll old.out new.out) × (new.save ≡ old.save) × (new.err ≡ old.err)
 
@@ -324,6 +371,7 @@ HasFault (Causes state moment after limit file coil inputs) g =
 HasFault (Groups state moment limit grouping file coil inputs) g =
     HasListFault g (asking moment None limit (string_bytes coil) (map string_bytes inputs.items))
 HasFault (Show state moment number medium coil file inputs) g = HasShowFault g (viewing moment number medium (option_map string_bytes coil) (map string_bytes inputs.items))
+HasFault (Film state medium coil file stimulus) g = HasFilmFault g (filming medium (option_map string_bytes coil))
 HasFault (Sim state save file stimulus) g = HasSettingFault g
 HasFault (Uses file) g = HasProgramFault g.program
 
@@ -338,6 +386,7 @@ Breaks (Groups state moment limit grouping file coil inputs) g old new =
 Breaks (Show state moment number medium coil file inputs) g old new =
     Shows g (viewing moment number medium (option_map string_bytes coil) (map string_bytes inputs.items)) (PutsPrefix old.out new.out)
     × (new.save ≡ old.save) × IsReported old.err new.err fault.Write
+Breaks (Film state medium coil file stimulus) g old new = BreaksFilm g (filming medium (option_map string_bytes coil)) old new × (new.save ≡ old.save)
 Breaks (Sim state save file stimulus) g old new = BreaksTrace g (is_some save) old new
 Breaks (Uses file) g old new =
     Prints uses_text g.program (PutsPrefix old.out new.out) × (new.save ≡ old.save) × IsReported old.err new.err fault.Write

@@ -3,6 +3,7 @@
 
 mod fault;
 mod files;
+mod filming;
 mod grouping;
 mod listing;
 mod opening;

@@ -64,7 +64,13 @@ pub(crate) fn readers_of<'a>(
             state: reading_named(rt, state),
             stimulus: None,
         },
-        Request::Sim {
+        Request::Film {
+            state,
+            file,
+            stimulus,
+            ..
+        }
+        | Request::Sim {
             state,
             file,
             stimulus,

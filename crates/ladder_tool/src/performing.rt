@@ -4,6 +4,7 @@ ghost use Rattle.std.specs.Prelude.{◌≡◌, ◌≤◌, option_map, string_byt
 ghost use Rattle.ladder_tool.specs.Performs.{IsDone, IsFailed, logs};
 ghost use Rattle.ladder_tool.specs.Setting.{given_by};
 
+use crate::filming::{Filming, film};
 use crate::grouping::list_groups;
 use crate::listing::{Asking, list_causes};
 use crate::printing::{About, print};
@@ -91,6 +92,13 @@ pub fn perform<O: Sink, S: Sink, E: Sink>(
                 inputs,
             };
             show(alloc, viewing, texts, out, err)
+        }
+        Request::Film { medium, coil, .. } => {
+            let filming = Filming {
+                medium: *medium,
+                coil: text_of(coil),
+            };
+            film(alloc, filming, texts, out, err)
         }
         Request::Sim { save: file, .. } => trace(alloc, texts, file.is_some(), out, save, err),
     }

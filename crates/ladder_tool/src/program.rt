@@ -48,6 +48,7 @@ fn run_request(rt: &HostRuntime, alloc: Global, request: &Request) -> u8
         | Request::Causes { .. }
         | Request::Groups { .. }
         | Request::Show { .. }
+        | Request::Film { .. }
         | Request::Uses { .. } => run_saving(rt, alloc, request, io::sink()),
     }
 }

@@ -40,7 +40,7 @@ fn style_for(medium: Medium) -> Style
 }
 
 /// Whether the variable that is explained is that of a coil.
-fn coil_refusal(program: &Program, coil: Option<usize>) -> Option<CauseFault>
+pub(crate) fn coil_refusal(program: &Program, coil: Option<usize>) -> Option<CauseFault>
     ensures { result ≡ coil_refusal program.now coil }
 {
     match coil {

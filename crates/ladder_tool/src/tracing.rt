@@ -36,7 +36,7 @@ fn save_state<S: Sink>(
 }
 
 /// The bytes of the stimulus; none where there is no text.
-fn stimulus(texts: &Texts) -> &[u8]
+pub(crate) fn stimulus(texts: &Texts) -> &[u8]
     ensures { result.now ≡ unwrap_or (given_by texts.now).stimulus [] }
 {
     match &texts.stimulus {
