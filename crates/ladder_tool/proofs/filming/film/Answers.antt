@@ -1,0 +1,68 @@
+use Rattle.std.proofs.Common.{Err, Ok, sym, refl, inl, inr, ◌∙◌}
+use Rattle.ladder_tool.specs.declared.fault.ToolFault.TheVariants as fault
+use Rattle.ladder_tool.proofs.Settings.{same_film}
+use Rattle.ladder_tool.proofs.filming.film.Goals as goal
+
+pub returns-in-Err-shown_variables-clause-failed :
+    goal.returns-in-Err-shown_variables-clause-failed
+returns-in-Err-shown_variables-clause-failed g c = λ save status.
+    let s = c.in-Ok.setting in
+    inl (record {
+      reason = c.in-Err-shown_variables.fault;
+      has = inr (inl (s.program, s.state, c.in-Ok.ensures.set, rw c.decls.ensures at c.in-Err-shown_variables.ensures.fault));
+      unwritten = refl {a = g.O.Sink.log c.args.out.now};
+      unsaved = refl {a = save};
+      reported = c.report-in-Err-shown_variables.ensures.line;
+    })
+
+pub returns-in-Some-clause-failed : goal.returns-in-Some-clause-failed
+returns-in-Some-clause-failed g c = λ save status.
+    let s = c.in-Ok.setting in
+    inl (record {
+      reason = fault.Cause c.in-Some.fault;
+      has = inr (inr (
+        s.program,
+        s.state,
+        c.in-Ok-shown_variables.asked.coil,
+        c.in-Ok.ensures.set,
+        rw c.decls.ensures at c.in-Ok-shown_variables.ensures.coil,
+        inr (sym c.coil_refusal.ensures ∙ c.in-Some.is),
+      ));
+      unwritten = refl {a = g.O.Sink.log c.args.out.now};
+      unsaved = refl {a = save};
+      reported = c.report-in-Some.ensures.line;
+    })
+
+pub returns-in-Ok-write_film-clause-done : goal.returns-in-Ok-write_film-clause-done
+returns-in-Ok-write_film-clause-done g c = λ status. (
+  (
+    c.in-Ok-write_film.field-0,
+    record {
+      program = c.in-Ok.setting.program;
+      before = c.in-Ok.setting.state;
+      after = c.write_film.new.state;
+      coil = c.in-Ok-shown_variables.asked.coil;
+      set = c.in-Ok.ensures.set;
+      explained = rw c.decls.ensures at c.in-Ok-shown_variables.ensures.coil;
+      accepted = sym c.coil_refusal.ensures ∙ c.in-None.is;
+      film = same_film c.in-Ok.setting.program c.in-Ok.setting.state c.write_film.new.state _ _ _ _ _ _ c.in-Ok-shown_variables.asked.coil (g.O.Sink.log c.args.out.now) (g.O.Sink.log c.write_film.new.writer) (Ok c.in-Ok-write_film.field-0) c.frame_for.ensures c.deref.ensures.value c.stimulus.ensures c.in-Ok-write_film.ensures.ends;
+    },
+  ),
+  refl,
+)
+
+pub returns-clause-failed : goal.returns-clause-failed
+returns-clause-failed g c = λ save status. inr (
+  c.in-Err-write_film.fault,
+  record {
+    program = c.in-Ok.setting.program;
+    before = c.in-Ok.setting.state;
+    after = c.write_film.new.state;
+    coil = c.in-Ok-shown_variables.asked.coil;
+    set = c.in-Ok.ensures.set;
+    explained = rw c.decls.ensures at c.in-Ok-shown_variables.ensures.coil;
+    accepted = sym c.coil_refusal.ensures ∙ c.in-None.is;
+    film = same_film c.in-Ok.setting.program c.in-Ok.setting.state c.write_film.new.state _ _ _ _ _ _ c.in-Ok-shown_variables.asked.coil (g.O.Sink.log c.args.out.now) (g.O.Sink.log c.write_film.new.writer) (Err c.in-Err-write_film.fault) c.frame_for.ensures c.deref.ensures.value c.stimulus.ensures c.in-Err-write_film.ensures.ends;
+  },
+  c.report-in-Err-write_film.ensures.line,
+)
