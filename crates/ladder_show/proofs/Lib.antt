@@ -7,3 +7,5 @@ pub mod RouteEnds
 pub mod Told
 pub mod LinkedEnds
 pub mod LoneCoils
+pub mod PowerRoutes
+pub mod Cuts

@@ -7,3 +7,4 @@ pub mod Showing
 pub mod Why
 pub mod Ends
 pub mod Marks
+pub mod Cuts

@@ -3,6 +3,7 @@
 ghost use Rattle.std.specs.Prelude.{ℕ, All, List};
 ghost use Rattle.ladder_scan.specs.declared.seen.Mark.{Mark};
 ghost use Rattle.ladder_show.specs.Browser.{HasPlainNames, IsPlain, KeepsCharacters};
+ghost use Rattle.ladder_show.specs.Cuts.{CutsHold, PowerComesByRoutes};
 ghost use Rattle.ladder_show.specs.Marks.{LinkedEndsAgree, LoneCoilsObey};
 ghost use Rattle.ladder_show.specs.Show.{IsErased};
 
@@ -57,4 +58,18 @@ pub fn lone_coils(program: &Program)
     ensures { LoneCoilsObey program.now }
 {
     program.checked();
+}
+
+/// There is power at a place of an evaluated rung exactly where it ends nowhere on one of the routes to it.
+pub fn power_ends(program: &Program)
+    ensures { PowerComesByRoutes program.now }
+{
+    checked(program);
+}
+
+/// As long as the places where power ends let none through, a coil gets none, whatever else changes.
+pub fn cuts(program: &Program)
+    ensures { CutsHold program.now }
+{
+    checked(program);
 }
