@@ -13,8 +13,8 @@ use Rattle.ladder_scan.specs.Seen.{AreMarks, mark_at, mark_in, mark_passed}
 use Rattle.ladder_show.specs.Cuts.{CutsHold, is_cut}
 use Rattle.ladder_show.specs.Ends.{any_below, any_past, any_to, is_ended, is_live}
 use Rattle.ladder_show.specs.Why.{is_closed}
-use Rattle.ladder_show.proofs.PowerRoutes.{at_place, power_at}
-use Rattle.ladder_show.proofs.RouteEnds.{any_before, live_first, past_ended, past_live}
+use Rattle.ladder_show.proofs.PowerRoutes.{power_at}
+use Rattle.ladder_show.proofs.RouteEnds.{any_before, live_first, past_ended, past_live, to_place}
 use Rattle.ladder_show.proofs.Told.{begun, told}
 
 -- ---- tests of the numbers below n
@@ -132,15 +132,15 @@ module _ (p : Drawing) (j : ℕ) (marks others : List Mark) where
       let power = live_first p marks j (6 * 0 + row) first in
       cc
   cuts_to (suc column) row rows dead cut =
-      at_place (is_live p others j) p j row (suc column) rows
+      to_place (is_live p others j) p j row (suc column) rows
       ∙ any_before (is_live p others j) p j row column
       ∙ none_below (λ from. feeds p j row (suc column) from && any_past (is_live p marks j) p j from column) _ 6
       (λ from lt. fed_only (feeds p j row (suc column) from) _ _ (λ fed none.
       cuts_past column from lt (cuts_to column from lt) none (λ n ended.
-      cut n (at_place (is_ended n p marks j) p j row (suc column) rows
+      cut n (to_place (is_ended n p marks j) p j row (suc column) rows
       ∙ any_before (is_ended n p marks j) p j row column
       ∙ found_below (λ q. feeds p j row (suc column) q && any_past (is_ended n p marks j) p j q column) 6 from lt (and_from _ _ fed ended)))))
-      (sym (at_place (is_live p marks j) p j row (suc column) rows ∙ any_before (is_live p marks j) p j row column) ∙ dead)
+      (sym (to_place (is_live p marks j) p j row (suc column) rows ∙ any_before (is_live p marks j) p j row column) ∙ dead)
 
 -- ---- at a place
 
@@ -171,4 +171,4 @@ cuts_hold p sound = λ now inputs h marks seen other_now other_inputs other_h ot
     unless_evaluated p sound other_now other_inputs other_h others other_seen rung place below within (λ evaluated.
     power_at p sound other_now other_inputs other_h others other_seen rung row column below rows columns evaluated
     ∙ cuts_to p rung marks others column row rows (sym before ∙ dead)
-    (λ n ended. cut n (sym (at_place (is_ended n p marks rung) p rung row column rows) ∙ ended)))
+    (λ n ended. cut n (sym (to_place (is_ended n p marks rung) p rung row column rows) ∙ ended)))

@@ -19,8 +19,8 @@ use Rattle.ladder_scan.proofs.GateLaws.{cell_is}
 use Rattle.ladder_scan.proofs.Links.{column_next, first_column}
 use Rattle.ladder_show.specs.Cuts.{PowerComesByRoutes}
 use Rattle.ladder_show.specs.Ends.{any_below, any_past, any_to, is_live, is_nowhere}
-use Rattle.ladder_show.specs.Why.{end_of, is_closed, routes_to}
-use Rattle.ladder_show.proofs.RouteEnds.{any_before, live_first, past_live}
+use Rattle.ladder_show.specs.Why.{end_of, is_closed}
+use Rattle.ladder_show.proofs.RouteEnds.{any_before, live_first, past_live, to_place}
 use Rattle.ladder_show.proofs.Told.{begun, told}
 
 -- ---- places
@@ -30,9 +30,6 @@ same_row row column h = omega arith
 
 same_column : (row column : ℕ) → row < 6 → (6 * column + row) / 6 ≡ column
 same_column row column h = omega arith
-
-pub at_place : (test : Route → Bool) (p : Drawing) (j row column : ℕ) → row < 6 → any_to test p j (6 * column + row) ≡ list_any test (routes_to p j row column)
-at_place test p j row column h = ap₂ (λ r c. list_any test (routes_to p j r c)) (same_row row column h) (same_column row column h)
 
 -- ---- a rung that is evaluated
 
@@ -157,7 +154,7 @@ module _ (p : Drawing) (sound : IsSound (diagram_of p)) (now j : ℕ) (start : H
       ∙ column_same (d.feeds j row (suc column)) (feeds p j row (suc column)) _ (λ from. any_past (is_live p marks j) p j from column) 6 (feeds_is p j row (suc column))
       (λ from lt. past_is column from lt ∙ sym (live_past column from lt before (by_routes column before from lt)))
       ∙ sym (any_before (is_live p marks j) p j row column)
-      ∙ sym (at_place (is_live p marks j) p j row (suc column) rows)
+      ∙ sym (to_place (is_live p marks j) p j row (suc column) rows)
 
 -- ---- at a place
 
@@ -181,5 +178,5 @@ power_at p sound now inputs h marks seen j row column below rows columns is =
 pub power_comes : (p : Drawing) → IsSound (diagram_of p) → PowerComesByRoutes p
 power_comes p sound = λ now inputs h marks seen rung row column below rows columns is.
     power_at p sound now inputs h marks seen rung row column below rows columns is
-    ∙ at_place (is_live p marks rung) p rung row column rows
+    ∙ to_place (is_live p marks rung) p rung row column rows
     ∙ live_none p marks rung _

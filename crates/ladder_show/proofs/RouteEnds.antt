@@ -1,5 +1,5 @@
 -- The routes to a place, by those to the column before.
-use Rattle.std.proofs.Common.{◌≡◌, ◌∙◌, ℕ, ◌+◌, ◌-◌, ◌*◌, ◌/◌, ◌%◌, ◌<◌, ◌≤◌, Bool, true, false, ◌&&◌, ◌||◌, ◌==◌, cond, not, List, [], ◌∷◌, map, Option, Some, None, suc, zero, ◌⊎◌, inl, inr, add-one, length, length-set, slice_set, refl, ap, sym, arith}
+use Rattle.std.proofs.Common.{◌≡◌, ◌∙◌, ℕ, ◌+◌, ◌-◌, ◌*◌, ◌/◌, ◌%◌, ◌<◌, ◌≤◌, Bool, true, false, ◌&&◌, ◌||◌, ◌==◌, cond, not, List, [], ◌∷◌, map, Option, Some, None, suc, inl, inr, add-one, length, length-set, slice_set, refl, ap, sym, arith}
 use Rattle.std.specs.List.{filter, flat_map, list_any, range_with_len}
 use Rattle.std.specs.Option.{option_or}
 use Rattle.std.proofs.lemmas.Bool.{cases_lt}
@@ -10,7 +10,7 @@ use Rattle.ladder_grid.specs.Program.{Drawing, feeds, is_block, joined, site_at}
 use Rattle.ladder_grid.specs.declared.cell.Cell.{Cell}
 use Rattle.ladder_scan.specs.declared.seen.Mark.{Mark}
 use Rattle.ladder_scan.specs.Cells.{place_at}
-use Rattle.ladder_scan.specs.Routes.{Route, block_end, rail, routes, through}
+use Rattle.ladder_scan.specs.Routes.{Route, block_end, routes, through}
 use Rattle.ladder_show.specs.Show.{mark_in}
 use Rattle.ladder_show.specs.Why.{end_of, end_unless, is_closed, is_some_of, routes_to}
 use Rattle.ladder_show.specs.Ends.{AreAnswers, any_below, any_past, any_to, is_ended, is_live, is_nowhere, routes_past}
@@ -110,7 +110,7 @@ row_of row column h = omega arith
 column_of : (row column : ℕ) → row < 6 → (6 * column + row) / 6 ≡ column
 column_of row column h = omega arith
 
-to_place : (test : Route → Bool) (p : Drawing) (j row column : ℕ) → row < 6 → any_to test p j (6 * column + row) ≡ list_any test (routes_to p j row column)
+pub to_place : (test : Route → Bool) (p : Drawing) (j row column : ℕ) → row < 6 → any_to test p j (6 * column + row) ≡ list_any test (routes_to p j row column)
 to_place test p j row column h =
     ap (λ r. list_any test (routes_to p j r ((6 * column + row) / 6))) (row_of row column h)
     ∙ ap (λ c. list_any test (routes_to p j row c)) (column_of row column h)

@@ -1,12 +1,12 @@
 -- Private: the search for the places where power ends, from column to column.
-use Rattle.std.specs.Prelude.{◌≡◌, ◌<◌, ℕ, ◌+◌, ◌%◌, ◌/◌, Bool, false, true, ◌&&◌, ◌||◌, if◌then◌else◌, List, [], ◌∷◌, length, map, slice_index_or, Option, Some, None, zero, suc}
+use Rattle.std.specs.Prelude.{◌≡◌, ◌<◌, ℕ, ◌%◌, ◌/◌, Bool, false, true, ◌||◌, if◌then◌else◌, List, [], ◌∷◌, length, map, slice_index_or, Option, Some, None, zero, suc}
 use Rattle.std.specs.List.{list_any}
 use Rattle.ladder_page.specs.declared.geometry.TheConstants.{ROWS, PLACES}
-use Rattle.ladder_grid.specs.Program.{Drawing, feeds, is_block, site_at}
+use Rattle.ladder_grid.specs.Program.{Drawing, is_block, site_at}
 use Rattle.ladder_scan.specs.declared.seen.Mark.{Mark}
 use Rattle.ladder_scan.specs.Routes.{Route, block_end, through}
 use Rattle.ladder_show.specs.declared.ends.Rung.{Rung}
-use Rattle.ladder_show.specs.Why.{end_of, ends_at, is_some_of, routes_to}
+use Rattle.ladder_show.specs.Why.{end_of, is_some_of, routes_to}
 
 -- What a definition says of a rung.
 abbrev pub of_rung : {A : Type 0} → (Drawing → List Mark → ℕ → A) → Rung → A

@@ -1,4 +1,4 @@
-use Rattle.std.proofs.Common.{◌++◌, ◌%◌, ◌/◌, [], codes, refl, ap, sym}
+use Rattle.std.proofs.Common.{◌++◌, ◌%◌, ◌/◌, [], refl, ap, sym}
 use Rattle.ladder_text.proofs.Sending.{sends_prefix, sends_last, sends_none, sends_err}
 use Rattle.ladder_scan.specs.declared.seen.Mark.{Mark}
 use Rattle.ladder_show.specs.Show.{mark_in}
