@@ -7,3 +7,4 @@ pub mod RouteEnds
 pub mod Told
 pub mod LinkedEnds
 pub mod LoneCoils
+pub mod Fitting
