@@ -1,6 +1,6 @@
 -- The drawing as a page of HTML: the lines of the text with their own characters, and elements round those of what has power or is ON.
 -- Rungs, rows, columns, lines and places are counted from 0.
-use Rattle.std.specs.Prelude.{ℕ, ◌+◌, ◌-◌, ◌*◌, ◌/◌, ◌%◌, Bool, true, false, not, ◌&&◌, ◌||◌, ◌==◌, nat_le, codes, bytes_eq, position, Option, Some, None, if◌then◌else◌, List, [], ◌∷◌, ◌++◌, length, slice_index_or, slice_range}
+use Rattle.std.specs.Prelude.{ℕ, ◌+◌, ◌-◌, ◌*◌, ◌/◌, ◌%◌, Bool, true, false, not, ◌&&◌, ◌||◌, ◌==◌, nat_le, codes, decimal, bytes_eq, position, Option, Some, None, if◌then◌else◌, List, [], ◌∷◌, ◌++◌, length, slice_index_or, slice_range}
 use Rattle.std.specs.List.{list_all}
 use Rattle.ladder_page.specs.declared.geometry.TheConstants.{PITCH, RAIL}
 use Rattle.ladder_page.specs.declared.lines.Part.{Part}
@@ -12,7 +12,7 @@ use Rattle.ladder_scan.specs.declared.seen.Mark.{Mark}
 use Rattle.ladder_scan.specs.Standing.{Standing}
 use Rattle.ladder_show.specs.declared.look.Look.{Look}
 use Rattle.ladder_show.specs.declared.look.Look.TheVariants.{Plain, Rail, Passed, Wire, Link, Joint, On}
-use Rattle.ladder_show.specs.declared.page.TheConstants.{PAGE_START, PAGE_LEGEND}
+use Rattle.ladder_show.specs.declared.page.TheConstants.{BUTTON_START, FRAMES_STYLE, PAGE_LEGEND, PAGE_OPENING, PAGE_STYLE}
 use Rattle.ladder_show.specs.Notes.{above, tail_line}
 use Rattle.ladder_show.specs.Show.{each, is_line_of, mark_in}
 
@@ -115,12 +115,23 @@ drawn_whole parts marks lines n = drawn_in parts marks lines n (position (is_lin
 
 -- ---- the whole page
 
--- What begins each page, what the looks mean, and what ends it.
-unfoldable pub page_start : List ℕ
-page_start = PAGE_START.now
+-- What stands before the title of each page, the end of the title with the style, and what the looks mean.
+unfoldable pub page_opening : List ℕ
+page_opening = PAGE_OPENING.now
+
+unfoldable pub page_style : List ℕ
+page_style = PAGE_STYLE.now
 
 unfoldable pub page_legend : List ℕ
 page_legend = PAGE_LEGEND.now
+
+-- A page begins with its title and its style; rest: what this page adds to the style, and the end of it.
+abbrev pub page_begun : List ℕ → List ℕ → List ℕ
+page_begun title rest = page_opening ++ (title ++ (page_style ++ rest))
+
+-- What begins a page of one picture.
+unfoldable pub page_start : List ℕ
+page_start = page_begun (codes "diagram") (codes "</style>\n<pre>\n")
 
 -- Above the drawing: the moment of the scan and its inputs, as in the text, and what the looks mean.
 abbrev pub page_head : Drawing → Standing → List ℕ
@@ -129,3 +140,26 @@ page_head p after = page_start ++ above p after page_legend
 -- Below it: the other variables, as in the text.
 abbrev pub page_tail : Drawing → Standing → List ℕ
 page_tail p after = tail_line p after ++ codes "</pre>\n</html>\n"
+
+-- ---- a page of many pictures
+
+-- It has a row of buttons, of which one is chosen, and shows the picture behind it.
+unfoldable pub frames_style : List ℕ
+frames_style = FRAMES_STYLE.now
+
+unfoldable pub frames_start : List ℕ
+frames_start = page_begun (codes "film") frames_style
+
+-- what begins a button, up to its title
+unfoldable pub button_start : List ℕ
+button_start = BUTTON_START.now
+
+-- The title of a picture's button is the moment of its scan.
+abbrev pub button : Standing → List ℕ
+button after = button_start ++ (decimal after.moment ++ codes " ms\">\n<pre>\n")
+
+abbrev pub frame_head : Drawing → Standing → List ℕ
+frame_head p after = button after ++ above p after page_legend
+
+abbrev pub frame_tail : Drawing → Standing → List ℕ
+frame_tail p after = tail_line p after ++ codes "</pre>\n"

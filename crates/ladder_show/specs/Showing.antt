@@ -15,10 +15,10 @@ use Rattle.ladder_text.specs.Log.{PutsAll, PutsPrefix, WriteLog}
 use Rattle.ladder_show.specs.declared.fault.ShowFault.{ShowFault}
 use Rattle.ladder_show.specs.declared.fault.ShowFault.TheVariants.{Memory, Write}
 use Rattle.ladder_show.specs.declared.picture.Style.{Style}
-use Rattle.ladder_show.specs.declared.picture.Style.TheVariants.{Marked, Page}
+use Rattle.ladder_show.specs.declared.picture.Style.TheVariants.{Marked, MarkedFrame, Page, PageFrame}
 use Rattle.ladder_show.specs.declared.showing.Scan.{Scan}
 use Rattle.ladder_show.specs.Notes.{head_line, noted_lines, tail_line}
-use Rattle.ladder_show.specs.Page.{drawn_whole, page_head, page_tail}
+use Rattle.ladder_show.specs.Page.{drawn_whole, frame_head, frame_tail, frames_start, page_head, page_tail}
 use Rattle.ladder_show.specs.Show.{shown_whole}
 use Rattle.ladder_show.specs.Why.{why}
 
@@ -50,23 +50,38 @@ state_after s = record {
   moment = s.now;
 }
 
-abbrev pub scan_of : Scan → OneScan
-scan_of s = one_scan s.text.now s.program.now s.state.now s.inputs.now s.moment s.coil
+-- a scan from this state
+abbrev pub scan_of : Scan → Standing → OneScan
+scan_of s state = one_scan s.text.now s.program.now state s.inputs.now s.moment s.coil
 
 -- ---- by style
 
--- As text, marks take the place of characters; as a page of HTML, characters stand in elements.
+-- As text, marks take the place of characters; as HTML, characters stand in elements.
 abbrev pub drawn_of : Style → List Part → List Mark → Lines → ℕ → List ℕ
 drawn_of Marked parts marks lines n = shown_whole parts marks lines n
+drawn_of MarkedFrame parts marks lines n = shown_whole parts marks lines n
 drawn_of Page parts marks lines n = drawn_whole parts marks lines n
+drawn_of PageFrame parts marks lines n = drawn_whole parts marks lines n
 
 abbrev pub head_of : Style → Drawing → Standing → List ℕ
 head_of Marked p after = head_line p after
+head_of MarkedFrame p after = head_line p after
 head_of Page p after = page_head p after
+head_of PageFrame p after = frame_head p after
 
+-- An empty line stands between two texts.
 abbrev pub tail_of : Style → Drawing → Standing → List ℕ
 tail_of Marked p after = tail_line p after
+tail_of MarkedFrame p after = tail_line p after ++ codes "\n"
 tail_of Page p after = page_tail p after
+tail_of PageFrame p after = frame_tail p after
+
+-- What stands before the drawings of a film: only pictures of a page need it.
+abbrev pub film_start : Style → List ℕ
+film_start Marked = []
+film_start MarkedFrame = []
+film_start Page = []
+film_start PageFrame = frames_start
 
 -- Why the coils of a variable have power, or none.
 abbrev pub why_on : Drawing → List Mark → ℕ → List ℕ
@@ -108,6 +123,11 @@ pub record WrittenInPart (style : Style) (s : OneScan) (old new : WriteLog) : Ty
   pub text : List ℕ
   pub is : IsDrawn style s text
   pub wrote : PutsPrefix old new text
+
+-- Out of memory the state stays as it was; where the writer failed, it is the one after the scan.
+abbrev pub IsLeft : OneScan → Standing → ShowFault → Type 0
+IsLeft s left Memory = left ≡ s.state
+IsLeft s left Write = left ≡ state_after s
 
 -- Out of memory nothing is written.
 abbrev pub Fails : Style → OneScan → WriteLog → WriteLog → ShowFault → Type 0

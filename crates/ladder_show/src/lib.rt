@@ -14,5 +14,6 @@ mod showing;
 mod why;
 
 pub use fault::ShowFault;
+pub use noting::write_film_start;
 pub use picture::Style;
 pub use showing::{Scan, write_drawing};

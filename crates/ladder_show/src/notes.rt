@@ -1,6 +1,6 @@
 //! What is written beside the drawing.
 
-ghost use Rattle.std.specs.Prelude.{◌≡◌, ◌<◌, ◌≤◌, ◌+◌, length, option_map};
+ghost use Rattle.std.specs.Prelude.{◌≡◌, ◌<◌, ◌≤◌, ◌+◌, ◌++◌, length, option_map};
 ghost use Rattle.ladder_page.specs.declared.geometry.TheConstants.{PLACES};
 ghost use Rattle.ladder_text.specs.Block.{Sends};
 ghost use Rattle.ladder_show.specs.Notes.{above, cell_note, instance_note, is_among, lead, moment_text, noted_before, numbered_note, place_note, rung_notes, stored_note, tail_line, value_text, var_note, var_notes};
@@ -274,4 +274,17 @@ pub(crate) fn add_tail<W: Sink>(
     block.add(b"\n(* after it:", writer)?;
     add_var_notes(block, picture, false, writer)?;
     block.add(b" *)\n", writer)
+}
+
+/// Adds what is below it, and then this.
+pub(crate) fn add_tail_with<W: Sink>(
+    block: &mut Block,
+    picture: Picture<'_>,
+    end: &[u8],
+    writer: &mut W,
+) -> Result<(), WriteFault>
+    ensures { Sends (W.log writer.old) (W.log writer.new) block.old block.new result (tail_line picture.entry.program.now picture.entry.after.now ++ end.now) }
+{
+    add_tail(block, picture, writer)?;
+    block.add(end, writer)
 }

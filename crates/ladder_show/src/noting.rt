@@ -5,11 +5,11 @@ ghost use Rattle.ladder_text.specs.Block.{Sends};
 ghost use Rattle.ladder_text.specs.Log.{Puts};
 ghost use Rattle.ladder_show.specs.Show.{is_line_of};
 ghost use Rattle.ladder_show.specs.Pictures.{Fits, lines_drawn, of_picture};
-ghost use Rattle.ladder_show.specs.Showing.{end_of, head_of, tail_of, whole_of, why_of, why_on};
+ghost use Rattle.ladder_show.specs.Showing.{end_of, film_start, head_of, tail_of, whole_of, why_of, why_on};
 ghost use Rattle.ladder_show.specs.Notes.{is_left_out, kept_line, noted_line, noted_lines, notes_behind};
 
-use crate::notes::{add_above, add_rung_notes, add_tail};
-use crate::page::{add_drawn_line, add_page_head, add_page_tail};
+use crate::notes::{add_above, add_rung_notes, add_tail, add_tail_with};
+use crate::page::{add_drawn_line, add_frame_head, add_frames_start, add_page_head};
 use crate::picture::{Picture, Style};
 use crate::show::{add_whole_line, rung_of};
 use crate::why::add_why;
@@ -49,8 +49,8 @@ fn add_line<W: Sink>(
     ensures { Sends (W.log writer.old) (W.log writer.new) block.old block.new result (lines_drawn picture.entry line) }
 {
     match picture.style {
-        Style::Marked => add_whole_line(block, picture, line, writer),
-        Style::Page => add_drawn_line(block, picture, line, writer),
+        Style::Marked | Style::MarkedFrame => add_whole_line(block, picture, line, writer),
+        Style::Page | Style::PageFrame => add_drawn_line(block, picture, line, writer),
     }
 }
 
@@ -115,13 +115,14 @@ fn add_head<W: Sink>(
     ensures { Sends (W.log writer.old) (W.log writer.new) block.old block.new result (head_of picture.entry.style picture.entry.program.now picture.entry.after.now) }
 {
     match picture.style {
-        Style::Marked => add_above(
+        Style::Marked | Style::MarkedFrame => add_above(
             block,
             picture,
             b" *)\n(* === live  [ ] closed, or Q is ON  { } ON after its rung  ... passed over *)\n",
             writer,
         ),
         Style::Page => add_page_head(block, picture, writer),
+        Style::PageFrame => add_frame_head(block, picture, writer),
     }
 }
 
@@ -161,7 +162,9 @@ fn add_tail_of<W: Sink>(
 {
     match picture.style {
         Style::Marked => add_tail(block, picture, writer),
-        Style::Page => add_page_tail(block, picture, writer),
+        Style::MarkedFrame => add_tail_with(block, picture, b"\n", writer),
+        Style::Page => add_tail_with(block, picture, b"</pre>\n</html>\n", writer),
+        Style::PageFrame => add_tail_with(block, picture, b"</pre>\n", writer),
     }
 }
 
@@ -201,5 +204,31 @@ pub(crate) fn write_noted<W: Sink>(picture: Picture<'_>, writer: &mut W) -> Resu
 {
     let mut block = Block::new();
     add_noted(&mut block, picture, writer)?;
+    block.flush(writer)
+}
+
+fn add_film_start<W: Sink>(
+    block: &mut Block,
+    style: Style,
+    writer: &mut W,
+) -> Result<(), WriteFault>
+    ensures { Sends (W.log writer.old) (W.log writer.new) block.old block.new result (film_start style) }
+{
+    match style {
+        Style::Marked | Style::MarkedFrame | Style::Page => block.add(b"", writer),
+        Style::PageFrame => add_frames_start(block, writer),
+    }
+}
+
+/// Writes what stands before the drawings of a film.
+///
+/// # Errors
+///
+/// The writer failed. What was written is a prefix of it.
+pub fn write_film_start<W: Sink>(style: Style, writer: &mut W) -> Result<(), WriteFault>
+    ensures { Puts (W.log writer.old) (W.log writer.new) result (film_start style) }
+{
+    let mut block = Block::new();
+    add_film_start(&mut block, style, writer)?;
     block.flush(writer)
 }

@@ -4,23 +4,27 @@ ghost use Rattle.std.specs.Prelude.{◌≡◌, ◌<◌, ◌^◌, length, positio
 ghost use Rattle.ladder_page.specs.declared.geometry.TheConstants.{RUNGS};
 ghost use Rattle.ladder_page.specs.Bytes.{space};
 ghost use Rattle.ladder_text.specs.Block.{Sends};
-ghost use Rattle.ladder_show.specs.Page.{drawn_in, drawn_line, drawn_place, drawn_whole, escaped, escaped_line, page_head, page_legend, page_start, page_tail, turn};
+ghost use Rattle.ladder_show.specs.Page.{button, button_start, drawn_in, drawn_line, drawn_place, drawn_whole, escaped, escaped_line, frame_head, frames_start, frames_style, page_begun, page_head, page_legend, page_opening, page_start, page_style, turn};
 ghost use Rattle.ladder_show.specs.Pictures.{Fits, lines_of, looks_of};
 ghost use Rattle.ladder_show.specs.Show.{each, is_line_of};
 
 use crate::look::{Look, RungLine, closing, look_at, look_before, opening};
-use crate::notes::{add_above, add_tail};
+use crate::notes::add_above;
 use crate::picture::Picture;
 use crate::show::rung_of;
+use ladder_scan::State;
 use ladder_text::{Block, Piece, Sink, WriteFault, add_pieces};
 
-/// What begins a page: its style. Lines are drawn over the characters, so that those can be copied. A wire reaches into the middle of the
-/// characters beside it, and a vertical link into those above and below.
-const PAGE_START: &[u8] = b"<!DOCTYPE html>
+/// What begins a page, up to the word of its title.
+const PAGE_OPENING: &[u8] = b"<!DOCTYPE html>
 <html lang=en>
 <meta charset=utf-8>
 <meta name=viewport content=\"width=device-width,initial-scale=1\">
-<title>Ladder diagram</title>
+<title>Ladder ";
+
+/// The end of its title, and its style. Lines are drawn over the characters, so that those can be copied. A wire reaches into the middle
+/// of the characters beside it, and a vertical link into those above and below.
+const PAGE_STYLE: &[u8] = b"</title>
 <style>
 :root{color-scheme:light dark;--back:#fff;--text:#1b1f24;--on:#0a6b2d;--tint:#d8f5e2;--off:#6b737c}
 @media screen and (prefers-color-scheme:dark){:root{--back:#14171a;--text:#e6e8ea;--on:#3fdc7a;--tint:#123d24;--off:#8d959e}}
@@ -37,9 +41,20 @@ b{--c:var(--on);--t:3px}
 .s{position:relative;color:var(--on);background:var(--tint);font-weight:bold}
 @page{size:landscape;margin:1cm}
 @media print{body{margin:0}pre{font-size:10pt;overflow:visible}}
-</style>
-<pre>
 ";
+
+/// The rest of the style of a page of many pictures. The buttons stand in a row above the picture that is chosen, or the first one while
+/// none is; on paper all pictures stand one after the other.
+const FRAMES_STYLE: &[u8] = b"body{display:flex;flex-wrap:wrap;align-items:center}
+input{order:0;margin:0 .1em .8em;accent-color:var(--on)}
+pre{order:1;flex-basis:100%;display:none}
+input:checked+pre,body:not(:has(:checked))>pre:first-of-type{display:block}
+@media print{body{display:block}input{display:none}pre{display:block;break-after:page}}
+</style>
+";
+
+/// What begins the button of a picture, up to its title.
+const BUTTON_START: &[u8] = b"<input type=radio name=record title=\"";
 
 /// What the looks mean, after the end of the line above it.
 const PAGE_LEGEND: &[u8] = b" *)
@@ -188,11 +203,35 @@ pub(crate) fn add_drawn_line<W: Sink>(
 }
 
 /// What begins each page.
-#[tactic(auto, unfolding(crate::specs::Page::page_start))]
-fn page_start() -> &'static [u8]
-    ensures { result.now ≡ page_start }
+#[tactic(auto, unfolding(crate::specs::Page::page_opening))]
+fn page_opening() -> &'static [u8]
+    ensures { result.now ≡ page_opening }
 {
-    PAGE_START
+    PAGE_OPENING
+}
+
+/// The style of each page.
+#[tactic(auto, unfolding(crate::specs::Page::page_style))]
+fn page_style() -> &'static [u8]
+    ensures { result.now ≡ page_style }
+{
+    PAGE_STYLE
+}
+
+/// What a page of many pictures adds to its style.
+#[tactic(auto, unfolding(crate::specs::Page::frames_style))]
+fn frames_style() -> &'static [u8]
+    ensures { result.now ≡ frames_style }
+{
+    FRAMES_STYLE
+}
+
+/// What begins a button.
+#[tactic(auto, unfolding(crate::specs::Page::button_start))]
+fn button_start() -> &'static [u8]
+    ensures { result.now ≡ button_start }
+{
+    BUTTON_START
 }
 
 /// What the looks mean.
@@ -203,7 +242,41 @@ fn page_legend() -> &'static [u8]
     PAGE_LEGEND
 }
 
-/// Adds what is above the lines.
+/// Adds what begins a page with this title and the rest of its style.
+fn add_page_begun<W: Sink>(
+    block: &mut Block,
+    title: &[u8],
+    rest: &[u8],
+    writer: &mut W,
+) -> Result<(), WriteFault>
+    ensures { Sends (W.log writer.old) (W.log writer.new) block.old block.new result (page_begun title.now rest.now) }
+{
+    let pieces = [
+        Piece::Text(page_opening()),
+        Piece::Text(title),
+        Piece::Text(page_style()),
+        Piece::Text(rest),
+    ];
+    add_pieces(block, pieces.as_slice(), writer)
+}
+
+/// Adds what begins a page of one picture.
+#[tactic(auto, unfolding(crate::specs::Page::page_start))]
+fn add_page_start<W: Sink>(block: &mut Block, writer: &mut W) -> Result<(), WriteFault>
+    ensures { Sends (W.log writer.old) (W.log writer.new) block.old block.new result page_start }
+{
+    add_page_begun(block, b"diagram", b"</style>\n<pre>\n", writer)
+}
+
+/// Adds what begins a page of many pictures.
+#[tactic(auto, unfolding(crate::specs::Page::frames_start))]
+pub(crate) fn add_frames_start<W: Sink>(block: &mut Block, writer: &mut W) -> Result<(), WriteFault>
+    ensures { Sends (W.log writer.old) (W.log writer.new) block.old block.new result frames_start }
+{
+    add_page_begun(block, b"film", frames_style(), writer)
+}
+
+/// Adds what is above the lines of a page.
 pub(crate) fn add_page_head<W: Sink>(
     block: &mut Block,
     picture: Picture<'_>,
@@ -211,18 +284,30 @@ pub(crate) fn add_page_head<W: Sink>(
 ) -> Result<(), WriteFault>
     ensures { Sends (W.log writer.old) (W.log writer.new) block.old block.new result (page_head picture.entry.program.now picture.entry.after.now) }
 {
-    block.add(page_start(), writer)?;
+    add_page_start(block, writer)?;
     add_above(block, picture, page_legend(), writer)
 }
 
-/// Adds what is below them.
-pub(crate) fn add_page_tail<W: Sink>(
+/// Adds the button of a picture.
+fn add_button<W: Sink>(block: &mut Block, after: &State, writer: &mut W) -> Result<(), WriteFault>
+    ensures { Sends (W.log writer.old) (W.log writer.new) block.old block.new result (button after.now) }
+{
+    let pieces = [
+        Piece::Text(button_start()),
+        Piece::Number(after.moment()),
+        Piece::Text(b" ms\">\n<pre>\n"),
+    ];
+    add_pieces(block, pieces.as_slice(), writer)
+}
+
+/// Adds what is above the lines of a picture of a page.
+pub(crate) fn add_frame_head<W: Sink>(
     block: &mut Block,
     picture: Picture<'_>,
     writer: &mut W,
 ) -> Result<(), WriteFault>
-    ensures { Sends (W.log writer.old) (W.log writer.new) block.old block.new result (page_tail picture.entry.program.now picture.entry.after.now) }
+    ensures { Sends (W.log writer.old) (W.log writer.new) block.old block.new result (frame_head picture.entry.program.now picture.entry.after.now) }
 {
-    add_tail(block, picture, writer)?;
-    block.add(b"</pre>\n</html>\n", writer)
+    add_button(block, picture.after, writer)?;
+    add_above(block, picture, page_legend(), writer)
 }

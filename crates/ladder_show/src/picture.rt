@@ -9,8 +9,12 @@ use ladder_scan::{Mark, State};
 pub enum Style {
     /// As text, with marks in the place of characters.
     Marked,
+    /// As text that another may follow.
+    MarkedFrame,
     /// As a page of HTML, with elements round characters.
     Page,
+    /// As one of the pictures of a page.
+    PageFrame,
 }
 
 /// How a program is drawn, the state after the scan, the variable whose coils are explained, the rungs among the lines of its text, what

@@ -1,8 +1,9 @@
-//! One scan of a program, and its drawing.
+//! One scan of a program, and its drawing, which can be one of a film.
 
-ghost use Rattle.std.specs.Prelude.{◌≡◌, ◌≤◌, IfErr, IfOk, drop, length};
+ghost use Rattle.std.specs.Prelude.{◌≡◌, ◌≤◌, IfErr, OnOk, drop, length};
 ghost use Rattle.ladder_grid.specs.Reading.{IsProgram};
-ghost use Rattle.ladder_show.specs.Showing.{Fails, Written, scan_of, state_after};
+ghost use Rattle.ladder_scan.specs.Standing.{Fits};
+ghost use Rattle.ladder_show.specs.Showing.{Fails, IsLeft, Written, scan_of, state_after};
 
 use crate::fault::ShowFault;
 use crate::noting::write_noted;
@@ -10,6 +11,7 @@ use crate::picture::{Picture, Style};
 use ladder_grid::Program;
 use ladder_page::lines::lines;
 use ladder_page::outline_of;
+use ladder_scan::scene::checked;
 use ladder_scan::{State, see};
 use ladder_text::Sink;
 use std::alloc::Global;
@@ -20,8 +22,6 @@ pub struct Scan<'a> {
     /// The text of the program.
     pub text: &'a [u8],
     pub program: &'a Program,
-    /// The state before the scan.
-    pub state: &'a State,
     /// The values of the inputs, in order of declaration.
     pub inputs: &'a [bool],
     /// The moment of the scan, in milliseconds.
@@ -37,25 +37,29 @@ fn behind(text: &[u8], place: usize) -> &[u8]
     &text[place..]
 }
 
-/// Scans once, and writes what follows END_VAR in the text of the program with the power flow of the scan. Returns the state after it.
+/// Scans once from the state, and writes what follows END_VAR in the text of the program with the power flow of the scan.
 ///
 /// # Errors
 ///
-/// `Memory` when out of memory; `Write` where the writer failed.
+/// `Memory` when out of memory: the state is unchanged. `Write` where the writer failed: the state is the one after the scan.
 pub fn write_drawing<W: Sink>(
     alloc: Global,
     style: Style,
     scan: Scan<'_>,
+    state: &mut State,
     writer: &mut W,
-) -> Result<State, ShowFault>
+) -> Result<(), ShowFault>
     requires drawn { IsProgram scan.text.now scan.program.now }
-    requires moment { scan.state.now.moment ≤ scan.moment }
-    ensures wrote { IfOk result (λ _. Written style (scan_of scan.entry) (W.log writer.old) (W.log writer.new)) }
-    ensures after { IfOk result (λ s. s ≡ state_after (scan_of scan.entry)) }
-    ensures fails { IfErr result (Fails style (scan_of scan.entry) (W.log writer.old) (W.log writer.new)) }
+    requires moment { state.old.moment ≤ scan.moment }
+    ensures wrote { OnOk result (Written style (scan_of scan.entry state.old) (W.log writer.old) (W.log writer.new)) }
+    ensures after { OnOk result (state.new ≡ state_after (scan_of scan.entry state.old)) }
+    ensures fails { IfErr result (Fails style (scan_of scan.entry state.old) (W.log writer.old) (W.log writer.new)) }
+    ensures left { IfErr result (IsLeft (scan_of scan.entry state.old) state.new) }
+    ensures fits { Fits scan.entry.program.now state.old → Fits scan.entry.program.now state.new }
 {
     let _rungs = scan.program.rungs();
-    let Ok(sight) = see(alloc, scan.program, scan.state, scan.inputs, scan.moment) else {
+    checked(scan.program);
+    let Ok(sight) = see(alloc, scan.program, state, scan.inputs, scan.moment) else {
         return Err(ShowFault::Memory);
     };
     let Ok(outline) = outline_of(alloc, scan.text) else {
@@ -73,8 +77,10 @@ pub fn write_drawing<W: Sink>(
         marks: &sight.marks,
         lines: &lines,
     };
-    match write_noted(picture, writer) {
-        Ok(()) => Ok(sight.state),
+    let written = write_noted(picture, writer);
+    *state = sight.state;
+    match written {
+        Ok(()) => Ok(()),
         Err(_) => Err(ShowFault::Write),
     }
 }

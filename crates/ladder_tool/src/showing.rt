@@ -69,7 +69,7 @@ pub(crate) fn show<O: Sink, E: Sink>(
         → Refuses (HasShowFault (given_by texts.now) (viewing_of viewing.entry)) (logs (O.log out.old) save (E.log err.old)) (logs (O.log out.new) save (E.log err.new))
         ⊎ (Shows (given_by texts.now) (viewing_of viewing.entry) (PutsPrefix (O.log out.old) (O.log out.new)) × IsReported (E.log err.old) (E.log err.new) ToolFault.Write) }
 {
-    let setting = match read_setting(alloc, texts) {
+    let mut setting = match read_setting(alloc, texts) {
         Ok(setting) => setting,
         Err(fault) => return report(&fault, err),
     };
@@ -91,13 +91,18 @@ pub(crate) fn show<O: Sink, E: Sink>(
     let scan = Scan {
         text: &texts.program,
         program,
-        state,
         inputs: &inputs,
         moment: now,
         coil: asked.coil,
     };
-    match write_drawing(alloc, style_for(viewing.medium), scan, out) {
-        Ok(_) => 0,
+    match write_drawing(
+        alloc,
+        style_for(viewing.medium),
+        scan,
+        &mut setting.state,
+        out,
+    ) {
+        Ok(()) => 0,
         Err(ShowFault::Memory) => report(&ToolFault::Memory, err),
         Err(ShowFault::Write) => report(&ToolFault::Write, err),
     }

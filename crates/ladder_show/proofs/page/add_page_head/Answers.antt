@@ -4,14 +4,14 @@ use Rattle.ladder_show.specs.Notes.{above}
 use Rattle.ladder_show.specs.Page.{page_head, page_legend, page_start}
 use Rattle.ladder_show.proofs.page.add_page_head.Goals as goal
 
-pub returns-in_err-add : goal.returns-in_err-add
-returns-in_err-add g c = sends_err _ _ _ _ _ _ c.from_residual.ensures.0
+pub returns-in_err-add_page_start : goal.returns-in_err-add_page_start
+returns-in_err-add_page_start g c = sends_err _ _ _ _ _ _ c.from_residual.ensures.0
     (let x = c.args.picture in
     sends_prefix _ _ _ c.args.block.now c.args.block.now (page_head x.program.now x.after.now) [] page_start (above x.program.now x.after.now page_legend) refl
-    (sends_none _ c.args.block.now) (rw c.page_start.ensures at c.in_err-add.ensures))
+    (sends_none _ c.args.block.now) c.in_err-add_page_start.ensures)
 
 pub returns : goal.returns
 returns g c =
     let x = c.args.picture in
     sends_last _ _ _ _ _ _ (page_head x.program.now x.after.now) page_start (above x.program.now x.after.now page_legend) _ refl
-    (rw c.page_start.ensures at c.in_ok-add.ensures) (rw c.page_legend.ensures at c.add_above.ensures)
+    c.in_ok-add_page_start.ensures (rw c.page_legend.ensures at c.add_above.ensures)

@@ -1,0 +1,17 @@
+use Rattle.std.proofs.Common.{[], refl}
+use Rattle.ladder_text.proofs.Sending.{sends_prefix, sends_last, sends_none, sends_err}
+use Rattle.ladder_show.specs.Notes.{above}
+use Rattle.ladder_show.specs.Page.{button, frame_head, page_legend}
+use Rattle.ladder_show.proofs.page.add_frame_head.Goals as goal
+
+pub returns-in_err-add_button : goal.returns-in_err-add_button
+returns-in_err-add_button g c = sends_err _ _ _ _ _ _ c.from_residual.ensures.0
+    (let x = c.args.picture in
+    sends_prefix _ _ _ c.args.block.now c.args.block.now (frame_head x.program.now x.after.now) [] (button x.after.now) (above x.program.now x.after.now page_legend) refl
+    (sends_none _ c.args.block.now) c.in_err-add_button.ensures)
+
+pub returns : goal.returns
+returns g c =
+    let x = c.args.picture in
+    sends_last _ _ _ _ _ _ (frame_head x.program.now x.after.now) (button x.after.now) (above x.program.now x.after.now page_legend) _ refl
+    c.in_ok-add_button.ensures (rw c.page_legend.ensures at c.add_above.ensures)
