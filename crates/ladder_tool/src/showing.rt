@@ -9,7 +9,7 @@ ghost use Rattle.ladder_tool.specs.Setting.{given_by};
 use crate::fault::ToolFault;
 use crate::listing::moment;
 use crate::report::report;
-use crate::setting::read_setting;
+use crate::setting::{Setting, read_setting};
 use crate::texts::Texts;
 use crate::variables::shown_variables;
 use ladder_causes::{CauseFault, assignment};
@@ -69,39 +69,32 @@ pub(crate) fn show<O: Sink, E: Sink>(
         → Refuses (HasShowFault (given_by texts.now) (viewing_of viewing.entry)) (logs (O.log out.old) save (E.log err.old)) (logs (O.log out.new) save (E.log err.new))
         ⊎ (Shows (given_by texts.now) (viewing_of viewing.entry) (PutsPrefix (O.log out.old) (O.log out.new)) × IsReported (E.log err.old) (E.log err.new) ToolFault.Write) }
 {
-    let mut setting = match read_setting(alloc, texts) {
+    let Setting { program, mut state } = match read_setting(alloc, texts) {
         Ok(setting) => setting,
         Err(fault) => return report(&fault, err),
     };
-    let (program, state) = (&setting.program, &setting.state);
     let asked = match shown_variables(alloc, program.decls(), viewing.coil, viewing.inputs) {
         Ok(asked) => asked,
         Err(fault) => return report(&fault, err),
     };
-    match coil_refusal(program, asked.coil) {
+    match coil_refusal(&program, asked.coil) {
         Some(fault) => return report(&ToolFault::Cause(fault), err),
         None => (),
     }
     let now = moment(viewing.moment, state.moment());
     let number = viewing.number.unwrap_or(0);
-    let inputs = match assignment(alloc, program, state, now, &asked.inputs, number) {
+    let inputs = match assignment(alloc, &program, &state, now, &asked.inputs, number) {
         Ok(inputs) => inputs,
         Err(fault) => return report(&ToolFault::Cause(fault), err),
     };
     let scan = Scan {
         text: &texts.program,
-        program,
+        program: &program,
         inputs: &inputs,
         moment: now,
         coil: asked.coil,
     };
-    match write_drawing(
-        alloc,
-        style_for(viewing.medium),
-        scan,
-        &mut setting.state,
-        out,
-    ) {
+    match write_drawing(alloc, style_for(viewing.medium), scan, &mut state, out) {
         Ok(()) => 0,
         Err(ShowFault::Memory) => report(&ToolFault::Memory, err),
         Err(ShowFault::Write) => report(&ToolFault::Write, err),
