@@ -2,8 +2,9 @@
 """Opens pages of `show --html` in a browser: browser.py PROGRAM [FOLDER].
 
 For each program of examples/, in the fresh state with its inputs OFF and with all of them ON: the text that the browser has is that of
-the drawing, line by line, and a picture in the light and in the dark mode is made, which differ. FOLDER gets the pages and pictures, to
-be looked at. Needs chromium; without it the test is passed over.
+the drawing, line by line, and a picture in the light and in the dark mode is made, which differ. For each stimulus with a trace: the page
+of its film has the drawing for each record, and shows another one where the last button is chosen. FOLDER gets the pages and pictures,
+to be looked at. Needs chromium; without it the test is passed over.
 """
 import html.parser
 import os
@@ -16,6 +17,7 @@ import tempfile
 ROOT = pathlib.Path(__file__).resolve().parent.parent
 BROWSERS = ("chromium", "chromium-browser", "google-chrome")
 MODES = {"light": "1", "dark": "0"}
+BUTTON = "<input type=radio name=record"
 
 
 class Preformatted(html.parser.HTMLParser):
@@ -52,14 +54,34 @@ def inputs(program):
     return [line.split()[0] for line in program.read_text("ascii").splitlines() if " AT %I" in line]
 
 
-def faults(browser, program, words, page):
-    """What is wrong with the page of one scan."""
+def text_faults(browser, lines, words, page):
+    """What is wrong with the text of a page, which is written."""
     page.write_bytes(subprocess.run(words, stdout=subprocess.PIPE, check=True).stdout)
     found = Preformatted()
     found.feed(opened(browser, page, "--dump-dom").decode())
-    have, wrong = iter(found.text.splitlines()), []
-    wrong += [f"the line {line!r} isn't there, or not in its place" for line in drawing(program) if line not in have]
-    wrong += ["there is a script"] if found.has_script else []
+    have = iter(found.text.splitlines())
+    wrong = [f"the line {line!r} isn't there, or not in its place" for line in lines if line not in have]
+    return wrong + (["there is a script"] if found.has_script else [])
+
+
+def film_faults(browser, program, words, stimulus, page):
+    """What is wrong with the page of a film."""
+    records = len(stimulus.read_text("ascii").splitlines()) - 1
+    wrong = text_faults(browser, drawing(program) * records, words, page)
+    text, chosen = page.read_text("ascii"), page.with_suffix(".last.html")
+    before, last = text.rsplit(BUTTON, 1)
+    chosen.write_text(f"{before}{BUTTON} checked{last}", "ascii")
+    pictures = [one.with_suffix(".png") for one in (page, chosen)]
+    for one, picture in zip((page, chosen), pictures):
+        opened(browser, one, "--window-size=1250,1000", f"--screenshot={picture}")
+    if len({picture.read_bytes() for picture in pictures}) != len(pictures):
+        wrong.append("the last button shows nothing else")
+    return wrong
+
+
+def faults(browser, program, words, page):
+    """What is wrong with the page of one scan."""
+    wrong = text_faults(browser, drawing(program), words, page)
     pictures = {mode: page.with_suffix(f".{mode}.png") for mode in MODES}
     for mode, scheme in MODES.items():
         opened(browser, page, f"--blink-settings=preferredColorScheme={scheme}", "--window-size=1250,1000", f"--screenshot={pictures[mode]}")
@@ -86,6 +108,14 @@ def main():
                 tried, passed = tried + 1, passed + (not wrong)
                 for fault in wrong:
                     print(f"{page.name}: {fault}")
+        for trace in sorted(ROOT.glob("examples/*/*.trace.csv")):
+            stimulus = trace.with_name(trace.name.replace(".trace", ""))
+            program = next(path for path in sorted(trace.parent.glob("*.ld")) if path.stem != "draft")
+            page = folder / f"{trace.parent.name}.{stimulus.stem}.film.html"
+            wrong = film_faults(browser, program, [ladder, "show", "--html", "--stimulus", stimulus, program], stimulus, page)
+            tried, passed = tried + 1, passed + (not wrong)
+            for fault in wrong:
+                print(f"{page.name}: {fault}")
     print(f"{passed} of {tried} pages are shown as they must be")
     return 0 if passed == tried else 1
 

@@ -33,6 +33,8 @@ REQUESTS = (
     (("causes", "--grouped", "--state", "running.csv", "motor.ld", "Motor", "Start", "Stop"), LINES),
     (("causes", "--grouped", "--st", "--order", "auto", "motor.ld", "Motor", "Start", "Stop"), LINES),
     (("show", "--state", "running.csv", "--number", "2", "motor.ld", "Start", "Stop"), LINES),
+    (("show", "--stimulus", "back.csv", "motor.ld"), ("fault V9\n", "fault X7\n")),
+    (("show", "--html", "--coil", "Motor", "--stimulus", "back.csv", "motor.ld"), ("fault V9\n", "fault X7\n")),
     (("sim", "motor.ld", "back.csv"), ("fault V9\n", "fault X7\n")),
     (("sim", "--save", "saved.csv", "motor.ld", "long.csv"), ("fault V9\n", "fault X7\n")),
     (("sim", "--state", "running.csv", "--save", "saved.csv", "motor.ld", "long.csv"), ("fault V9\n", "fault X7\n")),
@@ -54,7 +56,7 @@ def ended(program, library, words, refused, counted=None):
 
 def is_refused(words, whole, ending):
     """Whether the request ended by a line for being out of memory, and left what it must."""
-    is_prefix = whole.out.startswith(ending.out) and ending.out[-1:] in ("", "\n") if words[0] == "sim" else not ending.out
+    is_prefix = whole.out.startswith(ending.out) and ending.out[-1:] in ("", "\n") if words[0] == "sim" or "--stimulus" in words else not ending.out
     return ending.status == 1 and ending.err in LINES and is_prefix and ending.saved is None
 
 
