@@ -1,12 +1,12 @@
 -- Faults and simulations of a text that is given by another name.
-use Rattle.std.proofs.Common.{◌≡◌, ℕ, List, Option, Result, subst}
+use Rattle.std.proofs.Common.{◌≡◌, ℕ, List, Result}
 use Rattle.ladder_tool.specs.declared.fault.ToolFault.{ToolFault}
 use Rattle.ladder_grid.specs.Program.{Drawing}
 use Rattle.ladder_records.specs.Text.{records_of}
 use Rattle.ladder_scan.specs.Standing.{Standing}
-use Rattle.ladder_show.specs.declared.picture.Style.{Style}
 use Rattle.ladder_text.specs.Log.{WriteLog}
 use Rattle.ladder_trace.specs.declared.fault.SimFault.{SimFault}
+use Rattle.ladder_trace.specs.declared.recording.Film.{Film}
 use Rattle.ladder_trace.specs.Simulation.{Films, Simulates}
 use Rattle.ladder_tool.specs.Setting.{HasProgramFault}
 
@@ -17,9 +17,6 @@ pub same_stimulus : (p : Drawing) (s t : Standing) (a b : List ℕ) (old new : W
     → Simulates p s (records_of a) t old new r → Simulates p s (records_of b) t old new r
 same_stimulus p s t a b old new r e h = rw e at h
 
-pub same_film : (p : Drawing) (s t : Standing) (a b : Style) (x y stimulus given : List ℕ) (coil : Option ℕ) (old new : WriteLog) (r : Result ℕ SimFault) → a ≡ b → x ≡ y → stimulus ≡ given
-    → Films a x coil p s (records_of stimulus) t old new r → Films b y coil p s (records_of given) t old new r
-same_film p s t a b x y stimulus given coil old new r of_style of_text of_stimulus h =
-    subst (λ f. Films f y coil p s (records_of given) t old new r) of_style
-    (subst (λ text. Films a text coil p s (records_of given) t old new r) of_text
-    (subst (λ bytes. Films a x coil p s (records_of bytes) t old new r) of_stimulus h))
+pub same_film : (film : Film) (p : Drawing) (s t : Standing) (a b : List ℕ) (old new : WriteLog) (r : Result ℕ SimFault) → a ≡ b
+    → Films film p s (records_of a) t old new r → Films film p s (records_of b) t old new r
+same_film film p s t a b old new r e h = rw e at h

@@ -28,6 +28,7 @@ use Rattle.ladder_sim.specs.declared.group_text.GroupForm.TheVariants as group_f
 use Rattle.ladder_state.specs.StateText.{state_text}
 use Rattle.ladder_text.specs.Log.{PutsAll, PutsPrefix, WriteLog}
 use Rattle.ladder_trace.specs.declared.fault.SimFault.{SimFault}
+use Rattle.ladder_trace.specs.declared.recording.Film.{Film}
 use Rattle.ladder_trace.specs.Simulation.{Films, Simulates}
 use Rattle.ladder_uses.specs.Uses.{uses_text}
 use Rattle.ladder_tool.specs.declared.fault.ToolFault.{ToolFault}
@@ -40,7 +41,8 @@ use Rattle.ladder_words.specs.declared.request.InputOrder.TheVariants as order
 use Rattle.ladder_words.specs.declared.request.Medium.{Medium}
 use Rattle.ladder_words.specs.declared.request.Medium.TheVariants as medium
 use Rattle.ladder_words.specs.declared.request.Request.{Request}
-use Rattle.ladder_words.specs.declared.request.Request.TheVariants.{Causes, Check, Film, Groups, Show, Sim, Uses}
+use Rattle.ladder_words.specs.declared.request.Request.TheVariants.{Causes, Check, Groups, Show, Sim, Uses}
+use Rattle.ladder_words.specs.declared.request.Request.TheVariants as request
 use Rattle.ladder_tool.specs.FaultLine.{fault_line}
 use Rattle.ladder_tool.specs.Setting.{Given, HasProgramFault, HasSettingFault, IsSet, stimulus_records}
 use Rattle.ladder_tool.specs.Variables.{AreVariables, IsUnknownWord, variable_of}
@@ -307,6 +309,12 @@ frame_for medium.Page = style.PageFrame
 abbrev pub IsExplained : Declared → Option (List ℕ) → Option ℕ → Type 0
 IsExplained decls name coil = option_map (variable_of decls) name ≡ option_map Some coil
 
+-- The film is that of the program text and of the coil's variable, drawn as it is asked for.
+pub record IsFilmOf (g : Given) (f : Filming) (coil : Option ℕ) (film : Film) : Type 0 where
+  pub style : film.style ≡ frame_for f.medium
+  pub text : film.text.now ≡ g.program
+  pub coil : film.coil ≡ coil
+
 -- The stimulus was shown from the state that is given, with this result.
 pub record ShowsStimulus (g : Given) (f : Filming) (out out' : WriteLog) (r : Result ℕ SimFault) : Type 0 where
   pub program : Drawing
@@ -316,7 +324,9 @@ pub record ShowsStimulus (g : Given) (f : Filming) (out out' : WriteLog) (r : Re
   pub set : IsSet g program before
   pub explained : IsExplained program.decls f.coil coil
   pub accepted : coil_refusal program coil ≡ None
-  pub film : Films (frame_for f.medium) g.program coil program before (stimulus_records g) after out out' r
+  pub film : Film
+  pub is : IsFilmOf g f coil film
+  pub shown : Films film program before (stimulus_records g) after out out' r
 
 -- Status 0: each record was shown.
 abbrev pub IsFilmed : Given → Filming → WriteLog → WriteLog → Type 0
@@ -358,7 +368,7 @@ IsDone (Groups state moment limit grouping file coil inputs) g old new =
     × (new.save ≡ old.save)
 IsDone (Show state moment number medium coil file inputs) g old new =
     Shows g (viewing moment number medium (option_map string_bytes coil) (map string_bytes inputs.items)) (PutsAll old.out new.out) × (new.save ≡ old.save) × (new.err ≡ old.err)
-IsDone (Film state medium coil file stimulus) g old new =
+IsDone (request.Film state medium coil file stimulus) g old new =
     IsFilmed g (filming medium (option_map string_bytes coil)) old.out new.out × (new.save ≡ old.save) × (new.err ≡ old.err)
 IsDone (Sim state save file stimulus) g old new = IsTraced g (is_some save) old new
 IsDone (Uses file) g old new = Prints uses_text g.program (PutsAll old.out new.out) × (new.save ≡ old.save) × (new.err ≡ old.err)
@@ -371,7 +381,7 @@ HasFault (Causes state moment after limit file coil inputs) g =
 HasFault (Groups state moment limit grouping file coil inputs) g =
     HasListFault g (asking moment None limit (string_bytes coil) (map string_bytes inputs.items))
 HasFault (Show state moment number medium coil file inputs) g = HasShowFault g (viewing moment number medium (option_map string_bytes coil) (map string_bytes inputs.items))
-HasFault (Film state medium coil file stimulus) g = HasFilmFault g (filming medium (option_map string_bytes coil))
+HasFault (request.Film state medium coil file stimulus) g = HasFilmFault g (filming medium (option_map string_bytes coil))
 HasFault (Sim state save file stimulus) g = HasSettingFault g
 HasFault (Uses file) g = HasProgramFault g.program
 
@@ -386,7 +396,7 @@ Breaks (Groups state moment limit grouping file coil inputs) g old new =
 Breaks (Show state moment number medium coil file inputs) g old new =
     Shows g (viewing moment number medium (option_map string_bytes coil) (map string_bytes inputs.items)) (PutsPrefix old.out new.out)
     × (new.save ≡ old.save) × IsReported old.err new.err fault.Write
-Breaks (Film state medium coil file stimulus) g old new = BreaksFilm g (filming medium (option_map string_bytes coil)) old new × (new.save ≡ old.save)
+Breaks (request.Film state medium coil file stimulus) g old new = BreaksFilm g (filming medium (option_map string_bytes coil)) old new × (new.save ≡ old.save)
 Breaks (Sim state save file stimulus) g old new = BreaksTrace g (is_some save) old new
 Breaks (Uses file) g old new =
     Prints uses_text g.program (PutsPrefix old.out new.out) × (new.save ≡ old.save) × IsReported old.err new.err fault.Write

@@ -45,7 +45,10 @@ returns-in-Ok-write_film-clause-done g c = λ status. (
       set = c.in-Ok.ensures.set;
       explained = rw c.decls.ensures at c.in-Ok-shown_variables.ensures.coil;
       accepted = sym c.coil_refusal.ensures ∙ c.in-None.is;
-      film = same_film c.in-Ok.setting.program c.in-Ok.setting.state c.write_film.new.state _ _ _ _ _ _ c.in-Ok-shown_variables.asked.coil (g.O.Sink.log c.args.out.now) (g.O.Sink.log c.write_film.new.writer) (Ok c.in-Ok-write_film.field-0) c.frame_for.ensures c.deref.ensures.value c.stimulus.ensures c.in-Ok-write_film.ensures.ends;
+      film = record { style = c.frame_for.result; text = c.deref.result; coil = c.in-Ok-shown_variables.asked.coil };
+      is = record { style = c.frame_for.ensures; text = c.deref.ensures.value; coil = refl };
+      shown = same_film _ c.in-Ok.setting.program c.in-Ok.setting.state c.write_film.new.state _ _ (g.O.Sink.log c.args.out.now) (g.O.Sink.log c.write_film.new.writer) (Ok c.in-Ok-write_film.field-0) c.stimulus.ensures
+          c.in-Ok-write_film.ensures.ends;
     },
   ),
   refl,
@@ -62,7 +65,10 @@ returns-clause-failed g c = λ save status. inr (
     set = c.in-Ok.ensures.set;
     explained = rw c.decls.ensures at c.in-Ok-shown_variables.ensures.coil;
     accepted = sym c.coil_refusal.ensures ∙ c.in-None.is;
-    film = same_film c.in-Ok.setting.program c.in-Ok.setting.state c.write_film.new.state _ _ _ _ _ _ c.in-Ok-shown_variables.asked.coil (g.O.Sink.log c.args.out.now) (g.O.Sink.log c.write_film.new.writer) (Err c.in-Err-write_film.fault) c.frame_for.ensures c.deref.ensures.value c.stimulus.ensures c.in-Err-write_film.ensures.ends;
+    film = record { style = c.frame_for.result; text = c.deref.result; coil = c.in-Ok-shown_variables.asked.coil };
+    is = record { style = c.frame_for.ensures; text = c.deref.ensures.value; coil = refl };
+    shown = same_film _ c.in-Ok.setting.program c.in-Ok.setting.state c.write_film.new.state _ _ (g.O.Sink.log c.args.out.now) (g.O.Sink.log c.write_film.new.writer) (Err c.in-Err-write_film.fault) c.stimulus.ensures
+        c.in-Err-write_film.ensures.ends;
   },
   c.report-in-Err-write_film.ensures.line,
 )
