@@ -1,4 +1,5 @@
--- How a simulation ends (the profile): with the course of the first records of a stimulus, and with what comes after them.
+-- How a simulation ends (the profile): with the course of the first records of a stimulus, and with what comes after them. It writes a
+-- trace or a film.
 -- Records are counted from 1 in a fault, the header included; a place in a list is counted from 0.
 use Rattle.std.specs.Prelude.{◌≡◌, ◌⊎◌, ◌++◌, ◌+◌, ◌<◌, ◌≤◌, ℕ, zero, suc, Bool, List, [], Contains, Option, None, Some, Result, Ok, Err, codes, length, slice_get, take}
 use Rattle.ladder_vars.specs.Decls.{Declared}
@@ -8,8 +9,11 @@ use Rattle.ladder_scan.specs.Standing.{Standing}
 use Rattle.ladder_text.specs.Log.{PutsAll, PutsPrefix, WriteLog}
 use Rattle.ladder_trace.specs.declared.fault.SimFault.{SimFault}
 use Rattle.ladder_trace.specs.declared.fault.SimFault.TheVariants as fault
+use Rattle.ladder_trace.specs.declared.recording.Film.{Film}
+use Rattle.ladder_trace.specs.declared.recording.Recording.{Recording}
+use Rattle.ladder_trace.specs.declared.recording.Recording.TheVariants as recordings
 use Rattle.ladder_trace.specs.Stimulus.{IsHeader, IsRow, input_named}
-use Rattle.ladder_trace.specs.Trace.{IsStep, trace_header, trace_row}
+use Rattle.ladder_trace.specs.Trace.{IsStep, head_text}
 
 -- There is an element at this place, and it is such a one.
 abbrev pub HasAt : {A : Type 0} → List A → ℕ → (A → Type 0) → Type 0
@@ -17,35 +21,37 @@ HasAt xs n P = (x : _) × (slice_get xs n ≡ Some x) × P x
 
 -- ---- the course of a stimulus
 
--- The header is good, and so are the first k records after it; one after the other they lead from s to t. Their trace is a text and a
--- last line: the header of the trace, and then a row for each record.
-unfoldable pub Runs : Drawing → List ℕ → Standing → List Fields → ℕ → List ℕ → List ℕ → Standing → Type 0
-Runs p columns s rows zero text line t = HasAt rows 0 (λ r. IsHeader p.decls r columns) × (text ≡ []) × (line ≡ trace_header p) × (t ≡ s)
-Runs p columns s rows (suc k) text line t =
-    (before last : List ℕ) × (u : Standing) × Runs p columns s rows k before last u × (text ≡ before ++ last)
-    × HasAt rows (suc k) (λ r. IsStep p columns u r t) × (line ≡ trace_row p t)
+-- The header is good, and so are the first k records after it; one after the other they lead from s to t. What is recorded of them is a
+-- text and a last piece: what stands before the first scan, and then a piece for each record.
+unfoldable pub Runs : Recording → Drawing → List ℕ → Standing → List Fields → ℕ → List ℕ → List ℕ → Standing → Type 0
+Runs recording p columns s rows zero text piece t =
+    HasAt rows 0 (λ r. IsHeader p.decls r columns) × (text ≡ []) × (piece ≡ head_text recording p) × (t ≡ s)
+Runs recording p columns s rows (suc k) text piece t =
+    (before last : List ℕ) × (u : Standing) × Runs recording p columns s rows k before last u × (text ≡ before ++ last)
+    × HasAt rows (suc k) (λ r. IsStep recording p columns u r t piece)
 
 -- This is how many records after the header are taken at most.
-abbrev pub most : ℕ
-most = 1000000
+abbrev pub most : Recording → ℕ
+most recordings.Trace = 1000000
+most (recordings.Film film) = 1000
 
 -- So the first k records lead from s to t, and they are not too many.
-pub record Course (p : Drawing) (s : Standing) (rows : List Fields) (k : ℕ) (t : Standing) : Type 0 where
+pub record Course (recording : Recording) (p : Drawing) (s : Standing) (rows : List Fields) (k : ℕ) (t : Standing) : Type 0 where
   pub columns : List ℕ
   pub text : List ℕ
-  pub line : List ℕ
-  pub runs : Runs p columns s rows k text line t
-  pub few : k ≤ most
+  pub piece : List ℕ
+  pub runs : Runs recording p columns s rows k text piece t
+  pub few : k ≤ most recording
 
--- They were taken: the whole trace of their course was written.
-pub record IsTaken (p : Drawing) (s : Standing) (rows : List Fields) (k : ℕ) (t : Standing) (old new : WriteLog) : Type 0 where
-  pub course : Course p s rows k t
-  pub wrote : PutsAll old new (course.text ++ course.line)
+-- They were taken: all that is recorded of their course was written.
+pub record IsTaken (recording : Recording) (p : Drawing) (s : Standing) (rows : List Fields) (k : ℕ) (t : Standing) (old new : WriteLog) : Type 0 where
+  pub course : Course recording p s rows k t
+  pub wrote : PutsAll old new (course.text ++ course.piece)
 
 -- Some first records were taken, and the next one, which is not past the most, is such a one for the columns of the header.
-abbrev pub StopsAt : Drawing → Standing → List Fields → Standing → WriteLog → WriteLog → (List ℕ → Fields → Type 0) → ℕ → Type 0
-StopsAt p s rows t old new P n =
-    (k : ℕ) × (h : IsTaken p s rows k t old new) × HasAt rows (k + 1) (P h.course.columns) × (k < most) × (n ≡ k + 2)
+abbrev pub StopsAt : Recording → Drawing → Standing → List Fields → Standing → WriteLog → WriteLog → (List ℕ → Fields → Type 0) → ℕ → Type 0
+StopsAt recording p s rows t old new P n =
+    (k : ℕ) × (h : IsTaken recording p s rows k t old new) × HasAt rows (k + 1) (P h.course.columns) × (k < most recording) × (n ≡ k + 2)
 
 -- ---- a record that isn't good
 
@@ -80,14 +86,24 @@ IsBadHeader d rows =
 abbrev pub IsUntouched : Standing → Standing → WriteLog → WriteLog → Type 0
 IsUntouched s t old new = (t ≡ s) × (new ≡ old)
 
--- From the state s and the records of a stimulus a simulation leads to t, writes, and returns the number of scans or a fault.
--- Where the writer failed, the trace was written with a prefix of its last line.
+-- From the state s and the records of a stimulus a simulation leads to t, writes what it records, and returns the number of scans or a
+-- fault. Where the writer failed, all was written but the last piece, and of that a prefix.
+abbrev pub Follows : Recording → Drawing → Standing → List Fields → Standing → WriteLog → WriteLog → Result ℕ SimFault → Type 0
+Follows recording p s rows t old new (Ok n) = IsTaken recording p s rows n t old new × (length rows ≡ n + 1)
+Follows recording p s rows t old new (Err (fault.BadRow n)) =
+    StopsAt recording p s rows t old new IsNoRow n ⊎ ((n ≡ 1) × IsBadHeader p.decls rows × IsUntouched s t old new)
+Follows recording p s rows t old new (Err (fault.UnknownName n)) = (n ≡ 1) × HasAt rows 0 (HasUnknownName p.decls) × IsUntouched s t old new
+Follows recording p s rows t old new (Err (fault.MomentBack n)) = StopsAt recording p s rows t old new (GoesBack t) n
+Follows recording p s rows t old new (Err (fault.TooLong n)) =
+    IsTaken recording p s rows (most recording) t old new × (most recording + 1 < length rows) × (n ≡ most recording + 2)
+Follows recording p s rows t old new (Err fault.Write) =
+    (k : ℕ) × (c : Course recording p s rows k t) × (cut : PutsPrefix old new (c.text ++ c.piece)) × (length c.text ≤ length cut.bytes.0)
+Follows recording p s rows t old new (Err fault.Memory) = ((k : ℕ) × IsTaken recording p s rows k t old new) ⊎ IsUntouched s t old new
+
+-- So with the trace.
 abbrev pub Simulates : Drawing → Standing → List Fields → Standing → WriteLog → WriteLog → Result ℕ SimFault → Type 0
-Simulates p s rows t old new (Ok n) = IsTaken p s rows n t old new × (length rows ≡ n + 1)
-Simulates p s rows t old new (Err (fault.BadRow n)) = StopsAt p s rows t old new IsNoRow n ⊎ ((n ≡ 1) × IsBadHeader p.decls rows × IsUntouched s t old new)
-Simulates p s rows t old new (Err (fault.UnknownName n)) = (n ≡ 1) × HasAt rows 0 (HasUnknownName p.decls) × IsUntouched s t old new
-Simulates p s rows t old new (Err (fault.MomentBack n)) = StopsAt p s rows t old new (GoesBack t) n
-Simulates p s rows t old new (Err (fault.TooLong n)) = IsTaken p s rows most t old new × (most + 1 < length rows) × (n ≡ most + 2)
-Simulates p s rows t old new (Err fault.Write) =
-    (k : ℕ) × (c : Course p s rows k t) × (cut : PutsPrefix old new (c.text ++ c.line)) × (length c.text ≤ length cut.bytes.0)
-Simulates p s rows t old new (Err fault.Memory) = ((k : ℕ) × IsTaken p s rows k t old new) ⊎ IsUntouched s t old new
+Simulates = Follows recordings.Trace
+
+-- And with a film.
+abbrev pub Films : Film → Drawing → Standing → List Fields → Standing → WriteLog → WriteLog → Result ℕ SimFault → Type 0
+Films film = Follows (recordings.Film film)

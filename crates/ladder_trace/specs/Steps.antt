@@ -1,26 +1,50 @@
 -- Private to the simulation: what its inner functions do with the header and with one record.
-use Rattle.std.specs.Prelude.{◌≡◌, ◌++◌, ◌∷◌, ◌+◌, ℕ, List, Result, Ok, Err, drop}
+use Rattle.std.specs.Prelude.{◌≡◌, ◌<◌, ◌≤◌, ◌++◌, ◌∷◌, ◌+◌, ℕ, Bool, List, Result, Ok, Err, drop}
 use Rattle.std.specs.Borrow.{Bor}
 use Rattle.csv.specs.declared.reader.Reader.{Reader}
 use Rattle.ladder_vars.specs.Decls.{Declared}
 use Rattle.ladder_grid.specs.Program.{Drawing}
+use Rattle.ladder_grid.specs.Reading.{IsProgram}
 use Rattle.ladder_records.specs.Left.{Fields, Left}
 use Rattle.ladder_scan.specs.Standing.{Standing}
 use Rattle.ladder_text.specs.Log.{PutsAll, PutsPrefix, WriteLog}
 use Rattle.ladder_trace.specs.declared.fault.SimFault.{SimFault}
 use Rattle.ladder_trace.specs.declared.fault.SimFault.TheVariants as fault
+use Rattle.ladder_trace.specs.declared.recording.Recording.{Recording}
+use Rattle.ladder_trace.specs.declared.recording.Recording.TheVariants as recordings
 use Rattle.ladder_trace.specs.Simulation.{GoesBack, HasUnknownName, IsBadHeader, IsNoRow, IsUntouched, Runs}
-use Rattle.ladder_trace.specs.Trace.{IsStep, trace_row}
+use Rattle.ladder_trace.specs.Trace.{IsStep, Tells, scanned}
 
--- The record of this number was scanned and its row written, or this fault kept it from that.
-abbrev pub StepsTo : {T : Type 0} → Drawing → List ℕ → ℕ → Standing → Fields → Standing → WriteLog → WriteLog → Result T SimFault → Type 0
-StepsTo p columns number s fields t old new (Ok u) = IsStep p columns s fields t × PutsAll old new (trace_row p t)
-StepsTo p columns number s fields t old new (Err (fault.BadRow n)) = (n ≡ number) × IsNoRow columns fields × IsUntouched s t old new
-StepsTo p columns number s fields t old new (Err (fault.UnknownName n)) = ⊥
-StepsTo p columns number s fields t old new (Err (fault.MomentBack n)) = (n ≡ number) × GoesBack s columns fields × IsUntouched s t old new
-StepsTo p columns number s fields t old new (Err (fault.TooLong n)) = ⊥
-StepsTo p columns number s fields t old new (Err fault.Write) = IsStep p columns s fields t × PutsPrefix old new (trace_row p t)
-StepsTo p columns number s fields t old new (Err fault.Memory) = ⊥
+-- A film needs the text of the program.
+abbrev pub CanRecord : Recording → Drawing → Type 0
+CanRecord recordings.Trace p = Unit {0}
+CanRecord (recordings.Film film) p = IsProgram film.text.now p
+
+-- One scan at a moment with these inputs leads from s to t, and the piece tells of it.
+pub record IsScan (recording : Recording) (p : Drawing) (s : Standing) (moment : ℕ) (inputs : List Bool) (t : Standing) (piece : List ℕ) : Type 0 where
+  pub later : s.moment ≤ moment
+  pub after : t ≡ scanned p s moment inputs
+  pub told : Tells recording p s moment inputs piece
+
+-- So it was for the record of this number, and the piece was written, or this fault kept it from that.
+abbrev pub ScansTo : {T : Type 0} → Recording → Drawing → ℕ → Standing → ℕ → List Bool → Standing → WriteLog → WriteLog → Result T SimFault → Type 0
+ScansTo recording p number s moment inputs t old new (Ok u) = (piece : List ℕ) × IsScan recording p s moment inputs t piece × PutsAll old new piece
+ScansTo recording p number s moment inputs t old new (Err (fault.BadRow n)) = ⊥
+ScansTo recording p number s moment inputs t old new (Err (fault.UnknownName n)) = ⊥
+ScansTo recording p number s moment inputs t old new (Err (fault.MomentBack n)) = (n ≡ number) × (moment < s.moment) × IsUntouched s t old new
+ScansTo recording p number s moment inputs t old new (Err (fault.TooLong n)) = ⊥
+ScansTo recording p number s moment inputs t old new (Err fault.Write) = (piece : List ℕ) × IsScan recording p s moment inputs t piece × PutsPrefix old new piece
+ScansTo recording p number s moment inputs t old new (Err fault.Memory) = IsUntouched s t old new
+
+-- The record of this number was scanned and its piece written, or this fault kept it from that.
+abbrev pub StepsTo : {T : Type 0} → Recording → Drawing → List ℕ → ℕ → Standing → Fields → Standing → WriteLog → WriteLog → Result T SimFault → Type 0
+StepsTo recording p columns number s fields t old new (Ok u) = (piece : List ℕ) × IsStep recording p columns s fields t piece × PutsAll old new piece
+StepsTo recording p columns number s fields t old new (Err (fault.BadRow n)) = (n ≡ number) × IsNoRow columns fields × IsUntouched s t old new
+StepsTo recording p columns number s fields t old new (Err (fault.UnknownName n)) = ⊥
+StepsTo recording p columns number s fields t old new (Err (fault.MomentBack n)) = (n ≡ number) × GoesBack s columns fields × IsUntouched s t old new
+StepsTo recording p columns number s fields t old new (Err (fault.TooLong n)) = ⊥
+StepsTo recording p columns number s fields t old new (Err fault.Write) = (piece : List ℕ) × IsStep recording p columns s fields t piece × PutsPrefix old new piece
+StepsTo recording p columns number s fields t old new (Err fault.Memory) = IsUntouched s t old new
 
 -- The header has no columns for this fault, whatever records follow it.
 abbrev pub NoColumns : Declared → Fields → List Fields → SimFault → Type 0
@@ -31,10 +55,10 @@ NoColumns d fields rows (fault.UnknownName n) = (n ≡ 1) × HasUnknownName d fi
 NoColumns d fields rows (fault.MomentBack n) = ⊥
 NoColumns d fields rows (fault.TooLong n) = ⊥
 
--- The first k records led from s to t, their trace was written, and the reader has left the records after them.
-pub record IsGoing (p : Drawing) (columns : List ℕ) (s : Standing) (rows : List Fields) (k : ℕ) (t : Standing) (old new : WriteLog) (r : Reader (Bor (List ℕ))) : Type 0 where
+-- The first k records led from s to t, what is recorded of them was written, and the reader has left the records after them.
+pub record IsGoing (recording : Recording) (p : Drawing) (columns : List ℕ) (s : Standing) (rows : List Fields) (k : ℕ) (t : Standing) (old new : WriteLog) (r : Reader (Bor (List ℕ))) : Type 0 where
   pub text : List ℕ
-  pub line : List ℕ
-  pub runs : Runs p columns s rows k text line t
-  pub wrote : PutsAll old new (text ++ line)
+  pub piece : List ℕ
+  pub runs : Runs recording p columns s rows k text piece t
+  pub wrote : PutsAll old new (text ++ piece)
   pub left : Left r (drop (k + 1) rows)

@@ -1,29 +1,36 @@
 //! The simulation of a stimulus, record by record.
 
-ghost use Rattle.std.specs.Prelude.{◌<◌, All, List, OnOk, count_by};
+ghost use Rattle.std.specs.Prelude.{◌≡◌, ◌<◌, ◌≤◌, [], All, List, OnOk, count_by};
 ghost use Rattle.csv.specs.Records.{fields_of};
+ghost use Rattle.ladder_grid.specs.Reading.{IsProgram};
 ghost use Rattle.ladder_records.specs.Left.{Fields, IsPlain};
 ghost use Rattle.ladder_records.specs.Text.{records_of};
 ghost use Rattle.ladder_scan.specs.Standing.{Fits};
-ghost use Rattle.ladder_text.specs.Log.{WriteLog};
+ghost use Rattle.ladder_text.specs.Log.{Puts, WriteLog};
 ghost use Rattle.ladder_vars.specs.Decls.{is_input};
 ghost use Rattle.ladder_trace.specs.Room.{IsReady};
-ghost use Rattle.ladder_trace.specs.Simulation.{Simulates};
-ghost use Rattle.ladder_trace.specs.Steps.{IsGoing, StepsTo};
+ghost use Rattle.ladder_trace.specs.Simulation.{Films, Follows, Simulates, most};
+ghost use Rattle.ladder_trace.specs.Steps.{CanRecord, IsGoing, ScansTo, StepsTo};
+ghost use Rattle.ladder_trace.specs.Trace.{head_text};
 
 use crate::fault::SimFault;
 use crate::header::columns;
+use crate::recording::{Film, Recording};
 use crate::row::{fill_inputs, give_columns, read_row};
 use crate::trace::{write_header, write_row};
 use csv::ByteRecord;
 use ladder_grid::Program;
 use ladder_records::{Records, next, read_from};
 use ladder_scan::{State, scan};
-use ladder_text::{Block, Sink};
+use ladder_show::{Scan, ShowFault, write_drawing, write_film_start};
+use ladder_text::{Block, Sink, WriteFault};
 use std::alloc::Global;
 
 /// The most records after the header.
 const MOST: u64 = 1_000_000;
+
+/// The most of a film.
+const MOST_DRAWN: u64 = 1_000;
 
 /// What a simulation allocates before its first write: a record, the input image, and the buffer for a row of the trace.
 #[derive(Drop)]
@@ -33,10 +40,45 @@ struct Room {
     block: Block,
 }
 
-/// One record: its scan, and then the writing of its row.
-fn step<W: Sink>(
+/// A program, and what is written of its scans.
+#[derive(Clone, Copy)]
+struct Run<'a> {
+    alloc: Global,
+    program: &'a Program,
+    recording: Recording<'a>,
+}
+
+fn most(recording: Recording<'_>) -> u64
+    ensures value { result ≡ most recording.entry }
+    ensures small { result ≤ 1000000 }
+{
+    match recording {
+        Recording::Trace => MOST,
+        Recording::Film(_) => MOST_DRAWN,
+    }
+}
+
+/// Writes what stands before the first scan.
+fn write_head<W: Sink>(
+    recording: Recording<'_>,
     program: &Program,
-    columns: &[usize],
+    block: &mut Block,
+    writer: &mut W,
+) -> Result<(), WriteFault>
+    requires { block.old ≡ [] }
+    ensures wrote { Puts (W.log writer.old) (W.log writer.new) result (head_text recording.entry program.now) }
+    ensures empty { OnOk result (block.new ≡ []) }
+{
+    match recording {
+        Recording::Trace => write_header(program, block, writer),
+        Recording::Film(film) => write_film_start(film.style, writer),
+    }
+}
+
+/// A scan with the input image, and then the writing of its row.
+fn trace_scan<W: Sink>(
+    program: &Program,
+    moment: u64,
     number: u64,
     room: &mut Room,
     state: &mut State,
@@ -44,16 +86,10 @@ fn step<W: Sink>(
 ) -> Result<(), SimFault>
     requires fits { Fits program.now state.old }
     requires ready { IsReady program.now room.old.image.items room.old.block }
-    requires below { All (λ c. c < count_by is_input program.now.decls.vars) columns.now }
     ensures fits { Fits program.now state.new }
     ensures ready { OnOk result (IsReady program.now room.new.image.items room.new.block) }
-    ensures steps { StepsTo program.now columns.now number state.old (fields_of room.old.row) state.new (W.log writer.old) (W.log writer.new) result }
+    ensures scans { ScansTo Recording.Trace program.now number state.old moment room.old.image.items state.new (W.log writer.old) (W.log writer.new) result }
 {
-    let Some(moment) = read_row(columns, &room.row) else {
-        return Err(SimFault::BadRow { row: number });
-    };
-    fill_inputs(program.decls().vars(), state, &mut room.image);
-    give_columns(columns, &room.row, &mut room.image);
     let Ok(()) = scan(program, state, &room.image, moment) else {
         return Err(SimFault::MomentBack { row: number });
     };
@@ -63,22 +99,87 @@ fn step<W: Sink>(
     Ok(())
 }
 
-/// Takes all records after the header, whose line is written.
-fn simulate_rows<W: Sink>(
-    program: &Program,
+/// A scan with the input image, and the writing of its drawing.
+fn draw_scan<W: Sink>(
+    run: Run<'_>,
+    film: Film<'_>,
+    moment: u64,
+    number: u64,
+    image: &[bool],
+    state: &mut State,
+    writer: &mut W,
+) -> Result<(), SimFault>
+    requires drawn { IsProgram film.text.now run.program.now }
+    requires fits { Fits run.program.now state.old }
+    ensures fits { Fits run.entry.program.now state.new }
+    ensures scans { ScansTo (Recording.Film film.entry) run.entry.program.now number state.old moment image.now state.new (W.log writer.old) (W.log writer.new) result }
+{
+    if moment < state.moment() {
+        return Err(SimFault::MomentBack { row: number });
+    }
+    let scan = Scan {
+        text: film.text,
+        program: run.program,
+        inputs: image,
+        moment,
+        coil: film.coil,
+    };
+    match write_drawing(run.alloc, film.style, scan, state, writer) {
+        Ok(()) => Ok(()),
+        Err(ShowFault::Memory) => Err(SimFault::Memory),
+        Err(ShowFault::Write) => Err(SimFault::Write),
+    }
+}
+
+/// One record: its scan, and the writing of what is recorded of it.
+fn step<W: Sink>(
+    run: Run<'_>,
+    columns: &[usize],
+    number: u64,
+    room: &mut Room,
+    state: &mut State,
+    writer: &mut W,
+) -> Result<(), SimFault>
+    requires recorded { CanRecord run.recording run.program.now }
+    requires fits { Fits run.program.now state.old }
+    requires ready { IsReady run.program.now room.old.image.items room.old.block }
+    requires below { All (λ c. c < count_by is_input run.program.now.decls.vars) columns.now }
+    ensures fits { Fits run.entry.program.now state.new }
+    ensures ready { OnOk result (IsReady run.entry.program.now room.new.image.items room.new.block) }
+    ensures steps { StepsTo run.entry.recording run.entry.program.now columns.now number state.old (fields_of room.old.row) state.new (W.log writer.old) (W.log writer.new) result }
+{
+    let Some(moment) = read_row(columns, &room.row) else {
+        return Err(SimFault::BadRow { row: number });
+    };
+    let program = run.program;
+    fill_inputs(program.decls().vars(), state, &mut room.image);
+    give_columns(columns, &room.row, &mut room.image);
+    match run.recording {
+        Recording::Trace => trace_scan(program, moment, number, room, state, writer),
+        Recording::Film(film) => draw_scan(run, film, moment, number, &room.image, state, writer),
+    }
+}
+
+/// Takes all records after the header, when what stands before the first scan is written.
+fn follow_rows<W: Sink>(
+    run: Run<'_>,
     columns: &[usize],
     records: &mut Records<'_>,
     room: &mut Room,
     state: &mut State,
     writer: &mut W,
 ) -> Result<u64, SimFault>
+    requires recorded { CanRecord run.recording run.program.now }
     requires plain { IsPlain records.old }
-    requires fits { Fits program.now state.old }
-    requires ready { IsReady program.now room.old.image.items room.old.block }
-    requires below { All (λ c. c < count_by is_input program.now.decls.vars) columns.now }
-    ensures fits { Fits program.now state.new }
-    ensures ends { (rows : List Fields) (log : WriteLog) → IsGoing program.now columns.now state.old rows 0 state.old log (W.log writer.old) records.old → Simulates program.now state.old rows state.new log (W.log writer.new) result }
+    requires fits { Fits run.program.now state.old }
+    requires ready { IsReady run.program.now room.old.image.items room.old.block }
+    requires below { All (λ c. c < count_by is_input run.program.now.decls.vars) columns.now }
+    ensures fits { Fits run.entry.program.now state.new }
+    ensures ends { (rows : List Fields) (log : WriteLog)
+        → IsGoing run.entry.recording run.entry.program.now columns.now state.old rows 0 state.old log (W.log writer.old) records.old
+        → Follows run.entry.recording run.entry.program.now state.old rows state.new log (W.log writer.new) result }
 {
+    let most = most(run.recording);
     for number in 0..u64::MAX {
         let Ok(found) = next(records, &mut room.row) else {
             return Err(SimFault::Memory);
@@ -86,14 +187,52 @@ fn simulate_rows<W: Sink>(
         if !found {
             return Ok(number);
         }
-        if number == MOST {
-            return Err(SimFault::TooLong { row: MOST + 2 });
+        if number == most {
+            return Err(SimFault::TooLong { row: most + 2 });
         }
-        if let Err(fault) = step(program, columns, number + 2, room, state, writer) {
+        if let Err(fault) = step(run, columns, number + 2, room, state, writer) {
             return Err(fault);
         }
     }
     Err(SimFault::Memory)
+}
+
+/// Takes the records of a stimulus one after the other, and writes what is recorded of them.
+fn follow<W: Sink>(
+    run: Run<'_>,
+    state: &mut State,
+    stimulus: &[u8],
+    writer: &mut W,
+) -> Result<u64, SimFault>
+    requires recorded { CanRecord run.recording run.program.now }
+    requires fits { Fits run.program.now state.old }
+    ensures fits { Fits run.entry.program.now state.new }
+    ensures ends { Follows run.entry.recording run.entry.program.now state.old (records_of stimulus.now) state.new (W.log writer.old) (W.log writer.new) result }
+{
+    let (alloc, program) = (run.alloc, run.program);
+    let mut records = read_from(alloc, stimulus);
+    let Ok(image) = vec![in alloc; false; program.decls().inputs()] else {
+        return Err(SimFault::Memory);
+    };
+    let mut room = Room {
+        row: ByteRecord::new(alloc),
+        image,
+        block: Block::new(),
+    };
+    let Ok(found) = next(&mut records, &mut room.row) else {
+        return Err(SimFault::Memory);
+    };
+    if !found {
+        return Err(SimFault::BadRow { row: 1 });
+    }
+    let columns = match columns(alloc, program.decls(), &room.row) {
+        Ok(columns) => columns,
+        Err(fault) => return Err(fault),
+    };
+    let Ok(()) = write_head(run.recording, program, &mut room.block, writer) else {
+        return Err(SimFault::Write);
+    };
+    follow_rows(run, &columns, &mut records, &mut room, state, writer)
 }
 
 /// Scans a stimulus record by record from a state, and writes the trace: each row as one piece, before the next record is read.
@@ -114,27 +253,36 @@ pub fn simulate<W: Sink>(
     ensures fits { Fits program.now state.new }
     ensures ends { Simulates program.now state.old (records_of stimulus.now) state.new (W.log writer.old) (W.log writer.new) result }
 {
-    let mut records = read_from(alloc, stimulus);
-    let Ok(image) = vec![in alloc; false; program.decls().inputs()] else {
-        return Err(SimFault::Memory);
+    let run = Run {
+        alloc,
+        program,
+        recording: Recording::Trace,
     };
-    let mut room = Room {
-        row: ByteRecord::new(alloc),
-        image,
-        block: Block::new(),
+    follow(run, state, stimulus, writer)
+}
+
+/// Scans a stimulus as `simulate` does, and writes a film: the drawings of its scans, at most 1,000. Returns how many there were.
+///
+/// # Errors
+///
+/// As those of `simulate`. Out of memory a drawing is not begun, and the state is the one after the scans that were drawn.
+pub fn write_film<W: Sink>(
+    alloc: Global,
+    film: Film<'_>,
+    program: &Program,
+    state: &mut State,
+    stimulus: &[u8],
+    writer: &mut W,
+) -> Result<u64, SimFault>
+    requires drawn { IsProgram film.text.now program.now }
+    requires fits { Fits program.now state.old }
+    ensures fits { Fits program.now state.new }
+    ensures ends { Films film.entry program.now state.old (records_of stimulus.now) state.new (W.log writer.old) (W.log writer.new) result }
+{
+    let run = Run {
+        alloc,
+        program,
+        recording: Recording::Film(film),
     };
-    let Ok(found) = next(&mut records, &mut room.row) else {
-        return Err(SimFault::Memory);
-    };
-    if !found {
-        return Err(SimFault::BadRow { row: 1 });
-    }
-    let columns = match columns(alloc, program.decls(), &room.row) {
-        Ok(columns) => columns,
-        Err(fault) => return Err(fault),
-    };
-    let Ok(()) = write_header(program, &mut room.block, writer) else {
-        return Err(SimFault::Write);
-    };
-    simulate_rows(program, &columns, &mut records, &mut room, state, writer)
+    follow(run, state, stimulus, writer)
 }
