@@ -311,9 +311,9 @@ IsExplained decls name coil = option_map (variable_of decls) name ≡ option_map
 
 -- The film is that of the program text and of the coil's variable, drawn as it is asked for.
 pub record IsFilmOf (g : Given) (f : Filming) (coil : Option ℕ) (film : Film) : Type 0 where
-  pub style : film.style ≡ frame_for f.medium
-  pub text : film.text.now ≡ g.program
-  pub coil : film.coil ≡ coil
+  pub drawn : film.style ≡ frame_for f.medium
+  pub described : film.text.now ≡ g.program
+  pub explained : film.coil ≡ coil
 
 -- The stimulus was shown from the state that is given, with this result.
 pub record ShowsStimulus (g : Given) (f : Filming) (out out' : WriteLog) (r : Result ℕ SimFault) : Type 0 where

@@ -46,7 +46,7 @@ returns-in-Ok-write_film-clause-done g c = λ status. (
       explained = rw c.decls.ensures at c.in-Ok-shown_variables.ensures.coil;
       accepted = sym c.coil_refusal.ensures ∙ c.in-None.is;
       film = record { style = c.frame_for.result; text = c.deref.result; coil = c.in-Ok-shown_variables.asked.coil };
-      is = record { style = c.frame_for.ensures; text = c.deref.ensures.value; coil = refl };
+      is = record { drawn = c.frame_for.ensures; described = c.deref.ensures.value; explained = refl };
       shown = same_film _ c.in-Ok.setting.program c.in-Ok.setting.state c.write_film.new.state _ _ (g.O.Sink.log c.args.out.now) (g.O.Sink.log c.write_film.new.writer) (Ok c.in-Ok-write_film.field-0) c.stimulus.ensures
           c.in-Ok-write_film.ensures.ends;
     },
@@ -66,7 +66,7 @@ returns-clause-failed g c = λ save status. inr (
     explained = rw c.decls.ensures at c.in-Ok-shown_variables.ensures.coil;
     accepted = sym c.coil_refusal.ensures ∙ c.in-None.is;
     film = record { style = c.frame_for.result; text = c.deref.result; coil = c.in-Ok-shown_variables.asked.coil };
-    is = record { style = c.frame_for.ensures; text = c.deref.ensures.value; coil = refl };
+    is = record { drawn = c.frame_for.ensures; described = c.deref.ensures.value; explained = refl };
     shown = same_film _ c.in-Ok.setting.program c.in-Ok.setting.state c.write_film.new.state _ _ (g.O.Sink.log c.args.out.now) (g.O.Sink.log c.write_film.new.writer) (Err c.in-Err-write_film.fault) c.stimulus.ensures
         c.in-Err-write_film.ensures.ends;
   },
