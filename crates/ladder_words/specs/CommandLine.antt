@@ -2,8 +2,9 @@
 -- `ladder causes [--state STATE] [--at MS] [--after N] [--limit N] [--grouped] [--terms] [--st] FILE COIL [INPUT]...`,
 -- `ladder show [--state STATE] [--at MS] [--number N] [--stimulus STIMULUS] [--html] [--coil COIL] FILE [INPUT]...`,
 -- `ladder sim [--state STATE] [--save STATE] FILE STIMULUS` and `ladder uses FILE`.
-use Rattle.std.specs.Prelude.{◌≡◌, Some, codes, true, false}
-use Rattle.clap.specs.Words.{App, Rule, Text, app_of, new_app, new_rule, with_rule, with_subcommand}
+use Rattle.std.specs.Prelude.{◌≡◌, List, Some, [], ◌∷◌, codes, true, false}
+use Rattle.clap.specs.Simple.{new_shape}
+use Rattle.clap.specs.Words.{App, Rule, Text, app_of, new_rule}
 use Rattle.clap.specs.declared.builder.ArgAction.TheVariants.{Append, SetTrue}
 use Rattle.clap.specs.declared.builder.Command.{Command}
 use Rattle.clap.specs.declared.builder.Command.TheViews.{out-Command}
@@ -29,62 +30,38 @@ flag_rule id = record (new_rule id) { long = Some id; action = Some SetTrue }
 abbrev pub list_rule : Text → Rule
 list_rule id = record (new_rule id) { action = Some Append; value_names = 1 }
 
+-- a subcommand with these arguments
+abbrev pub taking : Text → List Rule → App
+taking name rules = record { top = record (new_shape name) { rules = rules }; subs = [] }
+
 -- a subcommand with the file of a program alone
 abbrev pub file_app : Text → App
-file_app name = with_rule (new_app name) (place_rule (codes "file"))
-
-abbrev pub causes_options : App
-causes_options = with_rule (with_rule (with_rule (with_rule (new_app (codes "causes"))
-    (text_rule (codes "state")))
-    (number_rule (codes "at")))
-    (number_rule (codes "after")))
-    (number_rule (codes "limit"))
-
-abbrev pub causes_forms : App
-causes_forms = with_rule (with_rule (with_rule (with_rule causes_options
-    (flag_rule (codes "grouped")))
-    (flag_rule (codes "terms")))
-    (flag_rule (codes "st")))
-    (text_rule (codes "order"))
+file_app name = taking name (place_rule (codes "file") ∷ [])
 
 abbrev pub causes_app : App
-causes_app = with_rule (with_rule (with_rule causes_forms
-    (place_rule (codes "file")))
-    (place_rule (codes "coil")))
-    (list_rule (codes "inputs"))
-
-abbrev pub show_options : App
-show_options = with_rule (with_rule (with_rule (with_rule (new_app (codes "show"))
-    (text_rule (codes "state")))
-    (number_rule (codes "at")))
-    (number_rule (codes "number")))
-    (flag_rule (codes "html"))
+causes_app = taking (codes "causes") (
+    text_rule (codes "state") ∷ number_rule (codes "at") ∷ number_rule (codes "after") ∷ number_rule (codes "limit")
+    ∷ flag_rule (codes "grouped") ∷ flag_rule (codes "terms") ∷ flag_rule (codes "st") ∷ text_rule (codes "order")
+    ∷ place_rule (codes "file") ∷ place_rule (codes "coil") ∷ list_rule (codes "inputs") ∷ []
+    )
 
 abbrev pub show_app : App
-show_app = with_rule (with_rule (with_rule (with_rule show_options
-    (text_rule (codes "stimulus")))
-    (text_rule (codes "coil")))
-    (place_rule (codes "file")))
-    (list_rule (codes "inputs"))
+show_app = taking (codes "show") (
+    text_rule (codes "state") ∷ number_rule (codes "at") ∷ number_rule (codes "number") ∷ flag_rule (codes "html")
+    ∷ text_rule (codes "stimulus") ∷ text_rule (codes "coil") ∷ place_rule (codes "file") ∷ list_rule (codes "inputs") ∷ []
+    )
 
 abbrev pub sim_app : App
-sim_app = with_rule (with_rule (with_rule (with_rule (new_app (codes "sim"))
-    (text_rule (codes "state")))
-    (text_rule (codes "save")))
-    (place_rule (codes "file")))
-    (place_rule (codes "stimulus"))
+sim_app = taking (codes "sim") (
+    text_rule (codes "state") ∷ text_rule (codes "save") ∷ place_rule (codes "file") ∷ place_rule (codes "stimulus") ∷ []
+    )
 
-abbrev pub needs_subcommand : App → App
-needs_subcommand a = record a { top = record a.top { subcommand_required = true } }
-
+-- the program, which needs a subcommand
 abbrev pub ladder_app : App
-ladder_app =
-    with_subcommand (with_subcommand (with_subcommand (with_subcommand (with_subcommand (needs_subcommand (new_app (codes "ladder")))
-    (file_app (codes "check")).top)
-    causes_app.top)
-    show_app.top)
-    sim_app.top)
-    (file_app (codes "uses")).top
+ladder_app = record {
+  top = record (new_shape (codes "ladder")) { is_leaf = false; subcommand_required = true };
+  subs = (file_app (codes "check")).top ∷ causes_app.top ∷ show_app.top ∷ sim_app.top ∷ (file_app (codes "uses")).top ∷ [];
+}
 
 -- a command with no argument that is common to all subcommands, which clap reads as this
 abbrev pub IsApp : App → Command → Type 0

@@ -1,9 +1,10 @@
 //! The command line, as `clap` takes it.
 
-ghost use Rattle.std.specs.Prelude.{◌≡◌, IfOk, codes, false};
-ghost use Rattle.clap.specs.Words.{app_of, new_app, rule_of, with_rule, with_subcommand};
+ghost use Rattle.std.specs.Prelude.{◌≡◌, ◌++◌, ◌∷◌, [], IfOk, List, codes, false, take, true};
+ghost use Rattle.clap.specs.Simple.{new_shape};
+ghost use Rattle.clap.specs.Words.{App, Rule, Text, app_of, new_app, rule_of, with_subcommand};
 ghost use Rattle.clap.specs.declared.builder.Command.TheViews.{out-Command};
-ghost use Rattle.ladder_words.specs.CommandLine.{IsApp, causes_app, causes_forms, causes_options, file_app, flag_rule, ladder_app, list_rule, needs_subcommand, number_rule, text_rule, place_rule, show_app, show_options, sim_app};
+ghost use Rattle.ladder_words.specs.CommandLine.{IsApp, causes_app, file_app, flag_rule, ladder_app, list_rule, number_rule, place_rule, show_app, sim_app, taking, text_rule};
 
 use crate::help::{
     AFTER_HELP, AT_HELP, CAUSES_ABOUT, CHECK_ABOUT, COIL_HELP, FAULTS, FILE_HELP, FILM_HELP,
@@ -69,16 +70,14 @@ fn list<'a>(alloc: Global, id: &'a str, name: &'a str, help: &'a str) -> Arg<'a>
 
 fn add<'a>(command: Command<'a>, arg: Arg<'a>) -> Result<Command<'a>, AllocError>
     requires { arg.global ≡ false }
-    ensures app { IfOk result (λ c. app_of c ≡ with_rule (app_of command.entry) (rule_of arg.entry)) }
-    ensures globals { IfOk result (λ c. (out-Command c).has_globals ≡ (out-Command command.entry).has_globals) }
+    ensures { (name : Text) (rules : List Rule) (r : Rule) → IsApp (taking name rules) command.entry → rule_of arg.entry ≡ r → IfOk result (IsApp (taking name (rules ++ r ∷ []))) }
 {
     command.arg(arg)
 }
 
 /// A subcommand, with what its help says.
 fn new<'a>(alloc: Global, name: &'a str, about: &'a str) -> Command<'a>
-    ensures app { app_of result ≡ new_app name.entry.now }
-    ensures globals { (out-Command result).has_globals ≡ false }
+    ensures { IsApp (taking name.entry.now []) result }
 {
     Command::new(alloc, name).about(about)
 }
@@ -92,7 +91,7 @@ fn of_file<'a>(alloc: Global, name: &'a str, about: &'a str) -> Result<Command<'
 }
 
 fn causes_options<'a>(alloc: Global) -> Result<Command<'a>, AllocError>
-    ensures { IfOk result (IsApp causes_options) }
+    ensures { IfOk result (IsApp (taking (codes "causes") (take 4 causes_app.top.rules))) }
 {
     let command = new(alloc, "causes", CAUSES_ABOUT);
     let command = add(command, option(alloc, "state", "STATE", STATE_HELP))?;
@@ -102,7 +101,7 @@ fn causes_options<'a>(alloc: Global) -> Result<Command<'a>, AllocError>
 }
 
 fn causes_forms<'a>(alloc: Global) -> Result<Command<'a>, AllocError>
-    ensures { IfOk result (IsApp causes_forms) }
+    ensures { IfOk result (IsApp (taking (codes "causes") (take 8 causes_app.top.rules))) }
 {
     let command = causes_options(alloc)?;
     let command = add(command, flag(alloc, "grouped", GROUPED_HELP))?;
@@ -121,7 +120,7 @@ fn causes<'a>(alloc: Global) -> Result<Command<'a>, AllocError>
 }
 
 fn show_options<'a>(alloc: Global) -> Result<Command<'a>, AllocError>
-    ensures { IfOk result (IsApp show_options) }
+    ensures { IfOk result (IsApp (taking (codes "show") (take 4 show_app.top.rules))) }
 {
     let command = new(alloc, "show", SHOW_ABOUT);
     let command = add(command, option(alloc, "state", "STATE", STATE_HELP))?;
@@ -158,7 +157,7 @@ fn join<'a>(command: Command<'a>, sub: Command<'a>) -> Result<Command<'a>, Alloc
 }
 
 fn top<'a>(alloc: Global) -> Command<'a>
-    ensures { app_of result ≡ needs_subcommand (new_app (codes "ladder")) }
+    ensures { app_of result ≡ record (new_app (codes "ladder")) { top = record (new_shape (codes "ladder")) { subcommand_required = true } } }
 {
     Command::new(alloc, "ladder")
         .subcommand_required(true)

@@ -1,0 +1,12 @@
+use Rattle.std.proofs.Common.{◌∙◌, ap, Some}
+use Rattle.clap.specs.Words.{Rule, rule_of}
+use Rattle.clap.specs.declared.builder.ArgAction.TheVariants.{SetTrue}
+use Rattle.ladder_words.proofs.command.flag.Goals as goal
+
+pub returns-clause-rule : goal.returns-clause-rule
+returns-clause-rule c =
+    ap rule_of c.help.ensures ∙ ap rule_of c.action.ensures ∙ ap {A = Rule} (λ r. record r { action = Some SetTrue }) (ap rule_of c.long.ensures ∙ ap {A = Rule} (λ r. record r { long = Some c.args.id.now }) (c.new.ensures.rule))
+
+pub returns-clause-global : goal.returns-clause-global
+returns-clause-global c =
+    ap (λ a. a.global) c.help.ensures ∙ ap (λ a. a.global) c.action.ensures ∙ ap (λ a. a.global) c.long.ensures ∙ c.new.ensures.optional.1
