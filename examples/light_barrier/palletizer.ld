@@ -1,0 +1,27 @@
+VAR
+  Clear AT %IX0 : BOOL;    (* light barrier, ON while nothing interrupts it *)
+  MuteA AT %IX1 : BOOL;    (* muting sensor, ON when a pallet is there *)
+  MuteB AT %IX2 : BOOL;    (* muting sensor, ON when a pallet is there *)
+  Permit AT %QX0 : BOOL;   (* permits the palletizer *)
+  Lamp AT %QX1 : BOOL;     (* muting lamp *)
+  Muting : BOOL;
+  Longest : TON := (PT := T#10s);
+END_VAR
+
+(* A pallet is at both sensors, for at most 10 s *)
+|   MuteA       MuteB      Longest
+|----| |---------| |------|IN TON Q|
+
+(* Muting begins while the light barrier is clear *)
+|   Clear       MuteA       MuteB     Longest.Q    Muting
+|----| |----+----| |---------| |---------|/|---------( )----
+|  Muting   |
+|----| |----+
+
+|  Muting       Lamp
+|----| |---------( )----
+
+|   Clear      Permit
+|----| |----+----( )----
+|  Muting   |
+|----| |----+
