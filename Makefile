@@ -22,6 +22,7 @@ test:
 	rt ci
 	python3 tests/end_to_end.py $(PROGRAM)
 	python3 tests/documents.py $(PROGRAM)
+	python3 tests/completions.py $(PROGRAM)
 	python3 tests/growth.py $(PROGRAM)
 	python3 tests/stress.py $(PROGRAM) --sample 1000
 
@@ -41,6 +42,13 @@ bench: bin/ladder
 install: bin/ladder
 	install -D -m 755 bin/ladder $(DESTDIR)$(PREFIX)/bin/ladder
 	install -D -m 644 man/ladder.1 $(DESTDIR)$(PREFIX)/share/man/man1/ladder.1
+	install -D -m 644 completions/ladder.bash $(DESTDIR)$(PREFIX)/share/bash-completion/completions/ladder
+	install -D -m 644 completions/_ladder $(DESTDIR)$(PREFIX)/share/zsh/site-functions/_ladder
+	install -D -m 644 completions/ladder.fish $(DESTDIR)$(PREFIX)/share/fish/vendor_completions.d/ladder.fish
+	install -d $(DESTDIR)$(PREFIX)/share/doc/ladder/docs
+	install -m 644 README.md LICENSE $(DESTDIR)$(PREFIX)/share/doc/ladder
+	install -m 644 docs/*.md $(DESTDIR)$(PREFIX)/share/doc/ladder/docs
+	cp -R examples $(DESTDIR)$(PREFIX)/share/doc/ladder
 
 clean:
 	rm -rf bin crates/*/out

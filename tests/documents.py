@@ -211,7 +211,14 @@ def manual_entries(text):
     return found
 
 
+def fault_titles():
+    """The headings of the sections of docs/FAULTS.md, but of the fault that no request has."""
+    return sorted(re.findall(r"^## ([VGCX]\d+: .*)$", (ROOT / "docs/FAULTS.md").read_text("utf-8"), re.M))
+
+
 def compare_manual(name, text, program, tally):
+    told = sorted(line for line in text.splitlines() if re.match(r"[VGCX]\d+: ", line))
+    tally.compare(f"{name}: the faults, as docs/FAULTS.md has them", told, fault_titles())
     manual = manual_entries(text)
     for words in [[], *([word] for word in SUBCOMMANDS)]:
         title = " ".join(["ladder", *words])

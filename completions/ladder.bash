@@ -1,0 +1,62 @@
+# Completions of `ladder` for bash: subcommands, options, files, and the names of the program that stands on the line.
+
+# The variables that a coil of the program writes.
+_ladder_coils() {
+    ladder uses "$1" 2> /dev/null | awk -F, '$2 ~ /coil/ && !seen[$1]++ { print $1 }'
+}
+
+# The inputs that the program declares, where each declaration has its line.
+_ladder_inputs() {
+    sed -n 's/^[[:space:]]*\([A-Za-z_][A-Za-z0-9_]*\)[[:space:]]\{1,\}[Aa][Tt][[:space:]]\{1,\}%[Ii].*/\1/p' "$1" 2> /dev/null
+}
+
+_ladder() {
+    local word=${COMP_WORDS[COMP_CWORD]} before=${COMP_WORDS[COMP_CWORD - 1]} subcommand=${COMP_WORDS[1]}
+    local options file='' coil='' place=0 number
+    COMPREPLY=()
+    if ((COMP_CWORD == 1)); then
+        mapfile -t COMPREPLY < <(compgen -W 'check causes show sim uses help --help' -- "$word")
+        return
+    fi
+    case $subcommand in
+        causes) options='--state --at --after --limit --grouped --terms --st --order --help' ;;
+        show) options='--state --at --number --html --stimulus --coil --help' ;;
+        sim) options='--state --save --help' ;;
+        check | uses) options='--help' ;;
+        help)
+            mapfile -t COMPREPLY < <(compgen -W 'check causes show sim uses' -- "$word")
+            return
+            ;;
+    esac
+    # What stands at the places of the line before this word.
+    for ((number = 2; number < COMP_CWORD; number++)); do
+        case ${COMP_WORDS[number]} in
+            --state | --at | --after | --limit | --order | --number | --stimulus | --coil | --save) ((number++)) ;;
+            -*) ;;
+            *)
+                ((place++))
+                if ((place == 1)); then file=${COMP_WORDS[number]}; fi
+                if ((place == 2)); then coil=${COMP_WORDS[number]}; fi
+                ;;
+        esac
+    done
+    case $before in
+        --state | --save | --stimulus) mapfile -t COMPREPLY < <(compgen -f -- "$word") ;;
+        --at | --after | --limit | --number) ;;
+        --order) mapfile -t COMPREPLY < <(compgen -W 'auto given' -- "$word") ;;
+        --coil) mapfile -t COMPREPLY < <(compgen -W "$(_ladder_coils "$file")" -- "$word") ;;
+        *)
+            if [[ $word == -* ]]; then
+                mapfile -t COMPREPLY < <(compgen -W "$options" -- "$word")
+            elif ((place == 0)) || [[ $subcommand == sim && $place == 1 ]]; then
+                mapfile -t COMPREPLY < <(compgen -f -- "$word")
+            elif [[ $subcommand == causes && -z $coil ]]; then
+                mapfile -t COMPREPLY < <(compgen -W "$(_ladder_coils "$file")" -- "$word")
+            elif [[ $subcommand == causes || $subcommand == show ]]; then
+                mapfile -t COMPREPLY < <(compgen -W "$(_ladder_inputs "$file")" -- "$word")
+            fi
+            ;;
+    esac
+}
+
+complete -o filenames -F _ladder ladder

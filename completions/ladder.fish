@@ -1,0 +1,70 @@
+# Completions of `ladder` for fish: subcommands, options, files, and the names of the program that stands on the line.
+
+# The words of the line that are neither options nor their values: the subcommand, the program, and so on.
+function __ladder_places
+    set -l words (commandline -opc)[2..-1]
+    set -l due 0
+    for word in $words
+        if test $due = 1
+            set due 0
+        else if contains -- $word --state --at --after --limit --order --number --stimulus --coil --save
+            set due 1
+        else if not string match -q -- '-*' $word
+            echo $word
+        end
+    end
+end
+
+# Whether the subcommand stands there, with so many places behind it.
+function __ladder_at
+    set -l places (__ladder_places)
+    test (count $places) -gt 0; and contains -- $places[1] (string split , $argv[1]); or return 1
+    switch $argv[2]
+        case more
+            test (count $places) -gt $argv[3]
+        case '*'
+            test (count $places) = $argv[2]
+    end
+end
+
+# The variables that a coil of the program writes.
+function __ladder_coils
+    set -l places (__ladder_places)
+    ladder uses $places[2] 2> /dev/null | awk -F, '$2 ~ /coil/ && !seen[$1]++ { print $1 }'
+end
+
+# The inputs that the program declares, where each declaration has its line.
+function __ladder_inputs
+    set -l places (__ladder_places)
+    sed -n 's/^[[:space:]]*\([A-Za-z_][A-Za-z0-9_]*\)[[:space:]]\{1,\}[Aa][Tt][[:space:]]\{1,\}%[Ii].*/\1/p' $places[2] 2> /dev/null
+end
+
+complete -c ladder -f
+complete -c ladder -s h -l help -d 'Print help'
+complete -c ladder -n 'test (count (__ladder_places)) = 0' -a check -d 'Check a program'
+complete -c ladder -n 'test (count (__ladder_places)) = 0' -a causes -d 'List what switches a coil ON'
+complete -c ladder -n 'test (count (__ladder_places)) = 0' -a show -d 'Print the drawing with its power flow'
+complete -c ladder -n 'test (count (__ladder_places)) = 0' -a sim -d 'Scan a stimulus record by record'
+complete -c ladder -n 'test (count (__ladder_places)) = 0' -a uses -d 'Print where each name is drawn'
+complete -c ladder -n 'test (count (__ladder_places)) = 0' -a help -d 'Print help'
+complete -c ladder -n '__ladder_at help 1' -a 'check causes show sim uses'
+
+complete -c ladder -n '__ladder_at causes,show,sim more 0' -l state -r -F -d 'The state to begin in'
+complete -c ladder -n '__ladder_at causes,show more 0' -l at -x -d 'The moment of the scan in ms'
+complete -c ladder -n '__ladder_at causes more 0' -l after -x -d 'Causes with a greater number only'
+complete -c ladder -n '__ladder_at causes more 0' -l limit -x -d 'At most so many rows'
+complete -c ladder -n '__ladder_at causes more 0' -l grouped -d 'The causes in groups'
+complete -c ladder -n '__ladder_at causes more 0' -l terms -d 'Groups as terms'
+complete -c ladder -n '__ladder_at causes more 0' -l st -d 'Groups as a statement in Structured Text'
+complete -c ladder -n '__ladder_at causes more 0' -l order -x -a 'auto given' -d 'The order of the inputs'
+complete -c ladder -n '__ladder_at show more 0' -l number -x -d 'The number of the row'
+complete -c ladder -n '__ladder_at show more 0' -l html -d 'One page of HTML'
+complete -c ladder -n '__ladder_at show more 0' -l stimulus -r -F -d 'One scan for each record'
+complete -c ladder -n '__ladder_at show more 0' -l coil -x -a '(__ladder_coils)' -d 'Why this coil has power, or none'
+complete -c ladder -n '__ladder_at sim more 0' -l save -r -F -d 'The file that gets the state after the last scan'
+
+complete -c ladder -n '__ladder_at check,causes,show,sim,uses 1' -F
+complete -c ladder -n '__ladder_at sim 2' -F
+complete -c ladder -n '__ladder_at causes 2' -a '(__ladder_coils)'
+complete -c ladder -n '__ladder_at causes more 2' -a '(__ladder_inputs)'
+complete -c ladder -n '__ladder_at show more 1' -a '(__ladder_inputs)'

@@ -1,0 +1,110 @@
+#!/usr/bin/env python3
+"""Compares the completions of the shells with what `ladder --help` tells: completions.py PROGRAM.
+
+bash and fish are asked what they offer, where they are installed; zsh reads its file, and the file's words are compared.
+"""
+import os
+import pathlib
+import re
+import shutil
+import subprocess
+import sys
+import tempfile
+
+ROOT = pathlib.Path(__file__).resolve().parent.parent
+FOLDER = ROOT / "completions"
+SUBCOMMANDS = ["causes", "check", "show", "sim", "uses"]
+CIRCUIT = ROOT / "examples/emergency_stop/machine.ld"
+COILS, INPUTS = ["Enabled", "Motor"], ["EStop", "Reset", "Start", "Stop"]
+# a line, what its last word begins with, and what is to be offered
+LINES = [
+    (["causes", "machine.ld"], "", COILS),
+    (["causes", "machine.ld"], "M", ["Motor"]),
+    (["causes", "--grouped", "--at", "5", "machine.ld", "Motor"], "", INPUTS),
+    (["causes", "machine.ld", "Motor", "EStop"], "St", ["Start", "Stop"]),
+    (["causes", "--order"], "", ["auto", "given"]),
+    (["causes", "--limit"], "", []),
+    (["causes"], "mach", ["machine.ld"]),
+    (["show", "machine.ld"], "", INPUTS),
+    (["show", "machine.ld", "--coil"], "", COILS),
+    (["show", "--state"], "mach", ["machine.ld"]),
+    (["sim", "machine.ld"], "mach", ["machine.ld"]),
+    (["help"], "s", ["show", "sim"]),
+]
+
+
+def options(program, words):
+    """The long options that help tells."""
+    text = subprocess.run([program, *words, "--help"], stdout=subprocess.PIPE, check=True).stdout.decode()
+    return sorted(set(re.findall(r"^ +(?:-h, )?(--[a-z]+)", text, re.M)))
+
+
+def bash(words, word, folder, path):
+    """What bash offers at the end of a line."""
+    script = 'source "$1"; shift; COMP_WORDS=(ladder "$@"); COMP_CWORD=$#; _ladder; printf "%s\\n" "${COMPREPLY[@]}"'
+    done = subprocess.run(["bash", "-c", script, "bash", FOLDER / "ladder.bash", *words, word], cwd=folder, stdout=subprocess.PIPE,
+                          env={**os.environ, "PATH": path}, check=True)
+    return sorted(filter(None, done.stdout.decode().splitlines()))
+
+
+def fish(words, word, folder, path):
+    """What fish offers at the end of a line."""
+    line = " ".join(["ladder", *words, word])
+    done = subprocess.run(["fish", "--no-config", "-c", f"source {FOLDER / 'ladder.fish'}; complete -C '{line}'"], cwd=folder, stdout=subprocess.PIPE,
+                          env={**os.environ, "PATH": path, "HOME": folder}, check=True)
+    return sorted(entry.split("\t")[0] for entry in done.stdout.decode().splitlines())
+
+
+def zsh_options(subcommand):
+    """The long options that the file of zsh has for a subcommand."""
+    text = (FOLDER / "_ladder").read_text("ascii")
+    part = re.search(rf"^ +(?:[a-z]+ \| )*{subcommand}(?: \| [a-z]+)*\)(.*?);;", text, re.M | re.S)[1]
+    return sorted(set(re.findall(r"'(--[a-z]+)\[", part)) | ({"--help"} if "$help" in part else set()))
+
+
+class Tally:
+    """How many comparisons there were, and how many passed."""
+
+    def __init__(self):
+        self.all = self.passed = 0
+
+    def compare(self, where, have, want):
+        self.all += 1
+        self.passed += have == want
+        if have != want:
+            print(f"{where}\n  want {want}\n  have {have}")
+
+
+def compare_shell(name, offered, program, folder, path, tally):
+    tally.compare(f"{name}: subcommands", [word for word in offered([], "", folder, path) if word[0] != "-"], sorted([*SUBCOMMANDS, "help"]))
+    for subcommand in SUBCOMMANDS:
+        tally.compare(f"{name}: {subcommand}", offered([subcommand], "--", folder, path), options(program, [subcommand]))
+    for words, word, want in LINES:
+        tally.compare(f"{name}: ladder {' '.join(words)} {word}", offered(words, word, folder, path), want)
+
+
+def main():
+    program, tally, missing = os.path.abspath(sys.argv[1]), Tally(), []
+    with tempfile.TemporaryDirectory() as tools, tempfile.TemporaryDirectory() as folder:
+        os.symlink(program, pathlib.Path(tools) / "ladder")
+        shutil.copy(CIRCUIT, folder)
+        path = f"{tools}{os.pathsep}{os.environ['PATH']}"
+        for name, offered in [("bash", bash), ("fish", fish)]:
+            if shutil.which(name):
+                compare_shell(name, offered, program, folder, path, tally)
+            else:
+                missing.append(name)
+    for subcommand in SUBCOMMANDS:
+        tally.compare(f"zsh: {subcommand}", zsh_options(subcommand), options(program, [subcommand]))
+    if shutil.which("zsh"):
+        done = subprocess.run(["zsh", "-n", FOLDER / "_ladder"], stderr=subprocess.PIPE, check=False)
+        tally.compare("zsh reads its file", (done.returncode, done.stderr), (0, b""))
+    else:
+        missing.append("zsh")
+    print(f"shells that are not installed: {' '.join(missing) or 'none'}")
+    print(f"{tally.passed} of {tally.all} passed")
+    return 0 if tally.all and tally.passed == tally.all else 1
+
+
+if __name__ == "__main__":
+    sys.exit(main())
