@@ -2,7 +2,7 @@
 """Times the built program on the circuits beside this file: bench.py PROGRAM [RUNS].
 
 Each time is the least of several runs, of the whole process, with the rows on /dev/null.
-Counts and texts that aren't those that must come out are said loudly; no time fails anything.
+Counts and texts that aren't those that must come out are said loudly, and the status is then 1; no time fails anything.
 """
 import collections
 import itertools
@@ -16,6 +16,8 @@ import time
 
 HERE = pathlib.Path(__file__).resolve().parent
 MOST = 1_048_576
+# what came out wrong
+WRONG = []
 
 
 def inputs(first, last):
@@ -62,6 +64,12 @@ def least(command, runs):
     return min([first, *(run(command) for _ in range(further))])
 
 
+def wrong(text):
+    """Says that something else came out than must; the status is then 1."""
+    WRONG.append(text)
+    print(f"!!!!!!!!!! WRONG: {text}")
+
+
 def counts(said, second="looks"):
     """Rows and looks, or rows and causes, as standard error says them: `rows R looks L`."""
     words = said.split()
@@ -76,7 +84,7 @@ def report(name, seconds, said, due):
     rows, looks = counts(said)
     print(f"{name:26}{seconds * 1e3:10.2f}{rows or 0:12}{looks or 0:10}{each(seconds, looks)}{each(seconds, rows)}")
     if (rows, looks) != due:
-        print(f"!!!!!!!!!! WRONG: {name}: {said.strip()!r}, and rows {due[0]} looks {due[1]} must come out")
+        wrong(f"{name}: {said.strip()!r}, and rows {due[0]} looks {due[1]} must come out")
 
 
 def causes_of(program, case, *options):
@@ -92,7 +100,7 @@ def grouped(program, runs):
         rows, causes = counts(said, "causes")
         print(f"{case.name:26}{seconds * 1e3:10.2f}{rows or 0:12}{causes or 0:10}{full * 1e3:12.2f}")
         if (rows, causes) != (case.groups, case.rows):
-            print(f"!!!!!!!!!! WRONG: {case.name}: {said.strip()!r}, and rows {case.groups} causes {case.rows} must come out")
+            wrong(f"{case.name}: {said.strip()!r}, and rows {case.groups} causes {case.rows} must come out")
 
 
 def declarations():
@@ -179,7 +187,7 @@ def warm(program):
     with tempfile.NamedTemporaryFile() as saved:
         seconds, _, _ = least([program, "sim", "--save", saved.name, f"{circuit}.ld", f"{circuit}.stimulus.csv"], 9)
         if saved.read() != pathlib.Path(f"{circuit}.state.csv").read_bytes():
-            print("!!!!!!!!!! WRONG: the stimulus of the three stations leaves another state")
+            wrong("the stimulus of the three stations leaves another state")
     print(f"{'three stations: warm up':26}{seconds * 1e3:10.2f}")
 
 
@@ -209,7 +217,8 @@ def main():
                 print(f"{name:26}{seconds * 1e3:10.2f}  {word}: status {status} {said.strip()}")
     warm(program)
     simulation(program)
+    return 1 if WRONG else 0
 
 
 if __name__ == "__main__":
-    main()
+    sys.exit(main())

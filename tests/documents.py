@@ -175,7 +175,7 @@ def transcript(name, start, words, lines, folder, tools, tally, status):
 
 
 def compare_sections(name, text, blocks, tally):
-    """Each fault has a section; its first fault is the one of the heading, and what is mended has none."""
+    """Each fault has a section; its first fault is the one of the heading, and what is corrected has none."""
     heads = [(number, line[3:].split()[0].rstrip(":")) for number, line in enumerate(text.splitlines(), 1) if re.match(r"## ([VGCXS]\d|usage)", line)]
     tally.compare(f"{name}: the faults that have a section", sorted(code for _, code in heads), sorted(SHOWN + TOLD))
     ends = [number for number, _ in heads[1:]] + [len(text.splitlines()) + 1]
@@ -185,7 +185,7 @@ def compare_sections(name, text, blocks, tally):
         if code in SHOWN:
             faults = [line.split()[1] for output in shown for line in output.splitlines() if line.startswith("fault ")]
             tally.compare(f"{name}: the first fault of {code}", faults[:1], [code])
-            tally.compare(f"{name}: {code} is mended", has_fault(shown[-1]) if shown else None, False)
+            tally.compare(f"{name}: {code} is corrected", has_fault(shown[-1]) if shown else None, False)
 
 
 def help_entries(program, words):
@@ -249,8 +249,7 @@ def main():
             if fnmatch.fnmatch(str(path.relative_to(ROOT)), pattern):
                 with tempfile.TemporaryDirectory() as folder:
                     document(path, program, tools, pathlib.Path(folder), tally)
-    print(f"{tally.skipped} commands not run: their tool isn't installed")
-    print(f"{tally.passed} of {tally.all} passed")
+    print(f"{tally.passed} of {tally.all} passed; {tally.skipped} commands were not run, since their tool isn't installed")
     return 0 if tally.all and tally.passed == tally.all else 1
 
 
