@@ -2,7 +2,9 @@
 
 use ladder_calls::memory::{ENDS, End, with_room};
 use ladder_tool::{Texts, perform};
-use ladder_words::{Form, Grouping, InputOrder, Medium, Request};
+use ladder_words::{
+    Form, Grouping, InputOrder, ListRequest, Medium, Request, ShowRequest, SimRequest,
+};
 use std::alloc::{AllocError, Global};
 
 const MOTOR: &[u8] =
@@ -87,33 +89,35 @@ fn listed(alloc: Global) -> Result<Vec<String>, AllocError> {
     Ok(inputs)
 }
 
+/// The motor with its inputs.
+fn list(alloc: Global, file: String) -> Result<ListRequest, AllocError> {
+    Ok(ListRequest {
+        state: None,
+        moment: None,
+        limit: None,
+        file,
+        coil: String::from_str(alloc, "Motor")?,
+        inputs: listed(alloc)?,
+    })
+}
+
 pub(crate) fn request(alloc: Global, asked: Asked) -> Result<Request, AllocError> {
     let file = String::from_str(alloc, "motor.ld")?;
     match asked {
         Asked::Check => Ok(Request::Check { file }),
         Asked::Uses => Ok(Request::Uses { file }),
         Asked::Causes(after) => Ok(Request::Causes {
-            state: None,
-            moment: None,
+            list: list(alloc, file)?,
             after,
-            limit: None,
-            file,
-            coil: String::from_str(alloc, "Motor")?,
-            inputs: listed(alloc)?,
         }),
         Asked::Groups => Ok(Request::Groups {
-            state: None,
-            moment: None,
-            limit: None,
+            list: list(alloc, file)?,
             grouping: Grouping {
                 form: Form::Table,
                 order: InputOrder::Given,
             },
-            file,
-            coil: String::from_str(alloc, "Motor")?,
-            inputs: listed(alloc)?,
         }),
-        Asked::Shown => Ok(Request::Show {
+        Asked::Shown => Ok(Request::Show(ShowRequest {
             state: None,
             moment: None,
             number: None,
@@ -121,16 +125,16 @@ pub(crate) fn request(alloc: Global, asked: Asked) -> Result<Request, AllocError
             coil: None,
             file,
             inputs: listed(alloc)?,
-        }),
+        })),
         Asked::Saved | Asked::Back => {
             let save = String::from_str(alloc, "state.csv")?;
             let stimulus = String::from_str(alloc, "stimulus.csv")?;
-            Ok(Request::Sim {
+            Ok(Request::Sim(SimRequest {
                 state: None,
                 save: Some(save),
                 file,
                 stimulus,
-            })
+            }))
         }
     }
 }

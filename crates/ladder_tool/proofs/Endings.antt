@@ -1,6 +1,6 @@
 -- How a request for causes ends, from what each step of it ensures.
 use Rattle.std.proofs.Common.{◌≡◌, ◌⊎◌, ◌∙◌, ap, refl, subst, sym, ℕ, Bool, List, Option, Some, inl, inr, length}
-use Rattle.std.specs.Prelude.{None, unwrap_or}
+use Rattle.std.specs.Prelude.{None, map, string_bytes, unwrap_or}
 use Rattle.std.specs.Option.{option_or}
 use Rattle.ladder_vars.specs.Decls.{Declared}
 use Rattle.ladder_grid.specs.Program.{Drawing}
@@ -23,15 +23,30 @@ use Rattle.ladder_sim.specs.TermText.{form_text}
 use Rattle.ladder_sim.specs.declared.group_text.GroupForm.{GroupForm}
 use Rattle.ladder_text.specs.Log.{PutsAll, PutsPrefix, WriteLog}
 use Rattle.ladder_tool.specs.declared.fault.ToolFault.TheVariants as fault
-use Rattle.ladder_tool.specs.Performs.{Asking, HasCauseFault, IsAsked, Viewing, broken_first, causes_for, coil_refusal, counts_text, groups_line, looks_for, rows_for, rows_line, rows_text, shown_scan, style_for}
-use Rattle.ladder_tool.specs.Setting.{Given, IsSet}
+use Rattle.ladder_tool.specs.Asked.{question_of}
+use Rattle.ladder_tool.specs.declared.asking.Asked.{Asked}
+use Rattle.ladder_tool.specs.Performs.{HasCauseFault, HasListFault, HasNameFault, IsAsked, broken_first, causes_for, coil_refusal, counts_text, groups_line, looks_for, rows_for, rows_line, rows_text, shown_scan, style_for}
+use Rattle.ladder_tool.specs.Setting.{Given, HasSettingFault, IsSet}
+use Rattle.ladder_tool.specs.declared.fault.ToolFault.{ToolFault}
+use Rattle.ladder_words.specs.declared.request.ListRequest.{ListRequest}
+use Rattle.ladder_words.specs.declared.request.ShowRequest.{ShowRequest}
 use Rattle.ladder_tool.specs.Variables.{AreVariables, variable_of}
 
-pub asked_by : (g : Given) (a : Asking) (p : Drawing) (s : Standing) (decls : Declared) (now var : ℕ) (listed given : List ℕ)
-    → IsSet g p s → decls ≡ p.decls → given ≡ listed → now ≡ unwrap_or a.moment s.moment → variable_of decls a.coil ≡ Some var → AreVariables decls a.inputs listed
-    → IsAsked g a (question p s now var given)
-asked_by g a p s decls now var listed given set same as_given at on among =
-    record { set = set; at = at; on = rw same at on; among = rw as_given (rw same at among) }
+pub asked_by : (g : Given) (r : ListRequest) (p : Drawing) (s : Standing) (decls : Declared) (now var : ℕ) (coil : List ℕ) (inputs : List (List ℕ)) (listed : List ℕ)
+    → IsSet g p s → decls ≡ p.decls → coil ≡ string_bytes r.coil → inputs ≡ map string_bytes r.inputs.items → now ≡ unwrap_or r.moment s.moment
+    → variable_of decls coil ≡ Some var → AreVariables decls inputs listed → IsAsked g r (question p s now var listed)
+asked_by g r p s decls now var coil inputs listed set same named all at on among =
+    record { set = set; at = at; on = rw (same, named) at on; among = rw (same, all) at among }
+
+-- The listed inputs by another name.
+pub asked_of : (g : Given) (r : ListRequest) (a : Asked) (listed : List ℕ) → listed ≡ a.inputs.items → IsAsked g r (question_of a)
+    → IsAsked g r (question a.program a.state a.now a.coil listed)
+asked_of g r a listed same asked = rw same asked
+
+-- A fault before anything is asked.
+pub before_asking : (g : Given) (r : ListRequest) (after : Option ℕ) (f : ToolFault) → HasSettingFault g f ⊎ HasNameFault g r f → HasListFault g r after f
+before_asking g r after f (inl setting) = inl setting
+before_asking g r after f (inr name) = inr (inl name)
 
 pub cause_fault : (first : Option CauseFault) (f : CauseFault) → first ≡ reason f → HasCauseFault first (fault.Cause f)
 cause_fault first cause.MomentBack h = inr h
@@ -43,53 +58,53 @@ cause_fault first cause.AfterOutOfRange h = inr h
 cause_fault first cause.Memory h = inl refl
 
 -- What the cursor that was made for a subject has to give is what is asked.
-module _ (a : Asking) (q : Question) (c : Cursor) (of_program : c.program ≡ q.program) (of_listed : c.listed ≡ q.listed)
-    (made : c.rest ≡ causes_after a.after q) where
-  pub text_is : cause_text c.program c.listed (limited a.limit c.rest) ≡ cause_text q.program q.listed (causes_for a q)
+module _ (r : ListRequest) (after : Option ℕ) (q : Question) (c : Cursor) (of_program : c.program ≡ q.program) (of_listed : c.listed ≡ q.listed)
+    (made : c.rest ≡ causes_after after q) where
+  pub text_is : cause_text c.program c.listed (limited r.limit c.rest) ≡ cause_text q.program q.listed (causes_for r after q)
   text_is =
-      ap (λ (d : Drawing). cause_text d c.listed (limited a.limit c.rest)) of_program
-      ∙ ap (λ g. cause_text q.program g (limited a.limit c.rest)) of_listed
-      ∙ ap (λ xs. cause_text q.program q.listed (limited a.limit xs)) made
+      ap (λ (d : Drawing). cause_text d c.listed (limited r.limit c.rest)) of_program
+      ∙ ap (λ g. cause_text q.program g (limited r.limit c.rest)) of_listed
+      ∙ ap (λ xs. cause_text q.program q.listed (limited r.limit xs)) made
 
   -- the looks for them
-  looks_are : searched c ≡ search_of q (first_number a.after) → looks_of c ≡ 0
-      → looks_given (searched c) (looks_of c) a.limit c.rest ≡ looks_for a q
+  looks_are : searched c ≡ search_of q (first_number after) → looks_of c ≡ 0
+      → looks_given (searched c) (looks_of c) r.limit c.rest ≡ looks_for r after q
   looks_are search none =
-      ap (λ (t : Search). looks_given t (looks_of c) a.limit c.rest) search
-      ∙ ap (λ n. looks_given (search_of q (first_number a.after)) n a.limit c.rest) none
-      ∙ ap (looks_given (search_of q (first_number a.after)) 0 a.limit) made
+      ap (λ (t : Search). looks_given t (looks_of c) r.limit c.rest) search
+      ∙ ap (λ n. looks_given (search_of q (first_number after)) n r.limit c.rest) none
+      ∙ ap (looks_given (search_of q (first_number after)) 0 r.limit) made
 
   -- the line of rows and looks
-  pub line_is : (rows looks : ℕ) → searched c ≡ search_of q (first_number a.after) → looks_of c ≡ 0
-      → rows ≡ length (limited a.limit c.rest) → looks ≡ looks_given (searched c) (looks_of c) a.limit c.rest → rows_line rows looks ≡ rows_text a q
+  pub line_is : (rows looks : ℕ) → searched c ≡ search_of q (first_number after) → looks_of c ≡ 0
+      → rows ≡ length (limited r.limit c.rest) → looks ≡ looks_given (searched c) (looks_of c) r.limit c.rest → rows_line rows looks ≡ rows_text r after q
   line_is rows looks search none h l =
-      ap (λ n. rows_line n looks) (h ∙ ap (λ xs. length (limited a.limit xs)) made) ∙ ap (rows_line (length (causes_for a q))) (l ∙ looks_are search none)
+      ap (λ n. rows_line n looks) (h ∙ ap (λ xs. length (limited r.limit xs)) made) ∙ ap (rows_line (length (causes_for r after q))) (l ∙ looks_are search none)
 
 -- What a cursor over groups has to give, in a form, is what is asked.
-pub groups_are : (a : Asking) (p : Drawing) (q : Question) (form asked : GroupForm) → form ≡ asked → (c : GroupCursor) → c.program ≡ p → c.listed ≡ q.listed
-    → rows_left c ≡ rows (is_cause q) (length q.listed) 0 → form_text form c.program c.listed (limited a.limit (rows_left c)) ≡ form_text asked p q.listed (rows_for a q)
-groups_are a p q form asked same c of_program of_listed made =
-    ap (λ (f : GroupForm). form_text f c.program c.listed (limited a.limit (rows_left c))) same
-    ∙ ap (λ (d : Drawing). form_text asked d c.listed (limited a.limit (rows_left c))) of_program
-    ∙ ap (λ g. form_text asked p g (limited a.limit (rows_left c))) of_listed
-    ∙ ap (λ rs. form_text asked p q.listed (limited a.limit rs)) made
+pub groups_are : (r : ListRequest) (p : Drawing) (q : Question) (form asked : GroupForm) → form ≡ asked → (c : GroupCursor) → c.program ≡ p → c.listed ≡ q.listed
+    → rows_left c ≡ rows (is_cause q) (length q.listed) 0 → form_text form c.program c.listed (limited r.limit (rows_left c)) ≡ form_text asked p q.listed (rows_for r q)
+groups_are r p q form asked same c of_program of_listed made =
+    ap (λ (f : GroupForm). form_text f c.program c.listed (limited r.limit (rows_left c))) same
+    ∙ ap (λ (d : Drawing). form_text asked d c.listed (limited r.limit (rows_left c))) of_program
+    ∙ ap (λ g. form_text asked p g (limited r.limit (rows_left c))) of_listed
+    ∙ ap (λ rs. form_text asked p q.listed (limited r.limit rs)) made
 
 -- the line of rows and causes
-pub counts_are : (a : Asking) (q : Question) (c : GroupCursor) → rows_left c ≡ rows (is_cause q) (length q.listed) 0 → (many causes : ℕ)
-    → many ≡ length (limited a.limit (rows_left c)) → causes ≡ causes_in (limited a.limit (rows_left c)) → groups_line many causes ≡ counts_text a q
-counts_are a q c made many causes h l =
-    ap (λ n. groups_line n causes) (h ∙ ap (λ rs. length (limited a.limit rs)) made)
-    ∙ ap (groups_line (length (rows_for a q))) (l ∙ ap (λ rs. causes_in (limited a.limit rs)) made)
+pub counts_are : (r : ListRequest) (q : Question) (c : GroupCursor) → rows_left c ≡ rows (is_cause q) (length q.listed) 0 → (many causes : ℕ)
+    → many ≡ length (limited r.limit (rows_left c)) → causes ≡ causes_in (limited r.limit (rows_left c)) → groups_line many causes ≡ counts_text r q
+counts_are r q c made many causes h l =
+    ap (λ n. groups_line n causes) (h ∙ ap (λ rs. length (limited r.limit rs)) made)
+    ∙ ap (groups_line (length (rows_for r q))) (l ∙ ap (λ rs. causes_in (limited r.limit rs)) made)
 
 -- ---- one scan that is shown
 
 -- The coil's rule comes first.
-pub coil_first : (v : Viewing) (p : Drawing) (s : Standing) (coil : Option ℕ) (listed : List ℕ) (f : CauseFault) → coil_refusal p coil ≡ Some f
+pub coil_first : (v : ShowRequest) (p : Drawing) (s : Standing) (coil : Option ℕ) (listed : List ℕ) (f : CauseFault) → coil_refusal p coil ≡ Some f
     → broken_first v p s coil listed ≡ Some f
 coil_first v p s coil listed f e = ap (λ x. option_or x (scan_refusal (question p s (unwrap_or v.moment s.moment) 0 listed) (unwrap_or v.number 0))) e
 
 -- It is refused as what is asked is, where its moment, its listed inputs and its number are those that are asked for.
-pub same_refusal : (v : Viewing) (p : Drawing) (s : Standing) (now n : ℕ) (coil : Option ℕ) (listed given : List ℕ) → coil_refusal p coil ≡ None → given ≡ listed
+pub same_refusal : (v : ShowRequest) (p : Drawing) (s : Standing) (now n : ℕ) (coil : Option ℕ) (listed given : List ℕ) → coil_refusal p coil ≡ None → given ≡ listed
     → now ≡ unwrap_or v.moment s.moment → n ≡ unwrap_or v.number 0 → broken_first v p s coil listed ≡ scan_refusal (question p s now 0 given) n
 same_refusal v p s now n coil listed given of_coil as_given at number =
     ap (λ x. option_or x (scan_refusal (question p s (unwrap_or v.moment s.moment) 0 listed) (unwrap_or v.number 0))) of_coil
@@ -98,7 +113,7 @@ same_refusal v p s now n coil listed given of_coil as_given at number =
     ∙ ap (λ k. scan_refusal (question p s now 0 given) k) (sym number)
 
 -- What is drawn of it is what is asked.
-pub same_drawing : (g : Given) (v : Viewing) (p : Drawing) (s : Standing) (now n : ℕ) (coil : Option ℕ) (listed given text : List ℕ) (inputs image : List Bool) (style : Style)
+pub same_drawing : (g : Given) (v : ShowRequest) (p : Drawing) (s : Standing) (now n : ℕ) (coil : Option ℕ) (listed given text : List ℕ) (inputs image : List Bool) (style : Style)
     (shown : List ℕ) → given ≡ listed → now ≡ unwrap_or v.moment s.moment → n ≡ unwrap_or v.number 0 → text ≡ g.program → image ≡ inputs
     → inputs ≡ assignment (diagram_of p).inputs given n s.held.values → style ≡ style_for v.medium
     → IsDrawn style (one_scan text p s image now coil) shown → IsDrawn (style_for v.medium) (shown_scan g v p s coil listed) shown

@@ -2,7 +2,6 @@
 
 ghost use Rattle.std.specs.Prelude.{◌≡◌, ◌≤◌, ◌⊎◌};
 ghost use Rattle.ladder_text.specs.Log.{WriteLog};
-ghost use Rattle.ladder_tool.specs.Asked.{filming_of};
 ghost use Rattle.ladder_tool.specs.Performs.{BreaksFilm, HasFilmFault, IsFilmed, Refuses, frame_for, logs};
 ghost use Rattle.ladder_tool.specs.Setting.{given_by};
 
@@ -16,15 +15,8 @@ use crate::variables::shown_variables;
 use ladder_show::Style;
 use ladder_sim::{Film, write_film};
 use ladder_text::Sink;
-use ladder_words::Medium;
+use ladder_words::{FilmRequest, Medium};
 use std::alloc::Global;
-
-/// What a request to show a stimulus names.
-#[derive(Clone, Copy)]
-pub(crate) struct Filming<'a> {
-    pub medium: Medium,
-    pub coil: Option<&'a str>,
-}
 
 /// The style of each drawing of a film.
 fn frame_for(medium: Medium) -> Style
@@ -39,22 +31,22 @@ fn frame_for(medium: Medium) -> Style
 /// Shows one scan for each record of the stimulus, the first one in the state of the texts.
 pub(crate) fn film<O: Sink, E: Sink>(
     alloc: Global,
-    filming: Filming<'_>,
+    request: &FilmRequest,
     texts: &Texts,
     out: &mut O,
     err: &mut E,
 ) -> u8
     ensures status { result ≤ 1 }
-    ensures done { result ≡ 0 → IsFilmed (given_by texts.now) (filming_of filming.entry) (O.log out.old) (O.log out.new) × (E.log err.new ≡ E.log err.old) }
+    ensures done { result ≡ 0 → IsFilmed (given_by texts.now) request.now (O.log out.old) (O.log out.new) × (E.log err.new ≡ E.log err.old) }
     ensures failed { (save : WriteLog) → result ≡ 1
-        → Refuses (HasFilmFault (given_by texts.now) (filming_of filming.entry)) (logs (O.log out.old) save (E.log err.old)) (logs (O.log out.new) save (E.log err.new))
-        ⊎ BreaksFilm (given_by texts.now) (filming_of filming.entry) (logs (O.log out.old) save (E.log err.old)) (logs (O.log out.new) save (E.log err.new)) }
+        → Refuses (HasFilmFault (given_by texts.now) request.now) (logs (O.log out.old) save (E.log err.old)) (logs (O.log out.new) save (E.log err.new))
+        ⊎ BreaksFilm (given_by texts.now) request.now (logs (O.log out.old) save (E.log err.old)) (logs (O.log out.new) save (E.log err.new)) }
 {
     let mut setting = match read_setting(alloc, texts) {
         Ok(setting) => setting,
         Err(fault) => return report(&fault, err),
     };
-    let asked = match shown_variables(alloc, setting.program.decls(), filming.coil, &[]) {
+    let asked = match shown_variables(alloc, setting.program.decls(), &request.coil, &[]) {
         Ok(asked) => asked,
         Err(fault) => return report(&fault, err),
     };
@@ -63,7 +55,7 @@ pub(crate) fn film<O: Sink, E: Sink>(
         None => (),
     }
     let film = Film {
-        style: frame_for(filming.medium),
+        style: frame_for(request.medium),
         text: &texts.program,
         coil: asked.coil,
     };

@@ -1,6 +1,7 @@
 //! What a request of the program `ladder` does: the bytes on its outputs, its status and the lines of its faults.
 #![tactic(auto)]
 
+mod asking;
 mod fault;
 mod files;
 mod filming;

@@ -57,28 +57,25 @@ pub(crate) fn readers_of<'a>(
             state: None,
             stimulus: None,
         },
-        Request::Causes { state, file, .. }
-        | Request::Groups { state, file, .. }
-        | Request::Show { state, file, .. } => Readers {
-            program: reading(rt, file.as_str()),
-            state: reading_named(rt, state),
+        Request::Causes { list, .. } | Request::Groups { list, .. } => Readers {
+            program: reading(rt, list.file.as_str()),
+            state: reading_named(rt, &list.state),
             stimulus: None,
         },
-        Request::Film {
-            state,
-            file,
-            stimulus,
-            ..
-        }
-        | Request::Sim {
-            state,
-            file,
-            stimulus,
-            ..
-        } => Readers {
-            program: reading(rt, file.as_str()),
-            state: reading_named(rt, state),
-            stimulus: Some(reading(rt, stimulus.as_str())),
+        Request::Show(show) => Readers {
+            program: reading(rt, show.file.as_str()),
+            state: reading_named(rt, &show.state),
+            stimulus: None,
+        },
+        Request::Film(film) => Readers {
+            program: reading(rt, film.file.as_str()),
+            state: reading_named(rt, &film.state),
+            stimulus: Some(reading(rt, film.stimulus.as_str())),
+        },
+        Request::Sim(sim) => Readers {
+            program: reading(rt, sim.file.as_str()),
+            state: reading_named(rt, &sim.state),
+            stimulus: Some(reading(rt, sim.stimulus.as_str())),
         },
     }
 }

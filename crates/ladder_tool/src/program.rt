@@ -38,18 +38,25 @@ fn run_request(rt: &HostRuntime, alloc: Global, request: &Request) -> u8
 {
     // A stream that is closed at the start must not become one of the files: these take its place, and refuse what is written.
     let _places = (no_file(rt), no_file(rt), no_file(rt));
+    match saved_path(request) {
+        Some(path) => run_saving(rt, alloc, request, SavedFile::new(rt, path)),
+        None => run_saving(rt, alloc, request, io::sink()),
+    }
+}
+
+/// The file that a state is to be saved to.
+fn saved_path(request: &Request) -> Option<&str> {
     match request {
-        Request::Sim {
-            save: Some(path),
-            ..
-        } => run_saving(rt, alloc, request, SavedFile::new(rt, path.as_str())),
-        Request::Sim { save: None, .. }
-        | Request::Check { .. }
+        Request::Sim(sim) => match &sim.save {
+            Some(path) => Some(path.as_str()),
+            None => None,
+        },
+        Request::Check { .. }
         | Request::Causes { .. }
         | Request::Groups { .. }
-        | Request::Show { .. }
-        | Request::Film { .. }
-        | Request::Uses { .. } => run_saving(rt, alloc, request, io::sink()),
+        | Request::Show(_)
+        | Request::Film(_)
+        | Request::Uses { .. } => None,
     }
 }
 

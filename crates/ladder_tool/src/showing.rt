@@ -2,12 +2,11 @@
 
 ghost use Rattle.std.specs.Prelude.{◌≡◌, ◌≤◌, ◌⊎◌};
 ghost use Rattle.ladder_text.specs.Log.{PutsAll, PutsPrefix, WriteLog};
-ghost use Rattle.ladder_tool.specs.Asked.{viewing_of};
 ghost use Rattle.ladder_tool.specs.Performs.{HasShowFault, IsReported, Refuses, Shows, coil_refusal, logs, style_for};
 ghost use Rattle.ladder_tool.specs.Setting.{given_by};
 
+use crate::asking::moment;
 use crate::fault::ToolFault;
-use crate::listing::moment;
 use crate::report::report;
 use crate::setting::{Setting, read_setting};
 use crate::texts::Texts;
@@ -16,18 +15,8 @@ use ladder_causes::{CauseFault, assignment};
 use ladder_grid::Program;
 use ladder_show::{Scan, ShowFault, Style, write_drawing};
 use ladder_text::Sink;
-use ladder_words::Medium;
+use ladder_words::{Medium, ShowRequest};
 use std::alloc::Global;
-
-/// The names and numbers of a request to show one scan.
-#[derive(Clone, Copy)]
-pub(crate) struct Viewing<'a> {
-    pub moment: Option<u64>,
-    pub number: Option<u64>,
-    pub medium: Medium,
-    pub coil: Option<&'a str>,
-    pub inputs: &'a [String],
-}
 
 /// The style of a drawing.
 fn style_for(medium: Medium) -> Style
@@ -58,22 +47,22 @@ pub(crate) fn coil_refusal(program: &Program, coil: Option<usize>) -> Option<Cau
 /// Shows one scan in the state of the texts.
 pub(crate) fn show<O: Sink, E: Sink>(
     alloc: Global,
-    viewing: Viewing<'_>,
+    request: &ShowRequest,
     texts: &Texts,
     out: &mut O,
     err: &mut E,
 ) -> u8
     ensures status { result ≤ 1 }
-    ensures done { result ≡ 0 → Shows (given_by texts.now) (viewing_of viewing.entry) (PutsAll (O.log out.old) (O.log out.new)) × (E.log err.new ≡ E.log err.old) }
+    ensures done { result ≡ 0 → Shows (given_by texts.now) request.now (PutsAll (O.log out.old) (O.log out.new)) × (E.log err.new ≡ E.log err.old) }
     ensures failed { (save : WriteLog) → result ≡ 1
-        → Refuses (HasShowFault (given_by texts.now) (viewing_of viewing.entry)) (logs (O.log out.old) save (E.log err.old)) (logs (O.log out.new) save (E.log err.new))
-        ⊎ (Shows (given_by texts.now) (viewing_of viewing.entry) (PutsPrefix (O.log out.old) (O.log out.new)) × IsReported (E.log err.old) (E.log err.new) ToolFault.Write) }
+        → Refuses (HasShowFault (given_by texts.now) request.now) (logs (O.log out.old) save (E.log err.old)) (logs (O.log out.new) save (E.log err.new))
+        ⊎ (Shows (given_by texts.now) request.now (PutsPrefix (O.log out.old) (O.log out.new)) × IsReported (E.log err.old) (E.log err.new) ToolFault.Write) }
 {
     let Setting { program, mut state } = match read_setting(alloc, texts) {
         Ok(setting) => setting,
         Err(fault) => return report(&fault, err),
     };
-    let asked = match shown_variables(alloc, program.decls(), viewing.coil, viewing.inputs) {
+    let asked = match shown_variables(alloc, program.decls(), &request.coil, &request.inputs) {
         Ok(asked) => asked,
         Err(fault) => return report(&fault, err),
     };
@@ -81,8 +70,8 @@ pub(crate) fn show<O: Sink, E: Sink>(
         Some(fault) => return report(&ToolFault::Cause(fault), err),
         None => (),
     }
-    let now = moment(viewing.moment, state.moment());
-    let number = viewing.number.unwrap_or(0);
+    let now = moment(request.moment, state.moment());
+    let number = request.number.unwrap_or(0);
     let inputs = match assignment(alloc, &program, &state, now, &asked.inputs, number) {
         Ok(inputs) => inputs,
         Err(fault) => return report(&ToolFault::Cause(fault), err),
@@ -94,7 +83,7 @@ pub(crate) fn show<O: Sink, E: Sink>(
         moment: now,
         coil: asked.coil,
     };
-    match write_drawing(alloc, style_for(viewing.medium), scan, &mut state, out) {
+    match write_drawing(alloc, style_for(request.medium), scan, &mut state, out) {
         Ok(()) => 0,
         Err(ShowFault::Memory) => report(&ToolFault::Memory, err),
         Err(ShowFault::Write) => report(&ToolFault::Write, err),

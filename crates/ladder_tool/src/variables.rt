@@ -59,15 +59,15 @@ pub(crate) fn asked_variables(
 pub(crate) fn shown_variables(
     alloc: Global,
     decls: &Decls,
-    coil: Option<&str>,
+    coil: &Option<String>,
     inputs: &[String],
 ) -> Result<ShownVariables, ToolFault>
-    ensures coil { IfOk result (λ a. option_map (variable_of decls.now) (option_map (λ name. name.now) coil.entry) ≡ option_map Some a.coil) }
+    ensures coil { IfOk result (λ a. option_map (variable_of decls.now) (option_map string_bytes coil.now) ≡ option_map Some a.coil) }
     ensures inputs { IfOk result (λ a. AreVariables decls.now (map string_bytes inputs.now) a.inputs.items) }
-    ensures fault { IfErr result (HasWordFault decls.now (names_in (option_map (λ name. name.now) coil.entry) (map string_bytes inputs.now))) }
+    ensures fault { IfErr result (HasWordFault decls.now (names_in (option_map string_bytes coil.now) (map string_bytes inputs.now))) }
 {
     match coil {
-        Some(coil) => match asked_variables(alloc, decls, coil, inputs) {
+        Some(coil) => match asked_variables(alloc, decls, coil.as_str(), inputs) {
             Ok(asked) => Ok(ShownVariables {
                 coil: Some(asked.coil),
                 inputs: asked.inputs,

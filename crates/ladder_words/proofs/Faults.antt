@@ -1,12 +1,13 @@
 -- Why the arguments ask for no request.
 use Rattle.std.proofs.Common.{◌≡◌, ◌∙◌, ℕ, List, Option, None, Some, ap, arith, codes, get_or, inl, inr, sym}
 use Rattle.clap.specs.Words.{Row, Text, first_of}
-use Rattle.ladder_words.specs.Asking.{AsksNone, HasForm, HasNumber, HasOrder, IsNamed}
+use Rattle.ladder_words.specs.Asking.{AsksNone, HasForm, HasNumber, HasOrder, IsNamed, NamesList}
 use Rattle.ladder_words.specs.Faults.{UsageWhere}
 use Rattle.ladder_words.specs.declared.request.Form.{Form}
 use Rattle.ladder_words.specs.declared.request.Form.TheVariants.{Table}
 use Rattle.ladder_words.specs.declared.request.InputOrder.{InputOrder}
 use Rattle.ladder_words.specs.declared.request.InputOrder.TheVariants.{Given}
+use Rattle.ladder_words.specs.declared.request.ListRequest.{ListRequest}
 use Rattle.ladder_words.specs.declared.request.Request.TheVariants.{Causes, Check, Film, Groups, Show, Sim, Uses}
 use Rattle.ladder_words.specs.declared.request.WordFault.{WordFault}
 use Rattle.ladder_words.specs.declared.request.WordFault.TheVariants.{Help, Memory, Usage}
@@ -29,45 +30,54 @@ no_order rows text is none o (inr h) =
 
 pub no_causes_of_form : (rows : List Row) → ((f : Form) → HasForm f rows → ⊥) → AsksNone (codes "causes") rows
 no_causes_of_form rows none (Check file) h = let other = h.0 in cc
-no_causes_of_form rows none (Causes state moment after limit file coil inputs) h = none Table h.2
-no_causes_of_form rows none (Groups state moment limit grouping file coil inputs) h = none grouping.form h.2
-no_causes_of_form rows none (Show state moment number medium coil file inputs) h = let other = h.0 in cc
-no_causes_of_form rows none (Film state medium coil file stimulus) h = let other = h.0 in cc
-no_causes_of_form rows none (Sim state save file stimulus) h = let other = h.0 in cc
+no_causes_of_form rows none (Causes list after) h = none Table h.2
+no_causes_of_form rows none (Groups list grouping) h = none grouping.form h.2
+no_causes_of_form rows none (Show r) h = let other = h.0 in cc
+no_causes_of_form rows none (Film r) h = let other = h.0 in cc
+no_causes_of_form rows none (Sim r) h = let other = h.0 in cc
 no_causes_of_form rows none (Uses file) h = let other = h.0 in cc
 
 pub no_causes_of_order : (rows : List Row) → ((o : InputOrder) → HasOrder o rows → ⊥) → AsksNone (codes "causes") rows
 no_causes_of_order rows none (Check file) h = let other = h.0 in cc
-no_causes_of_order rows none (Causes state moment after limit file coil inputs) h = none Given h.3
-no_causes_of_order rows none (Groups state moment limit grouping file coil inputs) h = none grouping.order h.3
-no_causes_of_order rows none (Show state moment number medium coil file inputs) h = let other = h.0 in cc
-no_causes_of_order rows none (Film state medium coil file stimulus) h = let other = h.0 in cc
-no_causes_of_order rows none (Sim state save file stimulus) h = let other = h.0 in cc
+no_causes_of_order rows none (Causes list after) h = none Given h.3
+no_causes_of_order rows none (Groups list grouping) h = none grouping.order h.3
+no_causes_of_order rows none (Show r) h = let other = h.0 in cc
+no_causes_of_order rows none (Film r) h = let other = h.0 in cc
+no_causes_of_order rows none (Sim r) h = let other = h.0 in cc
 no_causes_of_order rows none (Uses file) h = let other = h.0 in cc
 
 pub no_causes_of_start : (rows : List Row) → ((o : Option ℕ) → HasNumber (codes "after") rows o → ⊥) → AsksNone (codes "causes") rows
 no_causes_of_start rows none (Check file) h = let other = h.0 in cc
-no_causes_of_start rows none (Causes state moment after limit file coil inputs) h = none after h.6
-no_causes_of_start rows none (Groups state moment limit grouping file coil inputs) h = none None h.7
-no_causes_of_start rows none (Show state moment number medium coil file inputs) h = let other = h.0 in cc
-no_causes_of_start rows none (Film state medium coil file stimulus) h = let other = h.0 in cc
-no_causes_of_start rows none (Sim state save file stimulus) h = let other = h.0 in cc
+no_causes_of_start rows none (Causes list after) h = none after h.4
+no_causes_of_start rows none (Groups list grouping) h = none None h.4
+no_causes_of_start rows none (Show r) h = let other = h.0 in cc
+no_causes_of_start rows none (Film r) h = let other = h.0 in cc
+no_causes_of_start rows none (Sim r) h = let other = h.0 in cc
 no_causes_of_start rows none (Uses file) h = let other = h.0 in cc
 
 pub no_show_of_moment : (rows : List Row) → ((o : Option ℕ) → HasNumber (codes "at") rows o → ⊥) → AsksNone (codes "show") rows
 no_show_of_moment rows none (Check file) h = let other = h.0 in cc
-no_show_of_moment rows none (Causes state moment after limit file coil inputs) h = let other = h.0 in cc
-no_show_of_moment rows none (Groups state moment limit grouping file coil inputs) h = let other = h.0 in cc
-no_show_of_moment rows none (Show state moment number medium coil file inputs) h = none moment h.3
-no_show_of_moment rows none (Film state medium coil file stimulus) h = none None h.2
-no_show_of_moment rows none (Sim state save file stimulus) h = let other = h.0 in cc
+no_show_of_moment rows none (Causes list after) h = let other = h.0 in cc
+no_show_of_moment rows none (Groups list grouping) h = let other = h.0 in cc
+no_show_of_moment rows none (Show r) h = none r.moment h.3
+no_show_of_moment rows none (Film r) h = none None h.2
+no_show_of_moment rows none (Sim r) h = let other = h.0 in cc
 no_show_of_moment rows none (Uses file) h = let other : 115 ≡ 117 = ap (λ (name : List ℕ). get_or name 0 0) h.0 in absurd (omega (arith, other))
 
 pub no_show_of_number : (rows : List Row) → ((o : Option ℕ) → HasNumber (codes "number") rows o → ⊥) → AsksNone (codes "show") rows
 no_show_of_number rows none (Check file) h = let other = h.0 in cc
-no_show_of_number rows none (Causes state moment after limit file coil inputs) h = let other = h.0 in cc
-no_show_of_number rows none (Groups state moment limit grouping file coil inputs) h = let other = h.0 in cc
-no_show_of_number rows none (Show state moment number medium coil file inputs) h = none number h.4
-no_show_of_number rows none (Film state medium coil file stimulus) h = none None h.3
-no_show_of_number rows none (Sim state save file stimulus) h = let other = h.0 in cc
+no_show_of_number rows none (Causes list after) h = let other = h.0 in cc
+no_show_of_number rows none (Groups list grouping) h = let other = h.0 in cc
+no_show_of_number rows none (Show r) h = none r.number h.4
+no_show_of_number rows none (Film r) h = none None h.3
+no_show_of_number rows none (Sim r) h = let other = h.0 in cc
 no_show_of_number rows none (Uses file) h = let other : 115 ≡ 117 = ap (λ (name : List ℕ). get_or name 0 0) h.0 in absurd (omega (arith, other))
+
+pub no_causes_of_list : (rows : List Row) → ((l : ListRequest) → NamesList rows l → ⊥) → AsksNone (codes "causes") rows
+no_causes_of_list rows none (Check file) h = let other = h.0 in cc
+no_causes_of_list rows none (Causes list after) h = none list h.5
+no_causes_of_list rows none (Groups list grouping) h = none list h.6
+no_causes_of_list rows none (Show r) h = let other = h.0 in cc
+no_causes_of_list rows none (Film r) h = let other = h.0 in cc
+no_causes_of_list rows none (Sim r) h = let other = h.0 in cc
+no_causes_of_list rows none (Uses file) h = let other = h.0 in cc

@@ -8,6 +8,7 @@ use Rattle.ladder_words.specs.declared.request.InputOrder.{InputOrder}
 use Rattle.ladder_words.specs.declared.request.InputOrder.TheVariants.{Given, Sifted}
 use Rattle.ladder_words.specs.declared.request.Medium.{Medium}
 use Rattle.ladder_words.specs.declared.request.Medium.TheVariants as medium
+use Rattle.ladder_words.specs.declared.request.ListRequest.{ListRequest}
 use Rattle.ladder_words.specs.declared.request.Request.{Request}
 use Rattle.ladder_words.specs.declared.request.Request.TheVariants.{Causes, Check, Film, Groups, Show, Sim, Uses}
 
@@ -54,55 +55,54 @@ abbrev pub MayHaveLimit : Form → Option ℕ → Type 0
 MayHaveLimit Statement limit = limit ≡ None
 MayHaveLimit form limit = ⊤
 
+-- what a request for a list of causes names
+abbrev pub NamesList : List Row → ListRequest → Type 0
+NamesList rows l = HasOption (codes "state") rows (option_map string_bytes l.state)
+    × HasNumber (codes "at") rows l.moment
+    × HasNumber (codes "limit") rows l.limit
+    × HasText (codes "file") rows (string_bytes l.file)
+    × HasText (codes "coil") rows (string_bytes l.coil)
+    × (unwrap_or (all_of (codes "inputs") rows) [] ≡ map string_bytes l.inputs.items)
+
 -- the request is what the subcommand's name and values say
 abbrev pub Asks : Text → List Row → Request → Type 0
 Asks name rows (Check file) = (name ≡ codes "check") × HasText (codes "file") rows (string_bytes file)
-Asks name rows (Causes state moment after limit file coil inputs) = (name ≡ codes "causes")
+Asks name rows (Causes list after) = (name ≡ codes "causes")
     × (HasFlag (codes "grouped") rows → ⊥)
     × HasForm Table rows
     × HasOrder Given rows
-    × HasOption (codes "state") rows (option_map string_bytes state)
-    × HasNumber (codes "at") rows moment
     × HasNumber (codes "after") rows after
-    × HasNumber (codes "limit") rows limit
-    × HasText (codes "file") rows (string_bytes file)
-    × HasText (codes "coil") rows (string_bytes coil)
-    × (unwrap_or (all_of (codes "inputs") rows) [] ≡ map string_bytes inputs.items)
-Asks name rows (Groups state moment limit grouping file coil inputs) = (name ≡ codes "causes")
+    × NamesList rows list
+Asks name rows (Groups list grouping) = (name ≡ codes "causes")
     × HasFlag (codes "grouped") rows
     × HasForm grouping.form rows
     × HasOrder grouping.order rows
-    × MayHaveLimit grouping.form limit
-    × HasOption (codes "state") rows (option_map string_bytes state)
-    × HasNumber (codes "at") rows moment
     × HasNumber (codes "after") rows None
-    × HasNumber (codes "limit") rows limit
-    × HasText (codes "file") rows (string_bytes file)
-    × HasText (codes "coil") rows (string_bytes coil)
-    × (unwrap_or (all_of (codes "inputs") rows) [] ≡ map string_bytes inputs.items)
-Asks name rows (Show state moment number medium coil file inputs) = (name ≡ codes "show")
+    × MayHaveLimit grouping.form list.limit
+    × NamesList rows list
+Asks name rows (Show r) = (name ≡ codes "show")
     × HasOption (codes "stimulus") rows None
-    × HasOption (codes "state") rows (option_map string_bytes state)
-    × HasNumber (codes "at") rows moment
-    × HasNumber (codes "number") rows number
-    × HasMedium medium rows
-    × HasOption (codes "coil") rows (option_map string_bytes coil)
-    × HasText (codes "file") rows (string_bytes file)
-    × (unwrap_or (all_of (codes "inputs") rows) [] ≡ map string_bytes inputs.items)
-Asks name rows (Film state medium coil file stimulus) = (name ≡ codes "show")
-    × HasOption (codes "stimulus") rows (Some (string_bytes stimulus))
+    × HasOption (codes "state") rows (option_map string_bytes r.state)
+    × HasNumber (codes "at") rows r.moment
+    × HasNumber (codes "number") rows r.number
+    × HasMedium r.medium rows
+    × HasOption (codes "coil") rows (option_map string_bytes r.coil)
+    × HasText (codes "file") rows (string_bytes r.file)
+    × (unwrap_or (all_of (codes "inputs") rows) [] ≡ map string_bytes r.inputs.items)
+Asks name rows (Film r) = (name ≡ codes "show")
+    × HasOption (codes "stimulus") rows (Some (string_bytes r.stimulus))
     × HasNumber (codes "at") rows None
     × HasNumber (codes "number") rows None
     × (unwrap_or (all_of (codes "inputs") rows) [] ≡ [])
-    × HasOption (codes "state") rows (option_map string_bytes state)
-    × HasMedium medium rows
-    × HasOption (codes "coil") rows (option_map string_bytes coil)
-    × HasText (codes "file") rows (string_bytes file)
-Asks name rows (Sim state save file stimulus) = (name ≡ codes "sim")
-    × HasOption (codes "state") rows (option_map string_bytes state)
-    × HasOption (codes "save") rows (option_map string_bytes save)
-    × HasText (codes "file") rows (string_bytes file)
-    × HasText (codes "stimulus") rows (string_bytes stimulus)
+    × HasOption (codes "state") rows (option_map string_bytes r.state)
+    × HasMedium r.medium rows
+    × HasOption (codes "coil") rows (option_map string_bytes r.coil)
+    × HasText (codes "file") rows (string_bytes r.file)
+Asks name rows (Sim r) = (name ≡ codes "sim")
+    × HasOption (codes "state") rows (option_map string_bytes r.state)
+    × HasOption (codes "save") rows (option_map string_bytes r.save)
+    × HasText (codes "file") rows (string_bytes r.file)
+    × HasText (codes "stimulus") rows (string_bytes r.stimulus)
 Asks name rows (Uses file) = (name ≡ codes "uses") × HasText (codes "file") rows (string_bytes file)
 
 -- the subcommand's name and values ask for no request

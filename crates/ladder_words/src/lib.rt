@@ -6,5 +6,8 @@ mod help;
 mod request;
 mod words;
 
-pub use request::{Form, Grouping, InputOrder, Medium, Request, WordFault};
+pub use request::{
+    FilmRequest, Form, Grouping, InputOrder, ListRequest, Medium, Request, ShowRequest, SimRequest,
+    WordFault,
+};
 pub use words::read_words;

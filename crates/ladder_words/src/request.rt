@@ -40,6 +40,70 @@ pub enum Medium {
     Page,
 }
 
+/// What a request for a list of causes names: the scan, the coil and the inputs.
+#[derive(Drop)]
+pub struct ListRequest {
+    /// The file of the state in which the scan begins; the fresh one where there is none.
+    pub state: Option<String>,
+    /// The moment of the scan, in ms; the stored one where there is none.
+    pub moment: Option<u64>,
+    /// How many rows are written at most.
+    pub limit: Option<u64>,
+    /// The file of the program text.
+    pub file: String,
+    /// The name of the coil's variable.
+    pub coil: String,
+    /// The names of the listed inputs, the first one most significant.
+    pub inputs: Vec<String>,
+}
+
+/// What a request for the drawing of one scan names.
+#[derive(Drop)]
+pub struct ShowRequest {
+    /// The file of the state in which the scan begins; the fresh one where there is none.
+    pub state: Option<String>,
+    /// The moment of the scan, in ms; the stored one where there is none.
+    pub moment: Option<u64>,
+    /// The number of the assignment of the listed inputs; 0 where there is none.
+    pub number: Option<u64>,
+    /// How the drawing is written.
+    pub medium: Medium,
+    /// The name of the variable of whose coils it is written why they have power, or none.
+    pub coil: Option<String>,
+    /// The file of the program text.
+    pub file: String,
+    /// The names of the listed inputs, the first one most significant.
+    pub inputs: Vec<String>,
+}
+
+/// What a request for the drawings of a stimulus names.
+#[derive(Drop)]
+pub struct FilmRequest {
+    /// The file of the state in which the first scan begins; the fresh one where there is none.
+    pub state: Option<String>,
+    /// How the drawings are written.
+    pub medium: Medium,
+    /// The name of the variable of whose coils it is written why they have power, or none.
+    pub coil: Option<String>,
+    /// The file of the program text.
+    pub file: String,
+    /// The file of the stimulus.
+    pub stimulus: String,
+}
+
+/// What a request for the trace of a stimulus names.
+#[derive(Drop)]
+pub struct SimRequest {
+    /// The file of the state in which the first scan begins; the fresh one where there is none.
+    pub state: Option<String>,
+    /// The file that the state after the last scan is written to.
+    pub save: Option<String>,
+    /// The file of the program text.
+    pub file: String,
+    /// The file of the stimulus.
+    pub stimulus: String,
+}
+
 /// What the arguments ask for.
 #[derive(Drop)]
 pub enum Request {
@@ -50,79 +114,22 @@ pub enum Request {
     },
     /// The causes of a coil: which assignments of the listed inputs switch it on.
     Causes {
-        /// The file of the state in which the scan begins; the fresh one where there is none.
-        state: Option<String>,
-        /// The moment of the scan, in ms; the stored one where there is none.
-        moment: Option<u64>,
+        list: ListRequest,
         /// The number to begin after.
         after: Option<u64>,
-        /// How many rows are written at most.
-        limit: Option<u64>,
-        /// The file of the program text.
-        file: String,
-        /// The name of the coil's variable.
-        coil: String,
-        /// The names of the listed inputs, the first one most significant.
-        inputs: Vec<String>,
     },
     /// The causes of a coil in groups, with the inputs that don't matter in each.
     Groups {
-        /// The file of the state in which the scan begins; the fresh one where there is none.
-        state: Option<String>,
-        /// The moment of the scan, in ms; the stored one where there is none.
-        moment: Option<u64>,
-        /// How many rows are written at most.
-        limit: Option<u64>,
+        list: ListRequest,
         /// Which groups, and how they are written.
         grouping: Grouping,
-        /// The file of the program text.
-        file: String,
-        /// The name of the coil's variable.
-        coil: String,
-        /// The names of the listed inputs, in the order in which they are looked at.
-        inputs: Vec<String>,
     },
     /// The drawing with the power flow of one scan.
-    Show {
-        /// The file of the state in which the scan begins; the fresh one where there is none.
-        state: Option<String>,
-        /// The moment of the scan, in ms; the stored one where there is none.
-        moment: Option<u64>,
-        /// The number of the assignment of the listed inputs; 0 where there is none.
-        number: Option<u64>,
-        /// How the drawing is written.
-        medium: Medium,
-        /// The name of the variable of whose coils it is written why they have power, or none.
-        coil: Option<String>,
-        /// The file of the program text.
-        file: String,
-        /// The names of the listed inputs, the first one most significant.
-        inputs: Vec<String>,
-    },
+    Show(ShowRequest),
     /// The drawings of a stimulus: one scan, with its power flow, for each of its records.
-    Film {
-        /// The file of the state in which the first scan begins; the fresh one where there is none.
-        state: Option<String>,
-        /// How the drawings are written.
-        medium: Medium,
-        /// The name of the variable of whose coils it is written why they have power, or none.
-        coil: Option<String>,
-        /// The file of the program text.
-        file: String,
-        /// The file of the stimulus.
-        stimulus: String,
-    },
+    Film(FilmRequest),
     /// The trace of a stimulus: one scan for each of its records.
-    Sim {
-        /// The file of the state in which the first scan begins; the fresh one where there is none.
-        state: Option<String>,
-        /// The file that the state after the last scan is written to.
-        save: Option<String>,
-        /// The file of the program text.
-        file: String,
-        /// The file of the stimulus.
-        stimulus: String,
-    },
+    Sim(SimRequest),
     /// The cross-reference: where each variable and each instance is drawn.
     Uses {
         /// The file of the program text.

@@ -4,11 +4,14 @@ ghost use Rattle.std.specs.Prelude.{◌≡◌, ℕ, [], true, false, codes, IfSo
 ghost use Rattle.clap.specs.Words.{all_of, first_of, found_of, kind_of, rows_of, subcommand_rows_of};
 ghost use Rattle.clap.specs.Words.{fault_of as clap_fault};
 ghost use Rattle.ladder_words.specs.CommandLine.{ladder_app};
-ghost use Rattle.ladder_words.specs.Asking.{Asks, AsksBy, AsksNone, HasFlag, HasForm, HasMedium, HasNumber, HasOrder, HasOption, IsNamed, MayHaveLimit};
+ghost use Rattle.ladder_words.specs.Asking.{Asks, AsksBy, AsksNone, HasFlag, HasForm, HasMedium, HasNumber, HasOrder, HasOption, IsNamed, MayHaveLimit, NamesList};
 ghost use Rattle.ladder_words.specs.Faults.{IsFaultOf, SaysOf, UsageWhere};
 
 use crate::command::ladder;
-use crate::request::{Form, Grouping, InputOrder, Medium, Request, WordFault};
+use crate::request::{
+    FilmRequest, Form, Grouping, InputOrder, ListRequest, Medium, Request, ShowRequest, SimRequest,
+    WordFault,
+};
 use clap::ArgMatches;
 use clap::error::ErrorKind;
 use std::alloc::Global;
@@ -100,22 +103,10 @@ fn list_request(alloc: Global, found: &ArgMatches<'_>) -> Result<Request, WordFa
     if form_of(found)? != Form::Table || order_of(found)? != InputOrder::Given {
         return Err(WordFault::Usage);
     }
-    let state = optional(alloc, found, "state")?;
-    let moment = number(found, "at")?;
     let after = number(found, "after")?;
     let limit = number(found, "limit")?;
-    let file = text(alloc, found, "file")?;
-    let coil = text(alloc, found, "coil")?;
-    let inputs = texts(alloc, found, "inputs")?;
-    Ok(Request::Causes {
-        state,
-        moment,
-        after,
-        limit,
-        file,
-        coil,
-        inputs,
-    })
+    let list = list_of(alloc, found, limit)?;
+    Ok(Request::Causes { list, after })
 }
 
 fn groups_request(alloc: Global, found: &ArgMatches<'_>) -> Result<Request, WordFault>
@@ -130,11 +121,28 @@ fn groups_request(alloc: Global, found: &ArgMatches<'_>) -> Result<Request, Word
     if number(found, "after")?.is_some() || is_cut(form, limit) {
         return Err(WordFault::Usage);
     }
+    let list = list_of(alloc, found, limit)?;
     Ok(Request::Groups {
+        list,
+        grouping: Grouping { form, order },
+    })
+}
+
+/// The scan, the coil and the inputs that a list is asked of, with its limit of rows.
+fn list_of(
+    alloc: Global,
+    found: &ArgMatches<'_>,
+    limit: Option<u64>,
+) -> Result<ListRequest, WordFault>
+    requires { HasNumber (codes "limit") (rows_of (found_of found.now)) limit }
+    ensures ok { IfOk result (NamesList (rows_of (found_of found.now))) }
+    ensures limit { IfOk result (λ l. l.limit ≡ limit) }
+    ensures err { IfErr result (UsageWhere ((l : ListRequest) → NamesList (rows_of (found_of found.now)) l → ⊥)) }
+{
+    Ok(ListRequest {
         state: optional(alloc, found, "state")?,
         moment: number(found, "at")?,
         limit,
-        grouping: Grouping { form, order },
         file: text(alloc, found, "file")?,
         coil: text(alloc, found, "coil")?,
         inputs: texts(alloc, found, "inputs")?,
@@ -210,7 +218,7 @@ fn scan_request(alloc: Global, found: &ArgMatches<'_>) -> Result<Request, WordFa
     let coil = optional(alloc, found, "coil")?;
     let file = text(alloc, found, "file")?;
     let inputs = texts(alloc, found, "inputs")?;
-    Ok(Request::Show {
+    Ok(Request::Show(ShowRequest {
         state,
         moment,
         number,
@@ -218,7 +226,7 @@ fn scan_request(alloc: Global, found: &ArgMatches<'_>) -> Result<Request, WordFa
         coil,
         file,
         inputs,
-    })
+    }))
 }
 
 fn film_request(
@@ -235,13 +243,13 @@ fn film_request(
     if number(found, "at")?.is_some() || number(found, "number")?.is_some() || !inputs.is_empty() {
         return Err(WordFault::Usage);
     }
-    Ok(Request::Film {
+    Ok(Request::Film(FilmRequest {
         state: optional(alloc, found, "state")?,
         medium: medium_of(found),
         coil: optional(alloc, found, "coil")?,
         file: text(alloc, found, "file")?,
         stimulus,
-    })
+    }))
 }
 
 /// How the flag wants a drawing to be written.
@@ -263,12 +271,12 @@ fn sim_request(alloc: Global, found: &ArgMatches<'_>) -> Result<Request, WordFau
     let save = optional(alloc, found, "save")?;
     let file = text(alloc, found, "file")?;
     let stimulus = text(alloc, found, "stimulus")?;
-    Ok(Request::Sim {
+    Ok(Request::Sim(SimRequest {
         state,
         save,
         file,
         stimulus,
-    })
+    }))
 }
 
 /// Whether a flag was given.

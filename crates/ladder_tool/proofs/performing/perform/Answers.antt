@@ -11,13 +11,10 @@ returns-in-Uses-clause-failed g c = λ status.
     rw c.in-Uses.is (with_second refl (rw c.deref-in-Uses.ensures.value at c.print-in-Uses.ensures.failed (g.S.Sink.log c.args.save.now) status))
 
 pub returns-in-Causes-clause-failed : goal.returns-in-Causes-clause-failed
-returns-in-Causes-clause-failed g c = λ status.
-    rw c.in-Causes.is (with_third refl (rw (c.as_str.ensures.value, c.deref-in-Causes.ensures.value) at c.list_causes.ensures.failed (g.S.Sink.log c.args.save.now) status))
+returns-in-Causes-clause-failed g c = λ status. rw c.in-Causes.is (with_third refl (c.list_causes.ensures.failed (g.S.Sink.log c.args.save.now) status))
 
 pub returns-in-Groups-clause-failed : goal.returns-in-Groups-clause-failed
-returns-in-Groups-clause-failed g c = λ status.
-    rw c.in-Groups.is (with_third refl (rw (c.as_str-in-Groups.ensures.value, c.deref-in-Groups.ensures.value) at c.list_groups.ensures.failed (g.S.Sink.log c.args.save.now) status))
+returns-in-Groups-clause-failed g c = λ status. rw c.in-Groups.is (with_third refl (c.list_groups.ensures.failed (g.S.Sink.log c.args.save.now) status))
 
 pub returns-in-Show-clause-failed : goal.returns-in-Show-clause-failed
-returns-in-Show-clause-failed g c = λ status.
-    rw c.in-Show.is (with_second refl (rw (c.text_of.ensures, c.deref-in-Show.ensures.value) at c.show.ensures.failed (g.S.Sink.log c.args.save.now) status))
+returns-in-Show-clause-failed g c = λ status. rw c.in-Show.is (with_second refl (c.show.ensures.failed (g.S.Sink.log c.args.save.now) status))

@@ -1,7 +1,6 @@
 use Rattle.std.proofs.Common.{◌∙◌, ap, sym, refl, inl, inr}
 use Rattle.std.specs.Prelude.{unwrap_or}
 use Rattle.ladder_tool.specs.declared.fault.ToolFault.TheVariants as fault
-use Rattle.ladder_tool.specs.Asked.{viewing_of}
 use Rattle.ladder_tool.specs.Performs.{broken_first}
 use Rattle.ladder_tool.specs.Setting.{given_by}
 use Rattle.ladder_tool.proofs.Endings.{cause_fault, coil_first, same_drawing, same_refusal}
@@ -13,7 +12,7 @@ returns-in-Err-shown_variables-clause-failed g c = λ save status.
     let s = c.in-Ok.setting in
     inl (record {
       reason = c.in-Err-shown_variables.fault;
-      has = inr (inl (s.program, s.state, c.in-Ok.ensures.set, rw c.decls.ensures at c.in-Err-shown_variables.ensures.fault));
+      has = inr (inl (s.program, s.state, c.in-Ok.ensures.set, rw (c.decls.ensures, c.deref.ensures.value) at c.in-Err-shown_variables.ensures.fault));
       unwritten = refl {a = g.O.Sink.log c.args.out.now};
       unsaved = refl {a = save};
       reported = c.report-in-Err-shown_variables.ensures.line;
@@ -22,11 +21,11 @@ returns-in-Err-shown_variables-clause-failed g c = λ save status.
 pub returns-in-Err-assignment-clause-failed : goal.returns-in-Err-assignment-clause-failed
 returns-in-Err-assignment-clause-failed g c = λ save status.
     let s = c.in-Ok.setting in
-    let v = viewing_of c.args.viewing in
+    let v = c.args.request.now in
     let coil = c.in-Ok-shown_variables.asked.coil in
     let listed = c.in-Ok-shown_variables.asked.inputs.items in
     let at = c.moment-now.ensures ∙ ap (unwrap_or v.moment) c.moment.ensures in
-    let same = same_refusal v s.program s.state c.moment-now.result c.unwrap_or-number.result coil listed c.deref.result.now (sym c.coil_refusal.ensures ∙ c.in-None.is) c.deref.ensures.value at c.unwrap_or-number.ensures in
+    let same = same_refusal v s.program s.state c.moment-now.result c.unwrap_or-number.result coil listed c.deref-2.result.now (sym c.coil_refusal.ensures ∙ c.in-None.is) c.deref-2.ensures.value at c.unwrap_or-number.ensures in
     inl (record {
       reason = fault.Cause c.in-Err-assignment.fault;
       has = inr (inr (
@@ -34,7 +33,7 @@ returns-in-Err-assignment-clause-failed g c = λ save status.
         s.state,
         coil,
         listed,
-        record { set = c.in-Ok.ensures.set; on = rw c.decls.ensures at c.in-Ok-shown_variables.ensures.coil; among = rw c.decls.ensures at c.in-Ok-shown_variables.ensures.inputs },
+        record { set = c.in-Ok.ensures.set; on = rw c.decls.ensures at c.in-Ok-shown_variables.ensures.coil; among = rw (c.decls.ensures, c.deref.ensures.value) at c.in-Ok-shown_variables.ensures.inputs },
         cause_fault (broken_first v s.program s.state coil listed) c.in-Err-assignment.fault (same ∙ c.in-Err-assignment.ensures.refused),
       ));
       unwritten = refl {a = g.O.Sink.log c.args.out.now};
@@ -56,12 +55,12 @@ returns-in-Err-Memory-clause-failed g c = λ save status.
 pub returns-clause-failed : goal.returns-clause-failed
 returns-clause-failed g c = λ save status.
     let s = c.in-Ok.setting in
-    let v = viewing_of c.args.viewing in
+    let v = c.args.request.now in
     let coil = c.in-Ok-shown_variables.asked.coil in
     let listed = c.in-Ok-shown_variables.asked.inputs.items in
     let at = c.moment-now.ensures ∙ ap (unwrap_or v.moment) c.moment.ensures in
-    let given = c.deref.ensures.value in
-    let same = same_refusal v s.program s.state c.moment-now.result c.unwrap_or-number.result coil listed c.deref.result.now (sym c.coil_refusal.ensures ∙ c.in-None.is) given at c.unwrap_or-number.ensures in
+    let given = c.deref-2.ensures.value in
+    let same = same_refusal v s.program s.state c.moment-now.result c.unwrap_or-number.result coil listed c.deref-2.result.now (sym c.coil_refusal.ensures ∙ c.in-None.is) given at c.unwrap_or-number.ensures in
     let part = rw c.in-Err-Write.field-0-is at c.in-Err-Write.ensures.fails in
     inr ((
       record {
@@ -69,12 +68,12 @@ returns-clause-failed g c = λ save status.
         state = s.state;
         coil = coil;
         listed = listed;
-        viewed = record { set = c.in-Ok.ensures.set; on = rw c.decls.ensures at c.in-Ok-shown_variables.ensures.coil; among = rw c.decls.ensures at c.in-Ok-shown_variables.ensures.inputs };
+        viewed = record { set = c.in-Ok.ensures.set; on = rw c.decls.ensures at c.in-Ok-shown_variables.ensures.coil; among = rw (c.decls.ensures, c.deref.ensures.value) at c.in-Ok-shown_variables.ensures.inputs };
         accepted = same ∙ c.in-Ok-assignment.ensures.accepted;
         shown = part.text;
-        is = same_drawing (given_by c.args.texts.now) v s.program s.state c.moment-now.result c.unwrap_or-number.result coil listed c.deref.result.now c.deref-2.result.now
-            c.in-Ok-assignment.inputs.items c.deref-3.result.now c.style_for.result part.text given at c.unwrap_or-number.ensures c.deref-2.ensures.value
-            c.deref-3.ensures.value c.in-Ok-assignment.ensures.inputs c.style_for.ensures part.is;
+        is = same_drawing (given_by c.args.texts.now) v s.program s.state c.moment-now.result c.unwrap_or-number.result coil listed c.deref-2.result.now c.deref-3.result.now
+            c.in-Ok-assignment.inputs.items c.deref-4.result.now c.style_for.result part.text given at c.unwrap_or-number.ensures c.deref-3.ensures.value
+            c.deref-4.ensures.value c.in-Ok-assignment.ensures.inputs c.style_for.ensures part.is;
         written = part.wrote;
       },
       c.report-in-Err-Write.ensures.line,
@@ -83,7 +82,7 @@ returns-clause-failed g c = λ save status.
 pub returns-in-Some-clause-failed : goal.returns-in-Some-clause-failed
 returns-in-Some-clause-failed g c = λ save status.
     let s = c.in-Ok.setting in
-    let v = viewing_of c.args.viewing in
+    let v = c.args.request.now in
     let coil = c.in-Ok-shown_variables.asked.coil in
     let listed = c.in-Ok-shown_variables.asked.inputs.items in
     inl (record {
@@ -93,7 +92,7 @@ returns-in-Some-clause-failed g c = λ save status.
         s.state,
         coil,
         listed,
-        record { set = c.in-Ok.ensures.set; on = rw c.decls.ensures at c.in-Ok-shown_variables.ensures.coil; among = rw c.decls.ensures at c.in-Ok-shown_variables.ensures.inputs },
+        record { set = c.in-Ok.ensures.set; on = rw c.decls.ensures at c.in-Ok-shown_variables.ensures.coil; among = rw (c.decls.ensures, c.deref.ensures.value) at c.in-Ok-shown_variables.ensures.inputs },
         inr (coil_first v s.program s.state coil listed c.in-Some.fault (sym c.coil_refusal.ensures ∙ c.in-Some.is)),
       ));
       unwritten = refl {a = g.O.Sink.log c.args.out.now};
