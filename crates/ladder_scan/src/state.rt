@@ -3,6 +3,7 @@
 ghost use Rattle.std.specs.Prelude.{◌≡◌, ◌<◌, ◌≤◌, ◌↔◌, length, map, set, IfOk, IsTrue, slice_get, slice_index_or, false, Some};
 ghost use Rattle.ladder_vars.specs.declared.kind.BlockKind.TheVariants.{Ton};
 ghost use Rattle.ladder_elements.specs.Blocks.{new_block};
+ghost use Rattle.ladder_scan.specs.Rung.{SameLengths};
 ghost use Rattle.ladder_scan.specs.Standing.{fresh, CanStore, Fits, IsStanding, with_blocks, with_memories, with_moment, with_values};
 
 use crate::memory::Memory;
@@ -100,6 +101,16 @@ impl State {
             moment: self.moment,
             start,
         })
+    }
+
+    /// Becomes equal to a state of the same program, without memory.
+    pub fn copy_from(&mut self, other: &State)
+        requires lengths { SameLengths self.old.held other.now.held }
+        requires kinds { self.old.kinds ≡ other.now.kinds }
+        ensures { self.new ≡ other.now }
+    {
+        self.storage.copy_from(&other.storage);
+        self.moment = other.moment;
     }
 
     /// Whether there are as many variables and memories as in the program, and instances of the same kinds in the same order.

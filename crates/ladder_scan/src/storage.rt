@@ -5,7 +5,7 @@ ghost use Rattle.ladder_vars.specs.Decls.{is_input};
 ghost use Rattle.ladder_vars.specs.declared.kind.BlockKind.TheVariants.{Ton};
 ghost use Rattle.ladder_elements.specs.Blocks.{new_block};
 ghost use Rattle.ladder_scan.specs.Cells.{memory_of, put_in};
-ghost use Rattle.ladder_scan.specs.Rung.{held, SameSizes};
+ghost use Rattle.ladder_scan.specs.Rung.{held, SameLengths, SameSizes};
 ghost use Rattle.ladder_scan.specs.Scan.{given};
 ghost use Rattle.ladder_scan.specs.Standing.{fresh};
 
@@ -70,6 +70,16 @@ impl Storage {
             memories: Vec::from_slice(alloc, &self.memories)?,
             blocks: Vec::from_slice(alloc, &self.blocks)?,
         })
+    }
+
+    /// Becomes equal to a storage of the same lengths.
+    pub(crate) fn copy_from(&mut self, other: &Storage)
+        requires { SameLengths self.old other.now }
+        ensures { self.new ≡ other.now }
+    {
+        self.values.copy_from_slice(&other.values);
+        self.memories.copy_from_slice(&other.memories);
+        self.blocks.copy_from_slice(&other.blocks);
     }
 
     /// A buffer for what contacts see.
