@@ -1,4 +1,6 @@
 //! Lists of causes: which assignments of the listed inputs switch a coil on, found by a pruned search.
+//!
+//! The modules `refusal` and `source` are public for lists over several scans, which take inputs and are refused alike.
 #![tactic(auto)]
 
 mod asked;
@@ -12,9 +14,9 @@ mod likening;
 mod order;
 mod probe;
 mod rails;
-mod refusal;
+pub mod refusal;
 mod scan_inputs;
-mod source;
+pub mod source;
 mod tree;
 mod tri;
 mod word;

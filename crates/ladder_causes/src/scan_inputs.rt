@@ -6,25 +6,14 @@ ghost use Rattle.ladder_scan.specs.Standing.{Fits};
 ghost use Rattle.ladder_causes.specs.Assignment.{assignment};
 ghost use Rattle.ladder_causes.specs.Causes.{question};
 ghost use Rattle.ladder_causes.specs.Refusal.{reason, scan_refusal};
-ghost use Rattle.ladder_causes.specs.Sources.{IsShort, bit, image_of};
+ghost use Rattle.ladder_causes.specs.Sources.{IsShort, image_of};
 
 use crate::fault::CauseFault;
 use crate::refusal::scan_refusal;
-use crate::source::{InputSource, sources};
+use crate::source::{InputSource, bit, sources};
 use ladder_grid::Program;
 use ladder_scan::State;
 use std::alloc::{AllocError, Global};
-
-/// The value of an input for a number.
-fn bit(source: InputSource, number: u64) -> bool
-    requires { IsShort source }
-    ensures { result ≡ bit source number }
-{
-    match source {
-        InputSource::Listed { shift } => (number >> shift) & 1 == 1,
-        InputSource::Stored(value) => value,
-    }
-}
 
 /// The values of all inputs for a number, in order of declaration.
 fn image(alloc: Global, sources: &[InputSource], number: u64) -> Result<Vec<bool>, AllocError>

@@ -1,4 +1,5 @@
 pub mod CauseText
+pub mod HeldText
 pub mod Rows
 pub mod Kept
 pub mod Limit

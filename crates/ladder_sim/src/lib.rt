@@ -3,6 +3,7 @@
 
 mod cause_text;
 mod group_text;
+mod held_text;
 mod kept;
 mod near;
 mod table;
@@ -10,6 +11,7 @@ mod term_text;
 
 pub use cause_text::{Summary, write_causes};
 pub use group_text::{GroupForm, GroupSummary, write_groups};
+pub use held_text::write_held_causes;
 pub use ladder_state::{StateFault, read_state, write_state};
 pub use ladder_text::{
     Piece, ReadFailed, ReadFault, Reading, Sink, Source, Tally, WriteFailed, WriteFault, Writing,

@@ -1,0 +1,13 @@
+use Rattle.std.proofs.Common.{◌≡◌, ◌≤◌, None}
+use Rattle.ladder_scan.specs.Programs.{diagram_of}
+use Rattle.ladder_scan.specs.Standing.{Fits}
+use Rattle.ladder_held.specs.Holding.{after_scans, first_on, moment_of}
+use Rattle.ladder_held.proofs.scans.first_on.Given as goal
+
+abbrev pub invariant-loop-done : goal.invariant-loop-done
+invariant-loop-done l = record {
+  held : l.state.held ≡ after_scans (diagram_of l.program) (moment_of l.first l.scans) l.inputs l.done l.fn.state.held;
+  fits : Fits l.program l.state;
+  later : l.state.moment ≤ moment_of l.first l.scans l.done;
+  none : first_on (diagram_of l.program) (moment_of l.first l.scans) l.inputs l.fn.state.held l.coil l.done ≡ None;
+}

@@ -1,0 +1,3 @@
+pub mod HeldRefusal
+pub mod HeldTree
+pub mod Holding

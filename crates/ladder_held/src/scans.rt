@@ -1,0 +1,66 @@
+//! When the scans are, and the first of them after which a variable is ON.
+
+ghost use Rattle.std.specs.Prelude.{◌≡◌, ◌<◌, ◌≤◌, false, length};
+ghost use Rattle.ladder_scan.specs.Programs.{diagram_of};
+ghost use Rattle.ladder_scan.specs.Standing.{Fits};
+ghost use Rattle.ladder_held.specs.Holding.{are_no_scans, first_on, moment_of};
+
+use ladder_grid::Program;
+use ladder_scan::{State, scan};
+
+/// How many scans a list has at most.
+pub const SCANS_LIMIT: u64 = 1_000_000;
+
+/// How many scans there are, and the time from each to the next, in milliseconds.
+#[derive(Clone, Copy, Debug, PartialEq, Eq)]
+pub struct Scans {
+    pub count: u64,
+    pub every: u64,
+}
+
+/// A row: a number, and the first scan, counted from 1, after which the coil's variable is ON.
+#[derive(Clone, Copy, Debug, PartialEq, Eq)]
+pub struct HeldCause {
+    pub number: u64,
+    pub scan: u64,
+}
+
+/// Whether there are no such scans, the first at a moment.
+pub(crate) fn are_no_scans(first: u64, scans: Scans) -> bool
+    ensures { result ≡ are_no_scans first scans }
+{
+    if scans.count < 1 || scans.count > SCANS_LIMIT {
+        return true;
+    }
+    match scans.every.checked_mul(scans.count - 1) {
+        Some(later) => first.checked_add(later).is_none(),
+        None => true,
+    }
+}
+
+/// The first of some scans after which a variable is ON.
+pub(crate) fn first_on(
+    program: &Program,
+    state: &mut State,
+    inputs: &[bool],
+    first: u64,
+    scans: Scans,
+    coil: usize,
+) -> Option<u64>
+    requires fits { Fits program.now state.old }
+    requires coil { coil < length program.now.decls.vars }
+    requires later { state.old.moment ≤ first }
+    requires scans { are_no_scans first scans ≡ false }
+    ensures first { result ≡ first_on (diagram_of program.now) (moment_of first scans) inputs.now state.old.held coil scans.count }
+    ensures fits { Fits program.now state.new }
+{
+    for done in 0..scans.count {
+        let Ok(()) = scan(program, state, inputs, first + scans.every * done) else {
+            return None;
+        };
+        if state.value(coil) {
+            return Some(done + 1);
+        }
+    }
+    None
+}
