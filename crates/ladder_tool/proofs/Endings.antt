@@ -25,7 +25,14 @@ use Rattle.ladder_text.specs.Log.{PutsAll, PutsPrefix, WriteLog}
 use Rattle.ladder_tool.specs.declared.fault.ToolFault.TheVariants as fault
 use Rattle.ladder_tool.specs.Asked.{question_of}
 use Rattle.ladder_tool.specs.declared.asking.Asked.{Asked}
-use Rattle.ladder_tool.specs.Performs.{HasCauseFault, HasListFault, HasNameFault, IsAsked, broken_first, causes_for, coil_refusal, counts_text, groups_line, looks_for, rows_for, rows_line, rows_text, shown_scan, style_for}
+use Rattle.ladder_held.specs.HeldRefusal.{held_reason}
+use Rattle.ladder_held.specs.HeldTree.{HeldCursor}
+use Rattle.ladder_held.specs.Holding.{held_causes}
+use Rattle.ladder_held.specs.declared.fault.HeldFault.{HeldFault}
+use Rattle.ladder_held.specs.declared.fault.HeldFault.TheVariants as held
+use Rattle.ladder_held.specs.declared.scans.Scans.{Scans}
+use Rattle.ladder_sim.specs.HeldText.{held_text}
+use Rattle.ladder_tool.specs.Performs.{HasCauseFault, HasHeldFault, HasListFault, HasScansFault, HasNameFault, IsAsked, broken_first, causes_for, coil_refusal, counts_text, groups_line, held_line, looks_for, rows_for, rows_line, rows_text, shown_scan, style_for}
 use Rattle.ladder_tool.specs.Setting.{Given, HasSettingFault, IsSet}
 use Rattle.ladder_tool.specs.declared.fault.ToolFault.{ToolFault}
 use Rattle.ladder_words.specs.declared.request.ListRequest.{ListRequest}
@@ -79,6 +86,32 @@ module _ (r : ListRequest) (after : Option ℕ) (q : Question) (c : Cursor) (of_
       → rows ≡ length (limited r.limit c.rest) → looks ≡ looks_given (searched c) (looks_of c) r.limit c.rest → rows_line rows looks ≡ rows_text r after q
   line_is rows looks search none h l =
       ap (λ n. rows_line n looks) (h ∙ ap (λ xs. length (limited r.limit xs)) made) ∙ ap (rows_line (length (causes_for r after q))) (l ∙ looks_are search none)
+
+-- What a cursor over several scans has to give is what is asked.
+pub held_is : (r : ListRequest) (q : Question) (s : Scans) (c : HeldCursor) → c.program ≡ q.program → c.listed ≡ q.listed → c.rest ≡ held_causes q s
+    → held_text c.program c.listed (limited r.limit c.rest) ≡ held_text q.program q.listed (limited r.limit (held_causes q s))
+held_is r q s c of_program of_listed made =
+    ap (λ (d : Drawing). held_text d c.listed (limited r.limit c.rest)) of_program
+    ∙ ap (λ g. held_text q.program g (limited r.limit c.rest)) of_listed
+    ∙ ap (λ xs. held_text q.program q.listed (limited r.limit xs)) made
+
+pub held_count : (r : ListRequest) (q : Question) (s : Scans) (c : HeldCursor) (rows : ℕ) → c.rest ≡ held_causes q s → rows ≡ length (limited r.limit c.rest)
+    → held_line rows ≡ held_line (length (limited r.limit (held_causes q s)))
+held_count r q s c rows made h = ap held_line (h ∙ ap (λ xs. length (limited r.limit xs)) made)
+
+-- A fault before anything is asked.
+pub before_scans : (g : Given) (r : ListRequest) (s : Scans) (f : ToolFault) → HasSettingFault g f ⊎ HasNameFault g r f → HasHeldFault g r s f
+before_scans g r s f (inl setting) = inl setting
+before_scans g r s f (inr name) = inr (inl name)
+
+pub scans_fault : (first : Option HeldFault) (f : CauseFault) → first ≡ held_reason (held.Question f) → HasScansFault first (fault.Cause f)
+scans_fault first cause.MomentBack h = inr h
+scans_fault first cause.NotACoil h = inr h
+scans_fault first cause.TooManyFree h = inr h
+scans_fault first cause.NotAnInput h = inr h
+scans_fault first cause.RepeatedInput h = inr h
+scans_fault first cause.AfterOutOfRange h = inr h
+scans_fault first cause.Memory h = inl refl
 
 -- What a cursor over groups has to give, in a form, is what is asked.
 pub groups_are : (r : ListRequest) (p : Drawing) (q : Question) (form asked : GroupForm) → form ≡ asked → (c : GroupCursor) → c.program ≡ p → c.listed ≡ q.listed

@@ -45,7 +45,7 @@ grid_number rule.LabelFault = 13
 grid_number rule.TwoJumps = 14
 grid_number rule.TooManyRungs = 15
 
--- the reasons why there is no list of causes, C1 to C7
+-- the reasons why there is no list of causes, C1 to C7; C8, of one over several scans, stands below
 abbrev pub cause_number : CauseFault → ℕ
 cause_number cause.MomentBack = 1
 cause_number cause.NotACoil = 2
@@ -76,6 +76,7 @@ fault_line (fault.Grid (grid.Vars f)) = var_line f.rule f.line
 fault_line (fault.Grid (grid.Grid r rung line)) =
     codes "fault G" ++ (decimal (grid_number r) ++ (codes " rung " ++ (decimal rung ++ numbered (codes " line ") line)))
 fault_line (fault.Cause f) = numbered (codes "fault C") (cause_number f)
+fault_line fault.NoScans = codes "fault C8\n"
 fault_line (fault.Read k read.Read) = codes "fault X1 " ++ (kind_word k ++ codes "\n")
 fault_line (fault.Read k read.TooLong) = codes "fault X5 " ++ (kind_word k ++ codes "\n")
 fault_line (fault.State (state.BadRow row)) = numbered (codes "fault X2 state row ") row

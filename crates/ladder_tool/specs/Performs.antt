@@ -18,10 +18,16 @@ use Rattle.ladder_causes.specs.Prefixes.{search_of}
 use Rattle.ladder_causes.specs.Refusal.{refusal, scan_refusal}
 use Rattle.ladder_groups.specs.Groups.{Row}
 use Rattle.ladder_groups.specs.Groups as groups
+use Rattle.ladder_held.specs.HeldRefusal.{held_refusal}
+use Rattle.ladder_held.specs.Holding.{held_causes}
+use Rattle.ladder_held.specs.declared.fault.HeldFault.{HeldFault}
+use Rattle.ladder_held.specs.declared.fault.HeldFault.TheVariants as held
+use Rattle.ladder_held.specs.declared.scans.Scans.{Scans}
 use Rattle.ladder_show.specs.Showing.{IsDrawn, OneScan, one_scan}
 use Rattle.ladder_show.specs.declared.picture.Style.{Style}
 use Rattle.ladder_show.specs.declared.picture.Style.TheVariants as style
 use Rattle.ladder_sim.specs.CauseText.{cause_text, limited}
+use Rattle.ladder_sim.specs.HeldText.{held_text}
 use Rattle.ladder_sim.specs.TermText.{form_text}
 use Rattle.ladder_sim.specs.declared.group_text.GroupForm.{GroupForm}
 use Rattle.ladder_sim.specs.declared.group_text.GroupForm.TheVariants as group_form
@@ -43,7 +49,7 @@ use Rattle.ladder_words.specs.declared.request.ListRequest.{ListRequest}
 use Rattle.ladder_words.specs.declared.request.Medium.{Medium}
 use Rattle.ladder_words.specs.declared.request.Medium.TheVariants as medium
 use Rattle.ladder_words.specs.declared.request.Request.{Request}
-use Rattle.ladder_words.specs.declared.request.Request.TheVariants.{Causes, Check, Groups, Show, Sim, Uses}
+use Rattle.ladder_words.specs.declared.request.Request.TheVariants.{Causes, Check, Groups, Held, Show, Sim, Uses}
 use Rattle.ladder_words.specs.declared.request.Request.TheVariants as request
 use Rattle.ladder_words.specs.declared.request.ShowRequest.{ShowRequest}
 use Rattle.ladder_tool.specs.FaultLine.{fault_line}
@@ -150,6 +156,44 @@ abbrev pub BreaksList : Given → ListRequest → Option ℕ → Logs → Logs �
 BreaksList g r after old new =
     (Lists g r after (PutsPrefix old.out new.out) × IsReported old.err new.err fault.Write)
     ⊎ CountsList g r after old.out new.out (PutsPrefix old.err new.err)
+
+-- ---- a list over several scans
+
+-- so many scans, each this time after the one before it
+abbrev pub scans_of : ℕ → ℕ → Scans
+scans_of count every = record { count = count; every = every }
+
+-- The text of the causes over these scans is written, whole or as far as `Written` says: all rows that are asked for, and no other.
+pub record ListsHeld (g : Given) (r : ListRequest) (s : Scans) (Written : List ℕ → Type 0) : Type 0 where
+  pub question : Question
+  pub asked : IsAsked g r question
+  pub accepted : held_refusal question s ≡ None
+  pub rows : Written (held_text question.program question.listed (limited r.limit (held_causes question s)))
+
+-- This is the rule that is broken first; being out of memory has no reason in what is asked.
+abbrev pub HasScansFault : Option HeldFault → ToolFault → Type 0
+HasScansFault first (fault.Cause f) = (f ≡ cause.Memory) ⊎ (first ≡ Some (held.Question f))
+HasScansFault first fault.NoScans = first ≡ Some held.NoScans
+HasScansFault first other = ⊥
+
+-- Faults are looked for in the order of those of a list, and then in the scans.
+abbrev pub HasHeldFault : Given → ListRequest → Scans → ToolFault → Type 0
+HasHeldFault g r s f = HasSettingFault g f ⊎ (HasNameFault g r f ⊎ ((q : Question) × IsAsked g r q × HasScansFault (held_refusal q s) f))
+
+-- `rows R`
+abbrev pub held_line : ℕ → List ℕ
+held_line rows = codes "rows " ++ (decimal rows ++ codes "\n")
+
+-- The rows were listed, and then their number is written: whole, or as far as `Counted` says.
+pub record CountsHeld (g : Given) (r : ListRequest) (s : Scans) (out out' : WriteLog) (Counted : List ℕ → Type 0) : Type 0 where
+  pub list : ListsHeld g r s (PutsAll out out')
+  pub count : Counted (held_line (length (limited r.limit (held_causes list.question s))))
+
+-- Status 1: `out` failed at the rows, or `err` at their count.
+abbrev pub BreaksHeld : Given → ListRequest → Scans → Logs → Logs → Type 0
+BreaksHeld g r s old new =
+    (ListsHeld g r s (PutsPrefix old.out new.out) × IsReported old.err new.err fault.Write)
+    ⊎ CountsHeld g r s old.out new.out (PutsPrefix old.err new.err)
 
 -- ---- a list of causes in groups
 
@@ -332,6 +376,7 @@ BreaksFilm g r old new = (reason : SimFault) × ShowsStimulus g r old.out new.ou
 abbrev pub IsDone : Request → Given → Logs → Logs → Type 0
 IsDone (Check file) g old new = Prints check_line g.program (PutsAll old.out new.out) × (new.save ≡ old.save) × (new.err ≡ old.err)
 IsDone (Causes list after) g old new = CountsList g list after old.out new.out (PutsAll old.err new.err) × (new.save ≡ old.save)
+IsDone (Held list scans every) g old new = CountsHeld g list (scans_of scans every) old.out new.out (PutsAll old.err new.err) × (new.save ≡ old.save)
 IsDone (Groups list grouping) g old new = CountsGroups g list grouping old.out new.out (PutsAll old.err new.err) × (new.save ≡ old.save)
 IsDone (Show r) g old new = Shows g r (PutsAll old.out new.out) × (new.save ≡ old.save) × (new.err ≡ old.err)
 IsDone (request.Film r) g old new = IsFilmed g r old.out new.out × (new.save ≡ old.save) × (new.err ≡ old.err)
@@ -342,6 +387,7 @@ IsDone (Uses file) g old new = Prints uses_text g.program (PutsAll old.out new.o
 abbrev pub HasFault : Request → Given → ToolFault → Type 0
 HasFault (Check file) g = HasProgramFault g.program
 HasFault (Causes list after) g = HasListFault g list after
+HasFault (Held list scans every) g = HasHeldFault g list (scans_of scans every)
 HasFault (Groups list grouping) g = HasListFault g list None
 HasFault (Show r) g = HasShowFault g r
 HasFault (request.Film r) g = HasFilmFault g r
@@ -353,6 +399,7 @@ abbrev pub Breaks : Request → Given → Logs → Logs → Type 0
 Breaks (Check file) g old new =
     Prints check_line g.program (PutsPrefix old.out new.out) × (new.save ≡ old.save) × IsReported old.err new.err fault.Write
 Breaks (Causes list after) g old new = BreaksList g list after old new × (new.save ≡ old.save)
+Breaks (Held list scans every) g old new = BreaksHeld g list (scans_of scans every) old new × (new.save ≡ old.save)
 Breaks (Groups list grouping) g old new = BreaksGroups g list grouping old new × (new.save ≡ old.save)
 Breaks (Show r) g old new = Shows g r (PutsPrefix old.out new.out) × (new.save ≡ old.save) × IsReported old.err new.err fault.Write
 Breaks (request.Film r) g old new = BreaksFilm g r old new × (new.save ≡ old.save)

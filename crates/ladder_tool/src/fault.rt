@@ -30,6 +30,9 @@ pub enum ToolFault {
     /// There is no list of causes.
     #[error("{0}")]
     Cause(CauseFault),
+    /// There is no list over such scans.
+    #[error("C8: there are no such scans")]
+    NoScans,
     /// A text can't be read.
     #[error("{1}")]
     Read(TextKind, ReadFault),
@@ -73,6 +76,7 @@ pub fn write_fault<W: Sink>(fault: &ToolFault, writer: &mut W) -> Result<(), Wri
             put_pieces(writer, pieces.as_slice())
         }
         ToolFault::Cause(fault) => write_numbered(b"fault C", cause_number(fault), writer),
+        ToolFault::NoScans => put(writer, b"fault C8\n"),
         ToolFault::Read(kind, fault) => write_read_fault(kind, fault, writer),
         ToolFault::State(StateFault::BadRow { row }) => {
             write_numbered(b"fault X2 state row ", row, writer)

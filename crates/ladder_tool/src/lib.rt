@@ -6,6 +6,7 @@ mod fault;
 mod files;
 mod filming;
 mod grouping;
+mod holding;
 mod listing;
 mod opening;
 mod performing;

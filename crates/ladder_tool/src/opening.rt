@@ -57,7 +57,9 @@ pub(crate) fn readers_of<'a>(
             state: None,
             stimulus: None,
         },
-        Request::Causes { list, .. } | Request::Groups { list, .. } => Readers {
+        Request::Causes { list, .. }
+        | Request::Held { list, .. }
+        | Request::Groups { list, .. } => Readers {
             program: reading(rt, list.file.as_str()),
             state: reading_named(rt, &list.state),
             stimulus: None,

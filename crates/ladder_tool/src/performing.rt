@@ -6,11 +6,13 @@ ghost use Rattle.ladder_tool.specs.Setting.{given_by};
 
 use crate::filming::film;
 use crate::grouping::list_groups;
+use crate::holding::list_held;
 use crate::listing::list_causes;
 use crate::printing::{About, print};
 use crate::showing::show;
 use crate::texts::Texts;
 use crate::tracing::trace;
+use ladder_held::Scans;
 use ladder_text::Sink;
 use ladder_words::Request;
 use std::alloc::Global;
@@ -33,6 +35,13 @@ pub fn perform<O: Sink, S: Sink, E: Sink>(
         Request::Check { .. } => print(alloc, About::Counts, &texts.program, out, err),
         Request::Uses { .. } => print(alloc, About::Uses, &texts.program, out, err),
         Request::Causes { list, after } => list_causes(alloc, list, *after, texts, out, err),
+        Request::Held { list, scans, every } => {
+            let scans = Scans {
+                count: *scans,
+                every: *every,
+            };
+            list_held(alloc, list, scans, texts, out, err)
+        }
         Request::Groups { list, grouping } => list_groups(alloc, list, *grouping, texts, out, err),
         Request::Show(scan) => show(alloc, scan, texts, out, err),
         Request::Film(stimulus) => film(alloc, stimulus, texts, out, err),

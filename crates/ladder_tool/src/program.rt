@@ -53,6 +53,7 @@ fn saved_path(request: &Request) -> Option<&str> {
         },
         Request::Check { .. }
         | Request::Causes { .. }
+        | Request::Held { .. }
         | Request::Groups { .. }
         | Request::Show(_)
         | Request::Film(_)

@@ -2,6 +2,7 @@
 use Rattle.std.specs.Prelude.{◌≡◌, ◌⊎◌, ◌<◌, ◌^◌, ⊤, ℕ, List, Option, None, Some, map, codes, string_bytes, unwrap_or, option_map, []}
 use Rattle.std.specs.Str.Parse.{IsNumeral, digits_value, without_leading_plus}
 use Rattle.clap.specs.Words.{App, Row, Text, all_of, first_of, one_of, subcommand_of}
+use Rattle.ladder_words.specs.declared.words.TheConstants.{EVERY}
 use Rattle.ladder_words.specs.declared.request.Form.{Form}
 use Rattle.ladder_words.specs.declared.request.Form.TheVariants.{Statement, Table, Terms}
 use Rattle.ladder_words.specs.declared.request.InputOrder.{InputOrder}
@@ -10,7 +11,7 @@ use Rattle.ladder_words.specs.declared.request.Medium.{Medium}
 use Rattle.ladder_words.specs.declared.request.Medium.TheVariants as medium
 use Rattle.ladder_words.specs.declared.request.ListRequest.{ListRequest}
 use Rattle.ladder_words.specs.declared.request.Request.{Request}
-use Rattle.ladder_words.specs.declared.request.Request.TheVariants.{Causes, Check, Film, Groups, Show, Sim, Uses}
+use Rattle.ladder_words.specs.declared.request.Request.TheVariants.{Causes, Check, Film, Groups, Held, Show, Sim, Uses}
 
 abbrev pub HasText : Text → List Row → List ℕ → Type 0
 HasText id rows text = first_of id rows ≡ Some text
@@ -55,6 +56,14 @@ abbrev pub MayHaveLimit : Form → Option ℕ → Type 0
 MayHaveLimit Statement limit = limit ≡ None
 MayHaveLimit form limit = ⊤
 
+-- Each cause has a row of its own: groups, their forms and their order aren't asked for.
+abbrev pub IsTable : List Row → Type 0
+IsTable rows = (HasFlag (codes "grouped") rows → ⊥) × HasForm Table rows × HasOrder Given rows
+
+-- the time from each scan to the next: 10 ms where no word says otherwise
+abbrev pub HasEvery : ℕ → List Row → Type 0
+HasEvery every rows = HasNumber (codes "every") rows (Some every) ⊎ (HasNumber (codes "every") rows None × (every ≡ EVERY))
+
 -- what a request for a list of causes names
 abbrev pub NamesList : List Row → ListRequest → Type 0
 NamesList rows l = HasOption (codes "state") rows (option_map string_bytes l.state)
@@ -68,15 +77,23 @@ NamesList rows l = HasOption (codes "state") rows (option_map string_bytes l.sta
 abbrev pub Asks : Text → List Row → Request → Type 0
 Asks name rows (Check file) = (name ≡ codes "check") × HasText (codes "file") rows (string_bytes file)
 Asks name rows (Causes list after) = (name ≡ codes "causes")
-    × (HasFlag (codes "grouped") rows → ⊥)
-    × HasForm Table rows
-    × HasOrder Given rows
+    × IsTable rows
+    × HasNumber (codes "scans") rows None
+    × HasNumber (codes "every") rows None
     × HasNumber (codes "after") rows after
+    × NamesList rows list
+Asks name rows (Held list scans every) = (name ≡ codes "causes")
+    × IsTable rows
+    × HasNumber (codes "scans") rows (Some scans)
+    × HasEvery every rows
+    × HasNumber (codes "after") rows None
     × NamesList rows list
 Asks name rows (Groups list grouping) = (name ≡ codes "causes")
     × HasFlag (codes "grouped") rows
     × HasForm grouping.form rows
     × HasOrder grouping.order rows
+    × HasNumber (codes "scans") rows None
+    × HasNumber (codes "every") rows None
     × HasNumber (codes "after") rows None
     × MayHaveLimit grouping.form list.limit
     × NamesList rows list

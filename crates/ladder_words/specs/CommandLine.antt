@@ -1,5 +1,5 @@
 -- The command line, as clap's definitions of a simple command read it: `ladder check FILE`,
--- `ladder causes [--state STATE] [--at MS] [--after N] [--limit N] [--grouped] [--terms] [--st] FILE COIL [INPUT]...`,
+-- `ladder causes [--state STATE] [--at MS] [--after N] [--limit N] [--scans N] [--every MS] [--grouped] [--terms] [--st] [--order ORDER] FILE COIL [INPUT]...`,
 -- `ladder show [--state STATE] [--at MS] [--number N] [--stimulus STIMULUS] [--html] [--coil COIL] FILE [INPUT]...`,
 -- `ladder sim [--state STATE] [--save STATE] FILE STIMULUS` and `ladder uses FILE`.
 use Rattle.std.specs.Prelude.{◌≡◌, List, Some, [], ◌∷◌, codes, true, false}
@@ -41,7 +41,7 @@ file_app name = taking name (place_rule (codes "file") ∷ [])
 abbrev pub causes_app : App
 causes_app = taking (codes "causes") (
     text_rule (codes "state") ∷ number_rule (codes "at") ∷ number_rule (codes "after") ∷ number_rule (codes "limit")
-    ∷ flag_rule (codes "grouped") ∷ flag_rule (codes "terms") ∷ flag_rule (codes "st") ∷ text_rule (codes "order")
+    ∷ number_rule (codes "scans") ∷ number_rule (codes "every") ∷ flag_rule (codes "grouped") ∷ flag_rule (codes "terms") ∷ flag_rule (codes "st") ∷ text_rule (codes "order")
     ∷ place_rule (codes "file") ∷ place_rule (codes "coil") ∷ list_rule (codes "inputs") ∷ []
     )
 

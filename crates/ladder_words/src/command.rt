@@ -7,10 +7,10 @@ ghost use Rattle.clap.specs.declared.builder.Command.TheViews.{out-Command};
 ghost use Rattle.ladder_words.specs.CommandLine.{IsApp, causes_app, file_app, flag_rule, ladder_app, list_rule, number_rule, place_rule, show_app, sim_app, taking, text_rule};
 
 use crate::help::{
-    AFTER_HELP, AT_HELP, CAUSES_ABOUT, CHECK_ABOUT, COIL_HELP, FAULTS, FILE_HELP, FILM_HELP,
-    GROUPED_HELP, HTML_HELP, INPUTS_HELP, LADDER_ABOUT, LIMIT_HELP, NUMBER_HELP, ORDER_HELP,
-    SAVE_HELP, SHOW_ABOUT, SHOWN_HELP, SIM_ABOUT, STATE_HELP, STATEMENT_HELP, STIMULUS_HELP,
-    TERMS_HELP, USES_ABOUT, WHY_HELP,
+    AFTER_HELP, AT_HELP, CAUSES_ABOUT, CHECK_ABOUT, COIL_HELP, EVERY_HELP, FAULTS, FILE_HELP,
+    FILM_HELP, GROUPED_HELP, HTML_HELP, INPUTS_HELP, LADDER_ABOUT, LIMIT_HELP, NUMBER_HELP,
+    ORDER_HELP, SAVE_HELP, SCANS_HELP, SHOW_ABOUT, SHOWN_HELP, SIM_ABOUT, STATE_HELP,
+    STATEMENT_HELP, STIMULUS_HELP, TERMS_HELP, USES_ABOUT, WHY_HELP,
 };
 use clap::{Arg, ArgAction, Command, value_parser};
 use std::alloc::{AllocError, Global};
@@ -100,10 +100,18 @@ fn causes_options<'a>(alloc: Global) -> Result<Command<'a>, AllocError>
     add(command, number(alloc, "limit", "N", LIMIT_HELP))
 }
 
-fn causes_forms<'a>(alloc: Global) -> Result<Command<'a>, AllocError>
-    ensures { IfOk result (IsApp (taking (codes "causes") (take 8 causes_app.top.rules))) }
+fn causes_scans<'a>(alloc: Global) -> Result<Command<'a>, AllocError>
+    ensures { IfOk result (IsApp (taking (codes "causes") (take 6 causes_app.top.rules))) }
 {
     let command = causes_options(alloc)?;
+    let command = add(command, number(alloc, "scans", "N", SCANS_HELP))?;
+    add(command, number(alloc, "every", "MS", EVERY_HELP))
+}
+
+fn causes_forms<'a>(alloc: Global) -> Result<Command<'a>, AllocError>
+    ensures { IfOk result (IsApp (taking (codes "causes") (take 10 causes_app.top.rules))) }
+{
+    let command = causes_scans(alloc)?;
     let command = add(command, flag(alloc, "grouped", GROUPED_HELP))?;
     let command = add(command, flag(alloc, "terms", TERMS_HELP))?;
     let command = add(command, flag(alloc, "st", STATEMENT_HELP))?;

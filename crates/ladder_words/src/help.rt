@@ -7,7 +7,7 @@ pub(crate) const FAULTS: &str =
     "A line `fault CODE ..` on standard error says what is wrong, and where:
   V1 to V9    the declarations break a rule on that line
   G1 to G15   the drawing breaks a rule in that rung, on that line
-  C1 to C7    there is no list of causes, or no scan to show, for this question
+  C1 to C8    there is no list of causes, or no scan to show, for this question
   X1 to X7    a file can't be read, or a word or record of it is bad; X6: a write failed; X7: out of memory
   usage       the words are not those of a request
 Status: 0 all was written, 1 a fault stopped it, 2 wrong words.
@@ -50,6 +50,12 @@ pub(crate) const AT_HELP: &str =
 pub(crate) const AFTER_HELP: &str = "Lists the causes with a greater number than N only";
 
 pub(crate) const LIMIT_HELP: &str = "Lists at most N rows";
+
+pub(crate) const SCANS_HELP: &str =
+    "Lists over N scans, at most 1000000, with the inputs held: each assignment after one of which the coil is ON, and the first such scan; not with --after or --grouped";
+
+pub(crate) const EVERY_HELP: &str =
+    "With --scans: the time from each scan to the next in ms; without it 10";
 
 pub(crate) const NUMBER_HELP: &str =
     "The number of the row that a list of causes has for these inputs; without it 0, all of them OFF";

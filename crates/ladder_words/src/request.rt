@@ -118,6 +118,14 @@ pub enum Request {
         /// The number to begin after.
         after: Option<u64>,
     },
+    /// The causes of a coil over several scans, with the inputs held.
+    Held {
+        list: ListRequest,
+        /// How many scans there are.
+        scans: u64,
+        /// The time from each scan to the next, in ms.
+        every: u64,
+    },
     /// The causes of a coil in groups, with the inputs that don't matter in each.
     Groups {
         list: ListRequest,

@@ -4,7 +4,7 @@ ghost use Rattle.std.specs.Prelude.{◌≡◌, ℕ, [], true, false, codes, IfSo
 ghost use Rattle.clap.specs.Words.{all_of, first_of, found_of, kind_of, rows_of, subcommand_rows_of};
 ghost use Rattle.clap.specs.Words.{fault_of as clap_fault};
 ghost use Rattle.ladder_words.specs.CommandLine.{ladder_app};
-ghost use Rattle.ladder_words.specs.Asking.{Asks, AsksBy, AsksNone, HasFlag, HasForm, HasMedium, HasNumber, HasOrder, HasOption, IsNamed, MayHaveLimit, NamesList};
+ghost use Rattle.ladder_words.specs.Asking.{Asks, AsksBy, AsksNone, HasEvery, HasFlag, HasForm, HasMedium, HasNumber, HasOrder, HasOption, IsNamed, IsTable, MayHaveLimit, NamesList};
 ghost use Rattle.ladder_words.specs.Faults.{IsFaultOf, SaysOf, UsageWhere};
 
 use crate::command::ladder;
@@ -16,12 +16,15 @@ use clap::ArgMatches;
 use clap::error::ErrorKind;
 use std::alloc::Global;
 
+/// The time from each scan to the next where no word says otherwise, in ms.
+const EVERY: u64 = 10;
+
 /// Reads the request of a command line, of which the first word is the program's name.
 ///
 /// # Errors
 ///
-/// `Usage` where `clap` finds a fault other than that help is asked for, where groups are to begin after a number, where a form or the
-/// order `auto` is asked for without groups, or both forms, or a statement with a limit, or an order that has another name, or a stimulus
+/// `Usage` where `clap` finds a fault other than that help is asked for, where groups or a list over several scans are to begin after a
+/// number, where a time between scans is asked for without several scans, or several scans in groups, where a form or the order `auto` is asked for without groups, or both forms, or a statement with a limit, or an order that has another name, or a stimulus
 /// is to be shown with a moment, a number or listed inputs, and nowhere else; `Help` with its text where help is asked for; `Memory` when out of memory.
 pub fn read_words(alloc: Global, words: Vec<String>) -> Result<Request, WordFault>
     ensures asks { IfOk result (AsksBy ladder_app (map string_bytes words.items)) }
@@ -91,10 +94,10 @@ fn causes_request(alloc: Global, found: &ArgMatches<'_>) -> Result<Request, Word
     if is_set(found, "grouped") {
         return groups_request(alloc, found);
     }
-    list_request(alloc, found)
+    table_request(alloc, found)
 }
 
-fn list_request(alloc: Global, found: &ArgMatches<'_>) -> Result<Request, WordFault>
+fn table_request(alloc: Global, found: &ArgMatches<'_>) -> Result<Request, WordFault>
     requires { HasFlag (codes "grouped") (rows_of (found_of found.now)) → ⊥ }
     ensures ok { IfOk result (Asks (codes "causes") (rows_of (found_of found.now))) }
     ensures err { IfErr result (UsageWhere (AsksNone (codes "causes") (rows_of (found_of found.now)))) }
@@ -103,10 +106,54 @@ fn list_request(alloc: Global, found: &ArgMatches<'_>) -> Result<Request, WordFa
     if form_of(found)? != Form::Table || order_of(found)? != InputOrder::Given {
         return Err(WordFault::Usage);
     }
+    match number(found, "scans")? {
+        Some(scans) => held_request(alloc, found, scans),
+        None => list_request(alloc, found),
+    }
+}
+
+fn list_request(alloc: Global, found: &ArgMatches<'_>) -> Result<Request, WordFault>
+    requires table { IsTable (rows_of (found_of found.now)) }
+    requires scans { HasNumber (codes "scans") (rows_of (found_of found.now)) None }
+    ensures ok { IfOk result (Asks (codes "causes") (rows_of (found_of found.now))) }
+    ensures err { IfErr result (UsageWhere (AsksNone (codes "causes") (rows_of (found_of found.now)))) }
+{
+    // One scan has none that follows.
+    if number(found, "every")?.is_some() {
+        return Err(WordFault::Usage);
+    }
     let after = number(found, "after")?;
     let limit = number(found, "limit")?;
     let list = list_of(alloc, found, limit)?;
     Ok(Request::Causes { list, after })
+}
+
+fn held_request(
+    alloc: Global,
+    found: &ArgMatches<'_>,
+    scans: u64,
+) -> Result<Request, WordFault>
+    requires table { IsTable (rows_of (found_of found.now)) }
+    requires scans { HasNumber (codes "scans") (rows_of (found_of found.now)) (Some scans) }
+    ensures ok { IfOk result (Asks (codes "causes") (rows_of (found_of found.now))) }
+    ensures err { IfErr result (UsageWhere (AsksNone (codes "causes") (rows_of (found_of found.now)))) }
+{
+    if number(found, "after")?.is_some() {
+        return Err(WordFault::Usage);
+    }
+    let every = every_of(found)?;
+    let limit = number(found, "limit")?;
+    let list = list_of(alloc, found, limit)?;
+    Ok(Request::Held { list, scans, every })
+}
+
+/// The time from each scan to the next.
+fn every_of(found: &ArgMatches<'_>) -> Result<u64, WordFault>
+    ensures ok { IfOk result (λ e. HasEvery e (rows_of (found_of found.now))) }
+    ensures err { IfErr result (UsageWhere ((e : ℕ) → HasEvery e (rows_of (found_of found.now)) → ⊥)) }
+{
+    let every = number(found, "every")?;
+    Ok(every.unwrap_or(EVERY))
 }
 
 fn groups_request(alloc: Global, found: &ArgMatches<'_>) -> Result<Request, WordFault>
@@ -117,6 +164,10 @@ fn groups_request(alloc: Global, found: &ArgMatches<'_>) -> Result<Request, Word
     let form = form_of(found)?;
     let order = order_of(found)?;
     let limit = number(found, "limit")?;
+    // Groups are those of one scan.
+    if number(found, "scans")?.is_some() || number(found, "every")?.is_some() {
+        return Err(WordFault::Usage);
+    }
     // A group has no number, so there is none to begin after; and a statement that is cut off says something else.
     if number(found, "after")?.is_some() || is_cut(form, limit) {
         return Err(WordFault::Usage);

@@ -18,3 +18,6 @@ returns-in-Groups-clause-failed g c = λ status. rw c.in-Groups.is (with_third r
 
 pub returns-in-Show-clause-failed : goal.returns-in-Show-clause-failed
 returns-in-Show-clause-failed g c = λ status. rw c.in-Show.is (with_second refl (c.show.ensures.failed (g.S.Sink.log c.args.save.now) status))
+
+pub returns-in-Held-clause-failed : goal.returns-in-Held-clause-failed
+returns-in-Held-clause-failed g c = λ status. rw c.in-Held.is (with_third refl (c.list_held.ensures.failed (g.S.Sink.log c.args.save.now) status))

@@ -1,16 +1,10 @@
 use Rattle.std.proofs.lemmas.Result.{err_from_is_err_and}
 use Rattle.clap.specs.Words.{found_of, rows_of}
-use Rattle.ladder_words.proofs.Faults.{no_causes_of_form, no_causes_of_order, usage_weaker}
+use Rattle.ladder_words.proofs.Faults.{no_causes_of_every, usage_weaker}
 use Rattle.ladder_words.proofs.words.list_request.Goals as goal
 
-pub returns-in_err-form_of-clause-err : goal.returns-in_err-form_of-clause-err
-returns-in_err-form_of-clause-err c =
-    let none = no_causes_of_form (rows_of (found_of c.args.found.now)) in
+pub returns-in_err-number-clause-err : goal.returns-in_err-number-clause-err
+returns-in_err-number-clause-err c =
+    let none = no_causes_of_every (rows_of (found_of c.args.found.now)) in
     let fault = err_from_is_err_and c.from_residual.result c.from_residual.ensures.1 in
-    rw (fault.1, fault.2) (usage_weaker _ none c.in_err-form_of.ensures.err)
-
-pub returns-in_err-order_of-clause-err : goal.returns-in_err-order_of-clause-err
-returns-in_err-order_of-clause-err c =
-    let none = no_causes_of_order (rows_of (found_of c.args.found.now)) in
-    let fault = err_from_is_err_and c.from_residual-in_err-order_of.result c.from_residual-in_err-order_of.ensures.1 in
-    rw (fault.1, fault.2) (usage_weaker _ none c.in_err-order_of.ensures.err)
+    rw (fault.1, fault.2) (usage_weaker _ none c.in_err-number.ensures.err)
