@@ -1,1 +1,2 @@
 pub mod FirstScans
+pub mod Repeating

@@ -1,6 +1,10 @@
 //! Laws over the definitions: each function does nothing, and its contract is the law.
 
-ghost use Rattle.ladder_held.specs.Holding.{MoreScansKeepRows, OneScanIsCauses};
+ghost use Rattle.ladder_held.specs.Holding.{MoreScansKeepRows, OneScanIsCauses, RepeatsAreNever};
+ghost use Rattle.ladder_scan.specs.Programs.{diagram_of};
+
+use ladder_grid::Program;
+use ladder_known::laws::goes_on_alike;
 
 /// With one scan the rows are those of the list of causes.
 pub fn one_scan()
@@ -11,3 +15,10 @@ pub fn one_scan()
 pub fn more_scans()
     ensures { MoreScansKeepRows }
 {}
+
+/// Where the state comes again, but for the time between, and the variable was OFF until then, no scan switches it on.
+pub fn repeats(program: &Program)
+    ensures { RepeatsAreNever (diagram_of program.now) }
+{
+    goes_on_alike(program);
+}

@@ -1,11 +1,14 @@
 //! When the scans are, and the first of them after which a variable is ON.
 
-ghost use Rattle.std.specs.Prelude.{◌≡◌, ◌<◌, ◌≤◌, false, length};
+ghost use Rattle.std.specs.Prelude.{◌≡◌, ◌<◌, ◌≤◌, ◌-◌, ◌*◌, false, length, true};
+ghost use Rattle.ladder_known.specs.KnownLaws.{IsLaterState};
 ghost use Rattle.ladder_scan.specs.Programs.{diagram_of};
 ghost use Rattle.ladder_scan.specs.Standing.{Fits};
 ghost use Rattle.ladder_held.specs.Holding.{are_no_scans, first_on, moment_of};
 
+use crate::laws::repeats;
 use ladder_grid::Program;
+use ladder_known::is_later;
 use ladder_scan::{State, scan};
 
 /// How many scans a list has at most.
@@ -38,28 +41,68 @@ pub(crate) fn are_no_scans(first: u64, scans: Scans) -> bool
     }
 }
 
-/// The first of some scans after which a variable is ON.
+/// Whether the state after so many scans is the marked one come again, but for the time between.
+fn comes_again(
+    program: &Program,
+    first: u64,
+    scans: Scans,
+    mark: &State,
+    marked: u64,
+    state: &State,
+    done: u64,
+) -> bool
+    requires mark { Fits program.now mark.now }
+    requires state { Fits program.now state.now }
+    requires scans { are_no_scans first scans ≡ false }
+    requires done { done ≤ scans.count }
+    requires marked { marked < done }
+    ensures { result ≡ true → (0 < marked)
+        × IsLaterState (diagram_of program.now) (moment_of first scans (marked - 1)) (scans.every * (done - marked)) mark.now.held state.now.held }
+{
+    if marked == 0 {
+        return false;
+    }
+    let moment = first + scans.every * (marked - 1);
+    is_later(program, moment, scans.every * (done - marked), mark, state)
+}
+
+/// The first of some scans after which a variable is ON. `mark` is written over.
 pub(crate) fn first_on(
     program: &Program,
     state: &mut State,
+    mark: &mut State,
     inputs: &[bool],
     first: u64,
     scans: Scans,
     coil: usize,
 ) -> Option<u64>
     requires fits { Fits program.now state.old }
+    requires mark { Fits program.now mark.old }
     requires coil { coil < length program.now.decls.vars }
     requires later { state.old.moment ≤ first }
     requires scans { are_no_scans first scans ≡ false }
     ensures first { result ≡ first_on (diagram_of program.now) (moment_of first scans) inputs.now state.old.held coil scans.count }
     ensures fits { Fits program.now state.new }
+    ensures mark { Fits program.now mark.new }
 {
+    repeats(program);
+    let mut marked = 0;
     for done in 0..scans.count {
         let Ok(()) = scan(program, state, inputs, first + scans.every * done) else {
             return None;
         };
         if state.value(coil) {
             return Some(done + 1);
+        }
+        if comes_again(program, first, scans, mark, marked, state, done + 1) {
+            return None;
+        }
+        // Marks at powers of two find a circle of states of any length.
+        if done & (done + 1) == 0 {
+            mark.checked();
+            state.checked();
+            mark.copy_from(state);
+            marked = done + 1;
         }
     }
     None

@@ -47,7 +47,7 @@ asked_by g r p s decls now var coil inputs listed set same named all at on among
 
 -- The listed inputs by another name.
 pub asked_of : (g : Given) (r : ListRequest) (a : Asked) (listed : List ℕ) → listed ≡ a.inputs.items → IsAsked g r (question_of a)
-    → IsAsked g r (question a.program a.state a.now a.coil listed)
+    → IsAsked g r (question a.program a.state a.moment a.coil listed)
 asked_of g r a listed same asked = rw same asked
 
 -- A fault before anything is asked.

@@ -13,4 +13,4 @@ about_text Counts = performs.check_line
 about_text Uses = uses_text
 
 abbrev pub question_of : Asked → Question
-question_of a = question a.program a.state a.now a.coil a.inputs.items
+question_of a = question a.program a.state a.moment a.coil a.inputs.items

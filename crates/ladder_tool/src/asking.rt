@@ -20,7 +20,7 @@ use std::alloc::Global;
 pub(crate) struct Asked {
     pub program: Program,
     pub state: State,
-    pub now: u64,
+    pub moment: u64,
     pub coil: usize,
     pub inputs: Vec<usize>,
 }
@@ -54,11 +54,11 @@ pub(crate) fn read_question(
     );
     match named {
         Ok(named) => {
-            let now = moment(request.moment, state.moment());
+            let moment = moment(request.moment, state.moment());
             Ok(Asked {
                 program,
                 state,
-                now,
+                moment,
                 coil: named.coil,
                 inputs: named.inputs,
             })

@@ -56,7 +56,7 @@ fn cursor<'a>(alloc: Global, asked: &'a Asked, order: InputOrder) -> Result<Grou
     ensures accepted { IfOk result (λ _. refusal (question_of asked.now) None ≡ None) }
     ensures refused { IfErr result (λ e. refusal (question_of asked.now) None ≡ reason e) }
 {
-    let (program, state, now) = (&asked.program, &asked.state, asked.now);
+    let (program, state, now) = (&asked.program, &asked.state, asked.moment);
     match order {
         InputOrder::Given => Groups::new(alloc, program, state, now, asked.coil, &asked.inputs),
         InputOrder::Sifted => {

@@ -51,7 +51,7 @@ pub(crate) fn list_causes<O: Sink, E: Sink>(
         alloc,
         &asked.program,
         &asked.state,
-        asked.now,
+        asked.moment,
         asked.coil,
         &asked.inputs,
         after,

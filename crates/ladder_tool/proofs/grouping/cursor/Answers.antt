@@ -13,8 +13,8 @@ pub returns-in_ok-inputs-in-Sifted-clause-refused :
     goal.returns-in_ok-inputs-in-Sifted-clause-refused
 returns-in_ok-inputs-in-Sifted-clause-refused c =
     let asked = c.args.asked.now in
-    let refused = λ (listed : List ℕ). refusal (question asked.program asked.state asked.now asked.coil listed) None in
-    let q = question asked.program asked.state asked.now asked.coil c.deref-in-Sifted.result.now in
+    let refused = λ (listed : List ℕ). refusal (question asked.program asked.state asked.moment asked.coil listed) None in
+    let q = question asked.program asked.state asked.moment asked.coil c.deref-in-Sifted.result.now in
     let same : refused asked.inputs.items ≡ refused c.deref-in-Sifted-2.result.now =
     ap refused (sym c.deref-in-Sifted.ensures.value) ∙ sym (c.orders.ensures.refused q (sifted q) (c.orders.ensures.permutation q))
     ∙ ap refused (sym (c.deref-in-Sifted-2.ensures.value ∙ c.in_ok-inputs-in-Sifted.ensures.order)) in

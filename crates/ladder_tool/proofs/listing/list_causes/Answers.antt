@@ -18,7 +18,7 @@ returns-in-Err-clause-failed g c = λ save status. inl (record {
 pub returns-in-Err-new-clause-failed : goal.returns-in-Err-new-clause-failed
 returns-in-Err-new-clause-failed g c = λ save status.
     let a = c.in-Ok.asked in
-    let q = question a.program a.state a.now a.coil c.deref.result.now in
+    let q = question a.program a.state a.moment a.coil c.deref.result.now in
     inl (record {
       reason = fault.Cause c.in-Err-new.fault;
       has = inr (inr (
@@ -35,7 +35,7 @@ pub returns-in_default-clause-failed : goal.returns-in_default-clause-failed
 returns-in_default-clause-failed g c = λ save status.
     let r = c.args.request.now in
     let a = c.in-Ok.asked in
-    let q = question a.program a.state a.now a.coil c.deref.result.now in
+    let q = question a.program a.state a.moment a.coil c.deref.result.now in
     let made = c.in-Ok-new.ensures in
     inr (inl ((
       record {
@@ -51,7 +51,7 @@ pub returns-in_default-put_rows-clause-failed : goal.returns-in_default-put_rows
 returns-in_default-put_rows-clause-failed g c = λ save status.
     let r = c.args.request.now in
     let a = c.in-Ok.asked in
-    let q = question a.program a.state a.now a.coil c.deref.result.now in
+    let q = question a.program a.state a.moment a.coil c.deref.result.now in
     let made = c.in-Ok-new.ensures in
     let w = c.in-Ok-write_causes in
     inr (inr (record {
@@ -68,7 +68,7 @@ pub returns-clause-done : goal.returns-clause-done
 returns-clause-done g c = λ status.
     let r = c.args.request.now in
     let a = c.in-Ok.asked in
-    let q = question a.program a.state a.now a.coil c.deref.result.now in
+    let q = question a.program a.state a.moment a.coil c.deref.result.now in
     let made = c.in-Ok-new.ensures in
     let w = c.in-Ok-write_causes in
     record {
