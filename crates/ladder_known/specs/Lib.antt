@@ -1,0 +1,3 @@
+pub mod KnownScan
+pub mod Shifting
+pub mod KnownLaws

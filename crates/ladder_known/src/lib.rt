@@ -1,0 +1,4 @@
+//! The scan over a state that is known in part, its laws, and when a state has come again up to the passage of time.
+#![tactic(auto)]
+
+pub mod laws;
