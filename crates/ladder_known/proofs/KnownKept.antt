@@ -1,5 +1,5 @@
 -- The scan over what is known keeps the relations that its operations and steps keep.
-use Rattle.std.proofs.Common.{ℕ, ◌+◌, ◌*◌, ◌/◌, ◌%◌, false, List, [], ◌∷◌, map, get_or, set, zero, suc}
+use Rattle.std.proofs.Common.{ℕ, ◌+◌, ◌*◌, ◌/◌, ◌%◌, false, List, [], ◌∷◌, map, set, zero, suc}
 use Rattle.ladder_elements.specs.Algebra.{Algebra}
 use Rattle.ladder_elements.specs.Relations.{IsKept, Both}
 use Rattle.ladder_vars.specs.declared.kind.BlockKind.TheVariants.{Ton}
@@ -16,14 +16,7 @@ use Rattle.ladder_known.specs.KnownLaws.{StepsKeep, BothAt, BothKnown, ScanKeeps
 use Rattle.ladder_scan.proofs.Kept.{BothFrames, get_kept, either, cell_kept, left_link_kept}
 use Rattle.ladder_look.proofs.Kept.{set_kept, at_kept, put_kept, coil_kept, given_kept}
 use Rattle.ladder_known.proofs.Guards.{guard_kept, taken_kept}
-use Rattle.ladder_known.proofs.Lists.{push_both}
-
-get_both : {B C : Type 0} (Q : ℕ → B → C → Type 0) (xs : List B) (ys : List C) → BothAt Q xs ys → (d : B) (e : C) → ((i : ℕ) → Q i d e) → (i : ℕ) → Q i (get_or xs i d) (get_or ys i e)
-get_both Q [] [] h d e r i = r i
-get_both Q [] (y ∷ ys) h d e r i = absurd h
-get_both Q (x ∷ xs) [] h d e r i = absurd h
-get_both Q (x ∷ xs) (y ∷ ys) h d e r zero = h.0
-get_both Q (x ∷ xs) (y ∷ ys) h d e r (suc i) = get_both (λ k. Q (suc k)) xs ys h.1 d e (λ k. r (suc k)) i
+use Rattle.ladder_known.proofs.Lists.{get_both, push_both}
 
 set_both : {B C : Type 0} (Q : ℕ → B → C → Type 0) (xs : List B) (ys : List C) → BothAt Q xs ys → (i : ℕ) (x : B) (y : C) → Q i x y → BothAt Q (set xs i x) (set ys i y)
 set_both Q [] [] h i x y r = tt

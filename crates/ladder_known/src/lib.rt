@@ -1,4 +1,7 @@
 //! The scan over a state that is known in part, its laws, and when a state has come again up to the passage of time.
 #![tactic(auto)]
 
+mod later;
 pub mod laws;
+
+pub use later::is_later;
