@@ -1,5 +1,5 @@
 -- The scan over a signal from a state that is known in part: values and memories are signals, and an instance is kept in a way of its own.
--- Where everything is known it is the scan; over any signal it is what several scans, one after the other, are looked at by.
+-- Where all is known it is the scan; over any signal it leaves what can be known of several scans, one after the other.
 use Rattle.std.specs.Prelude.{ℕ, ◌/◌, ◌%◌, Bool, false, if◌then◌else◌, List, [], ◌∷◌, ◌++◌, map}
 use Rattle.std.proofs.Common.{get_or, set, zero, suc}
 use Rattle.ladder_vars.specs.declared.kind.BlockKind.{BlockKind}
@@ -101,8 +101,3 @@ passed o w d now k (suc j) = passed_more o w d now j (passed o w d now k j)
 -- What one scan leaves.
 abbrev pub after_known : {S B : Type 0} → Algebra S → Keeping S B → Diagram → ℕ → List S → Known S B → Known S B
 after_known o w d now inputs k = (passed o w d now (record k { values = given d.inputs inputs k.values }) d.rungs).known
-
--- What n scans leave, each given the same inputs; `moment` is that of each, by its number from 0.
-unfoldable pub after_all_known : {S B : Type 0} → Algebra S → Keeping S B → Diagram → (ℕ → ℕ) → List S → ℕ → Known S B → Known S B
-after_all_known o w d moment inputs zero k = k
-after_all_known o w d moment inputs (suc n) k = after_known o w d (moment n) inputs (after_all_known o w d moment inputs n k)

@@ -17,7 +17,7 @@ fn same_values(program: &Program, before: &State, after: &State) -> bool
     ensures { IsTrue result ↔ (before.now.held.values ≡ after.now.held.values) }
 {
     for var in 0..program.decls().vars().len() {
-        if before.value_or_off(var) != after.value_or_off(var) {
+        if before.value(var) != after.value(var) {
             return false;
         }
     }
@@ -30,7 +30,7 @@ fn same_memories(program: &Program, before: &State, after: &State) -> bool
     ensures { IsTrue result ↔ (before.now.held.kept.memories ≡ after.now.held.kept.memories) }
 {
     for number in 0..program.memories() {
-        if before.storage().memory_at(number) != after.storage().memory_at(number) {
+        if before.memory(number) != after.memory(number) {
             return false;
         }
     }
@@ -44,7 +44,7 @@ fn run_alike(preset: u32, moment: u64, shift: u64, start: u64, later: u64) -> bo
     if start <= later && later - start == shift {
         return true;
     }
-    // no start is past 2^64 - 1, where the sum stops
+    // the sum stops at 2^64 - 1, and no start is past that
     match moment.checked_sub(u64::from(preset)) {
         Some(latest) => start <= latest && later <= latest.saturating_add(shift),
         None => false,
@@ -102,9 +102,11 @@ fn later_blocks(program: &Program, moment: u64, shift: u64, before: &State, afte
     true
 }
 
-/// Whether the second state is the first one again, but for the time by which it is later: the same values and memories, and the
-/// same stored by each instance, where a timer that runs began later by this time, or both have run out. `moment` is the one from
-/// which on that is asked: no scan from the first state comes before it.
+/// Whether the second state is the first one come again, later by `shift`: the same values, memories and stored blocks, but that each
+/// timer that runs began later by that time, or that its preset has passed in both, at `moment` and that much later.
+///
+/// Scans with the same inputs, of the first state from `moment` on and of the second that much later, leave such states again
+/// (`laws::goes_on_alike`).
 pub fn is_later(program: &Program, moment: u64, shift: u64, before: &State, after: &State) -> bool
     requires before { Fits program.now before.now }
     requires after { Fits program.now after.now }
