@@ -2,4 +2,4 @@ pub mod Lists
 pub mod Guards
 pub mod KnownKept
 pub mod KnownPlain
-pub mod Shifted
+pub mod GoingOn

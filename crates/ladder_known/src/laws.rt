@@ -7,6 +7,7 @@ ghost use Rattle.ladder_scan.specs.Programs.{diagram_of};
 ghost use Rattle.ladder_known.specs.KnownScan.{Keeping};
 ghost use Rattle.ladder_known.specs.KnownLaws.{GoesOnAlike, KnownIsScan, ScanKeeps, StepsKeep};
 
+use crate::time_shift::TimeShift;
 use ladder_elements::Signal;
 use ladder_grid::Program;
 use ladder_scan::scene::checked;
@@ -54,5 +55,6 @@ pub fn known_is_scan(program: &Program)
 pub fn goes_on_alike(program: &Program)
     ensures { GoesOnAlike (diagram_of program.now) }
 {
-    checked(program);
+    known_is_scan(program);
+    scan_keeps::<TimeShift>();
 }

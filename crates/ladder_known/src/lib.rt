@@ -3,5 +3,6 @@
 
 mod later;
 pub mod laws;
+mod time_shift;
 
 pub use later::is_later;

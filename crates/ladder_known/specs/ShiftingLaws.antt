@@ -1,23 +1,17 @@
--- Steps of what is alike up to the passage of time.
-use Rattle.std.proofs.Common.{◌≡◌, ◌∙◌, inl, inr, ℕ, ◌+◌, ◌-◌, ◌≤◌, Bool, true, false, not, cond, List, refl, sym, ap, subst, ◌&&◌, nat_lt, nat_le, arith, ℤ}
+-- Private to `TimeShift`: steps, and the operations on truth values, keep what is alike up to the passage of time.
+use Rattle.std.proofs.Common.{◌≡◌, ◌∙◌, inl, inr, ℕ, ◌+◌, ◌-◌, ◌≤◌, Bool, true, false, not, cond, refl, sym, ap, ap₂, subst, ◌&&◌, nat_lt, nat_le, arith, ℤ}
 use Rattle.std.proofs.lemmas.Bool.Decides.{nat_tests}
 use Rattle.ladder_vars.specs.declared.kind.BlockKind.{BlockKind}
 use Rattle.ladder_vars.specs.declared.kind.BlockKind.TheVariants.{Ton, Tof, Tp, Ctu, Ctd, Sr, Rs}
 use Rattle.ladder_elements.specs.declared.block.Stored.{Stored}
 use Rattle.ladder_elements.specs.declared.block.Stored.TheVariants.{Timer, Counter, Bistable}
 use Rattle.ladder_elements.specs.Blocks.{step, q_of}
-use Rattle.ladder_scan.specs.Cells.{Diagram}
-use Rattle.ladder_known.specs.KnownLaws.{BothKnown, GoesOnAlike, KnownIsScan, StepsKeep}
-use Rattle.ladder_known.specs.KnownScan.{Known, after_known, plainly}
-use Rattle.ladder_elements.specs.Relations.{Both}
-use Rattle.ladder_scan.specs.Rung.{Held}
-use Rattle.ladder_scan.specs.Scan.{after_scan}
-use Rattle.ladder_known.specs.Shifting.{IsLater, RunAlike}
+use Rattle.ladder_elements.specs.Relations.{IsKept}
 use Rattle.ladder_elements.specs.Truth.{plain}
-use Rattle.ladder_known.proofs.KnownKept.{scan_keeps}
-use Rattle.ladder_look.proofs.OneRung.{same_both, same_kept}
-use Rattle.ladder_known.proofs.Lists.{both_same}
-use Rattle.ladder_known.proofs.KnownPlain.{known_of, known_same}
+use Rattle.ladder_scan.specs.Cells.{Diagram}
+use Rattle.ladder_known.specs.KnownScan.{plainly}
+use Rattle.ladder_known.specs.KnownLaws.{StepsKeep}
+use Rattle.ladder_known.specs.Shifting.{IsLater, RunAlike}
 
 off_on : false ≡ true → ⊥
 off_on h = cc
@@ -154,31 +148,24 @@ q_later preset moment shift (Bistable q) (Timer l2 r2 s2 q2) h = absurd h
 q_later preset moment shift (Bistable q) (Counter l2 cv2 q2) h = absurd h
 q_later preset moment shift (Bistable q) (Bistable q2) h = sym h
 
-steps_later : (d : Diagram) (moment shift now : ℕ) → moment ≤ now
-    → StepsKeep d plainly plainly (λ x y. x ≡ y) (λ inst. IsLater (d.preset inst) moment shift) now (now + shift)
-steps_later d moment shift now le = record {
+pub steps_later : (d : Diagram) (moment shift wait : ℕ)
+    → StepsKeep d plainly plainly (λ x y. x ≡ y) (λ inst. IsLater (d.preset inst) moment shift) (moment + wait) (moment + wait + shift)
+steps_later d moment shift wait = record {
   past = λ inst. (refl, refl, refl, λ g. absurd (off_on g));
   q = λ inst b c h. q_later (d.preset inst) moment shift b c h;
   step = λ inst b c x y s t h e f.
-      subst (λ (u : Bool). IsLater (d.preset inst) moment shift (step (d.kind inst) (d.preset inst) b x y now) (step (d.kind inst) (d.preset inst) c u t (now + shift))) e
-      (subst (λ (u : Bool). IsLater (d.preset inst) moment shift (step (d.kind inst) (d.preset inst) b x y now) (step (d.kind inst) (d.preset inst) c x u (now + shift))) f
-      (step_later (d.preset inst) moment shift now le (d.kind inst) x y b c h));
+      subst (λ (u : Bool). IsLater (d.preset inst) moment shift (step (d.kind inst) (d.preset inst) b x y (moment + wait)) (step (d.kind inst) (d.preset inst) c u t (moment + wait + shift))) e
+      (subst (λ (u : Bool). IsLater (d.preset inst) moment shift (step (d.kind inst) (d.preset inst) b x y (moment + wait)) (step (d.kind inst) (d.preset inst) c x u (moment + wait + shift))) f
+      (step_later (d.preset inst) moment shift (moment + wait) (omega arith) (d.kind inst) x y b c h));
   choice = λ inst g h b e c f k p q. choice_later (d.preset inst) moment shift g h b e c f k p q;
 }
 
-pub goes_on_alike : (d : Diagram) → KnownIsScan d → GoesOnAlike d
-goes_on_alike d known moment shift now le inputs h g later =
-    let Q = λ (inst : ℕ). IsLater (d.preset inst) moment shift in
-    let is : (at : ℕ) (x : Held) → after_known plain plainly d at inputs (known_of x) ≡ known_of (after_scan d at inputs x) = λ at x.
-    ap (after_known plain plainly d at inputs) (sym (known_same x)) ∙ known x at inputs ∙ known_same (after_scan d at inputs x) in
-    let start : BothKnown (λ x y. x ≡ y) Q (known_of h) (known_of g) = record {
-      values = subst (λ (ys : List Bool). Both (λ x y. x ≡ y) h.values ys) later.values (same_both h.values);
-      memories = subst (λ (ys : List Bool). Both (λ x y. x ≡ y) h.kept.memories ys) later.memories (same_both h.kept.memories);
-      blocks = later.blocks;
-    } in
-    let both = scan_keeps plain plain plainly plainly (λ x y. x ≡ y) Q now (now + shift) d (same_kept plain) (steps_later d moment shift now le)
-    inputs inputs (same_both inputs) (known_of h) (known_of g) start in
-    let end : BothKnown (λ x y. x ≡ y) Q (known_of (after_scan d now inputs h)) (known_of (after_scan d (now + shift) inputs g)) =
-    subst (λ (l : Known Bool Stored). BothKnown (λ x y. x ≡ y) Q (known_of (after_scan d now inputs h)) l) (is (now + shift) g)
-    (subst (λ (k : Known Bool Stored). BothKnown (λ x y. x ≡ y) Q k (after_known plain plainly d (now + shift) inputs (known_of g))) (is now h) both) in
-    record { values = both_same _ _ end.values; memories = both_same _ _ end.memories; blocks = end.blocks }
+-- equal truth values stay equal
+pub plain_same : IsKept plain plain (λ x y. x ≡ y)
+plain_same = record {
+  known = λ c. refl;
+  join = λ x y u v r s. ap₂ plain.join r s;
+  meet = λ x y u v r s. ap₂ plain.meet r s;
+  inverse = λ x u r. ap plain.inverse r;
+  choice = λ c x y d u v q r s. ap₂ (λ p z. plain.choice p z y) q r ∙ ap (plain.choice d u) s;
+}
