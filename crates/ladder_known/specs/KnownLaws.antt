@@ -28,6 +28,7 @@ pub record StepsKeep {S T B C : Type 0} (d : Diagram) (v : Keeping S B) (w : Kee
       → Q inst (v.step (d.kind inst) (d.preset inst) b x y now) (w.step (d.kind inst) (d.preset inst) c s t then)
   pub choice : (inst : ℕ) (g : S) (h : T) (b e : B) (c f : C) → R g h → Q inst b c → Q inst e f → Q inst (v.choice g b e) (w.choice h c f)
 
+-- What is known of two states is related: values, memories, and what is kept of each instance.
 pub record BothKnown {S T B C : Type 0} (R : S → T → Type 0) (Q : ℕ → B → C → Type 0) (k : Known S B) (l : Known T C) : Type 0 where
   pub values : Both R k.values l.values
   pub memories : Both R k.memories l.memories

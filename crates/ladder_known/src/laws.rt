@@ -12,7 +12,8 @@ use ladder_elements::Signal;
 use ladder_grid::Program;
 use ladder_scan::scene::checked;
 
-/// A relation between two signals and two ways to keep an instance, that every operation, and every step at two moments, keep.
+/// A relation between two signals and one between two ways to keep an instance, for each value of `Self`: every operation keeps the
+/// first, and every step, made at a moment on either side, the second.
 pub trait StepRelation {
     type Left: Signal;
 
@@ -39,7 +40,7 @@ pub trait StepRelation {
     ghost steps: { (at : Self) (d : Diagram) → StepsKeep d left right (related at) (alike at d) (left_moment at) (right_moment at) };
 }
 
-/// A scan from states that are known in part keeps each relation.
+/// A scan keeps each such relation: from states that are related, each known in part, it leaves related ones.
 pub fn scan_keeps<R: StepRelation>()
     ensures { (at : R) (d : Diagram) → ScanKeeps d R.Left.algebra R.Right.algebra R.left R.right (R.related at) (R.alike at d) (R.left_moment at) (R.right_moment at) }
 {}
@@ -51,7 +52,7 @@ pub fn known_is_scan(program: &Program)
     checked(program);
 }
 
-/// A state that comes again goes on as before.
+/// A state that comes again goes on alike: scans with the same inputs, as far apart in time as the two states, leave such states again.
 pub fn goes_on_alike(program: &Program)
     ensures { GoesOnAlike (diagram_of program.now) }
 {
