@@ -1,0 +1,5 @@
+pub mod Lists
+pub mod Guards
+pub mod KnownKept
+pub mod KnownPlain
+pub mod GoingOn

@@ -1,0 +1,4 @@
+pub mod KnownScan
+pub mod Shifting
+pub mod KnownLaws
+pub mod ShiftingLaws
