@@ -1,5 +1,5 @@
 -- A state that comes again: the scans after it are those before it.
-use Rattle.std.proofs.Common.{◌≡◌, ◌∙◌, ℕ, ◌+◌, ◌-◌, ◌*◌, ◌<◌, ◌≤◌, Bool, true, false, cond, List, refl, sym, ap, subst, zero, suc, arith, Some, None, slice_index_or, inl, inr}
+use Rattle.std.proofs.Common.{◌≡◌, ◌∙◌, ℕ, ◌+◌, ◌-◌, ◌*◌, ◌<◌, ◌≤◌, ◌⊎◌, Bool, true, false, cond, List, refl, sym, ap, subst, zero, suc, arith, Some, None, slice_index_or, inl, inr}
 use Rattle.std.specs.Prelude.{find}
 use Rattle.std.specs.List.{range_with_len}
 use Rattle.std.proofs.Math.Nat.{mul-add}
@@ -9,6 +9,8 @@ use Rattle.ladder_known.specs.KnownLaws.{GoesOnAlike, IsLaterState}
 use Rattle.ladder_scan.specs.Cells.{Diagram}
 use Rattle.ladder_scan.specs.Rung.{Held}
 use Rattle.ladder_scan.specs.Scan.{after_scan}
+use Rattle.ladder_scan.specs.Standing.{Fits, Standing}
+use Rattle.ladder_grid.specs.Program.{Drawing}
 use Rattle.ladder_held.specs.Holding.{RepeatsAreNever, after_scans, first_on, is_on_after, moment_of}
 use Rattle.ladder_held.specs.declared.scans.Scans.{Scans}
 use Rattle.ladder_held.proofs.FirstScans.{some_none}
@@ -19,12 +21,13 @@ none_of p a (suc n) h = rw (h a (omega arith)) (none_of p (a + 1) n (λ x l. h x
 
 none_within : (p : ℕ → Bool) (a n x : ℕ) → find p (range_with_len a n) ≡ None → a ≤ x → x < a + n → p x ≡ false
 none_within p a zero x h l m = absurd (omega (arith, l, m))
-none_within p a (suc n) x h l m = here (p a) refl h
+none_within p a (suc n) x h l m = here (p a) refl h (λ g behind. none_within p (a + 1) n x g behind (omega (arith, m)))
   where
-    here : (b : Bool) → p a ≡ b → cond b (Some a) (find p (range_with_len (a + 1) n)) ≡ None → p x ≡ false
-    here true e g = absurd (some_none g)
-    here false e g = elim (cases_lt a x) [
-      | inl behind ↦ none_within p (a + 1) n x g (omega (arith, behind)) (omega (arith, m))
+    here : (b : Bool) → p a ≡ b → cond b (Some a) (find p (range_with_len (a + 1) n)) ≡ None
+        → (find p (range_with_len (a + 1) n) ≡ None → a + 1 ≤ x → p x ≡ false) → p x ≡ false
+    here true e g more = absurd (some_none g)
+    here false e g more = elim (cases_lt a x) [
+      | inl behind ↦ more g (omega (arith, behind))
       | inr not_behind ↦ let same : x ≡ a = omega (arith, l, not_behind) in ap p same ∙ e
     ]
 
@@ -82,3 +85,20 @@ repeats d alike h first s inputs coil i m count some before again off =
     (sym whole) again in
     never d alike h first s inputs coil i k some (omega (arith, before)) later
     (λ n one l. none_within (is_on_after d (moment_of first s) inputs h coil) 1 m n off one (omega (arith, l, whole))) count
+
+-- A mark that is kept or renewed is that of the state after its scans.
+pub still_marked : (d : Diagram) (moment : ℕ → ℕ) (inputs : List Bool) (h : Held) (old now new : Standing) (marked done m : ℕ)
+    → ((m ≡ marked) × (new ≡ old)) ⊎ ((m ≡ done) × (new ≡ now)) → (0 < marked → old.held ≡ after_scans d moment inputs marked h)
+    → now.held ≡ after_scans d moment inputs done h → 0 < m → new.held ≡ after_scans d moment inputs m h
+still_marked d moment inputs h old now new marked done m (inl kept) was is some =
+    ap (λ (x : Standing). x.held) kept.1 ∙ was (omega (arith, some, kept.0)) ∙ ap (λ (n : ℕ). after_scans d moment inputs n h) (sym kept.0)
+still_marked d moment inputs h old now new marked done m (inr renewed) was is some =
+    ap (λ (x : Standing). x.held) renewed.1 ∙ is ∙ ap (λ (n : ℕ). after_scans d moment inputs n h) (sym renewed.0)
+
+pub not_past : (old now new : Standing) (marked done m : ℕ) → ((m ≡ marked) × (new ≡ old)) ⊎ ((m ≡ done) × (new ≡ now)) → marked ≤ done → m ≤ done
+not_past old now new marked done m (inl kept) l = omega (arith, l, kept.0)
+not_past old now new marked done m (inr renewed) l = omega (arith, renewed.0)
+
+pub still_fits : (p : Drawing) (old now new : Standing) (marked done m : ℕ) → ((m ≡ marked) × (new ≡ old)) ⊎ ((m ≡ done) × (new ≡ now)) → Fits p old → Fits p now → Fits p new
+still_fits p old now new marked done m (inl kept) was is = rw kept.1 was
+still_fits p old now new marked done m (inr renewed) was is = rw renewed.1 is

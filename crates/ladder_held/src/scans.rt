@@ -1,6 +1,6 @@
 //! When the scans are, and the first of them after which a variable is ON.
 
-ghost use Rattle.std.specs.Prelude.{◌≡◌, ◌<◌, ◌≤◌, ◌-◌, ◌*◌, false, length, true};
+ghost use Rattle.std.specs.Prelude.{◌≡◌, ◌<◌, ◌≤◌, ◌-◌, ◌*◌, ◌⊎◌, false, length, true};
 ghost use Rattle.ladder_known.specs.KnownLaws.{IsLaterState};
 ghost use Rattle.ladder_scan.specs.Programs.{diagram_of};
 ghost use Rattle.ladder_scan.specs.Standing.{Fits};
@@ -66,6 +66,23 @@ fn comes_again(
     is_later(program, moment, scans.every * (done - marked), mark, state)
 }
 
+/// Marks the state after so many scans where their number is a power of two, which finds a circle of states of any length. Returns the
+/// number of scans of the mark.
+fn renewed(program: &Program, mark: &mut State, marked: u64, state: &State, done: u64) -> u64
+    requires mark { Fits program.now mark.old }
+    requires state { Fits program.now state.now }
+    requires some { 0 < done }
+    ensures { ((result ≡ marked) × (mark.new ≡ mark.old)) ⊎ ((result ≡ done) × (mark.new ≡ state.now)) }
+{
+    if done & (done - 1) != 0 {
+        return marked;
+    }
+    mark.checked();
+    state.checked();
+    mark.copy_from(state);
+    done
+}
+
 /// The first of some scans after which a variable is ON. `mark` is written over.
 pub(crate) fn first_on(
     program: &Program,
@@ -97,13 +114,7 @@ pub(crate) fn first_on(
         if comes_again(program, first, scans, mark, marked, state, done + 1) {
             return None;
         }
-        // Marks at powers of two find a circle of states of any length.
-        if done & (done + 1) == 0 {
-            mark.checked();
-            state.checked();
-            mark.copy_from(state);
-            marked = done + 1;
-        }
+        marked = renewed(program, mark, marked, state, done + 1);
     }
     None
 }
