@@ -19,7 +19,7 @@ _ladder() {
         return
     fi
     case $subcommand in
-        causes) options='--state --at --after --limit --grouped --terms --st --order --help' ;;
+        causes) options='--state --at --after --limit --scans --every --grouped --terms --st --order --help' ;;
         show) options='--state --at --number --html --stimulus --coil --help' ;;
         sim) options='--state --save --help' ;;
         check | uses) options='--help' ;;
@@ -31,7 +31,7 @@ _ladder() {
     # What stands at the places of the line before this word.
     for ((number = 2; number < COMP_CWORD; number++)); do
         case ${COMP_WORDS[number]} in
-            --state | --at | --after | --limit | --order | --number | --stimulus | --coil | --save) ((number++)) ;;
+            --state | --at | --after | --limit | --scans | --every | --order | --number | --stimulus | --coil | --save) ((number++)) ;;
             -*) ;;
             *)
                 ((place++))
@@ -42,7 +42,7 @@ _ladder() {
     done
     case $before in
         --state | --save | --stimulus) mapfile -t COMPREPLY < <(compgen -f -- "$word") ;;
-        --at | --after | --limit | --number) ;;
+        --at | --after | --limit | --scans | --every | --number) ;;
         --order) mapfile -t COMPREPLY < <(compgen -W 'auto given' -- "$word") ;;
         --coil) mapfile -t COMPREPLY < <(compgen -W "$(_ladder_coils "$file")" -- "$word") ;;
         *)

@@ -4,7 +4,8 @@
 Each drawing has one to five rungs of all forms of cells, joints and vertical links, and breaks no rule; it is asked from the fresh
 state, at any moment. Rows and looks must be the model's, and the rows of groups too, in each form and in the sifted order; so must the
 drawing with the power flow of one number, and its page, with the elements read as marks. A film must have the drawings of its records,
-each shown by itself from the state that `sim --save` has left. A drawing with a difference is printed whole.
+each shown by itself from the state that `sim --save` has left. A list over several scans must be that of the scans one after the other, from
+the fresh state or from one that `sim --save` has left. A drawing with a difference is printed whole.
 """
 import html
 import os
@@ -16,6 +17,7 @@ import tempfile
 
 from end_to_end import differences, run
 from model import COILS, COLUMNS, CONTACTS, FORMS, ROWS, Program
+from running import Running
 
 INPUTS, OUTPUTS, MEMORIES = 9, 2, 2
 UPPER = {
@@ -227,6 +229,24 @@ def compare_film(program, folder, coil, listed, records):
     return found + differences((shown, said, status), (wanted, b"", 0))
 
 
+def compare_held(program, folder, chance, text, coil, listed):
+    """The differences of a list over several scans, from the fresh state or from one that some scans have left."""
+    place, model, asked = pathlib.Path(folder), Running(Program(text)), []
+    records = stimulus(chance, listed) if chance.random() < 0.6 else []
+    for moment, number in records:
+        model.scan({name.upper(): bool(number >> shift & 1) for shift, name in enumerate(reversed(listed))}, moment)
+    if records:
+        lines = [",".join(["moment", *listed]), *(record(*one, len(listed)) for one in records)]
+        (place / "stimulus.csv").write_text("\n".join(lines) + "\n", "ascii")
+        run(program, ["sim", "--save", "held.csv", "program.ld", "stimulus.csv"], folder)
+        asked = ["--state", "held.csv"]
+    last = records[-1][0] if records else 0
+    moment, every, scans = last + chance.choice([0, 0, 1, 900]), chance.choice([0, 1, 10, 700, 5000]), chance.choice([1, 2, 3, 5, 9, 40])
+    asked += ["--at", str(moment), "--scans", str(scans), "--every", str(every), "program.ld", coil, *listed]
+    out, err = model.held(coil, listed, moment, every, scans)
+    return differences(run(program, ["causes", *asked], folder), (out.encode(), err.encode(), 0))
+
+
 def main():
     """Compares so many drawings and answers the status."""
     program = os.path.abspath(sys.argv[1])
@@ -243,6 +263,7 @@ def main():
             shown = chance.randrange(2 ** len(listed))
             found = compare(program, folder, text, coil, listed, moment, shown)
             found += compare_film(program, folder, coil, listed, stimulus(chance, listed))
+            found += compare_held(program, folder, chance, text, coil, listed)
             if found:
                 different += 1
                 print(text, " ".join([*moment, coil, *listed]), f"number {shown}", *found, sep="\n")

@@ -30,7 +30,7 @@ DOCUMENTS = ["README.md", "docs/DRAWING.md", "docs/FAULTS.md", "docs/TUTORIAL.md
 SUBCOMMANDS = ["check", "causes", "show", "sim", "uses"]
 # the faults that a text or a command can show, and those that have a section alone
 SHOWN = [f"V{number}" for number in range(1, 9)] + [f"G{number}" for number in range(1, 16)]
-SHOWN += [f"C{number}" for number in range(1, 7)] + [f"X{number}" for number in range(1, 7)] + ["usage"]
+SHOWN += [f"C{number}" for number in range(1, 7)] + ["C8"] + [f"X{number}" for number in range(1, 7)] + ["usage"]
 TOLD = ["V9", "C7", "S1", "X7"]
 
 
