@@ -10,4 +10,5 @@ END_VAR
 
 |   Flip        Count         Y
 |----| |------|CU CTU Q|-----( )----
+|
 |             |R       |

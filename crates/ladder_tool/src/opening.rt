@@ -57,13 +57,12 @@ pub(crate) fn readers_of<'a>(
             state: None,
             stimulus: None,
         },
-        Request::Causes { list, .. }
-        | Request::Held { list, .. }
-        | Request::Groups { list, .. } => Readers {
-            program: reading(rt, list.file.as_str()),
-            state: reading_named(rt, &list.state),
-            stimulus: None,
-        },
+        Request::Causes { list, .. } | Request::Held { list, .. } | Request::Groups { list, .. } =>
+            Readers {
+                program: reading(rt, list.file.as_str()),
+                state: reading_named(rt, &list.state),
+                stimulus: None,
+            },
         Request::Show(show) => Readers {
             program: reading(rt, show.file.as_str()),
             state: reading_named(rt, &show.state),

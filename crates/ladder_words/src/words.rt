@@ -128,11 +128,7 @@ fn list_request(alloc: Global, found: &ArgMatches<'_>) -> Result<Request, WordFa
     Ok(Request::Causes { list, after })
 }
 
-fn held_request(
-    alloc: Global,
-    found: &ArgMatches<'_>,
-    scans: u64,
-) -> Result<Request, WordFault>
+fn held_request(alloc: Global, found: &ArgMatches<'_>, scans: u64) -> Result<Request, WordFault>
     requires table { IsTable (rows_of (found_of found.now)) }
     requires scans { HasNumber (codes "scans") (rows_of (found_of found.now)) (Some scans) }
     ensures ok { IfOk result (Asks (codes "causes") (rows_of (found_of found.now))) }

@@ -9,8 +9,8 @@ returns-in-Ok-named-clause-asked c =
     let s = c.in-Ok.setting in
     let named = c.in-Ok-named.named in
     asked_by (given_by c.args.texts.now) c.args.request.now s.program s.state c.decls.result.now c.moment-moment.result named.coil _ _ named.inputs.items
-        c.in-Ok.ensures.set c.decls.ensures c.as_str.ensures.value (ap (map string_bytes) c.deref.ensures.value)
-        (c.moment-moment.ensures ∙ ap (unwrap_or c.args.request.now.moment) c.moment.ensures) c.in-Ok-named.ensures.coil c.in-Ok-named.ensures.inputs
+    c.in-Ok.ensures.set c.decls.ensures c.as_str.ensures.value (ap (map string_bytes) c.deref.ensures.value)
+    (c.moment-moment.ensures ∙ ap (unwrap_or c.args.request.now.moment) c.moment.ensures) c.in-Ok-named.ensures.coil c.in-Ok-named.ensures.inputs
 
 pub returns-in-Err-named-clause-fault : goal.returns-in-Err-named-clause-fault
 returns-in-Err-named-clause-fault c =
