@@ -25,6 +25,9 @@ const ROWS: &[u8] = b"number,Start,Stop\n0,0,0\n2,1,0\n";
 
 const COUNT: &[u8] = b"rows 2 looks 1\n";
 
+/// The causes over three scans.
+const HELD: &[u8] = b"number,scan,Start,Stop\n0,1,0,0\n2,1,1,0\n";
+
 /// The same causes in groups.
 const GROUPS: &[u8] = b"causes,Start,Stop\n2,-,0\n";
 
@@ -42,6 +45,8 @@ pub(crate) enum Asked {
     Uses,
     /// Its causes from the running motor, after a number.
     Causes(Option<u64>),
+    /// The same over three scans.
+    Held,
     /// The same in groups.
     Groups,
     /// The drawing with the power flow of a scan from the running motor.
@@ -110,6 +115,11 @@ pub(crate) fn request(alloc: Global, asked: Asked) -> Result<Request, AllocError
             list: list(alloc, file)?,
             after,
         }),
+        Asked::Held => Ok(Request::Held {
+            list: list(alloc, file)?,
+            scans: 3,
+            every: 10,
+        }),
         Asked::Groups => Ok(Request::Groups {
             list: list(alloc, file)?,
             grouping: Grouping {
@@ -142,7 +152,7 @@ pub(crate) fn request(alloc: Global, asked: Asked) -> Result<Request, AllocError
 fn texts(alloc: Global, asked: Asked) -> Result<Texts, AllocError> {
     let (state, stimulus): (Option<&[u8]>, Option<&[u8]>) = match asked {
         Asked::Check | Asked::Uses => (None, None),
-        Asked::Causes(_) | Asked::Groups | Asked::Shown => (Some(SAVED), None),
+        Asked::Causes(_) | Asked::Held | Asked::Groups | Asked::Shown => (Some(SAVED), None),
         Asked::Saved => (None, Some(STIMULUS)),
         Asked::Back => (None, Some(BACK)),
     };
@@ -179,7 +189,7 @@ fn performed(alloc: Global, asked: Asked, rooms: Rooms) -> Result<Done, AllocErr
 }
 
 /// What is asked, the status, and what is written on each writer.
-const ENDINGS: [(Asked, u8, [&[u8]; 3]); 8] = [
+const ENDINGS: [(Asked, u8, [&[u8]; 3]); 9] = [
     (
         Asked::Check,
         0,
@@ -192,6 +202,7 @@ const ENDINGS: [(Asked, u8, [&[u8]; 3]); 8] = [
         0,
         [b"number,Start,Stop\n2,1,0\n", b"", b"rows 1 looks 1\n"],
     ),
+    (Asked::Held, 0, [HELD, b"", b"rows 2\n"]),
     (Asked::Groups, 0, [GROUPS, b"", b"rows 1 causes 2\n"]),
     (Asked::Shown, 0, [SHOWN, b"", b""]),
     (Asked::Saved, 0, [TRACE, SAVED, b""]),
@@ -212,8 +223,9 @@ fn a_request_writes_its_texts(rt: HostRuntime) -> Result<(), AllocError> {
 }
 
 /// A text, and what asks for it.
-const TEXTS: [(Asked, &[u8]); 6] = [
+const TEXTS: [(Asked, &[u8]); 7] = [
     (Asked::Causes(None), ROWS),
+    (Asked::Held, HELD),
     (Asked::Groups, GROUPS),
     (Asked::Shown, SHOWN),
     (Asked::Uses, USES),
