@@ -248,7 +248,7 @@ SPECIAL = {
     "streams-saved-state-in-a-folder": long_texts(["sim", "--save", ".", *SIM[1:]], "stimulus.csv", ONE, (TRACE, b"fault X6\n", 1)),
     "streams-rows-in-a-file-of-limited-size": rows_in_a_file_of_limited_size,
     "streams-rows-on-a-pipe-closed-after-a-line": pipe_closed_after_a_line,
-    "streams-saved-state-over-the-program": long_texts(["sim", "--save", "motor.ld", *SIM[1:]], "stimulus.csv", ONE, (TRACE, b"", 0)),
+    "streams-saved-state-over-the-program": long_texts(["sim", "--save", "motor.ld", *SIM[1:]], "stimulus.csv", ONE, (b"", b"fault usage\n", 2)),
     "streams-sim-without-input": sim_with_closed_streams([0], (TRACE, b"", 0), SAVED),
     "streams-sim-without-output": sim_with_closed_streams([1], (b"", b"fault X6\n", 1), b""),
     "streams-sim-without-error": sim_with_closed_streams([2], (TRACE, b"", 0), SAVED),

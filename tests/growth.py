@@ -30,6 +30,7 @@ REQUESTS = (
     (("uses", "motor.ld"), ("fault V9\n",)),
     (("causes", "motor.ld", "Motor", "Start", "Stop"), LINES),
     (("causes", "--state", "running.csv", "motor.ld", "Motor", "Start", "Stop"), LINES),
+    (("causes", "--scans", "3", "--state", "running.csv", "motor.ld", "Motor", "Start", "Stop"), LINES),
     (("causes", "--grouped", "--state", "running.csv", "motor.ld", "Motor", "Start", "Stop"), LINES),
     (("causes", "--grouped", "--st", "--order", "auto", "motor.ld", "Motor", "Start", "Stop"), LINES),
     (("show", "--state", "running.csv", "--number", "2", "motor.ld", "Start", "Stop"), LINES),

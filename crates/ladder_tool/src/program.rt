@@ -5,10 +5,10 @@ ghost use Rattle.std.specs.Prelude.{◌≤◌};
 use crate::fault::{ToolFault, write_fault};
 use crate::files::perform_files;
 use crate::opening::readers_of;
-use crate::saving::SavedFile;
+use crate::saving::{SavedFile, followed};
 use ladder_text::{Writing, put};
-use ladder_words::{Request, WordFault, read_words};
-use std::alloc::Global;
+use ladder_words::{Request, SimRequest, WordFault, read_words};
+use std::alloc::{AllocError, Global};
 use std::fs::File;
 use std::io::Write;
 use std::{fs, io};
@@ -34,21 +34,80 @@ pub fn run(rt: &HostRuntime, alloc: Global, words: Vec<String>) -> u8
 
 /// Performs a request over its files and the standard streams.
 fn run_request(rt: &HostRuntime, alloc: Global, request: &Request) -> u8
-    ensures { result ≤ 1 }
+    ensures { result ≤ 2 }
 {
     // A stream that is closed at the start must not become one of the files: these take its place, and refuse what is written.
     let _places = (no_file(rt), no_file(rt), no_file(rt));
-    match saved_path(request) {
-        Some(path) => run_saving(rt, alloc, request, SavedFile::new(rt, path)),
-        None => run_saving(rt, alloc, request, io::sink()),
+    match saving_of(request) {
+        Some((path, sim)) => run_saving(rt, alloc, request, sim, path),
+        None => run_with(rt, alloc, request, &mut Writing::new(io::sink())),
     }
 }
 
-/// The file that a state is to be saved to.
-fn saved_path(request: &Request) -> Option<&str> {
+/// Performs a simulation whose state is saved. A file that the request reads but for the state, or standard output, is no place for it.
+fn run_saving(
+    rt: &HostRuntime,
+    alloc: Global,
+    request: &Request,
+    sim: &SimRequest,
+    path: &str,
+) -> u8
+    ensures { result ≤ 2 }
+{
+    let Ok(saved) = SavedFile::new(rt, alloc, path) else {
+        report(rt, &ToolFault::Memory);
+        return 1;
+    };
+    match is_taken(rt, alloc, sim, &saved) {
+        Ok(false) => (),
+        Ok(true) => {
+            report(rt, &ToolFault::Usage);
+            return 2;
+        }
+        Err(_) => {
+            report(rt, &ToolFault::Memory);
+            return 1;
+        }
+    }
+    let mut save = Writing::new(saved);
+    let status = run_with(rt, alloc, request, &mut save);
+    end_saving(rt, &save.into_inner(), status)
+}
+
+/// Whether a state would be saved over the program, the stimulus or what standard output goes to.
+fn is_taken(
+    rt: &HostRuntime,
+    alloc: Global,
+    sim: &SimRequest,
+    saved: &SavedFile<'_>,
+) -> Result<bool, AllocError> {
+    Ok(saved.is_same(followed(rt, alloc, sim.file.as_str())?.as_str())
+        || saved.is_same(followed(rt, alloc, sim.stimulus.as_str())?.as_str())
+        || saved.is_same(followed(rt, alloc, "/dev/stdout")?.as_str()))
+}
+
+/// Puts a state that was written in its place, or removes it where a fault stopped the request. Returns the status.
+fn end_saving(rt: &HostRuntime, saved: &SavedFile<'_>, status: u8) -> u8
+    requires { status ≤ 1 }
+    ensures { result ≤ 1 }
+{
+    if status != 0 {
+        saved.discard();
+        return status;
+    }
+    if saved.keep().is_err() {
+        saved.discard();
+        report(rt, &ToolFault::Write);
+        return 1;
+    }
+    0
+}
+
+/// The file that a state is to be saved to, and the simulation.
+fn saving_of(request: &Request) -> Option<(&str, &SimRequest)> {
     match request {
         Request::Sim(sim) => match &sim.save {
-            Some(path) => Some(path.as_str()),
+            Some(path) => Some((path.as_str(), sim)),
             None => None,
         },
         Request::Check { .. }
@@ -66,16 +125,20 @@ fn no_file(rt: &HostRuntime) -> io::Result<File> {
     fs::open(rt, "/dev/null")
 }
 
-fn run_saving<W: Write>(rt: &HostRuntime, alloc: Global, request: &Request, save: W) -> u8
+fn run_with<W: Write>(
+    rt: &HostRuntime,
+    alloc: Global,
+    request: &Request,
+    save: &mut Writing<W>,
+) -> u8
 where
     W: Drop,
     ensures { result ≤ 1 }
 {
     let mut readers = readers_of(rt, request);
     let mut out = Writing::new(io::writer(rt));
-    let mut save = Writing::new(save);
     let mut err = Writing::new(rt.stderr());
-    perform_files(alloc, request, &mut readers, &mut out, &mut save, &mut err)
+    perform_files(alloc, request, &mut readers, &mut out, save, &mut err)
 }
 
 fn show_help(rt: &HostRuntime, text: &str) -> u8
