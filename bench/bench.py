@@ -103,6 +103,28 @@ def grouped(program, runs):
             wrong(f"{case.name}: {said.strip()!r}, and rows {case.groups} causes {case.rows} must come out")
 
 
+# over several scans: circuit, coil, listed inputs, scans, the time between them, options, and the rows that must come out
+HELD = [
+    ("chain of 12 inputs, 1 scan", "chain24", "Y", inputs(1, 12), 1, 10, [], 0),
+    ("chain of 12 inputs, 1000", "chain24", "Y", inputs(1, 12), 1000, 10, [], 0),
+    ("stations, 12 inputs, 1 scan", "three_stations", "Feed", STATIONS[:12], 1, 100, STORED, 156),
+    ("stations, 12 inputs, 20", "three_stations", "Feed", STATIONS[:12], 20, 100, STORED, 156),
+    ("stations, 12 inputs, 1000", "three_stations", "Feed", STATIONS[:12], 1000, 100, STORED, 156),
+    ("stations, 16 inputs, 1000", "three_stations", "Feed", STATIONS[:16], 1000, 100, STORED, 2_816),
+]
+
+
+def held(program, runs):
+    """Lists over several scans, in which each combination is scanned until the coil is ON or the state comes again."""
+    print(f"{'over several scans':28}{'ms':>10}{'rows':>12}{'µs a combination':>20}")
+    for name, circuit, coil, listed, scans, every, options, due in HELD:
+        words = ["--scans", str(scans), "--every", str(every), *options, str(HERE / "circuits" / f"{circuit}.ld"), coil, *listed]
+        seconds, _, said = least([program, "causes", *words], runs)
+        print(f"{name:28}{seconds * 1e3:10.2f}{said.split()[-1]:>12}{seconds * 1e6 / 2 ** len(listed):20.2f}")
+        if said != f"rows {due}\n":
+            wrong(f"{name}: {said.strip()!r}, and rows {due} must come out")
+
+
 def declarations():
     """Declarations of the greatest length."""
     text = "VAR\n" + "(* a comment that fills the block *)\n" * 27_000 + "  Y AT %QX0 : BOOL;\nEND_VAR\n"
@@ -208,6 +230,7 @@ def main():
         seconds, _, said = least(causes_of(program, case), runs)
         report(case.name, seconds, said, (case.rows, case.looks))
     grouped(program, runs)
+    held(program, runs)
     for name, text in TEXTS:
         with tempfile.NamedTemporaryFile() as file:
             file.write(text())
