@@ -1,7 +1,6 @@
 -- The scan over a signal from a state that is known in part: values and memories are signals, and an instance is kept in a way of its own.
 -- Where all is known it is the scan; over any signal it leaves what can be known of several scans, one after the other.
-use Rattle.std.specs.Prelude.{ℕ, ◌/◌, ◌%◌, Bool, false, if◌then◌else◌, List, [], ◌∷◌, ◌++◌, map}
-use Rattle.std.proofs.Common.{get_or, set, zero, suc}
+use Rattle.std.specs.Prelude.{ℕ, ◌/◌, ◌%◌, Bool, false, if◌then◌else◌, List, [], ◌∷◌, ◌++◌, get_or, map, set, zero, suc}
 use Rattle.ladder_vars.specs.declared.kind.BlockKind.{BlockKind}
 use Rattle.ladder_vars.specs.declared.kind.BlockKind.TheVariants.{Ton}
 use Rattle.ladder_page.specs.declared.geometry.TheConstants.{ROWS, PLACES}
