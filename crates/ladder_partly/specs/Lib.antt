@@ -1,0 +1,3 @@
+pub mod Partly
+pub mod PartlyLaws
+pub mod SeveralLaws

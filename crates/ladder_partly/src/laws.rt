@@ -1,0 +1,59 @@
+//! The law of looks through several scans: the function does nothing, and its contract is the law.
+
+ghost use Rattle.ladder_elements.specs.Relations.{AllowsAt, allows_kept};
+ghost use Rattle.ladder_elements.specs.Truth.{OnePlace};
+ghost use Rattle.ladder_scan.specs.Programs.{diagram_of};
+ghost use Rattle.ladder_known.specs.KnownScan.{plainly};
+ghost use Rattle.ladder_causes.specs.Three.{AnyTri, three, three_allows};
+ghost use Rattle.ladder_causes.specs.ThreeLaws.{three_allowed, three_lattice};
+ghost use Rattle.ladder_partly.specs.Partly.{may_store, partly};
+ghost use Rattle.ladder_partly.specs.PartlyLaws.{partly_keeps};
+ghost use Rattle.ladder_partly.specs.SeveralLaws.{AllowsScans};
+
+use crate::partly::Partly;
+use ladder_causes::Tri;
+use ladder_elements::Stored;
+use ladder_grid::Program;
+use ladder_known::laws::{StepRelation, known_is_scan, scan_keeps};
+
+/// What three values allow, and what may be stored, at the moment of a scan.
+#[derive(Clone, Copy)]
+struct PartlyAt {
+    now: u64,
+}
+
+impl StepRelation for PartlyAt {
+    type Left = Tri;
+
+    type Right = bool;
+
+    type LeftKept = Partly;
+
+    type RightKept = Stored;
+
+    ghost left = { partly };
+
+    ghost right = { plainly };
+
+    ghost related = { λ _. AllowsAt AnyTri OnePlace three_allows 0 };
+
+    ghost alike = { λ _ _ _. may_store };
+
+    ghost left_moment = { λ at. at.now };
+
+    ghost right_moment = { λ at. at.now };
+
+    ghost kept = { λ _. allows_kept AnyTri three OnePlace three_allows three_lattice three_allowed 0 };
+
+    ghost steps = { λ at d. partly_keeps at.now d };
+}
+
+/// After each of several scans with inputs that are known in part, at whatever moments, what is known allows what the scans leave for
+/// each completion of the inputs. Where the first scan that is not known to leave a variable OFF is known to leave it ON, it is the first
+/// after which the variable is ON for each completion.
+pub fn several(program: &Program)
+    ensures { AllowsScans (diagram_of program.now) }
+{
+    scan_keeps::<PartlyAt>();
+    known_is_scan(program);
+}
