@@ -1,7 +1,6 @@
 -- Several scans with inputs that are known in part, and what is known after each.
-use Rattle.std.specs.Prelude.{◌≡◌, ℕ, Bool, true, false, List, find, Option, Some, None, slice_index_or}
+use Rattle.std.specs.Prelude.{◌≡◌, ℕ, Bool, true, false, List, find, Option, Some, None, slice_index_or, zero, suc}
 use Rattle.std.specs.List.{range_with_len}
-use Rattle.std.proofs.Common.{zero, suc}
 use Rattle.ladder_elements.specs.Algebra.{Algebra}
 use Rattle.ladder_elements.specs.Relations.{AllowsAt, Both}
 use Rattle.ladder_elements.specs.Truth.{OnePlace}
