@@ -81,9 +81,11 @@ fn is_taken(
     sim: &SimRequest,
     saved: &SavedFile<'_>,
 ) -> Result<bool, AllocError> {
-    Ok(saved.is_same(followed(rt, alloc, sim.file.as_str())?.as_str())
-        || saved.is_same(followed(rt, alloc, sim.stimulus.as_str())?.as_str())
-        || saved.is_same(followed(rt, alloc, "/dev/stdout")?.as_str()))
+    Ok(
+        saved.is_same(followed(rt, alloc, sim.file.as_str())?.as_str())
+            || saved.is_same(followed(rt, alloc, sim.stimulus.as_str())?.as_str())
+            || saved.is_same(followed(rt, alloc, "/dev/stdout")?.as_str()),
+    )
 }
 
 /// Puts a state that was written in its place, or removes it where a fault stopped the request. Returns the status.

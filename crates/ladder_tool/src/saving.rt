@@ -22,11 +22,7 @@ pub(crate) struct SavedFile<'a> {
 }
 
 /// A path with its links followed, where it leads somewhere.
-pub(crate) fn followed(
-    rt: &HostRuntime,
-    alloc: Global,
-    path: &str,
-) -> Result<String, AllocError> {
+pub(crate) fn followed(rt: &HostRuntime, alloc: Global, path: &str) -> Result<String, AllocError> {
     match fs::canonicalize(rt, path) {
         Ok(path) => Ok(path.into_string()),
         Err(_) => String::from_str(alloc, path),
