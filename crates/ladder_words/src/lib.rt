@@ -7,7 +7,7 @@ mod request;
 mod words;
 
 pub use request::{
-    FilmRequest, Form, Grouping, InputOrder, ListRequest, Medium, Request, ShowRequest, SimRequest,
-    WordFault,
+    CheckRequest, FilmRequest, Form, Grouping, InputOrder, ListRequest, Medium, Request, ShowRequest,
+    SimRequest, WordFault,
 };
 pub use words::read_words;

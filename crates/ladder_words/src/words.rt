@@ -4,12 +4,12 @@ ghost use Rattle.std.specs.Prelude.{◌≡◌, ℕ, [], true, false, codes, IfSo
 ghost use Rattle.clap.specs.Words.{all_of, first_of, found_of, kind_of, rows_of, subcommand_rows_of};
 ghost use Rattle.clap.specs.Words.{fault_of as clap_fault};
 ghost use Rattle.ladder_words.specs.CommandLine.{ladder_app};
-ghost use Rattle.ladder_words.specs.Asking.{Asks, AsksBy, AsksNone, HasEvery, HasFlag, HasForm, HasMedium, HasNumber, HasOrder, HasOption, IsNamed, IsTable, MayHaveLimit, NamesList};
+ghost use Rattle.ladder_words.specs.Asking.{Asks, AsksBy, AsksNone, HasEvery, HasFlag, HasForm, HasMedium, HasNumber, HasOrder, HasOption, IsGiven, IsNamed, IsTable, MayHaveLimit, NamesList};
 ghost use Rattle.ladder_words.specs.Faults.{IsFaultOf, SaysOf, UsageWhere};
 
 use crate::command::ladder;
 use crate::request::{
-    FilmRequest, Form, Grouping, InputOrder, ListRequest, Medium, Request, ShowRequest, SimRequest,
+    CheckRequest, FilmRequest, Form, Grouping, InputOrder, ListRequest, Medium, Request, ShowRequest, SimRequest,
     WordFault,
 };
 use clap::ArgMatches;
@@ -72,10 +72,7 @@ fn request_of(alloc: Global, name: &str, found: &ArgMatches<'_>) -> Result<Reque
     ensures err { IfErr result (UsageWhere (AsksNone name.now (rows_of (found_of found.now)))) }
 {
     match name {
-        "check" => {
-            let file = text(alloc, found, "file")?;
-            Ok(Request::Check { file })
-        }
+        "check" => check_request(alloc, found),
         "uses" => {
             let file = text(alloc, found, "file")?;
             Ok(Request::Uses { file })
@@ -85,6 +82,18 @@ fn request_of(alloc: Global, name: &str, found: &ArgMatches<'_>) -> Result<Reque
         "sim" => sim_request(alloc, found),
         _ => Err(WordFault::Usage),
     }
+}
+
+fn check_request(alloc: Global, found: &ArgMatches<'_>) -> Result<Request, WordFault>
+    ensures ok { IfOk result (Asks (codes "check") (rows_of (found_of found.now))) }
+    ensures err { IfErr result (UsageWhere (AsksNone (codes "check") (rows_of (found_of found.now)))) }
+{
+    let file = text(alloc, found, "file")?;
+    Ok(Request::Check(CheckRequest {
+        file,
+        warns: is_set(found, "warn"),
+        explains: is_set(found, "why"),
+    }))
 }
 
 fn causes_request(alloc: Global, found: &ArgMatches<'_>) -> Result<Request, WordFault>
@@ -328,6 +337,7 @@ fn sim_request(alloc: Global, found: &ArgMatches<'_>) -> Result<Request, WordFau
 
 /// Whether a flag was given.
 fn is_set(found: &ArgMatches<'_>, id: &str) -> bool
+    ensures given { IsGiven result id.now (rows_of (found_of found.now)) }
     ensures yes { result ≡ true → HasFlag id.now (rows_of (found_of found.now)) }
     ensures no { result ≡ false → HasFlag id.now (rows_of (found_of found.now)) → ⊥ }
 {

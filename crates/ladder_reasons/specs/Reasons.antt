@@ -1,0 +1,47 @@
+-- Why a text is no program, for its author: the sentence of the rule that is broken, and the lines of the text where it shows.
+use Rattle.std.specs.Prelude.{◌++◌, ◌-◌, ◌+◌, ◌==◌, ◌||◌, ℕ, zero, suc, List, [], ◌∷◌, Bool, true, false, nat_lt, codes, decimal, if◌then◌else◌, length, map, replicate, slice_get, take}
+use Rattle.std.specs.List.{slice_split}
+use Rattle.std.specs.Option.{option_map_or}
+use Rattle.ladder_grid.specs.declared.fault.GridFault.{GridFault}
+use Rattle.ladder_grid.specs.declared.fault.GridFault.TheVariants.{Grid, Vars}
+use Rattle.ladder_page.specs.Bytes.{line_feed, space}
+use Rattle.ladder_reasons.specs.declared.quote.TheConstants.{DIGITS, WIDTH}
+use Rattle.ladder_reasons.specs.Sentences.{grid_sentence, var_sentence}
+
+-- A byte as it is quoted: what moves a terminal's cursor or changes its colours is a question mark.
+abbrev pub quoted_byte : ℕ → ℕ
+quoted_byte b = if nat_lt b space || b == 127 then 63 else b
+
+-- A number as wide as DIGITS, or wider.
+abbrev pub padded : ℕ → List ℕ
+padded n = replicate (DIGITS - length (decimal n)) space ++ decimal n
+
+-- the mark in front of the line where the fault shows
+abbrev pub mark : Bool → List ℕ
+mark is_it = if is_it then codes "> " else codes "  "
+
+-- the number of a line
+abbrev pub numbered : Bool → ℕ → List ℕ
+numbered is_it number = mark is_it ++ (padded number ++ codes " | ")
+
+-- A line with its number, its first WIDTH bytes.
+abbrev pub quoted : Bool → ℕ → List ℕ → List ℕ
+quoted is_it number line = numbered is_it number ++ (map quoted_byte (take WIDTH line) ++ codes "\n")
+
+-- The line of a text with this number, from 1, where there is one: lines are what stands between the line feeds.
+abbrev pub quote : List ℕ → Bool → ℕ → List ℕ
+quote text is_it zero = []
+quote text is_it (suc n) = option_map_or (quoted is_it (suc n)) (slice_get (slice_split (λ b. b == line_feed) text) n) []
+
+-- The line where a fault shows, between the one before it and the one behind it; out of memory shows on line 0, which is none.
+abbrev pub near : List ℕ → ℕ → List ℕ
+near text line = if line == 0 then [] else quote text false (line - 1) ++ (quote text true line ++ quote text false (line + 1))
+
+-- The columns of a drawing over its lines: a bar where a rail or a joint stands, and between them the column's number.
+abbrev pub ruler : List ℕ
+ruler = codes "        | |     1     |     2     |     3     |     4     |     5     |     6     |     7     |     8     |     9     |    10     |\n"
+
+-- What is told of a fault: its sentence, and the lines where it shows.
+abbrev pub reason_text : List ℕ → GridFault → List ℕ
+reason_text text (Vars f) = (var_sentence f.rule ++ codes "\n") ++ near text f.line
+reason_text text (Grid r rung line) = (grid_sentence r ++ codes "\n") ++ (ruler ++ near text line)

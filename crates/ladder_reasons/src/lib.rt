@@ -1,0 +1,8 @@
+//! Why a text is no program, for its author: the sentence of the rule that is broken, and the lines where it shows.
+#![tactic(auto)]
+
+mod quote;
+mod reason;
+mod sentence;
+
+pub use reason::write_reason;
