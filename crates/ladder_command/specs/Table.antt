@@ -1,4 +1,4 @@
--- What `clap` makes of the tables of words.
+-- The command line as the tables of words give it.
 use Rattle.std.specs.Prelude.{◌∷◌, [], Bool, List, codes, false, map, true}
 use Rattle.clap.specs.Simple.{new_shape}
 use Rattle.clap.specs.Words.{App, Rule, Shape}

@@ -1,9 +1,7 @@
 //! The command line, as `clap` takes it.
 
-ghost use Rattle.std.specs.Prelude.{◌≡◌, ◌++◌, ◌∷◌, [], IfOk, List, codes, false, map, take, true};
-ghost use Rattle.clap.specs.Simple.{new_shape};
-ghost use Rattle.clap.specs.Words.{App, Rule, Text, app_of, new_app, rule_of, shape_of, with_subcommand};
-ghost use Rattle.clap.specs.declared.builder.Command.TheViews.{out-Command};
+ghost use Rattle.std.specs.Prelude.{◌≡◌, [], IfOk, false, map};
+ghost use Rattle.clap.specs.Words.{app_of, rule_of};
 ghost use Rattle.ladder_command.specs.CommandLine.{IsApp, ladder_app, taking};
 ghost use Rattle.ladder_command.specs.Table.{ladder_by, word_rule};
 
