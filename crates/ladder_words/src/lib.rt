@@ -1,8 +1,6 @@
-//! The command line of the program `ladder`: what its words ask for.
+//! What the words of a command line ask of the program `ladder`.
 #![tactic(auto)]
 
-mod command;
-mod help;
 mod request;
 mod words;
 

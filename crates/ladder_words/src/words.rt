@@ -3,17 +3,17 @@
 ghost use Rattle.std.specs.Prelude.{◌≡◌, ℕ, [], true, false, codes, IfSome, IsSome, OnOk, IfOk, IfErr, map, option_map, string_bytes, unwrap_or, None, Option, Some};
 ghost use Rattle.clap.specs.Words.{all_of, first_of, found_of, kind_of, rows_of, subcommand_rows_of};
 ghost use Rattle.clap.specs.Words.{fault_of as clap_fault};
-ghost use Rattle.ladder_words.specs.CommandLine.{ladder_app};
+ghost use Rattle.ladder_command.specs.CommandLine.{ladder_app};
 ghost use Rattle.ladder_words.specs.Asking.{Asks, AsksBy, AsksNone, HasEvery, HasFlag, HasForm, HasMedium, HasNumber, HasOrder, HasOption, IsGiven, IsNamed, IsTable, MayHaveLimit, NamesList};
 ghost use Rattle.ladder_words.specs.Faults.{IsFaultOf, SaysOf, UsageWhere};
 
-use crate::command::ladder;
 use crate::request::{
     CheckRequest, FilmRequest, Form, Grouping, InputOrder, ListRequest, Medium, Request, ShowRequest, SimRequest,
     WordFault,
 };
 use clap::ArgMatches;
 use clap::error::ErrorKind;
+use ladder_command::ladder;
 use std::alloc::Global;
 
 /// The time from each scan to the next where no word says otherwise, in ms.

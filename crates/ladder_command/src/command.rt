@@ -1,0 +1,170 @@
+//! The command line, as `clap` takes it.
+
+ghost use Rattle.std.specs.Prelude.{◌≡◌, [], IfOk, false, map};
+ghost use Rattle.clap.specs.Words.{app_of, rule_of};
+ghost use Rattle.ladder_command.specs.CommandLine.{IsApp, ladder_app, taking};
+ghost use Rattle.ladder_command.specs.Table.{ladder_by, word_rule};
+
+use crate::help::{
+    AFTER_HELP, AT_HELP, CAUSES_ABOUT, CHECK_ABOUT, COIL_HELP, EVERY_HELP, FAULTS, FILE_HELP,
+    FILM_HELP, GROUPED_HELP, HTML_HELP, INPUTS_HELP, LADDER_ABOUT, LIMIT_HELP, NUMBER_HELP,
+    ORDER_HELP, SAVE_HELP, SCANS_HELP, SHOW_ABOUT, SHOWN_HELP, SIM_ABOUT, STATE_HELP,
+    STATEMENT_HELP, STIMULUS_HELP, TERMS_HELP, USES_ABOUT, WHY_HELP,
+};
+use clap::{Arg, ArgAction, Command, value_parser};
+use std::alloc::{AllocError, Global};
+
+/// A word of a subcommand: its name, then the name of its value where it has one, then its help.
+enum Word {
+    /// It must be there, and is known by its place.
+    Place(&'static str, &'static str, &'static str),
+    /// An option with a text.
+    Text(&'static str, &'static str, &'static str),
+    /// An option with a number.
+    Number(&'static str, &'static str, &'static str),
+    /// An option without a value.
+    Flag(&'static str, &'static str),
+    /// The arguments that are left.
+    List(&'static str, &'static str, &'static str),
+}
+
+/// A subcommand with its words in their order.
+struct Subcommand {
+    name: &'static str,
+    about: &'static str,
+    words: &'static [Word],
+}
+
+const PROGRAM: &[Word] = &[Word::Place("file", "FILE", FILE_HELP)];
+
+const CAUSES: &[Word] = &[
+    Word::Text("state", "STATE", STATE_HELP),
+    Word::Number("at", "MS", AT_HELP),
+    Word::Number("after", "N", AFTER_HELP),
+    Word::Number("limit", "N", LIMIT_HELP),
+    Word::Number("scans", "N", SCANS_HELP),
+    Word::Number("every", "MS", EVERY_HELP),
+    Word::Flag("grouped", GROUPED_HELP),
+    Word::Flag("terms", TERMS_HELP),
+    Word::Flag("st", STATEMENT_HELP),
+    Word::Text("order", "ORDER", ORDER_HELP),
+    Word::Place("file", "FILE", FILE_HELP),
+    Word::Place("coil", "COIL", COIL_HELP),
+    Word::List("inputs", "INPUT", INPUTS_HELP),
+];
+
+const SHOW: &[Word] = &[
+    Word::Text("state", "STATE", STATE_HELP),
+    Word::Number("at", "MS", AT_HELP),
+    Word::Number("number", "N", NUMBER_HELP),
+    Word::Flag("html", HTML_HELP),
+    Word::Text("stimulus", "STIMULUS", FILM_HELP),
+    Word::Text("coil", "COIL", WHY_HELP),
+    Word::Place("file", "FILE", FILE_HELP),
+    Word::List("inputs", "INPUT", SHOWN_HELP),
+];
+
+const SIM: &[Word] = &[
+    Word::Text("state", "STATE", STATE_HELP),
+    Word::Text("save", "STATE", SAVE_HELP),
+    Word::Place("file", "FILE", FILE_HELP),
+    Word::Place("stimulus", "STIMULUS", STIMULUS_HELP),
+];
+
+const SUBCOMMANDS: &[Subcommand] = &[
+    Subcommand {
+        name: "check",
+        about: CHECK_ABOUT,
+        words: PROGRAM,
+    },
+    Subcommand {
+        name: "causes",
+        about: CAUSES_ABOUT,
+        words: CAUSES,
+    },
+    Subcommand {
+        name: "show",
+        about: SHOW_ABOUT,
+        words: SHOW,
+    },
+    Subcommand {
+        name: "sim",
+        about: SIM_ABOUT,
+        words: SIM,
+    },
+    Subcommand {
+        name: "uses",
+        about: USES_ABOUT,
+        words: PROGRAM,
+    },
+];
+
+/// The argument of a word.
+fn arg_of<'a>(alloc: Global, word: &'a Word) -> Arg<'a>
+    ensures rule { rule_of result ≡ word_rule word.now }
+    ensures global { result.global ≡ false }
+{
+    match word {
+        Word::Place(id, value, help) => Arg::new(alloc, id)
+            .required(true)
+            .value_name(value)
+            .help(help),
+        Word::Text(id, value, help) => Arg::new(alloc, id).long(id).value_name(value).help(help),
+        Word::Number(id, value, help) => Arg::new(alloc, id)
+            .long(id)
+            .value_parser(value_parser!(u64))
+            .value_name(value)
+            .help(help),
+        Word::Flag(id, help) => Arg::new(alloc, id)
+            .long(id)
+            .action(ArgAction::SetTrue)
+            .help(help),
+        Word::List(id, value, help) => Arg::new(alloc, id)
+            .action(ArgAction::Append)
+            .value_name(value)
+            .help(help),
+    }
+}
+
+/// A subcommand with its words in their order.
+fn subcommand_of<'a>(alloc: Global, sub: &'a Subcommand) -> Result<Command<'a>, AllocError>
+    ensures { IfOk result (IsApp (taking sub.now.name.now (map word_rule sub.now.words.now))) }
+{
+    let mut command = Command::new(alloc, sub.name).about(sub.about);
+    for word in sub.words {
+        command = command.arg(arg_of(alloc, word))?;
+    }
+    Ok(command)
+}
+
+/// The program, without its subcommands.
+fn top<'a>(alloc: Global) -> Command<'a>
+    ensures { app_of result ≡ ladder_by [] }
+{
+    Command::new(alloc, "ladder")
+        .subcommand_required(true)
+        .about(LADDER_ABOUT)
+        .after_help(FAULTS)
+}
+
+/// The program with these subcommands.
+fn with_subcommands<'a>(alloc: Global, subs: &'a [Subcommand]) -> Result<Command<'a>, AllocError>
+    ensures { IfOk result (λ c. app_of c ≡ ladder_by subs.now) }
+{
+    let mut command = top(alloc);
+    for sub in subs {
+        command = command.subcommand(subcommand_of(alloc, sub)?)?;
+    }
+    Ok(command)
+}
+
+/// The whole command line.
+///
+/// # Errors
+///
+/// An error when out of memory.
+pub fn ladder<'a>(alloc: Global) -> Result<Command<'a>, AllocError>
+    ensures { IfOk result (λ c. app_of c ≡ ladder_app) }
+{
+    with_subcommands(alloc, SUBCOMMANDS)
+}
