@@ -1,8 +1,5 @@
-pub mod SourceLaws
-pub mod Asking
-pub mod ListedPlaces
+pub mod Finding
 pub mod Numbers
-pub mod Refusals
 pub mod Going
 pub mod Pruning
 pub mod Telling

@@ -1,8 +1,6 @@
 pub mod Asked
-pub mod Assignment
 pub mod Batches
 pub mod CauseTree
-pub mod Causes
 pub mod Cursor
 pub mod GroupCursor
 pub mod Knowing
@@ -12,13 +10,4 @@ pub mod Order
 pub mod Patterns
 pub mod Prefixes
 pub mod Probes
-pub mod RailLaws
-pub mod Rails
-pub mod Refusal
 pub mod Sifting
-pub mod Sources
-pub mod Three
-pub mod ThreeLaws
-pub mod WordLaws
-pub mod Words
-pub mod Tests

@@ -1,7 +1,7 @@
 //! What a look is asked.
 
-use crate::source::InputSource;
 use ladder_grid::Program;
+use ladder_questions::source::InputSource;
 use ladder_scan::State;
 
 /// The question, with what was made ready for its looks.

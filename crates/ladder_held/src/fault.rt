@@ -1,6 +1,6 @@
 //! The faults of a question that has no list over several scans.
 
-use ladder_causes::CauseFault;
+use ladder_questions::CauseFault;
 use thiserror::Error;
 
 /// Why there is no list over several scans.

@@ -12,10 +12,10 @@ use Rattle.ladder_elements.specs.Truth.{OnePlace, plain}
 use Rattle.ladder_held.specs.Holding.{after_scans, is_on_after}
 use Rattle.ladder_partly.specs.SeveralLaws.{AllowsScans, AreAllowed, Tells, after_all_known, is_not_off, known_after, partly_after}
 use Rattle.ladder_partly.specs.Partly.{may_store, partly}
-use Rattle.ladder_causes.specs.Three.{AnyTri, three, three_allows, three_known}
+use Rattle.ladder_signals.specs.Three.{AnyTri, three, three_allows, three_known}
 use Rattle.ladder_partly.specs.declared.partly.Partly.TheVariants.{Exactly}
-use Rattle.ladder_causes.specs.declared.tri.Tri.{Tri}
-use Rattle.ladder_causes.specs.declared.tri.Tri.TheVariants.{Off, On, Unsure}
+use Rattle.ladder_signals.specs.declared.tri.Tri.{Tri}
+use Rattle.ladder_signals.specs.declared.tri.Tri.TheVariants.{Off, On, Unsure}
 
 abbrev Allows : Tri → Bool → Type 0
 Allows = AllowsAt AnyTri OnePlace three_allows 0

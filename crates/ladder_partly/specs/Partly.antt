@@ -7,11 +7,11 @@ use Rattle.ladder_elements.specs.declared.block.Stored.{Stored}
 use Rattle.ladder_elements.specs.declared.block.Stored.TheVariants.{Timer, Counter, Bistable}
 use Rattle.ladder_elements.specs.Blocks.{step, q_of}
 use Rattle.ladder_known.specs.KnownScan.{Keeping}
-use Rattle.ladder_causes.specs.Three.{three_known, three_join, three_meet, three_choice, three_allows}
+use Rattle.ladder_signals.specs.Three.{three_known, three_join, three_meet, three_choice, three_allows}
 use Rattle.ladder_partly.specs.declared.partly.Partly.{Partly}
 use Rattle.ladder_partly.specs.declared.partly.Partly.TheVariants.{Exactly, SomeTimer, SomeCounter, SomeBistable, Anything}
-use Rattle.ladder_causes.specs.declared.tri.Tri.{Tri}
-use Rattle.ladder_causes.specs.declared.tri.Tri.TheVariants.{Off, On, Unsure}
+use Rattle.ladder_signals.specs.declared.tri.Tri.{Tri}
+use Rattle.ladder_signals.specs.declared.tri.Tri.TheVariants.{Off, On, Unsure}
 
 -- The sort alone, with the Q.
 abbrev pub loosened : Stored → Partly

@@ -6,19 +6,19 @@ use Rattle.ladder_vars.specs.declared.kind.BlockKind.TheVariants.{Ton, Tof, Tp, 
 use Rattle.ladder_elements.specs.declared.block.Stored.{Stored}
 use Rattle.ladder_elements.specs.declared.block.Stored.TheVariants.{Timer, Counter, Bistable}
 use Rattle.ladder_elements.specs.Blocks.{step, q_of}
-use Rattle.ladder_causes.specs.Three.{three_known, three_join, three_meet, three_choice, three_allows}
+use Rattle.ladder_signals.specs.Three.{three_known, three_join, three_meet, three_choice, three_allows}
 use Rattle.ladder_partly.specs.declared.partly.Partly.{Partly}
 use Rattle.ladder_partly.specs.declared.partly.Partly.TheVariants.{Exactly, SomeTimer, SomeCounter, SomeBistable, Anything}
 use Rattle.ladder_partly.specs.Partly.{by_input, choice_partly, loosened, may_store, merged, merged_sort, partly, q_partly, same_bool, same_stored, sort_of, step_known}
-use Rattle.ladder_causes.specs.declared.tri.Tri.{Tri}
+use Rattle.ladder_signals.specs.declared.tri.Tri.{Tri}
 use Rattle.ladder_scan.specs.Cells.{Diagram}
 use Rattle.ladder_known.specs.KnownScan.{plainly}
 use Rattle.ladder_known.specs.KnownLaws.{StepsKeep}
 use Rattle.ladder_elements.specs.Relations.{AllowsAt}
 use Rattle.ladder_elements.specs.Truth.{OnePlace}
-use Rattle.ladder_causes.specs.Three.{AnyTri}
-use Rattle.ladder_causes.specs.ThreeLaws.{three_allowed}
-use Rattle.ladder_causes.specs.declared.tri.Tri.TheVariants.{Off, On, Unsure}
+use Rattle.ladder_signals.specs.Three.{AnyTri}
+use Rattle.ladder_signals.specs.ThreeLaws.{three_allowed}
+use Rattle.ladder_signals.specs.declared.tri.Tri.TheVariants.{Off, On, Unsure}
 
 known_allows : (b : Bool) → three_allows (three_known b) 0 b
 known_allows true = refl

@@ -7,9 +7,9 @@ use Rattle.ladder_elements.specs.Truth.{OnePlace}
 use Rattle.ladder_scan.specs.Cells.{Diagram}
 use Rattle.ladder_scan.specs.Rung.{Held}
 use Rattle.ladder_known.specs.KnownScan.{Keeping, Known, after_known, all_known}
-use Rattle.ladder_causes.specs.Three.{AnyTri, three, three_allows}
-use Rattle.ladder_causes.specs.declared.tri.Tri.{Tri}
-use Rattle.ladder_causes.specs.declared.tri.Tri.TheVariants.{Off, On, Unsure}
+use Rattle.ladder_signals.specs.Three.{AnyTri, three, three_allows}
+use Rattle.ladder_signals.specs.declared.tri.Tri.{Tri}
+use Rattle.ladder_signals.specs.declared.tri.Tri.TheVariants.{Off, On, Unsure}
 use Rattle.ladder_held.specs.Holding.{after_scans, first_on}
 use Rattle.ladder_partly.specs.Partly.{partly}
 use Rattle.ladder_partly.specs.declared.partly.Partly.{Partly}

@@ -4,17 +4,17 @@ ghost use Rattle.ladder_elements.specs.Relations.{AllowsAt, allows_kept};
 ghost use Rattle.ladder_elements.specs.Truth.{OnePlace};
 ghost use Rattle.ladder_scan.specs.Programs.{diagram_of};
 ghost use Rattle.ladder_known.specs.KnownScan.{plainly};
-ghost use Rattle.ladder_causes.specs.Three.{AnyTri, three, three_allows};
-ghost use Rattle.ladder_causes.specs.ThreeLaws.{three_allowed, three_lattice};
+ghost use Rattle.ladder_signals.specs.Three.{AnyTri, three, three_allows};
+ghost use Rattle.ladder_signals.specs.ThreeLaws.{three_allowed, three_lattice};
 ghost use Rattle.ladder_partly.specs.Partly.{may_store, partly};
 ghost use Rattle.ladder_partly.specs.PartlyLaws.{partly_keeps};
 ghost use Rattle.ladder_partly.specs.SeveralLaws.{AllowsScans};
 
 use crate::partly::Partly;
-use ladder_causes::Tri;
 use ladder_elements::Stored;
 use ladder_grid::Program;
 use ladder_known::laws::{StepRelation, known_is_scan, scan_keeps};
+use ladder_signals::Tri;
 
 /// What three values allow, and what may be stored, at the moment of a scan.
 #[derive(Clone, Copy)]

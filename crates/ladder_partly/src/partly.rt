@@ -1,7 +1,7 @@
 //! What is known of an instance while inputs are open.
 
-use ladder_causes::Tri;
 use ladder_elements::Stored;
+use ladder_signals::Tri;
 
 /// What is known of an instance: what it stores; or its sort alone, with what is known of its Q; or nothing.
 #[derive(Clone, Copy, Debug, PartialEq, Eq)]

@@ -8,8 +8,8 @@ use Rattle.std.proofs.lemmas.Bool.{cases_lt}
 use Rattle.std.proofs.lemmas.Nat.{pow-add}
 use Rattle.std.proofs.Math.Nat.{div-div-eq-div-mul}
 use borrow.Rule.Slice.PartMut.{put_mid, post_of, take_put}
-use Rattle.ladder_causes.specs.Assignment.{bit_of}
-use Rattle.ladder_causes.proofs.SourceLaws.{range_with_len-add}
+use Rattle.ladder_questions.specs.Assignment.{bit_of}
+use Rattle.ladder_questions.proofs.SourceLaws.{range_with_len-add}
 use Rattle.ladder_records.specs.Text.{after_commas, bit_text}
 use Rattle.ladder_records.proofs.Commas.{after_commas-append}
 use Rattle.ladder_sim.specs.Rows.{bits, row}

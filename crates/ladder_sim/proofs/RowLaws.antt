@@ -4,8 +4,8 @@ use Rattle.std.proofs.lemmas.Grind.{take-set_at}
 use Rattle.std.specs.List.{range_with_len, slice_range}
 use borrow.Rule.Slice.PartMut.{put_mid, post_of}
 use Rattle.std.proofs.lemmas.List.{drop_at, length-take-le, map-append, take-append-drop, take_at}
-use Rattle.ladder_causes.specs.Assignment.{bit_of}
-use Rattle.ladder_causes.proofs.SourceLaws.{range_with_len-add}
+use Rattle.ladder_questions.specs.Assignment.{bit_of}
+use Rattle.ladder_questions.proofs.SourceLaws.{range_with_len-add}
 use Rattle.ladder_records.specs.Text.{after_commas, bit_text}
 use Rattle.ladder_records.proofs.Commas.{after_commas-append}
 use Rattle.ladder_sim.specs.Rows.{bits}

@@ -5,7 +5,7 @@ use Rattle.ladder_records.specs.Left.{Fields}
 use Rattle.ladder_records.specs.Text.{bit_text, lines_text}
 use Rattle.ladder_vars.specs.declared.decls.Var.{Var}
 use Rattle.ladder_grid.specs.Program.{Drawing}
-use Rattle.ladder_causes.specs.Assignment.{bit_of}
+use Rattle.ladder_questions.specs.Assignment.{bit_of}
 use Rattle.ladder_causes.specs.Cursor.{Cursor, Takes}
 
 -- the name of a variable, spelled as declared

@@ -4,7 +4,7 @@ use Rattle.std.specs.List.{range_with_len}
 use Rattle.ladder_records.specs.Left.{Fields}
 use Rattle.ladder_records.specs.Text.{bit_text, lines_text}
 use Rattle.ladder_grid.specs.Program.{Drawing}
-use Rattle.ladder_causes.specs.Assignment.{bit_of}
+use Rattle.ladder_questions.specs.Assignment.{bit_of}
 use Rattle.ladder_held.specs.declared.scans.HeldCause.{HeldCause}
 use Rattle.ladder_sim.specs.CauseText.{name_of}
 

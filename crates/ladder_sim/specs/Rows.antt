@@ -4,7 +4,7 @@ use Rattle.std.specs.List.{range_with_len}
 use Rattle.ladder_records.specs.Text.{bit_text, line_text, lines_text}
 use Rattle.ladder_vars.specs.declared.decls.Var.{Var}
 use Rattle.ladder_grid.specs.Program.{Drawing}
-use Rattle.ladder_causes.specs.Assignment.{bit_of}
+use Rattle.ladder_questions.specs.Assignment.{bit_of}
 use Rattle.ladder_sim.specs.CauseText.{cause_record, header_record}
 
 abbrev pub name_in : Option Var → List ℕ

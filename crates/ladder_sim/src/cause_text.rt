@@ -1,7 +1,7 @@
 //! The text of a list of causes.
 
 ghost use Rattle.std.specs.Prelude.{◌≡◌, ◌≢◌, ◌+◌, ◌*◌, ◌<◌, ◌≤◌, ◌++◌, ◌∷◌, ◌^◌, [], IfOk, MatchResult, Some, codes, decimal, false, length, map, slice_get, take, true};
-ghost use Rattle.ladder_causes.specs.Assignment.{bit_of};
+ghost use Rattle.ladder_questions.specs.Assignment.{bit_of};
 ghost use Rattle.ladder_causes.specs.Cursor.{Takes, looks_given, looks_of, searched};
 ghost use Rattle.std.specs.List.{slice_range};
 ghost use Rattle.ladder_text.specs.Block.{Sends};

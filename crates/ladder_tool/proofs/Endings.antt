@@ -8,15 +8,15 @@ use Rattle.ladder_scan.specs.Programs.{diagram_of}
 use Rattle.ladder_scan.specs.Standing.{Standing}
 use Rattle.ladder_show.specs.Showing.{IsDrawn, OneScan, one_scan}
 use Rattle.ladder_show.specs.declared.picture.Style.{Style}
-use Rattle.ladder_causes.specs.Assignment.{assignment}
+use Rattle.ladder_questions.specs.Assignment.{assignment}
 use Rattle.ladder_search.specs.Looks.{Search}
-use Rattle.ladder_causes.specs.declared.fault.CauseFault.{CauseFault}
-use Rattle.ladder_causes.specs.declared.fault.CauseFault.TheVariants as cause
-use Rattle.ladder_causes.specs.Causes.{Question, causes_after, is_cause, question}
+use Rattle.ladder_questions.specs.declared.fault.CauseFault.{CauseFault}
+use Rattle.ladder_questions.specs.declared.fault.CauseFault.TheVariants as cause
+use Rattle.ladder_questions.specs.Causes.{Question, causes_after, is_cause, question}
 use Rattle.ladder_causes.specs.Cursor.{Cursor, first_number, looks_given, looks_of, searched}
 use Rattle.ladder_causes.specs.GroupCursor.{GroupCursor, causes_in, rows_left}
 use Rattle.ladder_causes.specs.Prefixes.{search_of}
-use Rattle.ladder_causes.specs.Refusal.{reason, scan_refusal}
+use Rattle.ladder_questions.specs.Refusal.{reason, scan_refusal}
 use Rattle.ladder_groups.specs.Groups.{rows}
 use Rattle.ladder_sim.specs.CauseText.{cause_text, limited}
 use Rattle.ladder_sim.specs.TermText.{form_text}

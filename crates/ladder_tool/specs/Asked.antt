@@ -2,7 +2,7 @@
 use Rattle.std.specs.Prelude.{ℕ, List}
 use Rattle.ladder_grid.specs.Program.{Drawing}
 use Rattle.ladder_uses.specs.Uses.{uses_text}
-use Rattle.ladder_causes.specs.Causes.{Question, question}
+use Rattle.ladder_questions.specs.Causes.{Question, question}
 use Rattle.ladder_tool.specs.declared.asking.Asked.{Asked}
 use Rattle.ladder_tool.specs.declared.printing.About.{About}
 use Rattle.ladder_tool.specs.declared.printing.About.TheVariants.{Counts, Uses}

@@ -5,8 +5,8 @@ use Rattle.ladder_vars.specs.declared.fault.VarRule.TheVariants as var
 use Rattle.ladder_grid.specs.declared.fault.GridFault.TheVariants as grid
 use Rattle.ladder_page.specs.declared.fault.GridRule.{GridRule}
 use Rattle.ladder_page.specs.declared.fault.GridRule.TheVariants as rule
-use Rattle.ladder_causes.specs.declared.fault.CauseFault.{CauseFault}
-use Rattle.ladder_causes.specs.declared.fault.CauseFault.TheVariants as cause
+use Rattle.ladder_questions.specs.declared.fault.CauseFault.{CauseFault}
+use Rattle.ladder_questions.specs.declared.fault.CauseFault.TheVariants as cause
 use Rattle.ladder_text.specs.declared.fault.ReadFault.TheVariants as read
 use Rattle.ladder_state.specs.declared.fault.StateFault.TheVariants as state
 use Rattle.ladder_trace.specs.declared.fault.SimFault.TheVariants as sim

@@ -6,16 +6,16 @@ use Rattle.ladder_grid.specs.Program.{Drawing, has_coil}
 use Rattle.ladder_grid.specs.Reading.{IsProgram}
 use Rattle.ladder_scan.specs.Programs.{diagram_of}
 use Rattle.ladder_scan.specs.Standing.{Standing}
-use Rattle.ladder_causes.specs.Assignment.{assignment}
-use Rattle.ladder_causes.specs.declared.fault.CauseFault.{CauseFault}
-use Rattle.ladder_causes.specs.declared.fault.CauseFault.TheVariants as cause
-use Rattle.ladder_causes.specs.Causes.{Question, causes_after, is_cause}
-use Rattle.ladder_causes.specs.Causes as causes
+use Rattle.ladder_questions.specs.Assignment.{assignment}
+use Rattle.ladder_questions.specs.declared.fault.CauseFault.{CauseFault}
+use Rattle.ladder_questions.specs.declared.fault.CauseFault.TheVariants as cause
+use Rattle.ladder_questions.specs.Causes.{Question, causes_after, is_cause}
+use Rattle.ladder_questions.specs.Causes as causes
 use Rattle.ladder_causes.specs.Cursor.{first_number, looks_given}
 use Rattle.ladder_causes.specs.GroupCursor.{causes_in}
 use Rattle.ladder_causes.specs.Order.{in_order, sifted}
 use Rattle.ladder_causes.specs.Prefixes.{search_of}
-use Rattle.ladder_causes.specs.Refusal.{refusal, scan_refusal}
+use Rattle.ladder_questions.specs.Refusal.{refusal, scan_refusal}
 use Rattle.ladder_groups.specs.Groups.{Row}
 use Rattle.ladder_groups.specs.Groups as groups
 use Rattle.ladder_held.specs.HeldRefusal.{held_refusal}

@@ -3,9 +3,9 @@
 ghost use Rattle.std.specs.Prelude.{◌≡◌, ◌≤◌, ◌⊎◌, IfErr, IfOk, None, length};
 ghost use Rattle.ladder_scan.specs.Standing.{Fits};
 ghost use Rattle.ladder_groups.specs.Groups.{rows};
-ghost use Rattle.ladder_causes.specs.Causes.{is_cause};
+ghost use Rattle.ladder_questions.specs.Causes.{is_cause};
 ghost use Rattle.ladder_causes.specs.GroupCursor.{rows_left};
-ghost use Rattle.ladder_causes.specs.Refusal.{reason, refusal};
+ghost use Rattle.ladder_questions.specs.Refusal.{reason, refusal};
 ghost use Rattle.ladder_text.specs.Log.{Puts, PutsAll, WriteLog};
 ghost use Rattle.ladder_tool.specs.Asked.{question_of};
 ghost use Rattle.ladder_tool.specs.Performs.{BreaksGroups, CountsGroups, HasListFault, Refuses, form_on, groups_line, logs, ordered};

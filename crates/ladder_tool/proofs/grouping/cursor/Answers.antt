@@ -1,7 +1,7 @@
 use Rattle.std.proofs.Common.{◌≡◌, ◌∙◌, ap, sym, ℕ, List, IfErr, None, Ok, Err, Result}
-use Rattle.ladder_causes.specs.Causes.{question}
+use Rattle.ladder_questions.specs.Causes.{question}
 use Rattle.ladder_causes.specs.Order.{sifted}
-use Rattle.ladder_causes.specs.Refusal.{refusal}
+use Rattle.ladder_questions.specs.Refusal.{refusal}
 use Rattle.ladder_tool.proofs.grouping.cursor.Goals as goal
 
 weaken : {A E : Type 0} (P Q : E → Type 0) (r : Result A E) → ((e : E) → P e → Q e) → IfErr r P → IfErr r Q

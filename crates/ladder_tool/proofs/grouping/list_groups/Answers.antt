@@ -1,6 +1,6 @@
 use Rattle.std.proofs.Common.{refl, inl, inr}
 use Rattle.std.specs.Prelude.{None}
-use Rattle.ladder_causes.specs.Refusal.{refusal}
+use Rattle.ladder_questions.specs.Refusal.{refusal}
 use Rattle.ladder_tool.specs.declared.fault.ToolFault.TheVariants as fault
 use Rattle.ladder_tool.specs.Asked.{question_of}
 use Rattle.ladder_tool.specs.Performs.{ordered}

@@ -1,6 +1,6 @@
 use Rattle.std.proofs.Common.{◌∙◌, refl, inl, inr}
-use Rattle.ladder_causes.specs.Causes.{question}
-use Rattle.ladder_causes.specs.Refusal.{refusal}
+use Rattle.ladder_questions.specs.Causes.{question}
+use Rattle.ladder_questions.specs.Refusal.{refusal}
 use Rattle.ladder_tool.specs.declared.fault.ToolFault.TheVariants as fault
 use Rattle.ladder_tool.specs.Setting.{given_by}
 use Rattle.ladder_tool.proofs.Endings.{all_same, asked_of, before_asking, cause_fault, prefix_same, line_is, text_is}

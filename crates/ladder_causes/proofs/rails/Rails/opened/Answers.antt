@@ -1,6 +1,0 @@
-use Rattle.ladder_causes.specs.RailLaws.{open_rails}
-use Rattle.std.proofs.Common.{◌-◌}
-use Rattle.ladder_causes.proofs.rails.Rails.opened.Goals as goal
-
-pub invariant_of-result : goal.invariant_of-result
-invariant_of-result c = rw (c.lane_on.ensures, c.lane_off.ensures) (open_rails (c.args.shift - c.args.unit))

@@ -1,0 +1,4 @@
+pub mod SourceLaws
+pub mod Asking
+pub mod ListedPlaces
+pub mod Refusals

@@ -1,0 +1,118 @@
+//! Why a question has no list of causes, or no scan that can be shown.
+
+ghost use Rattle.std.specs.Prelude.{◌≡◌, ◌==◌, ◌<◌, Some, ℕ};
+ghost use Rattle.std.specs.List.{list_all, list_any};
+ghost use Rattle.ladder_questions.specs.Causes.{question};
+ghost use Rattle.ladder_scan.specs.Standing.{Standing};
+ghost use Rattle.ladder_questions.specs.Refusal.{has_repetition, refusal, scan_refusal};
+ghost use Rattle.ladder_questions.specs.Tests.{is_coil, is_input_variable, is_out_of_range, list_refusal};
+ghost use Rattle.ladder_questions.specs.declared.TheConstants.{LISTED_LIMIT};
+
+use crate::LISTED_LIMIT;
+use crate::fault::CauseFault;
+use ladder_grid::Program;
+use ladder_scan::State;
+
+fn is_coil(program: &Program, coil: usize) -> bool
+    ensures { result ≡ is_coil program.now coil }
+{
+    coil < program.decls().vars().len() && program.has_coil(coil)
+}
+
+fn is_input_variable(program: &Program, var: usize) -> bool
+    ensures { result ≡ is_input_variable program.now var }
+{
+    match program.decls().vars().get(var) {
+        Some(var) => var.is_input(),
+        None => false,
+    }
+}
+
+fn are_input_variables(program: &Program, listed: &[usize]) -> bool
+    ensures { result ≡ list_all (is_input_variable program.now) listed.now }
+{
+    listed.iter().all(|var| is_input_variable(program, *var))
+}
+
+fn contains(listed: &[usize], var: usize) -> bool
+    ensures { result ≡ list_any (λ l. l == var) listed.now }
+{
+    listed.iter().any(|l| *l == var)
+}
+
+fn has_repetition(mut listed: &[usize]) -> bool
+    ensures { result ≡ has_repetition listed.entry.now }
+{
+    while let [var, rest @ ..] = listed {
+        if contains(rest, *var) {
+            return true;
+        }
+        listed = rest;
+    }
+    false
+}
+
+fn is_out_of_range(listed: usize, after: Option<u64>) -> bool
+    requires { listed < 64 }
+    ensures { result ≡ is_out_of_range listed after }
+{
+    match after {
+        Some(after) => 1 << listed <= after,
+        None => false,
+    }
+}
+
+/// The first rule that the listed inputs break, or that a number breaks which is to be one of their assignments.
+fn list_refusal(program: &Program, listed: &[usize], number: Option<u64>) -> Option<CauseFault>
+    ensures { (s : Standing) (now coil : ℕ) → result ≡ list_refusal (question program.now s now coil listed.now) number }
+{
+    if listed.len() > LISTED_LIMIT {
+        return Some(CauseFault::TooManyFree);
+    }
+    if !are_input_variables(program, listed) {
+        return Some(CauseFault::NotAnInput);
+    }
+    if has_repetition(listed) {
+        return Some(CauseFault::RepeatedInput);
+    }
+    if is_out_of_range(listed.len(), number) {
+        return Some(CauseFault::AfterOutOfRange);
+    }
+    None
+}
+
+/// The first rule that one scan breaks, with the assignment of a number.
+pub(crate) fn scan_refusal(
+    program: &Program,
+    state: &State,
+    now: u64,
+    listed: &[usize],
+    number: u64,
+) -> Option<CauseFault>
+    ensures { result ≡ scan_refusal (question program.now state.now now 0 listed.now) number }
+{
+    if state.moment() > now {
+        return Some(CauseFault::MomentBack);
+    }
+    list_refusal(program, listed, Some(number))
+}
+
+/// The first of the rules C1 to C6 that the question breaks. `now` is the moment of the scan, in milliseconds.
+pub fn refusal(
+    program: &Program,
+    state: &State,
+    now: u64,
+    coil: usize,
+    listed: &[usize],
+    after: Option<u64>,
+) -> Option<CauseFault>
+    ensures { result ≡ refusal (question program.now state.now now coil listed.now) after }
+{
+    if now < state.moment() {
+        return Some(CauseFault::MomentBack);
+    }
+    if !is_coil(program, coil) {
+        return Some(CauseFault::NotACoil);
+    }
+    list_refusal(program, listed, after)
+}

@@ -1,0 +1,60 @@
+//! The inputs of one scan with the assignment of a number.
+
+ghost use Rattle.std.specs.Prelude.{◌≡◌, All, IfErr, IfOk, None};
+ghost use Rattle.ladder_scan.specs.Programs.{diagram_of};
+ghost use Rattle.ladder_scan.specs.Standing.{Fits};
+ghost use Rattle.ladder_questions.specs.Assignment.{assignment};
+ghost use Rattle.ladder_questions.specs.Causes.{question};
+ghost use Rattle.ladder_questions.specs.Refusal.{reason, scan_refusal};
+ghost use Rattle.ladder_questions.specs.Sources.{IsShort, image_of};
+
+use crate::fault::CauseFault;
+use crate::refusal::scan_refusal;
+use crate::source::{InputSource, bit, sources};
+use ladder_grid::Program;
+use ladder_scan::State;
+use std::alloc::{AllocError, Global};
+
+/// The values of all inputs for a number, in order of declaration.
+fn image(alloc: Global, sources: &[InputSource], number: u64) -> Result<Vec<bool>, AllocError>
+    requires { All IsShort sources.now }
+    ensures { IfOk result (λ v. v.items ≡ image_of number sources.now) }
+{
+    sources
+        .iter()
+        .map(|source| bit(*source, number))
+        .collect(alloc)
+}
+
+/// The inputs of a scan with the assignment of a number, in order of declaration: the listed ones have its bits, the first one the most
+/// significant, and the others keep their stored values. `listed` has numbers of variables, in order of declaration; `now` is the moment
+/// of the scan, in milliseconds.
+///
+/// # Errors
+///
+/// The first of the rules C1 and C3 to C6 that is broken, C6 where `number` isn't below 2 ^ k for k listed inputs; or `Memory` when out of
+/// memory.
+pub fn assignment(
+    alloc: Global,
+    program: &Program,
+    state: &State,
+    now: u64,
+    listed: &[usize],
+    number: u64,
+) -> Result<Vec<bool>, CauseFault>
+    requires { Fits program.now state.now }
+    ensures inputs { IfOk result (λ v. v.items ≡ assignment (diagram_of program.now).inputs listed.now number state.now.held.values) }
+    ensures accepted { IfOk result (λ _. scan_refusal (question program.now state.now now 0 listed.now) number ≡ None) }
+    ensures refused { IfErr result (λ e. scan_refusal (question program.now state.now now 0 listed.now) number ≡ reason e) }
+{
+    if let Some(fault) = scan_refusal(program, state, now, listed, number) {
+        return Err(fault);
+    }
+    let Ok(sources) = sources(alloc, program.decls().vars(), listed, state) else {
+        return Err(CauseFault::Memory);
+    };
+    match image(alloc, &sources, number) {
+        Ok(inputs) => Ok(inputs),
+        Err(_) => Err(CauseFault::Memory),
+    }
+}

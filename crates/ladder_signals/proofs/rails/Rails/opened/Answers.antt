@@ -1,0 +1,6 @@
+use Rattle.ladder_signals.specs.RailLaws.{open_rails}
+use Rattle.std.proofs.Common.{◌-◌}
+use Rattle.ladder_signals.proofs.rails.Rails.opened.Goals as goal
+
+pub invariant_of-result : goal.invariant_of-result
+invariant_of-result c = rw (c.lane_on.ensures, c.lane_off.ensures) (open_rails (c.args.shift - c.args.unit))
