@@ -1,0 +1,11 @@
+use Rattle.std.proofs.Common.{◌∙◌, ap}
+use Rattle.ladder_warnings.specs.Warnings.{clashes}
+use Rattle.ladder_warnings.proofs.Before.{none_before, one_more}
+use Rattle.ladder_warnings.proofs.places.clashes_before.Goals as goal
+
+pub loop-place-init : goal.loop-place-init
+loop-place-init c = none_before c.args.program.now (clashes c.args.mode c.args.var)
+
+pub loop-place-preserved : goal.loop-place-preserved
+loop-place-preserved c =
+    c.either-found.ensures ∙ one_more c.args.program.now (clashes c.args.mode c.args.var) c.loop-place.place _ _ c.loop-place.invariant (c.clashes.ensures ∙ ap (clashes c.args.mode c.args.var) c.cell_in.ensures)

@@ -1,0 +1,10 @@
+//! What in a drawing that breaks no rule is most likely not meant.
+#![tactic(auto)]
+
+mod places;
+mod symbols;
+mod warning;
+mod write;
+
+pub use warning::Warning;
+pub use write::write_warnings;
