@@ -1,6 +1,8 @@
 //! What in a drawing that breaks no rule is most likely not meant.
 #![tactic(auto)]
 
+mod apart;
+mod leading;
 mod places;
 mod symbols;
 mod warning;

@@ -5,6 +5,8 @@ ghost use Rattle.ladder_page.specs.declared.geometry.TheConstants.{COLUMNS, PLAC
 ghost use Rattle.ladder_grid.specs.Program.{cell_in, is_coil_of};
 ghost use Rattle.ladder_warnings.specs.Warnings.{clashes, draws, has_cell, has_cell_before, is_loose_crossing, is_never_read, is_never_written, is_plus, is_unwritten, is_warned, is_written_twice, reads};
 
+use crate::apart::is_apart;
+use crate::leading::leads_nowhere;
 use crate::symbols::{clashes, draws, either, is_coil_of, is_input, is_memory, operand_of, reads};
 use crate::warning::Warning;
 use ladder_grid::{Cell, Joint, Program};
@@ -160,6 +162,8 @@ pub(crate) fn is_warned(program: &Program, place: usize, warning: Warning) -> bo
     let (rung, at) = (place / PLACES, place % PLACES);
     match warning {
         Warning::LooseCrossing => is_loose_crossing(program, rung, at % ROWS, at / ROWS),
+        Warning::Apart => is_apart(program, rung, at % ROWS, at / ROWS),
+        Warning::LeadsNowhere => leads_nowhere(program, rung, at % ROWS, at / ROWS),
         Warning::WrittenTwice => is_written_twice(program, place),
         Warning::NeverWritten => is_never_written(program, place),
         Warning::NeverRead => is_never_read(program, place),

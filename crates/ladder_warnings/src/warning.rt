@@ -8,6 +8,10 @@ ghost use Rattle.ladder_warnings.specs.Warnings.{warning_word};
 pub enum Warning {
     /// Two joints `+`, one over the other, with no `|` between them.
     LooseCrossing,
+    /// A row that nothing joins with the rows above it.
+    Apart,
+    /// A contact from which power gets to nothing that uses it.
+    LeadsNowhere,
     /// A coil on a variable that an earlier coil writes.
     WrittenTwice,
     /// A contact that reads what nothing gives a value.
@@ -18,8 +22,10 @@ pub enum Warning {
 
 impl Warning {
     /// All, in the order in which they are reported at one place.
-    pub const ALL: [Warning; 4] = [
+    pub const ALL: [Warning; 6] = [
         Warning::LooseCrossing,
+        Warning::Apart,
+        Warning::LeadsNowhere,
         Warning::WrittenTwice,
         Warning::NeverWritten,
         Warning::NeverRead,
@@ -31,6 +37,8 @@ impl Warning {
     {
         match self {
             Warning::LooseCrossing => b"loose_crossing",
+            Warning::Apart => b"apart",
+            Warning::LeadsNowhere => b"leads_nowhere",
             Warning::WrittenTwice => b"written_twice",
             Warning::NeverWritten => b"never_written",
             Warning::NeverRead => b"never_read",

@@ -39,8 +39,11 @@ fn warned_name(program: &Program, place: usize, warning: Warning) -> &[u8]
     ensures { result.now ≡ warned_name program.now place warning }
 {
     match warning {
-        Warning::LooseCrossing => b"",
-        Warning::WrittenTwice | Warning::NeverWritten | Warning::NeverRead => {
+        Warning::LooseCrossing | Warning::Apart => b"",
+        Warning::LeadsNowhere
+        | Warning::WrittenTwice
+        | Warning::NeverWritten
+        | Warning::NeverRead => {
             match symbol_of(cell_in(program, place)) {
                 Some(symbol) => name_of(program.decls(), symbol),
                 None => b"",
