@@ -1,0 +1,26 @@
+-- Whether some number passes a test, one number after the other.
+use Rattle.std.proofs.Common.{◌≡◌, ◌∙◌, ◌+◌, ◌||◌, ℕ, zero, suc, Bool, true, false, refl, sym, ap, add-one, arith, length}
+use Rattle.std.specs.List.{list_any, range_with_len}
+use Rattle.ladder_warnings.specs.Warnings.{some_below}
+
+or-false : (b : Bool) → (b || false) ≡ b
+or-false true = refl
+or-false false = refl
+
+or-assoc : (a b c : Bool) → (a || (b || c)) ≡ ((a || b) || c)
+or-assoc true b c = refl
+or-assoc false b c = refl
+
+any_last : (test : ℕ → Bool) (a n j : ℕ) → a + n ≡ j → list_any test (range_with_len a (suc n)) ≡ (list_any test (range_with_len a n) || test j)
+any_last test a zero j e = let same : a ≡ j = omega (arith, e) in or-false (test a) ∙ ap test same
+any_last test a (suc n) j e =
+    ap (λ b. test a || b) (any_last test (a + 1) n j (omega (arith, e))) ∙ or-assoc (test a) (list_any test (range_with_len (a + 1) n)) (test j)
+
+pub none_below : (test : ℕ → Bool) → false ≡ some_below test 0
+unfolding some_below
+none_below test = refl
+
+-- one number more
+pub one_more : (test : ℕ → Bool) (n : ℕ) (found here : Bool) → found ≡ some_below test n → here ≡ test n → (found || here) ≡ some_below test (n + 1)
+unfolding some_below
+one_more test n found here before now = rw (add-one, before, now) (sym (any_last test 0 n n (omega arith)))

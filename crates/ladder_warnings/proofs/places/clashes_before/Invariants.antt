@@ -1,0 +1,6 @@
+use Rattle.std.proofs.Common.{◌≡◌}
+use Rattle.ladder_warnings.specs.Warnings.{clashes, has_cell_before}
+use Rattle.ladder_warnings.proofs.places.clashes_before.Given as goal
+
+abbrev pub invariant-loop-place : goal.invariant-loop-place
+invariant-loop-place l = l.found ≡ has_cell_before l.program (clashes l.mode l.var) l.place

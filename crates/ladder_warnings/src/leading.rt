@@ -1,0 +1,180 @@
+//! Where power can get from the right end of a cell.
+
+ghost use Rattle.std.specs.Prelude.{◌≡◌, ◌+◌, ◌-◌, ◌<◌, ◌≤◌, ◌&&◌, ◌||◌, max, min};
+ghost use Rattle.ladder_page.specs.declared.geometry.TheConstants.{COLUMNS, ROWS};
+ghost use Rattle.ladder_grid.specs.Program.{feeds, joined, site_at, takes_power};
+ghost use Rattle.ladder_warnings.specs.Warnings.{is_contact, leads, leads_nowhere, leads_through, passes_power, uses_power};
+ghost use Rattle.ladder_warnings.specs.Leading.{AreLeading};
+
+use crate::symbols::either;
+use ladder_grid::{Cell, Joint, Program};
+use ladder_page::geometry::{COLUMNS, ROWS};
+
+fn takes_power(joint: Joint) -> bool
+    ensures { result ≡ takes_power joint }
+{
+    match joint {
+        Joint::Dash | Joint::Plus => true,
+        Joint::Blank | Joint::Bar => false,
+    }
+}
+
+fn both(a: bool, b: bool) -> bool
+    ensures { result ≡ (a && b) }
+{
+    a && b
+}
+
+/// Whether vertical links join so many rows to this one, on the left of the column.
+fn joined(program: &Program, rung: usize, row: usize, column: usize, count: usize) -> bool
+    requires rungs { rung < program.now.rungs }
+    requires columns { (1 ≤ column) × (column < COLUMNS) }
+    requires rows { row + count < ROWS }
+    ensures { result ≡ joined program.now rung row column count }
+{
+    let mut all = true;
+    for i in 0..count {
+        all = both(all, program.vertical(rung, row + i, column));
+    }
+    all
+}
+
+/// Whether the right link of a row in the column before enters the group of this row's joint.
+pub(crate) fn feeds(program: &Program, rung: usize, row: usize, column: usize, from: usize) -> bool
+    requires rungs { rung < program.now.rungs }
+    requires columns { column < COLUMNS }
+    requires rows { (row < ROWS) × (from < ROWS) }
+    ensures { result ≡ feeds program.now rung row column from }
+{
+    column >= 1
+        && program.right_link(rung, from, column - 1)
+        && takes_power(program.joint(rung, from, column))
+        && joined(
+            program,
+            rung,
+            row.min(from),
+            column,
+            row.max(from) - row.min(from),
+        )
+}
+
+/// Whether the cell takes power and does something with it.
+fn uses_power(cell: Cell) -> bool
+    ensures { result ≡ uses_power cell }
+{
+    match cell {
+        Cell::Coil { .. } | Cell::Block { .. } | Cell::Jump { .. } | Cell::Return => true,
+        Cell::Lower { linked, .. } => linked,
+        Cell::Empty | Cell::Wire | Cell::Contact { .. } => false,
+    }
+}
+
+/// Whether power can go on through the cell.
+fn passes_power(cell: Cell) -> bool
+    ensures { result ≡ passes_power cell }
+{
+    match cell {
+        Cell::Wire | Cell::Contact { .. } => true,
+        Cell::Empty
+        | Cell::Coil { .. }
+        | Cell::Block { .. }
+        | Cell::Lower { .. }
+        | Cell::Jump { .. }
+        | Cell::Return => false,
+    }
+}
+
+/// Whether the right link of a row leads to a cell, and so to one that uses power; `onward`: whether the cell's right end leads to one.
+fn leads_through(
+    program: &Program,
+    rung: usize,
+    from: usize,
+    row: usize,
+    column: usize,
+    onward: bool,
+) -> bool
+    requires rungs { rung < program.now.rungs }
+    requires columns { column < COLUMNS }
+    requires rows { (row < ROWS) × (from < ROWS) }
+    ensures { result ≡ leads_through program.now rung from row column onward }
+{
+    let cell = program.cell(rung, row, column);
+    feeds(program, rung, row, column, from) && (uses_power(cell) || passes_power(cell) && onward)
+}
+
+/// Whether the right end of the cell leads to one that uses power, with `count` columns behind the next one.
+fn leads(program: &Program, rung: usize, from: usize, count: usize, onward: &[bool; ROWS]) -> bool
+    requires rungs { rung < program.now.rungs }
+    requires rows { from < ROWS }
+    requires columns { count + 1 < COLUMNS }
+    requires onward { AreLeading program.now rung count onward.now }
+    ensures { result ≡ leads program.now rung (count + 1) from }
+{
+    let column = COLUMNS - (count + 1);
+    let mut found = false;
+    for row in 0..ROWS {
+        found = either(
+            found,
+            leads_through(program, rung, from, row, column, onward[row]),
+        );
+    }
+    found
+}
+
+/// From which rows the right end of a cell leads to one that uses power, with `count` columns behind the next one.
+fn leading_before(
+    program: &Program,
+    rung: usize,
+    count: usize,
+    onward: &[bool; ROWS],
+) -> [bool; ROWS]
+    requires rungs { rung < program.now.rungs }
+    requires columns { count + 1 < COLUMNS }
+    requires onward { AreLeading program.now rung count onward.now }
+    ensures { AreLeading program.now rung (count + 1) result }
+{
+    let mut leading = [false; ROWS];
+    for from in 0..ROWS {
+        leading[from] = leads(program, rung, from, count, onward);
+    }
+    leading
+}
+
+/// From which rows the right end of a cell leads to one that uses power, with so many columns on its right.
+fn leading(program: &Program, rung: usize, count: usize) -> [bool; ROWS]
+    requires rungs { rung < program.now.rungs }
+    requires columns { count < COLUMNS }
+    ensures { AreLeading program.now rung count result }
+{
+    let mut leading = [false; ROWS];
+    for behind in 0..count {
+        leading = leading_before(program, rung, behind, &leading);
+    }
+    leading
+}
+
+fn is_contact(cell: Cell) -> bool
+    ensures { result ≡ is_contact cell }
+{
+    match cell {
+        Cell::Contact { .. } => true,
+        Cell::Empty
+        | Cell::Wire
+        | Cell::Coil { .. }
+        | Cell::Block { .. }
+        | Cell::Lower { .. }
+        | Cell::Jump { .. }
+        | Cell::Return => false,
+    }
+}
+
+/// Whether the place has a contact from which power gets to nothing that uses it.
+pub(crate) fn leads_nowhere(program: &Program, rung: usize, row: usize, column: usize) -> bool
+    requires rungs { rung < program.now.rungs }
+    requires rows { row < ROWS }
+    requires columns { column < COLUMNS }
+    ensures { result ≡ leads_nowhere program.now rung row column }
+{
+    is_contact(program.cell(rung, row, column))
+        && !leading(program, rung, COLUMNS - (column + 1))[row]
+}

@@ -1,0 +1,12 @@
+//! What in a drawing that breaks no rule is most likely not meant.
+#![tactic(auto)]
+
+mod apart;
+mod leading;
+mod places;
+mod symbols;
+mod warning;
+mod write;
+
+pub use warning::Warning;
+pub use write::write_warnings;

@@ -1,0 +1,171 @@
+//! Which places of a program have a warning.
+
+ghost use Rattle.std.specs.Prelude.{◌≡◌, ◌*◌, ◌<◌, ◌≤◌};
+ghost use Rattle.ladder_page.specs.declared.geometry.TheConstants.{COLUMNS, PLACES, ROWS};
+ghost use Rattle.ladder_grid.specs.Program.{cell_in, is_coil_of};
+ghost use Rattle.ladder_warnings.specs.Warnings.{clashes, draws, has_cell, has_cell_before, is_loose_crossing, is_never_read, is_never_written, is_plus, is_unwritten, is_warned, is_written_twice, reads};
+
+use crate::apart::is_apart;
+use crate::leading::leads_nowhere;
+use crate::symbols::{clashes, draws, either, is_coil_of, is_input, is_memory, operand_of, reads};
+use crate::warning::Warning;
+use ladder_grid::{Cell, Joint, Program};
+use ladder_page::CoilMode;
+use ladder_page::geometry::{PLACES, ROWS};
+use ladder_vars::Symbol;
+
+/// The cell at a place. Places go by rung, column and row.
+pub(crate) fn cell_in(program: &Program, place: usize) -> Cell
+    requires { place < PLACES * program.now.rungs }
+    ensures { result ≡ cell_in program.now place }
+{
+    let (rung, at) = (place / PLACES, place % PLACES);
+    program.cell(rung, at % ROWS, at / ROWS)
+}
+
+fn is_plus(joint: Joint) -> bool
+    ensures { result ≡ is_plus joint }
+{
+    match joint {
+        Joint::Plus => true,
+        Joint::Blank | Joint::Dash | Joint::Bar => false,
+    }
+}
+
+fn is_loose_crossing(program: &Program, rung: usize, row: usize, column: usize) -> bool
+    requires rungs { rung < program.now.rungs }
+    requires rows { row < ROWS }
+    requires columns { column < COLUMNS }
+    ensures { result ≡ is_loose_crossing program.now rung row column }
+{
+    column >= 1
+        && row + 1 < ROWS
+        && is_plus(program.joint(rung, row, column))
+        && is_plus(program.joint(rung, row + 1, column))
+        && !program.vertical(rung, row, column)
+}
+
+/// Whether a contact at one of the first places reads the variable or the instance.
+fn is_read_before(program: &Program, symbol: Symbol, count: usize) -> bool
+    requires { count ≤ PLACES * program.now.rungs }
+    ensures { result ≡ has_cell_before program.now (reads symbol) count }
+{
+    let mut found = false;
+    for place in 0..count {
+        found = either(found, reads(symbol, cell_in(program, place)));
+    }
+    found
+}
+
+/// Whether a coil at one of the first places writes the variable.
+fn is_written_before(program: &Program, var: usize, count: usize) -> bool
+    requires { count ≤ PLACES * program.now.rungs }
+    ensures { result ≡ has_cell_before program.now (is_coil_of var) count }
+{
+    let mut found = false;
+    for place in 0..count {
+        found = either(found, is_coil_of(var, cell_in(program, place)));
+    }
+    found
+}
+
+/// Whether a coil at one of the first places is not meant beside one of this mode on the variable.
+fn clashes_before(program: &Program, mode: CoilMode, var: usize, count: usize) -> bool
+    requires { count ≤ PLACES * program.now.rungs }
+    ensures { result ≡ has_cell_before program.now (clashes mode var) count }
+{
+    let mut found = false;
+    for place in 0..count {
+        found = either(found, clashes(mode, var, cell_in(program, place)));
+    }
+    found
+}
+
+fn is_drawn(program: &Program, inst: usize) -> bool
+    ensures { result ≡ has_cell program.now (draws inst) }
+{
+    let mut found = false;
+    for place in 0..PLACES * program.rungs() {
+        found = either(found, draws(inst, cell_in(program, place)));
+    }
+    found
+}
+
+/// Whether a contact reads the variable or the instance.
+fn is_read(program: &Program, symbol: Symbol) -> bool
+    ensures { result ≡ has_cell program.now (reads symbol) }
+{
+    is_read_before(program, symbol, PLACES * program.rungs())
+}
+
+/// Whether nothing gives the variable, or the output of the instance, a value.
+fn is_unwritten(program: &Program, symbol: Symbol) -> bool
+    ensures { result ≡ is_unwritten program.now symbol }
+{
+    match symbol {
+        Symbol::Var(var) => !is_input(program.decls(), var) && !program.has_coil(var),
+        Symbol::Instance(inst) => !is_drawn(program, inst),
+    }
+}
+
+fn is_written_twice(program: &Program, place: usize) -> bool
+    requires { place < PLACES * program.now.rungs }
+    ensures { result ≡ is_written_twice program.now place }
+{
+    match cell_in(program, place) {
+        Cell::Coil { mode, var, .. } => clashes_before(program, mode, var, place),
+        Cell::Empty
+        | Cell::Wire
+        | Cell::Contact { .. }
+        | Cell::Block { .. }
+        | Cell::Lower { .. }
+        | Cell::Jump { .. }
+        | Cell::Return => false,
+    }
+}
+
+fn is_never_written(program: &Program, place: usize) -> bool
+    requires { place < PLACES * program.now.rungs }
+    ensures { result ≡ is_never_written program.now place }
+{
+    match operand_of(cell_in(program, place)) {
+        Some(symbol) => is_unwritten(program, symbol) && !is_read_before(program, symbol, place),
+        None => false,
+    }
+}
+
+fn is_never_read(program: &Program, place: usize) -> bool
+    requires { place < PLACES * program.now.rungs }
+    ensures { result ≡ is_never_read program.now place }
+{
+    match cell_in(program, place) {
+        Cell::Coil { var, .. } => {
+            is_memory(program.decls(), var)
+                && !is_read(program, Symbol::Var(var))
+                && !is_written_before(program, var, place)
+        }
+        Cell::Empty
+        | Cell::Wire
+        | Cell::Contact { .. }
+        | Cell::Block { .. }
+        | Cell::Lower { .. }
+        | Cell::Jump { .. }
+        | Cell::Return => false,
+    }
+}
+
+/// Whether the place has the warning. Places go by rung, column and row.
+pub(crate) fn is_warned(program: &Program, place: usize, warning: Warning) -> bool
+    requires { place < PLACES * program.now.rungs }
+    ensures { result ≡ is_warned program.now place warning }
+{
+    let (rung, at) = (place / PLACES, place % PLACES);
+    match warning {
+        Warning::LooseCrossing => is_loose_crossing(program, rung, at % ROWS, at / ROWS),
+        Warning::Apart => is_apart(program, rung, at % ROWS, at / ROWS),
+        Warning::LeadsNowhere => leads_nowhere(program, rung, at % ROWS, at / ROWS),
+        Warning::WrittenTwice => is_written_twice(program, place),
+        Warning::NeverWritten => is_never_written(program, place),
+        Warning::NeverRead => is_never_read(program, place),
+    }
+}

@@ -1,0 +1,160 @@
+//! The writing of the warnings of a program.
+
+ghost use Rattle.std.specs.Prelude.{◌≡◌, ◌*◌, ◌<◌, ◌≤◌, ◌∷◌, [], IfOk, codes, length};
+ghost use Rattle.ladder_page.specs.declared.geometry.TheConstants.{PLACES, RUNGS};
+ghost use Rattle.ladder_records.specs.Text.{line_text, lines_text};
+ghost use Rattle.ladder_text.specs.Block.{Sends};
+ghost use Rattle.ladder_text.specs.Log.{Puts};
+ghost use Rattle.ladder_warnings.specs.Warnings.{name_of, row_if_warned, rows_at, warned_name, warning_row, warning_rows};
+
+use crate::places::{cell_in, is_warned};
+use crate::symbols::symbol_of;
+use crate::warning::Warning;
+use itoa::Buffer;
+use ladder_grid::Program;
+use ladder_page::geometry::{PLACES, ROWS};
+use ladder_records::add_line;
+use ladder_text::{Block, Sink, WriteFault};
+use ladder_vars::{Decls, Symbol};
+
+/// How the symbol is spelled where it is declared.
+fn name_of(decls: &Decls, symbol: Symbol) -> &[u8]
+    ensures { result.now ≡ name_of decls.now symbol }
+{
+    match symbol {
+        Symbol::Var(var) => match decls.vars().get(var) {
+            Some(var) => var.name.bytes(),
+            None => b"",
+        },
+        Symbol::Instance(inst) => match decls.instances().get(inst) {
+            Some(instance) => instance.name.bytes(),
+            None => b"",
+        },
+    }
+}
+
+/// What is named by a warning at a place.
+fn warned_name(program: &Program, place: usize, warning: Warning) -> &[u8]
+    requires { place < PLACES * program.now.rungs }
+    ensures { result.now ≡ warned_name program.now place warning }
+{
+    match warning {
+        Warning::LooseCrossing | Warning::Apart => b"",
+        Warning::LeadsNowhere
+        | Warning::WrittenTwice
+        | Warning::NeverWritten
+        | Warning::NeverRead => {
+            match symbol_of(cell_in(program, place)) {
+                Some(symbol) => name_of(program.decls(), symbol),
+                None => b"",
+            }
+        }
+    }
+}
+
+fn row_line<W: Sink>(
+    block: &mut Block,
+    word: &[u8],
+    rung: &[u8],
+    row: &[u8],
+    column: &[u8],
+    name: &[u8],
+    writer: &mut W,
+) -> Result<(), WriteFault>
+    ensures { Sends (W.log writer.old) (W.log writer.new) block.old block.new result (line_text (codes "warning" ∷ word.now ∷ rung.now ∷ row.now ∷ column.now ∷ name.now ∷ [])) }
+{
+    let others = [word, rung, row, column, name];
+    add_line(block, b"warning", others.as_slice(), writer)
+}
+
+/// Adds the row of a warning at a place.
+fn add_row<W: Sink>(
+    block: &mut Block,
+    program: &Program,
+    place: usize,
+    warning: Warning,
+    writer: &mut W,
+) -> Result<(), WriteFault>
+    requires { place < PLACES * program.now.rungs }
+    ensures { Sends (W.log writer.old) (W.log writer.new) block.old block.new result (line_text (warning_row program.now place warning)) }
+{
+    let (mut first, mut second, mut third) = (Buffer::new(), Buffer::new(), Buffer::new());
+    let rung = first.format(place / PLACES + 1).as_bytes();
+    let row = second.format(place % PLACES % ROWS + 1).as_bytes();
+    let column = third.format(place % PLACES / ROWS + 1).as_bytes();
+    let name = warned_name(program, place, warning);
+    row_line(block, warning.word(), rung, row, column, name, writer)
+}
+
+/// Adds the row of a warning if the place has it, and returns how many rows that makes.
+fn add_if_warned<W: Sink>(
+    block: &mut Block,
+    program: &Program,
+    place: usize,
+    warning: Warning,
+    writer: &mut W,
+) -> Result<u64, WriteFault>
+    requires { place < PLACES * program.now.rungs }
+    ensures sends { Sends (W.log writer.old) (W.log writer.new) block.old block.new result (lines_text (row_if_warned program.now place warning)) }
+    ensures count { IfOk result (λ n. n ≡ length (row_if_warned program.now place warning)) }
+    ensures few { IfOk result (λ n. n ≤ 1) }
+{
+    if !is_warned(program, place, warning) {
+        return Ok(0);
+    }
+    add_row(block, program, place, warning, writer)?;
+    Ok(1)
+}
+
+/// Adds the rows of a place, and returns how many.
+fn add_place<W: Sink>(
+    block: &mut Block,
+    program: &Program,
+    place: usize,
+    writer: &mut W,
+) -> Result<u64, WriteFault>
+    requires { place < PLACES * program.now.rungs }
+    ensures sends { Sends (W.log writer.old) (W.log writer.new) block.old block.new result (lines_text (rows_at program.now place)) }
+    ensures count { IfOk result (λ n. n ≡ length (rows_at program.now place)) }
+    ensures few { IfOk result (λ n. n ≤ 7) }
+{
+    let mut rows = 0u64;
+    for warning in Warning::ALL.as_slice() {
+        let more = add_if_warned(block, program, place, *warning, writer)?;
+        rows += more;
+    }
+    Ok(rows)
+}
+
+/// Adds the rows of all places, and returns how many.
+fn add_places<W: Sink>(
+    block: &mut Block,
+    program: &Program,
+    writer: &mut W,
+) -> Result<u64, WriteFault>
+    ensures sends { Sends (W.log writer.old) (W.log writer.new) block.old block.new result (lines_text (warning_rows program.now)) }
+    ensures count { IfOk result (λ n. n ≡ length (warning_rows program.now)) }
+{
+    let mut rows = 0u64;
+    for place in 0..PLACES * program.rungs() {
+        let more = add_place(block, program, place, writer)?;
+        rows += more;
+    }
+    Ok(rows)
+}
+
+/// Writes a row for each warning of a program, by rung, column and row, and returns how many. There is no header, and so nothing is
+/// written where nothing is warned of. It needs no memory.
+///
+/// # Errors
+///
+/// X6: the writer failed. What was written is a prefix of the text.
+pub fn write_warnings<W: Sink>(program: &Program, writer: &mut W) -> Result<u64, WriteFault>
+    ensures wrote { Puts (W.log writer.old) (W.log writer.new) result (lines_text (warning_rows program.now)) }
+    ensures rows { IfOk result (λ n. n ≡ length (warning_rows program.now)) }
+{
+    let mut block = Block::new();
+    let rows = add_places(&mut block, program, writer)?;
+    block.flush(writer)?;
+    Ok(rows)
+}
