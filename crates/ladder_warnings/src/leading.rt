@@ -19,7 +19,7 @@ fn takes_power(joint: Joint) -> bool
     }
 }
 
-fn both(a: bool, b: bool) -> bool
+pub(crate) fn both(a: bool, b: bool) -> bool
     ensures { result ≡ (a && b) }
 {
     a && b

@@ -4,8 +4,10 @@
 mod apart;
 mod leading;
 mod places;
+mod reaching;
 mod symbols;
 mod warning;
+mod wired;
 mod write;
 
 pub use warning::Warning;

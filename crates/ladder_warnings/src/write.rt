@@ -39,7 +39,7 @@ fn warned_name(program: &Program, place: usize, warning: Warning) -> &[u8]
     ensures { result.now ≡ warned_name program.now place warning }
 {
     match warning {
-        Warning::LooseCrossing | Warning::Apart => b"",
+        Warning::LooseCrossing | Warning::Apart | Warning::NeverReached => b"",
         Warning::LeadsNowhere
         | Warning::WrittenTwice
         | Warning::NeverWritten
