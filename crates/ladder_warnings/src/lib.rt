@@ -2,6 +2,7 @@
 #![tactic(auto)]
 
 mod apart;
+pub mod laws;
 mod leading;
 mod places;
 mod reaching;

@@ -1,4 +1,4 @@
-use Rattle.std.proofs.Common.{◌≡◌, ◌∙◌, ◌&&◌, ap}
+use Rattle.std.proofs.Common.{◌∙◌, ◌&&◌, ap}
 use Rattle.ladder_warnings.specs.Reaching.{jumps_from}
 use Rattle.ladder_warnings.specs.Warnings.{reached_below}
 use Rattle.ladder_warnings.proofs.Below.{none_below, one_more}
