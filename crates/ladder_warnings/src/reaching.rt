@@ -1,9 +1,8 @@
 //! Which rungs a scan can reach.
 
-ghost use Rattle.std.specs.Prelude.{◌≡◌, ◌+◌, ◌<◌, ◌≤◌, ◌&&◌, false, slice_index_or};
-ghost use Rattle.std.specs.Option.{option_map_or};
+ghost use Rattle.std.specs.Prelude.{◌≡◌, ◌<◌, ◌≤◌};
 ghost use Rattle.ladder_page.specs.declared.geometry.TheConstants.{RUNGS};
-ghost use Rattle.ladder_warnings.specs.Warnings.{comes_to, is_never_reached, is_reached, jumps_to, reached_below, some_below};
+ghost use Rattle.ladder_warnings.specs.Warnings.{is_never_reached, is_reached, jumps_to, some_below};
 ghost use Rattle.ladder_warnings.specs.Reaching.{AreReached, jumps_from};
 
 use crate::leading::both;
