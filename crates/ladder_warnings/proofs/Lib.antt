@@ -1,2 +1,4 @@
 pub mod Below
+pub mod RouteLaws
 pub mod Rows
+pub mod WayLaws

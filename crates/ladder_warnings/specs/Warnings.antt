@@ -1,6 +1,6 @@
 -- What a drawing that breaks no rule has, and most likely does not mean.
 -- Rungs, rows and columns are counted from 0. Places go by rung, column and row.
-use Rattle.std.specs.Prelude.{◌∷◌, ◌+◌, ◌-◌, ◌==◌, ◌&&◌, ◌||◌, not, nat_le, nat_lt, ℕ, zero, suc, List, [], Bool, true, false, if◌then◌else◌, Option, Some, None, codes, decimal, length, slice_get}
+use Rattle.std.specs.Prelude.{◌∷◌, ◌+◌, ◌-◌, ◌/◌, ◌%◌, ◌==◌, ◌&&◌, ◌||◌, not, nat_le, nat_lt, ℕ, zero, suc, List, [], Bool, true, false, if◌then◌else◌, Option, Some, None, codes, decimal, length, slice_get}
 use Rattle.std.specs.List.{flat_map, list_any, range_with_len}
 use Rattle.std.specs.Option.{option_map_or}
 use Rattle.ladder_vars.specs.Decls.{Declared, is_input}
@@ -9,7 +9,7 @@ use Rattle.ladder_vars.specs.declared.decls.Symbol.TheVariants as symbol
 use Rattle.ladder_vars.specs.declared.decls.Var.{Var}
 use Rattle.ladder_vars.specs.declared.decls.VarKind.{VarKind}
 use Rattle.ladder_vars.specs.declared.decls.VarKind.TheVariants as kind
-use Rattle.ladder_page.specs.declared.geometry.TheConstants.{COLUMNS, ROWS}
+use Rattle.ladder_page.specs.declared.geometry.TheConstants.{COLUMNS, PLACES, ROWS}
 use Rattle.ladder_page.specs.declared.mode.CoilMode.{CoilMode}
 use Rattle.ladder_page.specs.declared.mode.CoilMode.TheVariants as coil
 use Rattle.ladder_page.specs.Geometry.{at_place}
@@ -18,10 +18,10 @@ use Rattle.ladder_grid.specs.declared.cell.Cell.TheVariants as cell
 use Rattle.ladder_grid.specs.declared.cell.Joint.{Joint}
 use Rattle.ladder_grid.specs.declared.cell.Joint.TheVariants as joint
 use Rattle.ladder_grid.specs.declared.cell.Operand.TheVariants as operand
-use Rattle.ladder_grid.specs.Program.{Drawing, cell_in, feeds, has_coil, is_coil_of, is_empty, site_at}
+use Rattle.ladder_grid.specs.Program.{Drawing, cell_in, feeds, has_coil, is_coil_of, is_empty, jump_of, site_at}
 use Rattle.ladder_records.specs.Left.{Fields}
 use Rattle.ladder_warnings.specs.declared.warning.Warning.{Warning}
-use Rattle.ladder_warnings.specs.declared.warning.Warning.TheVariants.{LooseCrossing, Apart, LeadsNowhere, WrittenTwice, NeverWritten, NeverRead}
+use Rattle.ladder_warnings.specs.declared.warning.Warning.TheVariants.{LooseCrossing, Apart, LeadsNowhere, WrittenTwice, NeverWritten, NeverRead, NeverReached}
 
 -- a number below n passes the test
 unfoldable pub some_below : (ℕ → Bool) → ℕ → Bool
@@ -162,7 +162,54 @@ is_unread d var = option_map_or is_memory (slice_get d.decls.vars var) false && 
 abbrev pub is_never_read : Drawing → ℕ → Bool
 is_never_read d n = elim (cell_in d n) [ cell.Coil mode var memory ↦ is_unread d var && not (has_cell_before d (is_coil_of var) n) | _ ↦ false ]
 
--- ---- rows
+-- ---- rungs that no scan reaches
+
+abbrev pub is_wire : Cell → Bool
+is_wire c = elim c [ cell.Wire ↦ true | _ ↦ false ]
+
+-- A wire at a row and column feeds the row of the next column, and its own left end is connected to the left rail.
+abbrev pub is_wired_by : Drawing → ℕ → ℕ → ℕ → ℕ → Bool → Bool
+is_wired_by d rung row from column wired = feeds d rung row (column + 1) from && (is_wire (site_at d rung from column).cell && wired)
+
+-- The left end of the cell at a column and row is connected to the left rail by wires alone.
+unfoldable pub is_wired : Drawing → ℕ → ℕ → ℕ → Bool
+is_wired d rung zero row = true
+is_wired d rung (suc column) row = some_below (λ from. is_wired_by d rung row from column (is_wired d rung column from)) ROWS
+
+-- a jump or return
+abbrev pub is_exit : Cell → Bool
+is_exit c = elim c [ cell.Jump target ↦ true | cell.Return ↦ true | _ ↦ false ]
+
+abbrev pub is_wired_exit : Drawing → ℕ → ℕ → Bool
+is_wired_exit d rung at = is_exit (site_at d rung (at % ROWS) (at / ROWS)).cell && is_wired d rung (at / ROWS) (at % ROWS)
+
+-- The jump or return of the rung is always taken: wires alone connect it to the left rail.
+abbrev pub always_leaves : Drawing → ℕ → Bool
+always_leaves d rung = some_below (is_wired_exit d rung) PLACES
+
+-- the jump or return of a rung goes to this one
+abbrev pub jumps_to : Drawing → ℕ → ℕ → Bool
+jumps_to d from rung = option_map_or (λ jump. jump.2 == rung) (jump_of d from) false
+
+-- A scan comes to the rung: it is the first one, or the scan goes on to it from the rung before, or jumps to it. `reached`: which of the
+-- rungs before it a scan reaches.
+abbrev pub comes_to : Drawing → (ℕ → Bool) → ℕ → Bool
+comes_to d reached rung =
+    (rung == 0) || ((reached (rung - 1) && not (always_leaves d (rung - 1))) || some_below (λ from. reached from && jumps_to d from rung) rung)
+
+-- which of the first n rungs a scan reaches
+unfoldable pub reached_below : Drawing → ℕ → ℕ → Bool
+reached_below d zero rung = false
+reached_below d (suc n) rung = if rung == n then comes_to d (reached_below d n) n else reached_below d n rung
+
+abbrev pub is_reached : Drawing → ℕ → Bool
+is_reached d rung = comes_to d (reached_below d rung) rung
+
+-- The first place of a rung that no scan reaches.
+abbrev pub is_never_reached : Drawing → ℕ → ℕ → ℕ → Bool
+is_never_reached d rung row column = (row == 0) && ((column == 0) && not (is_reached d rung))
+
+-- ---- rows of the text
 
 -- the place has the warning
 abbrev pub is_warned : Drawing → ℕ → Warning → Bool
@@ -172,6 +219,7 @@ is_warned d n LeadsNowhere = at_place (leads_nowhere d) n
 is_warned d n WrittenTwice = is_written_twice d n
 is_warned d n NeverWritten = is_never_written d n
 is_warned d n NeverRead = is_never_read d n
+is_warned d n NeverReached = at_place (is_never_reached d) n
 
 abbrev pub warning_word : Warning → List ℕ
 warning_word LooseCrossing = codes "loose_crossing"
@@ -180,6 +228,7 @@ warning_word LeadsNowhere = codes "leads_nowhere"
 warning_word WrittenTwice = codes "written_twice"
 warning_word NeverWritten = codes "never_written"
 warning_word NeverRead = codes "never_read"
+warning_word NeverReached = codes "never_reached"
 
 -- how a variable or an instance is spelled where it is declared
 abbrev pub name_of : Declared → Symbol → List ℕ
@@ -190,10 +239,11 @@ name_of declared (symbol.Instance number) = option_map_or (λ i. i.name) (slice_
 abbrev pub name_at : Drawing → ℕ → List ℕ
 name_at d n = option_map_or (name_of d.decls) (symbol_of (cell_in d n)) []
 
--- what a warning names: the variable or the instance, and nothing where it is about joints or rows
+-- what a warning names: the variable or the instance, and nothing where it is about joints, rows or rungs
 abbrev pub warned_name : Drawing → ℕ → Warning → List ℕ
 warned_name d n LooseCrossing = []
 warned_name d n Apart = []
+warned_name d n NeverReached = []
 warned_name d n other = name_at d n
 
 -- The row of a warning. In it rungs, rows and columns are counted from 1.
@@ -206,7 +256,7 @@ row_if_warned d n w = if is_warned d n w then warning_row d n w ∷ [] else []
 
 -- all warnings, in the order in which they are reported at one place
 abbrev pub all_warnings : List Warning
-all_warnings = LooseCrossing ∷ Apart ∷ LeadsNowhere ∷ WrittenTwice ∷ NeverWritten ∷ NeverRead ∷ []
+all_warnings = LooseCrossing ∷ Apart ∷ LeadsNowhere ∷ WrittenTwice ∷ NeverWritten ∷ NeverRead ∷ NeverReached ∷ []
 
 unfoldable pub rows_at : Drawing → ℕ → List Fields
 rows_at d n = flat_map (row_if_warned d n) all_warnings

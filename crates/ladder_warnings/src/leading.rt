@@ -1,8 +1,8 @@
 //! Where power can get from the right end of a cell.
 
-ghost use Rattle.std.specs.Prelude.{◌≡◌, ◌+◌, ◌-◌, ◌<◌, ◌≤◌, ◌&&◌, ◌||◌, max, min};
+ghost use Rattle.std.specs.Prelude.{◌≡◌, ◌+◌, ◌<◌, ◌≤◌, ◌&&◌};
 ghost use Rattle.ladder_page.specs.declared.geometry.TheConstants.{COLUMNS, ROWS};
-ghost use Rattle.ladder_grid.specs.Program.{feeds, joined, site_at, takes_power};
+ghost use Rattle.ladder_grid.specs.Program.{feeds, joined, takes_power};
 ghost use Rattle.ladder_warnings.specs.Warnings.{is_contact, leads, leads_nowhere, leads_through, passes_power, uses_power};
 ghost use Rattle.ladder_warnings.specs.Leading.{AreLeading};
 
@@ -19,7 +19,7 @@ fn takes_power(joint: Joint) -> bool
     }
 }
 
-fn both(a: bool, b: bool) -> bool
+pub(crate) fn both(a: bool, b: bool) -> bool
     ensures { result ≡ (a && b) }
 {
     a && b

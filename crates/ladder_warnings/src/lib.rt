@@ -2,10 +2,13 @@
 #![tactic(auto)]
 
 mod apart;
+pub mod laws;
 mod leading;
 mod places;
+mod reaching;
 mod symbols;
 mod warning;
+mod wired;
 mod write;
 
 pub use warning::Warning;

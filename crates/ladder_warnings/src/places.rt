@@ -7,6 +7,7 @@ ghost use Rattle.ladder_warnings.specs.Warnings.{clashes, draws, has_cell, has_c
 
 use crate::apart::is_apart;
 use crate::leading::leads_nowhere;
+use crate::reaching::is_never_reached;
 use crate::symbols::{clashes, draws, either, is_coil_of, is_input, is_memory, operand_of, reads};
 use crate::warning::Warning;
 use ladder_grid::{Cell, Joint, Program};
@@ -167,5 +168,6 @@ pub(crate) fn is_warned(program: &Program, place: usize, warning: Warning) -> bo
         Warning::WrittenTwice => is_written_twice(program, place),
         Warning::NeverWritten => is_never_written(program, place),
         Warning::NeverRead => is_never_read(program, place),
+        Warning::NeverReached => is_never_reached(program, rung, at % ROWS, at / ROWS),
     }
 }

@@ -18,17 +18,20 @@ pub enum Warning {
     NeverWritten,
     /// A coil on a memory variable that no contact reads.
     NeverRead,
+    /// A rung that no scan reaches.
+    NeverReached,
 }
 
 impl Warning {
     /// All, in the order in which they are reported at one place.
-    pub const ALL: [Warning; 6] = [
+    pub const ALL: [Warning; 7] = [
         Warning::LooseCrossing,
         Warning::Apart,
         Warning::LeadsNowhere,
         Warning::WrittenTwice,
         Warning::NeverWritten,
         Warning::NeverRead,
+        Warning::NeverReached,
     ];
 
     /// The word of a warning in its row.
@@ -42,6 +45,7 @@ impl Warning {
             Warning::WrittenTwice => b"written_twice",
             Warning::NeverWritten => b"never_written",
             Warning::NeverRead => b"never_read",
+            Warning::NeverReached => b"never_reached",
         }
     }
 }

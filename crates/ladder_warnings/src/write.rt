@@ -1,7 +1,7 @@
 //! The writing of the warnings of a program.
 
 ghost use Rattle.std.specs.Prelude.{◌≡◌, ◌*◌, ◌<◌, ◌≤◌, ◌∷◌, [], IfOk, codes, length};
-ghost use Rattle.ladder_page.specs.declared.geometry.TheConstants.{PLACES, RUNGS};
+ghost use Rattle.ladder_page.specs.declared.geometry.TheConstants.{PLACES};
 ghost use Rattle.ladder_records.specs.Text.{line_text, lines_text};
 ghost use Rattle.ladder_text.specs.Block.{Sends};
 ghost use Rattle.ladder_text.specs.Log.{Puts};
@@ -39,7 +39,7 @@ fn warned_name(program: &Program, place: usize, warning: Warning) -> &[u8]
     ensures { result.now ≡ warned_name program.now place warning }
 {
     match warning {
-        Warning::LooseCrossing | Warning::Apart => b"",
+        Warning::LooseCrossing | Warning::Apart | Warning::NeverReached => b"",
         Warning::LeadsNowhere
         | Warning::WrittenTwice
         | Warning::NeverWritten

@@ -1,4 +1,4 @@
-use Rattle.std.proofs.Common.{◌≡◌, ◌∙◌, ℕ, ◌<◌, false, sym, refl, get_or, replicate}
+use Rattle.std.proofs.Common.{◌≡◌, ◌∙◌, ℕ, false, refl}
 use Rattle.std.proofs.lemmas.List.{get_or-replicate}
 use Rattle.ladder_grid.specs.Program.{Drawing}
 use Rattle.ladder_warnings.specs.Warnings.{leads}

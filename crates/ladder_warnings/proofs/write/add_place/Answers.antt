@@ -1,4 +1,4 @@
-use Rattle.std.proofs.Common.{◌≡◌, ◌+◌, ◌<◌, ap, arith, get_or, length, length-append, refl, subst, take, take_all}
+use Rattle.std.proofs.Common.{◌≡◌, ◌+◌, ◌<◌, ap, arith, drop, get_or, length, length-append, refl, subst, suc, take, take_all}
 use Rattle.std.specs.List.{flat_map}
 use Rattle.std.proofs.lemmas.Option.{slice_get-get_or}
 use Rattle.ladder_records.specs.Text.{lines_text}
@@ -16,7 +16,9 @@ returns-in_err-more-clause-sends g c = sends_err _ _ _ _ _ _ c.from_residual.ens
     (let rows = row_if_warned c.args.program.now c.args.place in
     let i = c.loop-warning.warning-index in
     let h : i < length all_warnings = rw c.as_slice-warning-items.ensures at c.loop-warning-test.true in
-    rows_prefix _ _ _ _ _ _ _ _ _ (rows_apart rows all_warnings i (get_or all_warnings i LooseCrossing) _ (slice_get-get_or all_warnings i LooseCrossing h) refl)
+    let here : Warning = get_or all_warnings i LooseCrossing in
+    rows_prefix _ _ _ _ _ (flat_map rows (take i all_warnings)) (flat_map rows all_warnings) (rows here) (flat_map rows (drop (suc i) all_warnings))
+    (rows_apart rows all_warnings i here (rows here) (slice_get-get_or all_warnings i LooseCrossing h) refl)
     c.loop-warning.invariant.0 (rw c.as_slice-warning-items.ensures at c.in_err-more.ensures.sends))
 
 pub loop-warning-preserved : goal.loop-warning-preserved
@@ -26,9 +28,9 @@ loop-warning-preserved g c =
     let i = c.loop-warning.warning-index in
     let here : Warning = get_or all_warnings i LooseCrossing in
     let h : i < length all_warnings = rw c.as_slice-warning-items.ensures at c.loop-warning-test.true in
-    let more = rows_more rows all_warnings i here _ (slice_get-get_or all_warnings i LooseCrossing h) refl in
+    let more = rows_more rows all_warnings i here (rows here) (slice_get-get_or all_warnings i LooseCrossing h) refl in
     let count : c.in_ok-more.more ≡ length (rows here) = rw c.as_slice-warning-items.ensures at c.in_ok-more.ensures.count in (
-      rows_sent _ _ _ _ _ _ _ _ _ more inv.0 (rw c.as_slice-warning-items.ensures at c.in_ok-more.ensures.sends),
+      rows_sent _ _ _ _ _ _ (flat_map rows (take i all_warnings)) (flat_map rows (take (i + 1) all_warnings)) (rows here) more inv.0 (rw c.as_slice-warning-items.ensures at c.in_ok-more.ensures.sends),
       omega (arith, ap length more, length-append (flat_map rows (take i all_warnings)) (rows here), inv.1, count),
       omega (arith, inv.2, c.in_ok-more.ensures.few),
     )

@@ -1,4 +1,4 @@
-use Rattle.std.proofs.Common.{◌≡◌, ◌<◌, ap, arith, length, length-append, refl, subst, take, take_all}
+use Rattle.std.proofs.Common.{◌+◌, ◌<◌, ap, arith, drop, length, length-append, refl, subst, suc, take, take_all}
 use Rattle.std.specs.List.{flat_map, range_with_len}
 use Rattle.std.proofs.lemmas.List.FromFn.{length-range_with_len}
 use Rattle.ladder_records.specs.Text.{lines_text}
@@ -15,7 +15,8 @@ returns-in_err-more-clause-sends g c = sends_err _ _ _ _ _ _ c.from_residual.ens
     let i = c.loop-place.place in
     let places = range_with_len 0 (length p.sites) in
     let h : i < length p.sites = omega (arith, c.loop-place-test.true, c.rungs-place-end.ensures.value, c.rungs-place-end.ensures.whole.size) in
-    rows_prefix _ _ _ _ _ _ _ _ _ (rows_apart (rows_at p) places i i _ (number_at (length p.sites) i h) refl) c.loop-place.invariant.0 c.in_err-more.ensures.sends)
+    rows_prefix _ _ _ _ _ (flat_map (rows_at p) (take i places)) (flat_map (rows_at p) places) (rows_at p i) (flat_map (rows_at p) (drop (suc i) places))
+    (rows_apart (rows_at p) places i i (rows_at p i) (number_at (length p.sites) i h) refl) c.loop-place.invariant.0 c.in_err-more.ensures.sends)
 
 pub loop-place-preserved : goal.loop-place-preserved
 loop-place-preserved g c =
@@ -24,8 +25,8 @@ loop-place-preserved g c =
     let i = c.loop-place.place in
     let places = range_with_len 0 (length p.sites) in
     let h : i < length p.sites = omega (arith, c.loop-place-test.true, c.rungs-place-end.ensures.value, c.rungs-place-end.ensures.whole.size) in
-    let more = rows_more (rows_at p) places i i _ (number_at (length p.sites) i h) refl in (
-      rows_sent _ _ _ _ _ _ _ _ _ more inv.0 c.in_ok-more.ensures.sends,
+    let more = rows_more (rows_at p) places i i (rows_at p i) (number_at (length p.sites) i h) refl in (
+      rows_sent _ _ _ _ _ _ (flat_map (rows_at p) (take i places)) (flat_map (rows_at p) (take (i + 1) places)) (rows_at p i) more inv.0 c.in_ok-more.ensures.sends,
       omega (arith, ap length more, length-append (flat_map (rows_at p) (take i places)) (rows_at p i), inv.1, c.in_ok-more.ensures.count),
       omega (arith, inv.2, c.in_ok-more.ensures.few),
     )

@@ -1,0 +1,78 @@
+//! Which rungs a scan can reach.
+
+ghost use Rattle.std.specs.Prelude.{◌≡◌, ◌<◌, ◌≤◌};
+ghost use Rattle.ladder_page.specs.declared.geometry.TheConstants.{RUNGS};
+ghost use Rattle.ladder_warnings.specs.Warnings.{is_never_reached, is_reached, jumps_to, some_below};
+ghost use Rattle.ladder_warnings.specs.Reaching.{AreReached, jumps_from};
+
+use crate::leading::both;
+use crate::symbols::either;
+use crate::wired::always_leaves;
+use ladder_grid::Program;
+use ladder_page::geometry::RUNGS;
+
+/// Whether the rung's jump or return goes to another one.
+fn jumps_to(program: &Program, from: usize, rung: usize) -> bool
+    requires { from < program.now.rungs }
+    ensures { result ≡ jumps_to program.now from rung }
+{
+    match program.jump(from) {
+        Some((_, _, target)) => target == rung,
+        None => false,
+    }
+}
+
+/// Whether the jump of a rung that a scan reaches goes to this one.
+fn is_jumped_to(program: &Program, rung: usize, reached: &[bool; RUNGS]) -> bool
+    requires rungs { rung < program.now.rungs }
+    requires few { rung < RUNGS }
+    requires reached { AreReached program.now rung reached.now }
+    ensures { result ≡ some_below (jumps_from program.now rung) rung }
+{
+    let mut found = false;
+    for from in 0..rung {
+        found = either(found, both(reached[from], jumps_to(program, from, rung)));
+    }
+    found
+}
+
+/// Whether a scan reaches the rung; `reached`: which of those before it.
+fn comes_to(program: &Program, rung: usize, reached: &[bool; RUNGS]) -> bool
+    requires rungs { rung < program.now.rungs }
+    requires few { rung < RUNGS }
+    requires reached { AreReached program.now rung reached.now }
+    ensures { result ≡ is_reached program.now rung }
+{
+    rung == 0
+        || reached[rung - 1] && !always_leaves(program, rung - 1)
+        || is_jumped_to(program, rung, reached)
+}
+
+/// Which of the first rungs a scan reaches.
+fn reached_below(program: &Program, count: usize) -> [bool; RUNGS]
+    requires rungs { count ≤ program.now.rungs }
+    requires few { count ≤ RUNGS }
+    ensures { AreReached program.now count result }
+{
+    let mut reached = [false; RUNGS];
+    for rung in 0..count {
+        reached[rung] = comes_to(program, rung, &reached);
+    }
+    reached
+}
+
+fn is_reached(program: &Program, rung: usize) -> bool
+    requires { rung < program.now.rungs }
+    ensures { result ≡ is_reached program.now rung }
+{
+    let _rungs = program.rungs();
+    comes_to(program, rung, &reached_below(program, rung))
+}
+
+/// Whether the place is the first one of a rung that no scan reaches.
+pub(crate) fn is_never_reached(program: &Program, rung: usize, row: usize, column: usize) -> bool
+    requires { rung < program.now.rungs }
+    ensures { result ≡ is_never_reached program.now rung row column }
+{
+    row == 0 && column == 0 && !is_reached(program, rung)
+}
