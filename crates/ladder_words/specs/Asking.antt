@@ -1,5 +1,5 @@
 -- What a request asks, by the subcommand and the values of its arguments.
-use Rattle.std.specs.Prelude.{◌≡◌, ◌⊎◌, ◌<◌, ◌^◌, ⊤, ℕ, List, Bool, true, false, Option, None, Some, map, codes, string_bytes, unwrap_or, option_map, []}
+use Rattle.std.specs.Prelude.{◌≡◌, ◌⊎◌, ◌<◌, ◌^◌, ⊤, ℕ, List, Option, None, Some, map, codes, string_bytes, unwrap_or, option_map, []}
 use Rattle.std.specs.Str.Parse.{IsNumeral, digits_value, without_leading_plus}
 use Rattle.clap.specs.Words.{App, Row, Text, all_of, first_of, one_of, subcommand_of}
 use Rattle.ladder_words.specs.declared.words.TheConstants.{EVERY}
@@ -29,11 +29,6 @@ HasNumber id rows (Some n) = (text : Text) × (one_of id rows ≡ Some text) × 
 -- the flag was given: `clap` then keeps this value for it
 abbrev pub HasFlag : Text → List Row → Type 0
 HasFlag id rows = HasText id rows (codes "true")
-
--- whether the flag was given
-abbrev pub IsGiven : Bool → Text → List Row → Type 0
-IsGiven true id rows = HasFlag id rows
-IsGiven false id rows = HasFlag id rows → ⊥
 
 -- the form that the flags ask for
 abbrev pub HasForm : Form → List Row → Type 0
@@ -80,10 +75,7 @@ NamesList rows l = HasOption (codes "state") rows (option_map string_bytes l.sta
 
 -- the request is what the subcommand's name and values say
 abbrev pub Asks : Text → List Row → Request → Type 0
-Asks name rows (Check r) = (name ≡ codes "check")
-    × HasText (codes "file") rows (string_bytes r.file)
-    × IsGiven r.warns (codes "warn") rows
-    × IsGiven r.explains (codes "why") rows
+Asks name rows (Check file) = (name ≡ codes "check") × HasText (codes "file") rows (string_bytes file)
 Asks name rows (Causes list after) = (name ≡ codes "causes")
     × IsTable rows
     × HasNumber (codes "scans") rows None

@@ -104,22 +104,14 @@ pub struct SimRequest {
     pub stimulus: String,
 }
 
-/// What a request for the check of a program names.
-#[derive(Drop)]
-pub struct CheckRequest {
-    /// The file of the program text.
-    pub file: String,
-    /// Whether it is written what in the drawing is most likely not meant.
-    pub warns: bool,
-    /// Whether it is written why the text is no program, where it is none.
-    pub explains: bool,
-}
-
 /// What the arguments ask for.
 #[derive(Drop)]
 pub enum Request {
     /// Whether a program text breaks no rule, and what it has.
-    Check(CheckRequest),
+    Check {
+        /// The file of the program text.
+        file: String,
+    },
     /// The causes of a coil: which assignments of the listed inputs switch it on.
     Causes {
         list: ListRequest,

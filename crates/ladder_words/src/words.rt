@@ -4,11 +4,11 @@ ghost use Rattle.std.specs.Prelude.{◌≡◌, ℕ, [], true, false, codes, IfSo
 ghost use Rattle.clap.specs.Words.{all_of, first_of, found_of, kind_of, rows_of, subcommand_rows_of};
 ghost use Rattle.clap.specs.Words.{fault_of as clap_fault};
 ghost use Rattle.ladder_command.specs.CommandLine.{ladder_app};
-ghost use Rattle.ladder_words.specs.Asking.{Asks, AsksBy, AsksNone, HasEvery, HasFlag, HasForm, HasMedium, HasNumber, HasOrder, HasOption, IsGiven, IsNamed, IsTable, MayHaveLimit, NamesList};
+ghost use Rattle.ladder_words.specs.Asking.{Asks, AsksBy, AsksNone, HasEvery, HasFlag, HasForm, HasMedium, HasNumber, HasOrder, HasOption, IsNamed, IsTable, MayHaveLimit, NamesList};
 ghost use Rattle.ladder_words.specs.Faults.{IsFaultOf, SaysOf, UsageWhere};
 
 use crate::request::{
-    CheckRequest, FilmRequest, Form, Grouping, InputOrder, ListRequest, Medium, Request, ShowRequest, SimRequest,
+    FilmRequest, Form, Grouping, InputOrder, ListRequest, Medium, Request, ShowRequest, SimRequest,
     WordFault,
 };
 use clap::ArgMatches;
@@ -72,7 +72,10 @@ fn request_of(alloc: Global, name: &str, found: &ArgMatches<'_>) -> Result<Reque
     ensures err { IfErr result (UsageWhere (AsksNone name.now (rows_of (found_of found.now)))) }
 {
     match name {
-        "check" => check_request(alloc, found),
+        "check" => {
+            let file = text(alloc, found, "file")?;
+            Ok(Request::Check { file })
+        }
         "uses" => {
             let file = text(alloc, found, "file")?;
             Ok(Request::Uses { file })
@@ -82,18 +85,6 @@ fn request_of(alloc: Global, name: &str, found: &ArgMatches<'_>) -> Result<Reque
         "sim" => sim_request(alloc, found),
         _ => Err(WordFault::Usage),
     }
-}
-
-fn check_request(alloc: Global, found: &ArgMatches<'_>) -> Result<Request, WordFault>
-    ensures ok { IfOk result (Asks (codes "check") (rows_of (found_of found.now))) }
-    ensures err { IfErr result (UsageWhere (AsksNone (codes "check") (rows_of (found_of found.now)))) }
-{
-    let file = text(alloc, found, "file")?;
-    Ok(Request::Check(CheckRequest {
-        file,
-        warns: is_set(found, "warn"),
-        explains: is_set(found, "why"),
-    }))
 }
 
 fn causes_request(alloc: Global, found: &ArgMatches<'_>) -> Result<Request, WordFault>
@@ -337,7 +328,6 @@ fn sim_request(alloc: Global, found: &ArgMatches<'_>) -> Result<Request, WordFau
 
 /// Whether a flag was given.
 fn is_set(found: &ArgMatches<'_>, id: &str) -> bool
-    ensures given { IsGiven result id.now (rows_of (found_of found.now)) }
     ensures yes { result ≡ true → HasFlag id.now (rows_of (found_of found.now)) }
     ensures no { result ≡ false → HasFlag id.now (rows_of (found_of found.now)) → ⊥ }
 {

@@ -1,8 +1,7 @@
-use Rattle.std.proofs.Common.{◌≡◌, ◌∙◌, ap, codes, refl, sym, Some}
+use Rattle.std.proofs.Common.{◌≡◌, ◌∙◌, ap, codes, sym, Some}
 use Rattle.std.proofs.lemmas.Slice.Eq.{bytes_eq-Decides}
 use Rattle.clap.specs.Words.{found_of}
 use Rattle.clap.proofs.WalkLemmas.{first_value-rows}
-use Rattle.ladder_words.proofs.Faults.{is_given}
 use Rattle.ladder_words.proofs.words.is_set.Goals as goal
 
 pub returns-in-Some-clause-yes : goal.returns-in-Some-clause-yes
@@ -22,9 +21,3 @@ pub returns-in-None-clause-no : goal.returns-in-None-clause-no
 returns-in-None-clause-no c = λ none given.
     let text = c.in-None.ensures ∙ first_value-rows (found_of c.args.found.now) c.args.id.now ∙ given in
     cc
-
-pub returns-in-Some-clause-given : goal.returns-in-Some-clause-given
-returns-in-Some-clause-given c = is_given _ _ _ (returns-in-Some-clause-yes c) (returns-in-Some-clause-no c)
-
-pub returns-in-None-clause-given : goal.returns-in-None-clause-given
-returns-in-None-clause-given c = returns-in-None-clause-no c refl
