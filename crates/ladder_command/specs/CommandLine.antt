@@ -1,7 +1,7 @@
--- The command line, as clap's definitions of a simple command read it: `ladder check FILE`,
--- `ladder causes [--state STATE] [--at MS] [--after N] [--limit N] [--scans N] [--every MS] [--grouped] [--terms] [--st] [--order ORDER] FILE COIL [INPUT]...`,
+-- The command line, as clap's definitions of a simple command read it: `ladder check [--warn] FILE`,
+-- `ladder causes [--state STATE] [--at MS] [--after N] [--limit N] [--scans N] [--every MS] [--grouped] [--terms] [--st] [--order ORDER] [--quiet] FILE COIL [INPUT]...`,
 -- `ladder show [--state STATE] [--at MS] [--number N] [--stimulus STIMULUS] [--html] [--coil COIL] FILE [INPUT]...`,
--- `ladder sim [--state STATE] [--save STATE] FILE STIMULUS` and `ladder uses FILE`.
+-- `ladder sim [--state STATE] [--save STATE] FILE STIMULUS` and `ladder uses FILE`, each with `[--why]`.
 use Rattle.std.specs.Prelude.{◌≡◌, List, Some, [], ◌∷◌, codes, true, false}
 use Rattle.clap.specs.Simple.{new_shape}
 use Rattle.clap.specs.Words.{App, Rule, Text, app_of, new_rule}
@@ -34,33 +34,35 @@ list_rule id = record (new_rule id) { action = Some Append; value_names = 1 }
 abbrev pub taking : Text → List Rule → App
 taking name rules = record { top = record (new_shape name) { rules = rules }; subs = [] }
 
--- a subcommand with the file of a program alone
-abbrev pub file_app : Text → App
-file_app name = taking name (place_rule (codes "file") ∷ [])
+abbrev pub check_app : App
+check_app = taking (codes "check") (flag_rule (codes "warn") ∷ flag_rule (codes "why") ∷ place_rule (codes "file") ∷ [])
+
+abbrev pub uses_app : App
+uses_app = taking (codes "uses") (flag_rule (codes "why") ∷ place_rule (codes "file") ∷ [])
 
 abbrev pub causes_app : App
 causes_app = taking (codes "causes") (
     text_rule (codes "state") ∷ number_rule (codes "at") ∷ number_rule (codes "after") ∷ number_rule (codes "limit")
     ∷ number_rule (codes "scans") ∷ number_rule (codes "every") ∷ flag_rule (codes "grouped") ∷ flag_rule (codes "terms") ∷ flag_rule (codes "st") ∷ text_rule (codes "order")
-    ∷ place_rule (codes "file") ∷ place_rule (codes "coil") ∷ list_rule (codes "inputs") ∷ []
+    ∷ flag_rule (codes "quiet") ∷ flag_rule (codes "why") ∷ place_rule (codes "file") ∷ place_rule (codes "coil") ∷ list_rule (codes "inputs") ∷ []
     )
 
 abbrev pub show_app : App
 show_app = taking (codes "show") (
     text_rule (codes "state") ∷ number_rule (codes "at") ∷ number_rule (codes "number") ∷ flag_rule (codes "html")
-    ∷ text_rule (codes "stimulus") ∷ text_rule (codes "coil") ∷ place_rule (codes "file") ∷ list_rule (codes "inputs") ∷ []
+    ∷ text_rule (codes "stimulus") ∷ text_rule (codes "coil") ∷ flag_rule (codes "why") ∷ place_rule (codes "file") ∷ list_rule (codes "inputs") ∷ []
     )
 
 abbrev pub sim_app : App
 sim_app = taking (codes "sim") (
-    text_rule (codes "state") ∷ text_rule (codes "save") ∷ place_rule (codes "file") ∷ place_rule (codes "stimulus") ∷ []
+    text_rule (codes "state") ∷ text_rule (codes "save") ∷ flag_rule (codes "why") ∷ place_rule (codes "file") ∷ place_rule (codes "stimulus") ∷ []
     )
 
 -- the program, which needs a subcommand
 abbrev pub ladder_app : App
 ladder_app = record {
   top = record (new_shape (codes "ladder")) { is_leaf = false; subcommand_required = true };
-  subs = (file_app (codes "check")).top ∷ causes_app.top ∷ show_app.top ∷ sim_app.top ∷ (file_app (codes "uses")).top ∷ [];
+  subs = check_app.top ∷ causes_app.top ∷ show_app.top ∷ sim_app.top ∷ uses_app.top ∷ [];
 }
 
 -- a command with no argument that is common to all subcommands, which clap reads as this

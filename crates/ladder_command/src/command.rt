@@ -6,10 +6,10 @@ ghost use Rattle.ladder_command.specs.CommandLine.{IsApp, ladder_app, taking};
 ghost use Rattle.ladder_command.specs.Table.{ladder_by, word_rule};
 
 use crate::help::{
-    AFTER_HELP, AT_HELP, CAUSES_ABOUT, CHECK_ABOUT, COIL_HELP, EVERY_HELP, FAULTS, FILE_HELP,
-    FILM_HELP, GROUPED_HELP, HTML_HELP, INPUTS_HELP, LADDER_ABOUT, LIMIT_HELP, NUMBER_HELP,
-    ORDER_HELP, SAVE_HELP, SCANS_HELP, SHOW_ABOUT, SHOWN_HELP, SIM_ABOUT, STATE_HELP,
-    STATEMENT_HELP, STIMULUS_HELP, TERMS_HELP, USES_ABOUT, WHY_HELP,
+    AFTER_HELP, AT_HELP, CAUSES_ABOUT, CHECK_ABOUT, COIL_HELP, EVERY_HELP, EXPLAIN_HELP, FAULTS,
+    FILE_HELP, FILM_HELP, GROUPED_HELP, HTML_HELP, INPUTS_HELP, LADDER_ABOUT, LIMIT_HELP,
+    NUMBER_HELP, ORDER_HELP, QUIET_HELP, SAVE_HELP, SCANS_HELP, SHOW_ABOUT, SHOWN_HELP, SIM_ABOUT,
+    STATE_HELP, STATEMENT_HELP, STIMULUS_HELP, TERMS_HELP, USES_ABOUT, WARN_HELP, WHY_HELP,
 };
 use clap::{Arg, ArgAction, Command, value_parser};
 use std::alloc::{AllocError, Global};
@@ -35,7 +35,16 @@ struct Subcommand {
     words: &'static [Word],
 }
 
-const PROGRAM: &[Word] = &[Word::Place("file", "FILE", FILE_HELP)];
+const CHECK: &[Word] = &[
+    Word::Flag("warn", WARN_HELP),
+    Word::Flag("why", EXPLAIN_HELP),
+    Word::Place("file", "FILE", FILE_HELP),
+];
+
+const USES: &[Word] = &[
+    Word::Flag("why", EXPLAIN_HELP),
+    Word::Place("file", "FILE", FILE_HELP),
+];
 
 const CAUSES: &[Word] = &[
     Word::Text("state", "STATE", STATE_HELP),
@@ -48,6 +57,8 @@ const CAUSES: &[Word] = &[
     Word::Flag("terms", TERMS_HELP),
     Word::Flag("st", STATEMENT_HELP),
     Word::Text("order", "ORDER", ORDER_HELP),
+    Word::Flag("quiet", QUIET_HELP),
+    Word::Flag("why", EXPLAIN_HELP),
     Word::Place("file", "FILE", FILE_HELP),
     Word::Place("coil", "COIL", COIL_HELP),
     Word::List("inputs", "INPUT", INPUTS_HELP),
@@ -60,6 +71,7 @@ const SHOW: &[Word] = &[
     Word::Flag("html", HTML_HELP),
     Word::Text("stimulus", "STIMULUS", FILM_HELP),
     Word::Text("coil", "COIL", WHY_HELP),
+    Word::Flag("why", EXPLAIN_HELP),
     Word::Place("file", "FILE", FILE_HELP),
     Word::List("inputs", "INPUT", SHOWN_HELP),
 ];
@@ -67,6 +79,7 @@ const SHOW: &[Word] = &[
 const SIM: &[Word] = &[
     Word::Text("state", "STATE", STATE_HELP),
     Word::Text("save", "STATE", SAVE_HELP),
+    Word::Flag("why", EXPLAIN_HELP),
     Word::Place("file", "FILE", FILE_HELP),
     Word::Place("stimulus", "STIMULUS", STIMULUS_HELP),
 ];
@@ -75,7 +88,7 @@ const SUBCOMMANDS: &[Subcommand] = &[
     Subcommand {
         name: "check",
         about: CHECK_ABOUT,
-        words: PROGRAM,
+        words: CHECK,
     },
     Subcommand {
         name: "causes",
@@ -95,7 +108,7 @@ const SUBCOMMANDS: &[Subcommand] = &[
     Subcommand {
         name: "uses",
         about: USES_ABOUT,
-        words: PROGRAM,
+        words: USES,
     },
 ];
 

@@ -29,6 +29,14 @@ pub(crate) const SIM_ABOUT: &str =
 pub(crate) const USES_ABOUT: &str =
     "Prints where each variable and each instance is drawn: rung, row and column";
 
+pub(crate) const WARN_HELP: &str =
+    "Also prints a row for each place that breaks no rule and is most likely not meant: `warning,KIND,RUNG,ROW,COLUMN,NAME`";
+
+pub(crate) const EXPLAIN_HELP: &str =
+    "After the line of a fault: its rule in words, and the lines of the program where it shows";
+
+pub(crate) const QUIET_HELP: &str = "Writes no line of counts on standard error; faults stay";
+
 pub(crate) const FILE_HELP: &str = "The program: declarations and rungs; at most 1048576 bytes";
 
 pub(crate) const COIL_HELP: &str = "The variable of a coil, in any letter case";

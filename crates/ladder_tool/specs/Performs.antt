@@ -36,7 +36,9 @@ use Rattle.ladder_text.specs.Log.{PutsAll, PutsPrefix, WriteLog}
 use Rattle.ladder_trace.specs.declared.fault.SimFault.{SimFault}
 use Rattle.ladder_trace.specs.declared.recording.Film.{Film}
 use Rattle.ladder_trace.specs.Simulation.{Films, Simulates}
+use Rattle.ladder_records.specs.Text.{lines_text}
 use Rattle.ladder_uses.specs.Uses.{uses_text}
+use Rattle.ladder_warnings.specs.Warnings.{warning_rows}
 use Rattle.ladder_tool.specs.declared.fault.ToolFault.{ToolFault}
 use Rattle.ladder_tool.specs.declared.fault.ToolFault.TheVariants as fault
 use Rattle.ladder_words.specs.declared.request.FilmRequest.{FilmRequest}
@@ -52,7 +54,7 @@ use Rattle.ladder_words.specs.declared.request.Request.{Request}
 use Rattle.ladder_words.specs.declared.request.Request.TheVariants.{Causes, Check, Groups, Held, Show, Sim, Uses}
 use Rattle.ladder_words.specs.declared.request.Request.TheVariants as request
 use Rattle.ladder_words.specs.declared.request.ShowRequest.{ShowRequest}
-use Rattle.ladder_tool.specs.FaultLine.{fault_line}
+use Rattle.ladder_tool.specs.Explained.{report_of}
 use Rattle.ladder_tool.specs.Setting.{Given, HasProgramFault, HasSettingFault, IsSet, stimulus_records}
 use Rattle.ladder_tool.specs.Variables.{AreVariables, IsUnknownWord, variable_of}
 
@@ -66,17 +68,17 @@ pub record Logs : Type 0 where
 abbrev pub logs : WriteLog → WriteLog → WriteLog → Logs
 logs out save err = record { out = out; save = save; err = err }
 
--- The line of the fault was written, or a prefix of it before the writer failed.
-abbrev pub IsReported : WriteLog → WriteLog → ToolFault → Type 0
-IsReported old new f = PutsAll old new (fault_line f) ⊎ PutsPrefix old new (fault_line f)
+-- What is said of a fault was written, or a prefix of it before the writer failed.
+abbrev pub IsReported : Given → WriteLog → WriteLog → ToolFault → Type 0
+IsReported g old new f = PutsAll old new (report_of g.why g.program f) ⊎ PutsPrefix old new (report_of g.why g.program f)
 
--- Status 1, by a fault that the texts and arguments have: nothing was written but its line on `err`.
-pub record Refuses (Has : ToolFault → Type 0) (old new : Logs) : Type 0 where
+-- Status 1, by a fault that the texts and arguments have: nothing was written but what is said of it on `err`.
+pub record Refuses (g : Given) (Has : ToolFault → Type 0) (old new : Logs) : Type 0 where
   pub reason : ToolFault
   pub has : Has reason
   pub unwritten : new.out ≡ old.out
   pub unsaved : new.save ≡ old.save
-  pub reported : IsReported old.err new.err reason
+  pub reported : IsReported g old.err new.err reason
 
 -- ---- a text about the program alone
 
@@ -85,6 +87,11 @@ abbrev pub check_line : Drawing → List ℕ
 check_line p =
     codes "rungs " ++ (decimal p.rungs ++ (codes " variables " ++ (decimal (length p.decls.vars) ++ (codes " instances "
     ++ (decimal (length p.decls.instances) ++ codes "\n")))))
+
+-- The same, and a row for each warning where it is warned.
+abbrev pub check_text : Bool → Drawing → List ℕ
+check_text false p = check_line p
+check_text true p = check_line p ++ lines_text (warning_rows p)
 
 -- The text about the program is written: whole, or as far as `Written` says.
 abbrev pub Prints : (Drawing → List ℕ) → List ℕ → (List ℕ → Type 0) → Type 0
@@ -143,8 +150,13 @@ looks_for r after q = looks_given (search_of q (first_number after)) 0 r.limit (
 abbrev pub rows_line : ℕ → ℕ → List ℕ
 rows_line rows looks = codes "rows " ++ (decimal rows ++ (codes " looks " ++ (decimal looks ++ codes "\n")))
 
+-- A line of counts, where it isn't left out.
+abbrev pub unless_quiet : Bool → List ℕ → List ℕ
+unless_quiet true line = []
+unless_quiet false line = line
+
 abbrev pub rows_text : ListRequest → Option ℕ → Question → List ℕ
-rows_text r after q = rows_line (length (causes_for r after q)) (looks_for r after q)
+rows_text r after q = unless_quiet r.quiet (rows_line (length (causes_for r after q)) (looks_for r after q))
 
 -- The rows were listed, and then their number and that of the looks for them is written: whole, or as far as `Counted` says.
 pub record CountsList (g : Given) (r : ListRequest) (after : Option ℕ) (out out' : WriteLog) (Counted : List ℕ → Type 0) : Type 0 where
@@ -154,7 +166,7 @@ pub record CountsList (g : Given) (r : ListRequest) (after : Option ℕ) (out ou
 -- Status 1: `out` failed at the rows, or `err` at their count.
 abbrev pub BreaksList : Given → ListRequest → Option ℕ → Logs → Logs → Type 0
 BreaksList g r after old new =
-    (Lists g r after (PutsPrefix old.out new.out) × IsReported old.err new.err fault.Write)
+    (Lists g r after (PutsPrefix old.out new.out) × IsReported g old.err new.err fault.Write)
     ⊎ CountsList g r after old.out new.out (PutsPrefix old.err new.err)
 
 -- ---- a list over several scans
@@ -187,12 +199,12 @@ held_line rows = codes "rows " ++ (decimal rows ++ codes "\n")
 -- The rows were listed, and then their number is written: whole, or as far as `Counted` says.
 pub record CountsHeld (g : Given) (r : ListRequest) (s : Scans) (out out' : WriteLog) (Counted : List ℕ → Type 0) : Type 0 where
   pub list : ListsHeld g r s (PutsAll out out')
-  pub count : Counted (held_line (length (limited r.limit (held_causes list.question s))))
+  pub count : Counted (unless_quiet r.quiet (held_line (length (limited r.limit (held_causes list.question s)))))
 
 -- Status 1: `out` failed at the rows, or `err` at their count.
 abbrev pub BreaksHeld : Given → ListRequest → Scans → Logs → Logs → Type 0
 BreaksHeld g r s old new =
-    (ListsHeld g r s (PutsPrefix old.out new.out) × IsReported old.err new.err fault.Write)
+    (ListsHeld g r s (PutsPrefix old.out new.out) × IsReported g old.err new.err fault.Write)
     ⊎ CountsHeld g r s old.out new.out (PutsPrefix old.err new.err)
 
 -- ---- a list of causes in groups
@@ -228,7 +240,7 @@ groups_line rows causes = codes "rows " ++ (decimal rows ++ (codes " causes " ++
 
 -- how many rows are listed, and how many causes they stand for
 abbrev pub counts_text : ListRequest → Question → List ℕ
-counts_text r q = groups_line (length (rows_for r q)) (causes_in (rows_for r q))
+counts_text r q = unless_quiet r.quiet (groups_line (length (rows_for r q)) (causes_in (rows_for r q)))
 
 -- The rows were listed, and then their number and that of their causes is written: whole, or as far as `Counted` says.
 pub record CountsGroups (g : Given) (r : ListRequest) (how : Grouping) (out out' : WriteLog) (Counted : List ℕ → Type 0) : Type 0 where
@@ -238,7 +250,7 @@ pub record CountsGroups (g : Given) (r : ListRequest) (how : Grouping) (out out'
 -- Status 1: `out` failed at the rows, or `err` at their count.
 abbrev pub BreaksGroups : Given → ListRequest → Grouping → Logs → Logs → Type 0
 BreaksGroups g r how old new =
-    (Grouped g r how (PutsPrefix old.out new.out) × IsReported old.err new.err fault.Write)
+    (Grouped g r how (PutsPrefix old.out new.out) × IsReported g old.err new.err fault.Write)
     ⊎ CountsGroups g r how old.out new.out (PutsPrefix old.err new.err)
 
 -- ---- the drawing with its power flow
@@ -326,9 +338,9 @@ IsTraced g saves old new = (scans : ℕ) × Traces g old.out new.out (Ok scans) 
 -- Status 1: a fault stopped the simulation, and no state was saved; or the state was to be saved, and `save` failed.
 abbrev pub BreaksTrace : Given → Bool → Logs → Logs → Type 0
 BreaksTrace g saves old new =
-    ((f : SimFault) × Traces g old.out new.out (Err f) (λ p s. new.save ≡ old.save) × IsReported old.err new.err (fault.Sim f))
+    ((f : SimFault) × Traces g old.out new.out (Err f) (λ p s. new.save ≡ old.save) × IsReported g old.err new.err (fault.Sim f))
     ⊎ ((scans : ℕ) × (saves ≡ true) × Traces g old.out new.out (Ok scans) (λ p s. PutsPrefix old.save new.save (state_text p s))
-    × IsReported old.err new.err fault.Write)
+    × IsReported g old.err new.err fault.Write)
 
 -- ---- the film of a stimulus
 
@@ -368,13 +380,13 @@ HasFilmFault g r reason =
 
 -- Status 1: a fault stopped the film.
 abbrev pub BreaksFilm : Given → FilmRequest → Logs → Logs → Type 0
-BreaksFilm g r old new = (reason : SimFault) × ShowsStimulus g r old.out new.out (Err reason) × IsReported old.err new.err (fault.Sim reason)
+BreaksFilm g r old new = (reason : SimFault) × ShowsStimulus g r old.out new.out (Err reason) × IsReported g old.err new.err (fault.Sim reason)
 
 -- ---- all requests
 
 -- Status 0. Only a simulation writes on `save`, and only a list on `err`.
 abbrev pub IsDone : Request → Given → Logs → Logs → Type 0
-IsDone (Check file) g old new = Prints check_line g.program (PutsAll old.out new.out) × (new.save ≡ old.save) × (new.err ≡ old.err)
+IsDone (Check file warns) g old new = Prints (check_text warns) g.program (PutsAll old.out new.out) × (new.save ≡ old.save) × (new.err ≡ old.err)
 IsDone (Causes list after) g old new = CountsList g list after old.out new.out (PutsAll old.err new.err) × (new.save ≡ old.save)
 IsDone (Held list scans every) g old new = CountsHeld g list (scans_of scans every) old.out new.out (PutsAll old.err new.err) × (new.save ≡ old.save)
 IsDone (Groups list grouping) g old new = CountsGroups g list grouping old.out new.out (PutsAll old.err new.err) × (new.save ≡ old.save)
@@ -385,7 +397,7 @@ IsDone (Uses file) g old new = Prints uses_text g.program (PutsAll old.out new.o
 
 -- the faults that the texts and arguments of a request can have
 abbrev pub HasFault : Request → Given → ToolFault → Type 0
-HasFault (Check file) g = HasProgramFault g.program
+HasFault (Check file warns) g = HasProgramFault g.program
 HasFault (Causes list after) g = HasListFault g list after
 HasFault (Held list scans every) g = HasHeldFault g list (scans_of scans every)
 HasFault (Groups list grouping) g = HasListFault g list None
@@ -396,17 +408,17 @@ HasFault (Uses file) g = HasProgramFault g.program
 
 -- Status 1, by a fault while running.
 abbrev pub Breaks : Request → Given → Logs → Logs → Type 0
-Breaks (Check file) g old new =
-    Prints check_line g.program (PutsPrefix old.out new.out) × (new.save ≡ old.save) × IsReported old.err new.err fault.Write
+Breaks (Check file warns) g old new =
+    Prints (check_text warns) g.program (PutsPrefix old.out new.out) × (new.save ≡ old.save) × IsReported g old.err new.err fault.Write
 Breaks (Causes list after) g old new = BreaksList g list after old new × (new.save ≡ old.save)
 Breaks (Held list scans every) g old new = BreaksHeld g list (scans_of scans every) old new × (new.save ≡ old.save)
 Breaks (Groups list grouping) g old new = BreaksGroups g list grouping old new × (new.save ≡ old.save)
-Breaks (Show r) g old new = Shows g r (PutsPrefix old.out new.out) × (new.save ≡ old.save) × IsReported old.err new.err fault.Write
+Breaks (Show r) g old new = Shows g r (PutsPrefix old.out new.out) × (new.save ≡ old.save) × IsReported g old.err new.err fault.Write
 Breaks (request.Film r) g old new = BreaksFilm g r old new × (new.save ≡ old.save)
 Breaks (Sim r) g old new = BreaksTrace g (is_some r.save) old new
 Breaks (Uses file) g old new =
-    Prints uses_text g.program (PutsPrefix old.out new.out) × (new.save ≡ old.save) × IsReported old.err new.err fault.Write
+    Prints uses_text g.program (PutsPrefix old.out new.out) × (new.save ≡ old.save) × IsReported g old.err new.err fault.Write
 
 -- Status 1.
 abbrev pub IsFailed : Request → Given → Logs → Logs → Type 0
-IsFailed r g old new = Refuses (HasFault r g) old new ⊎ Breaks r g old new
+IsFailed r g old new = Refuses g (HasFault r g) old new ⊎ Breaks r g old new

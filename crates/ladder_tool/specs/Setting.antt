@@ -1,5 +1,5 @@
 -- What a request is about: the bytes of its texts, and the program and the state that they describe.
-use Rattle.std.specs.Prelude.{◌≡◌, ◌⊎◌, ℕ, List, [], Option, None, Some, option_map, unwrap_or, vec_items}
+use Rattle.std.specs.Prelude.{◌≡◌, ◌⊎◌, ℕ, Bool, List, [], Option, None, Some, option_map, unwrap_or, vec_items}
 use Rattle.ladder_grid.specs.Program.{Drawing}
 use Rattle.ladder_grid.specs.Reading.{IsMemory, IsProgram, IsRight}
 use Rattle.ladder_records.specs.Left.{Fields}
@@ -12,14 +12,15 @@ use Rattle.ladder_tool.specs.declared.fault.ToolFault.{ToolFault}
 use Rattle.ladder_tool.specs.declared.fault.ToolFault.TheVariants as fault
 use Rattle.ladder_tool.specs.declared.texts.Texts.{Texts}
 
--- the bytes of the texts; a state or a stimulus where there is one
+-- the bytes of the texts, a state or a stimulus where there is one; and whether a fault is explained
 pub record Given : Type 0 where
   pub program : List ℕ
   pub state : Option (List ℕ)
   pub stimulus : Option (List ℕ)
+  pub why : Bool
 
 abbrev pub given_by : Texts → Given
-given_by t = record { program = t.program.items; state = option_map vec_items t.state; stimulus = option_map vec_items t.stimulus }
+given_by t = record { program = t.program.items; state = option_map vec_items t.state; stimulus = option_map vec_items t.stimulus; why = t.why }
 
 -- The state that a text describes, or the fresh one where there is no text.
 abbrev pub HasState : Drawing → Option (List ℕ) → Standing → Type 0

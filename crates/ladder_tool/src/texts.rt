@@ -1,6 +1,6 @@
 //! The texts that a request is about.
 
-/// The texts that a request is about.
+/// The texts that a request is about, and how much is said of a fault.
 #[derive(Drop)]
 pub struct Texts {
     pub program: Vec<u8>,
@@ -8,4 +8,6 @@ pub struct Texts {
     pub state: Option<Vec<u8>>,
     /// The text of the stimulus, where the request names one; where it is missing, there are no records.
     pub stimulus: Option<Vec<u8>>,
+    /// Whether a fault is explained, after its line.
+    pub why: bool,
 }

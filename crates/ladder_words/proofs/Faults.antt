@@ -29,7 +29,7 @@ no_order rows text is none o (inr h) =
     none o (rw same at h.2)
 
 pub no_causes_of_form : (rows : List Row) → ((f : Form) → HasForm f rows → ⊥) → AsksNone (codes "causes") rows
-no_causes_of_form rows none (Check file) h = let other = h.0 in cc
+no_causes_of_form rows none (Check file warns) h = let other = h.0 in cc
 no_causes_of_form rows none (Causes list after) h = none Table h.1.1
 no_causes_of_form rows none (Held list scans every) h = none Table h.1.1
 no_causes_of_form rows none (Groups list grouping) h = none grouping.form h.2
@@ -39,7 +39,7 @@ no_causes_of_form rows none (Sim r) h = let other = h.0 in cc
 no_causes_of_form rows none (Uses file) h = let other = h.0 in cc
 
 pub no_causes_of_order : (rows : List Row) → ((o : InputOrder) → HasOrder o rows → ⊥) → AsksNone (codes "causes") rows
-no_causes_of_order rows none (Check file) h = let other = h.0 in cc
+no_causes_of_order rows none (Check file warns) h = let other = h.0 in cc
 no_causes_of_order rows none (Causes list after) h = none Given h.1.2
 no_causes_of_order rows none (Held list scans every) h = none Given h.1.2
 no_causes_of_order rows none (Groups list grouping) h = none grouping.order h.3
@@ -49,7 +49,7 @@ no_causes_of_order rows none (Sim r) h = let other = h.0 in cc
 no_causes_of_order rows none (Uses file) h = let other = h.0 in cc
 
 pub no_causes_of_start : (rows : List Row) → ((o : Option ℕ) → HasNumber (codes "after") rows o → ⊥) → AsksNone (codes "causes") rows
-no_causes_of_start rows none (Check file) h = let other = h.0 in cc
+no_causes_of_start rows none (Check file warns) h = let other = h.0 in cc
 no_causes_of_start rows none (Causes list after) h = none after h.4
 no_causes_of_start rows none (Held list scans every) h = none None h.4
 no_causes_of_start rows none (Groups list grouping) h = none None h.6
@@ -59,7 +59,7 @@ no_causes_of_start rows none (Sim r) h = let other = h.0 in cc
 no_causes_of_start rows none (Uses file) h = let other = h.0 in cc
 
 pub no_show_of_moment : (rows : List Row) → ((o : Option ℕ) → HasNumber (codes "at") rows o → ⊥) → AsksNone (codes "show") rows
-no_show_of_moment rows none (Check file) h = let other = h.0 in cc
+no_show_of_moment rows none (Check file warns) h = let other = h.0 in cc
 no_show_of_moment rows none (Causes list after) h = let other = h.0 in cc
 no_show_of_moment rows none (Held list scans every) h = let other = h.0 in cc
 no_show_of_moment rows none (Groups list grouping) h = let other = h.0 in cc
@@ -69,7 +69,7 @@ no_show_of_moment rows none (Sim r) h = let other = h.0 in cc
 no_show_of_moment rows none (Uses file) h = let other : 115 ≡ 117 = ap (λ (name : List ℕ). get_or name 0 0) h.0 in absurd (omega (arith, other))
 
 pub no_show_of_number : (rows : List Row) → ((o : Option ℕ) → HasNumber (codes "number") rows o → ⊥) → AsksNone (codes "show") rows
-no_show_of_number rows none (Check file) h = let other = h.0 in cc
+no_show_of_number rows none (Check file warns) h = let other = h.0 in cc
 no_show_of_number rows none (Causes list after) h = let other = h.0 in cc
 no_show_of_number rows none (Held list scans every) h = let other = h.0 in cc
 no_show_of_number rows none (Groups list grouping) h = let other = h.0 in cc
@@ -79,7 +79,7 @@ no_show_of_number rows none (Sim r) h = let other = h.0 in cc
 no_show_of_number rows none (Uses file) h = let other : 115 ≡ 117 = ap (λ (name : List ℕ). get_or name 0 0) h.0 in absurd (omega (arith, other))
 
 pub no_causes_of_list : (rows : List Row) → ((l : ListRequest) → NamesList rows l → ⊥) → AsksNone (codes "causes") rows
-no_causes_of_list rows none (Check file) h = let other = h.0 in cc
+no_causes_of_list rows none (Check file warns) h = let other = h.0 in cc
 no_causes_of_list rows none (Causes list after) h = none list h.5
 no_causes_of_list rows none (Held list scans every) h = none list h.5
 no_causes_of_list rows none (Groups list grouping) h = none list h.8
@@ -89,7 +89,7 @@ no_causes_of_list rows none (Sim r) h = let other = h.0 in cc
 no_causes_of_list rows none (Uses file) h = let other = h.0 in cc
 
 pub no_causes_of_scans : (rows : List Row) → ((o : Option ℕ) → HasNumber (codes "scans") rows o → ⊥) → AsksNone (codes "causes") rows
-no_causes_of_scans rows none (Check file) h = let other = h.0 in cc
+no_causes_of_scans rows none (Check file warns) h = let other = h.0 in cc
 no_causes_of_scans rows none (Causes list after) h = none None h.2
 no_causes_of_scans rows none (Held list scans every) h = none (Some scans) h.2
 no_causes_of_scans rows none (Groups list grouping) h = none None h.4
@@ -103,7 +103,7 @@ no_every rows none every (inl h) = none (Some every) h
 no_every rows none every (inr h) = none None h.0
 
 pub no_causes_of_every : (rows : List Row) → ((o : Option ℕ) → HasNumber (codes "every") rows o → ⊥) → AsksNone (codes "causes") rows
-no_causes_of_every rows none (Check file) h = let other = h.0 in cc
+no_causes_of_every rows none (Check file warns) h = let other = h.0 in cc
 no_causes_of_every rows none (Causes list after) h = none None h.3
 no_causes_of_every rows none (Held list scans every) h = no_every rows none every h.3
 no_causes_of_every rows none (Groups list grouping) h = none None h.5
@@ -114,7 +114,7 @@ no_causes_of_every rows none (Uses file) h = let other = h.0 in cc
 
 -- The period is asked for beside a number of scans alone.
 pub no_causes_of_period : (rows : List Row) → (scans : ℕ) → HasNumber (codes "scans") rows (Some scans) → ((every : ℕ) → HasEvery every rows → ⊥) → AsksNone (codes "causes") rows
-no_causes_of_period rows n some none (Check file) h = let other = h.0 in cc
+no_causes_of_period rows n some none (Check file warns) h = let other = h.0 in cc
 no_causes_of_period rows n some none (Causes list after) h = let both = h.2 in let given = some.1 in cc
 no_causes_of_period rows n some none (Held list scans every) h = none every h.3
 no_causes_of_period rows n some none (Groups list grouping) h = let both = h.4 in let given = some.1 in cc

@@ -1,5 +1,5 @@
 -- What a request asks, by the subcommand and the values of its arguments.
-use Rattle.std.specs.Prelude.{◌≡◌, ◌⊎◌, ◌<◌, ◌^◌, ⊤, ℕ, List, Option, None, Some, map, codes, string_bytes, unwrap_or, option_map, []}
+use Rattle.std.specs.Prelude.{◌≡◌, ◌⊎◌, ◌<◌, ◌^◌, ⊤, ℕ, Bool, true, false, List, Option, None, Some, map, codes, string_bytes, unwrap_or, option_map, []}
 use Rattle.std.specs.Str.Parse.{IsNumeral, digits_value, without_leading_plus}
 use Rattle.clap.specs.Words.{App, Row, Text, all_of, first_of, one_of, subcommand_of}
 use Rattle.ladder_words.specs.declared.words.TheConstants.{EVERY}
@@ -9,6 +9,7 @@ use Rattle.ladder_words.specs.declared.request.InputOrder.{InputOrder}
 use Rattle.ladder_words.specs.declared.request.InputOrder.TheVariants.{Given, Sifted}
 use Rattle.ladder_words.specs.declared.request.Medium.{Medium}
 use Rattle.ladder_words.specs.declared.request.Medium.TheVariants as medium
+use Rattle.ladder_words.specs.declared.request.CommandLine.{CommandLine}
 use Rattle.ladder_words.specs.declared.request.ListRequest.{ListRequest}
 use Rattle.ladder_words.specs.declared.request.Request.{Request}
 use Rattle.ladder_words.specs.declared.request.Request.TheVariants.{Causes, Check, Film, Groups, Held, Show, Sim, Uses}
@@ -29,6 +30,11 @@ HasNumber id rows (Some n) = (text : Text) × (one_of id rows ≡ Some text) × 
 -- the flag was given: `clap` then keeps this value for it
 abbrev pub HasFlag : Text → List Row → Type 0
 HasFlag id rows = HasText id rows (codes "true")
+
+-- whether the flag was given
+abbrev pub HasSwitch : Text → List Row → Bool → Type 0
+HasSwitch id rows true = HasFlag id rows
+HasSwitch id rows false = HasFlag id rows → ⊥
 
 -- the form that the flags ask for
 abbrev pub HasForm : Form → List Row → Type 0
@@ -69,13 +75,14 @@ abbrev pub NamesList : List Row → ListRequest → Type 0
 NamesList rows l = HasOption (codes "state") rows (option_map string_bytes l.state)
     × HasNumber (codes "at") rows l.moment
     × HasNumber (codes "limit") rows l.limit
+    × HasSwitch (codes "quiet") rows l.quiet
     × HasText (codes "file") rows (string_bytes l.file)
     × HasText (codes "coil") rows (string_bytes l.coil)
     × (unwrap_or (all_of (codes "inputs") rows) [] ≡ map string_bytes l.inputs.items)
 
 -- the request is what the subcommand's name and values say
 abbrev pub Asks : Text → List Row → Request → Type 0
-Asks name rows (Check file) = (name ≡ codes "check") × HasText (codes "file") rows (string_bytes file)
+Asks name rows (Check file warns) = (name ≡ codes "check") × HasText (codes "file") rows (string_bytes file) × HasSwitch (codes "warn") rows warns
 Asks name rows (Causes list after) = (name ≡ codes "causes")
     × IsTable rows
     × HasNumber (codes "scans") rows None
@@ -126,10 +133,14 @@ Asks name rows (Uses file) = (name ≡ codes "uses") × HasText (codes "file") r
 abbrev pub AsksNone : Text → List Row → Type 0
 AsksNone name rows = (r : Request) → Asks name rows r → ⊥
 
--- the command takes the arguments, and they ask this
-abbrev pub AsksBy : App → List Text → Request → Type 0
-AsksBy app words r = (name : Text) × (rows : List Row) × (subcommand_of app words ≡ Some (name, rows)) × Asks name rows r
+-- the request and the flag of every subcommand are what the subcommand's name and values say
+abbrev pub Says : Text → List Row → CommandLine → Type 0
+Says name rows line = Asks name rows line.request × HasSwitch (codes "why") rows line.why
+
+-- the command takes the arguments, and they say this
+abbrev pub AsksBy : App → List Text → CommandLine → Type 0
+AsksBy app words line = (name : Text) × (rows : List Row) × (subcommand_of app words ≡ Some (name, rows)) × Says name rows line
 
 -- the arguments ask for no request
 abbrev pub AsksNothing : App → List Text → Type 0
-AsksNothing app words = (r : Request) → AsksBy app words r → ⊥
+AsksNothing app words = (line : CommandLine) → AsksBy app words line → ⊥

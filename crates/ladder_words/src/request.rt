@@ -40,7 +40,7 @@ pub enum Medium {
     Page,
 }
 
-/// What a request for a list of causes names: the scan, the coil and the inputs.
+/// What a request for a list of causes names: the scan, the coil and the inputs, and how the list is written.
 #[derive(Drop)]
 pub struct ListRequest {
     /// The file of the state in which the scan begins; the fresh one where there is none.
@@ -49,6 +49,8 @@ pub struct ListRequest {
     pub moment: Option<u64>,
     /// How many rows are written at most.
     pub limit: Option<u64>,
+    /// Whether the line of counts is left out.
+    pub quiet: bool,
     /// The file of the program text.
     pub file: String,
     /// The name of the coil's variable.
@@ -111,6 +113,8 @@ pub enum Request {
     Check {
         /// The file of the program text.
         file: String,
+        /// Whether it is warned of what breaks no rule and is most likely not meant.
+        warns: bool,
     },
     /// The causes of a coil: which assignments of the listed inputs switch it on.
     Causes {
@@ -143,6 +147,14 @@ pub enum Request {
         /// The file of the program text.
         file: String,
     },
+}
+
+/// What a command line says.
+#[derive(Drop)]
+pub struct CommandLine {
+    pub request: Request,
+    /// Whether a fault is explained, after its line.
+    pub why: bool,
 }
 
 /// Why the arguments are no request.

@@ -4,12 +4,12 @@ ghost use Rattle.std.specs.Prelude.{◌≡◌, ℕ, [], true, false, codes, IfSo
 ghost use Rattle.clap.specs.Words.{all_of, first_of, found_of, kind_of, rows_of, subcommand_rows_of};
 ghost use Rattle.clap.specs.Words.{fault_of as clap_fault};
 ghost use Rattle.ladder_command.specs.CommandLine.{ladder_app};
-ghost use Rattle.ladder_words.specs.Asking.{Asks, AsksBy, AsksNone, HasEvery, HasFlag, HasForm, HasMedium, HasNumber, HasOrder, HasOption, IsNamed, IsTable, MayHaveLimit, NamesList};
+ghost use Rattle.ladder_words.specs.Asking.{Asks, AsksBy, AsksNone, HasEvery, HasFlag, HasForm, HasMedium, HasNumber, HasOrder, HasOption, HasSwitch, IsNamed, IsTable, MayHaveLimit, NamesList, Says};
 ghost use Rattle.ladder_words.specs.Faults.{IsFaultOf, SaysOf, UsageWhere};
 
 use crate::request::{
-    FilmRequest, Form, Grouping, InputOrder, ListRequest, Medium, Request, ShowRequest, SimRequest,
-    WordFault,
+    CommandLine, FilmRequest, Form, Grouping, InputOrder, ListRequest, Medium, Request, ShowRequest,
+    SimRequest, WordFault,
 };
 use clap::ArgMatches;
 use clap::error::ErrorKind;
@@ -26,7 +26,7 @@ const EVERY: u64 = 10;
 /// `Usage` where `clap` finds a fault other than that help is asked for, where groups or a list over several scans are to begin after a
 /// number, where a time between scans is asked for without several scans, or several scans in groups, where a form or the order `auto` is asked for without groups, or both forms, or a statement with a limit, or an order that has another name, or a stimulus
 /// is to be shown with a moment, a number or listed inputs, and nowhere else; `Help` with its text where help is asked for; `Memory` when out of memory.
-pub fn read_words(alloc: Global, words: Vec<String>) -> Result<Request, WordFault>
+pub fn read_words(alloc: Global, words: Vec<String>) -> Result<CommandLine, WordFault>
     ensures asks { IfOk result (AsksBy ladder_app (map string_bytes words.items)) }
 
     // Only arguments in which `clap` finds no fault are a request.
@@ -39,7 +39,7 @@ pub fn read_words(alloc: Global, words: Vec<String>) -> Result<Request, WordFaul
         return Err(WordFault::Memory);
     };
     match command.try_get_matches_from(words.as_slice()) {
-        Ok(matches) => request_in(alloc, &matches),
+        Ok(matches) => line_in(alloc, &matches),
         Err(error) => Err(fault_of(alloc, &error)),
     }
 }
@@ -57,13 +57,26 @@ fn fault_of(alloc: Global, error: &clap::Error) -> WordFault
     }
 }
 
-fn request_in(alloc: Global, matches: &ArgMatches<'_>) -> Result<Request, WordFault>
-    ensures ok { IfOk result (λ r. IfSome (subcommand_rows_of matches.now) (λ p. Asks p.0 p.1 r) × IsSome (subcommand_rows_of matches.now)) }
+fn line_in(alloc: Global, matches: &ArgMatches<'_>) -> Result<CommandLine, WordFault>
+    ensures ok { IfOk result (λ l. IfSome (subcommand_rows_of matches.now) (λ p. Says p.0 p.1 l) × IsSome (subcommand_rows_of matches.now)) }
     ensures err { IfErr result (UsageWhere (IfSome (subcommand_rows_of matches.now) (λ p. AsksNone p.0 p.1))) }
 {
     match matches.subcommand() {
-        Some((name, found)) => request_of(alloc, name, found),
+        Some((name, found)) => line_of(alloc, name, found),
         None => Err(WordFault::Usage),
+    }
+}
+
+fn line_of(alloc: Global, name: &str, found: &ArgMatches<'_>) -> Result<CommandLine, WordFault>
+    ensures ok { IfOk result (Says name.now (rows_of (found_of found.now))) }
+    ensures err { IfErr result (UsageWhere (AsksNone name.now (rows_of (found_of found.now)))) }
+{
+    match request_of(alloc, name, found) {
+        Ok(request) => Ok(CommandLine {
+            request,
+            why: is_set(found, "why"),
+        }),
+        Err(fault) => Err(fault),
     }
 }
 
@@ -74,7 +87,8 @@ fn request_of(alloc: Global, name: &str, found: &ArgMatches<'_>) -> Result<Reque
     match name {
         "check" => {
             let file = text(alloc, found, "file")?;
-            Ok(Request::Check { file })
+            let warns = is_set(found, "warn");
+            Ok(Request::Check { file, warns })
         }
         "uses" => {
             let file = text(alloc, found, "file")?;
@@ -190,6 +204,7 @@ fn list_of(
         state: optional(alloc, found, "state")?,
         moment: number(found, "at")?,
         limit,
+        quiet: is_set(found, "quiet"),
         file: text(alloc, found, "file")?,
         coil: text(alloc, found, "coil")?,
         inputs: texts(alloc, found, "inputs")?,
@@ -328,8 +343,7 @@ fn sim_request(alloc: Global, found: &ArgMatches<'_>) -> Result<Request, WordFau
 
 /// Whether a flag was given.
 fn is_set(found: &ArgMatches<'_>, id: &str) -> bool
-    ensures yes { result ≡ true → HasFlag id.now (rows_of (found_of found.now)) }
-    ensures no { result ≡ false → HasFlag id.now (rows_of (found_of found.now)) → ⊥ }
+    ensures { HasSwitch id.now (rows_of (found_of found.now)) result }
 {
     match found.get_str(id) {
         Some(text) => text == "true",
