@@ -19,10 +19,11 @@ _ladder() {
         return
     fi
     case $subcommand in
-        causes) options='--state --at --after --limit --scans --every --grouped --terms --st --order --help' ;;
-        show) options='--state --at --number --html --stimulus --coil --help' ;;
-        sim) options='--state --save --help' ;;
-        check | uses) options='--help' ;;
+        causes) options='--state --at --after --limit --scans --every --grouped --terms --st --order --quiet --why --help' ;;
+        show) options='--state --at --number --html --stimulus --coil --why --help' ;;
+        sim) options='--state --save --why --help' ;;
+        check) options='--warn --why --help' ;;
+        uses) options='--why --help' ;;
         help)
             mapfile -t COMPREPLY < <(compgen -W 'check causes show sim uses' -- "$word")
             return

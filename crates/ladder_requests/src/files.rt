@@ -4,6 +4,7 @@ use crate::requests::{Asked, request};
 use ladder_calls::memory::{End, Hashes, with_room};
 use ladder_text::Reading;
 use ladder_tool::{Readers, perform_files};
+use ladder_words::CommandLine;
 use std::alloc::AllocError;
 
 /// A reader of so many bytes `#` that fails at the call of this number.
@@ -39,7 +40,10 @@ const FAULTS: [(Text, Text, Text, &[u8]); 9] = [
 
 #[test]
 fn the_first_text_that_cannot_be_read_is_named(rt: HostRuntime) -> Result<(), AllocError> {
-    let asked = request(rt.alloc(), Asked::Saved)?;
+    let asked = CommandLine {
+        request: request(rt.alloc(), Asked::Saved)?,
+        why: false,
+    };
     for (number, (program, state, stimulus, line)) in FAULTS.iter().enumerate() {
         let mut readers = Readers {
             program: hashes(program.0, program.1),

@@ -100,6 +100,7 @@ fn list(alloc: Global, file: String) -> Result<ListRequest, AllocError> {
         state: None,
         moment: None,
         limit: None,
+        quiet: false,
         file,
         coil: String::from_str(alloc, "Motor")?,
         inputs: listed(alloc)?,
@@ -109,7 +110,7 @@ fn list(alloc: Global, file: String) -> Result<ListRequest, AllocError> {
 pub(crate) fn request(alloc: Global, asked: Asked) -> Result<Request, AllocError> {
     let file = String::from_str(alloc, "motor.ld")?;
     match asked {
-        Asked::Check => Ok(Request::Check { file }),
+        Asked::Check => Ok(Request::Check { file, warns: true }),
         Asked::Uses => Ok(Request::Uses { file }),
         Asked::Causes(after) => Ok(Request::Causes {
             list: list(alloc, file)?,
@@ -168,6 +169,7 @@ fn texts(alloc: Global, asked: Asked) -> Result<Texts, AllocError> {
         program: Vec::from_slice(alloc, MOTOR)?,
         state,
         stimulus,
+        why: false,
     })
 }
 

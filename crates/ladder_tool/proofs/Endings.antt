@@ -1,5 +1,5 @@
 -- How a request for causes ends, from what each step of it ensures.
-use Rattle.std.proofs.Common.{◌≡◌, ◌⊎◌, ◌∙◌, ap, refl, subst, sym, ℕ, Bool, List, Option, Some, inl, inr, length}
+use Rattle.std.proofs.Common.{◌≡◌, ◌⊎◌, ◌∙◌, ◌++◌, [], Result, Ok, Err, append-nil, append_assoc, ap, refl, subst, sym, ℕ, Bool, List, Option, Some, inl, inr, length}
 use Rattle.std.specs.Prelude.{None, map, string_bytes, unwrap_or}
 use Rattle.std.specs.Option.{option_or}
 use Rattle.ladder_vars.specs.Decls.{Declared}
@@ -21,7 +21,8 @@ use Rattle.ladder_groups.specs.Groups.{rows}
 use Rattle.ladder_sim.specs.CauseText.{cause_text, limited}
 use Rattle.ladder_sim.specs.TermText.{form_text}
 use Rattle.ladder_sim.specs.declared.group_text.GroupForm.{GroupForm}
-use Rattle.ladder_text.specs.Log.{PutsAll, PutsPrefix, WriteLog}
+use Rattle.ladder_text.specs.Log.{Puts, PutsAll, PutsPrefix, WriteLog}
+use Rattle.ladder_text.proofs.Puts.{prefix_after, puts_more}
 use Rattle.ladder_tool.specs.declared.fault.ToolFault.TheVariants as fault
 use Rattle.ladder_tool.specs.Asked.{question_of}
 use Rattle.ladder_tool.specs.declared.asking.Asked.{Asked}
@@ -32,7 +33,7 @@ use Rattle.ladder_held.specs.declared.fault.HeldFault.{HeldFault}
 use Rattle.ladder_held.specs.declared.fault.HeldFault.TheVariants as held
 use Rattle.ladder_held.specs.declared.scans.Scans.{Scans}
 use Rattle.ladder_sim.specs.HeldText.{held_text}
-use Rattle.ladder_tool.specs.Performs.{HasCauseFault, HasHeldFault, HasListFault, HasScansFault, HasNameFault, IsAsked, broken_first, causes_for, coil_refusal, counts_text, groups_line, held_line, looks_for, rows_for, rows_line, rows_text, shown_scan, style_for}
+use Rattle.ladder_tool.specs.Performs.{HasCauseFault, HasHeldFault, HasListFault, HasScansFault, HasNameFault, IsAsked, broken_first, causes_for, coil_refusal, counts_text, groups_line, held_line, looks_for, rows_for, rows_line, rows_text, shown_scan, style_for, unless_quiet}
 use Rattle.ladder_tool.specs.Setting.{Given, HasSettingFault, IsSet}
 use Rattle.ladder_tool.specs.declared.fault.ToolFault.{ToolFault}
 use Rattle.ladder_words.specs.declared.request.ListRequest.{ListRequest}
@@ -83,9 +84,10 @@ module _ (r : ListRequest) (after : Option ℕ) (q : Question) (c : Cursor) (of_
 
   -- the line of rows and looks
   pub line_is : (rows looks : ℕ) → searched c ≡ search_of q (first_number after) → looks_of c ≡ 0
-      → rows ≡ length (limited r.limit c.rest) → looks ≡ looks_given (searched c) (looks_of c) r.limit c.rest → rows_line rows looks ≡ rows_text r after q
+      → rows ≡ length (limited r.limit c.rest) → looks ≡ looks_given (searched c) (looks_of c) r.limit c.rest → unless_quiet r.quiet (rows_line rows looks) ≡ rows_text r after q
   line_is rows looks search none h l =
-      ap (λ n. rows_line n looks) (h ∙ ap (λ xs. length (limited r.limit xs)) made) ∙ ap (rows_line (length (causes_for r after q))) (l ∙ looks_are search none)
+      ap (λ n. unless_quiet r.quiet (rows_line n looks)) (h ∙ ap (λ xs. length (limited r.limit xs)) made)
+      ∙ ap (λ n. unless_quiet r.quiet (rows_line (length (causes_for r after q)) n)) (l ∙ looks_are search none)
 
 -- What a cursor over several scans has to give is what is asked.
 pub held_is : (r : ListRequest) (q : Question) (s : Scans) (c : HeldCursor) → c.program ≡ q.program → c.listed ≡ q.listed → c.rest ≡ held_causes q s
@@ -96,8 +98,8 @@ held_is r q s c of_program of_listed made =
     ∙ ap (λ xs. held_text q.program q.listed (limited r.limit xs)) made
 
 pub held_count : (r : ListRequest) (q : Question) (s : Scans) (c : HeldCursor) (rows : ℕ) → c.rest ≡ held_causes q s → rows ≡ length (limited r.limit c.rest)
-    → held_line rows ≡ held_line (length (limited r.limit (held_causes q s)))
-held_count r q s c rows made h = ap held_line (h ∙ ap (λ xs. length (limited r.limit xs)) made)
+    → unless_quiet r.quiet (held_line rows) ≡ unless_quiet r.quiet (held_line (length (limited r.limit (held_causes q s))))
+held_count r q s c rows made h = ap (λ n. unless_quiet r.quiet (held_line n)) (h ∙ ap (λ xs. length (limited r.limit xs)) made)
 
 -- A fault before anything is asked.
 pub before_scans : (g : Given) (r : ListRequest) (s : Scans) (f : ToolFault) → HasSettingFault g f ⊎ HasNameFault g r f → HasHeldFault g r s f
@@ -124,10 +126,10 @@ groups_are r p q form asked same c of_program of_listed made =
 
 -- the line of rows and causes
 pub counts_are : (r : ListRequest) (q : Question) (c : GroupCursor) → rows_left c ≡ rows (is_cause q) (length q.listed) 0 → (many causes : ℕ)
-    → many ≡ length (limited r.limit (rows_left c)) → causes ≡ causes_in (limited r.limit (rows_left c)) → groups_line many causes ≡ counts_text r q
+    → many ≡ length (limited r.limit (rows_left c)) → causes ≡ causes_in (limited r.limit (rows_left c)) → unless_quiet r.quiet (groups_line many causes) ≡ counts_text r q
 counts_are r q c made many causes h l =
-    ap (λ n. groups_line n causes) (h ∙ ap (λ rs. length (limited r.limit rs)) made)
-    ∙ ap (groups_line (length (rows_for r q))) (l ∙ ap (λ rs. causes_in (limited r.limit rs)) made)
+    ap (λ n. unless_quiet r.quiet (groups_line n causes)) (h ∙ ap (λ rs. length (limited r.limit rs)) made)
+    ∙ ap (λ n. unless_quiet r.quiet (groups_line (length (rows_for r q)) n)) (l ∙ ap (λ rs. causes_in (limited r.limit rs)) made)
 
 -- ---- one scan that is shown
 
@@ -158,6 +160,18 @@ same_drawing g v p s now n coil listed given text inputs image style shown as_gi
     ap (λ t. one_scan t p s image now coil) same ∙ ap (λ xs. one_scan g.program p s xs now coil) values
     ∙ ap (λ t. one_scan g.program p s (assignment flags listed (unwrap_or v.number 0) s.held.values) t coil) at in
     subst (λ (x : OneScan). IsDrawn (style_for v.medium) x shown) scan (subst (λ (x : Style). IsDrawn x (one_scan text p s image now coil) shown) by drawn)
+
+-- A text that is written after another one.
+pub puts_next : {T E : Type 0} (a b c : WriteLog) (xs ys : List ℕ) (r : Result T E) → PutsAll a b xs → Puts b c r ys → Puts a c r (xs ++ ys)
+puts_next a b c xs ys (Ok x) p q = puts_more a b c xs ys p q
+puts_next a b c xs ys (Err x) p q = prefix_after a b c (xs ++ ys) xs ys [] (sym (append-nil (xs ++ ys))) p q
+
+-- A text that is cut off before another one.
+pub puts_cut : (a b : WriteLog) (xs ys : List ℕ) → PutsPrefix a b xs → PutsPrefix a b (xs ++ ys)
+puts_cut a b xs ys p = record {
+  bytes = (p.bytes.0, p.bytes.1 ++ ys, ap (λ t. t ++ ys) p.bytes.2 ∙ append_assoc p.bytes.0 p.bytes.1 ys, p.bytes.3);
+  calls = p.calls;
+}
 
 pub all_same : (a b : WriteLog) (xs ys : List ℕ) → xs ≡ ys → PutsAll a b xs → PutsAll a b ys
 all_same a b xs ys e h = rw e at h

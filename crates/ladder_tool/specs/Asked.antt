@@ -5,11 +5,11 @@ use Rattle.ladder_uses.specs.Uses.{uses_text}
 use Rattle.ladder_questions.specs.Causes.{Question, question}
 use Rattle.ladder_tool.specs.declared.asking.Asked.{Asked}
 use Rattle.ladder_tool.specs.declared.printing.About.{About}
-use Rattle.ladder_tool.specs.declared.printing.About.TheVariants.{Counts, Uses}
+use Rattle.ladder_tool.specs.declared.printing.About.TheVariants.{Check, Uses}
 use Rattle.ladder_tool.specs.Performs as performs
 
 abbrev pub about_text : About → Drawing → List ℕ
-about_text Counts = performs.check_line
+about_text (Check warns) = performs.check_text warns
 about_text Uses = uses_text
 
 abbrev pub question_of : Asked → Question

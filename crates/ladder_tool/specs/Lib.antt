@@ -1,5 +1,6 @@
 pub mod Asked
 pub mod FaultLine
+pub mod Explained
 pub mod Variables
 pub mod Setting
 pub mod Performs

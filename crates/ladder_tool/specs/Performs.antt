@@ -72,6 +72,10 @@ logs out save err = record { out = out; save = save; err = err }
 abbrev pub IsReported : Given → WriteLog → WriteLog → ToolFault → Type 0
 IsReported g old new f = PutsAll old new (report_of g.why g.program f) ⊎ PutsPrefix old new (report_of g.why g.program f)
 
+-- no text was read
+abbrev pub unread : Bool → Given
+unread why = record { program = []; state = None; stimulus = None; why = why }
+
 -- Status 1, by a fault that the texts and arguments have: nothing was written but what is said of it on `err`.
 pub record Refuses (g : Given) (Has : ToolFault → Type 0) (old new : Logs) : Type 0 where
   pub reason : ToolFault

@@ -3,15 +3,15 @@
 ghost use Rattle.std.specs.Prelude.{◌≡◌, ◌≤◌, ◌⊎◌, IfErr, IfOk, option_map, vec_items};
 ghost use Rattle.ladder_tool.specs.Files.{AreRead, AreUnread, AreWhole, IsUnread, IsWhole, StopsAt, files, largest};
 ghost use Rattle.ladder_text.specs.declared.fault.ReadFault.{ReadFault};
-ghost use Rattle.ladder_tool.specs.Performs.{IsDone, IsFailed, Refuses, logs};
+ghost use Rattle.ladder_tool.specs.Performs.{IsDone, IsFailed, Refuses, logs, unread};
 ghost use Rattle.ladder_tool.specs.Setting.{Given, given_by};
 
 use crate::fault::{TextKind, ToolFault};
 use crate::performing::perform;
-use crate::report::report;
+use crate::report::report_unread;
 use crate::texts::Texts;
 use ladder_text::{Sink, Source, read_text};
-use ladder_words::Request;
+use ladder_words::CommandLine;
 use std::alloc::Global;
 
 /// The largest program or state text, in bytes.
@@ -68,7 +68,12 @@ fn read_named<R: Source>(
 }
 
 /// Reads the texts of a request, up to the first that can't be read: the program, then the state, then the stimulus.
-fn read_texts<R: Source>(alloc: Global, readers: &mut Readers<R>) -> Result<Texts, ToolFault>
+fn read_texts<R: Source>(
+    alloc: Global,
+    why: bool,
+    readers: &mut Readers<R>,
+) -> Result<Texts, ToolFault>
+    ensures why { IfOk result (λ texts. texts.why ≡ why) }
     ensures read { IfOk result (λ texts. AreRead (files (R.log readers.old.program) (option_map R.log readers.old.state) (option_map R.log readers.old.stimulus)) (given_by texts)) }
     ensures fault { IfErr result (StopsAt (files (R.log readers.old.program) (option_map R.log readers.old.state) (option_map R.log readers.old.stimulus)) (files (R.log readers.new.program) (option_map R.log readers.new.state) (option_map R.log readers.new.stimulus))) }
 {
@@ -79,30 +84,31 @@ fn read_texts<R: Source>(alloc: Global, readers: &mut Readers<R>) -> Result<Text
         program,
         state,
         stimulus,
+        why,
     })
 }
 
-/// Reads the texts of a request and performs it on them, as `perform` does. A text that can't be read is a fault, whose line is on `err`.
+/// Reads the texts of the request of a command line and performs it on them, as `perform` does. A text that can't be read is a fault, whose line is on `err`.
 /// Returns the status: 0 where all was written, 1 where a fault stopped it.
 pub fn perform_files<R: Source, O: Sink, S: Sink, E: Sink>(
     alloc: Global,
-    request: &Request,
+    line: &CommandLine,
     readers: &mut Readers<R>,
     out: &mut O,
     save: &mut S,
     err: &mut E,
 ) -> u8
     ensures status { result ≤ 1 }
-    ensures done { result ≡ 0 → (g : Given)
+    ensures done { result ≡ 0 → (g : Given) × (g.why ≡ line.now.why)
         × AreRead (files (R.log readers.old.program) (option_map R.log readers.old.state) (option_map R.log readers.old.stimulus)) g
-        × IsDone request.now g (logs (O.log out.old) (S.log save.old) (E.log err.old)) (logs (O.log out.new) (S.log save.new) (E.log err.new)) }
-    ensures failed { result ≡ 1 → Refuses (StopsAt (files (R.log readers.old.program) (option_map R.log readers.old.state) (option_map R.log readers.old.stimulus)) (files (R.log readers.new.program) (option_map R.log readers.new.state) (option_map R.log readers.new.stimulus)))
+        × IsDone line.now.request g (logs (O.log out.old) (S.log save.old) (E.log err.old)) (logs (O.log out.new) (S.log save.new) (E.log err.new)) }
+    ensures failed { result ≡ 1 → Refuses (unread line.now.why) (StopsAt (files (R.log readers.old.program) (option_map R.log readers.old.state) (option_map R.log readers.old.stimulus)) (files (R.log readers.new.program) (option_map R.log readers.new.state) (option_map R.log readers.new.stimulus)))
         (logs (O.log out.old) (S.log save.old) (E.log err.old)) (logs (O.log out.new) (S.log save.new) (E.log err.new))
-        ⊎ ((g : Given) × AreRead (files (R.log readers.old.program) (option_map R.log readers.old.state) (option_map R.log readers.old.stimulus)) g
-        × IsFailed request.now g (logs (O.log out.old) (S.log save.old) (E.log err.old)) (logs (O.log out.new) (S.log save.new) (E.log err.new))) }
+        ⊎ ((g : Given) × (g.why ≡ line.now.why) × AreRead (files (R.log readers.old.program) (option_map R.log readers.old.state) (option_map R.log readers.old.stimulus)) g
+        × IsFailed line.now.request g (logs (O.log out.old) (S.log save.old) (E.log err.old)) (logs (O.log out.new) (S.log save.new) (E.log err.new))) }
 {
-    match read_texts(alloc, readers) {
-        Ok(texts) => perform(alloc, request, &texts, out, save, err),
-        Err(fault) => report(&fault, err),
+    match read_texts(alloc, line.why, readers) {
+        Ok(texts) => perform(alloc, &line.request, &texts, out, save, err),
+        Err(fault) => report_unread(line.why, &fault, err),
     }
 }

@@ -39,19 +39,19 @@ pub(crate) fn film<O: Sink, E: Sink>(
     ensures status { result ≤ 1 }
     ensures done { result ≡ 0 → IsFilmed (given_by texts.now) request.now (O.log out.old) (O.log out.new) × (E.log err.new ≡ E.log err.old) }
     ensures failed { (save : WriteLog) → result ≡ 1
-        → Refuses (HasFilmFault (given_by texts.now) request.now) (logs (O.log out.old) save (E.log err.old)) (logs (O.log out.new) save (E.log err.new))
+        → Refuses (given_by texts.now) (HasFilmFault (given_by texts.now) request.now) (logs (O.log out.old) save (E.log err.old)) (logs (O.log out.new) save (E.log err.new))
         ⊎ BreaksFilm (given_by texts.now) request.now (logs (O.log out.old) save (E.log err.old)) (logs (O.log out.new) save (E.log err.new)) }
 {
     let mut setting = match read_setting(alloc, texts) {
         Ok(setting) => setting,
-        Err(fault) => return report(&fault, err),
+        Err(fault) => return report(texts, &fault, err),
     };
     let asked = match shown_variables(alloc, setting.program.decls(), &request.coil, &[]) {
         Ok(asked) => asked,
-        Err(fault) => return report(&fault, err),
+        Err(fault) => return report(texts, &fault, err),
     };
     match coil_refusal(&setting.program, asked.coil) {
-        Some(fault) => return report(&ToolFault::Cause(fault), err),
+        Some(fault) => return report(texts, &ToolFault::Cause(fault), err),
         None => (),
     }
     let film = Film {
@@ -68,6 +68,6 @@ pub(crate) fn film<O: Sink, E: Sink>(
         out,
     ) {
         Ok(_) => 0,
-        Err(fault) => report(&ToolFault::Sim(fault), err),
+        Err(fault) => report(texts, &ToolFault::Sim(fault), err),
     }
 }

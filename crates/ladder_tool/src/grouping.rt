@@ -8,7 +8,7 @@ ghost use Rattle.ladder_causes.specs.GroupCursor.{rows_left};
 ghost use Rattle.ladder_questions.specs.Refusal.{reason, refusal};
 ghost use Rattle.ladder_text.specs.Log.{Puts, PutsAll, WriteLog};
 ghost use Rattle.ladder_tool.specs.Asked.{question_of};
-ghost use Rattle.ladder_tool.specs.Performs.{BreaksGroups, CountsGroups, HasListFault, Refuses, form_on, groups_line, logs, ordered};
+ghost use Rattle.ladder_tool.specs.Performs.{BreaksGroups, CountsGroups, HasListFault, Refuses, form_on, groups_line, logs, ordered, unless_quiet};
 ghost use Rattle.ladder_tool.specs.Setting.{given_by};
 
 use crate::asking::{Asked, read_question};
@@ -22,9 +22,12 @@ use ladder_text::{Piece, Sink, WriteFault, put_pieces};
 use ladder_words::{Form, Grouping, InputOrder, ListRequest};
 use std::alloc::Global;
 
-fn put_counts<E: Sink>(summary: GroupSummary, err: &mut E) -> Result<(), WriteFault>
-    ensures { Puts (E.log err.old) (E.log err.new) result (groups_line summary.rows summary.causes) }
+fn put_counts<E: Sink>(quiet: bool, summary: GroupSummary, err: &mut E) -> Result<(), WriteFault>
+    ensures { Puts (E.log err.old) (E.log err.new) result (unless_quiet quiet (groups_line summary.rows summary.causes)) }
 {
+    if quiet {
+        return Ok(());
+    }
     let pieces = [
         Piece::Text(b"rows "),
         Piece::Number(summary.rows),
@@ -79,22 +82,22 @@ pub(crate) fn list_groups<O: Sink, E: Sink>(
     ensures status { result ≤ 1 }
     ensures done { result ≡ 0 → CountsGroups (given_by texts.now) request.now how (O.log out.old) (O.log out.new) (PutsAll (E.log err.old) (E.log err.new)) }
     ensures failed { (save : WriteLog) → result ≡ 1
-        → Refuses (HasListFault (given_by texts.now) request.now None) (logs (O.log out.old) save (E.log err.old)) (logs (O.log out.new) save (E.log err.new))
+        → Refuses (given_by texts.now) (HasListFault (given_by texts.now) request.now None) (logs (O.log out.old) save (E.log err.old)) (logs (O.log out.new) save (E.log err.new))
         ⊎ BreaksGroups (given_by texts.now) request.now how (logs (O.log out.old) save (E.log err.old)) (logs (O.log out.new) save (E.log err.new)) }
 {
     let asked = match read_question(alloc, request, texts) {
         Ok(asked) => asked,
-        Err(fault) => return report(&fault, err),
+        Err(fault) => return report(texts, &fault, err),
     };
     let mut cursor = match cursor(alloc, &asked, how.order) {
         Ok(cursor) => cursor,
-        Err(fault) => return report(&ToolFault::Cause(fault), err),
+        Err(fault) => return report(texts, &ToolFault::Cause(fault), err),
     };
     let form = form_of(how.form, asked.coil);
     let Ok(summary) = write_groups(&mut cursor, form, request.limit, out) else {
-        return report(&ToolFault::Write, err);
+        return report(texts, &ToolFault::Write, err);
     };
-    let Ok(()) = put_counts(summary, err) else {
+    let Ok(()) = put_counts(request.quiet, summary, err) else {
         return 1;
     };
     0

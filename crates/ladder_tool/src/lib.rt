@@ -2,6 +2,7 @@
 #![tactic(auto)]
 
 mod asking;
+mod explaining;
 mod fault;
 mod files;
 mod filming;
@@ -20,6 +21,7 @@ mod texts;
 mod tracing;
 mod variables;
 
+pub use explaining::write_report;
 pub use fault::{TextKind, ToolFault, write_fault};
 pub use files::{Readers, perform_files};
 pub use performing::perform;

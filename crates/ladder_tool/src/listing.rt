@@ -2,7 +2,7 @@
 
 ghost use Rattle.std.specs.Prelude.{◌≡◌, ◌≤◌, ◌⊎◌};
 ghost use Rattle.ladder_text.specs.Log.{Puts, PutsAll, WriteLog};
-ghost use Rattle.ladder_tool.specs.Performs.{BreaksList, CountsList, HasListFault, Refuses, logs, rows_line};
+ghost use Rattle.ladder_tool.specs.Performs.{BreaksList, CountsList, HasListFault, Refuses, logs, rows_line, unless_quiet};
 ghost use Rattle.ladder_tool.specs.Setting.{given_by};
 
 use crate::asking::read_question;
@@ -15,9 +15,12 @@ use ladder_text::{Piece, Sink, WriteFault, put_pieces};
 use ladder_words::ListRequest;
 use std::alloc::Global;
 
-fn put_rows<E: Sink>(summary: Summary, err: &mut E) -> Result<(), WriteFault>
-    ensures { Puts (E.log err.old) (E.log err.new) result (rows_line summary.rows summary.looks) }
+fn put_rows<E: Sink>(quiet: bool, summary: Summary, err: &mut E) -> Result<(), WriteFault>
+    ensures { Puts (E.log err.old) (E.log err.new) result (unless_quiet quiet (rows_line summary.rows summary.looks)) }
 {
+    if quiet {
+        return Ok(());
+    }
     let pieces = [
         Piece::Text(b"rows "),
         Piece::Number(summary.rows),
@@ -40,12 +43,12 @@ pub(crate) fn list_causes<O: Sink, E: Sink>(
     ensures status { result ≤ 1 }
     ensures done { result ≡ 0 → CountsList (given_by texts.now) request.now after (O.log out.old) (O.log out.new) (PutsAll (E.log err.old) (E.log err.new)) }
     ensures failed { (save : WriteLog) → result ≡ 1
-        → Refuses (HasListFault (given_by texts.now) request.now after) (logs (O.log out.old) save (E.log err.old)) (logs (O.log out.new) save (E.log err.new))
+        → Refuses (given_by texts.now) (HasListFault (given_by texts.now) request.now after) (logs (O.log out.old) save (E.log err.old)) (logs (O.log out.new) save (E.log err.new))
         ⊎ BreaksList (given_by texts.now) request.now after (logs (O.log out.old) save (E.log err.old)) (logs (O.log out.new) save (E.log err.new)) }
 {
     let asked = match read_question(alloc, request, texts) {
         Ok(asked) => asked,
-        Err(fault) => return report(&fault, err),
+        Err(fault) => return report(texts, &fault, err),
     };
     let mut cursor = match Causes::new(
         alloc,
@@ -57,12 +60,12 @@ pub(crate) fn list_causes<O: Sink, E: Sink>(
         after,
     ) {
         Ok(cursor) => cursor,
-        Err(fault) => return report(&ToolFault::Cause(fault), err),
+        Err(fault) => return report(texts, &ToolFault::Cause(fault), err),
     };
     let Ok(summary) = write_causes(&mut cursor, request.limit, out) else {
-        return report(&ToolFault::Write, err);
+        return report(texts, &ToolFault::Write, err);
     };
-    let Ok(()) = put_rows(summary, err) else {
+    let Ok(()) = put_rows(request.quiet, summary, err) else {
         return 1;
     };
     0

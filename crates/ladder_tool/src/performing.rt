@@ -18,7 +18,7 @@ use ladder_words::Request;
 use std::alloc::Global;
 
 /// Performs a request on its texts: its text on `out`, the line of counts on `err`, and the state that is to be saved on `save`.
-/// Returns the status: 0 where all was written, 1 where a fault stopped it, whose line is on `err`.
+/// Returns the status: 0 where all was written, 1 where a fault stopped it, whose line is on `err`, explained where that is asked for.
 pub fn perform<O: Sink, S: Sink, E: Sink>(
     alloc: Global,
     request: &Request,
@@ -32,8 +32,11 @@ pub fn perform<O: Sink, S: Sink, E: Sink>(
     ensures failed { result ≡ 1 → IsFailed request.now (given_by texts.now) (logs (O.log out.old) (S.log save.old) (E.log err.old)) (logs (O.log out.new) (S.log save.new) (E.log err.new)) }
 {
     match request {
-        Request::Check { .. } => print(alloc, About::Counts, &texts.program, out, err),
-        Request::Uses { .. } => print(alloc, About::Uses, &texts.program, out, err),
+        Request::Check { warns, .. } => {
+            let about = About::Check { warns: *warns };
+            print(alloc, about, texts, out, err)
+        }
+        Request::Uses { .. } => print(alloc, About::Uses, texts, out, err),
         Request::Causes { list, after } => list_causes(alloc, list, *after, texts, out, err),
         Request::Held { list, scans, every } => {
             let scans = Scans {

@@ -1,23 +1,26 @@
 //! A request for a text about a program alone: its check or its cross-reference.
 
 ghost use Rattle.std.specs.Prelude.{◌≡◌, ◌≤◌, ◌⊎◌};
+ghost use Rattle.ladder_tool.specs.Setting.{given_by};
 ghost use Rattle.ladder_text.specs.Log.{Puts, PutsAll, PutsPrefix, WriteLog};
 ghost use Rattle.ladder_tool.specs.Setting.{HasProgramFault};
 ghost use Rattle.ladder_tool.specs.Asked.{about_text};
-ghost use Rattle.ladder_tool.specs.Performs.{Prints, Refuses, IsReported, check_line, logs};
+ghost use Rattle.ladder_tool.specs.Performs.{Prints, Refuses, IsReported, check_line, check_text, logs};
 
 use crate::fault::ToolFault;
 use crate::report::report;
+use crate::texts::Texts;
 use ladder_grid::{Program, read_program};
 use ladder_sim::write_uses;
 use ladder_text::{Piece, Sink, WriteFault, put_pieces};
+use ladder_warnings::write_warnings;
 use std::alloc::Global;
 
 /// Which text about a program.
 #[derive(Clone, Copy)]
 pub(crate) enum About {
-    /// How many rungs, variables and instances it has.
-    Counts,
+    /// How many rungs, variables and instances it has, and what it is warned of.
+    Check { warns: bool },
     /// Where each variable and each instance is drawn.
     Uses,
 }
@@ -38,11 +41,21 @@ fn put_counts<O: Sink>(program: &Program, out: &mut O) -> Result<(), WriteFault>
     put_pieces(out, pieces.as_slice())
 }
 
+fn put_check<O: Sink>(warns: bool, program: &Program, out: &mut O) -> Result<(), WriteFault>
+    ensures { Puts (O.log out.old) (O.log out.new) result (check_text warns program.now) }
+{
+    put_counts(program, out)?;
+    if warns {
+        write_warnings(program, out)?;
+    }
+    Ok(())
+}
+
 fn put_about<O: Sink>(about: About, program: &Program, out: &mut O) -> Result<(), WriteFault>
     ensures { Puts (O.log out.old) (O.log out.new) result (about_text about program.now) }
 {
     match about {
-        About::Counts => put_counts(program, out),
+        About::Check { warns } => put_check(warns, program, out),
         About::Uses => match write_uses(program, out) {
             Ok(_) => Ok(()),
             Err(fault) => Err(fault),
@@ -54,21 +67,21 @@ fn put_about<O: Sink>(about: About, program: &Program, out: &mut O) -> Result<()
 pub(crate) fn print<O: Sink, E: Sink>(
     alloc: Global,
     about: About,
-    text: &[u8],
+    texts: &Texts,
     out: &mut O,
     err: &mut E,
 ) -> u8
     ensures status { result ≤ 1 }
-    ensures done { result ≡ 0 → Prints (about_text about) text.now (PutsAll (O.log out.old) (O.log out.new)) × (E.log err.new ≡ E.log err.old) }
-    ensures failed { (save : WriteLog) → result ≡ 1 → Refuses (HasProgramFault text.now) (logs (O.log out.old) save (E.log err.old)) (logs (O.log out.new) save (E.log err.new))
-        ⊎ (Prints (about_text about) text.now (PutsPrefix (O.log out.old) (O.log out.new)) × IsReported (E.log err.old) (E.log err.new) ToolFault.Write) }
+    ensures done { result ≡ 0 → Prints (about_text about) (given_by texts.now).program (PutsAll (O.log out.old) (O.log out.new)) × (E.log err.new ≡ E.log err.old) }
+    ensures failed { (save : WriteLog) → result ≡ 1 → Refuses (given_by texts.now) (HasProgramFault (given_by texts.now).program) (logs (O.log out.old) save (E.log err.old)) (logs (O.log out.new) save (E.log err.new))
+        ⊎ (Prints (about_text about) (given_by texts.now).program (PutsPrefix (O.log out.old) (O.log out.new)) × IsReported (given_by texts.now) (E.log err.old) (E.log err.new) ToolFault.Write) }
 {
-    let program = match read_program(alloc, text) {
+    let program = match read_program(alloc, &texts.program) {
         Ok(program) => program,
-        Err(fault) => return report(&ToolFault::Grid(fault), err),
+        Err(fault) => return report(texts, &ToolFault::Grid(fault), err),
     };
     let Ok(()) = put_about(about, &program, out) else {
-        return report(&ToolFault::Write, err);
+        return report(texts, &ToolFault::Write, err);
     };
     0
 }

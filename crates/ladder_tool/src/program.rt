@@ -7,7 +7,7 @@ use crate::files::perform_files;
 use crate::opening::readers_of;
 use crate::saving::{SavedFile, followed};
 use ladder_text::{Writing, put};
-use ladder_words::{Request, SimRequest, WordFault, read_words};
+use ladder_words::{CommandLine, Request, SimRequest, WordFault, read_words};
 use std::alloc::{AllocError, Global};
 use std::fs::File;
 use std::io::Write;
@@ -19,7 +19,7 @@ pub fn run(rt: &HostRuntime, alloc: Global, words: Vec<String>) -> u8
     ensures { result ≤ 2 }
 {
     match read_words(alloc, words) {
-        Ok(request) => run_request(rt, alloc, &request),
+        Ok(line) => run_line(rt, alloc, &line),
         Err(WordFault::Help(text)) => show_help(rt, text.as_str()),
         Err(WordFault::Usage) => {
             report(rt, &ToolFault::Usage);
@@ -32,15 +32,15 @@ pub fn run(rt: &HostRuntime, alloc: Global, words: Vec<String>) -> u8
     }
 }
 
-/// Performs a request over its files and the standard streams.
-fn run_request(rt: &HostRuntime, alloc: Global, request: &Request) -> u8
+/// Performs the request of a command line over its files and the standard streams.
+fn run_line(rt: &HostRuntime, alloc: Global, line: &CommandLine) -> u8
     ensures { result ≤ 2 }
 {
     // A stream that is closed at the start must not become one of the files: these take its place, and refuse what is written.
     let _places = (no_file(rt), no_file(rt), no_file(rt));
-    match saving_of(request) {
-        Some((path, sim)) => run_saving(rt, alloc, request, sim, path),
-        None => run_with(rt, alloc, request, &mut Writing::new(io::sink())),
+    match saving_of(&line.request) {
+        Some((path, sim)) => run_saving(rt, alloc, line, sim, path),
+        None => run_with(rt, alloc, line, &mut Writing::new(io::sink())),
     }
 }
 
@@ -48,7 +48,7 @@ fn run_request(rt: &HostRuntime, alloc: Global, request: &Request) -> u8
 fn run_saving(
     rt: &HostRuntime,
     alloc: Global,
-    request: &Request,
+    line: &CommandLine,
     sim: &SimRequest,
     path: &str,
 ) -> u8
@@ -70,7 +70,7 @@ fn run_saving(
         }
     }
     let mut save = Writing::new(saved);
-    let status = run_with(rt, alloc, request, &mut save);
+    let status = run_with(rt, alloc, line, &mut save);
     end_saving(rt, &save.into_inner(), status)
 }
 
@@ -130,17 +130,17 @@ fn no_file(rt: &HostRuntime) -> io::Result<File> {
 fn run_with<W: Write>(
     rt: &HostRuntime,
     alloc: Global,
-    request: &Request,
+    line: &CommandLine,
     save: &mut Writing<W>,
 ) -> u8
 where
     W: Drop,
     ensures { result ≤ 1 }
 {
-    let mut readers = readers_of(rt, request);
+    let mut readers = readers_of(rt, &line.request);
     let mut out = Writing::new(io::writer(rt));
     let mut err = Writing::new(rt.stderr());
-    perform_files(alloc, request, &mut readers, &mut out, save, &mut err)
+    perform_files(alloc, line, &mut readers, &mut out, save, &mut err)
 }
 
 fn show_help(rt: &HostRuntime, text: &str) -> u8

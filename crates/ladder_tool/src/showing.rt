@@ -55,26 +55,26 @@ pub(crate) fn show<O: Sink, E: Sink>(
     ensures status { result ≤ 1 }
     ensures done { result ≡ 0 → Shows (given_by texts.now) request.now (PutsAll (O.log out.old) (O.log out.new)) × (E.log err.new ≡ E.log err.old) }
     ensures failed { (save : WriteLog) → result ≡ 1
-        → Refuses (HasShowFault (given_by texts.now) request.now) (logs (O.log out.old) save (E.log err.old)) (logs (O.log out.new) save (E.log err.new))
-        ⊎ (Shows (given_by texts.now) request.now (PutsPrefix (O.log out.old) (O.log out.new)) × IsReported (E.log err.old) (E.log err.new) ToolFault.Write) }
+        → Refuses (given_by texts.now) (HasShowFault (given_by texts.now) request.now) (logs (O.log out.old) save (E.log err.old)) (logs (O.log out.new) save (E.log err.new))
+        ⊎ (Shows (given_by texts.now) request.now (PutsPrefix (O.log out.old) (O.log out.new)) × IsReported (given_by texts.now) (E.log err.old) (E.log err.new) ToolFault.Write) }
 {
     let Setting { program, mut state } = match read_setting(alloc, texts) {
         Ok(setting) => setting,
-        Err(fault) => return report(&fault, err),
+        Err(fault) => return report(texts, &fault, err),
     };
     let asked = match shown_variables(alloc, program.decls(), &request.coil, &request.inputs) {
         Ok(asked) => asked,
-        Err(fault) => return report(&fault, err),
+        Err(fault) => return report(texts, &fault, err),
     };
     match coil_refusal(&program, asked.coil) {
-        Some(fault) => return report(&ToolFault::Cause(fault), err),
+        Some(fault) => return report(texts, &ToolFault::Cause(fault), err),
         None => (),
     }
     let now = moment(request.moment, state.moment());
     let number = request.number.unwrap_or(0);
     let inputs = match assignment(alloc, &program, &state, now, &asked.inputs, number) {
         Ok(inputs) => inputs,
-        Err(fault) => return report(&ToolFault::Cause(fault), err),
+        Err(fault) => return report(texts, &ToolFault::Cause(fault), err),
     };
     let scan = Scan {
         text: &texts.program,
@@ -85,7 +85,7 @@ pub(crate) fn show<O: Sink, E: Sink>(
     };
     match write_drawing(alloc, style_for(request.medium), scan, &mut state, out) {
         Ok(()) => 0,
-        Err(ShowFault::Memory) => report(&ToolFault::Memory, err),
-        Err(ShowFault::Write) => report(&ToolFault::Write, err),
+        Err(ShowFault::Memory) => report(texts, &ToolFault::Memory, err),
+        Err(ShowFault::Write) => report(texts, &ToolFault::Write, err),
     }
 }

@@ -57,12 +57,12 @@ pub(crate) fn trace<O: Sink, S: Sink, E: Sink>(
     ensures status { result ≤ 1 }
     ensures done { result ≡ 0 → IsTraced (given_by texts.now) saves (logs (O.log out.old) (S.log save.old) (E.log err.old)) (logs (O.log out.new) (S.log save.new) (E.log err.new)) }
     ensures failed { result ≡ 1
-        → Refuses (HasSettingFault (given_by texts.now)) (logs (O.log out.old) (S.log save.old) (E.log err.old)) (logs (O.log out.new) (S.log save.new) (E.log err.new))
+        → Refuses (given_by texts.now) (HasSettingFault (given_by texts.now)) (logs (O.log out.old) (S.log save.old) (E.log err.old)) (logs (O.log out.new) (S.log save.new) (E.log err.new))
         ⊎ BreaksTrace (given_by texts.now) saves (logs (O.log out.old) (S.log save.old) (E.log err.old)) (logs (O.log out.new) (S.log save.new) (E.log err.new)) }
 {
     let mut setting = match read_setting(alloc, texts) {
         Ok(setting) => setting,
-        Err(fault) => return report(&fault, err),
+        Err(fault) => return report(texts, &fault, err),
     };
     let run = simulate(
         alloc,
@@ -72,10 +72,10 @@ pub(crate) fn trace<O: Sink, S: Sink, E: Sink>(
         out,
     );
     if let Err(fault) = run {
-        return report(&ToolFault::Sim(fault), err);
+        return report(texts, &ToolFault::Sim(fault), err);
     }
     let Ok(()) = save_state(saves, &setting.program, &setting.state, save) else {
-        return report(&ToolFault::Write, err);
+        return report(texts, &ToolFault::Write, err);
     };
     0
 }

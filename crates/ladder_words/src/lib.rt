@@ -5,7 +5,7 @@ mod request;
 mod words;
 
 pub use request::{
-    CommandLine, FilmRequest, Form, Grouping, InputOrder, ListRequest, Medium, Request, ShowRequest,
-    SimRequest, WordFault,
+    CommandLine, FilmRequest, Form, Grouping, InputOrder, ListRequest, Medium, Request,
+    ShowRequest, SimRequest, WordFault,
 };
 pub use words::read_words;

@@ -8,8 +8,8 @@ ghost use Rattle.ladder_words.specs.Asking.{Asks, AsksBy, AsksNone, HasEvery, Ha
 ghost use Rattle.ladder_words.specs.Faults.{IsFaultOf, SaysOf, UsageWhere};
 
 use crate::request::{
-    CommandLine, FilmRequest, Form, Grouping, InputOrder, ListRequest, Medium, Request, ShowRequest,
-    SimRequest, WordFault,
+    CommandLine, FilmRequest, Form, Grouping, InputOrder, ListRequest, Medium, Request,
+    ShowRequest, SimRequest, WordFault,
 };
 use clap::ArgMatches;
 use clap::error::ErrorKind;

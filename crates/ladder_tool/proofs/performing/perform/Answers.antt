@@ -4,11 +4,11 @@ use Rattle.ladder_tool.proofs.performing.perform.Goals as goal
 
 pub returns-in-Check-clause-failed : goal.returns-in-Check-clause-failed
 returns-in-Check-clause-failed g c = λ status.
-    rw c.in-Check.is (with_second refl (rw c.deref.ensures.value at c.print.ensures.failed (g.S.Sink.log c.args.save.now) status))
+    rw c.in-Check.is (with_second refl (c.print.ensures.failed (g.S.Sink.log c.args.save.now) status))
 
 pub returns-in-Uses-clause-failed : goal.returns-in-Uses-clause-failed
 returns-in-Uses-clause-failed g c = λ status.
-    rw c.in-Uses.is (with_second refl (rw c.deref-in-Uses.ensures.value at c.print-in-Uses.ensures.failed (g.S.Sink.log c.args.save.now) status))
+    rw c.in-Uses.is (with_second refl (c.print-in-Uses.ensures.failed (g.S.Sink.log c.args.save.now) status))
 
 pub returns-in-Causes-clause-failed : goal.returns-in-Causes-clause-failed
 returns-in-Causes-clause-failed g c = λ status. rw c.in-Causes.is (with_third refl (c.list_causes.ensures.failed (g.S.Sink.log c.args.save.now) status))

@@ -1,0 +1,4 @@
+VAR
+  A AT %IX0 : BOOL
+  Y AT %QX0 : BOOL;
+END_VAR
