@@ -1,6 +1,6 @@
 -- The command line, as clap's definitions of a simple command read it: `ladder check [--warn] FILE`,
--- `ladder causes [--state STATE] [--at MS] [--after N] [--limit N] [--scans N] [--every MS] [--grouped] [--terms] [--st] [--order ORDER] [--quiet] FILE COIL [INPUT]...`,
--- `ladder show [--state STATE] [--at MS] [--number N] [--stimulus STIMULUS] [--html] [--coil COIL] FILE [INPUT]...`,
+-- `ladder causes [--state STATE] [--at MS] [--after N] [--limit N] [--scans N] [--every MS] [--grouped] [--terms] [--st] [--order ORDER] [--all-inputs] [--quiet] FILE COIL [INPUT]...`,
+-- `ladder show [--state STATE] [--at MS] [--number N] [--stimulus STIMULUS] [--html] [--coil COIL] [--all-inputs] FILE [INPUT]...`,
 -- `ladder sim [--state STATE] [--save STATE] FILE STIMULUS` and `ladder uses FILE`, each with `[--why]`.
 use Rattle.std.specs.Prelude.{◌≡◌, List, Some, [], ◌∷◌, codes, true, false}
 use Rattle.clap.specs.Simple.{new_shape}
@@ -44,13 +44,13 @@ abbrev pub causes_app : App
 causes_app = taking (codes "causes") (
     text_rule (codes "state") ∷ number_rule (codes "at") ∷ number_rule (codes "after") ∷ number_rule (codes "limit")
     ∷ number_rule (codes "scans") ∷ number_rule (codes "every") ∷ flag_rule (codes "grouped") ∷ flag_rule (codes "terms") ∷ flag_rule (codes "st") ∷ text_rule (codes "order")
-    ∷ flag_rule (codes "quiet") ∷ flag_rule (codes "why") ∷ place_rule (codes "file") ∷ place_rule (codes "coil") ∷ list_rule (codes "inputs") ∷ []
+    ∷ flag_rule (codes "all-inputs") ∷ flag_rule (codes "quiet") ∷ flag_rule (codes "why") ∷ place_rule (codes "file") ∷ place_rule (codes "coil") ∷ list_rule (codes "inputs") ∷ []
     )
 
 abbrev pub show_app : App
 show_app = taking (codes "show") (
     text_rule (codes "state") ∷ number_rule (codes "at") ∷ number_rule (codes "number") ∷ flag_rule (codes "html")
-    ∷ text_rule (codes "stimulus") ∷ text_rule (codes "coil") ∷ flag_rule (codes "why") ∷ place_rule (codes "file") ∷ list_rule (codes "inputs") ∷ []
+    ∷ text_rule (codes "stimulus") ∷ text_rule (codes "coil") ∷ flag_rule (codes "all-inputs") ∷ flag_rule (codes "why") ∷ place_rule (codes "file") ∷ list_rule (codes "inputs") ∷ []
     )
 
 abbrev pub sim_app : App

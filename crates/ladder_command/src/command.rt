@@ -6,7 +6,7 @@ ghost use Rattle.ladder_command.specs.CommandLine.{IsApp, ladder_app, taking};
 ghost use Rattle.ladder_command.specs.Table.{ladder_by, word_rule};
 
 use crate::help::{
-    AFTER_HELP, AT_HELP, CAUSES_ABOUT, CHECK_ABOUT, COIL_HELP, EVERY_HELP, EXPLAIN_HELP, FAULTS,
+    AFTER_HELP, ALL_HELP, AT_HELP, CAUSES_ABOUT, CHECK_ABOUT, COIL_HELP, EVERY_HELP, EXPLAIN_HELP, FAULTS,
     FILE_HELP, FILM_HELP, GROUPED_HELP, HTML_HELP, INPUTS_HELP, LADDER_ABOUT, LIMIT_HELP,
     NUMBER_HELP, ORDER_HELP, QUIET_HELP, SAVE_HELP, SCANS_HELP, SHOW_ABOUT, SHOWN_HELP, SIM_ABOUT,
     STATE_HELP, STATEMENT_HELP, STIMULUS_HELP, TERMS_HELP, USES_ABOUT, WARN_HELP, WHY_HELP,
@@ -57,6 +57,7 @@ const CAUSES: &[Word] = &[
     Word::Flag("terms", TERMS_HELP),
     Word::Flag("st", STATEMENT_HELP),
     Word::Text("order", "ORDER", ORDER_HELP),
+    Word::Flag("all-inputs", ALL_HELP),
     Word::Flag("quiet", QUIET_HELP),
     Word::Flag("why", EXPLAIN_HELP),
     Word::Place("file", "FILE", FILE_HELP),
@@ -71,6 +72,7 @@ const SHOW: &[Word] = &[
     Word::Flag("html", HTML_HELP),
     Word::Text("stimulus", "STIMULUS", FILM_HELP),
     Word::Text("coil", "COIL", WHY_HELP),
+    Word::Flag("all-inputs", ALL_HELP),
     Word::Flag("why", EXPLAIN_HELP),
     Word::Place("file", "FILE", FILE_HELP),
     Word::List("inputs", "INPUT", SHOWN_HELP),

@@ -35,6 +35,9 @@ pub(crate) const WARN_HELP: &str =
 pub(crate) const EXPLAIN_HELP: &str =
     "After the line of a fault: its rule in words, and the lines of the program where it shows";
 
+pub(crate) const ALL_HELP: &str =
+    "Lists all inputs, in order of declaration; not with an INPUT";
+
 pub(crate) const QUIET_HELP: &str = "Writes no line of counts on standard error; faults stay";
 
 pub(crate) const FILE_HELP: &str = "The program: declarations and rungs; at most 1048576 bytes";

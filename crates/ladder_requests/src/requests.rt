@@ -103,6 +103,7 @@ fn list(alloc: Global, file: String) -> Result<ListRequest, AllocError> {
         quiet: false,
         file,
         coil: String::from_str(alloc, "Motor")?,
+        all_inputs: false,
         inputs: listed(alloc)?,
     })
 }
@@ -135,6 +136,7 @@ pub(crate) fn request(alloc: Global, asked: Asked) -> Result<Request, AllocError
             medium: Medium::Text,
             coil: None,
             file,
+            all_inputs: false,
             inputs: listed(alloc)?,
         })),
         Asked::Saved | Asked::Back => {

@@ -38,11 +38,11 @@ use Rattle.ladder_tool.specs.Setting.{Given, HasSettingFault, IsSet}
 use Rattle.ladder_tool.specs.declared.fault.ToolFault.{ToolFault}
 use Rattle.ladder_words.specs.declared.request.ListRequest.{ListRequest}
 use Rattle.ladder_words.specs.declared.request.ShowRequest.{ShowRequest}
-use Rattle.ladder_tool.specs.Variables.{AreVariables, variable_of}
+use Rattle.ladder_tool.specs.Variables.{AreListed, variable_of}
 
 pub asked_by : (g : Given) (r : ListRequest) (p : Drawing) (s : Standing) (decls : Declared) (now var : ℕ) (coil : List ℕ) (inputs : List (List ℕ)) (listed : List ℕ)
     → IsSet g p s → decls ≡ p.decls → coil ≡ string_bytes r.coil → inputs ≡ map string_bytes r.inputs.items → now ≡ unwrap_or r.moment s.moment
-    → variable_of decls coil ≡ Some var → AreVariables decls inputs listed → IsAsked g r (question p s now var listed)
+    → variable_of decls coil ≡ Some var → AreListed decls r.all_inputs inputs listed → IsAsked g r (question p s now var listed)
 asked_by g r p s decls now var coil inputs listed set same named all at on among =
     record { set = set; at = at; on = rw (same, named) at on; among = rw (same, all) at among }
 

@@ -56,7 +56,7 @@ use Rattle.ladder_words.specs.declared.request.Request.TheVariants as request
 use Rattle.ladder_words.specs.declared.request.ShowRequest.{ShowRequest}
 use Rattle.ladder_tool.specs.Explained.{report_of}
 use Rattle.ladder_tool.specs.Setting.{Given, HasProgramFault, HasSettingFault, IsSet, stimulus_records}
-use Rattle.ladder_tool.specs.Variables.{AreVariables, IsUnknownWord, variable_of}
+use Rattle.ladder_tool.specs.Variables.{AreListed, IsUnknownWord, variable_of}
 
 -- ---- the three writers
 
@@ -108,7 +108,7 @@ pub record IsAsked (g : Given) (r : ListRequest) (q : Question) : Type 0 where
   pub set : IsSet g q.program q.state
   pub at : q.now ≡ unwrap_or r.moment q.state.moment
   pub on : variable_of q.program.decls (string_bytes r.coil) ≡ Some q.coil
-  pub among : AreVariables q.program.decls (map string_bytes r.inputs.items) q.listed
+  pub among : AreListed q.program.decls r.all_inputs (map string_bytes r.inputs.items) q.listed
 
 -- the causes that are listed, after a number where there is one
 abbrev pub causes_for : ListRequest → Option ℕ → Question → List ℕ
@@ -276,7 +276,7 @@ IsExplained decls name coil = option_map (variable_of decls) name ≡ option_map
 pub record IsViewed (g : Given) (r : ShowRequest) (p : Drawing) (s : Standing) (coil : Option ℕ) (listed : List ℕ) : Type 0 where
   pub set : IsSet g p s
   pub on : IsExplained p.decls (option_map string_bytes r.coil) coil
-  pub among : AreVariables p.decls (map string_bytes r.inputs.items) listed
+  pub among : AreListed p.decls r.all_inputs (map string_bytes r.inputs.items) listed
 
 -- The moment of the scan is the stored one where none is asked for.
 abbrev pub moment_of : ShowRequest → Standing → ℕ

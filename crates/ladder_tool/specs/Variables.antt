@@ -1,7 +1,8 @@
 -- The variables that the arguments COIL and INPUT.. name. An argument names a variable whatever its letter case.
-use Rattle.std.specs.Prelude.{◌≡◌, ℕ, ◌+◌, List, Option, Some, None, is_none, map, position, if◌then◌else◌}
+use Rattle.std.specs.Prelude.{◌≡◌, ℕ, ◌+◌, Bool, true, false, List, Option, Some, None, is_none, map, position, if◌then◌else◌}
 use Rattle.ladder_vars.specs.declared.decls.Symbol.TheVariants as symbol
-use Rattle.ladder_vars.specs.Decls.{Declared, find}
+use Rattle.ladder_vars.specs.Decls.{Declared, find, is_input}
+use Rattle.ladder_questions.specs.Assignment.{input_variables}
 use Rattle.ladder_vars.specs.Name.{is_name}
 
 -- the variable with this name, by its number in order of declaration
@@ -10,6 +11,11 @@ variable_of decls word = elim (if is_name word then find decls word else None) [
 
 abbrev pub AreVariables : Declared → List (List ℕ) → List ℕ → Type 0
 AreVariables decls words vars = map (variable_of decls) words ≡ map Some vars
+
+-- The listed inputs: those that are named, or all of them, in order of declaration.
+abbrev pub AreListed : Declared → Bool → List (List ℕ) → List ℕ → Type 0
+AreListed decls true words vars = vars ≡ input_variables (map is_input decls.vars)
+AreListed decls false words vars = AreVariables decls words vars
 
 -- The word of this number, counted from 1, is the first that names no variable.
 abbrev pub IsUnknownWord : Declared → List (List ℕ) → ℕ → Type 0

@@ -50,6 +50,7 @@ pub(crate) fn read_question(
         alloc,
         program.decls(),
         request.coil.as_str(),
+        request.all_inputs,
         &request.inputs,
     );
     match named {

@@ -46,7 +46,7 @@ pub(crate) fn film<O: Sink, E: Sink>(
         Ok(setting) => setting,
         Err(fault) => return report(texts, &fault, err),
     };
-    let asked = match shown_variables(alloc, setting.program.decls(), &request.coil, &[]) {
+    let asked = match shown_variables(alloc, setting.program.decls(), &request.coil, false, &[]) {
         Ok(asked) => asked,
         Err(fault) => return report(texts, &fault, err),
     };

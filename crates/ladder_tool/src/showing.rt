@@ -62,7 +62,13 @@ pub(crate) fn show<O: Sink, E: Sink>(
         Ok(setting) => setting,
         Err(fault) => return report(texts, &fault, err),
     };
-    let asked = match shown_variables(alloc, program.decls(), &request.coil, &request.inputs) {
+    let asked = match shown_variables(
+        alloc,
+        program.decls(),
+        &request.coil,
+        request.all_inputs,
+        &request.inputs,
+    ) {
         Ok(asked) => asked,
         Err(fault) => return report(texts, &fault, err),
     };

@@ -1,7 +1,9 @@
 //! The variables that arguments name.
 
 ghost use Rattle.std.specs.Prelude.{◌≡◌, ◌∷◌, ◌++◌, ◌+◌, ◌≤◌, IfOk, IfErr, List, Some, ℕ, length, map, option_map, string_bytes};
-ghost use Rattle.ladder_tool.specs.Variables.{AreVariables, variable_of};
+ghost use Rattle.ladder_tool.specs.Variables.{AreListed, AreVariables, variable_of};
+ghost use Rattle.ladder_vars.specs.Decls.{is_input};
+ghost use Rattle.ladder_questions.specs.Assignment.{input_variables};
 ghost use Rattle.ladder_tool.specs.Performs.{HasWordFault, names_in};
 
 use crate::fault::ToolFault;
@@ -35,21 +37,22 @@ fn variable(decls: &Decls, word: &str) -> Option<usize>
     }
 }
 
-/// The variables of all names: COIL is word 1, the first INPUT word 2.
+/// The variables of all names, and all inputs where they are asked for: COIL is word 1, the first INPUT word 2.
 pub(crate) fn asked_variables(
     alloc: Global,
     decls: &Decls,
     coil: &str,
+    all: bool,
     inputs: &[String],
 ) -> Result<CauseVariables, ToolFault>
     ensures coil { IfOk result (λ a. variable_of decls.now coil.now ≡ Some a.coil) }
-    ensures inputs { IfOk result (λ a. AreVariables decls.now (map string_bytes inputs.now) a.inputs.items) }
+    ensures inputs { IfOk result (λ a. AreListed decls.now all (map string_bytes inputs.now) a.inputs.items) }
     ensures fault { IfErr result (HasWordFault decls.now (coil.now ∷ map string_bytes inputs.now)) }
 {
     let Some(coil) = variable(decls, coil) else {
         return Err(ToolFault::Word { number: 1 });
     };
-    match named_variables(alloc, decls, inputs, 2) {
+    match listed_variables(alloc, decls, all, inputs, 2) {
         Ok(inputs) => Ok(CauseVariables { coil, inputs }),
         Err(fault) => Err(fault),
     }
@@ -60,25 +63,60 @@ pub(crate) fn shown_variables(
     alloc: Global,
     decls: &Decls,
     coil: &Option<String>,
+    all: bool,
     inputs: &[String],
 ) -> Result<ShownVariables, ToolFault>
     ensures coil { IfOk result (λ a. option_map (variable_of decls.now) (option_map string_bytes coil.now) ≡ option_map Some a.coil) }
-    ensures inputs { IfOk result (λ a. AreVariables decls.now (map string_bytes inputs.now) a.inputs.items) }
+    ensures inputs { IfOk result (λ a. AreListed decls.now all (map string_bytes inputs.now) a.inputs.items) }
     ensures fault { IfErr result (HasWordFault decls.now (names_in (option_map string_bytes coil.now) (map string_bytes inputs.now))) }
 {
     match coil {
-        Some(coil) => match asked_variables(alloc, decls, coil.as_str(), inputs) {
+        Some(coil) => match asked_variables(alloc, decls, coil.as_str(), all, inputs) {
             Ok(asked) => Ok(ShownVariables {
                 coil: Some(asked.coil),
                 inputs: asked.inputs,
             }),
             Err(fault) => Err(fault),
         },
-        None => match named_variables(alloc, decls, inputs, 1) {
+        None => match listed_variables(alloc, decls, all, inputs, 1) {
             Ok(inputs) => Ok(ShownVariables { coil: None, inputs }),
             Err(fault) => Err(fault),
         },
     }
+}
+
+/// All inputs where they are asked for, and otherwise those that the words name, as `named_variables` has them.
+fn listed_variables(
+    alloc: Global,
+    decls: &Decls,
+    all: bool,
+    words: &[String],
+    first: usize,
+) -> Result<Vec<usize>, ToolFault>
+    requires { first ≤ 2 }
+    ensures ok { IfOk result (λ v. AreListed decls.now all (map string_bytes words.now) v.items) }
+    ensures fault { (before : List (List ℕ)) (named : List ℕ) → AreVariables decls.now before named → length before + 1 ≡ first
+        → IfErr result (HasWordFault decls.now (before ++ map string_bytes words.now)) }
+{
+    if all {
+        return all_inputs(alloc, decls);
+    }
+    named_variables(alloc, decls, words, first)
+}
+
+/// All inputs, in order of declaration.
+fn all_inputs(alloc: Global, decls: &Decls) -> Result<Vec<usize>, ToolFault>
+    ensures ok { IfOk result (λ v. v.items ≡ input_variables (map is_input decls.now.vars)) }
+    ensures fault { IfErr result (λ f. f ≡ ToolFault.Memory) }
+{
+    let vars = decls.vars();
+    let mut inputs = Vec::new(alloc);
+    for number in 0..vars.len() {
+        if vars[number].is_input() && inputs.push(number).is_err() {
+            return Err(ToolFault::Memory);
+        }
+    }
+    Ok(inputs)
 }
 
 /// The variables that the words name, of which the first has this number; the words before it name variables.

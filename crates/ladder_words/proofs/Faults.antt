@@ -1,7 +1,7 @@
 -- Why the arguments ask for no request.
-use Rattle.std.proofs.Common.{◌≡◌, ◌∙◌, ℕ, List, Option, None, Some, ap, arith, codes, get_or, inl, inr, sym}
-use Rattle.clap.specs.Words.{Row, Text, first_of}
-use Rattle.ladder_words.specs.Asking.{AsksNone, HasEvery, HasForm, HasNumber, HasOrder, IsNamed, NamesList}
+use Rattle.std.proofs.Common.{◌≡◌, ◌∙◌, ℕ, Bool, true, false, List, [], Option, None, Some, ap, arith, codes, get_or, inl, inr, map, refl, string_bytes, sym, unwrap_or}
+use Rattle.clap.specs.Words.{Row, Text, all_of, first_of}
+use Rattle.ladder_words.specs.Asking.{AsksNone, HasEvery, HasForm, HasInputs, HasNumber, HasSwitch, HasOrder, IsNamed, NamesList}
 use Rattle.ladder_words.specs.Faults.{UsageWhere}
 use Rattle.ladder_words.specs.declared.request.Form.{Form}
 use Rattle.ladder_words.specs.declared.request.Form.TheVariants.{Table}
@@ -122,3 +122,30 @@ no_causes_of_period rows n some none (Show r) h = let other = h.0 in cc
 no_causes_of_period rows n some none (Film r) h = let other = h.0 in cc
 no_causes_of_period rows n some none (Sim r) h = let other = h.0 in cc
 no_causes_of_period rows n some none (Uses file) h = let other = h.0 in cc
+
+pub no_list_of_inputs : (rows : List Row) → ((all : Bool) (names : List Text) → HasInputs rows all names → ⊥) → (l : ListRequest) → NamesList rows l → ⊥
+no_list_of_inputs rows none l h = none l.all_inputs (map string_bytes l.inputs.items) h.6
+
+pub no_show_of_inputs : (rows : List Row) → ((all : Bool) (names : List Text) → HasInputs rows all names → ⊥) → AsksNone (codes "show") rows
+no_show_of_inputs rows none (Check file warns) h = let other = h.0 in cc
+no_show_of_inputs rows none (Causes list after) h = let other = h.0 in cc
+no_show_of_inputs rows none (Held list scans every) h = let other = h.0 in cc
+no_show_of_inputs rows none (Groups list grouping) h = let other = h.0 in cc
+no_show_of_inputs rows none (Show r) h = none r.all_inputs (map string_bytes r.inputs.items) h.8
+no_show_of_inputs rows none (Film r) h = none false [] h.4
+no_show_of_inputs rows none (Sim r) h = let other = h.0 in cc
+no_show_of_inputs rows none (Uses file) h = let other : 115 ≡ 117 = ap (λ (name : List ℕ). get_or name 0 0) h.0 in absurd (omega (arith, other))
+
+-- A flag is given or not.
+pub one_switch : (id : Text) (rows : List Row) (a b : Bool) → HasSwitch id rows a → HasSwitch id rows b → a ≡ b
+one_switch id rows true true h k = refl
+one_switch id rows true false h k = absurd (k h)
+one_switch id rows false true h k = absurd (h k)
+one_switch id rows false false h k = refl
+
+-- All inputs, and names besides, are listed by no request.
+pub no_inputs : (rows : List Row) (names : List Text) → HasSwitch (codes "all-inputs") rows true → unwrap_or (all_of (codes "inputs") rows) [] ≡ names
+    → (names ≡ [] → ⊥) → (all : Bool) (other : List Text) → HasInputs rows all other → ⊥
+no_inputs rows names flag named some all other h =
+    let same = one_switch (codes "all-inputs") rows true all flag h.flag in
+    some (sym named ∙ h.named ∙ h.either (sym same))

@@ -70,6 +70,12 @@ IsTable rows = (HasFlag (codes "grouped") rows → ⊥) × HasForm Table rows ×
 abbrev pub HasEvery : ℕ → List Row → Type 0
 HasEvery every rows = HasNumber (codes "every") rows (Some every) ⊎ (HasNumber (codes "every") rows None × (every ≡ EVERY))
 
+-- The listed inputs are named, or all are listed and none is named.
+pub record HasInputs (rows : List Row) (all : Bool) (names : List Text) : Type 0 where
+  pub flag : HasSwitch (codes "all-inputs") rows all
+  pub named : unwrap_or (all_of (codes "inputs") rows) [] ≡ names
+  pub either : all ≡ true → names ≡ []
+
 -- what a request for a list of causes names
 abbrev pub NamesList : List Row → ListRequest → Type 0
 NamesList rows l = HasOption (codes "state") rows (option_map string_bytes l.state)
@@ -78,7 +84,7 @@ NamesList rows l = HasOption (codes "state") rows (option_map string_bytes l.sta
     × HasSwitch (codes "quiet") rows l.quiet
     × HasText (codes "file") rows (string_bytes l.file)
     × HasText (codes "coil") rows (string_bytes l.coil)
-    × (unwrap_or (all_of (codes "inputs") rows) [] ≡ map string_bytes l.inputs.items)
+    × HasInputs rows l.all_inputs (map string_bytes l.inputs.items)
 
 -- the request is what the subcommand's name and values say
 abbrev pub Asks : Text → List Row → Request → Type 0
@@ -112,12 +118,12 @@ Asks name rows (Show r) = (name ≡ codes "show")
     × HasMedium r.medium rows
     × HasOption (codes "coil") rows (option_map string_bytes r.coil)
     × HasText (codes "file") rows (string_bytes r.file)
-    × (unwrap_or (all_of (codes "inputs") rows) [] ≡ map string_bytes r.inputs.items)
+    × HasInputs rows r.all_inputs (map string_bytes r.inputs.items)
 Asks name rows (Film r) = (name ≡ codes "show")
     × HasOption (codes "stimulus") rows (Some (string_bytes r.stimulus))
     × HasNumber (codes "at") rows None
     × HasNumber (codes "number") rows None
-    × (unwrap_or (all_of (codes "inputs") rows) [] ≡ [])
+    × HasInputs rows false []
     × HasOption (codes "state") rows (option_map string_bytes r.state)
     × HasMedium r.medium rows
     × HasOption (codes "coil") rows (option_map string_bytes r.coil)

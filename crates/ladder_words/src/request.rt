@@ -55,6 +55,8 @@ pub struct ListRequest {
     pub file: String,
     /// The name of the coil's variable.
     pub coil: String,
+    /// Whether all inputs are listed; otherwise they are named.
+    pub all_inputs: bool,
     /// The names of the listed inputs, the first one most significant.
     pub inputs: Vec<String>,
 }
@@ -74,6 +76,8 @@ pub struct ShowRequest {
     pub coil: Option<String>,
     /// The file of the program text.
     pub file: String,
+    /// Whether all inputs are listed; otherwise they are named.
+    pub all_inputs: bool,
     /// The names of the listed inputs, the first one most significant.
     pub inputs: Vec<String>,
 }

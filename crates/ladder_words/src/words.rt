@@ -1,10 +1,10 @@
 //! From the arguments of a command line to a request.
 
-ghost use Rattle.std.specs.Prelude.{◌≡◌, ℕ, [], true, false, codes, IfSome, IsSome, OnOk, IfOk, IfErr, map, option_map, string_bytes, unwrap_or, None, Option, Some};
-ghost use Rattle.clap.specs.Words.{all_of, first_of, found_of, kind_of, rows_of, subcommand_rows_of};
+ghost use Rattle.std.specs.Prelude.{◌≡◌, ℕ, Bool, List, [], true, false, codes, IfSome, IsSome, OnOk, IfOk, IfErr, map, option_map, string_bytes, unwrap_or, None, Option, Some};
+ghost use Rattle.clap.specs.Words.{Text, all_of, first_of, found_of, kind_of, rows_of, subcommand_rows_of};
 ghost use Rattle.clap.specs.Words.{fault_of as clap_fault};
 ghost use Rattle.ladder_command.specs.CommandLine.{ladder_app};
-ghost use Rattle.ladder_words.specs.Asking.{Asks, AsksBy, AsksNone, HasEvery, HasFlag, HasForm, HasMedium, HasNumber, HasOrder, HasOption, HasSwitch, IsNamed, IsTable, MayHaveLimit, NamesList, Says};
+ghost use Rattle.ladder_words.specs.Asking.{Asks, AsksBy, AsksNone, HasEvery, HasFlag, HasForm, HasInputs, HasMedium, HasNumber, HasOrder, HasOption, HasSwitch, IsNamed, IsTable, MayHaveLimit, NamesList, Says};
 ghost use Rattle.ladder_words.specs.Faults.{IsFaultOf, SaysOf, UsageWhere};
 
 use crate::request::{
@@ -200,6 +200,7 @@ fn list_of(
     ensures limit { IfOk result (λ l. l.limit ≡ limit) }
     ensures err { IfErr result (UsageWhere ((l : ListRequest) → NamesList (rows_of (found_of found.now)) l → ⊥)) }
 {
+    let listed = inputs_of(alloc, found)?;
     Ok(ListRequest {
         state: optional(alloc, found, "state")?,
         moment: number(found, "at")?,
@@ -207,8 +208,28 @@ fn list_of(
         quiet: is_set(found, "quiet"),
         file: text(alloc, found, "file")?,
         coil: text(alloc, found, "coil")?,
-        inputs: texts(alloc, found, "inputs")?,
+        all_inputs: listed.all,
+        inputs: listed.names,
     })
+}
+
+/// The inputs that are listed: all, or those of these names.
+#[derive(Drop)]
+struct InputNames {
+    all: bool,
+    names: Vec<String>,
+}
+
+fn inputs_of(alloc: Global, found: &ArgMatches<'_>) -> Result<InputNames, WordFault>
+    ensures ok { IfOk result (λ l. HasInputs (rows_of (found_of found.now)) l.all (map string_bytes l.names.items)) }
+    ensures err { IfErr result (UsageWhere ((all : Bool) (names : List Text) → HasInputs (rows_of (found_of found.now)) all names → ⊥)) }
+{
+    let all = is_set(found, "all-inputs");
+    let names = texts(alloc, found, "inputs")?;
+    if all && !names.is_empty() {
+        return Err(WordFault::Usage);
+    }
+    Ok(InputNames { all, names })
 }
 
 /// Whether a statement is to end after so many groups.
@@ -279,7 +300,7 @@ fn scan_request(alloc: Global, found: &ArgMatches<'_>) -> Result<Request, WordFa
     let medium = medium_of(found);
     let coil = optional(alloc, found, "coil")?;
     let file = text(alloc, found, "file")?;
-    let inputs = texts(alloc, found, "inputs")?;
+    let listed = inputs_of(alloc, found)?;
     Ok(Request::Show(ShowRequest {
         state,
         moment,
@@ -287,7 +308,8 @@ fn scan_request(alloc: Global, found: &ArgMatches<'_>) -> Result<Request, WordFa
         medium,
         coil,
         file,
-        inputs,
+        all_inputs: listed.all,
+        inputs: listed.names,
     }))
 }
 
@@ -300,9 +322,12 @@ fn film_request(
     ensures ok { IfOk result (Asks (codes "show") (rows_of (found_of found.now))) }
     ensures err { IfErr result (UsageWhere (AsksNone (codes "show") (rows_of (found_of found.now)))) }
 {
-    let inputs = texts(alloc, found, "inputs")?;
+    let listed = inputs_of(alloc, found)?;
     // Each record has its moment and its inputs.
-    if number(found, "at")?.is_some() || number(found, "number")?.is_some() || !inputs.is_empty() {
+    if number(found, "at")?.is_some() || number(found, "number")?.is_some() {
+        return Err(WordFault::Usage);
+    }
+    if listed.all || !listed.names.is_empty() {
         return Err(WordFault::Usage);
     }
     Ok(Request::Film(FilmRequest {
