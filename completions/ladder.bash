@@ -19,8 +19,8 @@ _ladder() {
         return
     fi
     case $subcommand in
-        causes) options='--state --at --after --limit --scans --every --grouped --terms --st --order --quiet --why --help' ;;
-        show) options='--state --at --number --html --stimulus --coil --why --help' ;;
+        causes) options='--state --at --after --limit --scans --every --grouped --terms --st --order --all-inputs --quiet --why --help' ;;
+        show) options='--state --at --number --html --stimulus --coil --all-inputs --why --help' ;;
         sim) options='--state --save --why --help' ;;
         check) options='--warn --why --help' ;;
         uses) options='--why --help' ;;

@@ -51,6 +51,7 @@ complete -c ladder -n '__ladder_at help 1' -a 'check causes show sim uses'
 
 complete -c ladder -n '__ladder_at check,causes,show,sim,uses more 0' -l why -d 'Faults are explained'
 complete -c ladder -n '__ladder_at check more 0' -l warn -d 'What is most likely not meant'
+complete -c ladder -n '__ladder_at causes,show more 0' -l all-inputs -d 'All inputs, in order of declaration'
 complete -c ladder -n '__ladder_at causes more 0' -l quiet -d 'No line of counts'
 complete -c ladder -n '__ladder_at causes,show,sim more 0' -l state -r -F -d 'The state to begin in'
 complete -c ladder -n '__ladder_at causes,show more 0' -l at -x -d 'The moment of the scan in ms'

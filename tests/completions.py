@@ -36,7 +36,7 @@ LINES = [
 def options(program, words):
     """The long options that help tells."""
     text = subprocess.run([program, *words, "--help"], stdout=subprocess.PIPE, check=True).stdout.decode()
-    return sorted(set(re.findall(r"^ +(?:-h, )?(--[a-z]+)", text, re.M)))
+    return sorted(set(re.findall(r"^ +(?:-h, )?(--[a-z-]+)", text, re.M)))
 
 
 def bash(words, word, folder, path):
@@ -59,7 +59,7 @@ def zsh_options(subcommand):
     """The long options that the file of zsh has for a subcommand."""
     text = (FOLDER / "_ladder").read_text("ascii")
     part = re.search(rf"^ +(?:[a-z]+ \| )*{subcommand}(?: \| [a-z]+)*\)(.*?);;", text, re.M | re.S)[1]
-    return sorted(set(re.findall(r"'(--[a-z]+)\[", part)) | ({"--help"} if "$help" in part else set()))
+    return sorted(set(re.findall(r"'(--[a-z-]+)\[", part)) | ({"--help"} if "$help" in part else set()))
 
 
 class Tally:

@@ -1,7 +1,7 @@
 -- The command line, as clap's definitions of a simple command read it: `ladder check [--warn] FILE`,
 -- `ladder causes [--state STATE] [--at MS] [--after N] [--limit N] [--scans N] [--every MS] [--grouped] [--terms] [--st] [--order ORDER] [--all-inputs] [--quiet] FILE COIL [INPUT]...`,
 -- `ladder show [--state STATE] [--at MS] [--number N] [--stimulus STIMULUS] [--html] [--coil COIL] [--all-inputs] FILE [INPUT]...`,
--- `ladder sim [--state STATE] [--save STATE] FILE STIMULUS` and `ladder uses FILE`, each with `[--why]`.
+-- `ladder sim [--state STATE] [--save STATE] [--vcd] FILE STIMULUS` and `ladder uses FILE`, each with `[--why]`.
 use Rattle.std.specs.Prelude.{◌≡◌, List, Some, [], ◌∷◌, codes, true, false}
 use Rattle.clap.specs.Simple.{new_shape}
 use Rattle.clap.specs.Words.{App, Rule, Text, app_of, new_rule}
@@ -55,7 +55,7 @@ show_app = taking (codes "show") (
 
 abbrev pub sim_app : App
 sim_app = taking (codes "sim") (
-    text_rule (codes "state") ∷ text_rule (codes "save") ∷ flag_rule (codes "why") ∷ place_rule (codes "file") ∷ place_rule (codes "stimulus") ∷ []
+    text_rule (codes "state") ∷ text_rule (codes "save") ∷ flag_rule (codes "vcd") ∷ flag_rule (codes "why") ∷ place_rule (codes "file") ∷ place_rule (codes "stimulus") ∷ []
     )
 
 -- the program, which needs a subcommand

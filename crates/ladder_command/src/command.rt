@@ -9,7 +9,8 @@ use crate::help::{
     AFTER_HELP, ALL_HELP, AT_HELP, CAUSES_ABOUT, CHECK_ABOUT, COIL_HELP, EVERY_HELP, EXPLAIN_HELP, FAULTS,
     FILE_HELP, FILM_HELP, GROUPED_HELP, HTML_HELP, INPUTS_HELP, LADDER_ABOUT, LIMIT_HELP,
     NUMBER_HELP, ORDER_HELP, QUIET_HELP, SAVE_HELP, SCANS_HELP, SHOW_ABOUT, SHOWN_HELP, SIM_ABOUT,
-    STATE_HELP, STATEMENT_HELP, STIMULUS_HELP, TERMS_HELP, USES_ABOUT, WARN_HELP, WHY_HELP,
+    STATE_HELP, STATEMENT_HELP, STIMULUS_HELP, TERMS_HELP, USES_ABOUT, WARN_HELP, WAVES_HELP,
+    WHY_HELP,
 };
 use clap::{Arg, ArgAction, Command, value_parser};
 use std::alloc::{AllocError, Global};
@@ -81,6 +82,7 @@ const SHOW: &[Word] = &[
 const SIM: &[Word] = &[
     Word::Text("state", "STATE", STATE_HELP),
     Word::Text("save", "STATE", SAVE_HELP),
+    Word::Flag("vcd", WAVES_HELP),
     Word::Flag("why", EXPLAIN_HELP),
     Word::Place("file", "FILE", FILE_HELP),
     Word::Place("stimulus", "STIMULUS", STIMULUS_HELP),

@@ -53,6 +53,9 @@ pub(crate) const STIMULUS_HELP: &str =
 pub(crate) const STATE_HELP: &str =
     "The state to begin in, as --save writes it; without it the fresh state";
 
+pub(crate) const WAVES_HELP: &str =
+    "Writes a waveform in place of the trace, a value change dump (IEEE 1364) of all variables and outputs of blocks, for GTKWave and the like; not with --save";
+
 pub(crate) const SAVE_HELP: &str = "The file that gets the state after the last scan";
 
 pub(crate) const AT_HELP: &str =

@@ -8,7 +8,7 @@ use Rattle.ladder_words.specs.declared.request.Form.TheVariants.{Table}
 use Rattle.ladder_words.specs.declared.request.InputOrder.{InputOrder}
 use Rattle.ladder_words.specs.declared.request.InputOrder.TheVariants.{Given}
 use Rattle.ladder_words.specs.declared.request.ListRequest.{ListRequest}
-use Rattle.ladder_words.specs.declared.request.Request.TheVariants.{Causes, Check, Film, Groups, Held, Show, Sim, Uses}
+use Rattle.ladder_words.specs.declared.request.Request.TheVariants.{Causes, Check, Film, Groups, Held, Show, Sim, Uses, Waves}
 use Rattle.ladder_words.specs.declared.request.WordFault.{WordFault}
 use Rattle.ladder_words.specs.declared.request.WordFault.TheVariants.{Help, Memory, Usage}
 
@@ -36,6 +36,7 @@ no_causes_of_form rows none (Groups list grouping) h = none grouping.form h.2
 no_causes_of_form rows none (Show r) h = let other = h.0 in cc
 no_causes_of_form rows none (Film r) h = let other = h.0 in cc
 no_causes_of_form rows none (Sim r) h = let other = h.0 in cc
+no_causes_of_form rows none (Waves r) h = let other = h.0 in cc
 no_causes_of_form rows none (Uses file) h = let other = h.0 in cc
 
 pub no_causes_of_order : (rows : List Row) → ((o : InputOrder) → HasOrder o rows → ⊥) → AsksNone (codes "causes") rows
@@ -46,6 +47,7 @@ no_causes_of_order rows none (Groups list grouping) h = none grouping.order h.3
 no_causes_of_order rows none (Show r) h = let other = h.0 in cc
 no_causes_of_order rows none (Film r) h = let other = h.0 in cc
 no_causes_of_order rows none (Sim r) h = let other = h.0 in cc
+no_causes_of_order rows none (Waves r) h = let other = h.0 in cc
 no_causes_of_order rows none (Uses file) h = let other = h.0 in cc
 
 pub no_causes_of_start : (rows : List Row) → ((o : Option ℕ) → HasNumber (codes "after") rows o → ⊥) → AsksNone (codes "causes") rows
@@ -56,6 +58,7 @@ no_causes_of_start rows none (Groups list grouping) h = none None h.6
 no_causes_of_start rows none (Show r) h = let other = h.0 in cc
 no_causes_of_start rows none (Film r) h = let other = h.0 in cc
 no_causes_of_start rows none (Sim r) h = let other = h.0 in cc
+no_causes_of_start rows none (Waves r) h = let other = h.0 in cc
 no_causes_of_start rows none (Uses file) h = let other = h.0 in cc
 
 pub no_show_of_moment : (rows : List Row) → ((o : Option ℕ) → HasNumber (codes "at") rows o → ⊥) → AsksNone (codes "show") rows
@@ -66,6 +69,7 @@ no_show_of_moment rows none (Groups list grouping) h = let other = h.0 in cc
 no_show_of_moment rows none (Show r) h = none r.moment h.3
 no_show_of_moment rows none (Film r) h = none None h.2
 no_show_of_moment rows none (Sim r) h = let other = h.0 in cc
+no_show_of_moment rows none (Waves r) h = let other = h.0 in cc
 no_show_of_moment rows none (Uses file) h = let other : 115 ≡ 117 = ap (λ (name : List ℕ). get_or name 0 0) h.0 in absurd (omega (arith, other))
 
 pub no_show_of_number : (rows : List Row) → ((o : Option ℕ) → HasNumber (codes "number") rows o → ⊥) → AsksNone (codes "show") rows
@@ -76,6 +80,7 @@ no_show_of_number rows none (Groups list grouping) h = let other = h.0 in cc
 no_show_of_number rows none (Show r) h = none r.number h.4
 no_show_of_number rows none (Film r) h = none None h.3
 no_show_of_number rows none (Sim r) h = let other = h.0 in cc
+no_show_of_number rows none (Waves r) h = let other = h.0 in cc
 no_show_of_number rows none (Uses file) h = let other : 115 ≡ 117 = ap (λ (name : List ℕ). get_or name 0 0) h.0 in absurd (omega (arith, other))
 
 pub no_causes_of_list : (rows : List Row) → ((l : ListRequest) → NamesList rows l → ⊥) → AsksNone (codes "causes") rows
@@ -86,6 +91,7 @@ no_causes_of_list rows none (Groups list grouping) h = none list h.8
 no_causes_of_list rows none (Show r) h = let other = h.0 in cc
 no_causes_of_list rows none (Film r) h = let other = h.0 in cc
 no_causes_of_list rows none (Sim r) h = let other = h.0 in cc
+no_causes_of_list rows none (Waves r) h = let other = h.0 in cc
 no_causes_of_list rows none (Uses file) h = let other = h.0 in cc
 
 pub no_causes_of_scans : (rows : List Row) → ((o : Option ℕ) → HasNumber (codes "scans") rows o → ⊥) → AsksNone (codes "causes") rows
@@ -96,6 +102,7 @@ no_causes_of_scans rows none (Groups list grouping) h = none None h.4
 no_causes_of_scans rows none (Show r) h = let other = h.0 in cc
 no_causes_of_scans rows none (Film r) h = let other = h.0 in cc
 no_causes_of_scans rows none (Sim r) h = let other = h.0 in cc
+no_causes_of_scans rows none (Waves r) h = let other = h.0 in cc
 no_causes_of_scans rows none (Uses file) h = let other = h.0 in cc
 
 pub no_every : (rows : List Row) → ((o : Option ℕ) → HasNumber (codes "every") rows o → ⊥) → (every : ℕ) → HasEvery every rows → ⊥
@@ -110,6 +117,7 @@ no_causes_of_every rows none (Groups list grouping) h = none None h.5
 no_causes_of_every rows none (Show r) h = let other = h.0 in cc
 no_causes_of_every rows none (Film r) h = let other = h.0 in cc
 no_causes_of_every rows none (Sim r) h = let other = h.0 in cc
+no_causes_of_every rows none (Waves r) h = let other = h.0 in cc
 no_causes_of_every rows none (Uses file) h = let other = h.0 in cc
 
 -- The period is asked for beside a number of scans alone.
@@ -121,6 +129,7 @@ no_causes_of_period rows n some none (Groups list grouping) h = let both = h.4 i
 no_causes_of_period rows n some none (Show r) h = let other = h.0 in cc
 no_causes_of_period rows n some none (Film r) h = let other = h.0 in cc
 no_causes_of_period rows n some none (Sim r) h = let other = h.0 in cc
+no_causes_of_period rows n some none (Waves r) h = let other = h.0 in cc
 no_causes_of_period rows n some none (Uses file) h = let other = h.0 in cc
 
 pub no_list_of_inputs : (rows : List Row) → ((all : Bool) (names : List Text) → HasInputs rows all names → ⊥) → (l : ListRequest) → NamesList rows l → ⊥
@@ -134,6 +143,7 @@ no_show_of_inputs rows none (Groups list grouping) h = let other = h.0 in cc
 no_show_of_inputs rows none (Show r) h = none r.all_inputs (map string_bytes r.inputs.items) h.8
 no_show_of_inputs rows none (Film r) h = none false [] h.4
 no_show_of_inputs rows none (Sim r) h = let other = h.0 in cc
+no_show_of_inputs rows none (Waves r) h = let other = h.0 in cc
 no_show_of_inputs rows none (Uses file) h = let other : 115 ≡ 117 = ap (λ (name : List ℕ). get_or name 0 0) h.0 in absurd (omega (arith, other))
 
 -- A flag is given or not.

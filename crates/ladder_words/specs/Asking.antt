@@ -12,7 +12,7 @@ use Rattle.ladder_words.specs.declared.request.Medium.TheVariants as medium
 use Rattle.ladder_words.specs.declared.request.CommandLine.{CommandLine}
 use Rattle.ladder_words.specs.declared.request.ListRequest.{ListRequest}
 use Rattle.ladder_words.specs.declared.request.Request.{Request}
-use Rattle.ladder_words.specs.declared.request.Request.TheVariants.{Causes, Check, Film, Groups, Held, Show, Sim, Uses}
+use Rattle.ladder_words.specs.declared.request.Request.TheVariants.{Causes, Check, Film, Groups, Held, Show, Sim, Uses, Waves}
 
 abbrev pub HasText : Text → List Row → List ℕ → Type 0
 HasText id rows text = first_of id rows ≡ Some text
@@ -129,8 +129,15 @@ Asks name rows (Film r) = (name ≡ codes "show")
     × HasOption (codes "coil") rows (option_map string_bytes r.coil)
     × HasText (codes "file") rows (string_bytes r.file)
 Asks name rows (Sim r) = (name ≡ codes "sim")
+    × (HasFlag (codes "vcd") rows → ⊥)
     × HasOption (codes "state") rows (option_map string_bytes r.state)
     × HasOption (codes "save") rows (option_map string_bytes r.save)
+    × HasText (codes "file") rows (string_bytes r.file)
+    × HasText (codes "stimulus") rows (string_bytes r.stimulus)
+Asks name rows (Waves r) = (name ≡ codes "sim")
+    × HasFlag (codes "vcd") rows
+    × HasOption (codes "save") rows None
+    × HasOption (codes "state") rows (option_map string_bytes r.state)
     × HasText (codes "file") rows (string_bytes r.file)
     × HasText (codes "stimulus") rows (string_bytes r.stimulus)
 Asks name rows (Uses file) = (name ≡ codes "uses") × HasText (codes "file") rows (string_bytes file)

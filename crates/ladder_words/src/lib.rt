@@ -6,6 +6,6 @@ mod words;
 
 pub use request::{
     CommandLine, FilmRequest, Form, Grouping, InputOrder, ListRequest, Medium, Request,
-    ShowRequest, SimRequest, WordFault,
+    ShowRequest, SimRequest, WavesRequest, WordFault,
 };
 pub use words::read_words;

@@ -110,6 +110,17 @@ pub struct SimRequest {
     pub stimulus: String,
 }
 
+/// What a request for the waveform of a stimulus names.
+#[derive(Drop)]
+pub struct WavesRequest {
+    /// The file of the state in which the first scan begins; the fresh one where there is none.
+    pub state: Option<String>,
+    /// The file of the program text.
+    pub file: String,
+    /// The file of the stimulus.
+    pub stimulus: String,
+}
+
 /// What the arguments ask for.
 #[derive(Drop)]
 pub enum Request {
@@ -146,6 +157,8 @@ pub enum Request {
     Film(FilmRequest),
     /// The trace of a stimulus: one scan for each of its records.
     Sim(SimRequest),
+    /// The waveform of a stimulus: what each of its scans changes.
+    Waves(WavesRequest),
     /// The cross-reference: where each variable and each instance is drawn.
     Uses {
         /// The file of the program text.

@@ -9,7 +9,7 @@ ghost use Rattle.ladder_words.specs.Faults.{IsFaultOf, SaysOf, UsageWhere};
 
 use crate::request::{
     CommandLine, FilmRequest, Form, Grouping, InputOrder, ListRequest, Medium, Request,
-    ShowRequest, SimRequest, WordFault,
+    ShowRequest, SimRequest, WavesRequest, WordFault,
 };
 use clap::ArgMatches;
 use clap::error::ErrorKind;
@@ -24,8 +24,8 @@ const EVERY: u64 = 10;
 /// # Errors
 ///
 /// `Usage` where `clap` finds a fault other than that help is asked for, where groups or a list over several scans are to begin after a
-/// number, where a time between scans is asked for without several scans, or several scans in groups, where a form or the order `auto` is asked for without groups, or both forms, or a statement with a limit, or an order that has another name, or a stimulus
-/// is to be shown with a moment, a number or listed inputs, and nowhere else; `Help` with its text where help is asked for; `Memory` when out of memory.
+/// number, where a time between scans is asked for without several scans, or several scans in groups, where a form or the order `auto` is asked for without groups, or both forms, or a statement with a limit, or an order that has another name, where
+/// inputs are named beside all of them, where a stimulus is to be shown with a moment, a number or listed inputs, or a waveform to be written with a saved state, and nowhere else; `Help` with its text where help is asked for; `Memory` when out of memory.
 pub fn read_words(alloc: Global, words: Vec<String>) -> Result<CommandLine, WordFault>
     ensures asks { IfOk result (AsksBy ladder_app (map string_bytes words.items)) }
 
@@ -351,6 +351,33 @@ fn medium_of(found: &ArgMatches<'_>) -> Medium
 }
 
 fn sim_request(alloc: Global, found: &ArgMatches<'_>) -> Result<Request, WordFault>
+    ensures ok { IfOk result (Asks (codes "sim") (rows_of (found_of found.now))) }
+    ensures err { IfErr result (UsageWhere (AsksNone (codes "sim") (rows_of (found_of found.now)))) }
+{
+    if is_set(found, "vcd") {
+        return waves_request(alloc, found);
+    }
+    trace_request(alloc, found)
+}
+
+fn waves_request(alloc: Global, found: &ArgMatches<'_>) -> Result<Request, WordFault>
+    requires { HasFlag (codes "vcd") (rows_of (found_of found.now)) }
+    ensures ok { IfOk result (Asks (codes "sim") (rows_of (found_of found.now))) }
+    ensures err { IfErr result (UsageWhere (AsksNone (codes "sim") (rows_of (found_of found.now)))) }
+{
+    // A state is saved beside a trace.
+    if optional(alloc, found, "save")?.is_some() {
+        return Err(WordFault::Usage);
+    }
+    Ok(Request::Waves(WavesRequest {
+        state: optional(alloc, found, "state")?,
+        file: text(alloc, found, "file")?,
+        stimulus: text(alloc, found, "stimulus")?,
+    }))
+}
+
+fn trace_request(alloc: Global, found: &ArgMatches<'_>) -> Result<Request, WordFault>
+    requires { HasFlag (codes "vcd") (rows_of (found_of found.now)) → ⊥ }
     ensures ok { IfOk result (Asks (codes "sim") (rows_of (found_of found.now))) }
     ensures err { IfErr result (UsageWhere (AsksNone (codes "sim") (rows_of (found_of found.now)))) }
 {

@@ -1,0 +1,7 @@
+VAR
+  M : BOOL;
+  Y AT %QX0 : BOOL;
+END_VAR
+
+|     M           Y
+|----|/|---------( )----
