@@ -17,5 +17,5 @@ pub use ladder_text::{
     Piece, ReadFailed, ReadFault, Reading, Sink, Source, Tally, WriteFailed, WriteFault, Writing,
     put, put_pieces, read_text,
 };
-pub use ladder_trace::{Film, SimFault, simulate, write_film};
+pub use ladder_trace::{Film, SimFault, simulate, write_film, write_waves};
 pub use ladder_uses::write_uses;

@@ -35,7 +35,7 @@ use Rattle.ladder_state.specs.StateText.{state_text}
 use Rattle.ladder_text.specs.Log.{PutsAll, PutsPrefix, WriteLog}
 use Rattle.ladder_trace.specs.declared.fault.SimFault.{SimFault}
 use Rattle.ladder_trace.specs.declared.recording.Film.{Film}
-use Rattle.ladder_trace.specs.Simulation.{Films, Simulates}
+use Rattle.ladder_trace.specs.Simulation.{Films, Simulates, Waves}
 use Rattle.ladder_records.specs.Text.{lines_text}
 use Rattle.ladder_uses.specs.Uses.{uses_text}
 use Rattle.ladder_warnings.specs.Warnings.{warning_rows}
@@ -346,6 +346,24 @@ BreaksTrace g saves old new =
     ⊎ ((scans : ℕ) × (saves ≡ true) × Traces g old.out new.out (Ok scans) (λ p s. PutsPrefix old.save new.save (state_text p s))
     × IsReported g old.err new.err fault.Write)
 
+-- ---- the waveform of a stimulus
+
+-- The stimulus was simulated from the state that is given, and what its scans change was written, with this result.
+pub record WritesWaves (g : Given) (out out' : WriteLog) (end : Result ℕ SimFault) : Type 0 where
+  pub program : Drawing
+  pub before : Standing
+  pub after : Standing
+  pub set : IsSet g program before
+  pub waves : Waves program before (stimulus_records g) after out out' end
+
+-- Status 0: the waveform of the whole stimulus was written.
+abbrev pub IsWaved : Given → WriteLog → WriteLog → Type 0
+IsWaved g out out' = (scans : ℕ) × WritesWaves g out out' (Ok scans)
+
+-- Status 1: a fault stopped the waveform.
+abbrev pub BreaksWaves : Given → Logs → Logs → Type 0
+BreaksWaves g old new = (reason : SimFault) × WritesWaves g old.out new.out (Err reason) × IsReported g old.err new.err (fault.Sim reason)
+
 -- ---- the film of a stimulus
 
 abbrev pub frame_for : Medium → Style
@@ -397,6 +415,7 @@ IsDone (Groups list grouping) g old new = CountsGroups g list grouping old.out n
 IsDone (Show r) g old new = Shows g r (PutsAll old.out new.out) × (new.save ≡ old.save) × (new.err ≡ old.err)
 IsDone (request.Film r) g old new = IsFilmed g r old.out new.out × (new.save ≡ old.save) × (new.err ≡ old.err)
 IsDone (Sim r) g old new = IsTraced g (is_some r.save) old new
+IsDone (request.Waves r) g old new = IsWaved g old.out new.out × (new.save ≡ old.save) × (new.err ≡ old.err)
 IsDone (Uses file) g old new = Prints uses_text g.program (PutsAll old.out new.out) × (new.save ≡ old.save) × (new.err ≡ old.err)
 
 -- the faults that the texts and arguments of a request can have
@@ -408,6 +427,7 @@ HasFault (Groups list grouping) g = HasListFault g list None
 HasFault (Show r) g = HasShowFault g r
 HasFault (request.Film r) g = HasFilmFault g r
 HasFault (Sim r) g = HasSettingFault g
+HasFault (request.Waves r) g = HasSettingFault g
 HasFault (Uses file) g = HasProgramFault g.program
 
 -- Status 1, by a fault while running.
@@ -420,6 +440,7 @@ Breaks (Groups list grouping) g old new = BreaksGroups g list grouping old new �
 Breaks (Show r) g old new = Shows g r (PutsPrefix old.out new.out) × (new.save ≡ old.save) × IsReported g old.err new.err fault.Write
 Breaks (request.Film r) g old new = BreaksFilm g r old new × (new.save ≡ old.save)
 Breaks (Sim r) g old new = BreaksTrace g (is_some r.save) old new
+Breaks (request.Waves r) g old new = BreaksWaves g old new × (new.save ≡ old.save)
 Breaks (Uses file) g old new =
     Prints uses_text g.program (PutsPrefix old.out new.out) × (new.save ≡ old.save) × IsReported g old.err new.err fault.Write
 

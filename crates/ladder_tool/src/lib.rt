@@ -20,6 +20,7 @@ mod showing;
 mod texts;
 mod tracing;
 mod variables;
+mod waving;
 
 pub use explaining::write_report;
 pub use fault::{TextKind, ToolFault, write_fault};

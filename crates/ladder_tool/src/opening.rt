@@ -73,6 +73,11 @@ pub(crate) fn readers_of<'a>(
             state: reading_named(rt, &film.state),
             stimulus: Some(reading(rt, film.stimulus.as_str())),
         },
+        Request::Waves(waves) => Readers {
+            program: reading(rt, waves.file.as_str()),
+            state: reading_named(rt, &waves.state),
+            stimulus: Some(reading(rt, waves.stimulus.as_str())),
+        },
         Request::Sim(sim) => Readers {
             program: reading(rt, sim.file.as_str()),
             state: reading_named(rt, &sim.state),

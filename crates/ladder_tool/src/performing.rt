@@ -12,6 +12,7 @@ use crate::printing::{About, print};
 use crate::showing::show;
 use crate::texts::Texts;
 use crate::tracing::trace;
+use crate::waving::wave;
 use ladder_held::Scans;
 use ladder_text::Sink;
 use ladder_words::Request;
@@ -48,6 +49,7 @@ pub fn perform<O: Sink, S: Sink, E: Sink>(
         Request::Groups { list, grouping } => list_groups(alloc, list, *grouping, texts, out, err),
         Request::Show(scan) => show(alloc, scan, texts, out, err),
         Request::Film(stimulus) => film(alloc, stimulus, texts, out, err),
+        Request::Waves(_) => wave(alloc, texts, out, err),
         Request::Sim(stimulus) => trace(alloc, texts, stimulus.save.is_some(), out, save, err),
     }
 }

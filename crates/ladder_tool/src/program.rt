@@ -118,6 +118,7 @@ fn saving_of(request: &Request) -> Option<(&str, &SimRequest)> {
         | Request::Groups { .. }
         | Request::Show(_)
         | Request::Film(_)
+        | Request::Waves(_)
         | Request::Uses { .. } => None,
     }
 }

@@ -53,11 +53,11 @@ unfolding Runs
 runs_more recording p columns s rows k text piece more t u r h here step = rw add-one (text, piece, t, h, refl, (r, rw (← add-one) here, step))
 
 pub going_none : (recording : Recording) (p : Drawing) (columns : List ℕ) (s : Standing) (rows : List Fields) (fields : Fields) (a b : WriteLog) (new : Reader (Bor (List ℕ)))
-    → slice_get rows 0 ≡ Some fields → IsHeader p.decls fields columns → PutsAll a b (head_text recording p) → Left new (drop 1 rows)
+    → slice_get rows 0 ≡ Some fields → IsHeader p.decls fields columns → PutsAll a b (head_text recording p s) → Left new (drop 1 rows)
     → IsGoing recording p columns s rows 0 s a b new
 unfolding Runs
 going_none recording p columns s rows fields a b new here header wrote left =
-    record { text = []; piece = head_text recording p; runs = ((fields, here, header), refl, refl, refl); wrote = wrote; left = left }
+    record { text = []; piece = head_text recording p s; runs = ((fields, here, header), refl, refl, refl); wrote = wrote; left = left }
 
 pub going_more : (recording : Recording) (p : Drawing) (columns : List ℕ) (s t u : Standing) (rows : List Fields) (found : Bool) (fields : Fields) (a b c : WriteLog) (number : ℕ) (old new : Reader (Bor (List ℕ)))
     → IsGoing recording p columns s rows number t a b old → found ≡ true → TakesFirst (drop (number + 1) rows) found fields new

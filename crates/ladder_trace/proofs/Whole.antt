@@ -28,7 +28,7 @@ bad_header recording p s (r ∷ rows) fields a (fault.MomentBack n) e h = absurd
 bad_header recording p s (r ∷ rows) fields a (fault.TooLong n) e h = absurd (h rows)
 
 pub cut_header : (recording : Recording) (p : Drawing) (s : Standing) (rows : List Fields) (fields : Fields) (columns : List ℕ) (a b : WriteLog) → slice_get rows 0 ≡ Some fields → IsHeader p.decls fields columns
-    → PutsPrefix a b (head_text recording p) → Follows recording p s rows s a b (Err fault.Write)
+    → PutsPrefix a b (head_text recording p s) → Follows recording p s rows s a b (Err fault.Write)
 unfolding Runs
 cut_header recording p s rows fields columns a b e h cut =
-    (0, record { columns = columns; text = []; piece = head_text recording p; runs = ((fields, e, h), refl, refl, refl); few = omega arith }, cut, omega arith)
+    (0, record { columns = columns; text = []; piece = head_text recording p s; runs = ((fields, e, h), refl, refl, refl); few = omega arith }, cut, omega arith)

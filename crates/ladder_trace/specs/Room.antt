@@ -4,11 +4,13 @@ use Rattle.std.specs.List.{count_by, list_all}
 use Rattle.ladder_vars.specs.Decls.{is_input}
 use Rattle.ladder_grid.specs.Program.{Drawing}
 use Rattle.ladder_records.specs.Left.{Fields}
+use Rattle.ladder_scan.specs.Standing.{Fits, Standing}
 
--- There is a place for each input, and the block is empty.
-pub record IsReady (p : Drawing) (image : List Bool) (waits : List ℕ) : Type 0 where
+-- There is a place for each input, the block is empty, and there is a place for the state before a scan.
+pub record IsReady (p : Drawing) (image : List Bool) (waits : List ℕ) (before : Standing) : Type 0 where
   pub room : length image ≡ count_by is_input p.decls.vars
   pub empty : waits ≡ []
+  pub fits : Fits p before
 
 -- The field is the word for the moment.
 abbrev pub is_moment : Option (List ℕ) → Bool

@@ -1,5 +1,5 @@
 -- How a simulation ends (the profile): with the course of the first records of a stimulus, and with what comes after them. It writes a
--- trace or a film.
+-- trace, a film or a waveform.
 -- Records are counted from 1 in a fault, the header included; a place in a list is counted from 0.
 use Rattle.std.specs.Prelude.{◌≡◌, ◌⊎◌, ◌++◌, ◌+◌, ◌<◌, ◌≤◌, ℕ, zero, suc, Bool, List, [], Contains, Option, None, Some, Result, Ok, Err, codes, length, slice_get, take}
 use Rattle.ladder_vars.specs.Decls.{Declared}
@@ -25,7 +25,7 @@ HasAt xs n P = (x : _) × (slice_get xs n ≡ Some x) × P x
 -- text and a last piece: what stands before the first scan, and then a piece for each record.
 unfoldable pub Runs : Recording → Drawing → List ℕ → Standing → List Fields → ℕ → List ℕ → List ℕ → Standing → Type 0
 Runs recording p columns s rows zero text piece t =
-    HasAt rows 0 (λ r. IsHeader p.decls r columns) × (text ≡ []) × (piece ≡ head_text recording p) × (t ≡ s)
+    HasAt rows 0 (λ r. IsHeader p.decls r columns) × (text ≡ []) × (piece ≡ head_text recording p s) × (t ≡ s)
 Runs recording p columns s rows (suc k) text piece t =
     (before last : List ℕ) × (u : Standing) × Runs recording p columns s rows k before last u × (text ≡ before ++ last)
     × HasAt rows (suc k) (λ r. IsStep recording p columns u r t piece)
@@ -34,6 +34,7 @@ Runs recording p columns s rows (suc k) text piece t =
 abbrev pub most : Recording → ℕ
 most recordings.Trace = 1000000
 most (recordings.Film film) = 1000
+most recordings.Waves = 1000000
 
 -- So the first k records lead from s to t, and they are not too many.
 pub record Course (recording : Recording) (p : Drawing) (s : Standing) (rows : List Fields) (k : ℕ) (t : Standing) : Type 0 where
@@ -107,3 +108,7 @@ Simulates = Follows recordings.Trace
 -- And with a film.
 abbrev pub Films : Film → Drawing → Standing → List Fields → Standing → WriteLog → WriteLog → Result ℕ SimFault → Type 0
 Films film = Follows (recordings.Film film)
+
+-- And with a waveform.
+abbrev pub Waves : Drawing → Standing → List Fields → Standing → WriteLog → WriteLog → Result ℕ SimFault → Type 0
+Waves = Follows recordings.Waves

@@ -19,6 +19,7 @@ use Rattle.ladder_trace.specs.Trace.{IsStep, Tells, scanned}
 abbrev pub CanRecord : Recording → Drawing → Type 0
 CanRecord recordings.Trace p = Unit {0}
 CanRecord (recordings.Film film) p = IsProgram film.text.now p
+CanRecord recordings.Waves p = Unit {0}
 
 -- One scan at a moment with these inputs leads from s to t, and the piece tells of it.
 pub record IsScan (recording : Recording) (p : Drawing) (s : Standing) (moment : ℕ) (inputs : List Bool) (t : Standing) (piece : List ℕ) : Type 0 where

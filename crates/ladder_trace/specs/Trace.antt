@@ -1,5 +1,5 @@
 -- What is written of a stimulus: one scan for each good record, and for the trace (the profile) a row with its moment and the output
--- image, for a film the drawing of the scan.
+-- image, for a film the drawing of the scan, for a waveform what the scan has changed.
 use Rattle.std.specs.Prelude.{◌≡◌, ◌∷◌, ◌≤◌, ℕ, List, Bool, true, false, codes, decimal, filter, map, zip}
 use Rattle.ladder_vars.specs.declared.decls.Var.{Var}
 use Rattle.ladder_vars.specs.declared.decls.VarKind.TheVariants as kind
@@ -11,6 +11,7 @@ use Rattle.ladder_scan.specs.Programs.{diagram_of}
 use Rattle.ladder_scan.specs.Scan.{after_scan}
 use Rattle.ladder_scan.specs.Standing.{Standing}
 use Rattle.ladder_show.specs.Showing.{IsDrawn, film_start, one_scan}
+use Rattle.ladder_waves.specs.Waves.{change_text, start_text}
 use Rattle.ladder_trace.specs.declared.recording.Recording.{Recording}
 use Rattle.ladder_trace.specs.declared.recording.Recording.TheVariants as recordings
 use Rattle.ladder_trace.specs.Stimulus.{IsRow, given_by}
@@ -36,15 +37,17 @@ trace_row p s = line_text (decimal s.moment ∷ map bit_text (values_of is_outpu
 abbrev pub scanned : Drawing → Standing → ℕ → List Bool → Standing
 scanned p s moment inputs = record { held = after_scan (diagram_of p) moment inputs s.held; kinds = s.kinds; moment = moment }
 
--- What stands before the first scan: the header of the trace, or the start of the film.
-abbrev pub head_text : Recording → Drawing → List ℕ
-head_text recordings.Trace p = trace_header p
-head_text (recordings.Film film) p = film_start film.style
+-- What stands before the first scan, which begins from this state: the header of the trace, the start of the film, or that of the waveform.
+abbrev pub head_text : Recording → Drawing → Standing → List ℕ
+head_text recordings.Trace p s = trace_header p
+head_text (recordings.Film film) p s = film_start film.style
+head_text recordings.Waves p s = start_text p s
 
--- The piece tells of a scan from a state, at a moment, with these inputs: it is the row of the state after it, or its drawing.
+-- The piece tells of a scan from a state, at a moment, with these inputs: it is the row of the state after it, its drawing, or its changes.
 abbrev pub Tells : Recording → Drawing → Standing → ℕ → List Bool → List ℕ → Type 0
 Tells recordings.Trace p s moment inputs piece = piece ≡ trace_row p (scanned p s moment inputs)
 Tells (recordings.Film film) p s moment inputs piece = IsDrawn film.style (one_scan film.text.now p s inputs moment film.coil) piece
+Tells recordings.Waves p s moment inputs piece = piece ≡ change_text p s (scanned p s moment inputs)
 
 -- A good record, the state after its scan, and a piece that tells of it. Inputs that the header does not name keep their values.
 pub record IsStep (recording : Recording) (p : Drawing) (columns : List ℕ) (s : Standing) (fields : Fields) (t : Standing) (piece : List ℕ) : Type 0 where

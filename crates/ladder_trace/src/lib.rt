@@ -1,4 +1,4 @@
-//! The simulation of a stimulus: its trace or a film of it, record by record.
+//! The simulation of a stimulus: its trace, a film or a waveform of it, record by record.
 #![tactic(auto)]
 
 mod fault;
@@ -10,4 +10,4 @@ mod trace;
 
 pub use fault::SimFault;
 pub use recording::Film;
-pub use simulation::{simulate, write_film};
+pub use simulation::{simulate, write_film, write_waves};

@@ -19,4 +19,6 @@ pub(crate) enum Recording<'a> {
     Trace,
     /// A drawing.
     Film(Film<'a>),
+    /// What it has changed.
+    Waves,
 }

@@ -9,7 +9,7 @@ ghost use Rattle.ladder_scan.specs.Standing.{Fits};
 ghost use Rattle.ladder_text.specs.Log.{Puts, WriteLog};
 ghost use Rattle.ladder_vars.specs.Decls.{is_input};
 ghost use Rattle.ladder_trace.specs.Room.{IsReady};
-ghost use Rattle.ladder_trace.specs.Simulation.{Films, Follows, Simulates, most};
+ghost use Rattle.ladder_trace.specs.Simulation.{Films, Follows, Simulates, Waves, most};
 ghost use Rattle.ladder_trace.specs.Steps.{CanRecord, IsGoing, ScansTo, StepsTo};
 ghost use Rattle.ladder_trace.specs.Trace.{head_text};
 
@@ -24,6 +24,7 @@ use ladder_records::{Records, next, read_from};
 use ladder_scan::{State, scan};
 use ladder_show::{Scan, ShowFault, write_drawing, write_film_start};
 use ladder_text::{Block, Sink, WriteFault};
+use ladder_waves::{write_changes, write_start};
 use std::alloc::Global;
 
 /// The most records after the header.
@@ -32,12 +33,14 @@ const MOST: u64 = 1_000_000;
 /// The most of a film.
 const MOST_DRAWN: u64 = 1_000;
 
-/// What a simulation allocates before its first write: a record, the input image, and the buffer for a row of the trace.
+/// What a simulation allocates before its first write: a record, the input image, the buffer for a row of the trace, and a state for
+/// what a waveform compares with.
 #[derive(Drop)]
 struct Room {
     row: ByteRecord,
     image: Vec<bool>,
     block: Block,
+    before: State,
 }
 
 /// A program, and what is written of its scans.
@@ -53,7 +56,7 @@ fn most(recording: Recording<'_>) -> u64
     ensures small { result ≤ 1000000 }
 {
     match recording {
-        Recording::Trace => MOST,
+        Recording::Trace | Recording::Waves => MOST,
         Recording::Film(_) => MOST_DRAWN,
     }
 }
@@ -62,16 +65,18 @@ fn most(recording: Recording<'_>) -> u64
 fn write_head<W: Sink>(
     recording: Recording<'_>,
     program: &Program,
+    state: &State,
     block: &mut Block,
     writer: &mut W,
 ) -> Result<(), WriteFault>
     requires { block.old ≡ [] }
-    ensures wrote { Puts (W.log writer.old) (W.log writer.new) result (head_text recording.entry program.now) }
+    ensures wrote { Puts (W.log writer.old) (W.log writer.new) result (head_text recording.entry program.now state.now) }
     ensures empty { OnOk result (block.new ≡ []) }
 {
     match recording {
         Recording::Trace => write_header(program, block, writer),
         Recording::Film(film) => write_film_start(film.style, writer),
+        Recording::Waves => write_start(program, state, block, writer),
     }
 }
 
@@ -85,9 +90,9 @@ fn trace_scan<W: Sink>(
     writer: &mut W,
 ) -> Result<(), SimFault>
     requires fits { Fits program.now state.old }
-    requires ready { IsReady program.now room.old.image.items room.old.block }
+    requires ready { IsReady program.now room.old.image.items room.old.block room.old.before }
     ensures fits { Fits program.now state.new }
-    ensures ready { OnOk result (IsReady program.now room.new.image.items room.new.block) }
+    ensures ready { OnOk result (IsReady program.now room.new.image.items room.new.block room.new.before) }
     ensures scans { ScansTo Recording.Trace program.now number state.old moment room.old.image.items state.new (W.log writer.old) (W.log writer.new) result }
 {
     let Ok(()) = scan(program, state, &room.image, moment) else {
@@ -131,6 +136,42 @@ fn draw_scan<W: Sink>(
     }
 }
 
+/// Keeps a state of the same program, without memory.
+fn keep(program: &Program, state: &State, before: &mut State)
+    requires fits { Fits program.now state.now }
+    requires room { Fits program.now before.old }
+    ensures { before.new ≡ state.now }
+{
+    state.checked();
+    before.checked();
+    before.copy_from(state);
+}
+
+/// A scan with the input image, and then the writing of what it has changed.
+fn wave_scan<W: Sink>(
+    run: Run<'_>,
+    moment: u64,
+    number: u64,
+    room: &mut Room,
+    state: &mut State,
+    writer: &mut W,
+) -> Result<(), SimFault>
+    requires fits { Fits run.program.now state.old }
+    requires ready { IsReady run.program.now room.old.image.items room.old.block room.old.before }
+    ensures fits { Fits run.entry.program.now state.new }
+    ensures ready { OnOk result (IsReady run.entry.program.now room.new.image.items room.new.block room.new.before) }
+    ensures scans { ScansTo Recording.Waves run.entry.program.now number state.old moment room.old.image.items state.new (W.log writer.old) (W.log writer.new) result }
+{
+    keep(run.program, state, &mut room.before);
+    let Ok(()) = scan(run.program, state, &room.image, moment) else {
+        return Err(SimFault::MomentBack { row: number });
+    };
+    let Ok(()) = write_changes(run.program, &room.before, state, &mut room.block, writer) else {
+        return Err(SimFault::Write);
+    };
+    Ok(())
+}
+
 /// One record: its scan, and the writing of what is recorded of it.
 fn step<W: Sink>(
     run: Run<'_>,
@@ -142,10 +183,10 @@ fn step<W: Sink>(
 ) -> Result<(), SimFault>
     requires recorded { CanRecord run.recording run.program.now }
     requires fits { Fits run.program.now state.old }
-    requires ready { IsReady run.program.now room.old.image.items room.old.block }
+    requires ready { IsReady run.program.now room.old.image.items room.old.block room.old.before }
     requires below { All (λ c. c < count_by is_input run.program.now.decls.vars) columns.now }
     ensures fits { Fits run.entry.program.now state.new }
-    ensures ready { OnOk result (IsReady run.entry.program.now room.new.image.items room.new.block) }
+    ensures ready { OnOk result (IsReady run.entry.program.now room.new.image.items room.new.block room.new.before) }
     ensures steps { StepsTo run.entry.recording run.entry.program.now columns.now number state.old (fields_of room.old.row) state.new (W.log writer.old) (W.log writer.new) result }
 {
     let Some(moment) = read_row(columns, &room.row) else {
@@ -157,6 +198,7 @@ fn step<W: Sink>(
     match run.recording {
         Recording::Trace => trace_scan(program, moment, number, room, state, writer),
         Recording::Film(film) => draw_scan(run, film, moment, number, &room.image, state, writer),
+        Recording::Waves => wave_scan(run, moment, number, room, state, writer),
     }
 }
 
@@ -172,7 +214,7 @@ fn follow_rows<W: Sink>(
     requires recorded { CanRecord run.recording run.program.now }
     requires plain { IsPlain records.old }
     requires fits { Fits run.program.now state.old }
-    requires ready { IsReady run.program.now room.old.image.items room.old.block }
+    requires ready { IsReady run.program.now room.old.image.items room.old.block room.old.before }
     requires below { All (λ c. c < count_by is_input run.program.now.decls.vars) columns.now }
     ensures fits { Fits run.entry.program.now state.new }
     ensures ends { (rows : List Fields) (log : WriteLog)
@@ -214,10 +256,14 @@ fn follow<W: Sink>(
     let Ok(image) = vec![in alloc; false; program.decls().inputs()] else {
         return Err(SimFault::Memory);
     };
+    let Ok(before) = state.copy(alloc) else {
+        return Err(SimFault::Memory);
+    };
     let mut room = Room {
         row: ByteRecord::new(alloc),
         image,
         block: Block::new(),
+        before,
     };
     let Ok(found) = next(&mut records, &mut room.row) else {
         return Err(SimFault::Memory);
@@ -229,7 +275,7 @@ fn follow<W: Sink>(
         Ok(columns) => columns,
         Err(fault) => return Err(fault),
     };
-    let Ok(()) = write_head(run.recording, program, &mut room.block, writer) else {
+    let Ok(()) = write_head(run.recording, program, state, &mut room.block, writer) else {
         return Err(SimFault::Write);
     };
     follow_rows(run, &columns, &mut records, &mut room, state, writer)
@@ -283,6 +329,31 @@ pub fn write_film<W: Sink>(
         alloc,
         program,
         recording: Recording::Film(film),
+    };
+    follow(run, state, stimulus, writer)
+}
+
+/// Scans a stimulus as `simulate` does, and writes a waveform: a value change dump of the variables and of the instances' outputs, for
+/// GTKWave and other viewers. Returns how many scans there were.
+///
+/// # Errors
+///
+/// As those of `simulate`.
+pub fn write_waves<W: Sink>(
+    alloc: Global,
+    program: &Program,
+    state: &mut State,
+    stimulus: &[u8],
+    writer: &mut W,
+) -> Result<u64, SimFault>
+    requires { Fits program.now state.old }
+    ensures fits { Fits program.now state.new }
+    ensures ends { Waves program.now state.old (records_of stimulus.now) state.new (W.log writer.old) (W.log writer.new) result }
+{
+    let run = Run {
+        alloc,
+        program,
+        recording: Recording::Waves,
     };
     follow(run, state, stimulus, writer)
 }

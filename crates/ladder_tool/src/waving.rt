@@ -1,0 +1,44 @@
+//! A request for the waveform of a stimulus.
+
+ghost use Rattle.std.specs.Prelude.{◌≡◌, ◌≤◌, ◌⊎◌};
+ghost use Rattle.ladder_text.specs.Log.{WriteLog};
+ghost use Rattle.ladder_tool.specs.Performs.{BreaksWaves, IsWaved, Refuses, logs};
+ghost use Rattle.ladder_tool.specs.Setting.{HasSettingFault, given_by};
+
+use crate::fault::ToolFault;
+use crate::report::report;
+use crate::setting::read_setting;
+use crate::texts::Texts;
+use crate::tracing::stimulus;
+use ladder_sim::write_waves;
+use ladder_text::Sink;
+use std::alloc::Global;
+
+/// Simulates the stimulus from the state of the texts, and writes what its scans change.
+pub(crate) fn wave<O: Sink, E: Sink>(
+    alloc: Global,
+    texts: &Texts,
+    out: &mut O,
+    err: &mut E,
+) -> u8
+    ensures status { result ≤ 1 }
+    ensures done { result ≡ 0 → IsWaved (given_by texts.now) (O.log out.old) (O.log out.new) × (E.log err.new ≡ E.log err.old) }
+    ensures failed { (save : WriteLog) → result ≡ 1
+        → Refuses (given_by texts.now) (HasSettingFault (given_by texts.now)) (logs (O.log out.old) save (E.log err.old)) (logs (O.log out.new) save (E.log err.new))
+        ⊎ BreaksWaves (given_by texts.now) (logs (O.log out.old) save (E.log err.old)) (logs (O.log out.new) save (E.log err.new)) }
+{
+    let mut setting = match read_setting(alloc, texts) {
+        Ok(setting) => setting,
+        Err(fault) => return report(texts, &fault, err),
+    };
+    match write_waves(
+        alloc,
+        &setting.program,
+        &mut setting.state,
+        stimulus(texts),
+        out,
+    ) {
+        Ok(_) => 0,
+        Err(fault) => report(texts, &ToolFault::Sim(fault), err),
+    }
+}

@@ -1,0 +1,3 @@
+pub mod Waves
+pub mod Lines
+pub mod Laws
