@@ -21,7 +21,7 @@ _ladder() {
     case $subcommand in
         causes) options='--state --at --after --limit --scans --every --grouped --terms --st --order --all-inputs --quiet --why --help' ;;
         show) options='--state --at --number --html --stimulus --coil --all-inputs --why --help' ;;
-        sim) options='--state --save --why --help' ;;
+        sim) options='--state --save --vcd --why --help' ;;
         check) options='--warn --why --help' ;;
         uses) options='--why --help' ;;
         help)
