@@ -1,5 +1,6 @@
 -- The waveform of a simulation as a value change dump (IEEE Std 1364-2005, clause 18): each variable, and the output of each instance, is a
--- wire of one bit. Both are numbered from 0 in order of declaration, and a moment is in milliseconds.
+-- wire of one bit. Both are numbered from 0 in order of declaration, and a moment is in milliseconds. Its syntax is that of 18.2.1, its
+-- keywords are those of 18.2.3.
 use Rattle.std.specs.Prelude.{◌++◌, ◌==◌, ℕ, Bool, true, false, not, if◌then◌else◌, List, [], codes, decimal, length, slice_get, slice_index_or, Some, None}
 use Rattle.ladder_vars.specs.declared.decls.Symbol.{Symbol}
 use Rattle.ladder_vars.specs.declared.decls.Symbol.TheVariants as symbol
@@ -21,7 +22,7 @@ abbrev pub value_of : Standing → Symbol → Bool
 value_of s (symbol.Var n) = slice_index_or s.held.values n false
 value_of s (symbol.Instance n) = q_of (slice_index_or s.held.kept.blocks n (new_block Ton))
 
--- The identifier code (18.2.1: printable characters): `v` or `i`, and the number.
+-- The identifier code (18.2.1, `identifier_code`: printable characters): `v` or `i`, and the number.
 abbrev pub code_of : Symbol → List ℕ
 code_of (symbol.Var n) = codes "v" ++ decimal n
 code_of (symbol.Instance n) = codes "i" ++ decimal n
@@ -40,37 +41,38 @@ for_each d line = each (λ n. line (symbol.Var n)) (length d.vars) ++ each (λ n
 
 -- ---- the declarations
 
--- A wire of one bit, its code and its name (18.2.3.8).
+-- A wire of one bit, its code and its name (18.2.3, `$var`).
 abbrev pub wire_line : Symbol → List ℕ → List ℕ
 wire_line x name = codes "$var wire 1 " ++ (code_of x ++ (codes " " ++ (name ++ codes " $end\n")))
 
--- the beginning of a scope (18.2.3.4)
+-- the beginning of a scope (18.2.3, `$scope`)
 abbrev pub scope_line : List ℕ → List ℕ
 scope_line name = codes "$scope module " ++ (name ++ codes " $end\n")
 
--- A name has no period, so an instance is a scope with its output in it, up to `$upscope` (18.2.3.6): a viewer shows that as `NAME.Q`.
+-- A name is an identifier, which has no period (18.2.3, `$var`), so an instance is a scope with its output in it, up to `$upscope` (18.2.3):
+-- a viewer shows that as `NAME.Q`.
 abbrev pub declaration : Declared → Symbol → List ℕ
 declaration d (symbol.Var n) = wire_line (symbol.Var n) (var_name d n)
 declaration d (symbol.Instance n) =
     scope_line (instance_name d n) ++ (wire_line (symbol.Instance n) (output_name d n) ++ codes "$upscope $end\n")
 
--- The unit of time (18.2.3.5), a scope around all, and the end of the declarations (18.2.3.3).
+-- The unit of time (18.2.3, `$timescale`), a scope around all, and the end of the declarations (18.2.3, `$enddefinitions`).
 abbrev pub declarations : Declared → List ℕ
 declarations d =
     codes "$timescale 1 ms $end\n$scope module ladder $end\n" ++ (for_each d (declaration d) ++ codes "$upscope $end\n$enddefinitions $end\n")
 
 -- ---- the values
 
--- A value, with the code right behind it (18.2.1).
+-- A value, with the code right behind it (18.2.1, `scalar_value_change`).
 abbrev pub value_line : Symbol → Bool → List ℕ
 value_line x true = codes "1" ++ (code_of x ++ codes "\n")
 value_line x false = codes "0" ++ (code_of x ++ codes "\n")
 
--- A moment (18.2.1), behind which the values are those from then on.
+-- A moment (18.2.1, `simulation_time`), behind which the values are those from then on.
 abbrev pub time_line : ℕ → List ℕ
 time_line moment = codes "#" ++ (decimal moment ++ codes "\n")
 
--- All values of a state at its moment (18.2.3.9).
+-- All values of a state at its moment (18.2.3, `$dumpvars`).
 abbrev pub dumped : Declared → Standing → List ℕ
 dumped d s = codes "$dumpvars\n" ++ (for_each d (λ x. value_line x (value_of s x)) ++ codes "$end\n")
 
