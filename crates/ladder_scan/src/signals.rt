@@ -10,7 +10,7 @@ ghost use Rattle.ladder_scan.specs.Scan.{given};
 use crate::inputs::give;
 use crate::memory::Memory;
 use crate::storage::Storage;
-use ladder_elements::{Operations, Stored};
+use ladder_elements::Operations;
 use ladder_grid::Operand;
 use ladder_vars::Decls;
 use std::alloc::Global;
@@ -48,8 +48,8 @@ impl<S: Operations> Signals<S> {
         requires { SameSizes self.old storage.now }
         ensures { self.new ≡ frame (map S.algebra.known storage.now.values) (map (λ b. S.algebra.known (q_of b)) storage.now.kept.blocks) }
     {
-        know_values(&storage.values, &mut self.values);
-        know_ends(&storage.blocks, &mut self.ends);
+        know_each(&storage.values, &mut self.values);
+        know_each(&storage.outputs, &mut self.ends);
     }
 
     /// Gives the input variables their signals, in order of declaration.
@@ -107,23 +107,13 @@ impl<S: Operations> Signals<S> {
     }
 }
 
-/// The stored values as signals.
-fn know_values<S: Operations>(stored: &[bool], values: &mut [S])
-    requires { length values.old ≡ length stored.now }
-    ensures { values.new ≡ map S.algebra.known stored.now }
+/// Stored values or Qs as signals.
+fn know_each<S: Operations>(stored: &[bool], signals: &mut [S])
+    requires { length signals.old ≡ length stored.now }
+    ensures { signals.new ≡ map S.algebra.known stored.now }
 {
     for number in 0..stored.len() {
-        values[number] = S::known(stored[number]);
-    }
-}
-
-/// The stored Qs as signals.
-fn know_ends<S: Operations>(blocks: &[Stored], ends: &mut [S])
-    requires { length ends.old ≡ length blocks.now }
-    ensures { ends.new ≡ map (λ b. S.algebra.known (q_of b)) blocks.now }
-{
-    for inst in 0..blocks.len() {
-        ends[inst] = S::known(blocks[inst].q());
+        signals[number] = S::known(stored[number]);
     }
 }
 
@@ -133,5 +123,5 @@ pub(crate) fn copy_start(storage: &Storage, start: &mut Signals<bool>)
     ensures { start.new ≡ frame_of storage.now }
 {
     start.values.copy_from_slice(&storage.values);
-    know_ends(&storage.blocks, &mut start.ends);
+    start.ends.copy_from_slice(&storage.outputs);
 }

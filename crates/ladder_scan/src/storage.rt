@@ -3,7 +3,7 @@
 ghost use Rattle.std.specs.Prelude.{◌≡◌, map, slice_index_or, slice_set, false, IfOk};
 ghost use Rattle.ladder_vars.specs.Decls.{is_input};
 ghost use Rattle.ladder_vars.specs.declared.kind.BlockKind.TheVariants.{Ton};
-ghost use Rattle.ladder_elements.specs.Blocks.{new_block};
+ghost use Rattle.ladder_elements.specs.Blocks.{new_block, q_of};
 ghost use Rattle.ladder_scan.specs.Cells.{memory_of, put_in};
 ghost use Rattle.ladder_scan.specs.Rung.{held, SameLengths, SameSizes};
 ghost use Rattle.ladder_scan.specs.Scan.{given};
@@ -24,14 +24,20 @@ pub struct Storage {
     pub(crate) values: Vec<bool>,
     pub(crate) memories: Vec<bool>,
     pub(crate) blocks: Vec<Stored>,
+    // the Q of each block, which contacts see from a rung's start on
+    pub(crate) outputs: Vec<bool>,
 }
 
 impl Model for Storage {
+    ghost use Rattle.std.specs.Prelude.{◌≡◌, map};
+    ghost use Rattle.ladder_elements.specs.Blocks.{q_of};
     ghost use Rattle.ladder_scan.specs.Rung.{Held, held};
 
     ghost Value = { Held };
 
     ghost view = { λ s. held s.values.items s.memories.items s.blocks.items };
+
+    ghost invariant = { λ s. s.outputs.items ≡ map q_of s.blocks.items };
 }
 
 fn initial_values(alloc: Global, vars: &[Var]) -> Result<Vec<bool>, AllocError>
@@ -49,16 +55,25 @@ fn new_blocks(alloc: Global, instances: &[Instance]) -> Result<Vec<Stored>, Allo
         .collect(alloc)
 }
 
+fn outputs(alloc: Global, blocks: &[Stored]) -> Result<Vec<bool>, AllocError>
+    ensures { IfOk result (λ v. v.items ≡ map q_of blocks.now) }
+{
+    blocks.iter().map(|stored| stored.q()).collect(alloc)
+}
+
 impl Storage {
     /// What is stored before the first scan.
     pub(crate) fn fresh(alloc: Global, program: &Program) -> Result<Storage, Memory>
         ensures { IfOk result (λ s. s ≡ (fresh program.now).held) }
     {
         let decls = program.decls();
+        let blocks = new_blocks(alloc, decls.instances())?;
+        let outputs = outputs(alloc, &blocks)?;
         Ok(Storage {
             values: initial_values(alloc, decls.vars())?,
             memories: vec![in alloc; false; program.memories()]?,
-            blocks: new_blocks(alloc, decls.instances())?,
+            blocks,
+            outputs,
         })
     }
 
@@ -69,6 +84,7 @@ impl Storage {
             values: Vec::from_slice(alloc, &self.values)?,
             memories: Vec::from_slice(alloc, &self.memories)?,
             blocks: Vec::from_slice(alloc, &self.blocks)?,
+            outputs: Vec::from_slice(alloc, &self.outputs)?,
         })
     }
 
@@ -80,6 +96,7 @@ impl Storage {
         self.values.copy_from_slice(&other.values);
         self.memories.copy_from_slice(&other.memories);
         self.blocks.copy_from_slice(&other.blocks);
+        self.outputs.copy_from_slice(&other.outputs);
     }
 
     /// A buffer for what contacts see.
@@ -183,6 +200,7 @@ impl Storage {
     {
         if inst < self.blocks.len() {
             self.blocks[inst] = stored;
+            self.outputs[inst] = stored.q();
         }
     }
 }
