@@ -1,1 +1,2 @@
 pub mod SeveralScans
+pub mod ScanByScan

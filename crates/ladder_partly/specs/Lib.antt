@@ -1,3 +1,4 @@
 pub mod Partly
 pub mod PartlyLaws
 pub mod SeveralLaws
+pub mod PartlyKept

@@ -1,0 +1,3 @@
+pub mod KeepsValues
+pub mod Sizes
+pub mod Evaluating

@@ -1,0 +1,139 @@
+//! One scan over what is known.
+
+ghost use Rattle.std.specs.Prelude.{◌≡◌, ◌<◌, ◌&&◌, if◌then◌else◌, nat_lt, true, false, length, All, IfOk};
+ghost use Rattle.ladder_grid.specs.declared.gates.TheConstants.{LINKS};
+ghost use Rattle.ladder_grid.specs.Gates.{leaps_below, left_of};
+ghost use Rattle.ladder_scan.specs.Programs.{diagram_of, IsSound};
+ghost use Rattle.ladder_scan.specs.Gating.{among};
+ghost use Rattle.ladder_look.specs.SignalScan.{guard_of, taken_by};
+ghost use Rattle.ladder_look.specs.Gating.{guard_by};
+ghost use Rattle.ladder_known.specs.KnownScan.{after_known, evaluated_in, link_in, passed};
+ghost use Rattle.ladder_glance.specs.Sizes.{AreAsLong, HasSizes, IsSpareFor, AreRoomy};
+
+use crate::effects::changes;
+use crate::gates::find_links;
+use crate::keep::Keep;
+use crate::knowledge::Knowledge;
+use crate::room::Room;
+use ladder_elements::{Operations, Signal};
+use ladder_grid::Program;
+use ladder_grid::gates::{LINKS, Leap};
+use ladder_scan::gates::link_at;
+use ladder_scan::scene::{Scene, checked};
+use ladder_scan::signals::Signals;
+
+/// The guard so far, AND NOT that the jump is taken, where it passes over the rung.
+fn under<S: Operations>(leap: Leap, taken: &[S], rung: usize, all: S) -> S
+    ensures { result ≡ (if nat_lt leap.rung rung && nat_lt rung leap.target
+        then S.algebra.meet all (S.algebra.inverse (among S.algebra taken.now leap.rung)) else all) }
+{
+    if leap.rung < rung && rung < leap.target {
+        all.and(link_at(taken, leap.rung).not())
+    } else {
+        all
+    }
+}
+
+/// The AND, over the earlier rungs with a jump past the rung, of NOT that this jump is taken.
+#[tactic(auto, using(ladder_look::proofs::Exits::guard_step))]
+fn guard_by<S: Operations>(leaps: &[Leap], taken: &[S], rung: usize) -> S
+    ensures { result ≡ guard_by S.algebra taken.now rung leaps.now (S.algebra.known true) }
+{
+    let mut all = S::known(true);
+    for leap in leaps {
+        all = under(*leap, taken, rung, all);
+    }
+    all
+}
+
+/// Whether the jump of a rung is taken, by its guard and its links.
+fn leaves<S: Operations>(program: &Program, rung: usize, guard: S, links: &[S]) -> S
+    requires { rung < program.now.rungs }
+    ensures { result ≡ taken_by S.algebra ((diagram_of program.now).jump rung) guard (λ place. among S.algebra links.now (left_of program.now rung place)) }
+{
+    match program.exit(rung) {
+        Some(exit) => guard.and(link_at(links, exit.left as usize)),
+        None => S::known(false),
+    }
+}
+
+/// Evaluates a rung under its guard, and returns whether its jump is taken.
+fn evaluate<S: Signal, B: Keep<S>>(
+    scene: Scene<'_>,
+    guard: S,
+    known: &mut Knowledge<S, B>,
+    start: &mut Signals<S>,
+    links: &mut [S],
+) -> S
+    requires rung { scene.rung < scene.program.now.rungs }
+    requires program { IsSound (diagram_of scene.program.now) }
+    requires start { AreRoomy start.old known.old }
+    requires links { length links.old ≡ LINKS }
+    ensures known { known.new ≡ evaluated_in S.algebra B.keeping (diagram_of scene.entry.program.now) scene.entry.now scene.entry.rung guard known.old }
+    ensures taken { result ≡ taken_by S.algebra ((diagram_of scene.entry.program.now).jump scene.entry.rung) guard
+        (link_in S.algebra B.keeping (diagram_of scene.entry.program.now) scene.entry.now scene.entry.rung known.old) }
+    ensures start { AreRoomy start.new known.new }
+    ensures lengths { AreAsLong known.new known.old }
+    ensures links { length links.new ≡ LINKS }
+{
+    known.begin(start);
+    find_links(scene, known, start, links);
+    let taken = leaves(scene.program, scene.rung, guard, links);
+    changes(scene, guard, start, links, known);
+    taken
+}
+
+/// Evaluates each rung, under the guard by the jumps before it.
+fn scan_rungs<S: Signal, B: Keep<S>>(
+    program: &Program,
+    now: u64,
+    known: &mut Knowledge<S, B>,
+    start: &mut Signals<S>,
+    links: &mut [S],
+    taken: &mut [S],
+)
+    requires program { IsSound (diagram_of program.now) }
+    requires start { AreRoomy start.old known.old }
+    requires links { length links.old ≡ LINKS }
+    requires taken { length taken.old ≡ program.now.rungs }
+    ensures known { known.new ≡ (passed S.algebra B.keeping (diagram_of program.now) now known.old program.now.rungs).known }
+    ensures start { AreRoomy start.new known.new }
+    ensures lengths { AreAsLong known.new known.old }
+    ensures links { length links.new ≡ LINKS }
+{
+    for rung in 0..program.rungs() {
+        let guard = guard_by(program.leaps(), taken, rung);
+        let scene = Scene { program, now, rung };
+        taken[rung] = evaluate(scene, guard, known, start, links);
+    }
+}
+
+/// One scan at the moment `now`, in milliseconds, over what is known: the input variables take the given signals, in order of
+/// declaration, and each rung is evaluated under the guard by the jumps before it.
+///
+/// It needs no memory.
+pub fn scan_known<S: Signal, B: Keep<S>>(
+    program: &Program,
+    known: &mut Knowledge<S, B>,
+    inputs: &[S],
+    now: u64,
+    room: &mut Room<S>,
+)
+    requires known { HasSizes program.now known.old }
+    requires room { IsSpareFor program.now room.old }
+    requires inputs { All S.value inputs.now }
+    ensures known { known.new ≡ after_known S.algebra B.keeping (diagram_of program.now) now inputs.now known.old }
+    ensures sizes { HasSizes program.now known.new }
+    ensures room { room.new ≡ room.old }
+{
+    checked(program);
+    known.give(program.decls(), inputs);
+    scan_rungs(
+        program,
+        now,
+        known,
+        &mut room.start,
+        &mut room.links,
+        &mut room.taken,
+    );
+}

@@ -1,0 +1,14 @@
+use Rattle.std.proofs.Common.{◌≡◌, None}
+use Rattle.ladder_scan.specs.Programs.{diagram_of}
+use Rattle.ladder_glance.specs.Sizes.{HasSizes}
+use Rattle.ladder_held.specs.Holding.{moment_of}
+use Rattle.ladder_partly.specs.SeveralLaws.{first_open, partly_after}
+use Rattle.ladder_partly.proofs.opening.first_open.Given as goal
+
+abbrev pub invariant-loop-done : goal.invariant-loop-done
+invariant-loop-done l = record {
+  known : l.known ≡ partly_after (diagram_of l.program) (moment_of l.first l.scans) l.inputs l.done l.state.held;
+  sizes : HasSizes l.program l.known;
+  room : l.room ≡ l.fn.room;
+  none : first_open (diagram_of l.program) (moment_of l.first l.scans) l.inputs l.state.held l.coil l.done ≡ None;
+}

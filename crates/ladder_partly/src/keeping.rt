@@ -1,0 +1,43 @@
+//! An instance is kept over three values by what is known of it.
+
+ghost use Rattle.ladder_partly.specs.Partly.{partly};
+ghost use Rattle.ladder_partly.specs.PartlyKept.{AnyPartly, partly_keeps_values};
+
+use crate::partly::Partly;
+use crate::stepping::{merged, step_partly};
+use ladder_elements::{Operations, Stored};
+use ladder_glance::Keep;
+use ladder_signals::Tri;
+use ladder_vars::BlockKind;
+
+impl Keep<Tri> for Partly {
+    ghost keeping = { partly };
+
+    ghost kept = { AnyPartly };
+
+    ghost keeps = { partly_keeps_values };
+
+    fn stored(stored: Stored) -> Partly {
+        Partly::Exactly(stored)
+    }
+
+    fn q(self) -> Tri {
+        match self {
+            Partly::Exactly(stored) => Tri::known(stored.q()),
+            Partly::SomeTimer(q) | Partly::SomeCounter(q) | Partly::SomeBistable(q) => q,
+            Partly::Anything => Tri::Unsure,
+        }
+    }
+
+    fn step(self, kind: BlockKind, preset: u32, first: Tri, second: Tri, now: u64) -> Partly {
+        step_partly(kind, preset, self, first, second, now)
+    }
+
+    fn choose(condition: Tri, on: Partly, off: Partly) -> Partly {
+        match condition {
+            Tri::On => on,
+            Tri::Off => off,
+            Tri::Unsure => merged(on, off),
+        }
+    }
+}

@@ -1,0 +1,85 @@
+//! The first of several scans after which a variable isn't known to be OFF.
+
+ghost use Rattle.std.specs.Prelude.{◌≡◌, false, option_map, IfSome};
+ghost use Rattle.ladder_scan.specs.Programs.{diagram_of};
+ghost use Rattle.ladder_scan.specs.Standing.{Fits};
+ghost use Rattle.ladder_glance.specs.Sizes.{HasSizes, IsSpareFor};
+ghost use Rattle.ladder_held.specs.Holding.{are_no_scans, moment_of};
+ghost use Rattle.ladder_known.specs.KnownScan.{all_known};
+ghost use Rattle.ladder_signals.specs.Three.{three};
+ghost use Rattle.ladder_partly.specs.Partly.{partly};
+ghost use Rattle.ladder_partly.specs.SeveralLaws.{first_open, is_not_off, known_after};
+
+use crate::partly::Partly;
+use ladder_glance::{Knowledge, Room, scan_known};
+use ladder_grid::Program;
+use ladder_held::Scans;
+use ladder_scan::State;
+use ladder_signals::Tri;
+
+/// A scan, counted from 1, after which a variable isn't known to be OFF, and what is known of it then: ON or open.
+#[derive(Clone, Copy, Debug, PartialEq, Eq)]
+pub struct Opening {
+    pub scan: u64,
+    pub value: Tri,
+}
+
+fn is_not_off(value: Tri) -> bool
+    ensures { result ≡ is_not_off value }
+{
+    match value {
+        Tri::Off => false,
+        Tri::On | Tri::Unsure => true,
+    }
+}
+
+/// Becomes what the state stores.
+fn begin(program: &Program, state: &State, known: &mut Knowledge<Tri, Partly>)
+    requires state { Fits program.now state.now }
+    requires known { HasSizes program.now known.old }
+    ensures known { known.new ≡ all_known three partly state.now.held }
+    ensures sizes { HasSizes program.now known.new }
+{
+    state.checked();
+    known.know(state);
+}
+
+/// Makes scans over three values, from the state on, each with these inputs, and ends with the first after which the variable isn't
+/// known to be OFF. `known` is written over.
+///
+/// Where there is none, no scan switches the variable on for any completion of the inputs; where it is known to be ON, this is the first
+/// scan that does for each completion (`laws::several`).
+pub fn first_open(
+    program: &Program,
+    state: &State,
+    inputs: &[Tri],
+    first: u64,
+    scans: Scans,
+    coil: usize,
+    known: &mut Knowledge<Tri, Partly>,
+    room: &mut Room<Tri>,
+) -> Option<Opening>
+    requires state { Fits program.now state.now }
+    requires scans { are_no_scans first scans ≡ false }
+    requires known { HasSizes program.now known.old }
+    requires room { IsSpareFor program.now room.old }
+    ensures scan { option_map (λ o. o.scan) result
+        ≡ first_open (diagram_of program.now) (moment_of first scans) inputs.now state.now.held coil scans.count }
+    ensures value { IfSome result (λ o. o.value ≡ known_after (diagram_of program.now) (moment_of first scans) inputs.now state.now.held coil o.scan) }
+    ensures sizes { HasSizes program.now known.new }
+    ensures room { room.new ≡ room.old }
+{
+    begin(program, state, known);
+    for done in 0..scans.count {
+        let moment = first + scans.every * done;
+        scan_known(program, known, inputs, moment, room);
+        let value = known.value(coil);
+        if is_not_off(value) {
+            return Some(Opening {
+                scan: done + 1,
+                value,
+            });
+        }
+    }
+    None
+}
