@@ -35,8 +35,7 @@ pub(crate) const WARN_HELP: &str =
 pub(crate) const EXPLAIN_HELP: &str =
     "After the line of a fault: its rule in words, and the lines of the program where it shows";
 
-pub(crate) const ALL_HELP: &str =
-    "Lists all inputs, in order of declaration; not with an INPUT";
+pub(crate) const ALL_HELP: &str = "Lists all inputs, in order of declaration; not with an INPUT";
 
 pub(crate) const QUIET_HELP: &str = "Writes no line of counts on standard error; faults stay";
 

@@ -15,12 +15,7 @@ use ladder_text::Sink;
 use std::alloc::Global;
 
 /// Simulates the stimulus from the state of the texts, and writes what its scans change.
-pub(crate) fn wave<O: Sink, E: Sink>(
-    alloc: Global,
-    texts: &Texts,
-    out: &mut O,
-    err: &mut E,
-) -> u8
+pub(crate) fn wave<O: Sink, E: Sink>(alloc: Global, texts: &Texts, out: &mut O, err: &mut E) -> u8
     ensures status { result ≤ 1 }
     ensures done { result ≡ 0 → IsWaved (given_by texts.now) (O.log out.old) (O.log out.new) × (E.log err.new ≡ E.log err.old) }
     ensures failed { (save : WriteLog) → result ≡ 1
