@@ -1,15 +1,17 @@
 //! The first of several scans after which a variable isn't known to be OFF.
 
-ghost use Rattle.std.specs.Prelude.{◌≡◌, false, option_map, IfSome};
+ghost use Rattle.std.specs.Prelude.{◌≡◌, false, option_map, is_some, Bool, List, IfSome};
 ghost use Rattle.ladder_scan.specs.Programs.{diagram_of};
 ghost use Rattle.ladder_scan.specs.Standing.{Fits};
 ghost use Rattle.ladder_glance.specs.Sizes.{HasSizes, IsSpareFor};
-ghost use Rattle.ladder_held.specs.Holding.{are_no_scans, moment_of};
+ghost use Rattle.ladder_held.specs.Holding.{are_no_scans, first_on, moment_of};
 ghost use Rattle.ladder_known.specs.KnownScan.{all_known};
 ghost use Rattle.ladder_signals.specs.Three.{three};
 ghost use Rattle.ladder_partly.specs.Partly.{partly};
-ghost use Rattle.ladder_partly.specs.SeveralLaws.{first_open, is_not_off, known_after};
+ghost use Rattle.ladder_partly.specs.SeveralLaws.{first_open, is_not_off, known_after, AreAllowed};
+ghost use Rattle.ladder_partly.specs.Told.{told};
 
+use crate::laws::several;
 use crate::partly::Partly;
 use ladder_glance::{Knowledge, Room, scan_known};
 use ladder_grid::Program;
@@ -22,6 +24,14 @@ use ladder_signals::Tri;
 pub struct Opening {
     pub scan: u64,
     pub value: Tri,
+}
+
+/// What is asked of some scans: of which variable, at which moment the first of them is, in milliseconds, and when the others are.
+#[derive(Clone, Copy, Debug, PartialEq, Eq)]
+pub struct Watched {
+    pub coil: usize,
+    pub first: u64,
+    pub scans: Scans,
 }
 
 fn is_not_off(value: Tri) -> bool
@@ -53,27 +63,25 @@ pub fn first_open(
     program: &Program,
     state: &State,
     inputs: &[Tri],
-    first: u64,
-    scans: Scans,
-    coil: usize,
+    watched: Watched,
     known: &mut Knowledge<Tri, Partly>,
     room: &mut Room<Tri>,
 ) -> Option<Opening>
     requires state { Fits program.now state.now }
-    requires scans { are_no_scans first scans ≡ false }
+    requires scans { are_no_scans watched.first watched.scans ≡ false }
     requires known { HasSizes program.now known.old }
     requires room { IsSpareFor program.now room.old }
     ensures scan { option_map (λ o. o.scan) result
-        ≡ first_open (diagram_of program.now) (moment_of first scans) inputs.now state.now.held coil scans.count }
-    ensures value { IfSome result (λ o. o.value ≡ known_after (diagram_of program.now) (moment_of first scans) inputs.now state.now.held coil o.scan) }
+        ≡ first_open (diagram_of program.now) (moment_of watched.first watched.scans) inputs.now state.now.held watched.coil watched.scans.count }
+    ensures value { IfSome result (λ o. o.value ≡ known_after (diagram_of program.now) (moment_of watched.first watched.scans) inputs.now state.now.held watched.coil o.scan) }
     ensures sizes { HasSizes program.now known.new }
     ensures room { room.new ≡ room.old }
 {
     begin(program, state, known);
-    for done in 0..scans.count {
-        let moment = first + scans.every * done;
+    for done in 0..watched.scans.count {
+        let moment = watched.first + watched.scans.every * done;
         scan_known(program, known, inputs, moment, room);
-        let value = known.value(coil);
+        let value = known.value(watched.coil);
         if is_not_off(value) {
             return Some(Opening {
                 scan: done + 1,
@@ -82,4 +90,36 @@ pub fn first_open(
         }
     }
     None
+}
+
+/// Whether the variable is switched on by the scans, for the completions of the inputs: Some where it is for each of them, or for none;
+/// None where these scans over three values leave it open. `known` is written over.
+pub fn decide(
+    program: &Program,
+    state: &State,
+    inputs: &[Tri],
+    watched: Watched,
+    known: &mut Knowledge<Tri, Partly>,
+    room: &mut Room<Tri>,
+) -> Option<bool>
+    requires state { Fits program.now state.now }
+    requires scans { are_no_scans watched.first watched.scans ≡ false }
+    requires known { HasSizes program.now known.old }
+    requires room { IsSpareFor program.now room.old }
+    ensures told { result ≡ told (diagram_of program.now) (moment_of watched.first watched.scans) inputs.now state.now.held watched.coil watched.scans.count }
+    ensures each { (vs : List Bool) → AreAllowed inputs.now vs
+        → IfSome result (λ on. is_some (first_on (diagram_of program.now) (moment_of watched.first watched.scans) vs state.now.held watched.coil watched.scans.count) ≡ on) }
+    ensures sizes { HasSizes program.now known.new }
+    ensures room { room.new ≡ room.old }
+{
+    several(program);
+    match first_open(program, state, inputs, watched, known, room) {
+        None => Some(false),
+        Some(opening) => {
+            match opening.value {
+                Tri::On => Some(true),
+                Tri::Off | Tri::Unsure => None,
+            }
+        }
+    }
 }

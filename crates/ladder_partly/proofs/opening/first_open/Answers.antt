@@ -8,7 +8,7 @@ use Rattle.ladder_partly.proofs.opening.first_open.Goals as goal
 
 pub loop-done-init : goal.loop-done-init
 loop-done-init c = record {
-  known = c.begin.ensures.known ∙ none_made (diagram_of c.args.program.now) (moment_of c.args.first c.args.scans) c.args.inputs.now c.args.state.now.held;
+  known = c.begin.ensures.known ∙ none_made (diagram_of c.args.program.now) (moment_of c.args.watched.first c.args.watched.scans) c.args.inputs.now c.args.state.now.held;
   sizes = c.begin.ensures.sizes;
   room = refl;
   none = refl;
@@ -17,18 +17,18 @@ loop-done-init c = record {
 pub returns-then-is_not_off : goal.returns-then-is_not_off
 returns-then-is_not_off c =
     let d = diagram_of c.args.program.now in
-    let moment = moment_of c.args.first c.args.scans in
+    let moment = moment_of c.args.watched.first c.args.watched.scans in
     let xs = c.args.inputs.now in
     let h = c.args.state.now.held in
     let before = c.loop-done.invariant in
     let done = c.loop-done.done in
     let known = one_more d moment xs done h c.loop-done.known c.scan_known.new.known before.known c.scan_known.ensures.known in
-    let value = value_is d moment xs (done + 1) c.args.coil h c.scan_known.new.known c.value-value.result known c.value-value.ensures in
+    let value = value_is d moment xs (done + 1) c.args.watched.coil h c.scan_known.new.known c.value-value.result known c.value-value.ensures in
     let here : done + 1 ≡ 1 + done = omega arith in
-    let shown : is_not_off (known_after d moment xs h c.args.coil (1 + done)) ≡ true =
-    ap (λ (n : ℕ). is_not_off (known_after d moment xs h c.args.coil n)) (sym here) ∙ ap is_not_off (sym value) ∙ sym c.is_not_off.ensures ∙ c.if-is_not_off.true in
+    let shown : is_not_off (known_after d moment xs h c.args.watched.coil (1 + done)) ≡ true =
+    ap (λ (n : ℕ). is_not_off (known_after d moment xs h c.args.watched.coil n)) (sym here) ∙ ap is_not_off (sym value) ∙ sym c.is_not_off.ensures ∙ c.if-is_not_off.true in
     record {
-      scan = ap (λ (n : ℕ). Some n) here ∙ sym (found_now (λ (n : ℕ). is_not_off (known_after d moment xs h c.args.coil n)) 1 done c.args.scans.count (omega (arith, c.loop-done-test.true)) before.none shown);
+      scan = ap (λ (n : ℕ). Some n) here ∙ sym (found_now (λ (n : ℕ). is_not_off (known_after d moment xs h c.args.watched.coil n)) 1 done c.args.watched.scans.count (omega (arith, c.loop-done-test.true)) before.none shown);
       value = value;
       sizes = c.scan_known.ensures.sizes;
       room = c.scan_known.ensures.room ∙ before.room;
@@ -37,19 +37,19 @@ returns-then-is_not_off c =
 pub loop-done-preserved : goal.loop-done-preserved
 loop-done-preserved c =
     let d = diagram_of c.args.program.now in
-    let moment = moment_of c.args.first c.args.scans in
+    let moment = moment_of c.args.watched.first c.args.watched.scans in
     let xs = c.args.inputs.now in
     let h = c.args.state.now.held in
     let before = c.loop-done.invariant in
     let done = c.loop-done.done in
     let known = one_more d moment xs done h c.loop-done.known c.scan_known.new.known before.known c.scan_known.ensures.known in
-    let value = value_is d moment xs (done + 1) c.args.coil h c.scan_known.new.known c.value-value.result known c.value-value.ensures in
+    let value = value_is d moment xs (done + 1) c.args.watched.coil h c.scan_known.new.known c.value-value.result known c.value-value.ensures in
     let here : done + 1 ≡ 1 + done = omega arith in
-    let off : is_not_off (known_after d moment xs h c.args.coil (1 + done)) ≡ false =
-    ap (λ (n : ℕ). is_not_off (known_after d moment xs h c.args.coil n)) (sym here) ∙ ap is_not_off (sym value) ∙ sym c.is_not_off.ensures ∙ c.if-is_not_off.false in
+    let off : is_not_off (known_after d moment xs h c.args.watched.coil (1 + done)) ≡ false =
+    ap (λ (n : ℕ). is_not_off (known_after d moment xs h c.args.watched.coil n)) (sym here) ∙ ap is_not_off (sym value) ∙ sym c.is_not_off.ensures ∙ c.if-is_not_off.false in
     record {
       known = known;
       sizes = c.scan_known.ensures.sizes;
       room = c.scan_known.ensures.room ∙ before.room;
-      none = none_till (λ (n : ℕ). is_not_off (known_after d moment xs h c.args.coil n)) done before.none off;
+      none = none_till (λ (n : ℕ). is_not_off (known_after d moment xs h c.args.watched.coil n)) done before.none off;
     }

@@ -7,8 +7,8 @@ use Rattle.ladder_partly.proofs.opening.first_open.Given as goal
 
 abbrev pub invariant-loop-done : goal.invariant-loop-done
 invariant-loop-done l = record {
-  known : l.known ≡ partly_after (diagram_of l.program) (moment_of l.first l.scans) l.inputs l.done l.state.held;
+  known : l.known ≡ partly_after (diagram_of l.program) (moment_of l.watched.first l.watched.scans) l.inputs l.done l.state.held;
   sizes : HasSizes l.program l.known;
   room : l.room ≡ l.fn.room;
-  none : first_open (diagram_of l.program) (moment_of l.first l.scans) l.inputs l.state.held l.coil l.done ≡ None;
+  none : first_open (diagram_of l.program) (moment_of l.watched.first l.watched.scans) l.inputs l.state.held l.watched.coil l.done ≡ None;
 }
