@@ -6,7 +6,7 @@ ghost use Rattle.ladder_grid.specs.declared.cell.Cell.TheVariants as kind_of_cel
 ghost use Rattle.ladder_grid.specs.Gates.{actions_of};
 ghost use Rattle.ladder_scan.specs.Cells.{Diagram, Frame};
 ghost use Rattle.ladder_scan.specs.Programs.{diagram_of, IsSound};
-ghost use Rattle.ladder_scan.specs.Gating.{among, IsPlaced};
+ghost use Rattle.ladder_scan.specs.Gating.{IsPlaced};
 ghost use Rattle.ladder_known.specs.KnownScan.{changed_in};
 ghost use Rattle.ladder_glance.specs.Evaluating.{changed_by, changes_by};
 

@@ -3,9 +3,9 @@
 ghost use Rattle.std.specs.Prelude.{◌≡◌, ◌<◌, length, All};
 ghost use Rattle.ladder_grid.specs.declared.gates.TheConstants.{LINKS};
 ghost use Rattle.ladder_grid.specs.Gates.{gates_of};
-ghost use Rattle.ladder_scan.specs.Cells.{closed, contact, operand_value};
+ghost use Rattle.ladder_scan.specs.Cells.{contact, operand_value};
 ghost use Rattle.ladder_scan.specs.Programs.{diagram_of, IsSound};
-ghost use Rattle.ladder_scan.specs.Gating.{among, IsInside};
+ghost use Rattle.ladder_scan.specs.Gating.{IsInside};
 ghost use Rattle.ladder_known.specs.KnownScan.{frame_in};
 ghost use Rattle.ladder_glance.specs.Evaluating.{own_in, let_in, passed_in, ran_in, AreLinksIn};
 

@@ -1,11 +1,11 @@
 //! One scan over what is known.
 
-ghost use Rattle.std.specs.Prelude.{◌≡◌, ◌<◌, ◌&&◌, if◌then◌else◌, nat_lt, true, false, length, All, IfOk};
+ghost use Rattle.std.specs.Prelude.{◌≡◌, ◌<◌, ◌&&◌, if◌then◌else◌, nat_lt, true, false, length, All};
 ghost use Rattle.ladder_grid.specs.declared.gates.TheConstants.{LINKS};
-ghost use Rattle.ladder_grid.specs.Gates.{leaps_below, left_of};
+ghost use Rattle.ladder_grid.specs.Gates.{left_of};
 ghost use Rattle.ladder_scan.specs.Programs.{diagram_of, IsSound};
 ghost use Rattle.ladder_scan.specs.Gating.{among};
-ghost use Rattle.ladder_look.specs.SignalScan.{guard_of, taken_by};
+ghost use Rattle.ladder_look.specs.SignalScan.{taken_by};
 ghost use Rattle.ladder_look.specs.Gating.{guard_by};
 ghost use Rattle.ladder_known.specs.KnownScan.{after_known, evaluated_in, link_in, passed};
 ghost use Rattle.ladder_glance.specs.Sizes.{AreAsLong, HasSizes, IsSpareFor, AreRoomy};
