@@ -166,6 +166,10 @@ pub puts_next : {T E : Type 0} (a b c : WriteLog) (xs ys : List ℕ) (r : Result
 puts_next a b c xs ys (Ok x) p q = puts_more a b c xs ys p q
 puts_next a b c xs ys (Err x) p q = prefix_after a b c (xs ++ ys) xs ys [] (sym (append-nil (xs ++ ys))) p q
 
+-- A text that is cut off after another one.
+pub prefix_next : (a b c : WriteLog) (xs ys : List ℕ) → PutsAll a b xs → PutsPrefix b c ys → PutsPrefix a c (xs ++ ys)
+prefix_next a b c xs ys p q = prefix_after a b c (xs ++ ys) xs ys [] (sym (append-nil (xs ++ ys))) p q
+
 -- A text that is cut off before another one.
 pub puts_cut : (a b : WriteLog) (xs ys : List ℕ) → PutsPrefix a b xs → PutsPrefix a b (xs ++ ys)
 puts_cut a b xs ys p = record {

@@ -111,10 +111,13 @@ fn all_inputs(alloc: Global, decls: &Decls) -> Result<Vec<usize>, ToolFault>
 {
     let vars = decls.vars();
     let mut inputs = Vec::new(alloc);
-    for number in 0..vars.len() {
-        if vars[number].is_input() && inputs.push(number).is_err() {
-            return Err(ToolFault::Memory);
+    for var in 0..vars.len() {
+        if !vars[var].is_input() {
+            continue;
         }
+        let Ok(()) = inputs.push(var) else {
+            return Err(ToolFault::Memory);
+        };
     }
     Ok(inputs)
 }

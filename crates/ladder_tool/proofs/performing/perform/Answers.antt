@@ -21,3 +21,6 @@ returns-in-Show-clause-failed g c = λ status. rw c.in-Show.is (with_second refl
 
 pub returns-in-Held-clause-failed : goal.returns-in-Held-clause-failed
 returns-in-Held-clause-failed g c = λ status. rw c.in-Held.is (with_third refl (c.list_held.ensures.failed (g.S.Sink.log c.args.save.now) status))
+
+pub returns-in-Waves-clause-failed : goal.returns-in-Waves-clause-failed
+returns-in-Waves-clause-failed g c = λ status. rw c.in-Waves.is (with_third refl (c.wave.ensures.failed (g.S.Sink.log c.args.save.now) status))
