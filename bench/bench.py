@@ -206,9 +206,10 @@ def simulation(program):
 def warm(program):
     """The stimulus of the three stations leaves the state that is stored beside it."""
     circuit = HERE / "circuits" / "three_stations"
-    with tempfile.NamedTemporaryFile() as saved:
-        seconds, _, _ = least([program, "sim", "--save", saved.name, f"{circuit}.ld", f"{circuit}.stimulus.csv"], 9)
-        if saved.read() != pathlib.Path(f"{circuit}.state.csv").read_bytes():
+    with tempfile.TemporaryDirectory() as folder:
+        saved = pathlib.Path(folder) / "state.csv"
+        seconds, _, _ = least([program, "sim", "--save", saved, f"{circuit}.ld", f"{circuit}.stimulus.csv"], 9)
+        if saved.read_bytes() != pathlib.Path(f"{circuit}.state.csv").read_bytes():
             wrong("the stimulus of the three stations leaves another state")
     print(f"{'three stations: warm up':26}{seconds * 1e3:10.2f}")
 
