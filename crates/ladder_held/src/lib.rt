@@ -9,4 +9,4 @@ mod tree;
 
 pub use causes::HeldCauses;
 pub use fault::HeldFault;
-pub use scans::{HeldCause, SCANS_LIMIT, Scans};
+pub use scans::{HeldCause, SCANS_LIMIT, Scans, Watched, are_no_scans, first_on};

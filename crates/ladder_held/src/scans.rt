@@ -21,6 +21,14 @@ pub struct Scans {
     pub every: u64,
 }
 
+/// What is asked of some scans: of which variable, at which moment the first of them is, in milliseconds, and when the others are.
+#[derive(Clone, Copy, Debug, PartialEq, Eq)]
+pub struct Watched {
+    pub coil: usize,
+    pub first: u64,
+    pub scans: Scans,
+}
+
 /// A row: a number, and the first scan, counted from 1, after which the coil's variable is ON.
 #[derive(Clone, Copy, Debug, PartialEq, Eq)]
 pub struct HeldCause {
@@ -28,8 +36,8 @@ pub struct HeldCause {
     pub scan: u64,
 }
 
-/// Whether there are no such scans, the first at a moment.
-pub(crate) fn are_no_scans(first: u64, scans: Scans) -> bool
+/// Whether there are no such scans, the first at this moment: none, too many, or one whose moment is none.
+pub fn are_no_scans(first: u64, scans: Scans) -> bool
     ensures { result ≡ are_no_scans first scans }
 {
     if scans.count < 1 || scans.count > SCANS_LIMIT {
@@ -83,8 +91,9 @@ fn renewed(program: &Program, mark: &mut State, marked: u64, state: &State, done
     done
 }
 
-/// The first of some scans after which a variable is ON. `mark` is written over.
-pub(crate) fn first_on(
+/// The first of some scans after which a variable is ON, counted from 1, each with these inputs. The state is the one that the last of them
+/// left, and `mark` is written over. It needs no memory.
+pub fn first_on(
     program: &Program,
     state: &mut State,
     mark: &mut State,

@@ -7,5 +7,5 @@ mod opening;
 mod partly;
 mod stepping;
 
-pub use opening::{Opening, Watched, decide, first_open};
+pub use opening::{Opening, decide, first_open};
 pub use partly::Partly;

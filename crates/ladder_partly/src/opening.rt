@@ -15,7 +15,7 @@ use crate::laws::several;
 use crate::partly::Partly;
 use ladder_glance::{Knowledge, Room, scan_known};
 use ladder_grid::Program;
-use ladder_held::Scans;
+use ladder_held::Watched;
 use ladder_scan::State;
 use ladder_signals::Tri;
 
@@ -24,14 +24,6 @@ use ladder_signals::Tri;
 pub struct Opening {
     pub scan: u64,
     pub value: Tri,
-}
-
-/// What is asked of some scans: of which variable, at which moment the first of them is, in milliseconds, and when the others are.
-#[derive(Clone, Copy, Debug, PartialEq, Eq)]
-pub struct Watched {
-    pub coil: usize,
-    pub first: u64,
-    pub scans: Scans,
 }
 
 fn is_not_off(value: Tri) -> bool
