@@ -7,7 +7,7 @@ function __ladder_places
     for word in $words
         if test $due = 1
             set due 0
-        else if contains -- $word --state --at --after --limit --scans --every --order --number --stimulus --coil --save
+        else if contains -- $word --state --at --after --limit --scans --for --every --order --number --stimulus --coil --save
             set due 1
         else if not string match -q -- '-*' $word
             echo $word
@@ -58,7 +58,8 @@ complete -c ladder -n '__ladder_at causes,show more 0' -l at -x -d 'The moment o
 complete -c ladder -n '__ladder_at causes more 0' -l after -x -d 'Causes with a greater number only'
 complete -c ladder -n '__ladder_at causes more 0' -l limit -x -d 'At most so many rows'
 complete -c ladder -n '__ladder_at causes more 0' -l scans -x -d 'Over so many scans, with the inputs held'
-complete -c ladder -n '__ladder_at causes more 0' -l every -x -d 'With --scans, the time between two in ms'
+complete -c ladder -n '__ladder_at causes more 0' -l for -x -d 'Over all scans up to so many ms, with the inputs held'
+complete -c ladder -n '__ladder_at causes more 0' -l every -x -d 'With --scans or --for, the time between two in ms'
 complete -c ladder -n '__ladder_at causes more 0' -l grouped -d 'The causes in groups'
 complete -c ladder -n '__ladder_at causes more 0' -l terms -d 'Groups as terms'
 complete -c ladder -n '__ladder_at causes more 0' -l st -d 'Groups as a statement in Structured Text'

@@ -1,6 +1,5 @@
 pub mod Finding
 pub mod Numbers
-pub mod Going
 pub mod Pruning
 pub mod Telling
 pub mod Knowledge

@@ -7,7 +7,5 @@ pub mod Knowing
 pub mod Likening
 pub mod LookLaws
 pub mod Order
-pub mod Patterns
 pub mod Prefixes
-pub mod Probes
 pub mod Sifting

@@ -43,7 +43,7 @@ uses_app = taking (codes "uses") (flag_rule (codes "why") ∷ place_rule (codes 
 abbrev pub causes_app : App
 causes_app = taking (codes "causes") (
     text_rule (codes "state") ∷ number_rule (codes "at") ∷ number_rule (codes "after") ∷ number_rule (codes "limit")
-    ∷ number_rule (codes "scans") ∷ number_rule (codes "every") ∷ flag_rule (codes "grouped") ∷ flag_rule (codes "terms") ∷ flag_rule (codes "st") ∷ text_rule (codes "order")
+    ∷ number_rule (codes "scans") ∷ number_rule (codes "for") ∷ number_rule (codes "every") ∷ flag_rule (codes "grouped") ∷ flag_rule (codes "terms") ∷ flag_rule (codes "st") ∷ text_rule (codes "order")
     ∷ flag_rule (codes "all-inputs") ∷ flag_rule (codes "quiet") ∷ flag_rule (codes "why") ∷ place_rule (codes "file") ∷ place_rule (codes "coil") ∷ list_rule (codes "inputs") ∷ []
     )
 

@@ -7,10 +7,10 @@ ghost use Rattle.ladder_command.specs.Table.{ladder_by, word_rule};
 
 use crate::help::{
     AFTER_HELP, ALL_HELP, AT_HELP, CAUSES_ABOUT, CHECK_ABOUT, COIL_HELP, EVERY_HELP, EXPLAIN_HELP,
-    FAULTS, FILE_HELP, FILM_HELP, GROUPED_HELP, HTML_HELP, INPUTS_HELP, LADDER_ABOUT, LIMIT_HELP,
-    NUMBER_HELP, ORDER_HELP, QUIET_HELP, SAVE_HELP, SCANS_HELP, SHOW_ABOUT, SHOWN_HELP, SIM_ABOUT,
-    STATE_HELP, STATEMENT_HELP, STIMULUS_HELP, TERMS_HELP, USES_ABOUT, WARN_HELP, WAVES_HELP,
-    WHY_HELP,
+    FAULTS, FILE_HELP, FILM_HELP, FOR_HELP, GROUPED_HELP, HTML_HELP, INPUTS_HELP, LADDER_ABOUT,
+    LIMIT_HELP, NUMBER_HELP, ORDER_HELP, QUIET_HELP, SAVE_HELP, SCANS_HELP, SHOW_ABOUT, SHOWN_HELP,
+    SIM_ABOUT, STATE_HELP, STATEMENT_HELP, STIMULUS_HELP, TERMS_HELP, USES_ABOUT, WARN_HELP,
+    WAVES_HELP, WHY_HELP,
 };
 use clap::{Arg, ArgAction, Command, value_parser};
 use std::alloc::{AllocError, Global};
@@ -53,6 +53,7 @@ const CAUSES: &[Word] = &[
     Word::Number("after", "N", AFTER_HELP),
     Word::Number("limit", "N", LIMIT_HELP),
     Word::Number("scans", "N", SCANS_HELP),
+    Word::Number("for", "MS", FOR_HELP),
     Word::Number("every", "MS", EVERY_HELP),
     Word::Flag("grouped", GROUPED_HELP),
     Word::Flag("terms", TERMS_HELP),

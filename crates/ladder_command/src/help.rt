@@ -67,8 +67,11 @@ pub(crate) const LIMIT_HELP: &str = "Lists at most N rows";
 pub(crate) const SCANS_HELP: &str =
     "Lists over N scans, at most 1000000, with the inputs held: each assignment after one of which the coil is ON, and the first such scan; not with --after or --grouped";
 
+pub(crate) const FOR_HELP: &str =
+    "In place of --scans: all scans up to MS after the first one, and at it";
+
 pub(crate) const EVERY_HELP: &str =
-    "With --scans: the time from each scan to the next in ms; without it 10";
+    "With --scans or --for: the time from each scan to the next in ms; without it 10";
 
 pub(crate) const NUMBER_HELP: &str =
     "The number of the row that a list of causes has for these inputs; without it 0, all of them OFF";

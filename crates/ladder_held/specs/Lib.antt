@@ -1,3 +1,2 @@
 pub mod HeldRefusal
-pub mod HeldTree
 pub mod Holding

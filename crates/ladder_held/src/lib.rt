@@ -1,12 +1,9 @@
-//! Lists of causes over several scans, with the inputs held.
+//! Causes over several scans, with the inputs held: what they are, and the scans of one assignment.
 #![tactic(auto)]
 
-mod causes;
 mod fault;
 pub mod laws;
 mod scans;
-mod tree;
 
-pub use causes::HeldCauses;
 pub use fault::HeldFault;
 pub use scans::{HeldCause, SCANS_LIMIT, Scans, Watched, are_no_scans, first_on};

@@ -8,7 +8,8 @@ ghost use Rattle.ladder_sim.specs.CauseText.{limited};
 ghost use Rattle.ladder_sim.specs.HeldText.{held_record, held_text};
 
 use crate::cause_text::{DIGITS, ROW, add_header, fill_end, is_reached};
-use ladder_held::{HeldCause, HeldCauses};
+use ladder_held::HeldCause;
+use ladder_several::HeldCauses;
 use ladder_text::{Block, Piece, Sink, WriteFault, add_pieces};
 
 /// How many bytes the bits of a row and its line feed have at most.

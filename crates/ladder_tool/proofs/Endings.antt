@@ -27,7 +27,7 @@ use Rattle.ladder_tool.specs.declared.fault.ToolFault.TheVariants as fault
 use Rattle.ladder_tool.specs.Asked.{question_of}
 use Rattle.ladder_tool.specs.declared.asking.Asked.{Asked}
 use Rattle.ladder_held.specs.HeldRefusal.{held_reason}
-use Rattle.ladder_held.specs.HeldTree.{HeldCursor}
+use Rattle.ladder_several.specs.Rows.{HeldCursor}
 use Rattle.ladder_held.specs.Holding.{held_causes}
 use Rattle.ladder_held.specs.declared.fault.HeldFault.{HeldFault}
 use Rattle.ladder_held.specs.declared.fault.HeldFault.TheVariants as held

@@ -1,13 +1,15 @@
 -- Why the arguments ask for no request.
 use Rattle.std.proofs.Common.{◌≡◌, ◌∙◌, ℕ, Bool, true, false, List, [], Option, None, Some, ap, arith, codes, get_or, inl, inr, map, refl, string_bytes, sym, unwrap_or}
 use Rattle.clap.specs.Words.{Row, Text, all_of, first_of}
-use Rattle.ladder_words.specs.Asking.{AsksNone, HasEvery, HasForm, HasInputs, HasNumber, HasSwitch, HasOrder, IsNamed, NamesList}
+use Rattle.ladder_words.specs.Asking.{AsksNone, HasEvery, HasForm, HasInputs, HasLasting, HasNumber, HasScans, HasSwitch, HasOrder, IsNamed, NamesList}
 use Rattle.ladder_words.specs.Faults.{UsageWhere}
 use Rattle.ladder_words.specs.declared.request.Form.{Form}
 use Rattle.ladder_words.specs.declared.request.Form.TheVariants.{Table}
 use Rattle.ladder_words.specs.declared.request.InputOrder.{InputOrder}
 use Rattle.ladder_words.specs.declared.request.InputOrder.TheVariants.{Given}
 use Rattle.ladder_words.specs.declared.request.ListRequest.{ListRequest}
+use Rattle.ladder_words.specs.declared.words.Lasting.{Lasting}
+use Rattle.ladder_words.specs.declared.words.Lasting.TheVariants.{Count, Until}
 use Rattle.ladder_words.specs.declared.request.Request.TheVariants.{Causes, Check, Film, Groups, Held, Show, Sim, Uses, Waves}
 use Rattle.ladder_words.specs.declared.request.WordFault.{WordFault}
 use Rattle.ladder_words.specs.declared.request.WordFault.TheVariants.{Help, Memory, Usage}
@@ -52,9 +54,9 @@ no_causes_of_order rows none (Uses file) h = let other = h.0 in cc
 
 pub no_causes_of_start : (rows : List Row) → ((o : Option ℕ) → HasNumber (codes "after") rows o → ⊥) → AsksNone (codes "causes") rows
 no_causes_of_start rows none (Check file warns) h = let other = h.0 in cc
-no_causes_of_start rows none (Causes list after) h = none after h.4
+no_causes_of_start rows none (Causes list after) h = none after h.5
 no_causes_of_start rows none (Held list scans every) h = none None h.4
-no_causes_of_start rows none (Groups list grouping) h = none None h.6
+no_causes_of_start rows none (Groups list grouping) h = none None h.7
 no_causes_of_start rows none (Show r) h = let other = h.0 in cc
 no_causes_of_start rows none (Film r) h = let other = h.0 in cc
 no_causes_of_start rows none (Sim r) h = let other = h.0 in cc
@@ -85,19 +87,23 @@ no_show_of_number rows none (Uses file) h = let other : 115 ≡ 117 = ap (λ (na
 
 pub no_causes_of_list : (rows : List Row) → ((l : ListRequest) → NamesList rows l → ⊥) → AsksNone (codes "causes") rows
 no_causes_of_list rows none (Check file warns) h = let other = h.0 in cc
-no_causes_of_list rows none (Causes list after) h = none list h.5
+no_causes_of_list rows none (Causes list after) h = none list h.6
 no_causes_of_list rows none (Held list scans every) h = none list h.5
-no_causes_of_list rows none (Groups list grouping) h = none list h.8
+no_causes_of_list rows none (Groups list grouping) h = none list h.9
 no_causes_of_list rows none (Show r) h = let other = h.0 in cc
 no_causes_of_list rows none (Film r) h = let other = h.0 in cc
 no_causes_of_list rows none (Sim r) h = let other = h.0 in cc
 no_causes_of_list rows none (Waves r) h = let other = h.0 in cc
 no_causes_of_list rows none (Uses file) h = let other = h.0 in cc
 
+no_scans : (rows : List Row) → ((o : Option ℕ) → HasNumber (codes "scans") rows o → ⊥) → (scans every : ℕ) → HasScans scans every rows → ⊥
+no_scans rows none scans every (inl h) = none (Some scans) h.0
+no_scans rows none scans every (inr h) = none None h.0
+
 pub no_causes_of_scans : (rows : List Row) → ((o : Option ℕ) → HasNumber (codes "scans") rows o → ⊥) → AsksNone (codes "causes") rows
 no_causes_of_scans rows none (Check file warns) h = let other = h.0 in cc
 no_causes_of_scans rows none (Causes list after) h = none None h.2
-no_causes_of_scans rows none (Held list scans every) h = none (Some scans) h.2
+no_causes_of_scans rows none (Held list scans every) h = no_scans rows none scans every h.2
 no_causes_of_scans rows none (Groups list grouping) h = none None h.4
 no_causes_of_scans rows none (Show r) h = let other = h.0 in cc
 no_causes_of_scans rows none (Film r) h = let other = h.0 in cc
@@ -105,32 +111,68 @@ no_causes_of_scans rows none (Sim r) h = let other = h.0 in cc
 no_causes_of_scans rows none (Waves r) h = let other = h.0 in cc
 no_causes_of_scans rows none (Uses file) h = let other = h.0 in cc
 
+no_time : (rows : List Row) → ((o : Option ℕ) → HasNumber (codes "for") rows o → ⊥) → (scans every : ℕ) → HasScans scans every rows → ⊥
+no_time rows none scans every (inl h) = none None h.1
+no_time rows none scans every (inr h) = none (Some h.1.0) h.1.1
+
+pub no_causes_of_time : (rows : List Row) → ((o : Option ℕ) → HasNumber (codes "for") rows o → ⊥) → AsksNone (codes "causes") rows
+no_causes_of_time rows none (Check file warns) h = let other = h.0 in cc
+no_causes_of_time rows none (Causes list after) h = none None h.3
+no_causes_of_time rows none (Held list scans every) h = no_time rows none scans every h.2
+no_causes_of_time rows none (Groups list grouping) h = none None h.5
+no_causes_of_time rows none (Show r) h = let other = h.0 in cc
+no_causes_of_time rows none (Film r) h = let other = h.0 in cc
+no_causes_of_time rows none (Sim r) h = let other = h.0 in cc
+no_causes_of_time rows none (Waves r) h = let other = h.0 in cc
+no_causes_of_time rows none (Uses file) h = let other = h.0 in cc
+
+given_twice : (rows : List Row) (n time : ℕ) → HasNumber (codes "scans") rows (Some n) → HasNumber (codes "for") rows (Some time)
+    → (scans every : ℕ) → HasScans scans every rows → ⊥
+given_twice rows n time some until scans every (inl h) = let both = h.1 in let given = until.1 in cc
+given_twice rows n time some until scans every (inr h) = let both = h.0 in let given = some.1 in cc
+
+-- The number of scans and the time up to which they are made are not both asked for.
+pub no_causes_of_both : (rows : List Row) (n time : ℕ) → HasNumber (codes "scans") rows (Some n) → HasNumber (codes "for") rows (Some time) → AsksNone (codes "causes") rows
+no_causes_of_both rows n time some until (Check file warns) h = let other = h.0 in cc
+no_causes_of_both rows n time some until (Causes list after) h = let both = h.2 in let given = some.1 in cc
+no_causes_of_both rows n time some until (Held list scans every) h = given_twice rows n time some until scans every h.2
+no_causes_of_both rows n time some until (Groups list grouping) h = let both = h.4 in let given = some.1 in cc
+no_causes_of_both rows n time some until (Show r) h = let other = h.0 in cc
+no_causes_of_both rows n time some until (Film r) h = let other = h.0 in cc
+no_causes_of_both rows n time some until (Sim r) h = let other = h.0 in cc
+no_causes_of_both rows n time some until (Waves r) h = let other = h.0 in cc
+no_causes_of_both rows n time some until (Uses file) h = let other = h.0 in cc
+
 pub no_every : (rows : List Row) → ((o : Option ℕ) → HasNumber (codes "every") rows o → ⊥) → (every : ℕ) → HasEvery every rows → ⊥
 no_every rows none every (inl h) = none (Some every) h
 no_every rows none every (inr h) = none None h.0
 
 pub no_causes_of_every : (rows : List Row) → ((o : Option ℕ) → HasNumber (codes "every") rows o → ⊥) → AsksNone (codes "causes") rows
 no_causes_of_every rows none (Check file warns) h = let other = h.0 in cc
-no_causes_of_every rows none (Causes list after) h = none None h.3
+no_causes_of_every rows none (Causes list after) h = none None h.4
 no_causes_of_every rows none (Held list scans every) h = no_every rows none every h.3
-no_causes_of_every rows none (Groups list grouping) h = none None h.5
+no_causes_of_every rows none (Groups list grouping) h = none None h.6
 no_causes_of_every rows none (Show r) h = let other = h.0 in cc
 no_causes_of_every rows none (Film r) h = let other = h.0 in cc
 no_causes_of_every rows none (Sim r) h = let other = h.0 in cc
 no_causes_of_every rows none (Waves r) h = let other = h.0 in cc
 no_causes_of_every rows none (Uses file) h = let other = h.0 in cc
 
--- The period is asked for beside a number of scans alone.
-pub no_causes_of_period : (rows : List Row) → (scans : ℕ) → HasNumber (codes "scans") rows (Some scans) → ((every : ℕ) → HasEvery every rows → ⊥) → AsksNone (codes "causes") rows
-no_causes_of_period rows n some none (Check file warns) h = let other = h.0 in cc
-no_causes_of_period rows n some none (Causes list after) h = let both = h.2 in let given = some.1 in cc
-no_causes_of_period rows n some none (Held list scans every) h = none every h.3
-no_causes_of_period rows n some none (Groups list grouping) h = let both = h.4 in let given = some.1 in cc
-no_causes_of_period rows n some none (Show r) h = let other = h.0 in cc
-no_causes_of_period rows n some none (Film r) h = let other = h.0 in cc
-no_causes_of_period rows n some none (Sim r) h = let other = h.0 in cc
-no_causes_of_period rows n some none (Waves r) h = let other = h.0 in cc
-no_causes_of_period rows n some none (Uses file) h = let other = h.0 in cc
+given_at_all : (rows : List Row) (l : Lasting) → HasLasting l rows → HasNumber (codes "scans") rows None → HasNumber (codes "for") rows None → ⊥
+given_at_all rows (Count n) h none no_time = let given = h.0.1 in cc
+given_at_all rows (Until time) h none no_time = let given = h.1.1 in cc
+
+-- The period is asked for beside several scans alone.
+pub no_causes_of_period : (rows : List Row) (l : Lasting) → HasLasting l rows → ((every : ℕ) → HasEvery every rows → ⊥) → AsksNone (codes "causes") rows
+no_causes_of_period rows l some none (Check file warns) h = let other = h.0 in cc
+no_causes_of_period rows l some none (Causes list after) h = given_at_all rows l some h.2 h.3
+no_causes_of_period rows l some none (Held list scans every) h = none every h.3
+no_causes_of_period rows l some none (Groups list grouping) h = given_at_all rows l some h.4 h.5
+no_causes_of_period rows l some none (Show r) h = let other = h.0 in cc
+no_causes_of_period rows l some none (Film r) h = let other = h.0 in cc
+no_causes_of_period rows l some none (Sim r) h = let other = h.0 in cc
+no_causes_of_period rows l some none (Waves r) h = let other = h.0 in cc
+no_causes_of_period rows l some none (Uses file) h = let other = h.0 in cc
 
 pub no_list_of_inputs : (rows : List Row) → ((all : Bool) (names : List Text) → HasInputs rows all names → ⊥) → (l : ListRequest) → NamesList rows l → ⊥
 no_list_of_inputs rows none l h = none l.all_inputs (map string_bytes l.inputs.items) h.6

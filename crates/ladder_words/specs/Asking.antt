@@ -1,8 +1,10 @@
 -- What a request asks, by the subcommand and the values of its arguments.
-use Rattle.std.specs.Prelude.{◌≡◌, ◌⊎◌, ◌<◌, ◌^◌, ⊤, ℕ, Bool, true, false, List, Option, None, Some, map, codes, string_bytes, unwrap_or, option_map, []}
+use Rattle.std.specs.Prelude.{◌≡◌, ◌⊎◌, ◌<◌, ◌+◌, ◌-◌, ◌/◌, ◌^◌, ⊤, ℕ, zero, suc, min, Bool, true, false, List, Option, None, Some, map, codes, string_bytes, unwrap_or, option_map, []}
 use Rattle.std.specs.Str.Parse.{IsNumeral, digits_value, without_leading_plus}
 use Rattle.clap.specs.Words.{App, Row, Text, all_of, first_of, one_of, subcommand_of}
 use Rattle.ladder_words.specs.declared.words.TheConstants.{EVERY}
+use Rattle.ladder_words.specs.declared.words.Lasting.{Lasting}
+use Rattle.ladder_words.specs.declared.words.Lasting.TheVariants.{Count, Until}
 use Rattle.ladder_words.specs.declared.request.Form.{Form}
 use Rattle.ladder_words.specs.declared.request.Form.TheVariants.{Statement, Table, Terms}
 use Rattle.ladder_words.specs.declared.request.InputOrder.{InputOrder}
@@ -70,6 +72,21 @@ IsTable rows = (HasFlag (codes "grouped") rows → ⊥) × HasForm Table rows ×
 abbrev pub HasEvery : ℕ → List Row → Type 0
 HasEvery every rows = HasNumber (codes "every") rows (Some every) ⊎ (HasNumber (codes "every") rows None × (every ≡ EVERY))
 
+-- How many scans are made up to a time after the first one's moment, and at it. Where no time is between two of them, more than any limit.
+abbrev pub scans_until : ℕ → ℕ → ℕ
+scans_until time zero = 2 ^ 64 - 1
+scans_until time (suc every) = min (time / suc every + 1) (2 ^ 64 - 1)
+
+-- how long several scans last: their number is given, or the time up to which they are made
+abbrev pub HasLasting : Lasting → List Row → Type 0
+HasLasting (Count scans) rows = HasNumber (codes "scans") rows (Some scans) × HasNumber (codes "for") rows None
+HasLasting (Until time) rows = HasNumber (codes "scans") rows None × HasNumber (codes "for") rows (Some time)
+
+-- how many scans there are: the number that is given, or those up to a time
+abbrev pub HasScans : ℕ → ℕ → List Row → Type 0
+HasScans scans every rows = (HasNumber (codes "scans") rows (Some scans) × HasNumber (codes "for") rows None)
+    ⊎ (HasNumber (codes "scans") rows None × ((time : ℕ) × HasNumber (codes "for") rows (Some time) × (scans ≡ scans_until time every)))
+
 -- The listed inputs are named, or all are listed and none is named.
 pub record HasInputs (rows : List Row) (all : Bool) (names : List Text) : Type 0 where
   pub flag : HasSwitch (codes "all-inputs") rows all
@@ -92,12 +109,13 @@ Asks name rows (Check file warns) = (name ≡ codes "check") × HasText (codes "
 Asks name rows (Causes list after) = (name ≡ codes "causes")
     × IsTable rows
     × HasNumber (codes "scans") rows None
+    × HasNumber (codes "for") rows None
     × HasNumber (codes "every") rows None
     × HasNumber (codes "after") rows after
     × NamesList rows list
 Asks name rows (Held list scans every) = (name ≡ codes "causes")
     × IsTable rows
-    × HasNumber (codes "scans") rows (Some scans)
+    × HasScans scans every rows
     × HasEvery every rows
     × HasNumber (codes "after") rows None
     × NamesList rows list
@@ -106,6 +124,7 @@ Asks name rows (Groups list grouping) = (name ≡ codes "causes")
     × HasForm grouping.form rows
     × HasOrder grouping.order rows
     × HasNumber (codes "scans") rows None
+    × HasNumber (codes "for") rows None
     × HasNumber (codes "every") rows None
     × HasNumber (codes "after") rows None
     × MayHaveLimit grouping.form list.limit

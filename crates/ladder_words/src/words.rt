@@ -1,10 +1,10 @@
 //! From the arguments of a command line to a request.
 
 ghost use Rattle.std.specs.Prelude.{◌≡◌, ℕ, Bool, List, [], true, false, codes, IfSome, IsSome, OnOk, IfOk, IfErr, map, option_map, string_bytes, unwrap_or, None, Option, Some};
-ghost use Rattle.clap.specs.Words.{Text, all_of, first_of, found_of, kind_of, rows_of, subcommand_rows_of};
+ghost use Rattle.clap.specs.Words.{Row, Text, all_of, first_of, found_of, kind_of, rows_of, subcommand_rows_of};
 ghost use Rattle.clap.specs.Words.{fault_of as clap_fault};
 ghost use Rattle.ladder_command.specs.CommandLine.{ladder_app};
-ghost use Rattle.ladder_words.specs.Asking.{Asks, AsksBy, AsksNone, HasEvery, HasFlag, HasForm, HasInputs, HasMedium, HasNumber, HasOrder, HasOption, HasSwitch, IsNamed, IsTable, MayHaveLimit, NamesList, Says};
+ghost use Rattle.ladder_words.specs.Asking.{Asks, AsksBy, AsksNone, HasEvery, HasFlag, HasForm, HasInputs, HasLasting, HasMedium, HasNumber, HasOrder, HasOption, HasSwitch, IsNamed, IsTable, MayHaveLimit, NamesList, HasScans, Says, scans_until};
 ghost use Rattle.ladder_words.specs.Faults.{IsFaultOf, SaysOf, UsageWhere};
 
 use crate::request::{
@@ -24,7 +24,7 @@ const EVERY: u64 = 10;
 /// # Errors
 ///
 /// `Usage` where `clap` finds a fault other than that help is asked for, where groups or a list over several scans are to begin after a
-/// number, where a time between scans is asked for without several scans, or several scans in groups, where a form or the order `auto` is asked for without groups, or both forms, or a statement with a limit, or an order that has another name, where
+/// number, where a time between scans is asked for without several scans, several scans by their number and by a time, or in groups, where a form or the order `auto` is asked for without groups, or both forms, or a statement with a limit, or an order that has another name, where
 /// inputs are named beside all of them, where a stimulus is to be shown with a moment, a number or listed inputs, or a waveform to be written with a saved state, and nowhere else; `Help` with its text where help is asked for; `Memory` when out of memory.
 pub fn read_words(alloc: Global, words: Vec<String>) -> Result<CommandLine, WordFault>
     ensures asks { IfOk result (AsksBy ladder_app (map string_bytes words.items)) }
@@ -120,15 +120,46 @@ fn table_request(alloc: Global, found: &ArgMatches<'_>) -> Result<Request, WordF
     if form_of(found)? != Form::Table || order_of(found)? != InputOrder::Given {
         return Err(WordFault::Usage);
     }
-    match number(found, "scans")? {
-        Some(scans) => held_request(alloc, found, scans),
-        None => list_request(alloc, found),
+    let scans = number(found, "scans")?;
+    let time = number(found, "for")?;
+    match (scans, time) {
+        (None, None) => list_request(alloc, found),
+        (Some(scans), None) => held_request(alloc, found, Lasting::Count(scans)),
+        (None, Some(time)) => held_request(alloc, found, Lasting::Until(time)),
+        (Some(_), Some(_)) => Err(WordFault::Usage),
+    }
+}
+
+/// How long several scans last: how many there are, or up to which time after the first one's moment they are made, in milliseconds.
+#[derive(Clone, Copy, Debug, PartialEq, Eq)]
+enum Lasting {
+    Count(u64),
+    Until(u64),
+}
+
+/// How many scans are made up to a time after the first one's moment, and at it.
+fn scans_until(time: u64, every: u64) -> u64
+    ensures { result ≡ scans_until time every }
+{
+    match time.checked_div(every) {
+        Some(scans) => scans.saturating_add(1),
+        None => u64::MAX,
+    }
+}
+
+fn count(lasting: Lasting, every: u64) -> u64
+    ensures { (rows : List Row) → HasLasting lasting rows → HasScans result every rows }
+{
+    match lasting {
+        Lasting::Count(scans) => scans,
+        Lasting::Until(time) => scans_until(time, every),
     }
 }
 
 fn list_request(alloc: Global, found: &ArgMatches<'_>) -> Result<Request, WordFault>
     requires table { IsTable (rows_of (found_of found.now)) }
     requires scans { HasNumber (codes "scans") (rows_of (found_of found.now)) None }
+    requires time { HasNumber (codes "for") (rows_of (found_of found.now)) None }
     ensures ok { IfOk result (Asks (codes "causes") (rows_of (found_of found.now))) }
     ensures err { IfErr result (UsageWhere (AsksNone (codes "causes") (rows_of (found_of found.now)))) }
 {
@@ -142,9 +173,13 @@ fn list_request(alloc: Global, found: &ArgMatches<'_>) -> Result<Request, WordFa
     Ok(Request::Causes { list, after })
 }
 
-fn held_request(alloc: Global, found: &ArgMatches<'_>, scans: u64) -> Result<Request, WordFault>
+fn held_request(
+    alloc: Global,
+    found: &ArgMatches<'_>,
+    lasting: Lasting,
+) -> Result<Request, WordFault>
     requires table { IsTable (rows_of (found_of found.now)) }
-    requires scans { HasNumber (codes "scans") (rows_of (found_of found.now)) (Some scans) }
+    requires lasting { HasLasting lasting (rows_of (found_of found.now)) }
     ensures ok { IfOk result (Asks (codes "causes") (rows_of (found_of found.now))) }
     ensures err { IfErr result (UsageWhere (AsksNone (codes "causes") (rows_of (found_of found.now)))) }
 {
@@ -154,6 +189,7 @@ fn held_request(alloc: Global, found: &ArgMatches<'_>, scans: u64) -> Result<Req
     let every = every_of(found)?;
     let limit = number(found, "limit")?;
     let list = list_of(alloc, found, limit)?;
+    let scans = count(lasting, every);
     Ok(Request::Held { list, scans, every })
 }
 
@@ -175,7 +211,10 @@ fn groups_request(alloc: Global, found: &ArgMatches<'_>) -> Result<Request, Word
     let order = order_of(found)?;
     let limit = number(found, "limit")?;
     // Groups are those of one scan.
-    if number(found, "scans")?.is_some() || number(found, "every")?.is_some() {
+    if number(found, "scans")?.is_some() || number(found, "for")?.is_some() {
+        return Err(WordFault::Usage);
+    }
+    if number(found, "every")?.is_some() {
         return Err(WordFault::Usage);
     }
     // A group has no number, so there is none to begin after; and a statement that is cut off says something else.

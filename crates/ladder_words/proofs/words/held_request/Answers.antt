@@ -11,6 +11,6 @@ returns-in_err-number-clause-err c =
 
 pub returns-in_err-every-clause-err : goal.returns-in_err-every-clause-err
 returns-in_err-every-clause-err c =
-    let none = no_causes_of_period (rows_of (found_of c.args.found.now)) c.args.scans c.requires.scans in
+    let none = no_causes_of_period (rows_of (found_of c.args.found.now)) c.args.lasting c.requires.lasting in
     let fault = err_from_is_err_and c.from_residual-in_err-every.result c.from_residual-in_err-every.ensures.1 in
     rw (fault.1, fault.2) (usage_weaker _ none c.in_err-every.ensures.err)

@@ -1,6 +1,6 @@
 use Rattle.std.proofs.lemmas.Result.{err_from_is_err_and}
 use Rattle.clap.specs.Words.{found_of, rows_of}
-use Rattle.ladder_words.proofs.Faults.{no_causes_of_form, no_causes_of_order, no_causes_of_scans, usage_weaker}
+use Rattle.ladder_words.proofs.Faults.{no_causes_of_form, no_causes_of_order, no_causes_of_scans, no_causes_of_time, usage_weaker}
 use Rattle.ladder_words.proofs.words.table_request.Goals as goal
 
 pub returns-in_err-form_of-clause-err : goal.returns-in_err-form_of-clause-err
@@ -20,3 +20,9 @@ returns-in_err-scans-clause-err c =
     let none = no_causes_of_scans (rows_of (found_of c.args.found.now)) in
     let fault = err_from_is_err_and c.from_residual-in_err-scans.result c.from_residual-in_err-scans.ensures.1 in
     rw (fault.1, fault.2) (usage_weaker _ none c.in_err-scans.ensures.err)
+
+pub returns-in_err-time-clause-err : goal.returns-in_err-time-clause-err
+returns-in_err-time-clause-err c =
+    let none = no_causes_of_time (rows_of (found_of c.args.found.now)) in
+    let fault = err_from_is_err_and c.from_residual-in_err-time.result c.from_residual-in_err-time.ensures.1 in
+    rw (fault.1, fault.2) (usage_weaker _ none c.in_err-time.ensures.err)

@@ -1,0 +1,4 @@
+pub mod Asking
+pub mod Settling
+pub mod Tree
+pub mod Rows
