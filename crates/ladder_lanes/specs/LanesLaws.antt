@@ -82,7 +82,7 @@ in_apart f p s e = record {
   q = λ h. subst (λ t. word_allows (q_lanes (apart f)) p (q_of t)) (e h) (apart_q f p h);
 }
 
-in_alike : (t : Stored) (p : ℕ) (s : Stored) → (p < 64 → t ≡ s) → IsInLane p (Alike t) s
+pub in_alike : (t : Stored) (p : ℕ) (s : Stored) → (p < 64 → t ≡ s) → IsInLane p (Alike t) s
 in_alike t p s e = record {
   word = words_lattice.known_value (q_of t);
   stored = e;
