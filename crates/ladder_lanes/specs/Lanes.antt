@@ -23,9 +23,9 @@ abbrev pub is_whole : Word64 → Bool
 is_whole x = x.0 == 0 || x.0 == 2 ^ 64 - 1
 
 -- What lane i stores.
-abbrev pub lane : Lanes → ℕ → Stored
-lane (Alike s) i = s
-lane (Apart q ss) i = slice_index_or ss i (new_block Ton)
+abbrev pub stored_in : Lanes → ℕ → Stored
+stored_in (Alike s) i = s
+stored_in (Apart q ss) i = slice_index_or ss i (new_block Ton)
 
 -- The Qs of the lanes.
 abbrev pub q_lanes : Lanes → Word64
@@ -42,7 +42,7 @@ apart f = let ss = map f (range_with_len 0 LANES) in Apart (q_word ss) ss
 
 -- What lane i stores after a step: it steps by itself, with its own inputs.
 abbrev pub stepped : BlockKind → ℕ → Lanes → Word64 → Word64 → ℕ → ℕ → Stored
-stepped kind preset b x y now i = step kind preset (lane b i) (bit x i) (bit y i) now
+stepped kind preset b x y now i = step kind preset (stored_in b i) (bit x i) (bit y i) now
 
 abbrev pub are_alike : Lanes → Bool
 are_alike (Alike s) = true
@@ -55,7 +55,7 @@ step_lanes kind preset b x y now =
 
 -- What lane i stores after a choice: it chooses by itself.
 abbrev pub chosen : Word64 → Lanes → Lanes → ℕ → Stored
-chosen g b c i = if bit g i then lane b i else lane c i
+chosen g b c i = if bit g i then stored_in b i else stored_in c i
 
 -- Where the condition is the same in all lanes, the choice is one of the two.
 abbrev pub choice_lanes : Word64 → Lanes → Lanes → Lanes

@@ -21,14 +21,14 @@ use Rattle.ladder_known.specs.KnownScan.{plainly}
 use Rattle.ladder_signals.specs.WordLaws.{words_allowed, words_lattice}
 use Rattle.ladder_signals.specs.Words.{IsBit, IsWord, word_allows}
 use Rattle.ladder_signals.specs.declared.word.Word64.{Word64}
-use Rattle.ladder_lanes.specs.Lanes.{apart, are_alike, bit, chosen, choice_lanes, is_whole, lane, lanes, q_lanes, q_word, step_lanes, stepped}
+use Rattle.ladder_lanes.specs.Lanes.{apart, are_alike, bit, chosen, choice_lanes, is_whole, stored_in, lanes, q_lanes, q_word, step_lanes, stepped}
 use Rattle.ladder_lanes.specs.declared.lanes.Lanes.{Lanes}
 use Rattle.ladder_lanes.specs.declared.lanes.Lanes.TheVariants.{Alike, Apart}
 
 -- Lane p stores this, and has its Q.
 pub record IsInLane (p : ℕ) (b : Lanes) (s : Stored) : Type 0 where
   pub word : IsWord (q_lanes b)
-  pub stored : p < 64 → lane b p ≡ s
+  pub stored : p < 64 → stored_in b p ≡ s
   pub q : p < 64 → word_allows (q_lanes b) p (q_of s)
 
 -- ---- one lane of a word
@@ -65,7 +65,7 @@ apart_word : (f : ℕ → Stored) → IsWord (q_lanes (apart f))
 unfolding apart
 apart_word f = q_word_small (map f (range_with_len 0 64)) (length-map-range_with_len f 0 64)
 
-pub apart_lane : (f : ℕ → Stored) (p : ℕ) → p < 64 → lane (apart f) p ≡ f p
+pub apart_lane : (f : ℕ → Stored) (p : ℕ) → p < 64 → stored_in (apart f) p ≡ f p
 unfolding apart
 apart_lane f p h = get_or-map-range_with_len f 0 64 p p (new_block Ton) h (omega arith)
 
@@ -96,7 +96,7 @@ both_true true true false e = cc
 both_true true false c e = cc
 both_true false b c e = cc
 
-same_lane : (b : Lanes) (p : ℕ) → are_alike b ≡ true → lane b 0 ≡ lane b p
+same_lane : (b : Lanes) (p : ℕ) → are_alike b ≡ true → stored_in b 0 ≡ stored_in b p
 same_lane (Alike s) p e = refl
 same_lane (Apart q ss) p e = cc
 
@@ -106,7 +106,7 @@ same_step : (kind : BlockKind) (preset : ℕ) (b : Lanes) (x y : Word64) (now p 
 same_step kind preset b x y now p h e =
     let all = both_true (are_alike b) (is_whole x) (is_whole y) e in
     ap (λ (s : Stored). step kind preset s (bit x 0) (bit y 0) now) (same_lane b p all.0)
-    ∙ ap₂ (λ (u v : Bool). step kind preset (lane b p) u v now) (sym (whole_bit x p h all.1)) (sym (whole_bit y p h all.2))
+    ∙ ap₂ (λ (u v : Bool). step kind preset (stored_in b p) u v now) (sym (whole_bit x p h all.1)) (sym (whole_bit y p h all.2))
 
 in_either : (c : Bool) (f : ℕ → Stored) (p : ℕ) (s : Stored) → (c ≡ true → p < 64 → f 0 ≡ f p) → (p < 64 → f p ≡ s)
     → IsInLane p (if c then Alike (f 0) else apart f) s
@@ -128,7 +128,7 @@ is_number n m e = grind (arith, nat_tests)
 -- what a choice leaves: one side, where the condition is the same in all lanes, or both
 module _ (g : Word64) (h : Bool) (b c : Lanes) (s t : Stored) (p : ℕ) (condition : AllowsAt IsWord IsBit word_allows p g h) (on : IsInLane p b s) (off : IsInLane p c t) where
   chosen_is : p < 64 → chosen g b c p ≡ (if h then s else t)
-  chosen_is l = ap (λ (u : Bool). cond u (lane b p) (lane c p)) (bit_is g p h (condition.1 l)) ∙ ap₂ (λ (u v : Stored). cond h u v) (on.stored l) (off.stored l)
+  chosen_is l = ap (λ (u : Bool). cond u (stored_in b p) (stored_in c p)) (bit_is g p h (condition.1 l)) ∙ ap₂ (λ (u v : Stored). cond h u v) (on.stored l) (off.stored l)
 
   -- a side of which the lane is the one that is chosen
   in_side : (e : Lanes) → IsWord (q_lanes e) → (p < 64 → IsInLane p e (if h then s else t)) → IsInLane p e (if h then s else t)

@@ -23,7 +23,7 @@ impl Keep<Word64> for Lanes {
 
     fn q(self) -> Word64 {
         match self {
-            Lanes::Alike(stored) => Word64::known(stored.q()),
+            Lanes::Alike(block) => Word64::known(block.q()),
             Lanes::Apart { q, .. } => q,
         }
     }

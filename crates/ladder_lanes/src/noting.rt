@@ -13,8 +13,8 @@ use ladder_signals::Word64;
 pub(crate) fn clear(firsts: &mut [Option<u64>])
     ensures { (i : ℕ) → slice_index_or firsts.new i None ≡ None }
 {
-    for place in 0..firsts.len() {
-        firsts[place] = None;
+    for lane in 0..firsts.len() {
+        firsts[lane] = None;
     }
 }
 
@@ -26,9 +26,9 @@ pub(crate) fn note(value: Word64, scan: u64, firsts: &mut [Option<u64>])
     if value.0 == 0 {
         return;
     }
-    for place in 0..LANES {
-        if firsts[place].is_none() && bit(value, place) {
-            firsts[place] = Some(scan);
+    for lane in 0..LANES {
+        if firsts[lane].is_none() && bit(value, lane) {
+            firsts[lane] = Some(scan);
         }
     }
 }
@@ -37,8 +37,8 @@ pub(crate) fn note(value: Word64, scan: u64, firsts: &mut [Option<u64>])
 pub(crate) fn have_all(firsts: &[Option<u64>]) -> bool
     ensures { IsTrue result ↔ EachIndex firsts.now (λ i. IsSome (slice_index_or firsts.now i None)) }
 {
-    for place in 0..firsts.len() {
-        if firsts[place].is_none() {
+    for lane in 0..firsts.len() {
+        if firsts[lane].is_none() {
             return false;
         }
     }

@@ -6,7 +6,7 @@ ghost use Rattle.ladder_vars.specs.declared.kind.BlockKind.TheVariants.{Ton};
 ghost use Rattle.ladder_elements.specs.declared.block.Stored.{Stored};
 ghost use Rattle.ladder_elements.specs.Blocks.{new_block};
 ghost use Rattle.ladder_lanes.specs.declared.lanes.TheConstants.{LANES};
-ghost use Rattle.ladder_lanes.specs.Lanes.{apart, bit, chosen, is_whole, lane, q_word, step_lanes, choice_lanes, stepped};
+ghost use Rattle.ladder_lanes.specs.Lanes.{apart, bit, chosen, is_whole, q_word, stored_in, step_lanes, choice_lanes, stepped};
 
 use crate::lanes::{LANES, Lanes};
 use ladder_elements::{Stored, block};
@@ -21,21 +21,21 @@ fn is_whole(word: Word64) -> bool
 }
 
 /// A lane of a word.
-pub(crate) fn bit(word: Word64, place: usize) -> bool
-    requires { place < LANES }
-    ensures { result ≡ bit word place }
+pub(crate) fn bit(word: Word64, lane: usize) -> bool
+    requires { lane < LANES }
+    ensures { result ≡ bit word lane }
 {
-    (word.0 >> place) & 1 == 1
+    (word.0 >> lane) & 1 == 1
 }
 
 /// What a lane stores.
-fn lane(lanes: &Lanes, place: usize) -> Stored
-    requires { place < LANES }
-    ensures { result ≡ lane lanes.now place }
+fn stored_in(lanes: &Lanes, lane: usize) -> Stored
+    requires { lane < LANES }
+    ensures { result ≡ stored_in lanes.now lane }
 {
     match lanes {
         Lanes::Alike(stored) => *stored,
-        Lanes::Apart { stored, .. } => stored[place],
+        Lanes::Apart { stored, .. } => stored[lane],
     }
 }
 
@@ -44,9 +44,9 @@ fn q_word(stored: &[Stored; LANES]) -> Word64
     ensures { result ≡ q_word stored.now }
 {
     let mut word = 0u64;
-    for place in 0..LANES {
-        if stored[place].q() {
-            word |= 1 << place;
+    for lane in 0..LANES {
+        if stored[lane].q() {
+            word |= 1 << lane;
         }
     }
     Word64(word)
@@ -75,13 +75,13 @@ fn steps(
     ensures { (i : ℕ) → i < LANES → slice_index_or result i (new_block Ton) ≡ stepped kind preset before.now first second now i }
 {
     let mut after = [Stored::new(BlockKind::Ton); LANES];
-    for place in 0..LANES {
-        after[place] = block::step(
+    for lane in 0..LANES {
+        after[lane] = block::step(
             kind,
             preset,
-            lane(before, place),
-            bit(first, place),
-            bit(second, place),
+            stored_in(before, lane),
+            bit(first, lane),
+            bit(second, lane),
             now,
         );
     }
@@ -115,11 +115,11 @@ fn choices(condition: Word64, on: &Lanes, off: &Lanes) -> [Stored; LANES]
     ensures { (i : ℕ) → i < LANES → slice_index_or result i (new_block Ton) ≡ chosen condition on.now off.now i }
 {
     let mut stored = [Stored::new(BlockKind::Ton); LANES];
-    for place in 0..LANES {
-        stored[place] = if bit(condition, place) {
-            lane(on, place)
+    for lane in 0..LANES {
+        stored[lane] = if bit(condition, lane) {
+            stored_in(on, lane)
         } else {
-            lane(off, place)
+            stored_in(off, lane)
         };
     }
     stored

@@ -34,19 +34,19 @@ module _ (q : ℕ → Bool) (word next place : ℕ) (within : place < 64) (below
   left_above : next ≡ word → (i : ℕ) → place + 1 ≤ i → bit_at next i ≡ 0
   left_above is i h = ap (λ n. bit_at n i) is ∙ above i (omega arith)
 
-pub loop-place-preserved : goal.loop-place-preserved
-loop-place-preserved c =
+pub loop-lane-preserved : goal.loop-lane-preserved
+loop-lane-preserved c =
     let q = λ (i : ℕ). q_of (get_or c.args.stored.now i (new_block Ton)) in
-    let inv = c.loop-place.invariant in
-    let within : c.loop-place.place < 64 = omega (arith, c.loop-place-test.true) in
+    let inv = c.loop-lane.invariant in
+    let within : c.loop-lane.lane < 64 = omega (arith, c.loop-lane-test.true) in
     elim c.if-q.branch [
       | then-q w ↦ record {
-          below = set_below q c.loop-place.word c.if-q.word c.loop-place.place within inv.below inv.above (sym c.q.ensures ∙ w.if-q.true) w.word-is;
-          above = set_above q c.loop-place.word c.if-q.word c.loop-place.place within inv.below inv.above w.word-is;
+          below = set_below q c.loop-lane.word c.if-q.word c.loop-lane.lane within inv.below inv.above (sym c.q.ensures ∙ w.if-q.true) w.word-is;
+          above = set_above q c.loop-lane.word c.if-q.word c.loop-lane.lane within inv.below inv.above w.word-is;
         }
       | else-q w ↦ record {
-          below = left_below q c.loop-place.word c.if-q.word c.loop-place.place within inv.below inv.above (sym c.q.ensures ∙ w.if-q.false) w.word-is;
-          above = left_above q c.loop-place.word c.if-q.word c.loop-place.place within inv.below inv.above w.word-is;
+          below = left_below q c.loop-lane.word c.if-q.word c.loop-lane.lane within inv.below inv.above (sym c.q.ensures ∙ w.if-q.false) w.word-is;
+          above = left_above q c.loop-lane.word c.if-q.word c.loop-lane.lane within inv.below inv.above w.word-is;
         }
       ]
 
@@ -56,4 +56,4 @@ all_bits ss n long small each = same_from_bits_below 64 n (mask_l (map q_of ss))
     (λ i h. each i h ∙ ap (λ (b : Bool). cond b 1 0) (sym (get_or-map q_of ss i (new_block Ton))) ∙ sym (bit_mask_l (map q_of ss) i))
 
 pub returns : goal.returns
-returns c = ap word (all_bits c.args.stored.now c.loop-place.word c.told-stored (omega arith) (λ i h. c.loop-place.invariant.below i (omega (arith, c.loop-place-test.false))))
+returns c = ap word (all_bits c.args.stored.now c.loop-lane.word c.told-stored (omega arith) (λ i h. c.loop-lane.invariant.below i (omega (arith, c.loop-lane-test.false))))
