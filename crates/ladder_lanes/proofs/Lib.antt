@@ -1,0 +1,3 @@
+pub mod LaneByLane
+pub mod FirstInLane
+pub mod WordScans

@@ -1,0 +1,71 @@
+use Rattle.std.proofs.Common.{◌≡◌, ◌∙◌, ◌+◌, ◌<◌, ap, arith, sym, refl, ℕ, Bool, List, Option, None, get_or, length}
+use Rattle.ladder_scan.specs.Cells.{Diagram}
+use Rattle.ladder_scan.specs.Programs.{diagram_of}
+use Rattle.ladder_scan.specs.Rung.{Held}
+use Rattle.ladder_held.specs.Holding.{moment_of}
+use Rattle.ladder_known.specs.KnownScan.{Known}
+use Rattle.ladder_signals.specs.Words.{word}
+use Rattle.ladder_signals.specs.declared.word.Word64.{Word64}
+use Rattle.ladder_lanes.specs.Lanes.{bit}
+use Rattle.ladder_lanes.specs.Noting.{noted}
+use Rattle.ladder_lanes.specs.SeveralLanes.{first_in_lane, is_on_in_lane, lanes_after}
+use Rattle.ladder_lanes.specs.declared.lanes.Lanes.{Lanes}
+use Rattle.ladder_lanes.proofs.FirstInLane.{first_more, first_stays}
+use Rattle.ladder_lanes.proofs.WordScans.{none_made, one_more, value_is}
+use Rattle.ladder_lanes.proofs.first.scan_lanes.Goals as goal
+
+pub loop-done-init : goal.loop-done-init
+loop-done-init c = record {
+  known = c.begin.ensures.known ∙ none_made (diagram_of c.args.program.now) (moment_of c.args.watched.first c.args.watched.scans) c.args.inputs.now c.args.state.now.held;
+  sizes = c.begin.ensures.sizes;
+  room = refl;
+  long = ?;
+  firsts = λ lane h. c.clear.ensures lane;
+}
+
+-- one scan more, in each lane
+noted_more : (d : Diagram) (moment : ℕ → ℕ) (xs : List Word64) (h : Held) (coil n : ℕ) (k : Known Word64 Lanes) (value : Word64) (firsts next : List (Option ℕ))
+    → k ≡ lanes_after d moment xs (n + 1) h → value ≡ get_or k.values coil (word 0)
+    → ((lane : ℕ) → lane < 64 → get_or firsts lane None ≡ first_in_lane d moment xs h coil lane n)
+    → ((lane : ℕ) → lane < 64 → get_or next lane None ≡ noted (bit value lane) (n + 1) (get_or firsts lane None))
+    → (lane : ℕ) → lane < 64 → get_or next lane None ≡ first_in_lane d moment xs h coil lane (n + 1)
+noted_more d moment xs h coil n k value firsts next known is before after lane l =
+    let one : n + 1 ≡ 1 + n = omega arith in
+    after lane l
+    ∙ ap (λ (f : Option ℕ). noted (bit value lane) (n + 1) f) (before lane l)
+    ∙ ap (λ (b : Bool). noted b (n + 1) (first_in_lane d moment xs h coil lane n))
+      (value_is d moment xs (n + 1) coil lane h k value known is ∙ ap (is_on_in_lane d moment xs h coil lane) one)
+    ∙ sym (first_more (is_on_in_lane d moment xs h coil lane) n)
+
+pub loop-done-preserved : goal.loop-done-preserved
+loop-done-preserved c =
+    let d = diagram_of c.args.program.now in
+    let moment = moment_of c.args.watched.first c.args.watched.scans in
+    let xs = c.args.inputs.now in
+    let h = c.args.state.now.held in
+    let before = c.loop-done.invariant in
+    let done = c.loop-done.done in
+    let known = one_more d moment xs done h c.loop-done.known c.scan_known.new.known before.known c.scan_known.ensures.known in
+    record {
+      known = known;
+      sizes = c.scan_known.ensures.sizes;
+      room = c.scan_known.ensures.room ∙ before.room;
+      long = ?;
+      firsts = noted_more d moment xs h c.args.watched.coil done c.scan_known.new.known c.value-value.result c.loop-done.firsts c.note.new.firsts known c.value-value.ensures before.firsts c.note.ensures;
+    }
+
+pub returns-then-have_all : goal.returns-then-have_all
+returns-then-have_all c =
+    let d = diagram_of c.args.program.now in
+    let moment = moment_of c.args.watched.first c.args.watched.scans in
+    let xs = c.args.inputs.now in
+    let h = c.args.state.now.held in
+    let before = c.loop-done.invariant in
+    let done = c.loop-done.done in
+    let known = one_more d moment xs done h c.loop-done.known c.scan_known.new.known before.known c.scan_known.ensures.known in
+    let now = noted_more d moment xs h c.args.watched.coil done c.scan_known.new.known c.value-value.result c.loop-done.firsts c.note.new.firsts known c.value-value.ensures before.firsts c.note.ensures in
+    record {
+      firsts = λ lane l. ?;
+      sizes = c.scan_known.ensures.sizes;
+      room = c.scan_known.ensures.room ∙ before.room;
+    }

@@ -1,0 +1,181 @@
+-- Each lane goes on as by itself.
+use Rattle.std.proofs.Common.{◌≡◌, ◌∙◌, ◌<◌, ℕ, ◌+◌, ◌-◌, ◌^◌, Bool, true, false, cond, if◌then◌else◌, ◌||◌, ◌⊎◌, inl, inr, List, map, get_or, refl, sym, ap, ap₂, subst, arith, ◌==◌, ◌&&◌, length, lit<}
+use Rattle.std.proofs.Math.ListN.{get_or-map}
+use Rattle.std.proofs.lemmas.Nat.Bits.{bit_at-zero, bit_at_ones}
+use Rattle.std.proofs.lemmas.Bool.Decides.{nat_tests}
+use Rattle.std.proofs.lemmas.List.{length-map}
+use Rattle.std.proofs.lemmas.List.FromFn.{get_or-map-range_with_len, length-map-range_with_len}
+use Rattle.std.proofs.lemmas.Simd.{bit_mask_l, mask_l-lt}
+use Rattle.std.specs.Int.{bit_at}
+use Rattle.std.specs.List.{range_with_len}
+use Rattle.std.specs.Simd.Lanes.{mask_l}
+use Rattle.ladder_vars.specs.declared.kind.BlockKind.{BlockKind}
+use Rattle.ladder_vars.specs.declared.kind.BlockKind.TheVariants.{Ton}
+use Rattle.ladder_elements.specs.declared.block.Stored.{Stored}
+use Rattle.ladder_elements.specs.Blocks.{step, q_of, new_block}
+use Rattle.ladder_elements.specs.Relations.{AllowsAt}
+use Rattle.ladder_scan.specs.Cells.{Diagram}
+use Rattle.ladder_glance.specs.KeepsValues.{KeepsValues}
+use Rattle.ladder_known.specs.KnownLaws.{StepsKeep}
+use Rattle.ladder_known.specs.KnownScan.{plainly}
+use Rattle.ladder_signals.specs.WordLaws.{words_allowed, words_lattice}
+use Rattle.ladder_signals.specs.Words.{IsBit, IsWord, word_allows}
+use Rattle.ladder_signals.specs.declared.word.Word64.{Word64}
+use Rattle.ladder_lanes.specs.Lanes.{apart, are_alike, bit, chosen, choice_lanes, is_whole, stored_in, lanes, q_lanes, q_word, step_lanes, stepped}
+use Rattle.ladder_lanes.specs.declared.lanes.Lanes.{Lanes}
+use Rattle.ladder_lanes.specs.declared.lanes.Lanes.TheVariants.{Alike, Apart}
+
+-- Lane p stores this, and has its Q.
+pub record IsInLane (p : ℕ) (b : Lanes) (s : Stored) : Type 0 where
+  pub word : IsWord (q_lanes b)
+  pub stored : p < 64 → stored_in b p ≡ s
+  pub q : p < 64 → word_allows (q_lanes b) p (q_of s)
+
+-- ---- one lane of a word
+digit_is : (n : ℕ) (b : Bool) → n ≡ cond b 1 0 → (n == 1) ≡ b
+digit_is n true e = ap (λ m. m == 1) e
+digit_is n false e = ap (λ m. m == 1) e
+
+pub bit_is : (x : Word64) (p : ℕ) (b : Bool) → word_allows x p b → bit x p ≡ b
+bit_is x p b h = digit_is (bit_at x.0 p) b h
+
+whole_zero : (n p : ℕ) → n ≡ 0 → (bit_at n p == 1) ≡ false
+whole_zero n p e = ap (λ m. bit_at m p == 1) e ∙ ap (λ m. m == 1) (bit_at-zero p)
+
+whole_one : (n p : ℕ) → p < 64 → n ≡ 2 ^ 64 - 1 → (bit_at n p == 1) ≡ true
+whole_one n p h e = ap (λ m. bit_at m p == 1) e ∙ ap (λ m. m == 1) (bit_at_ones 64 p h)
+
+whole_cases : (n : ℕ) → ((n == 0) || (n == 2 ^ 64 - 1)) ≡ true → (n ≡ 0) ⊎ (n ≡ 2 ^ 64 - 1)
+whole_cases n e = grind (arith, nat_tests)
+
+whole_bit : (x : Word64) (p : ℕ) → p < 64 → is_whole x ≡ true → bit x p ≡ bit x 0
+whole_bit x p h e = elim (whole_cases x.0 e) [
+    | inl zero ↦ whole_zero x.0 p zero ∙ sym (whole_zero x.0 0 zero)
+    | inr ones ↦ whole_one x.0 p h ones ∙ sym (whole_one x.0 0 (lit< tt) ones)
+    ]
+
+-- ---- each lane's own
+q_at : (ss : List Stored) (p : ℕ) → get_or (map q_of ss) p false ≡ q_of (get_or ss p (new_block Ton))
+q_at ss p = get_or-map q_of ss p (new_block Ton)
+
+pub q_word_small : (ss : List Stored) → length ss ≡ 64 → IsWord (q_word ss)
+q_word_small ss e = subst (λ n. mask_l (map q_of ss) < 2 ^ n) (length-map ss q_of ∙ e) (mask_l-lt (map q_of ss))
+
+apart_word : (f : ℕ → Stored) → IsWord (q_lanes (apart f))
+unfolding apart
+apart_word f = q_word_small (map f (range_with_len 0 64)) (length-map-range_with_len f 0 64)
+
+pub apart_lane : (f : ℕ → Stored) (p : ℕ) → p < 64 → stored_in (apart f) p ≡ f p
+unfolding apart
+apart_lane f p h = get_or-map-range_with_len f 0 64 p p (new_block Ton) h (omega arith)
+
+apart_q : (f : ℕ → Stored) (p : ℕ) → p < 64 → word_allows (q_lanes (apart f)) p (q_of (f p))
+unfolding apart
+apart_q f p h =
+    let ss = map f (range_with_len 0 64) in
+    bit_mask_l (map q_of ss) p ∙ ap (λ b. cond b 1 0) (q_at ss p ∙ ap q_of (get_or-map-range_with_len f 0 64 p p (new_block Ton) h (omega arith)))
+
+in_apart : (f : ℕ → Stored) (p : ℕ) (s : Stored) → (p < 64 → f p ≡ s) → IsInLane p (apart f) s
+in_apart f p s e = record {
+  word = apart_word f;
+  stored = λ h. apart_lane f p h ∙ e h;
+  q = λ h. subst (λ t. word_allows (q_lanes (apart f)) p (q_of t)) (e h) (apart_q f p h);
+}
+
+pub in_alike : (t : Stored) (p : ℕ) (s : Stored) → (p < 64 → t ≡ s) → IsInLane p (Alike t) s
+in_alike t p s e = record {
+  word = words_lattice.known_value (q_of t);
+  stored = e;
+  q = λ h. subst (λ u. word_allows (q_lanes (Alike t)) p (q_of u)) (e h) (words_allowed.known_allows (q_of t) p h);
+}
+
+-- ---- steps and choices
+both_true : (a b c : Bool) → (a && (b && c)) ≡ true → (a ≡ true) × (b ≡ true) × (c ≡ true)
+both_true true true true e = (refl, refl, refl)
+both_true true true false e = cc
+both_true true false c e = cc
+both_true false b c e = cc
+
+same_lane : (b : Lanes) (p : ℕ) → are_alike b ≡ true → stored_in b 0 ≡ stored_in b p
+same_lane (Alike s) p e = refl
+same_lane (Apart q ss) p e = cc
+
+-- where the lanes and the inputs are alike, so are the steps
+same_step : (kind : BlockKind) (preset : ℕ) (b : Lanes) (x y : Word64) (now p : ℕ) → p < 64
+    → (are_alike b && (is_whole x && is_whole y)) ≡ true → stepped kind preset b x y now 0 ≡ stepped kind preset b x y now p
+same_step kind preset b x y now p h e =
+    let all = both_true (are_alike b) (is_whole x) (is_whole y) e in
+    ap (λ (s : Stored). step kind preset s (bit x 0) (bit y 0) now) (same_lane b p all.0)
+    ∙ ap₂ (λ (u v : Bool). step kind preset (stored_in b p) u v now) (sym (whole_bit x p h all.1)) (sym (whole_bit y p h all.2))
+
+in_either : (c : Bool) (f : ℕ → Stored) (p : ℕ) (s : Stored) → (c ≡ true → p < 64 → f 0 ≡ f p) → (p < 64 → f p ≡ s)
+    → IsInLane p (if c then Alike (f 0) else apart f) s
+in_either true f p s same e = in_alike (f 0) p s (λ h. same refl h ∙ e h)
+in_either false f p s same e = in_apart f p s e
+
+step_in_lane : (kind : BlockKind) (preset : ℕ) (b : Lanes) (x y : Word64) (now p : ℕ) (s : Stored) (u v : Bool)
+    → IsInLane p b s → AllowsAt IsWord IsBit word_allows p x u → AllowsAt IsWord IsBit word_allows p y v
+    → IsInLane p (step_lanes kind preset b x y now) (step kind preset s u v now)
+step_in_lane kind preset b x y now p s u v r first second =
+    in_either (are_alike b && (is_whole x && is_whole y)) (stepped kind preset b x y now) p (step kind preset s u v now)
+    (λ e h. same_step kind preset b x y now p h e)
+    (λ h. ap (λ (t : Stored). step kind preset t (bit x p) (bit y p) now) (r.stored h)
+    ∙ ap₂ (λ (k l : Bool). step kind preset s k l now) (bit_is x p u (first.1 h)) (bit_is y p v (second.1 h)))
+
+is_number : (n m : ℕ) → (n == m) ≡ true → n ≡ m
+is_number n m e = grind (arith, nat_tests)
+
+-- what a choice leaves: one side, where the condition is the same in all lanes, or both
+module _ (g : Word64) (h : Bool) (b c : Lanes) (s t : Stored) (p : ℕ) (condition : AllowsAt IsWord IsBit word_allows p g h) (on : IsInLane p b s) (off : IsInLane p c t) where
+  chosen_is : p < 64 → chosen g b c p ≡ (if h then s else t)
+  chosen_is l = ap (λ (u : Bool). cond u (stored_in b p) (stored_in c p)) (bit_is g p h (condition.1 l)) ∙ ap₂ (λ (u v : Stored). cond h u v) (on.stored l) (off.stored l)
+
+  -- a side of which the lane is the one that is chosen
+  in_side : (e : Lanes) → IsWord (q_lanes e) → (p < 64 → IsInLane p e (if h then s else t)) → IsInLane p e (if h then s else t)
+  in_side e word here = record { word = word; stored = λ l. (here l).stored l; q = λ l. (here l).q l }
+
+  side_on : g.0 ≡ 2 ^ 64 - 1 → p < 64 → IsInLane p b (if h then s else t)
+  side_on e l = subst (λ (u : Bool). IsInLane p b (cond u s t)) (sym (whole_one g.0 p l e) ∙ bit_is g p h (condition.1 l)) on
+
+  side_off : g.0 ≡ 0 → p < 64 → IsInLane p c (if h then s else t)
+  side_off e l = subst (λ (u : Bool). IsInLane p c (cond u s t)) (sym (whole_zero g.0 p e) ∙ bit_is g p h (condition.1 l)) off
+
+  by_sides : (k l : Bool) → (k ≡ true → g.0 ≡ 2 ^ 64 - 1) → (l ≡ true → g.0 ≡ 0)
+      → IsInLane p (if k then b else (if l then c else apart (chosen g b c))) (if h then s else t)
+  by_sides true l ones zero = in_side b on.word (side_on (ones refl))
+  by_sides false true ones zero = in_side c off.word (side_off (zero refl))
+  by_sides false false ones zero = in_apart (chosen g b c) p (cond h s t) chosen_is
+
+  choice_in_lane : IsInLane p (choice_lanes g b c) (if h then s else t)
+  choice_in_lane = by_sides (g.0 == 2 ^ 64 - 1) (g.0 == 0) (is_number g.0 (2 ^ 64 - 1)) (is_number g.0 0)
+
+-- Each lane makes the steps and the choices of a block by itself.
+pub lanes_keep : (p now : ℕ) (d : Diagram) → StepsKeep d lanes plainly (AllowsAt IsWord IsBit word_allows p) (λ inst. IsInLane p) now now
+lanes_keep p now d = record {
+  past = λ inst. in_alike (new_block Ton) p (new_block Ton) (λ h. refl);
+  q = λ inst b c r. (r.word, r.q);
+  step = λ inst b c x y s t r first second. step_in_lane (d.kind inst) (d.preset inst) b x y now p c s t r first second;
+  choice = λ inst g h b e c f condition on off. choice_in_lane g h b e c f p condition on off;
+}
+
+-- ---- what a program keeps
+-- The Qs of the lanes are a word.
+abbrev pub AreLanes : Lanes → Type 0
+AreLanes b = IsWord (q_lanes b)
+
+stepped_word : (c : Bool) (f : ℕ → Stored) → AreLanes (if c then Alike (f 0) else apart f)
+stepped_word true f = words_lattice.known_value (q_of (f 0))
+stepped_word false f = apart_word f
+
+chosen_word : (k l : Bool) (b c : Lanes) (f : ℕ → Stored) → AreLanes b → AreLanes c → AreLanes (if k then b else (if l then c else apart f))
+chosen_word true l b c f on off = on
+chosen_word false true b c f on off = off
+chosen_word false false b c f on off = apart_word f
+
+pub lanes_keep_values : KeepsValues IsWord AreLanes lanes
+lanes_keep_values = record {
+  stored = λ s. words_lattice.known_value (q_of s);
+  q = λ b k. k;
+  step = λ kind preset b x y now k v w. stepped_word (are_alike b && (is_whole x && is_whole y)) (stepped kind preset b x y now);
+  choice = λ guard b c v k l. chosen_word (guard.0 == 2 ^ 64 - 1) (guard.0 == 0) b c (chosen guard b c) k l;
+}

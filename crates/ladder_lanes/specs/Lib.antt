@@ -1,0 +1,4 @@
+pub mod Lanes
+pub mod LanesLaws
+pub mod SeveralLanes
+pub mod Noting

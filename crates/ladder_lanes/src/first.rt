@@ -1,0 +1,97 @@
+//! The first of several scans after which a variable is ON, for each of 64 lanes.
+
+ghost use Rattle.std.specs.Prelude.{◌≡◌, ◌<◌, ℕ, Bool, List, All, None, false, length, slice_index_or};
+ghost use Rattle.ladder_elements.specs.Relations.{AllowsAt, Both};
+ghost use Rattle.ladder_glance.specs.Sizes.{HasSizes, IsSpareFor};
+ghost use Rattle.ladder_held.specs.Holding.{are_no_scans, first_on, moment_of};
+ghost use Rattle.ladder_known.specs.KnownScan.{all_known};
+ghost use Rattle.ladder_lanes.specs.declared.lanes.TheConstants.{LANES};
+ghost use Rattle.ladder_lanes.specs.Lanes.{lanes};
+ghost use Rattle.ladder_lanes.specs.SeveralLanes.{first_in_lane};
+ghost use Rattle.ladder_scan.specs.Programs.{diagram_of};
+ghost use Rattle.ladder_scan.specs.Standing.{Fits};
+ghost use Rattle.ladder_signals.specs.Words.{IsBit, IsWord, word_allows, words};
+
+use crate::lanes::Lanes;
+use crate::laws::go_alone;
+use crate::noting::{clear, have_all, note};
+use ladder_glance::{Knowledge, Room, scan_known};
+use ladder_grid::Program;
+use ladder_held::Watched;
+use ladder_scan::State;
+use ladder_signals::Word64;
+
+/// Becomes what the state stores, in all lanes.
+fn begin(program: &Program, state: &State, known: &mut Knowledge<Word64, Lanes>)
+    requires state { Fits program.now state.now }
+    requires known { HasSizes program.now known.old }
+    ensures known { known.new ≡ all_known words lanes state.now.held }
+    ensures sizes { HasSizes program.now known.new }
+{
+    state.checked();
+    known.know(state);
+}
+
+/// Makes scans over words, and notes for each lane the first after which the variable is ON in it; it ends where each lane has one.
+fn scan_lanes(
+    program: &Program,
+    state: &State,
+    inputs: &[Word64],
+    watched: Watched,
+    known: &mut Knowledge<Word64, Lanes>,
+    room: &mut Room<Word64>,
+    firsts: &mut [Option<u64>],
+)
+    requires state { Fits program.now state.now }
+    requires scans { are_no_scans watched.first watched.scans ≡ false }
+    requires known { HasSizes program.now known.old }
+    requires room { IsSpareFor program.now room.old }
+    requires inputs { All IsWord inputs.now }
+    requires firsts { length firsts.old ≡ LANES }
+    ensures firsts { (lane : ℕ) → lane < LANES → slice_index_or firsts.new lane None
+        ≡ first_in_lane (diagram_of program.now) (moment_of watched.first watched.scans) inputs.now state.now.held watched.coil lane watched.scans.count }
+    ensures sizes { HasSizes program.now known.new }
+    ensures room { room.new ≡ room.old }
+{
+    begin(program, state, known);
+    clear(firsts);
+    for done in 0..watched.scans.count {
+        let moment = watched.first + watched.scans.every * done;
+        scan_known(program, known, inputs, moment, room);
+        let value = known.value(watched.coil);
+        note(value, done + 1, firsts);
+        if have_all(firsts) {
+            return;
+        }
+    }
+}
+
+/// For each lane the first of some scans, counted from 1, after which the variable is ON: that of the scans from the state on whose inputs
+/// are the lane's. None where there is none. `known` is written over, and it needs no memory.
+///
+/// It ends where each lane has its scan, so that it takes no longer than the latest of them.
+pub fn first_in_lanes(
+    program: &Program,
+    state: &State,
+    inputs: &[Word64],
+    watched: Watched,
+    known: &mut Knowledge<Word64, Lanes>,
+    room: &mut Room<Word64>,
+    firsts: &mut [Option<u64>],
+)
+    requires state { Fits program.now state.now }
+    requires scans { are_no_scans watched.first watched.scans ≡ false }
+    requires known { HasSizes program.now known.old }
+    requires room { IsSpareFor program.now room.old }
+    requires inputs { All IsWord inputs.now }
+    requires firsts { length firsts.old ≡ LANES }
+    ensures firsts { (lane : ℕ) → lane < LANES → (vs : List Bool) → Both (AllowsAt IsWord IsBit word_allows lane) inputs.now vs
+        → slice_index_or firsts.new lane None
+        ≡ first_on (diagram_of program.now) (moment_of watched.first watched.scans) vs state.now.held watched.coil watched.scans.count }
+    ensures count { length firsts.new ≡ LANES }
+    ensures sizes { HasSizes program.now known.new }
+    ensures room { room.new ≡ room.old }
+{
+    go_alone(program);
+    scan_lanes(program, state, inputs, watched, known, room, firsts);
+}

@@ -1,0 +1,139 @@
+//! Steps and choices lane by lane.
+
+ghost use Rattle.std.specs.Prelude.{◌≡◌, ◌≤◌, ◌<◌, ℕ, slice_index_or};
+ghost use Rattle.ladder_vars.specs.Kind.{largest_preset};
+ghost use Rattle.ladder_vars.specs.declared.kind.BlockKind.TheVariants.{Ton};
+ghost use Rattle.ladder_elements.specs.declared.block.Stored.{Stored};
+ghost use Rattle.ladder_elements.specs.Blocks.{new_block};
+ghost use Rattle.ladder_lanes.specs.declared.lanes.TheConstants.{LANES};
+ghost use Rattle.ladder_lanes.specs.Lanes.{apart, bit, chosen, is_whole, q_word, stored_in, step_lanes, choice_lanes, stepped};
+
+use crate::lanes::{LANES, Lanes};
+use ladder_elements::{Stored, block};
+use ladder_signals::Word64;
+use ladder_vars::BlockKind;
+
+/// Whether all lanes of a word are the same.
+fn is_whole(word: Word64) -> bool
+    ensures { result ≡ is_whole word }
+{
+    word.0 == 0 || word.0 == u64::MAX
+}
+
+/// A lane of a word.
+pub(crate) fn bit(word: Word64, lane: usize) -> bool
+    requires { lane < LANES }
+    ensures { result ≡ bit word lane }
+{
+    (word.0 >> lane) & 1 == 1
+}
+
+/// What a lane stores.
+fn stored_in(lanes: &Lanes, lane: usize) -> Stored
+    requires { lane < LANES }
+    ensures { result ≡ stored_in lanes.now lane }
+{
+    match lanes {
+        Lanes::Alike(stored) => *stored,
+        Lanes::Apart { stored, .. } => stored[lane],
+    }
+}
+
+/// The word of the Qs.
+fn q_word(stored: &[Stored; LANES]) -> Word64
+    ensures { result ≡ q_word stored.now }
+{
+    let mut word = 0u64;
+    for lane in 0..LANES {
+        if stored[lane].q() {
+            word |= 1 << lane;
+        }
+    }
+    Word64(word)
+}
+
+/// Each lane's own.
+fn apart(stored: &[Stored; LANES]) -> Lanes
+    ensures { (f : ℕ → Stored) → ((i : ℕ) → i < LANES → slice_index_or stored.now i (new_block Ton) ≡ f i) → result ≡ apart f }
+{
+    Lanes::Apart {
+        q: q_word(stored),
+        stored: *stored,
+    }
+}
+
+/// What each lane stores after a step.
+fn steps(
+    kind: BlockKind,
+    preset: u32,
+    before: &Lanes,
+    first: Word64,
+    second: Word64,
+    now: u64,
+) -> [Stored; LANES]
+    requires { preset ≤ largest_preset kind }
+    ensures { (i : ℕ) → i < LANES → slice_index_or result i (new_block Ton) ≡ stepped kind preset before.now first second now i }
+{
+    let mut after = [Stored::new(BlockKind::Ton); LANES];
+    for lane in 0..LANES {
+        after[lane] = block::step(
+            kind,
+            preset,
+            stored_in(before, lane),
+            bit(first, lane),
+            bit(second, lane),
+            now,
+        );
+    }
+    after
+}
+
+/// The step of an instance: one for all lanes where these are alike and have the same inputs, otherwise one for each lane.
+pub(crate) fn step_lanes(
+    kind: BlockKind,
+    preset: u32,
+    before: Lanes,
+    first: Word64,
+    second: Word64,
+    now: u64,
+) -> Lanes
+    requires { preset ≤ largest_preset kind }
+    ensures { result ≡ step_lanes kind preset before first second now }
+{
+    if let Lanes::Alike(stored) = before
+        && is_whole(first)
+        && is_whole(second)
+    {
+        let after = block::step(kind, preset, stored, bit(first, 0), bit(second, 0), now);
+        return Lanes::Alike(after);
+    }
+    apart(&steps(kind, preset, &before, first, second, now))
+}
+
+/// What each lane chooses.
+fn choices(condition: Word64, on: &Lanes, off: &Lanes) -> [Stored; LANES]
+    ensures { (i : ℕ) → i < LANES → slice_index_or result i (new_block Ton) ≡ chosen condition on.now off.now i }
+{
+    let mut stored = [Stored::new(BlockKind::Ton); LANES];
+    for lane in 0..LANES {
+        stored[lane] = if bit(condition, lane) {
+            stored_in(on, lane)
+        } else {
+            stored_in(off, lane)
+        };
+    }
+    stored
+}
+
+/// The choice: one of the two where all lanes choose the same.
+pub(crate) fn choose_lanes(condition: Word64, on: Lanes, off: Lanes) -> Lanes
+    ensures { result ≡ choice_lanes condition on off }
+{
+    if condition.0 == u64::MAX {
+        on
+    } else if condition.0 == 0 {
+        off
+    } else {
+        apart(&choices(condition, &on, &off))
+    }
+}
