@@ -1,5 +1,5 @@
 -- The first of several scans, noted scan by scan.
-use Rattle.std.proofs.Common.{◌≡◌, ◌∙◌, ◌≤◌, ◌+◌, ℕ, Bool, true, false, ap, sym, arith, Option, Some, None, refl, is_some}
+use Rattle.std.proofs.Common.{◌≡◌, ◌∙◌, ◌≤◌, ◌+◌, ℕ, Bool, true, false, ap, sym, arith, Option, Some, None, refl, IsSome}
 use Rattle.std.specs.Prelude.{find}
 use Rattle.std.specs.List.{range_with_len}
 use Rattle.ladder_held.proofs.FirstScans.{found_now, none_till, still_found}
@@ -22,9 +22,9 @@ module _ (p : ℕ → Bool) (n : ℕ) where
   first_more = by_first (find p (range_with_len 1 n)) refl
 
 -- what was found stays the first
-pub first_stays : (p : ℕ → Bool) (n m : ℕ) → n ≤ m → is_some (find p (range_with_len 1 n)) ≡ true → find p (range_with_len 1 n) ≡ find p (range_with_len 1 m)
+pub first_stays : (p : ℕ → Bool) (n m : ℕ) → n ≤ m → IsSome (find p (range_with_len 1 n)) → find p (range_with_len 1 n) ≡ find p (range_with_len 1 m)
 first_stays p n m few there = by_found (find p (range_with_len 1 n)) refl there
   where
-    by_found : (first : Option ℕ) → find p (range_with_len 1 n) ≡ first → is_some first ≡ true → first ≡ find p (range_with_len 1 m)
+    by_found : (first : Option ℕ) → find p (range_with_len 1 n) ≡ first → IsSome first → first ≡ find p (range_with_len 1 m)
     by_found None e there = cc
     by_found (Some first) e there = sym (still_found p 1 n m first few e)

@@ -1,5 +1,5 @@
 -- Through several scans each lane goes on as by itself.
-use Rattle.std.proofs.Common.{◌≡◌, ◌∙◌, ◌<◌, ◌==◌, ℕ, Bool, true, false, List, [], ◌∷◌, map, refl, sym, ap, subst, zero, suc, slice_index_or, cond}
+use Rattle.std.proofs.Common.{◌≡◌, ◌<◌, ℕ, Bool, false, List, [], ◌∷◌, map, refl, ap, subst, zero, suc, slice_index_or}
 use Rattle.std.specs.Prelude.{find}
 use Rattle.std.specs.List.{range_with_len}
 use Rattle.ladder_elements.specs.declared.block.Stored.{Stored}
@@ -7,15 +7,15 @@ use Rattle.ladder_elements.specs.Relations.{AllowsAt, Both}
 use Rattle.ladder_elements.specs.Truth.{plain}
 use Rattle.ladder_scan.specs.Cells.{Diagram}
 use Rattle.ladder_scan.specs.Rung.{Held}
-use Rattle.ladder_held.specs.Holding.{after_scans, first_on, is_on_after}
+use Rattle.ladder_held.specs.Holding.{after_scans, is_on_after}
 use Rattle.ladder_known.specs.KnownLaws.{BothAt, BothKnown, KnownIsScan, ScanKeeps}
 use Rattle.ladder_known.specs.KnownScan.{Known, after_known, all_known, plainly}
 use Rattle.ladder_signals.specs.WordLaws.{words_allowed, words_lattice}
 use Rattle.ladder_signals.specs.Words.{IsBit, IsWord, word, word_allows, words}
 use Rattle.ladder_signals.specs.declared.word.Word64.{Word64}
-use Rattle.ladder_lanes.specs.Lanes.{bit, lanes}
+use Rattle.ladder_lanes.specs.Lanes.{lanes}
 use Rattle.ladder_lanes.specs.LanesLaws.{IsInLane, bit_is, in_alike}
-use Rattle.ladder_lanes.specs.SeveralLanes.{LanesGoAlone, StandInLane, first_in_lane, is_on_in_lane, lanes_after}
+use Rattle.ladder_lanes.specs.SeveralLanes.{LanesGoAlone, StandInLane, is_on_in_lane, lanes_after}
 use Rattle.ladder_lanes.specs.declared.lanes.Lanes.TheVariants.{Alike}
 
 abbrev Stands : ℕ → Word64 → Bool → Type 0

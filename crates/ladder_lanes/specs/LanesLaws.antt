@@ -1,5 +1,5 @@
 -- Each lane goes on as by itself.
-use Rattle.std.proofs.Common.{◌≡◌, ◌∙◌, ◌<◌, ℕ, ◌+◌, ◌-◌, ◌^◌, Bool, true, false, cond, if◌then◌else◌, ◌||◌, ◌⊎◌, inl, inr, List, map, get_or, refl, sym, ap, ap₂, subst, arith, ◌==◌, ◌&&◌, length, lit<}
+use Rattle.std.proofs.Common.{◌≡◌, ◌∙◌, ◌<◌, ℕ, ◌-◌, ◌^◌, Bool, true, false, cond, if◌then◌else◌, ◌||◌, ◌⊎◌, inl, inr, List, map, get_or, refl, sym, ap, ap₂, subst, arith, ◌==◌, ◌&&◌, length, lit<}
 use Rattle.std.proofs.Math.ListN.{get_or-map}
 use Rattle.std.proofs.lemmas.Nat.Bits.{bit_at-zero, bit_at_ones}
 use Rattle.std.proofs.lemmas.Bool.Decides.{nat_tests}
@@ -50,9 +50,9 @@ whole_cases n e = grind (arith, nat_tests)
 
 whole_bit : (x : Word64) (p : ℕ) → p < 64 → is_whole x ≡ true → bit x p ≡ bit x 0
 whole_bit x p h e = elim (whole_cases x.0 e) [
-    | inl zero ↦ whole_zero x.0 p zero ∙ sym (whole_zero x.0 0 zero)
-    | inr ones ↦ whole_one x.0 p h ones ∙ sym (whole_one x.0 0 (lit< tt) ones)
-    ]
+  | inl zero ↦ whole_zero x.0 p zero ∙ sym (whole_zero x.0 0 zero)
+  | inr ones ↦ whole_one x.0 p h ones ∙ sym (whole_one x.0 0 (lit< tt) ones)
+]
 
 -- ---- each lane's own
 q_at : (ss : List Stored) (p : ℕ) → get_or (map q_of ss) p false ≡ q_of (get_or ss p (new_block Ton))

@@ -1,4 +1,4 @@
-use Rattle.std.proofs.Common.{◌≡◌, ◌∙◌, ◌+◌, ◌<◌, ap, arith, sym, refl, ℕ, Bool, List, Option, None, get_or, length}
+use Rattle.std.proofs.Common.{◌≡◌, ◌∙◌, ◌+◌, ◌<◌, ap, arith, sym, refl, ℕ, Bool, List, IsSome, Option, None, get_or, subst}
 use Rattle.ladder_scan.specs.Cells.{Diagram}
 use Rattle.ladder_scan.specs.Programs.{diagram_of}
 use Rattle.ladder_scan.specs.Rung.{Held}
@@ -19,7 +19,7 @@ loop-done-init c = record {
   known = c.begin.ensures.known ∙ none_made (diagram_of c.args.program.now) (moment_of c.args.watched.first c.args.watched.scans) c.args.inputs.now c.args.state.now.held;
   sizes = c.begin.ensures.sizes;
   room = refl;
-  long = ?;
+  long = c.clear.auto.firsts ∙ c.requires.firsts;
   firsts = λ lane h. c.clear.ensures lane;
 }
 
@@ -34,7 +34,7 @@ noted_more d moment xs h coil n k value firsts next known is before after lane l
     after lane l
     ∙ ap (λ (f : Option ℕ). noted (bit value lane) (n + 1) f) (before lane l)
     ∙ ap (λ (b : Bool). noted b (n + 1) (first_in_lane d moment xs h coil lane n))
-      (value_is d moment xs (n + 1) coil lane h k value known is ∙ ap (is_on_in_lane d moment xs h coil lane) one)
+    (value_is d moment xs (n + 1) coil lane h k value known is ∙ ap (is_on_in_lane d moment xs h coil lane) one)
     ∙ sym (first_more (is_on_in_lane d moment xs h coil lane) n)
 
 pub loop-done-preserved : goal.loop-done-preserved
@@ -50,7 +50,7 @@ loop-done-preserved c =
       known = known;
       sizes = c.scan_known.ensures.sizes;
       room = c.scan_known.ensures.room ∙ before.room;
-      long = ?;
+      long = c.note.auto.firsts ∙ before.long;
       firsts = noted_more d moment xs h c.args.watched.coil done c.scan_known.new.known c.value-value.result c.loop-done.firsts c.note.new.firsts known c.value-value.ensures before.firsts c.note.ensures;
     }
 
@@ -65,7 +65,10 @@ returns-then-have_all c =
     let known = one_more d moment xs done h c.loop-done.known c.scan_known.new.known before.known c.scan_known.ensures.known in
     let now = noted_more d moment xs h c.args.watched.coil done c.scan_known.new.known c.value-value.result c.loop-done.firsts c.note.new.firsts known c.value-value.ensures before.firsts c.note.ensures in
     record {
-      firsts = λ lane l. ?;
+      firsts = λ lane l.
+          let p = is_on_in_lane d moment xs h c.args.watched.coil lane in
+          let there : IsSome (get_or c.note.new.firsts lane None) = c.if-have_all.ensures.0 refl lane (omega (arith, l, c.note.auto.firsts, before.long)) in
+          now lane l ∙ first_stays p (done + 1) c.args.watched.scans.count (omega (arith, c.loop-done-test.true)) (subst (λ (f : Option ℕ). IsSome f) (now lane l) there);
       sizes = c.scan_known.ensures.sizes;
       room = c.scan_known.ensures.room ∙ before.room;
     }

@@ -5,7 +5,6 @@ use Rattle.ladder_elements.specs.declared.block.Stored.{Stored}
 use Rattle.ladder_elements.specs.Blocks.{new_block}
 use Rattle.ladder_signals.specs.declared.word.Word64.{Word64}
 use Rattle.ladder_lanes.specs.Lanes.{apart, q_word}
-use Rattle.ladder_lanes.specs.declared.lanes.Lanes.{Lanes}
 use Rattle.ladder_lanes.specs.declared.lanes.Lanes.TheVariants.{Apart}
 use Rattle.ladder_lanes.proofs.stepping.apart.Goals as goal
 

@@ -8,7 +8,6 @@ use Rattle.ladder_vars.specs.declared.kind.BlockKind.TheVariants.{Ton}
 use Rattle.ladder_elements.specs.declared.block.Stored.{Stored}
 use Rattle.ladder_elements.specs.Blocks.{new_block, q_of}
 use Rattle.ladder_signals.specs.Words.{word}
-use Rattle.ladder_lanes.specs.Lanes.{q_word}
 use Rattle.ladder_lanes.specs.LanesLaws.{q_word_small}
 use Rattle.ladder_lanes.proofs.stepping.q_word.Goals as goal
 use Rattle.ladder_lanes.proofs.stepping.q_word.Goals.{then-q, else-q}
@@ -41,14 +40,14 @@ loop-lane-preserved c =
     let within : c.loop-lane.lane < 64 = omega (arith, c.loop-lane-test.true) in
     elim c.if-q.branch [
       | then-q w ↦ record {
-          below = set_below q c.loop-lane.word c.if-q.word c.loop-lane.lane within inv.below inv.above (sym c.q.ensures ∙ w.if-q.true) w.word-is;
-          above = set_above q c.loop-lane.word c.if-q.word c.loop-lane.lane within inv.below inv.above w.word-is;
-        }
+        below = set_below q c.loop-lane.word c.if-q.word c.loop-lane.lane within inv.below inv.above (sym c.q.ensures ∙ w.if-q.true) w.word-is;
+        above = set_above q c.loop-lane.word c.if-q.word c.loop-lane.lane within inv.below inv.above w.word-is;
+      }
       | else-q w ↦ record {
-          below = left_below q c.loop-lane.word c.if-q.word c.loop-lane.lane within inv.below inv.above (sym c.q.ensures ∙ w.if-q.false) w.word-is;
-          above = left_above q c.loop-lane.word c.if-q.word c.loop-lane.lane within inv.below inv.above w.word-is;
-        }
-      ]
+        below = left_below q c.loop-lane.word c.if-q.word c.loop-lane.lane within inv.below inv.above (sym c.q.ensures ∙ w.if-q.false) w.word-is;
+        above = left_above q c.loop-lane.word c.if-q.word c.loop-lane.lane within inv.below inv.above w.word-is;
+      }
+    ]
 
 all_bits : (ss : List Stored) (n : ℕ) → length ss ≡ 64 → n < 2 ^ 64 → ((i : ℕ) → i < 64 → bit_at n i ≡ cond (q_of (get_or ss i (new_block Ton))) 1 0)
     → n ≡ mask_l (map q_of ss)
