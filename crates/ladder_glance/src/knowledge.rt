@@ -95,7 +95,7 @@ impl<S: Signal, B: Keep<S>> Knowledge<S, B> {
     }
 
     /// A memory, and OFF where there is none.
-    pub(crate) fn memory(&self, number: Option<usize>) -> S
+    pub fn memory(&self, number: Option<usize>) -> S
         ensures { result ≡ at self.now.memories number (S.algebra.known false) }
     {
         match number {
@@ -105,7 +105,7 @@ impl<S: Signal, B: Keep<S>> Knowledge<S, B> {
     }
 
     /// What is kept of an instance, and a timer that was never used past the last one.
-    pub(crate) fn kept(&self, inst: usize) -> B
+    pub fn kept(&self, inst: usize) -> B
         ensures is { result ≡ kept_at B.keeping self.now inst }
         ensures kept { B.kept result }
     {

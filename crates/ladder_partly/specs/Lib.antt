@@ -3,3 +3,4 @@ pub mod PartlyLaws
 pub mod SeveralLaws
 pub mod PartlyKept
 pub mod Told
+pub mod Again

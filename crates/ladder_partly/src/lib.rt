@@ -1,6 +1,7 @@
 //! What is known of a state through several scans, over three values.
 #![tactic(auto)]
 
+mod again;
 mod keeping;
 pub mod laws;
 mod opening;
