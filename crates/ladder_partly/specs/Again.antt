@@ -15,7 +15,8 @@ use Rattle.ladder_partly.specs.SeveralLaws.{first_open, partly_after}
 use Rattle.ladder_partly.specs.declared.partly.Partly.{Partly}
 use Rattle.ladder_partly.specs.declared.partly.Partly.TheVariants.{Exactly}
 
--- Two starts, of which the second is later by `shift`; or both before `moment`, and that much later, by when the preset has passed too.
+-- Two starts: the second is later by `shift`; or the first is before `moment` and the second before `moment + shift`, and by then the preset
+-- has passed in both. So the starts of a timer are paired one to one with those that follow, as an open choice needs, which compares them.
 abbrev pub StartAlike : ℕ → ℕ → ℕ → ℕ → ℕ → Type 0
 StartAlike preset moment shift s t =
     (t ≡ s + shift) ⊎ ((s < moment) × (t < moment + shift) × (s + preset ≤ moment) × (t + preset ≤ moment + shift))
