@@ -1,2 +1,5 @@
 pub mod SeveralScans
 pub mod ScanByScan
+pub mod AlikeSteps
+pub mod AlikeStarts
+pub mod ComingAgain

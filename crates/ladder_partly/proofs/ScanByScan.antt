@@ -5,7 +5,7 @@ use Rattle.ladder_grid.specs.Program.{Drawing}
 use Rattle.ladder_scan.specs.Cells.{Diagram}
 use Rattle.ladder_scan.specs.Rung.{Held}
 use Rattle.ladder_scan.specs.Standing.{Standing, Fits, IsStanding}
-use Rattle.ladder_glance.specs.Sizes.{HasSizes, IsAsLong}
+use Rattle.ladder_glance.specs.Sizes.{AreAsLong, HasSizes, IsAsLong}
 use Rattle.ladder_known.specs.KnownScan.{Known, after_known, all_known}
 use Rattle.ladder_signals.specs.Three.{three}
 use Rattle.ladder_signals.specs.declared.tri.Tri.{Tri}
@@ -26,6 +26,9 @@ one_more d moment xs n h k next e f = f ∙ ap (after_known three partly d (mome
 pub value_is : (d : Diagram) (moment : ℕ → ℕ) (xs : List Tri) (n coil : ℕ) (h : Held) (k : Known Tri Partly) (x : Tri) → k ≡ partly_after d moment xs n h
     → x ≡ get_or k.values coil Off → x ≡ known_after d moment xs h coil n
 value_is d moment xs n coil h k x e f = f ∙ ap (λ (l : Known Tri Partly). get_or l.values coil Off) e
+
+pub both_long : (p : Drawing) (k l : Known Tri Partly) → HasSizes p k → HasSizes p l → AreAsLong k l
+both_long p k l h g = record { values = h.values ∙ sym g.values; memories = h.memories ∙ sym g.memories; blocks = h.blocks ∙ sym g.blocks }
 
 -- ---- a state of the program
 module _ (p : Drawing) (s : Standing) (fits : Fits p s) (standing : IsStanding s) where

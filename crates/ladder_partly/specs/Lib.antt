@@ -2,4 +2,4 @@ pub mod Partly
 pub mod PartlyLaws
 pub mod SeveralLaws
 pub mod PartlyKept
-pub mod Told
+pub mod Again

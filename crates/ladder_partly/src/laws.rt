@@ -1,11 +1,13 @@
-//! The law of looks through several scans: the function does nothing, and its contract is the law.
+//! The laws of looks through several scans: each function does nothing, and its contract is the law.
 
 ghost use Rattle.ladder_elements.specs.Relations.{AllowsAt, allows_kept};
 ghost use Rattle.ladder_elements.specs.Truth.{OnePlace};
+ghost use Rattle.ladder_scan.specs.Cells.{Diagram};
 ghost use Rattle.ladder_scan.specs.Programs.{diagram_of};
 ghost use Rattle.ladder_known.specs.KnownScan.{plainly};
 ghost use Rattle.ladder_signals.specs.Three.{AnyTri, three, three_allows};
 ghost use Rattle.ladder_signals.specs.ThreeLaws.{three_allowed, three_lattice};
+ghost use Rattle.ladder_partly.specs.Again.{KnownGoesOnAlike, KnownRepeatsStayOff};
 ghost use Rattle.ladder_partly.specs.Partly.{may_store, partly};
 ghost use Rattle.ladder_partly.specs.PartlyLaws.{partly_keeps};
 ghost use Rattle.ladder_partly.specs.SeveralLaws.{AllowsScans};
@@ -56,4 +58,16 @@ pub fn several(program: &Program)
 {
     scan_keeps::<PartlyAt>();
     known_is_scan(program);
+}
+
+/// What is known and comes again goes on alike: scans with the same inputs, as far apart in time, leave what is alike again.
+pub fn goes_on_alike()
+    ensures { (d : Diagram) → KnownGoesOnAlike d }
+{}
+
+/// Where what is known comes again, but for the time between, and the variable was known to be OFF until then, it is after every scan.
+pub fn repeats()
+    ensures { (d : Diagram) → KnownRepeatsStayOff d }
+{
+    goes_on_alike();
 }

@@ -1,17 +1,17 @@
 //! The first of several scans after which a variable isn't known to be OFF.
 
-ghost use Rattle.std.specs.Prelude.{◌≡◌, false, option_map, is_some, Bool, List, IfSome};
+ghost use Rattle.std.specs.Prelude.{◌≡◌, false, option_map, IfSome};
 ghost use Rattle.ladder_scan.specs.Programs.{diagram_of};
 ghost use Rattle.ladder_scan.specs.Standing.{Fits};
 ghost use Rattle.ladder_glance.specs.Sizes.{HasSizes, IsSpareFor};
-ghost use Rattle.ladder_held.specs.Holding.{are_no_scans, first_on, moment_of};
+ghost use Rattle.ladder_held.specs.Holding.{are_no_scans, moment_of};
 ghost use Rattle.ladder_known.specs.KnownScan.{all_known};
 ghost use Rattle.ladder_signals.specs.Three.{three};
 ghost use Rattle.ladder_partly.specs.Partly.{partly};
-ghost use Rattle.ladder_partly.specs.SeveralLaws.{first_open, is_not_off, known_after, AreAllowed};
-ghost use Rattle.ladder_partly.specs.Told.{told};
+ghost use Rattle.ladder_partly.specs.SeveralLaws.{first_open, is_not_off, known_after};
 
-use crate::laws::several;
+use crate::again::{comes_again, renewed};
+use crate::laws::repeats;
 use crate::partly::Partly;
 use ladder_glance::{Knowledge, Room, scan_known};
 use ladder_grid::Program;
@@ -47,7 +47,7 @@ fn begin(program: &Program, state: &State, known: &mut Knowledge<Tri, Partly>)
 }
 
 /// Makes scans over three values, from the state on, each with these inputs, and ends with the first after which the variable isn't
-/// known to be OFF. `known` is written over.
+/// known to be OFF, or where what is known has come again up to the passage of time. `known` and `mark` are written over.
 ///
 /// Where there is none, no scan switches the variable on for any completion of the inputs; where it is known to be ON, this is the first
 /// scan that does for each completion (`laws::several`).
@@ -57,19 +57,24 @@ pub fn first_open(
     inputs: &[Tri],
     watched: Watched,
     known: &mut Knowledge<Tri, Partly>,
+    mark: &mut Knowledge<Tri, Partly>,
     room: &mut Room<Tri>,
 ) -> Option<Opening>
     requires state { Fits program.now state.now }
     requires scans { are_no_scans watched.first watched.scans ≡ false }
     requires known { HasSizes program.now known.old }
+    requires mark { HasSizes program.now mark.old }
     requires room { IsSpareFor program.now room.old }
     ensures scan { option_map (λ o. o.scan) result
         ≡ first_open (diagram_of program.now) (moment_of watched.first watched.scans) inputs.now state.now.held watched.coil watched.scans.count }
     ensures value { IfSome result (λ o. o.value ≡ known_after (diagram_of program.now) (moment_of watched.first watched.scans) inputs.now state.now.held watched.coil o.scan) }
     ensures sizes { HasSizes program.now known.new }
+    ensures mark { HasSizes program.now mark.new }
     ensures room { room.new ≡ room.old }
 {
+    repeats();
     begin(program, state, known);
+    let mut marked = 0;
     for done in 0..watched.scans.count {
         let moment = watched.first + watched.scans.every * done;
         scan_known(program, known, inputs, moment, room);
@@ -80,38 +85,10 @@ pub fn first_open(
                 value,
             });
         }
+        if comes_again(program, watched, mark, marked, known, done + 1) {
+            return None;
+        }
+        marked = renewed(mark, marked, known, done + 1);
     }
     None
-}
-
-/// Whether the variable is switched on by the scans, for the completions of the inputs: Some where it is for each of them, or for none;
-/// None where these scans over three values leave it open. `known` is written over.
-pub fn decide(
-    program: &Program,
-    state: &State,
-    inputs: &[Tri],
-    watched: Watched,
-    known: &mut Knowledge<Tri, Partly>,
-    room: &mut Room<Tri>,
-) -> Option<bool>
-    requires state { Fits program.now state.now }
-    requires scans { are_no_scans watched.first watched.scans ≡ false }
-    requires known { HasSizes program.now known.old }
-    requires room { IsSpareFor program.now room.old }
-    ensures told { result ≡ told (diagram_of program.now) (moment_of watched.first watched.scans) inputs.now state.now.held watched.coil watched.scans.count }
-    ensures each { (vs : List Bool) → AreAllowed inputs.now vs
-        → IfSome result (λ on. is_some (first_on (diagram_of program.now) (moment_of watched.first watched.scans) vs state.now.held watched.coil watched.scans.count) ≡ on) }
-    ensures sizes { HasSizes program.now known.new }
-    ensures room { room.new ≡ room.old }
-{
-    several(program);
-    match first_open(program, state, inputs, watched, known, room) {
-        None => Some(false),
-        Some(opening) => {
-            match opening.value {
-                Tri::On => Some(true),
-                Tri::Off | Tri::Unsure => None,
-            }
-        }
-    }
 }

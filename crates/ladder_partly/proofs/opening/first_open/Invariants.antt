@@ -1,4 +1,4 @@
-use Rattle.std.proofs.Common.{◌≡◌, None}
+use Rattle.std.proofs.Common.{◌≡◌, ◌<◌, ◌≤◌, None}
 use Rattle.ladder_scan.specs.Programs.{diagram_of}
 use Rattle.ladder_glance.specs.Sizes.{HasSizes}
 use Rattle.ladder_held.specs.Holding.{moment_of}
@@ -10,5 +10,8 @@ invariant-loop-done l = record {
   known : l.known ≡ partly_after (diagram_of l.program) (moment_of l.watched.first l.watched.scans) l.inputs l.done l.state.held;
   sizes : HasSizes l.program l.known;
   room : l.room ≡ l.fn.room;
+  mark : HasSizes l.program l.mark;
+  marked : 0 < l.marked → l.mark ≡ partly_after (diagram_of l.program) (moment_of l.watched.first l.watched.scans) l.inputs l.marked l.state.held;
+  before : l.marked ≤ l.done;
   none : first_open (diagram_of l.program) (moment_of l.watched.first l.watched.scans) l.inputs l.state.held l.watched.coil l.done ≡ None;
 }
