@@ -1,3 +1,4 @@
 pub mod LaneByLane
 pub mod FirstInLane
 pub mod WordScans
+pub mod WordBits

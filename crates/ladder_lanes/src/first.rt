@@ -15,6 +15,7 @@ ghost use Rattle.ladder_signals.specs.Words.{IsBit, IsWord, word_allows, words};
 use crate::lanes::Lanes;
 use crate::laws::go_alone;
 use crate::noting::{clear, have_all, note};
+use ladder_elements::Operations;
 use ladder_glance::{Knowledge, Room, scan_known};
 use ladder_grid::Program;
 use ladder_held::Watched;
@@ -30,6 +31,15 @@ fn begin(program: &Program, state: &State, known: &mut Knowledge<Word64, Lanes>)
 {
     state.checked();
     known.know(state);
+}
+
+/// Does nothing: its contract is what holds of any words.
+fn are_words(inputs: &[Word64])
+    ensures { All IsWord inputs.now }
+{
+    for input in inputs {
+        let _is_word = input.is_value();
+    }
 }
 
 /// Makes scans over words, and notes for each lane the first after which the variable is ON in it; it ends where each lane has one.
@@ -83,7 +93,6 @@ pub fn first_in_lanes(
     requires scans { are_no_scans watched.first watched.scans ≡ false }
     requires known { HasSizes program.now known.old }
     requires room { IsSpareFor program.now room.old }
-    requires inputs { All IsWord inputs.now }
     requires firsts { length firsts.old ≡ LANES }
     ensures firsts { (lane : ℕ) → lane < LANES → (vs : List Bool) → Both (AllowsAt IsWord IsBit word_allows lane) inputs.now vs
         → slice_index_or firsts.new lane None
@@ -93,5 +102,6 @@ pub fn first_in_lanes(
     ensures room { room.new ≡ room.old }
 {
     go_alone(program);
+    are_words(inputs);
     scan_lanes(program, state, inputs, watched, known, room, firsts);
 }

@@ -62,30 +62,42 @@ fn apart(stored: &[Stored; LANES]) -> Lanes
     }
 }
 
-/// What each lane stores after a step.
-fn steps(
+/// What the lanes store, each its own.
+fn spread(lanes: &Lanes) -> [Stored; LANES]
+    ensures { (i : ℕ) → i < LANES → slice_index_or result i (new_block Ton) ≡ stored_in lanes.now i }
+{
+    match lanes {
+        Lanes::Alike(stored) => [*stored; LANES],
+        Lanes::Apart { stored, .. } => *stored,
+    }
+}
+
+/// One step for each lane.
+fn step_each(
     kind: BlockKind,
     preset: u32,
     before: &Lanes,
     first: Word64,
     second: Word64,
     now: u64,
-) -> [Stored; LANES]
+) -> Lanes
     requires { preset ≤ largest_preset kind }
-    ensures { (i : ℕ) → i < LANES → slice_index_or result i (new_block Ton) ≡ stepped kind preset before.now first second now i }
+    ensures { result ≡ apart (stepped kind preset before.now first second now) }
 {
-    let mut after = [Stored::new(BlockKind::Ton); LANES];
+    let mut stored = spread(before);
+    let mut q = 0u64;
     for lane in 0..LANES {
-        after[lane] = block::step(
-            kind,
-            preset,
-            stored_in(before, lane),
-            bit(first, lane),
-            bit(second, lane),
-            now,
-        );
+        let (on, other) = (bit(first, lane), bit(second, lane));
+        let after = block::step(kind, preset, stored[lane], on, other, now);
+        stored[lane] = after;
+        if after.q() {
+            q |= 1 << lane;
+        }
     }
-    after
+    Lanes::Apart {
+        q: Word64(q),
+        stored,
+    }
 }
 
 /// The step of an instance: one for all lanes where these are alike and have the same inputs, otherwise one for each lane.
@@ -107,7 +119,7 @@ pub(crate) fn step_lanes(
         let after = block::step(kind, preset, stored, bit(first, 0), bit(second, 0), now);
         return Lanes::Alike(after);
     }
-    apart(&steps(kind, preset, &before, first, second, now))
+    step_each(kind, preset, &before, first, second, now)
 }
 
 /// What each lane chooses.
