@@ -1,0 +1,3 @@
+pub mod Never
+pub mod Outcomes
+pub mod OutcomeLaws
