@@ -105,7 +105,7 @@ impl<S: Signal, B: Keep<S>> Knowledge<S, B> {
     }
 
     /// What is kept of an instance, and a timer that was never used past the last one.
-    pub(crate) fn kept(&self, inst: usize) -> B
+    pub fn kept(&self, inst: usize) -> B
         ensures is { result ≡ kept_at B.keeping self.now inst }
         ensures kept { B.kept result }
     {
@@ -134,7 +134,7 @@ impl<S: Signal, B: Keep<S>> Knowledge<S, B> {
     }
 
     /// Writes a variable; past the last one there is none.
-    pub(crate) fn put_value(&mut self, var: usize, value: S)
+    pub fn put_value(&mut self, var: usize, value: S)
         ensures { self.new ≡ record self.old { values = slice_set self.old.values var value } }
     {
         let _is_value = value.is_value();
@@ -153,7 +153,7 @@ impl<S: Signal, B: Keep<S>> Knowledge<S, B> {
     }
 
     /// Writes a memory; past the last one there is none.
-    fn put_memory(&mut self, number: usize, value: S)
+    pub fn put_memory(&mut self, number: usize, value: S)
         ensures { self.new ≡ record self.old { memories = slice_set self.old.memories number value } }
     {
         let _is_value = value.is_value();
@@ -163,7 +163,7 @@ impl<S: Signal, B: Keep<S>> Knowledge<S, B> {
     }
 
     /// Writes what is kept of an instance; past the last one there is none.
-    pub(crate) fn keep(&mut self, inst: usize, kept: B)
+    pub fn keep(&mut self, inst: usize, kept: B)
         requires { B.kept kept }
         ensures { self.new ≡ record self.old { blocks = slice_set self.old.blocks inst kept } }
     {

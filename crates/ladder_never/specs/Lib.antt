@@ -1,3 +1,4 @@
-pub mod Never
 pub mod Outcomes
 pub mod OutcomeLaws
+pub mod Never
+pub mod Removing

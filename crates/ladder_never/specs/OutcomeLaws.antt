@@ -6,15 +6,23 @@ use Rattle.ladder_vars.specs.declared.kind.BlockKind.{BlockKind}
 use Rattle.ladder_vars.specs.declared.kind.BlockKind.TheVariants.{Ton, Tof, Tp, Ctu, Ctd, Sr, Rs}
 use Rattle.ladder_elements.specs.declared.block.Stored.{Stored}
 use Rattle.ladder_elements.specs.declared.block.Stored.TheVariants.{Timer, Counter, Bistable}
-use Rattle.ladder_elements.specs.Blocks.{step, q_of}
+use Rattle.ladder_elements.specs.Blocks.{step, q_of, new_block}
 use Rattle.ladder_elements.specs.Truth.{OnePlace}
 use Rattle.ladder_signals.specs.Three.{three, three_known, three_join, three_meet, three_inverse, three_choice, three_allows}
 use Rattle.ladder_signals.specs.ThreeLaws.{three_allowed}
 use Rattle.ladder_signals.specs.declared.tri.Tri.{Tri}
 use Rattle.ladder_signals.specs.declared.tri.Tri.TheVariants.{Off, On, Unsure}
 use Rattle.ladder_elements.specs.Relations.{IsKept}
-use Rattle.ladder_never.specs.Outcomes.{q_after}
-use Rattle.ladder_never.specs.Never.{KnowsMore}
+use Rattle.ladder_never.specs.Outcomes.{AnyOutcome, KnowsMore, MayStore, TellsMore, outcome_after, outcome_choice, outcomes, q_after, q_known}
+use Rattle.ladder_never.specs.declared.outcome.Outcome.{Outcome}
+use Rattle.ladder_never.specs.declared.outcome.Outcome.TheVariants.{OfKind, Anything}
+use Rattle.ladder_scan.specs.Cells.{Diagram}
+use Rattle.ladder_scan.specs.RungByRung.{shape}
+use Rattle.ladder_known.specs.KnownScan.{plainly}
+use Rattle.ladder_known.specs.KnownLaws.{StepsKeep}
+use Rattle.ladder_glance.specs.KeepsValues.{KeepsValues}
+use Rattle.ladder_elements.specs.Relations.{AllowsAt}
+use Rattle.ladder_signals.specs.Three.{AnyTri}
 
 abbrev Allows : Tri → Bool → Type 0
 Allows x b = three_allows x 0 b
@@ -227,3 +235,125 @@ knows_after Ctu preset q r x y u v k h g = knows_choice y (three_known (nat_eq p
 knows_after Ctd preset q r x y u v k h g = knows_choice y (three_known (nat_eq preset 0)) Unsure v (three_known (nat_eq preset 0)) Unsure g (knows_same (three_known (nat_eq preset 0))) tt
 knows_after Sr preset q r x y u v k h g = knows_join x (three_meet (three_inverse y) q) u (three_meet (three_inverse v) r) h (knows_meet (three_inverse y) q (three_inverse v) r (knows_inverse y v g) k)
 knows_after Rs preset q r x y u v k h g = knows_meet (three_inverse y) (three_join x q) (three_inverse v) (three_join u r) (knows_inverse y v g) (knows_join x q u r h k)
+
+-- ---- an instance of any kind
+timer_counter : Timer false false 0 false ≡ Counter false (pos 0) false → ⊥
+timer_counter h = cc
+
+timer_bistable : Timer false false 0 false ≡ Bistable false → ⊥
+timer_bistable h = cc
+
+counter_timer : Counter false (pos 0) false ≡ Timer false false 0 false → ⊥
+counter_timer h = cc
+
+counter_bistable : Counter false (pos 0) false ≡ Bistable false → ⊥
+counter_bistable h = cc
+
+bistable_timer : Bistable false ≡ Timer false false 0 false → ⊥
+bistable_timer h = cc
+
+bistable_counter : Bistable false ≡ Counter false (pos 0) false → ⊥
+bistable_counter h = cc
+
+either_shape : (b : Bool) (x y z : Stored) → shape x ≡ z → shape y ≡ z → shape (cond b x y) ≡ z
+either_shape true x y z h k = h
+either_shape false x y z h k = k
+
+tp_shape : (stays begins on : Bool) (start now : ℕ)
+    → shape (cond stays (Timer on true start true) (cond begins (Timer on true now true) (Timer on false 0 false))) ≡ Timer false false 0 false
+tp_shape true begins on start now = refl
+tp_shape false true on start now = refl
+tp_shape false false on start now = refl
+
+timer_step : (kind : BlockKind) (preset : ℕ) (q x y : Tri) (s t : Bool) (now : ℕ) (last running : Bool) (start : ℕ) (b : Bool) → shape (Timer last running start b) ≡ new_block kind → Allows x s
+    → MayStore kind (OfKind (q_after kind preset q x y)) (step kind preset (Timer last running start b) s t now)
+unfolding step
+timer_step Ton preset q x y s t now last running start b e h = (either_shape s _ _ _ refl refl, ton_allows preset q x y s t now last running start b h)
+timer_step Tof preset q x y s t now last running start b e h = (either_shape s _ _ _ refl refl, tof_allows preset q x y s t now last running start b h)
+timer_step Tp preset q x y s t now last running start b e h = (tp_shape _ _ s start now, tp_allows preset q x y s t now last running start b)
+timer_step Ctu preset q x y s t now last running start b e h = absurd (timer_counter e)
+timer_step Ctd preset q x y s t now last running start b e h = absurd (timer_counter e)
+timer_step Sr preset q x y s t now last running start b e h = absurd (timer_bistable e)
+timer_step Rs preset q x y s t now last running start b e h = absurd (timer_bistable e)
+
+counter_step : (kind : BlockKind) (preset : ℕ) (q x y : Tri) (s t : Bool) (now : ℕ) (last : Bool) (cv : ℤ) (b : Bool) → shape (Counter last cv b) ≡ new_block kind → Allows y t
+    → MayStore kind (OfKind (q_after kind preset q x y)) (step kind preset (Counter last cv b) s t now)
+unfolding step
+counter_step Ton preset q x y s t now last cv b e h = absurd (counter_timer e)
+counter_step Tof preset q x y s t now last cv b e h = absurd (counter_timer e)
+counter_step Tp preset q x y s t now last cv b e h = absurd (counter_timer e)
+counter_step Ctu preset q x y s t now last cv b e h = (refl, ctu_allows preset q x y s t now last cv b h)
+counter_step Ctd preset q x y s t now last cv b e h = (refl, ctd_allows preset q x y s t now last cv b h)
+counter_step Sr preset q x y s t now last cv b e h = absurd (counter_bistable e)
+counter_step Rs preset q x y s t now last cv b e h = absurd (counter_bistable e)
+
+bistable_step : (kind : BlockKind) (preset : ℕ) (q x y : Tri) (s t : Bool) (now : ℕ) (b : Bool) → shape (Bistable b) ≡ new_block kind → Allows q b → Allows x s → Allows y t
+    → MayStore kind (OfKind (q_after kind preset q x y)) (step kind preset (Bistable b) s t now)
+unfolding step
+bistable_step Ton preset q x y s t now b e k h g = absurd (bistable_timer e)
+bistable_step Tof preset q x y s t now b e k h g = absurd (bistable_timer e)
+bistable_step Tp preset q x y s t now b e k h g = absurd (bistable_timer e)
+bistable_step Ctu preset q x y s t now b e k h g = absurd (bistable_counter e)
+bistable_step Ctd preset q x y s t now b e k h g = absurd (bistable_counter e)
+bistable_step Sr preset q x y s t now b e k h g = (refl, sr_allows preset q x y s t now b k h g)
+bistable_step Rs preset q x y s t now b e k h g = (refl, rs_allows preset q x y s t now b k h g)
+
+step_sound : (kind : BlockKind) (preset : ℕ) (b : Outcome) (c : Stored) (x y : Tri) (s t : Bool) (now : ℕ) → MayStore kind b c → Allows x s → Allows y t
+    → MayStore kind (outcome_after kind preset b x y) (step kind preset c s t now)
+step_sound kind preset Anything c x y s t now k h g = tt
+step_sound kind preset (OfKind q) (Timer last running start b) x y s t now k h g = timer_step kind preset q x y s t now last running start b k.0 h
+step_sound kind preset (OfKind q) (Counter last cv b) x y s t now k h g = counter_step kind preset q x y s t now last cv b k.0 g
+step_sound kind preset (OfKind q) (Bistable b) x y s t now k h g = bistable_step kind preset q x y s t now b k.0 k.1 h g
+
+pub q_sound : (kind : BlockKind) (b : Outcome) (s : Stored) → MayStore kind b s → Allows (q_known b) (q_of s)
+q_sound kind (OfKind q) s h = h.1
+q_sound kind Anything s h = tt
+
+one_of : (kind : BlockKind) (q : Tri) (h : Bool) (s t : Stored) → shape s ≡ new_block kind → shape t ≡ new_block kind → Allows q (cond h (q_of s) (q_of t)) → MayStore kind (OfKind q) (cond h s t)
+one_of kind q true s t e f k = (e, k)
+one_of kind q false s t e f k = (f, k)
+
+choice_sound : (kind : BlockKind) (g : Tri) (h : Bool) (b e : Outcome) (c f : Stored) → Allows g h → MayStore kind b c → MayStore kind e f → MayStore kind (outcome_choice g b e) (cond h c f)
+choice_sound kind g h (OfKind q) (OfKind r) c f k m n =
+    one_of kind (three_choice g q r) h c f m.0 n.0 (three_allowed.choice_allows g q r 0 h (q_of c) (q_of f) tt tt tt refl k m.1 n.1)
+choice_sound kind g h (OfKind q) Anything c f k m n = tt
+choice_sound kind g h Anything e c f k m n = tt
+
+-- What is known of instances allows what steps and choices leave, whatever the moments.
+pub outcomes_keep : (now : ℕ) (d : Diagram) → StepsKeep d outcomes plainly (AllowsAt AnyTri OnePlace three_allows 0) (λ inst. MayStore (d.kind inst)) 0 now
+outcomes_keep now d = record {
+  past = λ inst. tt;
+  q = λ inst b c h. (tt, λ _. q_sound (d.kind inst) b c h);
+  step = λ inst b c x y s t h first second. step_sound (d.kind inst) (d.preset inst) b c x y s t now h (first.1 refl) (second.1 refl);
+  choice = λ inst g h b e c f r p q. choice_sound (d.kind inst) g h b e c f (r.1 refl) p q;
+}
+
+-- ---- where more is known
+pub tells_q : (b c : Outcome) → TellsMore b c → KnowsMore (q_known b) (q_known c)
+tells_q (OfKind q) (OfKind r) h = h
+tells_q (OfKind q) Anything h = absurd h
+tells_q Anything c h = tt
+
+tells_step : (kind : BlockKind) (preset : ℕ) (b c : Outcome) (x y u v : Tri) → TellsMore b c → KnowsMore x u → KnowsMore y v → TellsMore (outcome_after kind preset b x y) (outcome_after kind preset c u v)
+tells_step kind preset (OfKind q) (OfKind r) x y u v k h g = knows_after kind preset q r x y u v k h g
+tells_step kind preset (OfKind q) Anything x y u v k h g = absurd k
+tells_step kind preset Anything c x y u v k h g = tt
+
+tells_choice : (g h : Tri) (b e c f : Outcome) → KnowsMore g h → TellsMore b c → TellsMore e f → TellsMore (outcome_choice g b e) (outcome_choice h c f)
+tells_choice g h (OfKind q) (OfKind r) (OfKind u) (OfKind v) k m n = knows_choice g q r h u v k m n
+tells_choice g h (OfKind q) (OfKind r) Anything f k m n = absurd m
+tells_choice g h (OfKind q) (OfKind r) (OfKind u) Anything k m n = absurd n
+tells_choice g h (OfKind q) Anything c f k m n = tt
+tells_choice g h Anything e c f k m n = tt
+
+pub outcomes_grow : (d : Diagram) → StepsKeep d outcomes outcomes KnowsMore (λ inst. TellsMore) 0 0
+outcomes_grow d = record {
+  past = λ inst. tt;
+  q = λ inst b c h. tells_q b c h;
+  step = λ inst b c x y s t h first second. tells_step (d.kind inst) (d.preset inst) b c x y s t h first second;
+  choice = λ inst g h b e c f r p q. tells_choice g h b e c f r p q;
+}
+
+-- Three values have no others.
+pub outcomes_keep_values : KeepsValues AnyTri AnyOutcome outcomes
+outcomes_keep_values = record { stored = λ s. tt; q = λ b k. tt; step = λ kind preset b x y now k v w. tt; choice = λ guard b c v k l. tt }

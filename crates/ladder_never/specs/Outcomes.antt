@@ -1,8 +1,12 @@
 -- What is known of an instance over three values, whatever it stores and at whatever moment it steps.
-use Rattle.std.specs.Prelude.{◌≡◌, ℕ, Bool, if◌then◌else◌, ◌==◌, pos}
+use Rattle.std.specs.Prelude.{◌≡◌, ℕ, Bool, if◌then◌else◌, ◌==◌}
 use Rattle.ladder_vars.specs.declared.kind.BlockKind.{BlockKind}
 use Rattle.ladder_vars.specs.declared.kind.BlockKind.TheVariants.{Ton, Tof, Tp, Ctu, Ctd, Sr, Rs}
-use Rattle.ladder_signals.specs.Three.{three_known, three_join, three_meet, three_inverse, three_choice}
+use Rattle.ladder_elements.specs.declared.block.Stored.{Stored}
+use Rattle.ladder_elements.specs.Blocks.{q_of, new_block}
+use Rattle.ladder_scan.specs.RungByRung.{shape}
+use Rattle.ladder_known.specs.KnownScan.{Keeping}
+use Rattle.ladder_signals.specs.Three.{three_allows, three_known, three_join, three_meet, three_inverse, three_choice}
 use Rattle.ladder_signals.specs.declared.tri.Tri.{Tri}
 use Rattle.ladder_signals.specs.declared.tri.Tri.TheVariants.{Off, On, Unsure}
 use Rattle.ladder_never.specs.declared.outcome.Outcome.{Outcome}
@@ -33,3 +37,29 @@ q_known Anything = Unsure
 abbrev pub outcome_choice : Tri → Outcome → Outcome → Outcome
 outcome_choice c (OfKind q) (OfKind r) = OfKind (three_choice c q r)
 outcome_choice c x y = Anything
+
+-- Of what is stored nothing is kept that a step changes but Q.
+abbrev pub outcomes : Keeping Tri Outcome
+outcomes = record { stored = λ s. Anything; q = q_known; step = λ kind preset b x y now. outcome_after kind preset b x y; choice = outcome_choice }
+
+-- each is one
+abbrev pub AnyOutcome : Outcome → Type 0
+AnyOutcome b = Unit {0}
+
+-- What an instance of a kind may store where this is known.
+abbrev pub MayStore : BlockKind → Outcome → Stored → Type 0
+MayStore kind (OfKind q) s = (shape s ≡ new_block kind) × three_allows q 0 (q_of s)
+MayStore kind Anything s = Unit {0}
+
+-- ---- where more is known
+
+-- Where x is known, y is the same.
+abbrev pub KnowsMore : Tri → Tri → Type 0
+KnowsMore On y = y ≡ On
+KnowsMore Off y = y ≡ Off
+KnowsMore Unsure y = Unit {0}
+
+abbrev pub TellsMore : Outcome → Outcome → Type 0
+TellsMore (OfKind q) (OfKind r) = KnowsMore q r
+TellsMore (OfKind q) Anything = ⊥
+TellsMore Anything y = Unit {0}

@@ -1,0 +1,4 @@
+pub mod Listed
+pub mod OffForEver
+pub mod Larger
+pub mod Left
