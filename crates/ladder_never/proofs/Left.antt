@@ -1,5 +1,5 @@
 -- What is left of a list, member by member.
-use Rattle.std.proofs.Common.{◌≡◌, ◌≢◌, ◌∙◌, ◌<◌, ◌≤◌, ◌+◌, ◌&&◌, ◌⊎◌, inl, inr, ℕ, Bool, true, false, not, cond, List, [], ◌∷◌, get_or, length, set, zero, suc, refl, sym, ap, arith}
+use Rattle.std.proofs.Common.{◌≡◌, ◌≢◌, ◌∙◌, ◌<◌, ◌≤◌, ◌+◌, ◌&&◌, ◌⊎◌, inl, inr, ℕ, Bool, true, false, not, cond, List, [], ◌∷◌, get_or, length, set, zero, suc, refl, sym, ap, subst, arith}
 use Rattle.std.proofs.lemmas.List.{get_or-set_other, get_or-set_same, length-set}
 use Rattle.std.proofs.lemmas.List.Sums.{sum_by-set}
 use Rattle.ladder_never.specs.Never.{is_in}
@@ -80,3 +80,24 @@ one_goes test bits left removed n so e t within = record {
   count = omega (arith, one_less left n within e, so.count);
   same = λ h. absurd (omega (arith, h));
 }
+
+pub same_left : (test : ℕ → Bool) (bits xs ys : List Bool) (m n k : ℕ) → xs ≡ ys → m ≡ n → IsLeftSoFar test bits ys n k → IsLeftSoFar test bits xs m k
+same_left test bits xs ys m n k e f so = subst (λ (zs : List Bool). IsLeftSoFar test bits zs m k) (sym e) (subst (λ (l : ℕ). IsLeftSoFar test bits ys l k) (sym f) so)
+
+pub off_there : (a t : Bool) → t ≡ true → (a && not t) ≡ false
+off_there true t e = ap not e
+off_there false t e = refl
+
+pub none_there : (a t : Bool) → a ≡ false → (a && t) ≡ false
+none_there a t e = cc
+
+first_on : (a t : Bool) → (a && t) ≡ true → a ≡ true
+first_on true t e = refl
+first_on false t e = e
+
+-- what is left was there
+pub left_within : (test : ℕ → Bool) (bits left : List Bool) (removed : ℕ) → IsLeftBy test bits left removed → (i : ℕ) → is_in left i ≡ true → is_in bits i ≡ true
+left_within test bits left removed so i e = first_on _ (test i) (sym (so.each i) ∙ e)
+
+pub moved : (xs ys : List Bool) (i : ℕ) → xs ≡ ys → is_in xs i ≡ true → is_in ys i ≡ true
+moved xs ys i e h = subst (λ (zs : List Bool). is_in zs i ≡ true) e h

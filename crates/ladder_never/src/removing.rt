@@ -56,6 +56,7 @@ fn leave_instances(known: &Knowledge<Tri, Outcome>, instances: &mut [bool]) -> u
 }
 
 /// Leaves what one scan from the set leaves OFF, and returns how many were removed.
+#[tactic(auto, using(crate::proofs::Left::left_within))]
 fn remove(
     program: &Program,
     set: &mut Set,
