@@ -1,5 +1,5 @@
 -- What one scan leaves OFF of a set it leaves OFF of a larger one.
-use Rattle.std.proofs.Common.{◌≡◌, ◌∙◌, ℕ, true, [], subst, sym, refl}
+use Rattle.std.proofs.Common.{◌≡◌, ◌∙◌, [], subst, sym, refl}
 use Rattle.ladder_grid.specs.Program.{Drawing, memories_of}
 use Rattle.ladder_scan.specs.Programs.{diagram_of}
 use Rattle.ladder_known.specs.KnownScan.{kept_at}
@@ -8,9 +8,9 @@ use Rattle.ladder_known.proofs.Lists.{get_both}
 use Rattle.ladder_signals.specs.Three.{three}
 use Rattle.ladder_signals.specs.declared.tri.Tri.{Tri}
 use Rattle.ladder_signals.specs.declared.tri.Tri.TheVariants.{Off}
-use Rattle.ladder_never.specs.Never.{Bits, IsSetOf, IsWithin, after_knowing, is_in, knowing, StaysOff}
+use Rattle.ladder_never.specs.Never.{after_knowing, knowing}
 use Rattle.ladder_never.specs.OutcomeLaws.{tells_q}
-use Rattle.ladder_never.specs.Outcomes.{KnowsMore, TellsMore, outcomes, q_known}
+use Rattle.ladder_never.specs.Outcomes.{KnowsMore, TellsMore, outcomes}
 use Rattle.ladder_never.specs.Removing.{LeavesOff}
 use Rattle.ladder_never.specs.declared.outcome.Outcome.TheVariants.{Anything}
 use Rattle.ladder_never.proofs.Listed.{blocks_more, both_at, memories_more, values_more}

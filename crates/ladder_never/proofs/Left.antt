@@ -27,9 +27,9 @@ below_or i n = grind arith
 pub all_tried : (test : ℕ → Bool) (bits left : List Bool) (removed n : ℕ) → IsLeftSoFar test bits left removed n → length left ≤ n → IsLeftBy test bits left removed
 all_tried test bits left removed n so h = record {
   each = λ i. elim (below_or i n) [
-      | inl l ↦ so.tried i l
-      | inr g ↦ so.rest i g ∙ off_and (is_in bits i) (test i) (none_past bits i (omega (arith, h, g, so.length)))
-    ];
+    | inl l ↦ so.tried i l
+    | inr g ↦ so.rest i g ∙ off_and (is_in bits i) (test i) (none_past bits i (omega (arith, h, g, so.length)))
+  ];
   length = so.length;
   count = so.count;
   same = so.same;
@@ -49,9 +49,9 @@ one_stays test bits left removed n so e =
     let same = so.rest n (omega arith) in
     record {
       tried = λ i h. elim (next_or i n h) [
-          | inl l ↦ so.tried i l
-          | inr g ↦ rw g (stays_by (is_in left n) (test n) e ∙ ap (λ b. b && test n) same)
-        ];
+        | inl l ↦ so.tried i l
+        | inr g ↦ rw g (stays_by (is_in left n) (test n) e ∙ ap (λ b. b && test n) same)
+      ];
       rest = λ i h. so.rest i (omega (arith, h));
       length = so.length;
       count = so.count;
@@ -72,9 +72,9 @@ pub one_goes : (test : ℕ → Bool) (bits left : List Bool) (removed n : ℕ) �
     → IsLeftSoFar test bits (set left n false) (removed + 1) (n + 1)
 one_goes test bits left removed n so e t within = record {
   tried = λ i h. elim (next_or i n h) [
-      | inl l ↦ get_or-set_other left n i false false (other i n l) ∙ so.tried i l
-      | inr g ↦ rw g (get_or-set_same left n false false within ∙ sym (and_off (is_in bits n) (test n) t))
-    ];
+    | inl l ↦ get_or-set_other left n i false false (other i n l) ∙ so.tried i l
+    | inr g ↦ rw g (get_or-set_same left n false false within ∙ sym (and_off (is_in bits n) (test n) t))
+  ];
   rest = λ i h. get_or-set_other left n i false false (later i n h) ∙ so.rest i (omega (arith, h));
   length = length-set left n false ∙ so.length;
   count = omega (arith, one_less left n within e, so.count);

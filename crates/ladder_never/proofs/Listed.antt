@@ -11,10 +11,9 @@ use Rattle.ladder_scan.specs.Scan.{given}
 use Rattle.ladder_known.specs.KnownLaws.{BothAt}
 use Rattle.ladder_signals.specs.Three.{AnyTri, three_allows}
 use Rattle.ladder_signals.specs.declared.tri.Tri.{Tri}
-use Rattle.ladder_signals.specs.declared.tri.Tri.TheVariants.{Off, Unsure}
+use Rattle.ladder_signals.specs.declared.tri.Tri.TheVariants.{Unsure}
 use Rattle.ladder_never.specs.Never.{off_or_open}
 use Rattle.ladder_never.specs.Outcomes.{KnowsMore, MayStore, TellsMore}
-use Rattle.ladder_never.specs.declared.outcome.Outcome.{Outcome}
 use Rattle.ladder_never.specs.declared.outcome.Outcome.TheVariants.{OfKind}
 
 abbrev pub Allows : Tri → Bool → Type 0

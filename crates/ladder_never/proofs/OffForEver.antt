@@ -1,20 +1,17 @@
 -- A set that one scan over three values leaves OFF is OFF after any scans.
-use Rattle.std.proofs.Common.{◌≡◌, ◌∙◌, ℕ, Bool, true, false, List, [], ◌∷◌, map, get_or, length, zero, suc, refl, sym, ap, subst, Option, Some, None}
+use Rattle.std.proofs.Common.{◌≡◌, ◌∙◌, ℕ, Bool, false, List, [], ◌∷◌, map, get_or, length, zero, suc, refl, sym, ap, subst}
 use Rattle.std.proofs.lemmas.List.{length-map}
 use Rattle.std.specs.Prelude.{slice_get, unwrap_or, option_map}
-use Rattle.ladder_vars.specs.declared.kind.BlockKind.{BlockKind}
 use Rattle.ladder_vars.specs.declared.kind.BlockKind.TheVariants.{Ton}
 use Rattle.ladder_vars.specs.declared.decls.Instance.{Instance}
 use Rattle.ladder_grid.specs.Program.{Drawing, memories_of}
 use Rattle.ladder_elements.specs.declared.block.Stored.{Stored}
 use Rattle.ladder_elements.specs.Blocks.{q_of, new_block}
 use Rattle.ladder_elements.specs.Truth.{plain}
-use Rattle.ladder_scan.specs.Cells.{Diagram}
 use Rattle.ladder_scan.specs.Programs.{diagram_of, IsSound}
 use Rattle.ladder_scan.specs.Rung.{Held}
 use Rattle.ladder_scan.specs.RungByRung.{scanned, shape}
 use Rattle.ladder_scan.specs.Scan.{after_scan, given}
-use Rattle.ladder_scan.specs.Standing.{Standing, Fits, IsStanding}
 use Rattle.ladder_scan.proofs.ByList.{scanned_is}
 use Rattle.ladder_scan.proofs.Possible.{scanned_shapes, sound_shapes}
 use Rattle.ladder_scan.proofs.Sizes.{scan_lengths}
@@ -24,7 +21,7 @@ use Rattle.ladder_known.proofs.Lists.{get_both, map_same}
 use Rattle.ladder_signals.specs.Three.{three, three_allows}
 use Rattle.ladder_signals.specs.declared.tri.Tri.{Tri}
 use Rattle.ladder_signals.specs.declared.tri.Tri.TheVariants.{Off, Unsure}
-use Rattle.ladder_never.specs.Never.{AreNeverOn, Bits, IsOff, IsSetOf, OneScan, StaysOff, after_each, after_knowing, is_in, knowing}
+use Rattle.ladder_never.specs.Never.{AreNeverOn, Bits, IsOff, IsSetOf, OneScan, StaysOff, after_each, after_knowing, knowing}
 use Rattle.ladder_never.specs.OutcomeLaws.{q_sound}
 use Rattle.ladder_never.specs.Outcomes.{MayStore, outcomes, q_known}
 use Rattle.ladder_never.specs.declared.outcome.Outcome.{Outcome}

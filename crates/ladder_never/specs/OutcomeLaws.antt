@@ -1,5 +1,5 @@
 -- Private: what is known of an instance after a step allows what the step leaves, and where more is known before, more is known after.
-use Rattle.std.proofs.Common.{◌≡◌, ◌∙◌, ℕ, ℤ, Bool, true, false, not, cond, refl, sym, ap, ap₂, subst, ◌&&◌, ◌||◌, ◌-◌, nat_eq, nat_lt, nat_le, pos, int_le, zero, suc, arith}
+use Rattle.std.proofs.Common.{◌≡◌, ◌∙◌, ℕ, ℤ, Bool, true, false, not, cond, refl, sym, ap, ap₂, subst, ◌&&◌, ◌||◌, ◌-◌, nat_eq, nat_lt, nat_le, pos, int_le, arith}
 use Rattle.std.proofs.lemmas.Int.{ints}
 use Rattle.std.proofs.lemmas.Bool.Decides.{nat_tests}
 use Rattle.ladder_vars.specs.declared.kind.BlockKind.{BlockKind}

@@ -1,4 +1,4 @@
-use Rattle.std.proofs.Common.{◌≡◌, ◌<◌, ◌&&◌, ℕ, not, map, false, length, slice_index_or}
+use Rattle.std.proofs.Common.{◌≡◌, ◌<◌, ◌&&◌, ℕ, not, map, false, slice_index_or}
 use Rattle.ladder_vars.specs.Decls.{is_input}
 use Rattle.ladder_never.specs.Never.{is_in}
 use Rattle.ladder_never.proofs.begin.begin_variables.Given as goal

@@ -18,10 +18,10 @@ loop-inst-preserved c =
       | else-instances-inst w ↦
           record {
             left = same_left _ _ _ _ _ _ _ w.instances-is w.removed-is (one_stays _ _ _ _ _ so (elim w.else-instances-inst.branch [
-                | else-instances-inst-via-then-instances-inst+else-not-is_off v ↦
-                    off_there _ _ (ap (λ b. is_off (q_known b)) (sym v.kept.ensures.is) ∙ ap is_off (sym v.q.ensures) ∙ sym v.is_off.ensures ∙ v.if-not-is_off.false)
-                | else-instances-inst-via-else-instances-inst v ↦ none_there _ _ v.if-instances-inst.false
-              ]));
+              | else-instances-inst-via-then-instances-inst+else-not-is_off v ↦
+                  off_there _ _ (ap (λ b. is_off (q_known b)) (sym v.kept.ensures.is) ∙ ap is_off (sym v.q.ensures) ∙ sym v.is_off.ensures ∙ v.if-not-is_off.false)
+              | else-instances-inst-via-else-instances-inst v ↦ none_there _ _ v.if-instances-inst.false
+            ]));
             few = omega (arith, w.removed-is, c.loop-inst.invariant.few);
           }
     ]

@@ -1,4 +1,4 @@
-use Rattle.std.proofs.Common.{◌≡◌, ◌≤◌}
+use Rattle.std.proofs.Common.{◌≤◌}
 use Rattle.ladder_known.specs.KnownScan.{kept_at}
 use Rattle.ladder_never.specs.Outcomes.{outcomes, q_known}
 use Rattle.ladder_never.specs.Removing.{is_off, IsLeftSoFar}

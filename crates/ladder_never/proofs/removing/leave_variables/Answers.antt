@@ -17,10 +17,10 @@ loop-var-preserved c =
       | else-variables-var w ↦
           record {
             left = same_left _ _ _ _ _ _ _ w.variables-is w.removed-is (one_stays _ _ _ _ _ so (elim w.else-variables-var.branch [
-                | else-variables-var-via-then-variables-var+else-not-is_off v ↦
-                    off_there _ _ (ap is_off (sym v.value.ensures) ∙ sym v.is_off.ensures ∙ v.if-not-is_off.false)
-                | else-variables-var-via-else-variables-var v ↦ none_there _ _ v.if-variables-var.false
-              ]));
+              | else-variables-var-via-then-variables-var+else-not-is_off v ↦
+                  off_there _ _ (ap is_off (sym v.value.ensures) ∙ sym v.is_off.ensures ∙ v.if-not-is_off.false)
+              | else-variables-var-via-else-variables-var v ↦ none_there _ _ v.if-variables-var.false
+            ]));
             few = omega (arith, w.removed-is, c.loop-var.invariant.few);
           }
     ]

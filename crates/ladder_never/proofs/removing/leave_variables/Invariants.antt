@@ -1,4 +1,4 @@
-use Rattle.std.proofs.Common.{◌≡◌, ◌≤◌, slice_index_or}
+use Rattle.std.proofs.Common.{◌≤◌, slice_index_or}
 use Rattle.ladder_never.specs.Removing.{is_off, IsLeftSoFar}
 use Rattle.ladder_signals.specs.declared.tri.Tri.TheVariants.{Off}
 use Rattle.ladder_never.proofs.removing.leave_variables.Given as goal
