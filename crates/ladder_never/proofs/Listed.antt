@@ -44,10 +44,6 @@ memories_allow zero (m ∷ ms) h = absurd (omega (arith, h))
 memories_allow (suc n) [] h = absurd (omega (arith, h))
 memories_allow (suc n) (m ∷ ms) h = ((tt, λ _. tt), memories_allow n ms (omega (arith, h)))
 
-pub inputs_allow : (vs : List Bool) → Both Allows (map (λ v. Unsure) vs) vs
-inputs_allow [] = tt
-inputs_allow (v ∷ vs) = ((tt, λ _. tt), inputs_allow vs)
-
 heads : (s : Stored) (ss : List Stored) (k : BlockKind) (ks : List BlockKind) → map shape (s ∷ ss) ≡ map new_block (k ∷ ks) → shape s ≡ new_block k
 heads s ss k ks e = cc
 
@@ -73,19 +69,32 @@ blocks_allow kind (x ∷ kinds) (b ∷ bits) (s ∷ ss) k h e f = (
   blocks_allow (λ i. kind (suc i)) kinds bits ss (λ i. k (suc i)) (omega (arith, h)) (tails s ss x kinds e) (λ i. f (suc i)),
 )
 
--- Inputs that aren't in the set are open, whether they are given an open value or none.
-still_open : (b : Bool) → b ≡ false → Unsure ≡ off_or_open b
-still_open true e = cc
-still_open false e = refl
+-- ---- inputs
+pub given_none : (flags vs : List Bool) → given flags [] vs ≡ vs
+given_none [] vs = refl
+given_none (true ∷ flags) [] = refl
+given_none (false ∷ flags) [] = refl
+given_none (true ∷ flags) (v ∷ vs) = ap (λ ws. v ∷ ws) (given_none flags vs)
+given_none (false ∷ flags) (v ∷ vs) = ap (λ ws. v ∷ ws) (given_none flags vs)
 
-pub given_open : (flags bits vs : List Bool) → ((i : ℕ) → get_or flags i false ≡ true → get_or bits i false ≡ false)
-    → given flags (map (λ v. Unsure) vs) (map off_or_open bits) ≡ given flags [] (map off_or_open bits)
-given_open [] bits vs e = refl
-given_open (true ∷ flags) [] vs e = refl
-given_open (false ∷ flags) [] vs e = refl
-given_open (true ∷ flags) (b ∷ bits) [] e = refl
-given_open (true ∷ flags) (b ∷ bits) (v ∷ vs) e = ap₂ (λ x xs. x ∷ xs) (still_open b (e 0 refl)) (given_open flags bits vs (λ i. e (suc i)))
-given_open (false ∷ flags) (b ∷ bits) vs e = ap (λ xs. off_or_open b ∷ xs) (given_open flags bits vs (λ i. e (suc i)))
+on_off : true ≡ false → ⊥
+on_off e = cc
+
+-- a variable that is no input keeps its value
+pub given_same : (flags xs vs : List Bool) (i : ℕ) → get_or flags i false ≡ false → get_or (given flags xs vs) i false ≡ get_or vs i false
+given_same [] xs vs i e = refl
+given_same (true ∷ flags) xs [] i e = refl
+given_same (false ∷ flags) xs [] i e = refl
+given_same (true ∷ flags) [] (v ∷ vs) zero e = absurd (on_off e)
+given_same (true ∷ flags) (x ∷ xs) (v ∷ vs) zero e = absurd (on_off e)
+given_same (true ∷ flags) [] (v ∷ vs) (suc i) e = given_same flags [] vs i e
+given_same (true ∷ flags) (x ∷ xs) (v ∷ vs) (suc i) e = given_same flags xs vs i e
+given_same (false ∷ flags) xs (v ∷ vs) zero e = refl
+given_same (false ∷ flags) xs (v ∷ vs) (suc i) e = given_same flags xs vs i e
+
+pub no_input_in : (flag b : Bool) → (flag ≡ true → b ≡ false) → b ≡ true → flag ≡ false
+no_input_in true b e f = absurd (on_off (sym f ∙ e refl))
+no_input_in false b e f = refl
 
 -- ---- against a larger set
 one_more : (b c : Bool) → (b ≡ true → c ≡ true) → KnowsMore (off_or_open b) (off_or_open c)

@@ -63,14 +63,7 @@ pub record IsWithin (z w : Bits) : Type 0 where
   pub variables : (var : ℕ) → is_in z.variables var ≡ true → is_in w.variables var ≡ true
   pub instances : (inst : ℕ) → is_in z.instances inst ≡ true → is_in w.instances inst ≡ true
 
--- The largest set that is OFF in a state and stays OFF: each other such set is within it.
-pub record IsNever (p : Drawing) (s : Standing) (z : Bits) : Type 0 where
-  pub set : IsSetOf p z
-  pub off : IsOff z s.held
-  pub stays : StaysOff p z
-  pub largest : (other : Bits) → IsSetOf p other → IsOff other s.held → StaysOff p other → IsWithin other z
-
--- ---- the theorem
+-- ---- scans
 
 -- The moment of a scan, and the values that it gives the inputs.
 pub record OneScan : Type 0 where
@@ -81,9 +74,3 @@ pub record OneScan : Type 0 where
 unfoldable pub after_each : Diagram → List OneScan → Held → Held
 after_each d [] h = h
 after_each d (scan ∷ more) h = after_each d more (after_scan d scan.moment scan.inputs h)
-
--- A set that stays OFF is OFF for ever: where each of them is OFF in a state, each is OFF after any scans from there, with any inputs and
--- at any moments.
-abbrev pub AreNeverOn : Drawing → Type 0
-AreNeverOn p = (s : Standing) → Fits p s → IsStanding s → (z : Bits) → IsSetOf p z → StaysOff p z → IsOff z s.held
-    → (scans : List OneScan) → IsOff z (after_each (diagram_of p) scans s.held)

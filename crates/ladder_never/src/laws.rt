@@ -3,7 +3,7 @@
 ghost use Rattle.ladder_elements.specs.Relations.{AllowsAt, allows_kept};
 ghost use Rattle.ladder_elements.specs.Truth.{OnePlace};
 ghost use Rattle.ladder_known.specs.KnownScan.{plainly};
-ghost use Rattle.ladder_never.specs.Never.{AreNeverOn};
+ghost use Rattle.ladder_never.specs.Cases.{AreNeverOn};
 ghost use Rattle.ladder_never.specs.OutcomeLaws.{knows_kept, outcomes_grow, outcomes_keep};
 ghost use Rattle.ladder_never.specs.Outcomes.{KnowsMore, MayStore, TellsMore, outcomes};
 ghost use Rattle.ladder_never.specs.Removing.{LeavesOff};
@@ -81,10 +81,10 @@ impl StepRelation for Further {
     ghost steps = { λ _ d. outcomes_grow d };
 }
 
-/// A set that one scan leaves OFF is OFF for ever.
+/// A set that a scan leaves OFF is OFF for ever.
 ///
-/// One scan over three values decides it, from what is known where each of the set is OFF: all other variables and Qs, all inputs and all
-/// memories are open. From a state of the program in which each is OFF, each is OFF after any scans, with any inputs and at any moments.
+/// Scans over three values settle it, by cases, from what is known where each of the set is OFF: all other variables and Qs, all inputs and
+/// all memories are open. From a state of the program in which each is OFF, each is OFF after any scans, with any inputs and at any moments.
 pub fn never_on(program: &Program)
     ensures { AreNeverOn program.now }
 {

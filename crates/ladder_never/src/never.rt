@@ -3,7 +3,8 @@
 ghost use Rattle.std.specs.Prelude.{IfOk, List};
 ghost use Rattle.ladder_scan.specs.Programs.{diagram_of};
 ghost use Rattle.ladder_scan.specs.Standing.{Fits};
-ghost use Rattle.ladder_never.specs.Never.{after_each, IsNever, IsOff, OneScan};
+ghost use Rattle.ladder_never.specs.Cases.{IsNever};
+ghost use Rattle.ladder_never.specs.Never.{after_each, IsOff, OneScan};
 
 use crate::begin::begin;
 use crate::laws;

@@ -11,19 +11,11 @@ ghost use Rattle.ladder_signals.specs.declared.tri.Tri.TheVariants.{Off};
 use crate::knowing::know;
 use crate::laws::leaves_off;
 use crate::outcome::Outcome;
+use crate::pinning::is_off;
 use crate::set::Set;
 use ladder_glance::{Keep, Knowledge, Room, scan_known};
 use ladder_grid::Program;
 use ladder_signals::Tri;
-
-fn is_off(value: Tri) -> bool
-    ensures { result ≡ is_off value }
-{
-    match value {
-        Tri::Off => true,
-        Tri::On | Tri::Unsure => false,
-    }
-}
 
 /// Leaves the variables that are known to be OFF, and returns how many were removed.
 fn leave_variables(known: &Knowledge<Tri, Outcome>, variables: &mut [bool]) -> usize
