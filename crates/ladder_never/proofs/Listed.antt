@@ -1,5 +1,5 @@
 -- Lists of what is known of a set, against those of a state and of a larger set.
-use Rattle.std.proofs.Common.{◌≡◌, ◌∙◌, ℕ, Bool, true, false, List, [], ◌∷◌, map, get_or, length, replicate, zero, suc, refl, sym, ap, ap₂, arith}
+use Rattle.std.proofs.Common.{◌≡◌, ◌∙◌, ℕ, Bool, true, false, List, [], ◌∷◌, map, get_or, length, replicate, zero, suc, refl, sym, ap, arith}
 use Rattle.ladder_vars.specs.declared.kind.BlockKind.{BlockKind}
 use Rattle.ladder_vars.specs.declared.kind.BlockKind.TheVariants.{Ton}
 use Rattle.ladder_elements.specs.declared.block.Stored.{Stored}

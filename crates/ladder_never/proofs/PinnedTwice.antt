@@ -1,10 +1,10 @@
 -- Pinning a point again, and back.
 use Rattle.std.proofs.Common.{◌≡◌, ◌∙◌, ℕ, List, [], ◌∷◌, get_or, set, zero, suc, not, true, false, Bool, refl, sym, ap}
-use Rattle.ladder_known.specs.KnownScan.{Known}
+use Rattle.ladder_known.specs.KnownScan.{Known, kept_at}
 use Rattle.ladder_signals.specs.declared.tri.Tri.{Tri}
 use Rattle.ladder_signals.specs.declared.tri.Tri.TheVariants.{Off, On, Unsure}
 use Rattle.ladder_never.specs.Cases.{pinned, told, with_q}
-use Rattle.ladder_never.specs.Outcomes.{q_known}
+use Rattle.ladder_never.specs.Outcomes.{outcomes, q_known}
 use Rattle.ladder_never.specs.Removing.{is_off}
 use Rattle.ladder_never.specs.declared.outcome.Outcome.{Outcome}
 use Rattle.ladder_never.specs.declared.outcome.Outcome.TheVariants.{Anything, OfKind}
@@ -66,4 +66,14 @@ off_is On e = cc
 off_is Unsure e = cc
 
 pub not_not : (b : Bool) → not b ≡ false → b ≡ true
-not_not b e = cc
+not_not true e = refl
+not_not false e = sym e
+
+-- what is known to be OFF passes
+pub passes_variable : (k l : Known Tri Outcome) (var : ℕ) → k ≡ l → get_or l.values var Off ≡ Off → is_off (told (Variable var) k) ≡ true
+unfolding told
+passes_variable k l var e f = ap (λ (m : Known Tri Outcome). is_off (get_or m.values var Off)) e ∙ ap is_off f
+
+pub passes_output : (k l : Known Tri Outcome) (inst : ℕ) → k ≡ l → q_known (kept_at outcomes l inst) ≡ Off → is_off (told (Output inst) k) ≡ true
+unfolding told
+passes_output k l inst e f = ap (λ (m : Known Tri Outcome). is_off (q_known (kept_at outcomes m inst))) e ∙ ap is_off f

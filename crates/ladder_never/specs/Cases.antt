@@ -1,10 +1,7 @@
 -- What is settled by cases: a scan over three values, or two of them, one where something is OFF before it and one where it is ON, and so on.
-use Rattle.std.specs.Prelude.{◌≡◌, ℕ, Bool, true, false, List, [], slice_index_or, slice_set}
-use Rattle.ladder_vars.specs.declared.kind.BlockKind.TheVariants.{Ton}
+use Rattle.std.specs.Prelude.{◌≡◌, ℕ, true, false, List, [], slice_index_or, slice_set}
 use Rattle.ladder_grid.specs.Program.{Drawing}
-use Rattle.ladder_elements.specs.Blocks.{q_of, new_block}
 use Rattle.ladder_scan.specs.Programs.{diagram_of}
-use Rattle.ladder_scan.specs.Rung.{Held}
 use Rattle.ladder_scan.specs.Standing.{Standing, Fits, IsStanding}
 use Rattle.ladder_known.specs.KnownScan.{Known, after_known, kept_at}
 use Rattle.ladder_signals.specs.Three.{three, three_known}

@@ -8,7 +8,6 @@ use Rattle.ladder_scan.specs.Cells.{Diagram}
 use Rattle.ladder_scan.specs.Programs.{diagram_of}
 use Rattle.ladder_scan.specs.Rung.{Held}
 use Rattle.ladder_scan.specs.Scan.{after_scan}
-use Rattle.ladder_scan.specs.Standing.{Standing, Fits, IsStanding}
 use Rattle.ladder_known.specs.KnownScan.{Known, after_known, kept_at}
 use Rattle.ladder_signals.specs.Three.{three}
 use Rattle.ladder_signals.specs.declared.tri.Tri.{Tri}

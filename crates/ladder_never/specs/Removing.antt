@@ -1,5 +1,5 @@
 -- Private: what stays of a set that one scan doesn't leave OFF.
-use Rattle.std.specs.Prelude.{◌≡◌, ◌<◌, ◌≤◌, ℕ, ◌+◌, Bool, true, false, ◌&&◌, List, length, slice_index_or, count_by}
+use Rattle.std.specs.Prelude.{◌≡◌, ◌<◌, ℕ, ◌+◌, Bool, true, false, List, length, slice_index_or, count_by}
 use Rattle.ladder_grid.specs.Program.{Drawing}
 use Rattle.ladder_known.specs.KnownScan.{kept_at}
 use Rattle.ladder_signals.specs.declared.tri.Tri.{Tri}
@@ -28,17 +28,20 @@ members = count_by (λ b. b)
 abbrev pub size : Bits → ℕ
 size z = members z.variables + members z.instances
 
--- In the second list is what is in the first and passes the test.
-pub record IsLeftBy (test : ℕ → Bool) (bits left : List Bool) (removed : ℕ) : Type 0 where
-  pub each : (i : ℕ) → is_in left i ≡ (is_in bits i && test i)
+-- In the second list are some of the first: all that pass the test, and none without the property.
+pub record IsLeftBy (test : ℕ → Bool) (P : ℕ → Type 0) (bits left : List Bool) (removed : ℕ) : Type 0 where
+  pub within : (i : ℕ) → is_in left i ≡ true → is_in bits i ≡ true
+  pub holds : (i : ℕ) → is_in left i ≡ true → P i
+  pub kept : (i : ℕ) → is_in bits i ≡ true → test i ≡ true → is_in left i ≡ true
   pub length : length left ≡ length bits
   pub count : members left + removed ≡ members bits
   pub same : removed ≡ 0 → left ≡ bits
 
 -- The same where the first n have been tried.
-pub record IsLeftSoFar (test : ℕ → Bool) (bits left : List Bool) (removed n : ℕ) : Type 0 where
-  pub tried : (i : ℕ) → i < n → is_in left i ≡ (is_in bits i && test i)
-  pub rest : (i : ℕ) → n ≤ i → is_in left i ≡ is_in bits i
+pub record IsLeftSoFar (test : ℕ → Bool) (P : ℕ → Type 0) (bits left : List Bool) (removed n : ℕ) : Type 0 where
+  pub within : (i : ℕ) → is_in left i ≡ true → is_in bits i ≡ true
+  pub holds : (i : ℕ) → i < n → is_in left i ≡ true → P i
+  pub kept : (i : ℕ) → is_in bits i ≡ true → test i ≡ true → is_in left i ≡ true
   pub length : length left ≡ length bits
   pub count : members left + removed ≡ members bits
   pub same : removed ≡ 0 → left ≡ bits

@@ -10,6 +10,7 @@ mod never;
 mod outcome;
 mod pinning;
 mod point;
+mod reach;
 mod removing;
 mod set;
 mod table;

@@ -1,4 +1,4 @@
-use Rattle.std.proofs.Common.{◌∙◌, ap, subst, sym}
+use Rattle.std.proofs.Common.{◌∙◌, subst, sym}
 use Rattle.ladder_never.specs.Cases.{IsSettled, by_cases, by_scan}
 use Rattle.ladder_never.proofs.PinnedTwice.{case_over, not_not, off_is, other_case}
 use Rattle.ladder_never.proofs.cases.+settle_off.Goals as goal

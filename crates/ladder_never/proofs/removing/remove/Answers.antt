@@ -1,7 +1,12 @@
-use Rattle.std.proofs.Common.{◌∙◌, ap}
+use Rattle.std.proofs.Common.{◌∙◌, ap, sym, []}
 use Rattle.std.proofs.lemmas.List.{with_items_is}
+use Rattle.ladder_scan.specs.Programs.{diagram_of}
+use Rattle.ladder_known.specs.KnownScan.{after_known}
+use Rattle.ladder_signals.specs.Three.{three}
 use Rattle.ladder_never.specs.Never.{Bits}
-use Rattle.ladder_never.proofs.Left.{left_within, moved}
+use Rattle.ladder_never.specs.Outcomes.{outcomes}
+use Rattle.ladder_never.proofs.Left.{moved}
+use Rattle.ladder_never.proofs.PinnedTwice.{passes_output, passes_variable}
 use Rattle.ladder_never.proofs.removing.remove.Goals as goal
 
 pub returns-clause-within : goal.returns-clause-within
@@ -10,10 +15,28 @@ returns-clause-within c =
     record {
       variables = λ var e.
           moved _ _ var (c.deref_mut.ensures.value ∙ ap (λ (z : Bits). z.variables) c.set.view_is)
-          (left_within _ _ _ _ c.leave_variables-variables.ensures.left var
+          (c.leave_variables-variables.ensures.left.within var
           (moved _ _ var (with_items_is before.variables c.leave_variables-variables.new.variables (c.leave_variables-variables.auto.variables ∙ c.deref_mut.ensures.len)) e));
       instances = λ inst e.
           moved _ _ inst (c.deref_mut-2.ensures.value ∙ ap (λ (z : Bits). z.instances) c.set.view_is)
-          (left_within _ _ _ _ c.leave_instances-instances.ensures.left inst
+          (c.leave_instances-instances.ensures.left.within inst
           (moved _ _ inst (with_items_is before.instances c.leave_instances-instances.new.instances (c.leave_instances-instances.auto.instances ∙ c.deref_mut-2.ensures.len)) e));
+    }
+
+pub returns-clause-most : goal.returns-clause-most
+returns-clause-most c = λ other set stays within.
+    let before = c.set.inside in
+    let left = c.leaves_off.ensures other c.args.set.now set c.requires.set within stays in
+    let after = c.scan_known.ensures.known ∙ ap (after_known three outcomes (diagram_of c.args.program.now) 0 []) (c.copy_from.ensures ∙ c.know.ensures.known) in
+    record {
+      variables = λ var m.
+          moved _ _ var (sym (with_items_is before.variables c.leave_variables-variables.new.variables (c.leave_variables-variables.auto.variables ∙ c.deref_mut.ensures.len)))
+          (c.leave_variables-variables.ensures.left.kept var
+          (moved _ _ var (sym (c.deref_mut.ensures.value ∙ ap (λ (z : Bits). z.variables) c.set.view_is)) (within.variables var m))
+          (passes_variable _ _ var after (left.variables var m)));
+      instances = λ inst m.
+          moved _ _ inst (sym (with_items_is before.instances c.leave_instances-instances.new.instances (c.leave_instances-instances.auto.instances ∙ c.deref_mut-2.ensures.len)))
+          (c.leave_instances-instances.ensures.left.kept inst
+          (moved _ _ inst (sym (c.deref_mut-2.ensures.value ∙ ap (λ (z : Bits). z.instances) c.set.view_is)) (within.instances inst m))
+          (passes_output _ _ inst after (left.instances inst m)));
     }
