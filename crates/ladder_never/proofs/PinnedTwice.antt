@@ -3,9 +3,11 @@ use Rattle.std.proofs.Common.{◌≡◌, ◌∙◌, ℕ, List, [], ◌∷◌, ge
 use Rattle.ladder_known.specs.KnownScan.{Known, kept_at}
 use Rattle.ladder_signals.specs.declared.tri.Tri.{Tri}
 use Rattle.ladder_signals.specs.declared.tri.Tri.TheVariants.{Off, On, Unsure}
-use Rattle.ladder_never.specs.Cases.{pinned, told, with_q}
+use Rattle.ladder_never.specs.Cases.{IsSettled, pinned, told, with_q}
 use Rattle.ladder_never.specs.Outcomes.{outcomes, q_known}
-use Rattle.ladder_never.specs.Removing.{is_off}
+use Rattle.ladder_never.specs.Never.{Bits}
+use Rattle.ladder_never.specs.Removing.{is_off, IsStaying, staying}
+use Rattle.ladder_grid.specs.Program.{Drawing}
 use Rattle.ladder_never.specs.declared.outcome.Outcome.{Outcome}
 use Rattle.ladder_never.specs.declared.outcome.Outcome.TheVariants.{Anything, OfKind}
 use Rattle.ladder_never.specs.declared.point.Point.{Point}
@@ -77,3 +79,31 @@ passes_variable k l var e f = ap (λ (m : Known Tri Outcome). is_off (get_or m.v
 pub passes_output : (k l : Known Tri Outcome) (inst : ℕ) → k ≡ l → q_known (kept_at outcomes l inst) ≡ Off → is_off (told (Output inst) k) ≡ true
 unfolding told
 passes_output k l inst e f = ap (λ (m : Known Tri Outcome). is_off (q_known (kept_at outcomes m inst))) e ∙ ap is_off f
+
+false_true : false ≡ true → ⊥
+false_true e = cc
+
+pub neither_on : {A : Type 0} {b : Bool} → b ≡ false → b ≡ true → A
+neither_on e f = absurd (false_true (sym e ∙ f))
+
+-- what passes is known to be OFF
+pub off_variable : (k l : Known Tri Outcome) (var : ℕ) → k ≡ l → is_off (told (Variable var) k) ≡ true → get_or l.values var Off ≡ Off
+unfolding told
+off_variable k l var e f = off_is (get_or l.values var Off) (sym (ap (λ (m : Known Tri Outcome). is_off (get_or m.values var Off)) e) ∙ f)
+
+pub off_output : (k l : Known Tri Outcome) (inst : ℕ) → k ≡ l → is_off (told (Output inst) k) ≡ true → q_known (kept_at outcomes l inst) ≡ Off
+unfolding told
+off_output k l inst e f = off_is (q_known (kept_at outcomes l inst)) (sym (ap (λ (m : Known Tri Outcome). is_off (q_known (kept_at outcomes m inst))) e) ∙ f)
+
+abbrev pub set_of : List Bool → List Bool → Bits
+set_of variables instances = record { variables = variables; instances = instances }
+
+pub same_bits : (xs ys zs ws : List Bool) → xs ≡ zs → ys ≡ ws → set_of xs ys ≡ set_of zs ws
+same_bits xs ys zs ws e f = ap (λ (vs : List Bool). set_of vs ys) e ∙ ap (set_of zs) f
+
+pub staying_settled : {p : Drawing} {target : Point} {after case : Known Tri Outcome} {scans : ℕ} → IsStaying p target after case scans → IsSettled p target case
+staying_settled (staying settled plain) = settled
+
+pub staying_plain : {p : Drawing} {target : Point} {after case : Known Tri Outcome} {scans : ℕ} → IsStaying p target after case scans → scans ≡ 0
+    → is_off (told target after) ≡ true
+staying_plain (staying settled plain) = plain

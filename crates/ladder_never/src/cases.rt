@@ -1,6 +1,6 @@
 //! Settling, by cases, that a point is OFF after a scan.
 
-ghost use Rattle.std.specs.Prelude.{◌≡◌, ◌≤◌, [], length, IsTrue};
+ghost use Rattle.std.specs.Prelude.{◌≡◌, ◌≤◌, [], false, length, IsTrue};
 ghost use Rattle.ladder_scan.specs.Programs.{diagram_of};
 ghost use Rattle.ladder_known.specs.KnownScan.{after_known};
 ghost use Rattle.ladder_glance.specs.Sizes.{HasSizes, IsSpareFor};
@@ -70,6 +70,7 @@ pub(crate) fn settle_off(
     requires room { IsSpareFor program.now room.old }
     ensures settled { IsTrue result.is_settled → IsSettled program.now target case.old }
     ensures scans { result.scans ≤ scans }
+    ensures none { scans ≡ 0 → result.is_settled ≡ false }
     ensures case { case.new ≡ case.old }
     ensures trial { HasSizes program.now trial.new }
     ensures room { room.new ≡ room.old }

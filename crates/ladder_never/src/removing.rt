@@ -4,10 +4,10 @@ ghost use Rattle.std.specs.Prelude.{◌≡◌, ◌+◌, ◌≤◌, ℕ, [], leng
 ghost use Rattle.ladder_scan.specs.Programs.{diagram_of};
 ghost use Rattle.ladder_known.specs.KnownScan.{after_known, kept_at};
 ghost use Rattle.ladder_glance.specs.Sizes.{HasSizes, IsSpareFor};
-ghost use Rattle.ladder_never.specs.Cases.{told, IsSettled, IsSettledOff};
+ghost use Rattle.ladder_never.specs.Cases.{told, IsSettledOff};
 ghost use Rattle.ladder_never.specs.Never.{Bits, IsSetOf, IsWithin, StaysOff};
 ghost use Rattle.ladder_never.specs.Outcomes.{outcomes, q_known};
-ghost use Rattle.ladder_never.specs.Removing.{is_off, size, IsLeftBy};
+ghost use Rattle.ladder_never.specs.Removing.{is_off, size, IsLeftBy, IsStaying};
 ghost use Rattle.ladder_never.specs.declared.point.Point.TheVariants as point;
 ghost use Rattle.ladder_signals.specs.Three.{three};
 ghost use Rattle.ladder_signals.specs.declared.tri.Tri.TheVariants.{Off};
@@ -48,7 +48,7 @@ fn stays(
     requires trial { HasSizes program.now space.old.trial }
     requires room { IsSpareFor program.now space.old.room }
     requires after { after.now ≡ after_known three outcomes (diagram_of program.now) 0 [] space.old.case }
-    ensures settled { IsTrue result → IsSettled program.now target space.old.case }
+    ensures stays { IsTrue result → IsStaying program.now target after.now space.old.case scans }
     ensures off { is_off (told target after.now) ≡ true → IsTrue result }
     ensures case { space.new.case ≡ space.old.case }
     ensures trial { HasSizes program.now space.new.trial }
@@ -86,7 +86,7 @@ fn leave_variables(
     requires trial { HasSizes program.now space.old.trial }
     requires room { IsSpareFor program.now space.old.room }
     requires after { after.now ≡ after_known three outcomes (diagram_of program.now) 0 [] space.old.case }
-    ensures left { IsLeftBy (λ var. is_off (told (point.Variable var) after.now)) (λ var. IsSettled program.now (point.Variable var) space.old.case) variables.old variables.new result }
+    ensures left { IsLeftBy (λ var. is_off (told (point.Variable var) after.now)) (λ var. IsStaying program.now (point.Variable var) after.now space.old.case scans) variables.old variables.new result }
     ensures few { result ≤ length variables.old }
     ensures case { space.new.case ≡ space.old.case }
     ensures trial { HasSizes program.now space.new.trial }
@@ -114,7 +114,7 @@ fn leave_instances(
     requires trial { HasSizes program.now space.old.trial }
     requires room { IsSpareFor program.now space.old.room }
     requires after { after.now ≡ after_known three outcomes (diagram_of program.now) 0 [] space.old.case }
-    ensures left { IsLeftBy (λ inst. is_off (told (point.Output inst) after.now)) (λ inst. IsSettled program.now (point.Output inst) space.old.case) instances.old instances.new result }
+    ensures left { IsLeftBy (λ inst. is_off (told (point.Output inst) after.now)) (λ inst. IsStaying program.now (point.Output inst) after.now space.old.case scans) instances.old instances.new result }
     ensures few { result ≤ length instances.old }
     ensures case { space.new.case ≡ space.old.case }
     ensures trial { HasSizes program.now space.new.trial }
@@ -148,6 +148,7 @@ fn remove(
     ensures most { (other : Bits) → IsSetOf program.now other → StaysOff program.now other → IsWithin other set.old → IsWithin other set.new }
     ensures removed { size set.new + result ≡ size set.old }
     ensures settled { result ≡ 0 → IsSettledOff program.now set.new }
+    ensures plain { scans ≡ 0 → result ≡ 0 → StaysOff program.now set.new }
     ensures after { HasSizes program.now after.new }
     ensures case { HasSizes program.now space.new.case }
     ensures trial { HasSizes program.now space.new.trial }
@@ -179,6 +180,7 @@ pub(crate) fn settle(
     ensures within { IsWithin set.new set.old }
     ensures most { (other : Bits) → IsSetOf program.now other → StaysOff program.now other → IsWithin other set.old → IsWithin other set.new }
     ensures settled { IsSettledOff program.now set.new }
+    ensures plain { scans ≡ 0 → StaysOff program.now set.new }
 {
     let mut removed = 1;
     while 0 < removed {

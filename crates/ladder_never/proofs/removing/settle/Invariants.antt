@@ -11,6 +11,7 @@ invariant-loop-removed l = record {
   within : IsWithin l.set l.fn.set;
   most : (other : Bits) → IsSetOf l.program other → StaysOff l.program other → IsWithin other l.fn.set → IsWithin other l.set;
   settled : l.removed ≡ 0 → IsSettledOff l.program l.set;
+  plain : l.scans ≡ 0 → l.removed ≡ 0 → StaysOff l.program l.set;
   after : HasSizes l.program l.after;
   case : HasSizes l.program l.space.case;
   trial : HasSizes l.program l.space.trial;
