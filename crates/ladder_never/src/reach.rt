@@ -99,11 +99,27 @@ fn add_below(program: &Program, point: Point, points: &mut [Point], count: usize
     more
 }
 
+/// Adds what the rungs with a jump or return see, since other rungs may be passed over by them.
+fn add_jumps(program: &Program, points: &mut [Point], count: usize) -> usize
+    requires { count ≤ length points.old }
+    ensures { result ≤ length points.new }
+{
+    let mut more = count;
+    for rung in 0..program.rungs() {
+        if program.exit(rung).is_some() {
+            more = add_seen(program, rung, points, more);
+        }
+    }
+    more
+}
+
 /// Fills the list with points that the target may depend on, and returns how many there are.
 pub(crate) fn reach(program: &Program, target: Point, points: &mut [Point]) -> usize
     ensures { result ≤ length points.new }
 {
-    let mut count = add(points, 0, target);
+    let first = add(points, 0, target);
+    let near = add_below(program, target, points, first);
+    let mut count = add_jumps(program, points, near);
     for next in 0..points.len() {
         if next < count {
             count = add_below(program, points[next], points, count);
