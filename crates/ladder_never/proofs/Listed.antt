@@ -1,0 +1,120 @@
+-- Lists of what is known of a set, against those of a state and of a larger set.
+use Rattle.std.proofs.Common.{◌≡◌, ◌∙◌, ℕ, Bool, true, false, List, [], ◌∷◌, map, get_or, length, replicate, zero, suc, refl, sym, ap, arith}
+use Rattle.ladder_vars.specs.declared.kind.BlockKind.{BlockKind}
+use Rattle.ladder_vars.specs.declared.kind.BlockKind.TheVariants.{Ton}
+use Rattle.ladder_elements.specs.declared.block.Stored.{Stored}
+use Rattle.ladder_elements.specs.Blocks.{q_of, new_block}
+use Rattle.ladder_elements.specs.Relations.{AllowsAt, Both}
+use Rattle.ladder_elements.specs.Truth.{OnePlace}
+use Rattle.ladder_scan.specs.RungByRung.{shape}
+use Rattle.ladder_scan.specs.Scan.{given}
+use Rattle.ladder_known.specs.KnownLaws.{BothAt}
+use Rattle.ladder_signals.specs.Three.{AnyTri, three_allows}
+use Rattle.ladder_signals.specs.declared.tri.Tri.{Tri}
+use Rattle.ladder_signals.specs.declared.tri.Tri.TheVariants.{Unsure}
+use Rattle.ladder_never.specs.Never.{off_or_open}
+use Rattle.ladder_never.specs.Outcomes.{KnowsMore, MayStore, TellsMore}
+use Rattle.ladder_never.specs.declared.outcome.Outcome.TheVariants.{OfKind}
+
+abbrev pub Allows : Tri → Bool → Type 0
+Allows = AllowsAt AnyTri OnePlace three_allows 0
+
+pub both_at : {A B : Type 0} (R : A → B → Type 0) (xs : List A) (ys : List B) → Both R xs ys → (d : A) (e : B) → R d e → (i : ℕ) → R (get_or xs i d) (get_or ys i e)
+both_at R [] [] h d e r i = r
+both_at R [] (y ∷ ys) h d e r i = absurd h
+both_at R (x ∷ xs) [] h d e r i = absurd h
+both_at R (x ∷ xs) (y ∷ ys) h d e r zero = h.0
+both_at R (x ∷ xs) (y ∷ ys) h d e r (suc i) = both_at R xs ys h.1 d e r i
+
+-- ---- against a state
+one_allows : (b v : Bool) → (b ≡ true → v ≡ false) → three_allows (off_or_open b) 0 v
+one_allows true v e = e refl
+one_allows false v e = tt
+
+pub values_allow : (bits vs : List Bool) → length bits ≡ length vs → ((i : ℕ) → get_or bits i false ≡ true → get_or vs i false ≡ false)
+    → Both Allows (map off_or_open bits) (map (λ v. v) vs)
+values_allow [] [] h e = tt
+values_allow [] (v ∷ vs) h e = absurd (omega (arith, h))
+values_allow (b ∷ bits) [] h e = absurd (omega (arith, h))
+values_allow (b ∷ bits) (v ∷ vs) h e = ((tt, λ _. one_allows b v (e 0)), values_allow bits vs (omega (arith, h)) (λ i. e (suc i)))
+
+pub memories_allow : (n : ℕ) (ms : List Bool) → length ms ≡ n → Both Allows (replicate n Unsure) (map (λ v. v) ms)
+memories_allow zero [] h = tt
+memories_allow zero (m ∷ ms) h = absurd (omega (arith, h))
+memories_allow (suc n) [] h = absurd (omega (arith, h))
+memories_allow (suc n) (m ∷ ms) h = ((tt, λ _. tt), memories_allow n ms (omega (arith, h)))
+
+heads : (s : Stored) (ss : List Stored) (k : BlockKind) (ks : List BlockKind) → map shape (s ∷ ss) ≡ map new_block (k ∷ ks) → shape s ≡ new_block k
+heads s ss k ks e = cc
+
+tails : (s : Stored) (ss : List Stored) (k : BlockKind) (ks : List BlockKind) → map shape (s ∷ ss) ≡ map new_block (k ∷ ks) → map shape ss ≡ map new_block ks
+tails s ss k ks e = cc
+
+none_one : (k : BlockKind) (ks : List BlockKind) → map shape [] ≡ map new_block (k ∷ ks) → ⊥
+none_one k ks e = cc
+
+one_none : (s : Stored) (ss : List Stored) → map shape (s ∷ ss) ≡ map new_block [] → ⊥
+one_none s ss e = cc
+
+pub blocks_allow : (kind : ℕ → BlockKind) (kinds : List BlockKind) (bits : List Bool) (ss : List Stored) → ((i : ℕ) → kind i ≡ get_or kinds i Ton)
+    → length bits ≡ length kinds → map shape ss ≡ map new_block kinds → ((i : ℕ) → get_or bits i false ≡ true → q_of (get_or ss i (new_block Ton)) ≡ false)
+    → BothAt (λ i. MayStore (kind i)) (map (λ b. OfKind (off_or_open b)) bits) (map (λ s. s) ss)
+blocks_allow kind [] [] [] k h e f = tt
+blocks_allow kind [] [] (s ∷ ss) k h e f = absurd (one_none s ss e)
+blocks_allow kind [] (b ∷ bits) ss k h e f = absurd (omega (arith, h))
+blocks_allow kind (x ∷ kinds) [] ss k h e f = absurd (omega (arith, h))
+blocks_allow kind (x ∷ kinds) (b ∷ bits) [] k h e f = absurd (none_one x kinds e)
+blocks_allow kind (x ∷ kinds) (b ∷ bits) (s ∷ ss) k h e f = (
+  (heads s ss x kinds e ∙ sym (ap new_block (k 0)), one_allows b (q_of s) (f 0)),
+  blocks_allow (λ i. kind (suc i)) kinds bits ss (λ i. k (suc i)) (omega (arith, h)) (tails s ss x kinds e) (λ i. f (suc i)),
+)
+
+-- ---- inputs
+pub given_none : (flags vs : List Bool) → given flags [] vs ≡ vs
+given_none [] vs = refl
+given_none (true ∷ flags) [] = refl
+given_none (false ∷ flags) [] = refl
+given_none (true ∷ flags) (v ∷ vs) = ap (λ ws. v ∷ ws) (given_none flags vs)
+given_none (false ∷ flags) (v ∷ vs) = ap (λ ws. v ∷ ws) (given_none flags vs)
+
+on_off : true ≡ false → ⊥
+on_off e = cc
+
+-- a variable that is no input keeps its value
+pub given_same : (flags xs vs : List Bool) (i : ℕ) → get_or flags i false ≡ false → get_or (given flags xs vs) i false ≡ get_or vs i false
+given_same [] xs vs i e = refl
+given_same (true ∷ flags) xs [] i e = refl
+given_same (false ∷ flags) xs [] i e = refl
+given_same (true ∷ flags) [] (v ∷ vs) zero e = absurd (on_off e)
+given_same (true ∷ flags) (x ∷ xs) (v ∷ vs) zero e = absurd (on_off e)
+given_same (true ∷ flags) [] (v ∷ vs) (suc i) e = given_same flags [] vs i e
+given_same (true ∷ flags) (x ∷ xs) (v ∷ vs) (suc i) e = given_same flags xs vs i e
+given_same (false ∷ flags) xs (v ∷ vs) zero e = refl
+given_same (false ∷ flags) xs (v ∷ vs) (suc i) e = given_same flags xs vs i e
+
+pub no_input_in : (flag b : Bool) → (flag ≡ true → b ≡ false) → b ≡ true → flag ≡ false
+no_input_in true b e f = absurd (on_off (sym f ∙ e refl))
+no_input_in false b e f = refl
+
+-- ---- against a larger set
+one_more : (b c : Bool) → (b ≡ true → c ≡ true) → KnowsMore (off_or_open b) (off_or_open c)
+one_more true c e = ap off_or_open (e refl)
+one_more false c e = tt
+
+pub values_more : (bits more : List Bool) → length bits ≡ length more → ((i : ℕ) → get_or bits i false ≡ true → get_or more i false ≡ true)
+    → Both KnowsMore (map off_or_open bits) (map off_or_open more)
+values_more [] [] h e = tt
+values_more [] (c ∷ more) h e = absurd (omega (arith, h))
+values_more (b ∷ bits) [] h e = absurd (omega (arith, h))
+values_more (b ∷ bits) (c ∷ more) h e = (one_more b c (e 0), values_more bits more (omega (arith, h)) (λ i. e (suc i)))
+
+pub memories_more : (n : ℕ) → Both KnowsMore (replicate n Unsure) (replicate n Unsure)
+memories_more zero = tt
+memories_more (suc n) = (tt, memories_more n)
+
+pub blocks_more : (bits more : List Bool) → length bits ≡ length more → ((i : ℕ) → get_or bits i false ≡ true → get_or more i false ≡ true)
+    → BothAt (λ i. TellsMore) (map (λ b. OfKind (off_or_open b)) bits) (map (λ b. OfKind (off_or_open b)) more)
+blocks_more [] [] h e = tt
+blocks_more [] (c ∷ more) h e = absurd (omega (arith, h))
+blocks_more (b ∷ bits) [] h e = absurd (omega (arith, h))
+blocks_more (b ∷ bits) (c ∷ more) h e = (one_more b c (e 0), blocks_more bits more (omega (arith, h)) (λ i. e (suc i)))

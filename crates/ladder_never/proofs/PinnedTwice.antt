@@ -1,0 +1,109 @@
+-- Pinning a point again, and back.
+use Rattle.std.proofs.Common.{◌≡◌, ◌∙◌, ℕ, List, [], ◌∷◌, get_or, set, zero, suc, not, true, false, Bool, refl, sym, ap}
+use Rattle.ladder_known.specs.KnownScan.{Known, kept_at}
+use Rattle.ladder_signals.specs.declared.tri.Tri.{Tri}
+use Rattle.ladder_signals.specs.declared.tri.Tri.TheVariants.{Off, On, Unsure}
+use Rattle.ladder_never.specs.Cases.{IsSettled, pinned, told, with_q}
+use Rattle.ladder_never.specs.Outcomes.{outcomes, q_known}
+use Rattle.ladder_never.specs.Never.{Bits}
+use Rattle.ladder_never.specs.Removing.{is_off, IsStaying, staying}
+use Rattle.ladder_grid.specs.Program.{Drawing}
+use Rattle.ladder_never.specs.declared.outcome.Outcome.{Outcome}
+use Rattle.ladder_never.specs.declared.outcome.Outcome.TheVariants.{Anything, OfKind}
+use Rattle.ladder_never.specs.declared.point.Point.{Point}
+use Rattle.ladder_never.specs.declared.point.Point.TheVariants.{Variable, Output}
+
+set_again : {A : Type 0} (xs : List A) (i : ℕ) (x y : A) → set (set xs i x) i y ≡ set xs i y
+set_again [] i x y = refl
+set_again (z ∷ xs) zero x y = refl
+set_again (z ∷ xs) (suc i) x y = ap (λ l. z ∷ l) (set_again xs i x y)
+
+set_back : {A : Type 0} (xs : List A) (i : ℕ) (x d : A) → set (set xs i x) i (get_or xs i d) ≡ xs
+set_back [] i x d = refl
+set_back (z ∷ xs) zero x d = refl
+set_back (z ∷ xs) (suc i) x d = ap (λ l. z ∷ l) (set_back xs i x d)
+
+q_again : (b : Outcome) (x y : Tri) → with_q (with_q b x) y ≡ with_q b y
+q_again (OfKind q) x y = refl
+q_again Anything x y = refl
+
+q_back : (b : Outcome) (x : Tri) → with_q (with_q b x) (q_known b) ≡ b
+q_back (OfKind q) x = refl
+q_back Anything x = refl
+
+block_again : (bs : List Outcome) (i : ℕ) (x y : Tri)
+    → set (set bs i (with_q (get_or bs i Anything) x)) i (with_q (get_or (set bs i (with_q (get_or bs i Anything) x)) i Anything) y) ≡ set bs i (with_q (get_or bs i Anything) y)
+block_again [] i x y = refl
+block_again (b ∷ bs) zero x y = ap (λ c. c ∷ bs) (q_again b x y)
+block_again (b ∷ bs) (suc i) x y = ap (λ l. b ∷ l) (block_again bs i x y)
+
+block_back : (bs : List Outcome) (i : ℕ) (x : Tri)
+    → set (set bs i (with_q (get_or bs i Anything) x)) i (with_q (get_or (set bs i (with_q (get_or bs i Anything) x)) i Anything) (q_known (get_or bs i Anything))) ≡ bs
+block_back [] i x = refl
+block_back (b ∷ bs) zero x = ap (λ c. c ∷ bs) (q_back b x)
+block_back (b ∷ bs) (suc i) x = ap (λ l. b ∷ l) (block_back bs i x)
+
+pub pinned_again : (k : Known Tri Outcome) (point : Point) (x y : Tri) → pinned (pinned k point x) point y ≡ pinned k point y
+unfolding pinned
+pinned_again k (Variable var) x y = ap (λ (values : List Tri). record k { values = values }) (set_again k.values var x y)
+pinned_again k (Output inst) x y = ap (λ (blocks : List Outcome). record k { blocks = blocks }) (block_again k.blocks inst x y)
+
+pub pinned_back : (k : Known Tri Outcome) (point : Point) (x : Tri) → pinned (pinned k point x) point (told point k) ≡ k
+unfolding pinned told
+pinned_back k (Variable var) x = ap (λ (values : List Tri). record k { values = values }) (set_back k.values var x Off)
+pinned_back k (Output inst) x = ap (λ (blocks : List Outcome). record k { blocks = blocks }) (block_back k.blocks inst x)
+
+-- after a case, back
+pub case_over : (k pin next back : Known Tri Outcome) (point : Point) (x b : Tri) → pin ≡ pinned k point x → next ≡ pin → b ≡ told point k → back ≡ pinned next point b → back ≡ k
+case_over k pin next back point x b e f g h =
+    h ∙ ap (λ (l : Known Tri Outcome). pinned l point b) (f ∙ e) ∙ ap (pinned (pinned k point x) point) g ∙ pinned_back k point x
+
+-- from the one case to the other
+pub other_case : (k pin next other : Known Tri Outcome) (point : Point) (x y : Tri) → pin ≡ pinned k point x → next ≡ pin → other ≡ pinned next point y → other ≡ pinned k point y
+other_case k pin next other point x y e f g = g ∙ ap (λ (l : Known Tri Outcome). pinned l point y) (f ∙ e) ∙ pinned_again k point x y
+
+pub off_is : (x : Tri) → is_off x ≡ true → x ≡ Off
+off_is Off e = refl
+off_is On e = cc
+off_is Unsure e = cc
+
+pub not_not : (b : Bool) → not b ≡ false → b ≡ true
+not_not true e = refl
+not_not false e = sym e
+
+-- what is known to be OFF passes
+pub passes_variable : (k l : Known Tri Outcome) (var : ℕ) → k ≡ l → get_or l.values var Off ≡ Off → is_off (told (Variable var) k) ≡ true
+unfolding told
+passes_variable k l var e f = ap (λ (m : Known Tri Outcome). is_off (get_or m.values var Off)) e ∙ ap is_off f
+
+pub passes_output : (k l : Known Tri Outcome) (inst : ℕ) → k ≡ l → q_known (kept_at outcomes l inst) ≡ Off → is_off (told (Output inst) k) ≡ true
+unfolding told
+passes_output k l inst e f = ap (λ (m : Known Tri Outcome). is_off (q_known (kept_at outcomes m inst))) e ∙ ap is_off f
+
+false_true : false ≡ true → ⊥
+false_true e = cc
+
+pub neither_on : {A : Type 0} {b : Bool} → b ≡ false → b ≡ true → A
+neither_on e f = absurd (false_true (sym e ∙ f))
+
+-- what passes is known to be OFF
+pub off_variable : (k l : Known Tri Outcome) (var : ℕ) → k ≡ l → is_off (told (Variable var) k) ≡ true → get_or l.values var Off ≡ Off
+unfolding told
+off_variable k l var e f = off_is (get_or l.values var Off) (sym (ap (λ (m : Known Tri Outcome). is_off (get_or m.values var Off)) e) ∙ f)
+
+pub off_output : (k l : Known Tri Outcome) (inst : ℕ) → k ≡ l → is_off (told (Output inst) k) ≡ true → q_known (kept_at outcomes l inst) ≡ Off
+unfolding told
+off_output k l inst e f = off_is (q_known (kept_at outcomes l inst)) (sym (ap (λ (m : Known Tri Outcome). is_off (q_known (kept_at outcomes m inst))) e) ∙ f)
+
+abbrev pub set_of : List Bool → List Bool → Bits
+set_of variables instances = record { variables = variables; instances = instances }
+
+pub same_bits : (xs ys zs ws : List Bool) → xs ≡ zs → ys ≡ ws → set_of xs ys ≡ set_of zs ws
+same_bits xs ys zs ws e f = ap (λ (vs : List Bool). set_of vs ys) e ∙ ap (set_of zs) f
+
+pub staying_settled : {p : Drawing} {target : Point} {after case : Known Tri Outcome} {scans : ℕ} → IsStaying p target after case scans → IsSettled p target case
+staying_settled (staying settled plain) = settled
+
+pub staying_plain : {p : Drawing} {target : Point} {after case : Known Tri Outcome} {scans : ℕ} → IsStaying p target after case scans → scans ≡ 0
+    → is_off (told target after) ≡ true
+staying_plain (staying settled plain) = plain

@@ -1,0 +1,106 @@
+//! Settling, by cases, that a point is OFF after a scan.
+
+ghost use Rattle.std.specs.Prelude.{◌≡◌, ◌≤◌, [], false, length, IsTrue};
+ghost use Rattle.ladder_scan.specs.Programs.{diagram_of};
+ghost use Rattle.ladder_known.specs.KnownScan.{after_known};
+ghost use Rattle.ladder_glance.specs.Sizes.{HasSizes, IsSpareFor};
+ghost use Rattle.ladder_never.specs.Cases.{told, IsSettled};
+ghost use Rattle.ladder_never.specs.Outcomes.{outcomes};
+ghost use Rattle.ladder_signals.specs.Three.{three};
+
+use crate::outcome::Outcome;
+use crate::pinning::{is_off, pin, told};
+use crate::point::Point;
+use ladder_glance::{Knowledge, Room, scan_known};
+use ladder_grid::Program;
+use ladder_signals::Tri;
+
+/// Whether it is settled, and how many scans are left.
+#[derive(Clone, Copy, Debug, PartialEq, Eq)]
+pub(crate) struct Search {
+    pub(crate) is_settled: bool,
+    pub(crate) scans: u32,
+}
+
+/// What is known of the target after a scan.
+fn look(
+    program: &Program,
+    target: Point,
+    case: &Knowledge<Tri, Outcome>,
+    trial: &mut Knowledge<Tri, Outcome>,
+    room: &mut Room<Tri>,
+) -> Tri
+    requires case { HasSizes program.now case.now }
+    requires trial { HasSizes program.now trial.old }
+    requires room { IsSpareFor program.now room.old }
+    ensures told { result ≡ told target (after_known three outcomes (diagram_of program.now) 0 [] case.now) }
+    ensures trial { HasSizes program.now trial.new }
+    ensures room { room.new ≡ room.old }
+{
+    trial.copy_from(case);
+    scan_known(program, trial, &[], 0, room);
+    told(target, trial)
+}
+
+/// The first of the points that is open, or else their number.
+fn first_open(points: &[Point], case: &Knowledge<Tri, Outcome>) -> usize
+    ensures { result ≤ length points.now }
+{
+    for number in 0..points.len() {
+        if told(points[number], case) == Tri::Unsure {
+            return number;
+        }
+    }
+    points.len()
+}
+
+/// Whether the target is settled to be OFF after a scan from what is known in the case, by at most so many scans, with further cases by
+/// these points. The case is the same afterwards.
+pub(crate) fn settle_off(
+    program: &Program,
+    target: Point,
+    points: &[Point],
+    case: &mut Knowledge<Tri, Outcome>,
+    trial: &mut Knowledge<Tri, Outcome>,
+    room: &mut Room<Tri>,
+    scans: u32,
+) -> Search
+    requires case { HasSizes program.now case.old }
+    requires trial { HasSizes program.now trial.old }
+    requires room { IsSpareFor program.now room.old }
+    ensures settled { IsTrue result.is_settled → IsSettled program.now target case.old }
+    ensures scans { result.scans ≤ scans }
+    ensures none { scans ≡ 0 → result.is_settled ≡ false }
+    ensures case { case.new ≡ case.old }
+    ensures trial { HasSizes program.now trial.new }
+    ensures room { room.new ≡ room.old }
+{
+    if scans == 0 {
+        return Search {
+            is_settled: false,
+            scans: 0,
+        };
+    }
+    let left = scans - 1;
+    let value = look(program, target, case, trial, room);
+    let next = first_open(points, case);
+    if value != Tri::Unsure || next == points.len() {
+        return Search {
+            is_settled: is_off(value),
+            scans: left,
+        };
+    }
+    let point = points[next];
+    let rest = &points[next + 1..];
+    let before = told(point, case);
+    pin(point, Tri::On, case);
+    let on = settle_off(program, target, rest, case, trial, room, left);
+    if !on.is_settled {
+        pin(point, before, case);
+        return on;
+    }
+    pin(point, Tri::Off, case);
+    let off = settle_off(program, target, rest, case, trial, room, on.scans);
+    pin(point, before, case);
+    off
+}

@@ -1,0 +1,43 @@
+//! An instance is kept over three values by what is known of its Q.
+
+ghost use Rattle.ladder_never.specs.OutcomeLaws.{outcomes_keep_values};
+ghost use Rattle.ladder_never.specs.Outcomes.{AnyOutcome, outcomes};
+
+use crate::outcome::Outcome;
+use crate::table::outcome_after;
+use ladder_elements::{Operations, Stored};
+use ladder_glance::Keep;
+use ladder_signals::Tri;
+use ladder_vars::BlockKind;
+
+impl Keep<Tri> for Outcome {
+    ghost keeping = { outcomes };
+
+    ghost kept = { AnyOutcome };
+
+    ghost keeps = { outcomes_keep_values };
+
+    fn stored(_stored: Stored) -> Outcome {
+        Outcome::Anything
+    }
+
+    fn q(self) -> Tri {
+        match self {
+            Outcome::OfKind(q) => q,
+            Outcome::Anything => Tri::Unsure,
+        }
+    }
+
+    fn step(self, kind: BlockKind, preset: u32, first: Tri, second: Tri, _now: u64) -> Outcome {
+        outcome_after(kind, preset, self, first, second)
+    }
+
+    fn choose(condition: Tri, on: Outcome, off: Outcome) -> Outcome {
+        match (on, off) {
+            (Outcome::OfKind(q), Outcome::OfKind(r)) => Outcome::OfKind(Tri::choose(
+                condition, q, r,
+            )),
+            (Outcome::OfKind(_) | Outcome::Anything, _) => Outcome::Anything,
+        }
+    }
+}

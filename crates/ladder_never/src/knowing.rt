@@ -1,0 +1,59 @@
+//! What is known of a state in which a set is OFF.
+
+ghost use Rattle.std.specs.Prelude.{◌≡◌, length, map, replicate};
+ghost use Rattle.ladder_grid.specs.Program.{memories_of};
+ghost use Rattle.ladder_glance.specs.Sizes.{HasSizes};
+ghost use Rattle.ladder_never.specs.Never.{off_or_open, knowing, IsSetOf};
+ghost use Rattle.ladder_never.specs.declared.outcome.Outcome.TheVariants as outcome;
+ghost use Rattle.ladder_signals.specs.declared.tri.Tri.TheVariants.{Unsure};
+
+use crate::outcome::Outcome;
+use crate::set::Set;
+use ladder_glance::Knowledge;
+use ladder_grid::Program;
+use ladder_signals::Tri;
+
+fn off_or_open(is_off: bool) -> Tri
+    ensures { result ≡ off_or_open is_off }
+{
+    if is_off { Tri::Off } else { Tri::Unsure }
+}
+
+fn know_values(variables: &[bool], known: &mut Knowledge<Tri, Outcome>)
+    requires { length known.old.values ≡ length variables.now }
+    ensures { known.new ≡ record known.old { values = map off_or_open variables.now } }
+{
+    for var in 0..variables.len() {
+        known.put_value(var, off_or_open(variables[var]));
+    }
+}
+
+fn open_memories(count: usize, known: &mut Knowledge<Tri, Outcome>)
+    requires { length known.old.memories ≡ count }
+    ensures { known.new ≡ record known.old { memories = replicate count Unsure } }
+{
+    for number in 0..count {
+        known.put_memory(number, Tri::Unsure);
+    }
+}
+
+fn know_blocks(instances: &[bool], known: &mut Knowledge<Tri, Outcome>)
+    requires { length known.old.blocks ≡ length instances.now }
+    ensures { known.new ≡ record known.old { blocks = map (λ b. outcome.OfKind (off_or_open b)) instances.now } }
+{
+    for inst in 0..instances.len() {
+        known.keep(inst, Outcome::OfKind(off_or_open(instances[inst])));
+    }
+}
+
+/// Becomes what is known of a state of the program in which each of the set is OFF.
+pub(crate) fn know(program: &Program, set: &Set, known: &mut Knowledge<Tri, Outcome>)
+    requires set { IsSetOf program.now set.now }
+    requires known { HasSizes program.now known.old }
+    ensures known { known.new ≡ knowing program.now set.now }
+    ensures sizes { HasSizes program.now known.new }
+{
+    know_values(&set.variables, known);
+    open_memories(program.memories(), known);
+    know_blocks(&set.instances, known);
+}

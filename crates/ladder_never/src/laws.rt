@@ -1,0 +1,102 @@
+//! Laws over the definitions: each function does nothing, and its contract is the law.
+
+ghost use Rattle.ladder_elements.specs.Relations.{AllowsAt, allows_kept};
+ghost use Rattle.ladder_elements.specs.Truth.{OnePlace};
+ghost use Rattle.ladder_known.specs.KnownScan.{plainly};
+ghost use Rattle.ladder_never.specs.Cases.{AreNeverOn};
+ghost use Rattle.ladder_never.specs.OutcomeLaws.{knows_kept, outcomes_grow, outcomes_keep};
+ghost use Rattle.ladder_never.specs.Outcomes.{KnowsMore, MayStore, TellsMore, outcomes};
+ghost use Rattle.ladder_never.specs.Removing.{LeavesOff};
+ghost use Rattle.ladder_signals.specs.Three.{AnyTri, three, three_allows};
+ghost use Rattle.ladder_signals.specs.ThreeLaws.{three_allowed, three_lattice};
+
+use crate::outcome::Outcome;
+use ladder_elements::Stored;
+use ladder_grid::Program;
+use ladder_known::laws::{StepRelation, known_is_scan, scan_keeps};
+use ladder_scan::scene::checked;
+use ladder_signals::Tri;
+
+/// What three values allow, and what may be stored, where the scan over truth values is made at this moment.
+#[derive(Clone, Copy)]
+struct Allowing {
+    now: u64,
+}
+
+impl StepRelation for Allowing {
+    type Left = Tri;
+
+    type Right = bool;
+
+    type LeftKept = Outcome;
+
+    type RightKept = Stored;
+
+    ghost left = { outcomes };
+
+    ghost right = { plainly };
+
+    ghost related = { λ _. AllowsAt AnyTri OnePlace three_allows 0 };
+
+    ghost alike = { λ _ d inst. MayStore (d.kind inst) };
+
+    ghost left_moment = { λ _. 0 };
+
+    ghost right_moment = { λ at. at.now };
+
+    ghost kept = { λ _. allows_kept AnyTri three OnePlace three_allows three_lattice three_allowed 0 };
+
+    ghost steps = { λ at d. outcomes_keep at.now d };
+}
+
+/// The second side knows what the first does, and maybe more.
+#[derive(Clone, Copy)]
+struct Further {
+    now: u64,
+}
+
+impl StepRelation for Further {
+    type Left = Tri;
+
+    type Right = Tri;
+
+    type LeftKept = Outcome;
+
+    type RightKept = Outcome;
+
+    ghost left = { outcomes };
+
+    ghost right = { outcomes };
+
+    ghost related = { λ _. KnowsMore };
+
+    ghost alike = { λ _ _ _. TellsMore };
+
+    ghost left_moment = { λ _. 0 };
+
+    ghost right_moment = { λ _. 0 };
+
+    ghost kept = { λ _. knows_kept };
+
+    ghost steps = { λ _ d. outcomes_grow d };
+}
+
+/// A set that a scan leaves OFF is OFF for ever.
+///
+/// Scans over three values settle it, by cases, from what is known where each of the set is OFF: all other variables and Qs, all inputs and
+/// all memories are open. From a state of the program in which each is OFF, each is OFF after any scans, with any inputs and at any moments.
+pub fn never_on(program: &Program)
+    ensures { AreNeverOn program.now }
+{
+    checked(program);
+    scan_keeps::<Allowing>();
+    known_is_scan(program);
+}
+
+/// What one scan leaves OFF of a set it leaves OFF of each larger one.
+pub(crate) fn leaves_off(program: &Program)
+    ensures { LeavesOff program.now }
+{
+    scan_keeps::<Further>();
+    let _program = program;
+}

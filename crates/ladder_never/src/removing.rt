@@ -1,0 +1,189 @@
+//! Removing what isn't settled to stay OFF.
+
+ghost use Rattle.std.specs.Prelude.{◌≡◌, ◌+◌, ◌≤◌, ℕ, [], length, slice_index_or, true, IsTrue};
+ghost use Rattle.ladder_scan.specs.Programs.{diagram_of};
+ghost use Rattle.ladder_known.specs.KnownScan.{after_known, kept_at};
+ghost use Rattle.ladder_glance.specs.Sizes.{HasSizes, IsSpareFor};
+ghost use Rattle.ladder_never.specs.Cases.{told, IsSettledOff};
+ghost use Rattle.ladder_never.specs.Never.{Bits, IsSetOf, IsWithin, StaysOff};
+ghost use Rattle.ladder_never.specs.Outcomes.{outcomes, q_known};
+ghost use Rattle.ladder_never.specs.Removing.{is_off, size, IsLeftBy, IsStaying};
+ghost use Rattle.ladder_never.specs.declared.point.Point.TheVariants as point;
+ghost use Rattle.ladder_signals.specs.Three.{three};
+ghost use Rattle.ladder_signals.specs.declared.tri.Tri.TheVariants.{Off};
+
+use crate::cases::settle_off;
+use crate::knowing::know;
+use crate::laws::leaves_off;
+use crate::outcome::Outcome;
+use crate::pinning::told;
+use crate::point::Point;
+use crate::reach::reach;
+use crate::set::Set;
+use ladder_glance::{Knowledge, Room, scan_known};
+use ladder_grid::Program;
+use ladder_signals::Tri;
+
+/// How deep cases lie in one another.
+const MOST_POINTS: usize = 64;
+
+/// The buffers of a search: what is known before a scan, and after it.
+#[derive(Drop)]
+pub(crate) struct Space {
+    pub(crate) case: Knowledge<Tri, Outcome>,
+    pub(crate) trial: Knowledge<Tri, Outcome>,
+    pub(crate) room: Room<Tri>,
+}
+
+/// Whether the target stays in the set: `after` is what one scan leaves of what is known in the case. Where it is open, cases are tried, by
+/// at most so many scans.
+fn stays(
+    program: &Program,
+    target: Point,
+    after: &Knowledge<Tri, Outcome>,
+    space: &mut Space,
+    scans: u32,
+) -> bool
+    requires case { HasSizes program.now space.old.case }
+    requires trial { HasSizes program.now space.old.trial }
+    requires room { IsSpareFor program.now space.old.room }
+    requires after { after.now ≡ after_known three outcomes (diagram_of program.now) 0 [] space.old.case }
+    ensures stays { IsTrue result → IsStaying program.now target after.now space.old.case scans }
+    ensures off { is_off (told target after.now) ≡ true → IsTrue result }
+    ensures case { space.new.case ≡ space.old.case }
+    ensures trial { HasSizes program.now space.new.trial }
+    ensures room { space.new.room ≡ space.old.room }
+{
+    match told(target, after) {
+        Tri::Off => true,
+        Tri::On => false,
+        Tri::Unsure => {
+            let mut points = [target; MOST_POINTS];
+            let count = reach(program, target, &mut points);
+            let search = settle_off(
+                program,
+                target,
+                &points[..count],
+                &mut space.case,
+                &mut space.trial,
+                &mut space.room,
+                scans,
+            );
+            search.is_settled
+        }
+    }
+}
+
+/// Leaves the variables that are settled to be OFF, and returns how many were removed.
+fn leave_variables(
+    program: &Program,
+    after: &Knowledge<Tri, Outcome>,
+    space: &mut Space,
+    scans: u32,
+    variables: &mut [bool],
+) -> usize
+    requires case { HasSizes program.now space.old.case }
+    requires trial { HasSizes program.now space.old.trial }
+    requires room { IsSpareFor program.now space.old.room }
+    requires after { after.now ≡ after_known three outcomes (diagram_of program.now) 0 [] space.old.case }
+    ensures left { IsLeftBy (λ var. is_off (told (point.Variable var) after.now)) (λ var. IsStaying program.now (point.Variable var) after.now space.old.case scans) variables.old variables.new result }
+    ensures few { result ≤ length variables.old }
+    ensures case { space.new.case ≡ space.old.case }
+    ensures trial { HasSizes program.now space.new.trial }
+    ensures room { space.new.room ≡ space.old.room }
+{
+    let mut removed = 0;
+    for var in 0..variables.len() {
+        if variables[var] && !stays(program, Point::Variable(var), after, space, scans) {
+            variables[var] = false;
+            removed += 1;
+        }
+    }
+    removed
+}
+
+/// Leaves the instances whose Q is settled to be OFF, and returns how many were removed.
+fn leave_instances(
+    program: &Program,
+    after: &Knowledge<Tri, Outcome>,
+    space: &mut Space,
+    scans: u32,
+    instances: &mut [bool],
+) -> usize
+    requires case { HasSizes program.now space.old.case }
+    requires trial { HasSizes program.now space.old.trial }
+    requires room { IsSpareFor program.now space.old.room }
+    requires after { after.now ≡ after_known three outcomes (diagram_of program.now) 0 [] space.old.case }
+    ensures left { IsLeftBy (λ inst. is_off (told (point.Output inst) after.now)) (λ inst. IsStaying program.now (point.Output inst) after.now space.old.case scans) instances.old instances.new result }
+    ensures few { result ≤ length instances.old }
+    ensures case { space.new.case ≡ space.old.case }
+    ensures trial { HasSizes program.now space.new.trial }
+    ensures room { space.new.room ≡ space.old.room }
+{
+    let mut removed = 0;
+    for inst in 0..instances.len() {
+        if instances[inst] && !stays(program, Point::Output(inst), after, space, scans) {
+            instances[inst] = false;
+            removed += 1;
+        }
+    }
+    removed
+}
+
+/// Leaves what is settled to be OFF after a scan from the set, and returns how many were removed.
+fn remove(
+    program: &Program,
+    set: &mut Set,
+    after: &mut Knowledge<Tri, Outcome>,
+    space: &mut Space,
+    scans: u32,
+) -> usize
+    requires set { IsSetOf program.now set.old }
+    requires after { HasSizes program.now after.old }
+    requires case { HasSizes program.now space.old.case }
+    requires trial { HasSizes program.now space.old.trial }
+    requires room { IsSpareFor program.now space.old.room }
+    ensures set { IsSetOf program.now set.new }
+    ensures within { IsWithin set.new set.old }
+    ensures most { (other : Bits) → IsSetOf program.now other → StaysOff program.now other → IsWithin other set.old → IsWithin other set.new }
+    ensures removed { size set.new + result ≡ size set.old }
+    ensures settled { result ≡ 0 → IsSettledOff program.now set.new }
+    ensures plain { scans ≡ 0 → result ≡ 0 → StaysOff program.now set.new }
+    ensures after { HasSizes program.now after.new }
+    ensures case { HasSizes program.now space.new.case }
+    ensures trial { HasSizes program.now space.new.trial }
+    ensures room { IsSpareFor program.now space.new.room }
+{
+    leaves_off(program);
+    know(program, set, &mut space.case);
+    after.copy_from(&space.case);
+    scan_known(program, after, &[], 0, &mut space.room);
+    let variables = leave_variables(program, after, space, scans, &mut set.variables);
+    let instances = leave_instances(program, after, space, scans, &mut set.instances);
+    variables + instances
+}
+
+/// Removes, again and again, what isn't settled to be OFF after a scan, until all that is left is.
+pub(crate) fn settle(
+    program: &Program,
+    set: &mut Set,
+    after: &mut Knowledge<Tri, Outcome>,
+    space: &mut Space,
+    scans: u32,
+)
+    requires set { IsSetOf program.now set.old }
+    requires after { HasSizes program.now after.old }
+    requires case { HasSizes program.now space.old.case }
+    requires trial { HasSizes program.now space.old.trial }
+    requires room { IsSpareFor program.now space.old.room }
+    ensures set { IsSetOf program.now set.new }
+    ensures within { IsWithin set.new set.old }
+    ensures most { (other : Bits) → IsSetOf program.now other → StaysOff program.now other → IsWithin other set.old → IsWithin other set.new }
+    ensures settled { IsSettledOff program.now set.new }
+    ensures plain { scans ≡ 0 → StaysOff program.now set.new }
+{
+    let mut removed = 1;
+    while 0 < removed {
+        removed = remove(program, set, after, space, scans);
+    }
+}
