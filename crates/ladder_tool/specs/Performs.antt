@@ -23,6 +23,10 @@ use Rattle.ladder_held.specs.Holding.{held_causes}
 use Rattle.ladder_held.specs.declared.fault.HeldFault.{HeldFault}
 use Rattle.ladder_held.specs.declared.fault.HeldFault.TheVariants as held
 use Rattle.ladder_held.specs.declared.scans.Scans.{Scans}
+use Rattle.ladder_dead.specs.Dead.{dead_rows, dead_text}
+use Rattle.ladder_never.specs.Cases.{IsNever}
+use Rattle.ladder_never.specs.Never.{Bits, IsOff, after_each}
+use Rattle.ladder_never.specs.Never as never
 use Rattle.ladder_show.specs.Showing.{IsDrawn, OneScan, one_scan}
 use Rattle.ladder_show.specs.declared.picture.Style.{Style}
 use Rattle.ladder_show.specs.declared.picture.Style.TheVariants as style
@@ -50,6 +54,7 @@ use Rattle.ladder_words.specs.declared.request.InputOrder.TheVariants as order
 use Rattle.ladder_words.specs.declared.request.ListRequest.{ListRequest}
 use Rattle.ladder_words.specs.declared.request.Medium.{Medium}
 use Rattle.ladder_words.specs.declared.request.Medium.TheVariants as medium
+use Rattle.ladder_words.specs.declared.request.NeverRequest.{NeverRequest}
 use Rattle.ladder_words.specs.declared.request.Request.{Request}
 use Rattle.ladder_words.specs.declared.request.Request.TheVariants.{Causes, Check, Groups, Held, Show, Sim, Uses}
 use Rattle.ladder_words.specs.declared.request.Request.TheVariants as request
@@ -210,6 +215,34 @@ abbrev pub BreaksHeld : Given → ListRequest → Scans → Logs → Logs → Ty
 BreaksHeld g r s old new =
     (ListsHeld g r s (PutsPrefix old.out new.out) × IsReported g old.err new.err fault.Write)
     ⊎ CountsHeld g r s old.out new.out (PutsPrefix old.err new.err)
+
+-- ---- what can never come ON
+
+-- The names of some variables and blocks are written with the places where they are drawn, whole or as far as `Written` says. None is an
+-- input, each is OFF in the state, and after any scans from there, with any inputs and at any moments.
+pub record ListsNever (g : Given) (Written : List ℕ → Type 0) : Type 0 where
+  pub program : Drawing
+  pub state : Standing
+  pub set : IsSet g program state
+  pub dead : Bits
+  pub settled : IsNever program state dead
+  pub off : (scans : List never.OneScan) → IsOff dead (after_each (diagram_of program) scans state.held)
+  pub rows : Written (dead_text program dead)
+
+-- A fault of the texts, or being out of memory.
+abbrev pub HasNeverFault : Given → ToolFault → Type 0
+HasNeverFault g f = HasSettingFault g f ⊎ (f ≡ fault.Memory)
+
+-- The rows were listed, and then their number is written: whole, or as far as `Counted` says.
+pub record CountsNever (g : Given) (r : NeverRequest) (out out' : WriteLog) (Counted : List ℕ → Type 0) : Type 0 where
+  pub list : ListsNever g (PutsAll out out')
+  pub count : Counted (unless_quiet r.quiet (held_line (length (dead_rows list.program list.dead))))
+
+-- Status 1: `out` failed at the rows, or `err` at their count.
+abbrev pub BreaksNever : Given → NeverRequest → Logs → Logs → Type 0
+BreaksNever g r old new =
+    (ListsNever g (PutsPrefix old.out new.out) × IsReported g old.err new.err fault.Write)
+    ⊎ CountsNever g r old.out new.out (PutsPrefix old.err new.err)
 
 -- ---- a list of causes in groups
 
@@ -411,6 +444,7 @@ abbrev pub IsDone : Request → Given → Logs → Logs → Type 0
 IsDone (Check file warns) g old new = Prints (check_text warns) g.program (PutsAll old.out new.out) × (new.save ≡ old.save) × (new.err ≡ old.err)
 IsDone (Causes list after) g old new = CountsList g list after old.out new.out (PutsAll old.err new.err) × (new.save ≡ old.save)
 IsDone (Held list scans every) g old new = CountsHeld g list (scans_of scans every) old.out new.out (PutsAll old.err new.err) × (new.save ≡ old.save)
+IsDone (request.Never r) g old new = CountsNever g r old.out new.out (PutsAll old.err new.err) × (new.save ≡ old.save)
 IsDone (Groups list grouping) g old new = CountsGroups g list grouping old.out new.out (PutsAll old.err new.err) × (new.save ≡ old.save)
 IsDone (Show r) g old new = Shows g r (PutsAll old.out new.out) × (new.save ≡ old.save) × (new.err ≡ old.err)
 IsDone (request.Film r) g old new = IsFilmed g r old.out new.out × (new.save ≡ old.save) × (new.err ≡ old.err)
@@ -423,6 +457,7 @@ abbrev pub HasFault : Request → Given → ToolFault → Type 0
 HasFault (Check file warns) g = HasProgramFault g.program
 HasFault (Causes list after) g = HasListFault g list after
 HasFault (Held list scans every) g = HasHeldFault g list (scans_of scans every)
+HasFault (request.Never r) g = HasNeverFault g
 HasFault (Groups list grouping) g = HasListFault g list None
 HasFault (Show r) g = HasShowFault g r
 HasFault (request.Film r) g = HasFilmFault g r
@@ -436,6 +471,7 @@ Breaks (Check file warns) g old new =
     Prints (check_text warns) g.program (PutsPrefix old.out new.out) × (new.save ≡ old.save) × IsReported g old.err new.err fault.Write
 Breaks (Causes list after) g old new = BreaksList g list after old new × (new.save ≡ old.save)
 Breaks (Held list scans every) g old new = BreaksHeld g list (scans_of scans every) old new × (new.save ≡ old.save)
+Breaks (request.Never r) g old new = BreaksNever g r old new × (new.save ≡ old.save)
 Breaks (Groups list grouping) g old new = BreaksGroups g list grouping old new × (new.save ≡ old.save)
 Breaks (Show r) g old new = Shows g r (PutsPrefix old.out new.out) × (new.save ≡ old.save) × IsReported g old.err new.err fault.Write
 Breaks (request.Film r) g old new = BreaksFilm g r old new × (new.save ≡ old.save)

@@ -9,6 +9,7 @@ mod filming;
 mod grouping;
 mod holding;
 mod listing;
+mod never;
 mod opening;
 mod performing;
 mod printing;

@@ -116,6 +116,7 @@ fn saving_of(request: &Request) -> Option<(&str, &SimRequest)> {
         | Request::Causes { .. }
         | Request::Held { .. }
         | Request::Groups { .. }
+        | Request::Never(_)
         | Request::Show(_)
         | Request::Film(_)
         | Request::Waves(_)
