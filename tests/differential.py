@@ -5,7 +5,8 @@ Each drawing has one to five rungs of all forms of cells, joints and vertical li
 state, at any moment. Rows and looks must be the model's, and the rows of groups too, in each form and in the sifted order; so must the
 drawing with the power flow of one number, and its page, with the elements read as marks. A film must have the drawings of its records,
 each shown by itself from the state that `sim --save` has left. A list over several scans must be that of the scans one after the other, from
-the fresh state or from one that `sim --save` has left. A drawing with a difference is printed whole.
+the fresh state or from one that `sim --save` has left. What `never` names stays OFF in random runs. A drawing with a difference is printed
+whole.
 """
 import html
 import os
@@ -247,6 +248,23 @@ def compare_held(program, folder, chance, text, coil, listed):
     return differences(run(program, ["causes", *asked], folder), (out.encode(), err.encode(), 0))
 
 
+def compare_never(program, folder, chance, text):
+    """What is told of names that can never come ON: their rows are those of the cross-reference, and no run switches one of them on."""
+    out, said, status = run(program, ["never", "program.ld"], folder)
+    lines, every = out.decode().splitlines(), run(program, ["uses", "program.ld"], folder)[0].decode().splitlines()
+    dead = {line.split(",")[0] for line in lines[1:]}
+    wanted = [every[0], *(line for line in every[1:] if line.split(",")[0] in dead)]
+    found = differences(("\n".join(lines).encode(), said, status), ("\n".join(wanted).encode(), f"rows {len(wanted) - 1}\n".encode(), 0))
+    model, moment = Running(Program(text)), 0
+    for _ in range(60):
+        moment += chance.choice([0, 1, 10, 700, 5000])
+        model.scan({name: chance.random() < 0.5 for name in names("I", INPUTS)}, moment)
+        for name in dead:
+            if any(model.values.get(f"{name.upper()}{end}", False) for end in ("", ".Q", ".Q1")):
+                found.append(f"{name} came ON at {moment}, and `never` names it")
+    return found
+
+
 def main():
     """Compares so many drawings and answers the status."""
     program = os.path.abspath(sys.argv[1])
@@ -264,6 +282,7 @@ def main():
             found = compare(program, folder, text, coil, listed, moment, shown)
             found += compare_film(program, folder, coil, listed, stimulus(chance, listed))
             found += compare_held(program, folder, chance, text, coil, listed)
+            found += compare_never(program, folder, chance, text)
             if found:
                 different += 1
                 print(text, " ".join([*moment, coil, *listed]), f"number {shown}", *found, sep="\n")
