@@ -1,4 +1,4 @@
--- What can never come ON: sets of variables and of Qs that stay OFF together, whatever the inputs do, and the largest of them.
+-- What can never come ON: sets of variables and of Qs that stay OFF together, whatever the inputs do.
 use Rattle.std.specs.Prelude.{◌≡◌, ℕ, Bool, true, false, List, [], ◌∷◌, length, map, replicate, slice_index_or}
 use Rattle.ladder_vars.specs.declared.kind.BlockKind.TheVariants.{Ton}
 use Rattle.ladder_vars.specs.Decls.{is_input}

@@ -1,4 +1,4 @@
--- Private: what stays of a set that one scan doesn't leave OFF.
+-- Private: what is left of a set in one round of removing.
 use Rattle.std.specs.Prelude.{◌≡◌, ◌<◌, ℕ, ◌+◌, Bool, true, false, List, length, slice_index_or, count_by}
 use Rattle.ladder_grid.specs.Program.{Drawing}
 use Rattle.ladder_known.specs.KnownScan.{Known, kept_at}
