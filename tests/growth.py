@@ -28,6 +28,7 @@ LINES = ("fault V9\n", "fault C7\n", "fault X7\n")
 REQUESTS = (
     (("check", "motor.ld"), ("fault V9\n",)),
     (("uses", "motor.ld"), ("fault V9\n",)),
+    (("never", "--state", "running.csv", "motor.ld"), ("fault V9\n", "fault X7\n")),
     (("causes", "motor.ld", "Motor", "Start", "Stop"), LINES),
     (("causes", "--state", "running.csv", "motor.ld", "Motor", "Start", "Stop"), LINES),
     (("causes", "--scans", "3", "--state", "running.csv", "motor.ld", "Motor", "Start", "Stop"), LINES),
@@ -94,7 +95,7 @@ def rows_that_grow(program, library, counted):
     text, names = wide()
     TEXTS["wide.ld"] = text.encode()
     wrong = []
-    for form, due in (([], 524_288), (["--grouped"], 1)):
+    for form, due in (([], 524_288), (["--grouped"], 1), (["--scans", "3"], 524_288)):
         none, all_rows = (growths_of(program, library, ["causes", *form, "--limit", limit, "wide.ld", "Y", *names], counted) for limit in ("0", "9999999"))
         if none[0] != all_rows[0] or (none[1], all_rows[1]) != (0, due):
             wrong.append(f"a list {form}: growths and rows {none} and {all_rows}")

@@ -235,6 +235,7 @@ STATIONS = HERE.parent / "bench" / "circuits" / "three_stations"
 REQUESTS = (
     ["check", f"{STATIONS}.ld"],
     ["uses", f"{STATIONS}.ld"],
+    ["never", f"{STATIONS}.ld"],
     ["causes", f"{STATIONS}.ld", "Feed", "EStop", "Guard", "Start", "Stop", "Auto", "Manual", "Clear", "Air"],
     ["causes", "--state", f"{STATIONS}.state.csv", "--at", "1600", f"{STATIONS}.ld", "Run2", "EStop", "Guard", "Start"],
     ["sim", "--save", "saved.csv", f"{STATIONS}.ld", f"{STATIONS}.stimulus.csv"],

@@ -1,7 +1,7 @@
 -- The command line, as clap's definitions of a simple command read it: `ladder check [--warn] FILE`,
 -- `ladder causes [--state STATE] [--at MS] [--after N] [--limit N] [--scans N] [--every MS] [--grouped] [--terms] [--st] [--order ORDER] [--all-inputs] [--quiet] FILE COIL [INPUT]...`,
 -- `ladder show [--state STATE] [--at MS] [--number N] [--stimulus STIMULUS] [--html] [--coil COIL] [--all-inputs] FILE [INPUT]...`,
--- `ladder sim [--state STATE] [--save STATE] [--vcd] FILE STIMULUS` and `ladder uses FILE`, each with `[--why]`.
+-- `ladder sim [--state STATE] [--save STATE] [--vcd] FILE STIMULUS`, `ladder uses FILE` and `ladder never [--state STATE] [--quiet] FILE`, each with `[--why]`.
 use Rattle.std.specs.Prelude.{◌≡◌, List, Some, [], ◌∷◌, codes, true, false}
 use Rattle.clap.specs.Simple.{new_shape}
 use Rattle.clap.specs.Words.{App, Rule, Text, app_of, new_rule}
@@ -40,6 +40,9 @@ check_app = taking (codes "check") (flag_rule (codes "warn") ∷ flag_rule (code
 abbrev pub uses_app : App
 uses_app = taking (codes "uses") (flag_rule (codes "why") ∷ place_rule (codes "file") ∷ [])
 
+abbrev pub never_app : App
+never_app = taking (codes "never") (text_rule (codes "state") ∷ flag_rule (codes "quiet") ∷ flag_rule (codes "why") ∷ place_rule (codes "file") ∷ [])
+
 abbrev pub causes_app : App
 causes_app = taking (codes "causes") (
     text_rule (codes "state") ∷ number_rule (codes "at") ∷ number_rule (codes "after") ∷ number_rule (codes "limit")
@@ -62,7 +65,7 @@ sim_app = taking (codes "sim") (
 abbrev pub ladder_app : App
 ladder_app = record {
   top = record (new_shape (codes "ladder")) { is_leaf = false; subcommand_required = true };
-  subs = check_app.top ∷ causes_app.top ∷ show_app.top ∷ sim_app.top ∷ uses_app.top ∷ [];
+  subs = check_app.top ∷ causes_app.top ∷ show_app.top ∷ sim_app.top ∷ uses_app.top ∷ never_app.top ∷ [];
 }
 
 -- a command with no argument that is common to all subcommands, which clap reads as this

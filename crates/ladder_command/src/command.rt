@@ -8,9 +8,9 @@ ghost use Rattle.ladder_command.specs.Table.{ladder_by, word_rule};
 use crate::help::{
     AFTER_HELP, ALL_HELP, AT_HELP, CAUSES_ABOUT, CHECK_ABOUT, COIL_HELP, EVERY_HELP, EXPLAIN_HELP,
     FAULTS, FILE_HELP, FILM_HELP, FOR_HELP, GROUPED_HELP, HTML_HELP, INPUTS_HELP, LADDER_ABOUT,
-    LIMIT_HELP, NUMBER_HELP, ORDER_HELP, QUIET_HELP, SAVE_HELP, SCANS_HELP, SHOW_ABOUT, SHOWN_HELP,
-    SIM_ABOUT, STATE_HELP, STATEMENT_HELP, STIMULUS_HELP, TERMS_HELP, USES_ABOUT, WARN_HELP,
-    WAVES_HELP, WHY_HELP,
+    LIMIT_HELP, NEVER_ABOUT, NUMBER_HELP, ORDER_HELP, QUIET_HELP, SAVE_HELP, SCANS_HELP,
+    SHOW_ABOUT, SHOWN_HELP, SIM_ABOUT, STATE_HELP, STATEMENT_HELP, STIMULUS_HELP, TERMS_HELP,
+    USES_ABOUT, WARN_HELP, WAVES_HELP, WHY_HELP,
 };
 use clap::{Arg, ArgAction, Command, value_parser};
 use std::alloc::{AllocError, Global};
@@ -43,6 +43,13 @@ const CHECK: &[Word] = &[
 ];
 
 const USES: &[Word] = &[
+    Word::Flag("why", EXPLAIN_HELP),
+    Word::Place("file", "FILE", FILE_HELP),
+];
+
+const NEVER: &[Word] = &[
+    Word::Text("state", "STATE", STATE_HELP),
+    Word::Flag("quiet", QUIET_HELP),
     Word::Flag("why", EXPLAIN_HELP),
     Word::Place("file", "FILE", FILE_HELP),
 ];
@@ -114,6 +121,11 @@ const SUBCOMMANDS: &[Subcommand] = &[
         name: "uses",
         about: USES_ABOUT,
         words: USES,
+    },
+    Subcommand {
+        name: "never",
+        about: NEVER_ABOUT,
+        words: NEVER,
     },
 ];
 

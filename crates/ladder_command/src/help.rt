@@ -29,6 +29,10 @@ pub(crate) const SIM_ABOUT: &str =
 pub(crate) const USES_ABOUT: &str =
     "Prints where each variable and each instance is drawn: rung, row and column";
 
+pub(crate) const NEVER_ABOUT: &str =
+    "Lists the variables and outputs of blocks that can never come ON from the state on, \
+     whatever the inputs do, with the places where they are drawn";
+
 pub(crate) const WARN_HELP: &str =
     "Also prints a row for each place that breaks no rule and is most likely not meant: `warning,KIND,RUNG,ROW,COLUMN,NAME`";
 

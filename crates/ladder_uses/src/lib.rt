@@ -4,4 +4,4 @@
 mod usage;
 mod uses;
 
-pub use uses::write_uses;
+pub use uses::{add_header, add_symbol, symbol_at, symbol_count, write_uses};

@@ -16,7 +16,12 @@ use ladder_records::add_line;
 use ladder_text::{Block, Sink, WriteFault};
 use ladder_vars::{Decls, Symbol};
 
-fn add_header<W: Sink>(block: &mut Block, writer: &mut W) -> Result<(), WriteFault>
+/// Adds the line of the header.
+///
+/// # Errors
+///
+/// `WriteFault` where the writer fails.
+pub fn add_header<W: Sink>(block: &mut Block, writer: &mut W) -> Result<(), WriteFault>
     ensures { Sends (W.log writer.old) (W.log writer.new) block.old block.new result (line_text (codes "name" ∷ codes "use" ∷ codes "rung" ∷ codes "row" ∷ codes "column" ∷ [])) }
 {
     let others = [b"use".as_slice(), b"rung", b"row", b"column"];
@@ -95,7 +100,11 @@ fn name_of(decls: &Decls, symbol: Symbol) -> &[u8]
 }
 
 /// Adds the rows of a symbol, one at least, and returns how many.
-fn add_symbol<W: Sink>(
+///
+/// # Errors
+///
+/// `WriteFault` where the writer fails.
+pub fn add_symbol<W: Sink>(
     block: &mut Block,
     program: &Program,
     symbol: Symbol,
@@ -114,7 +123,8 @@ fn add_symbol<W: Sink>(
     Ok(1)
 }
 
-fn symbol_count(decls: &Decls) -> usize
+/// How many variables and instances are declared.
+pub fn symbol_count(decls: &Decls) -> usize
     ensures value { result ≡ length (symbols_of decls.now) }
     ensures few { result ≤ MOST_VARS + MOST_INSTANCES }
 {
@@ -122,7 +132,7 @@ fn symbol_count(decls: &Decls) -> usize
 }
 
 /// What is declared with a number, where the instances are counted after the variables.
-fn symbol_at(decls: &Decls, number: usize) -> Symbol
+pub fn symbol_at(decls: &Decls, number: usize) -> Symbol
     requires { number < length (symbols_of decls.now) }
     ensures { slice_get (symbols_of decls.now) number ≡ Some result }
 {

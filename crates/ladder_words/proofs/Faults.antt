@@ -10,7 +10,7 @@ use Rattle.ladder_words.specs.declared.request.InputOrder.TheVariants.{Given}
 use Rattle.ladder_words.specs.declared.request.ListRequest.{ListRequest}
 use Rattle.ladder_words.specs.declared.words.Lasting.{Lasting}
 use Rattle.ladder_words.specs.declared.words.Lasting.TheVariants.{Count, Until}
-use Rattle.ladder_words.specs.declared.request.Request.TheVariants.{Causes, Check, Film, Groups, Held, Show, Sim, Uses, Waves}
+use Rattle.ladder_words.specs.declared.request.Request.TheVariants.{Causes, Check, Film, Groups, Held, Never, Show, Sim, Uses, Waves}
 use Rattle.ladder_words.specs.declared.request.WordFault.{WordFault}
 use Rattle.ladder_words.specs.declared.request.WordFault.TheVariants.{Help, Memory, Usage}
 
@@ -40,6 +40,7 @@ no_causes_of_form rows none (Film r) h = let other = h.0 in cc
 no_causes_of_form rows none (Sim r) h = let other = h.0 in cc
 no_causes_of_form rows none (Waves r) h = let other = h.0 in cc
 no_causes_of_form rows none (Uses file) h = let other = h.0 in cc
+no_causes_of_form rows none (Never r) h = let other = h.0 in cc
 
 pub no_causes_of_order : (rows : List Row) → ((o : InputOrder) → HasOrder o rows → ⊥) → AsksNone (codes "causes") rows
 no_causes_of_order rows none (Check file warns) h = let other = h.0 in cc
@@ -51,6 +52,7 @@ no_causes_of_order rows none (Film r) h = let other = h.0 in cc
 no_causes_of_order rows none (Sim r) h = let other = h.0 in cc
 no_causes_of_order rows none (Waves r) h = let other = h.0 in cc
 no_causes_of_order rows none (Uses file) h = let other = h.0 in cc
+no_causes_of_order rows none (Never r) h = let other = h.0 in cc
 
 pub no_causes_of_start : (rows : List Row) → ((o : Option ℕ) → HasNumber (codes "after") rows o → ⊥) → AsksNone (codes "causes") rows
 no_causes_of_start rows none (Check file warns) h = let other = h.0 in cc
@@ -62,6 +64,7 @@ no_causes_of_start rows none (Film r) h = let other = h.0 in cc
 no_causes_of_start rows none (Sim r) h = let other = h.0 in cc
 no_causes_of_start rows none (Waves r) h = let other = h.0 in cc
 no_causes_of_start rows none (Uses file) h = let other = h.0 in cc
+no_causes_of_start rows none (Never r) h = let other = h.0 in cc
 
 pub no_show_of_moment : (rows : List Row) → ((o : Option ℕ) → HasNumber (codes "at") rows o → ⊥) → AsksNone (codes "show") rows
 no_show_of_moment rows none (Check file warns) h = let other = h.0 in cc
@@ -73,6 +76,7 @@ no_show_of_moment rows none (Film r) h = none None h.2
 no_show_of_moment rows none (Sim r) h = let other = h.0 in cc
 no_show_of_moment rows none (Waves r) h = let other = h.0 in cc
 no_show_of_moment rows none (Uses file) h = let other : 115 ≡ 117 = ap (λ (name : List ℕ). get_or name 0 0) h.0 in absurd (omega (arith, other))
+no_show_of_moment rows none (Never r) h = let other = h.0 in cc
 
 pub no_show_of_number : (rows : List Row) → ((o : Option ℕ) → HasNumber (codes "number") rows o → ⊥) → AsksNone (codes "show") rows
 no_show_of_number rows none (Check file warns) h = let other = h.0 in cc
@@ -84,6 +88,7 @@ no_show_of_number rows none (Film r) h = none None h.3
 no_show_of_number rows none (Sim r) h = let other = h.0 in cc
 no_show_of_number rows none (Waves r) h = let other = h.0 in cc
 no_show_of_number rows none (Uses file) h = let other : 115 ≡ 117 = ap (λ (name : List ℕ). get_or name 0 0) h.0 in absurd (omega (arith, other))
+no_show_of_number rows none (Never r) h = let other = h.0 in cc
 
 pub no_causes_of_list : (rows : List Row) → ((l : ListRequest) → NamesList rows l → ⊥) → AsksNone (codes "causes") rows
 no_causes_of_list rows none (Check file warns) h = let other = h.0 in cc
@@ -95,6 +100,7 @@ no_causes_of_list rows none (Film r) h = let other = h.0 in cc
 no_causes_of_list rows none (Sim r) h = let other = h.0 in cc
 no_causes_of_list rows none (Waves r) h = let other = h.0 in cc
 no_causes_of_list rows none (Uses file) h = let other = h.0 in cc
+no_causes_of_list rows none (Never r) h = let other = h.0 in cc
 
 no_scans : (rows : List Row) → ((o : Option ℕ) → HasNumber (codes "scans") rows o → ⊥) → (scans every : ℕ) → HasScans scans every rows → ⊥
 no_scans rows none scans every (inl h) = none (Some scans) h.0
@@ -110,6 +116,7 @@ no_causes_of_scans rows none (Film r) h = let other = h.0 in cc
 no_causes_of_scans rows none (Sim r) h = let other = h.0 in cc
 no_causes_of_scans rows none (Waves r) h = let other = h.0 in cc
 no_causes_of_scans rows none (Uses file) h = let other = h.0 in cc
+no_causes_of_scans rows none (Never r) h = let other = h.0 in cc
 
 no_time : (rows : List Row) → ((o : Option ℕ) → HasNumber (codes "for") rows o → ⊥) → (scans every : ℕ) → HasScans scans every rows → ⊥
 no_time rows none scans every (inl h) = none None h.1
@@ -125,6 +132,7 @@ no_causes_of_time rows none (Film r) h = let other = h.0 in cc
 no_causes_of_time rows none (Sim r) h = let other = h.0 in cc
 no_causes_of_time rows none (Waves r) h = let other = h.0 in cc
 no_causes_of_time rows none (Uses file) h = let other = h.0 in cc
+no_causes_of_time rows none (Never r) h = let other = h.0 in cc
 
 given_twice : (rows : List Row) (n time : ℕ) → HasNumber (codes "scans") rows (Some n) → HasNumber (codes "for") rows (Some time)
     → (scans every : ℕ) → HasScans scans every rows → ⊥
@@ -142,6 +150,7 @@ no_causes_of_both rows n time some until (Film r) h = let other = h.0 in cc
 no_causes_of_both rows n time some until (Sim r) h = let other = h.0 in cc
 no_causes_of_both rows n time some until (Waves r) h = let other = h.0 in cc
 no_causes_of_both rows n time some until (Uses file) h = let other = h.0 in cc
+no_causes_of_both rows n time some until (Never r) h = let other = h.0 in cc
 
 pub no_every : (rows : List Row) → ((o : Option ℕ) → HasNumber (codes "every") rows o → ⊥) → (every : ℕ) → HasEvery every rows → ⊥
 no_every rows none every (inl h) = none (Some every) h
@@ -157,6 +166,7 @@ no_causes_of_every rows none (Film r) h = let other = h.0 in cc
 no_causes_of_every rows none (Sim r) h = let other = h.0 in cc
 no_causes_of_every rows none (Waves r) h = let other = h.0 in cc
 no_causes_of_every rows none (Uses file) h = let other = h.0 in cc
+no_causes_of_every rows none (Never r) h = let other = h.0 in cc
 
 given_at_all : (rows : List Row) (l : Lasting) → HasLasting l rows → HasNumber (codes "scans") rows None → HasNumber (codes "for") rows None → ⊥
 given_at_all rows (Count n) h none no_time = let given = h.0.1 in cc
@@ -173,6 +183,7 @@ no_causes_of_period rows l some none (Film r) h = let other = h.0 in cc
 no_causes_of_period rows l some none (Sim r) h = let other = h.0 in cc
 no_causes_of_period rows l some none (Waves r) h = let other = h.0 in cc
 no_causes_of_period rows l some none (Uses file) h = let other = h.0 in cc
+no_causes_of_period rows l some none (Never r) h = let other = h.0 in cc
 
 pub no_list_of_inputs : (rows : List Row) → ((all : Bool) (names : List Text) → HasInputs rows all names → ⊥) → (l : ListRequest) → NamesList rows l → ⊥
 no_list_of_inputs rows none l h = none l.all_inputs (map string_bytes l.inputs.items) h.6
@@ -187,6 +198,7 @@ no_show_of_inputs rows none (Film r) h = none false [] h.4
 no_show_of_inputs rows none (Sim r) h = let other = h.0 in cc
 no_show_of_inputs rows none (Waves r) h = let other = h.0 in cc
 no_show_of_inputs rows none (Uses file) h = let other : 115 ≡ 117 = ap (λ (name : List ℕ). get_or name 0 0) h.0 in absurd (omega (arith, other))
+no_show_of_inputs rows none (Never r) h = let other = h.0 in cc
 
 -- A flag is given or not.
 pub one_switch : (id : Text) (rows : List Row) (a b : Bool) → HasSwitch id rows a → HasSwitch id rows b → a ≡ b

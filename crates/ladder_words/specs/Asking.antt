@@ -14,7 +14,7 @@ use Rattle.ladder_words.specs.declared.request.Medium.TheVariants as medium
 use Rattle.ladder_words.specs.declared.request.CommandLine.{CommandLine}
 use Rattle.ladder_words.specs.declared.request.ListRequest.{ListRequest}
 use Rattle.ladder_words.specs.declared.request.Request.{Request}
-use Rattle.ladder_words.specs.declared.request.Request.TheVariants.{Causes, Check, Film, Groups, Held, Show, Sim, Uses, Waves}
+use Rattle.ladder_words.specs.declared.request.Request.TheVariants.{Causes, Check, Film, Groups, Held, Never, Show, Sim, Uses, Waves}
 
 abbrev pub HasText : Text → List Row → List ℕ → Type 0
 HasText id rows text = first_of id rows ≡ Some text
@@ -129,6 +129,10 @@ Asks name rows (Groups list grouping) = (name ≡ codes "causes")
     × HasNumber (codes "after") rows None
     × MayHaveLimit grouping.form list.limit
     × NamesList rows list
+Asks name rows (Never r) = (name ≡ codes "never")
+    × HasOption (codes "state") rows (option_map string_bytes r.state)
+    × HasSwitch (codes "quiet") rows r.quiet
+    × HasText (codes "file") rows (string_bytes r.file)
 Asks name rows (Show r) = (name ≡ codes "show")
     × HasOption (codes "stimulus") rows None
     × HasOption (codes "state") rows (option_map string_bytes r.state)

@@ -5,7 +5,7 @@ mod request;
 mod words;
 
 pub use request::{
-    CommandLine, FilmRequest, Form, Grouping, InputOrder, ListRequest, Medium, Request,
-    ShowRequest, SimRequest, WavesRequest, WordFault,
+    CommandLine, FilmRequest, Form, Grouping, InputOrder, ListRequest, Medium, NeverRequest,
+    Request, ShowRequest, SimRequest, WavesRequest, WordFault,
 };
 pub use words::read_words;

@@ -61,6 +61,17 @@ pub struct ListRequest {
     pub inputs: Vec<String>,
 }
 
+/// What a request for what can never come ON names.
+#[derive(Drop)]
+pub struct NeverRequest {
+    /// The file of the state from which on it is asked; the fresh one where there is none.
+    pub state: Option<String>,
+    /// Whether the number of rows isn't told.
+    pub quiet: bool,
+    /// The file of the program text.
+    pub file: String,
+}
+
 /// What a request for the drawing of one scan names.
 #[derive(Drop)]
 pub struct ShowRequest {
@@ -164,6 +175,8 @@ pub enum Request {
         /// The file of the program text.
         file: String,
     },
+    /// What can never come ON from a state on.
+    Never(NeverRequest),
 }
 
 /// What a command line says.

@@ -8,8 +8,8 @@ ghost use Rattle.ladder_words.specs.Asking.{Asks, AsksBy, AsksNone, HasEvery, Ha
 ghost use Rattle.ladder_words.specs.Faults.{IsFaultOf, SaysOf, UsageWhere};
 
 use crate::request::{
-    CommandLine, FilmRequest, Form, Grouping, InputOrder, ListRequest, Medium, Request,
-    ShowRequest, SimRequest, WavesRequest, WordFault,
+    CommandLine, FilmRequest, Form, Grouping, InputOrder, ListRequest, Medium, NeverRequest,
+    Request, ShowRequest, SimRequest, WavesRequest, WordFault,
 };
 use clap::ArgMatches;
 use clap::error::ErrorKind;
@@ -94,6 +94,7 @@ fn request_of(alloc: Global, name: &str, found: &ArgMatches<'_>) -> Result<Reque
             let file = text(alloc, found, "file")?;
             Ok(Request::Uses { file })
         }
+        "never" => never_request(alloc, found),
         "causes" => causes_request(alloc, found),
         "show" => show_request(alloc, found),
         "sim" => sim_request(alloc, found),
@@ -316,6 +317,16 @@ fn order_named(name: &str) -> Result<InputOrder, WordFault>
         "auto" => Ok(InputOrder::Sifted),
         _ => Err(WordFault::Usage),
     }
+}
+
+fn never_request(alloc: Global, found: &ArgMatches<'_>) -> Result<Request, WordFault>
+    ensures ok { IfOk result (Asks (codes "never") (rows_of (found_of found.now))) }
+    ensures err { IfErr result (UsageWhere (AsksNone (codes "never") (rows_of (found_of found.now)))) }
+{
+    let state = optional(alloc, found, "state")?;
+    let quiet = is_set(found, "quiet");
+    let file = text(alloc, found, "file")?;
+    Ok(Request::Never(NeverRequest { state, quiet, file }))
 }
 
 fn show_request(alloc: Global, found: &ArgMatches<'_>) -> Result<Request, WordFault>
