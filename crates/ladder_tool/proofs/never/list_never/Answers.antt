@@ -1,4 +1,4 @@
-use Rattle.std.proofs.Common.{refl, inl, inr, ap}
+use Rattle.std.proofs.Common.{ap, inl, inr, refl}
 use Rattle.ladder_tool.specs.Performs.{held_line, unless_quiet}
 use Rattle.ladder_tool.specs.declared.fault.ToolFault.TheVariants as fault
 use Rattle.ladder_tool.proofs.Endings.{all_same, prefix_same}
