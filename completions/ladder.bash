@@ -15,7 +15,7 @@ _ladder() {
     local options file='' coil='' place=0 number
     COMPREPLY=()
     if ((COMP_CWORD == 1)); then
-        mapfile -t COMPREPLY < <(compgen -W 'check causes show sim uses help --help' -- "$word")
+        mapfile -t COMPREPLY < <(compgen -W 'check causes show sim uses never help --help' -- "$word")
         return
     fi
     case $subcommand in
@@ -24,8 +24,9 @@ _ladder() {
         sim) options='--state --save --vcd --why --help' ;;
         check) options='--warn --why --help' ;;
         uses) options='--why --help' ;;
+        never) options='--state --quiet --why --help' ;;
         help)
-            mapfile -t COMPREPLY < <(compgen -W 'check causes show sim uses' -- "$word")
+            mapfile -t COMPREPLY < <(compgen -W 'check causes show sim uses never' -- "$word")
             return
             ;;
     esac

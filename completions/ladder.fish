@@ -46,14 +46,15 @@ complete -c ladder -n 'test (count (__ladder_places)) = 0' -a causes -d 'List wh
 complete -c ladder -n 'test (count (__ladder_places)) = 0' -a show -d 'Print the drawing with its power flow'
 complete -c ladder -n 'test (count (__ladder_places)) = 0' -a sim -d 'Scan a stimulus record by record'
 complete -c ladder -n 'test (count (__ladder_places)) = 0' -a uses -d 'Print where each name is drawn'
+complete -c ladder -n 'test (count (__ladder_places)) = 0' -a never -d 'Print what can never come ON'
 complete -c ladder -n 'test (count (__ladder_places)) = 0' -a help -d 'Print help'
-complete -c ladder -n '__ladder_at help 1' -a 'check causes show sim uses'
+complete -c ladder -n '__ladder_at help 1' -a 'check causes show sim uses never'
 
-complete -c ladder -n '__ladder_at check,causes,show,sim,uses more 0' -l why -d 'Faults are explained'
+complete -c ladder -n '__ladder_at check,causes,show,sim,uses,never more 0' -l why -d 'Faults are explained'
 complete -c ladder -n '__ladder_at check more 0' -l warn -d 'What is most likely not meant'
 complete -c ladder -n '__ladder_at causes,show more 0' -l all-inputs -d 'All inputs, in order of declaration'
-complete -c ladder -n '__ladder_at causes more 0' -l quiet -d 'No line of counts'
-complete -c ladder -n '__ladder_at causes,show,sim more 0' -l state -r -F -d 'The state to begin in'
+complete -c ladder -n '__ladder_at causes,never more 0' -l quiet -d 'No line of counts'
+complete -c ladder -n '__ladder_at causes,show,sim,never more 0' -l state -r -F -d 'The state to begin in'
 complete -c ladder -n '__ladder_at causes,show more 0' -l at -x -d 'The moment of the scan in ms'
 complete -c ladder -n '__ladder_at causes more 0' -l after -x -d 'Causes with a greater number only'
 complete -c ladder -n '__ladder_at causes more 0' -l limit -x -d 'At most so many rows'
@@ -71,7 +72,7 @@ complete -c ladder -n '__ladder_at show more 0' -l coil -x -a '(__ladder_coils)'
 complete -c ladder -n '__ladder_at sim more 0' -l vcd -d 'A waveform in place of the trace'
 complete -c ladder -n '__ladder_at sim more 0' -l save -r -F -d 'The file that gets the state after the last scan'
 
-complete -c ladder -n '__ladder_at check,causes,show,sim,uses 1' -F
+complete -c ladder -n '__ladder_at check,causes,show,sim,uses,never 1' -F
 complete -c ladder -n '__ladder_at sim 2' -F
 complete -c ladder -n '__ladder_at causes 2' -a '(__ladder_coils)'
 complete -c ladder -n '__ladder_at causes more 2' -a '(__ladder_inputs)'
