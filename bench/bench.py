@@ -111,11 +111,15 @@ HELD = [
     ("stations, 12 inputs, 20", "three_stations", "Feed", STATIONS[:12], 20, 100, STORED, 156),
     ("stations, 12 inputs, 1000", "three_stations", "Feed", STATIONS[:12], 1000, 100, STORED, 156),
     ("stations, 16 inputs, 1000", "three_stations", "Feed", STATIONS[:16], 1000, 100, STORED, 2_816),
+    ("Feed, 20 inputs, 20", "three_stations", "Feed", STATIONS, 20, 100, STORED, 46_848),
+    ("Run2, 20 inputs, 20", "three_stations", "Run2", STATIONS, 20, 100, STORED, 11_264),
+    ("Horn, 20 inputs, 20", "three_stations", "Horn", STATIONS, 20, 100, STORED, 0),
+    ("Feed, 20 inputs, 1000", "three_stations", "Feed", STATIONS, 1000, 100, STORED, 46_848),
 ]
 
 
 def held(program, runs):
-    """Lists over several scans, in which each combination is scanned until the coil is ON or the state comes again."""
+    """Lists over several scans, by looks at prefixes and at 64 numbers at once."""
     print(f"{'over several scans':28}{'ms':>10}{'rows':>12}{'µs a combination':>20}")
     for name, circuit, coil, listed, scans, every, options, due in HELD:
         words = ["--scans", str(scans), "--every", str(every), *options, str(HERE / "circuits" / f"{circuit}.ld"), coil, *listed]
