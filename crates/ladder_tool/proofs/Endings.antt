@@ -16,7 +16,7 @@ use Rattle.ladder_questions.specs.Causes.{Question, causes_after, is_cause, ques
 use Rattle.ladder_causes.specs.Cursor.{Cursor, first_number, looks_given, looks_of, searched}
 use Rattle.ladder_causes.specs.GroupCursor.{GroupCursor, causes_in, rows_left}
 use Rattle.ladder_causes.specs.Prefixes.{search_of}
-use Rattle.ladder_questions.specs.Refusal.{reason, scan_refusal}
+use Rattle.ladder_questions.specs.Refusal.{reason, refusal, scan_refusal}
 use Rattle.ladder_groups.specs.Groups.{rows}
 use Rattle.ladder_sim.specs.CauseText.{cause_text, limited}
 use Rattle.ladder_sim.specs.TermText.{form_text}
@@ -33,9 +33,13 @@ use Rattle.ladder_held.specs.declared.fault.HeldFault.{HeldFault}
 use Rattle.ladder_held.specs.declared.fault.HeldFault.TheVariants as held
 use Rattle.ladder_held.specs.declared.scans.Scans.{Scans}
 use Rattle.ladder_sim.specs.HeldText.{held_text}
-use Rattle.ladder_tool.specs.Performs.{HasCauseFault, HasHeldFault, HasListFault, HasScansFault, HasNameFault, IsAsked, broken_first, causes_for, coil_refusal, counts_text, groups_line, held_line, looks_for, rows_for, rows_line, rows_text, shown_scan, style_for, unless_quiet}
+use Rattle.ladder_tool.specs.Performs.{HasCauseFault, HasHeldFault, HasListFault, HasScansFault, HasNameFault, IsAsked, broken_first, causes_for, coil_refusal, counts_text, form_on, groups_line, held_line, looks_for, ordered, rows_for, rows_line, rows_text, shown_scan, style_for, unless_quiet}
 use Rattle.ladder_tool.specs.Setting.{Given, HasSettingFault, IsSet}
 use Rattle.ladder_tool.specs.declared.fault.ToolFault.{ToolFault}
+use Rattle.ladder_causes.specs.Order.{RefusedInAnyOrder, SiftedIsPermutation, sifted}
+use Rattle.ladder_words.specs.declared.request.Form.{Form}
+use Rattle.ladder_words.specs.declared.request.InputOrder.{InputOrder}
+use Rattle.ladder_words.specs.declared.request.InputOrder.TheVariants as order
 use Rattle.ladder_words.specs.declared.request.ListRequest.{ListRequest}
 use Rattle.ladder_words.specs.declared.request.ShowRequest.{ShowRequest}
 use Rattle.ladder_tool.specs.Variables.{AreListed, variable_of}
@@ -130,6 +134,36 @@ pub counts_are : (r : ListRequest) (q : Question) (c : GroupCursor) → rows_lef
 counts_are r q c made many causes h l =
     ap (λ n. unless_quiet r.quiet (groups_line n causes)) (h ∙ ap (λ rs. length (limited r.limit rs)) made)
     ∙ ap (λ n. unless_quiet r.quiet (groups_line (length (rows_for r q)) n)) (l ∙ ap (λ rs. causes_in (limited r.limit rs)) made)
+
+-- An order changes neither the program nor the coil, nor which rule is broken.
+pub ordered_program : (o : InputOrder) (q : Question) → (ordered o q).program ≡ q.program
+ordered_program order.Given q = refl
+ordered_program order.Sifted q = refl
+
+pub ordered_coil : (o : InputOrder) (q : Question) → (ordered o q).coil ≡ q.coil
+ordered_coil order.Given q = refl
+ordered_coil order.Sifted q = refl
+
+pub ordered_refusal : SiftedIsPermutation → RefusedInAnyOrder → (o : InputOrder) (q : Question) → refusal (ordered o q) None ≡ refusal q None
+ordered_refusal permuted same order.Given q = refl
+ordered_refusal permuted same order.Sifted q = same q (sifted q) (permuted q)
+
+-- What a cursor over the groups of a question in an order has to give, in a form, is what is asked.
+module _ (r : ListRequest) (o : InputOrder) (q asked : Question) (order : q ≡ ordered o asked) (c : GroupCursor)
+    (made : rows_left c ≡ rows (is_cause q) (length q.listed) 0) where
+  rows_are : rows_left c ≡ rows (is_cause (ordered o asked)) (length (ordered o asked).listed) 0
+  rows_are = made ∙ ap (λ (x : Question). rows (is_cause x) (length x.listed) 0) order
+
+  pub ordered_groups : (form : GroupForm) (shape : Form) → form ≡ form_on shape q.coil → c.program ≡ q.program → c.listed ≡ q.listed
+      → form_text form c.program c.listed (limited r.limit (rows_left c)) ≡ form_text (form_on shape asked.coil) asked.program (ordered o asked).listed (rows_for r (ordered o asked))
+  ordered_groups form shape same of_program of_listed =
+      groups_are r asked.program (ordered o asked) form (form_on shape asked.coil)
+      (same ∙ ap (λ (x : Question). form_on shape x.coil) order ∙ ap (form_on shape) (ordered_coil o asked)) c
+      (of_program ∙ ap (λ (x : Question). x.program) order ∙ ordered_program o asked) (of_listed ∙ ap (λ (x : Question). x.listed) order) rows_are
+
+  pub ordered_counts : (many causes : ℕ) → many ≡ length (limited r.limit (rows_left c)) → causes ≡ causes_in (limited r.limit (rows_left c))
+      → unless_quiet r.quiet (groups_line many causes) ≡ counts_text r (ordered o asked)
+  ordered_counts = counts_are r (ordered o asked) c rows_are
 
 -- ---- one scan that is shown
 

@@ -1,9 +1,10 @@
 //! A request for the film of a stimulus.
 
 ghost use Rattle.std.specs.Prelude.{◌≡◌, ◌≤◌, ◌⊎◌};
+ghost use Rattle.ladder_scan.specs.Standing.{Fits};
 ghost use Rattle.ladder_text.specs.Log.{WriteLog};
 ghost use Rattle.ladder_tool.specs.Performs.{BreaksFilm, HasFilmFault, IsFilmed, Refuses, frame_for, logs};
-ghost use Rattle.ladder_tool.specs.Setting.{given_by};
+ghost use Rattle.ladder_tool.specs.Setting.{IsSet, given_by};
 
 use crate::fault::ToolFault;
 use crate::report::report;
@@ -12,6 +13,8 @@ use crate::showing::coil_refusal;
 use crate::texts::Texts;
 use crate::tracing::stimulus;
 use crate::variables::shown_variables;
+use ladder_grid::Program;
+use ladder_scan::State;
 use ladder_show::Style;
 use ladder_sim::{Film, write_film};
 use ladder_text::Sink;
@@ -25,6 +28,43 @@ fn frame_for(medium: Medium) -> Style
     match medium {
         Medium::Text => Style::MarkedFrame,
         Medium::Page => Style::PageFrame,
+    }
+}
+
+/// Shows one scan for each record of the stimulus, the first one in a state.
+fn film_from<O: Sink, E: Sink>(
+    alloc: Global,
+    request: &FilmRequest,
+    program: &Program,
+    state: &mut State,
+    texts: &Texts,
+    out: &mut O,
+    err: &mut E,
+) -> u8
+    requires fits { Fits program.now state.old }
+    requires set { IsSet (given_by texts.now) program.now state.old }
+    ensures status { result ≤ 1 }
+    ensures done { result ≡ 0 → IsFilmed (given_by texts.now) request.now (O.log out.old) (O.log out.new) × (E.log err.new ≡ E.log err.old) }
+    ensures failed { (save : WriteLog) → result ≡ 1
+        → Refuses (given_by texts.now) (HasFilmFault (given_by texts.now) request.now) (logs (O.log out.old) save (E.log err.old)) (logs (O.log out.new) save (E.log err.new))
+        ⊎ BreaksFilm (given_by texts.now) request.now (logs (O.log out.old) save (E.log err.old)) (logs (O.log out.new) save (E.log err.new)) }
+{
+    let asked = match shown_variables(alloc, program.decls(), &request.coil, false, &[]) {
+        Ok(asked) => asked,
+        Err(fault) => return report(texts, &fault, err),
+    };
+    match coil_refusal(program, asked.coil) {
+        Some(fault) => return report(texts, &ToolFault::Cause(fault), err),
+        None => (),
+    }
+    let film = Film {
+        style: frame_for(request.medium),
+        text: &texts.program,
+        coil: asked.coil,
+    };
+    match write_film(alloc, film, program, state, stimulus(texts), out) {
+        Ok(_) => 0,
+        Err(fault) => report(texts, &ToolFault::Sim(fault), err),
     }
 }
 
@@ -42,32 +82,11 @@ pub(crate) fn film<O: Sink, E: Sink>(
         → Refuses (given_by texts.now) (HasFilmFault (given_by texts.now) request.now) (logs (O.log out.old) save (E.log err.old)) (logs (O.log out.new) save (E.log err.new))
         ⊎ BreaksFilm (given_by texts.now) request.now (logs (O.log out.old) save (E.log err.old)) (logs (O.log out.new) save (E.log err.new)) }
 {
-    let mut setting = match read_setting(alloc, texts) {
-        Ok(setting) => setting,
-        Err(fault) => return report(texts, &fault, err),
-    };
-    let asked = match shown_variables(alloc, setting.program.decls(), &request.coil, false, &[]) {
-        Ok(asked) => asked,
-        Err(fault) => return report(texts, &fault, err),
-    };
-    match coil_refusal(&setting.program, asked.coil) {
-        Some(fault) => return report(texts, &ToolFault::Cause(fault), err),
-        None => (),
-    }
-    let film = Film {
-        style: frame_for(request.medium),
-        text: &texts.program,
-        coil: asked.coil,
-    };
-    match write_film(
-        alloc,
-        film,
-        &setting.program,
-        &mut setting.state,
-        stimulus(texts),
-        out,
-    ) {
-        Ok(_) => 0,
-        Err(fault) => report(texts, &ToolFault::Sim(fault), err),
+    match read_setting(alloc, texts) {
+        Ok(mut setting) => {
+            let (program, state) = (&setting.program, &mut setting.state);
+            film_from(alloc, request, program, state, texts, out, err)
+        }
+        Err(fault) => report(texts, &fault, err),
     }
 }

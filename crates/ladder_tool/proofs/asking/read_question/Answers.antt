@@ -1,4 +1,4 @@
-use Rattle.std.proofs.Common.{◌∙◌, ap, inl, inr, map, string_bytes}
+use Rattle.std.proofs.Common.{◌∙◌, ap, inr, map, string_bytes}
 use Rattle.std.specs.Prelude.{unwrap_or}
 use Rattle.ladder_tool.specs.Setting.{given_by}
 use Rattle.ladder_tool.proofs.Endings.{asked_by}

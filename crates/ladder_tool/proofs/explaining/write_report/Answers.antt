@@ -1,5 +1,5 @@
-use Rattle.std.proofs.Common.{◌≡◌, ℕ, Bool, true, false, List}
-use Rattle.ladder_text.specs.Log.{PutsPrefix, Puts, WriteLog}
+use Rattle.std.proofs.Common.{ℕ, Bool, true, false, List}
+use Rattle.ladder_text.specs.Log.{PutsPrefix, WriteLog}
 use Rattle.ladder_text.proofs.Sending.{puts_err}
 use Rattle.ladder_tool.specs.Explained.{explained, report_of}
 use Rattle.ladder_tool.specs.FaultLine.{fault_line}

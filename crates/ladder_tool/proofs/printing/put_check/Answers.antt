@@ -1,4 +1,4 @@
-use Rattle.std.proofs.Common.{◌≡◌, Bool, true, false}
+use Rattle.std.proofs.Common.{Bool, true, false}
 use Rattle.ladder_grid.specs.Program.{Drawing}
 use Rattle.ladder_records.specs.Text.{lines_text}
 use Rattle.ladder_text.specs.Log.{PutsPrefix, WriteLog}

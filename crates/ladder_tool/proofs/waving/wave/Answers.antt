@@ -1,4 +1,4 @@
-use Rattle.std.proofs.Common.{Err, Ok, refl, inl, inr}
+use Rattle.std.proofs.Common.{Err, Ok, refl, inr}
 use Rattle.ladder_tool.proofs.Settings.{same_waves}
 use Rattle.ladder_tool.proofs.waving.wave.Goals as goal
 
