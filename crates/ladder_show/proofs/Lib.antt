@@ -2,8 +2,10 @@ pub mod Cuts
 pub mod Each
 pub mod Erasing
 pub mod Fitting
+pub mod Gets
 pub mod LinkedEnds
 pub mod LoneCoils
+pub mod Noted
 pub mod PlainNames
 pub mod PowerRoutes
 pub mod RouteEnds

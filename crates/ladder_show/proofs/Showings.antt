@@ -1,5 +1,6 @@
 -- What was written is the text of a scan.
-use Rattle.std.proofs.Common.{◌≡◌, ◌∙◌, ℕ, List, ap, drop, length, sym}
+use Rattle.std.proofs.Common.{◌≡◌, ◌∙◌, ℕ, List, Result, Ok, Err, ap, drop, length, sym}
+use Rattle.std.specs.Result.{IfErr, OnOk}
 use Rattle.std.specs.Prelude.{◌==◌}
 use Rattle.std.specs.List.{slice_split}
 use Rattle.ladder_page.specs.Outline.{HasOutline, IsOnlyOutline}
@@ -35,3 +36,17 @@ is_drawn style s place parts ps marks ms after lines rest outline ea ep em seen 
       ∙ ap (λ x. whole_of style s.coil s.program (state_after s) parts x lines) em
       ∙ ap (whole_of style s.coil s.program (state_after s) parts marks) (el ∙ ap (slice_split (λ b. b == 10)) er);
 }
+
+-- what an answer gives where it is not an error
+pub ok_with : {T E : Type 0} {P Q : Type 0} (r : Result T E) → (P → Q) → OnOk r P → OnOk r Q
+ok_with (Ok x) f p = f p
+ok_with (Err x) f p = p
+
+-- what holds in any case
+pub ok_always : {T E : Type 0} {P : Type 0} (r : Result T E) → P → OnOk r P
+ok_always (Ok x) p = p
+ok_always (Err x) p = _
+
+pub err_with : {T E : Type 0} {P Q : E → Type 0} (r : Result T E) → ((e : E) → P e → Q e) → IfErr r P → IfErr r Q
+err_with (Ok x) f p = p
+err_with (Err x) f p = f x p

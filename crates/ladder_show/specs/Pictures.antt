@@ -1,16 +1,21 @@
 -- Private: what the code holds while it writes a drawing.
-use Rattle.std.specs.Prelude.{◌≡◌, ◌≤◌, ◌<◌, ◌^◌, ℕ, List, length, map}
+use Rattle.std.specs.Prelude.{◌≡◌, ◌≤◌, ◌<◌, ◌^◌, ◌++◌, ℕ, ℤ, List, [], codes, decimal, length, map}
+use Rattle.std.specs.Fmt.{signed_decimal}
 use Rattle.ladder_page.specs.declared.geometry.TheConstants.{RUNGS}
 use Rattle.ladder_page.specs.declared.lines.Part.{Part}
 use Rattle.ladder_page.specs.Picture.{Lines}
 use Rattle.ladder_grid.specs.Program.{Drawing}
+use Rattle.ladder_scan.specs.Programs.{diagram_of}
+use Rattle.ladder_scan.specs.Seen.{AreMarks}
 use Rattle.ladder_scan.specs.Standing.{Standing}
 use Rattle.ladder_scan.specs.declared.seen.Mark.{Mark}
 use Rattle.ladder_show.specs.declared.look.Look.{Look}
 use Rattle.ladder_show.specs.declared.look.RungLine.{RungLine}
 use Rattle.ladder_show.specs.declared.picture.Picture.{Picture}
+use Rattle.ladder_show.specs.declared.picture.Style.{Style}
+use Rattle.ladder_show.specs.declared.picture.Style.TheVariants.{Marked, MarkedFrame, Page, PageFrame}
 use Rattle.ladder_show.specs.Page.{look_at}
-use Rattle.ladder_show.specs.Showing.{drawn_of}
+use Rattle.ladder_show.specs.Showing.{OneScan, drawn_of, state_after}
 
 abbrev pub lines_of : Picture → Lines
 lines_of x = map (λ l. l.now) x.lines.now
@@ -32,3 +37,24 @@ lines_drawn x n = drawn_of x.style x.parts.now x.marks.now (lines_of x) n
 -- How the characters of a line look.
 abbrev pub looks_of : RungLine → ℕ → Look
 looks_of x at = look_at x.marks.now x.rung x.line x.text.now at
+
+-- A scan leaves this state and these marks.
+pub record IsSeen (s : OneScan) (after : Standing) (marks : List Mark) : Type 0 where
+  pub left : after ≡ state_after s
+  pub seen : AreMarks (diagram_of s.program) s.now s.inputs s.state.held marks
+
+-- How far a timer is that runs, and a counter.
+abbrev pub timer_note : List ℕ → ℕ → ℕ → List ℕ
+timer_note name preset elapsed =
+    codes "(* " ++ (name ++ (codes ".ET " ++ (decimal elapsed ++ (codes " of " ++ (decimal preset ++ codes " ms *)\n")))))
+
+abbrev pub counter_note : List ℕ → ℕ → ℤ → List ℕ
+counter_note name preset value =
+    codes "(* " ++ (name ++ (codes ".CV " ++ (signed_decimal value ++ (codes " of " ++ (decimal preset ++ codes " *)\n")))))
+
+-- What stands behind the last line of a drawing.
+abbrev pub tail_end : Style → List ℕ
+tail_end Marked = []
+tail_end MarkedFrame = codes "\n"
+tail_end Page = codes "</pre>\n</html>\n"
+tail_end PageFrame = codes "</pre>\n"

@@ -4,6 +4,7 @@ ghost use Rattle.std.specs.Prelude.{◌≡◌, ◌<◌, ◌≤◌, ◌+◌, ◌+
 ghost use Rattle.ladder_page.specs.declared.geometry.TheConstants.{PLACES};
 ghost use Rattle.ladder_text.specs.Block.{Sends};
 ghost use Rattle.ladder_show.specs.Notes.{above, cell_note, instance_note, is_among, lead, moment_text, noted_before, numbered_note, place_note, rung_notes, stored_note, tail_line, value_text, var_note, var_notes};
+ghost use Rattle.ladder_show.specs.Pictures.{counter_note, timer_note};
 
 use crate::picture::Picture;
 use crate::show::mark_in;
@@ -13,6 +14,50 @@ use ladder_page::geometry::{PLACES, ROWS};
 use ladder_scan::State;
 use ladder_text::{Block, Piece, Sink, WriteFault, add_pieces};
 use ladder_vars::{Instance, Var};
+
+/// Adds how far a timer that runs is.
+fn add_timer_note<W: Sink>(
+    block: &mut Block,
+    name: &[u8],
+    preset: u32,
+    elapsed: u64,
+    writer: &mut W,
+) -> Result<(), WriteFault>
+    ensures { Sends (W.log writer.old) (W.log writer.new) block.old block.new result (timer_note name.now preset elapsed) }
+{
+    let pieces = [
+        Piece::Text(b"(* "),
+        Piece::Text(name),
+        Piece::Text(b".ET "),
+        Piece::Number(elapsed),
+        Piece::Text(b" of "),
+        Piece::Number(preset as u64),
+        Piece::Text(b" ms *)\n"),
+    ];
+    add_pieces(block, pieces.as_slice(), writer)
+}
+
+/// Adds how far a counter is.
+fn add_counter_note<W: Sink>(
+    block: &mut Block,
+    name: &[u8],
+    preset: u32,
+    value: i16,
+    writer: &mut W,
+) -> Result<(), WriteFault>
+    ensures { Sends (W.log writer.old) (W.log writer.new) block.old block.new result (counter_note name.now preset value) }
+{
+    let pieces = [
+        Piece::Text(b"(* "),
+        Piece::Text(name),
+        Piece::Text(b".CV "),
+        Piece::Signed(value),
+        Piece::Text(b" of "),
+        Piece::Number(preset as u64),
+        Piece::Text(b" *)\n"),
+    ];
+    add_pieces(block, pieces.as_slice(), writer)
+}
 
 fn add_stored_note<W: Sink>(
     block: &mut Block,
@@ -30,29 +75,10 @@ fn add_stored_note<W: Sink>(
             start,
             ..
         } => {
-            let pieces = [
-                Piece::Text(b"(* "),
-                Piece::Text(name),
-                Piece::Text(b".ET "),
-                Piece::Number(now.saturating_sub(start).min(preset as u64)),
-                Piece::Text(b" of "),
-                Piece::Number(preset as u64),
-                Piece::Text(b" ms *)\n"),
-            ];
-            add_pieces(block, pieces.as_slice(), writer)
+            let elapsed = now.saturating_sub(start).min(preset as u64);
+            add_timer_note(block, name, preset, elapsed, writer)
         }
-        Stored::Counter { cv, .. } => {
-            let pieces = [
-                Piece::Text(b"(* "),
-                Piece::Text(name),
-                Piece::Text(b".CV "),
-                Piece::Signed(cv),
-                Piece::Text(b" of "),
-                Piece::Number(preset as u64),
-                Piece::Text(b" *)\n"),
-            ];
-            add_pieces(block, pieces.as_slice(), writer)
-        }
+        Stored::Counter { cv, .. } => add_counter_note(block, name, preset, cv, writer),
         Stored::Timer { running: false, .. } | Stored::Bistable { .. } => block.add(b"", writer),
     }
 }
@@ -264,7 +290,7 @@ pub(crate) fn add_above<W: Sink>(
 }
 
 /// Adds what is below it.
-pub(crate) fn add_tail<W: Sink>(
+fn add_tail<W: Sink>(
     block: &mut Block,
     picture: Picture<'_>,
     writer: &mut W,

@@ -4,11 +4,11 @@ ghost use Rattle.std.specs.Prelude.{◌≡◌, ◌<◌, ◌≤◌, ◌^◌, leng
 ghost use Rattle.ladder_text.specs.Block.{Sends};
 ghost use Rattle.ladder_text.specs.Log.{Puts};
 ghost use Rattle.ladder_show.specs.Show.{is_line_of};
-ghost use Rattle.ladder_show.specs.Pictures.{Fits, lines_drawn, of_picture};
+ghost use Rattle.ladder_show.specs.Pictures.{Fits, lines_drawn, of_picture, tail_end};
 ghost use Rattle.ladder_show.specs.Showing.{end_of, film_start, head_of, tail_of, whole_of, why_of, why_on};
 ghost use Rattle.ladder_show.specs.Notes.{is_left_out, kept_line, noted_line, noted_lines, notes_behind};
 
-use crate::notes::{add_above, add_rung_notes, add_tail, add_tail_with};
+use crate::notes::{add_above, add_rung_notes, add_tail_with};
 use crate::page::{add_drawn_line, add_frame_head, add_frames_start, add_page_head};
 use crate::picture::{Picture, Style};
 use crate::show::{add_whole_line, rung_of};
@@ -152,6 +152,18 @@ fn add_why_of<W: Sink>(
     }
 }
 
+/// What stands behind the last line.
+fn tail_end(style: Style) -> &'static [u8]
+    ensures { result.now ≡ tail_end style }
+{
+    match style {
+        Style::Marked => b"",
+        Style::MarkedFrame => b"\n",
+        Style::Page => b"</pre>\n</html>\n",
+        Style::PageFrame => b"</pre>\n",
+    }
+}
+
 /// Adds what stands last.
 fn add_tail_of<W: Sink>(
     block: &mut Block,
@@ -160,12 +172,7 @@ fn add_tail_of<W: Sink>(
 ) -> Result<(), WriteFault>
     ensures { Sends (W.log writer.old) (W.log writer.new) block.old block.new result (tail_of picture.entry.style picture.entry.program.now picture.entry.after.now) }
 {
-    match picture.style {
-        Style::Marked => add_tail(block, picture, writer),
-        Style::MarkedFrame => add_tail_with(block, picture, b"\n", writer),
-        Style::Page => add_tail_with(block, picture, b"</pre>\n</html>\n", writer),
-        Style::PageFrame => add_tail_with(block, picture, b"</pre>\n", writer),
-    }
+    add_tail_with(block, picture, tail_end(picture.style), writer)
 }
 
 /// Adds what is below them.

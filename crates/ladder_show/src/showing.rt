@@ -2,7 +2,8 @@
 
 ghost use Rattle.std.specs.Prelude.{◌≡◌, ◌≤◌, IfErr, OnOk, drop, length};
 ghost use Rattle.ladder_grid.specs.Reading.{IsProgram};
-ghost use Rattle.ladder_scan.specs.Standing.{Fits};
+ghost use Rattle.ladder_scan.specs.Standing.{Fits, Standing};
+ghost use Rattle.ladder_show.specs.Pictures.{IsSeen};
 ghost use Rattle.ladder_show.specs.Showing.{Fails, IsLeft, Written, scan_of, state_after};
 
 use crate::fault::ShowFault;
@@ -12,7 +13,7 @@ use ladder_grid::Program;
 use ladder_page::lines::lines;
 use ladder_page::outline_of;
 use ladder_scan::scene::checked;
-use ladder_scan::{State, see};
+use ladder_scan::{Mark, State, see};
 use ladder_text::Sink;
 use std::alloc::Global;
 
@@ -37,6 +38,41 @@ fn behind(text: &[u8], place: usize) -> &[u8]
     &text[place..]
 }
 
+/// Writes the drawing of a scan that left this state and these marks.
+fn write_seen<W: Sink>(
+    alloc: Global,
+    style: Style,
+    scan: Scan<'_>,
+    after: &State,
+    marks: &[Mark],
+    writer: &mut W,
+) -> Result<(), ShowFault>
+    requires { IsProgram scan.text.now scan.program.now }
+    ensures wrote { OnOk result ((state : Standing) → IsSeen (scan_of scan.entry state) after.now marks.now → Written style (scan_of scan.entry state) (W.log writer.old) (W.log writer.new)) }
+    ensures fails { IfErr result (λ e. (state : Standing) → IsSeen (scan_of scan.entry state) after.now marks.now → Fails style (scan_of scan.entry state) (W.log writer.old) (W.log writer.new) e) }
+{
+    let _rungs = scan.program.rungs();
+    let Ok(outline) = outline_of(alloc, scan.text) else {
+        return Err(ShowFault::Memory);
+    };
+    let Ok(lines) = lines(alloc, behind(scan.text, outline.place)) else {
+        return Err(ShowFault::Memory);
+    };
+    let picture = Picture {
+        style,
+        program: scan.program,
+        after,
+        coil: scan.coil,
+        parts: &outline.parts,
+        marks,
+        lines: &lines,
+    };
+    match write_noted(picture, writer) {
+        Ok(()) => Ok(()),
+        Err(_) => Err(ShowFault::Write),
+    }
+}
+
 /// Scans once from the state, and writes what follows END_VAR in the text of the program with the power flow of the scan.
 ///
 /// # Errors
@@ -57,30 +93,14 @@ pub fn write_drawing<W: Sink>(
     ensures left { IfErr result (IsLeft (scan_of scan.entry state.old) state.new) }
     ensures fits { Fits scan.entry.program.now state.old → Fits scan.entry.program.now state.new }
 {
-    let _rungs = scan.program.rungs();
     checked(scan.program);
     let Ok(sight) = see(alloc, scan.program, state, scan.inputs, scan.moment) else {
         return Err(ShowFault::Memory);
     };
-    let Ok(outline) = outline_of(alloc, scan.text) else {
-        return Err(ShowFault::Memory);
-    };
-    let Ok(lines) = lines(alloc, behind(scan.text, outline.place)) else {
-        return Err(ShowFault::Memory);
-    };
-    let picture = Picture {
-        style,
-        program: scan.program,
-        after: &sight.state,
-        coil: scan.coil,
-        parts: &outline.parts,
-        marks: &sight.marks,
-        lines: &lines,
-    };
-    let written = write_noted(picture, writer);
-    *state = sight.state;
-    match written {
-        Ok(()) => Ok(()),
-        Err(_) => Err(ShowFault::Write),
+    let written = write_seen(alloc, style, scan, &sight.state, &sight.marks, writer);
+    if let Err(ShowFault::Memory) = written {
+        return written;
     }
+    *state = sight.state;
+    written
 }

@@ -1,0 +1,44 @@
+-- Texts by what the code finds: the note of a variable, and what stands behind a drawing.
+use Rattle.std.proofs.Common.{◌≡◌, ◌∙◌, ℕ, Bool, true, false, cond, List, [], Result, Some, None, get_or, slice_get, ap, sym, subst, ◌++◌, append-nil}
+use Rattle.ladder_vars.specs.Decls.{Declared}
+use Rattle.ladder_vars.specs.declared.decls.Var.{Var}
+use Rattle.ladder_grid.specs.Program.{Drawing}
+use Rattle.ladder_scan.specs.Standing.{Standing}
+use Rattle.ladder_text.specs.Block.{Sends}
+use Rattle.ladder_text.specs.Log.{WriteLog}
+use Rattle.ladder_show.specs.declared.picture.Style.{Style}
+use Rattle.ladder_show.specs.declared.picture.Style.TheVariants.{Marked, MarkedFrame, Page, PageFrame}
+use Rattle.ladder_show.specs.Notes.{is_among, noted_before, numbered_note, tail_line, value_text, var_note}
+use Rattle.ladder_show.specs.Pictures.{tail_end}
+use Rattle.ladder_show.specs.Showing.{tail_of}
+
+-- a text is sent where an equal one is
+pub sends_as : {T E : Type 0} (a b : WriteLog) (w0 w1 : List ℕ) (r : Result T E) (text other : List ℕ) → text ≡ other → Sends a b w0 w1 r text → Sends a b w0 w1 r other
+sends_as a b w0 w1 r text other e p = subst (λ t. Sends a b w0 w1 r t) e p
+
+pub value_noted : (inputs : Bool) (d : Declared) (after : Standing) (number many : ℕ) (v : Var) (name : List ℕ) (value : Bool)
+    → slice_get d.vars number ≡ Some v → is_among inputs v ≡ true → many ≡ noted_before inputs d.vars number → name ≡ v.name
+    → value ≡ get_or after.held.values number false → value_text many name value ≡ numbered_note inputs d after number
+value_noted inputs d after number many v name value found among before named is =
+    let all = noted_before inputs d.vars number in
+    ap (λ n. value_text n name value) before
+    ∙ ap (λ t. value_text all t value) named
+    ∙ ap (value_text all v.name) is
+    ∙ ap (λ b. cond b (value_text all v.name (get_or after.held.values number false)) []) (sym among)
+    ∙ ap (var_note inputs after all number) (sym found)
+
+pub not_among : (inputs : Bool) (d : Declared) (after : Standing) (number : ℕ) (v : Var) → slice_get d.vars number ≡ Some v → is_among inputs v ≡ false
+    → [] ≡ numbered_note inputs d after number
+not_among inputs d after number v found among =
+    let all = noted_before inputs d.vars number in
+    ap (λ b. cond b (value_text all v.name (get_or after.held.values number false)) []) (sym among)
+    ∙ ap (var_note inputs after all number) (sym found)
+
+pub not_declared : (inputs : Bool) (d : Declared) (after : Standing) (number : ℕ) → slice_get d.vars number ≡ None → [] ≡ numbered_note inputs d after number
+not_declared inputs d after number missed = ap (var_note inputs after (noted_before inputs d.vars number) number) (sym missed)
+
+pub tail_ended : (style : Style) (p : Drawing) (after : Standing) (end : List ℕ) → end ≡ tail_end style → tail_line p after ++ end ≡ tail_of style p after
+tail_ended Marked p after end e = ap (λ t. tail_line p after ++ t) e ∙ append-nil (tail_line p after)
+tail_ended MarkedFrame p after end e = ap (λ t. tail_line p after ++ t) e
+tail_ended Page p after end e = ap (λ t. tail_line p after ++ t) e
+tail_ended PageFrame p after end e = ap (λ t. tail_line p after ++ t) e
