@@ -3,7 +3,7 @@
 ghost use Rattle.std.specs.Prelude.{◌≡◌, ◌<◌, ◌≤◌, [], All, List, OnOk, count_by};
 ghost use Rattle.csv.specs.Records.{fields_of};
 ghost use Rattle.ladder_grid.specs.Reading.{IsProgram};
-ghost use Rattle.ladder_records.specs.Left.{Fields, IsPlain};
+ghost use Rattle.ladder_records.specs.Left.{Fields, IsPlain, Left};
 ghost use Rattle.ladder_records.specs.Text.{records_of};
 ghost use Rattle.ladder_scan.specs.Standing.{Fits};
 ghost use Rattle.ladder_text.specs.Log.{Puts, WriteLog};
@@ -240,6 +240,38 @@ fn follow_rows<W: Sink>(
 }
 
 /// Takes the records of a stimulus one after the other, and writes what is recorded of them.
+fn follow_records<W: Sink>(
+    run: Run<'_>,
+    records: &mut Records<'_>,
+    room: &mut Room,
+    state: &mut State,
+    writer: &mut W,
+) -> Result<u64, SimFault>
+    requires recorded { CanRecord run.recording run.program.now }
+    requires plain { IsPlain records.old }
+    requires fits { Fits run.program.now state.old }
+    requires ready { IsReady run.program.now room.old.image.items room.old.block room.old.before }
+    ensures fits { Fits run.entry.program.now state.new }
+    ensures ends { (rows : List Fields) → Left records.old rows
+        → Follows run.entry.recording run.entry.program.now state.old rows state.new (W.log writer.old) (W.log writer.new) result }
+{
+    let Ok(found) = next(records, &mut room.row) else {
+        return Err(SimFault::Memory);
+    };
+    if !found {
+        return Err(SimFault::BadRow { row: 1 });
+    }
+    let columns = match columns(run.alloc, run.program.decls(), &room.row) {
+        Ok(columns) => columns,
+        Err(fault) => return Err(fault),
+    };
+    let Ok(()) = write_head(run.recording, run.program, state, &mut room.block, writer) else {
+        return Err(SimFault::Write);
+    };
+    follow_rows(run, &columns, records, room, state, writer)
+}
+
+/// Reads a stimulus, and writes what is recorded of its records.
 fn follow<W: Sink>(
     run: Run<'_>,
     state: &mut State,
@@ -265,20 +297,7 @@ fn follow<W: Sink>(
         block: Block::new(),
         before,
     };
-    let Ok(found) = next(&mut records, &mut room.row) else {
-        return Err(SimFault::Memory);
-    };
-    if !found {
-        return Err(SimFault::BadRow { row: 1 });
-    }
-    let columns = match columns(alloc, program.decls(), &room.row) {
-        Ok(columns) => columns,
-        Err(fault) => return Err(fault),
-    };
-    let Ok(()) = write_head(run.recording, program, state, &mut room.block, writer) else {
-        return Err(SimFault::Write);
-    };
-    follow_rows(run, &columns, &mut records, &mut room, state, writer)
+    follow_records(run, &mut records, &mut room, state, writer)
 }
 
 /// Scans a stimulus record by record from a state, and writes the trace: each row as one piece, before the next record is read.

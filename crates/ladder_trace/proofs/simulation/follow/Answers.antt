@@ -1,31 +1,5 @@
-use Rattle.std.proofs.Common.{subst, sym}
-use Rattle.csv.specs.Records.{fields_of}
 use Rattle.ladder_records.specs.Text.{records_of}
-use Rattle.ladder_trace.specs.Stimulus.{IsHeader}
-use Rattle.ladder_trace.proofs.Taking.{going_none, none_left, one_left}
-use Rattle.ladder_trace.proofs.Whole.{bad_header, cut_header, no_header}
 use Rattle.ladder_trace.proofs.simulation.follow.Goals as goal
 
-pub returns-then-not-found-clause-ends : goal.returns-then-not-found-clause-ends
-returns-then-not-found-clause-ends g c =
-    let rows = records_of c.args.stimulus.now in
-    no_header c.args.run.recording c.args.run.program.now c.args.state.now rows _ (none_left rows 0 c.in-Ok-next.found _ _ c.if-not-found.true (c.in-Ok-next.ensures.takes rows c.read_from-records.ensures.all))
-
-pub returns-in-Err-clause-ends : goal.returns-in-Err-clause-ends
-returns-in-Err-clause-ends g c =
-    let rows = records_of c.args.stimulus.now in
-    let next = one_left rows 0 c.in-Ok-next.found _ _ c.if-not-found.false (c.in-Ok-next.ensures.takes rows c.read_from-records.ensures.all) in
-    bad_header c.args.run.recording c.args.run.program.now c.args.state.now rows (fields_of c.next.new.row) _ c.in-Err.fault next.0 (λ behind. rw c.decls-2.ensures at (c.in-Err.ensures.refused behind))
-
-pub returns-in_default-write_head-clause-ends : goal.returns-in_default-write_head-clause-ends
-returns-in_default-write_head-clause-ends g c =
-    let rows = records_of c.args.stimulus.now in
-    let next = one_left rows 0 c.in-Ok-next.found _ _ c.if-not-found.false (c.in-Ok-next.ensures.takes rows c.read_from-records.ensures.all) in
-    cut_header c.args.run.recording c.args.run.program.now c.args.state.now rows (fields_of c.next.new.row) _ _ _ next.0 (rw c.decls-2.ensures at c.in-Ok-columns.ensures.columns) c.in_default-write_head.ensures.wrote
-
 pub returns-clause-ends : goal.returns-clause-ends
-returns-clause-ends g c =
-    let rows = records_of c.args.stimulus.now in
-    let next = one_left rows 0 c.in-Ok-next.found _ _ c.if-not-found.false (c.in-Ok-next.ensures.takes rows c.read_from-records.ensures.all) in
-    c.follow_rows.ensures.ends rows _
-    (going_none c.args.run.recording c.args.run.program.now _ c.args.state.now rows (fields_of c.next.new.row) _ _ _ next.0 (subst (IsHeader c.args.run.program.now.decls (fields_of c.next.new.row)) (sym c.deref.ensures.value) (rw c.decls-2.ensures at c.in-Ok-columns.ensures.columns)) c.in-Ok-write_head.ensures.wrote next.1)
+returns-clause-ends g c = c.follow_records.ensures.ends (records_of c.args.stimulus.now) c.read_from-records.ensures.all
