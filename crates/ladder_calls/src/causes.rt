@@ -1,6 +1,6 @@
 //! A cursor over the causes of a coil, by its own calls.
 
-use crate::scans::{MOTOR, program};
+use crate::scans::{MOTOR, begun};
 use ladder_causes::Causes;
 use ladder_grid::Program;
 use ladder_scan::{Memory, State};
@@ -14,7 +14,7 @@ const STOP: usize = 1;
 const COIL: usize = 2;
 
 /// What a cursor gives at its first calls, and the looks that it counts.
-#[derive(Clone, Copy, Debug, PartialEq, Eq)]
+#[derive(Clone, Copy, PartialEq)]
 struct Calls {
     looks_before: u64,
     given: [Option<u64>; 3],
@@ -25,20 +25,12 @@ struct Calls {
     rungs: usize,
 }
 
-/// Calls a cursor over the causes of the motor three times.
-fn after_three_calls(alloc: Global, program: &Program, state: &State) -> Result<Calls, Memory> {
-    if !state.fits(program) {
-        return Err(Memory);
-    }
-    let listed = [START, STOP];
-    let Ok(mut causes) = Causes::new(alloc, program, state, 0, COIL, listed.as_slice(), None) else {
-        return Err(Memory);
-    };
+fn after_three_calls(causes: &mut Causes) -> Calls {
     let looks_before = causes.looks();
     let first = causes.next();
     let second = causes.next();
     let third = causes.next();
-    Ok(Calls {
+    Calls {
         looks_before,
         given: [first, second, third],
         looks: causes.looks(),
@@ -46,17 +38,28 @@ fn after_three_calls(alloc: Global, program: &Program, state: &State) -> Result<
         looks_over_words: causes.words().looks(),
         inputs: causes.free().len(),
         rungs: causes.program().rungs(),
-    })
+    }
+}
+
+/// Calls a cursor over the causes of the motor three times.
+fn called(alloc: Global, program: &Program, state: &State) -> Result<Calls, Memory> {
+    if !state.fits(program) {
+        return Err(Memory);
+    }
+    let listed = [START, STOP];
+    match Causes::new(alloc, program, state, 0, COIL, listed.as_slice(), None) {
+        Ok(mut causes) => Ok(after_three_calls(&mut causes)),
+        Err(_) => Err(Memory),
+    }
 }
 
 fn called_three_times(alloc: Global) -> Result<Calls, Memory> {
-    let program = program(alloc, MOTOR)?;
-    let state = State::fresh(alloc, &program)?;
-    after_three_calls(alloc, &program, &state)
+    let motor = begun(alloc, MOTOR)?;
+    called(alloc, &motor.program, &motor.state)
 }
 
 #[test]
-fn a_cursor_counts_its_looks(rt: HostRuntime) -> Result<(), Memory> {
+fn a_cursor_counts_its_looks(rt: HostRuntime) {
     let wanted = Calls {
         looks_before: 0,
         given: [Some(2), None, None],
@@ -66,6 +69,5 @@ fn a_cursor_counts_its_looks(rt: HostRuntime) -> Result<(), Memory> {
         inputs: 2,
         rungs: 1,
     };
-    assert!(rt; called_three_times(rt.alloc())? == wanted);
-    Ok(())
+    assert!(rt; called_three_times(rt.alloc()) == Ok(wanted));
 }

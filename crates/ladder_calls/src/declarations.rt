@@ -135,14 +135,31 @@ fn instance_row(decls: &Decls, number: usize) -> Option<(BlockKind, u32)> {
     Some((instance.kind, instance.preset))
 }
 
+fn var_rows(decls: &Decls) -> [Option<Row>; 6] {
+    [
+        var_row(decls, 0),
+        var_row(decls, 1),
+        var_row(decls, 2),
+        var_row(decls, 3),
+        var_row(decls, 4),
+        var_row(decls, 5),
+    ]
+}
+
+fn instance_rows(decls: &Decls) -> [Option<(BlockKind, u32)>; 3] {
+    [
+        instance_row(decls, 0),
+        instance_row(decls, 1),
+        instance_row(decls, 2),
+    ]
+}
+
 /// The variables of the text, and its instances.
 fn rows(alloc: Global) -> Option<([Option<Row>; 6], [Option<(BlockKind, u32)>; 3], usize)> {
     let Ok((decls, _)) = read_decls(alloc, MIXED) else {
         return None;
     };
-    let vars = [0, 1, 2, 3, 4, 5].map(|number| var_row(&decls, number));
-    let instances = [0, 1, 2].map(|number| instance_row(&decls, number));
-    Some((vars, instances, decls.inputs()))
+    Some((var_rows(&decls), instance_rows(&decls), decls.inputs()))
 }
 
 const VARS: [Option<Row>; 6] = [

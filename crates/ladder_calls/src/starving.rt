@@ -1,7 +1,7 @@
 //! Calls whose memory runs out and that the program doesn't make: the address space is used up, but for a reserve that is larger from
 //! run to run.
 
-use crate::scans::{look_at, program};
+use crate::scans::{begun, look_at};
 use ladder_grid::Program;
 use ladder_scan::{Memory, State};
 use ladder_sim::{Writing, write_state};
@@ -66,14 +66,14 @@ const EDGES_FRESH: &[u8] =
     b"version,2\nmoment,0\nvar,A,0\nvar,Lamp,1\nmemory,1,1,1,0\nmemory,1,2,1,0\nmemory,1,1,2,0\nmemory,2,1,1,0\ncounter,C1,0,0,0\ntimer,Wait,0,0,0,0\nbistable,B1,0\n";
 
 /// The calls that allocate.
-#[derive(Clone, Copy, Debug, PartialEq, Eq)]
+#[derive(Clone, Copy)]
 enum Call {
     CopyState,
     NewWork,
 }
 
 /// How a call ended.
-#[derive(Clone, Copy, Debug, PartialEq, Eq)]
+#[derive(Clone, Copy, PartialEq)]
 enum Outcome {
     /// It said that there was no memory.
     Refused,
@@ -190,22 +190,28 @@ fn refusals(
     Ok((count, last))
 }
 
-/// How a call ends with all memory, which takes the stack that it needs, of which there is none left afterwards; how it ends with less
-/// and less of it; and whether it was refused before.
-fn starved(alloc: Global, call: Call) -> Result<(Outcome, Outcome, bool), Memory> {
-    let program = program(alloc, EDGES)?;
-    let state = State::fresh(alloc, &program)?;
-    let first = ended(alloc, call, &program, &state);
-    let (count, last) = refusals(alloc, call, &program, &state)?;
+/// How a call ends with all memory, how it ends with less and less of it, and whether it was refused before.
+type Ends = (Outcome, Outcome, bool);
+
+/// The first call takes the stack that it needs, of which there is none left afterwards.
+fn ends(alloc: Global, call: Call, program: &Program, state: &State) -> Result<Ends, AllocError> {
+    let first = ended(alloc, call, program, state);
+    let (count, last) = refusals(alloc, call, program, state)?;
     Ok((first, last, 0 < count))
 }
 
-#[test]
-fn a_refusal_is_named_until_memory_suffices(rt: HostRuntime) -> Result<(), Memory> {
-    let wanted = (Outcome::Right, Outcome::Right, true);
-    for call in [Call::CopyState, Call::NewWork] {
-        let found = starved(rt.alloc(), call)?;
-        assert_eq!(rt; found, wanted, "{call:?}");
+fn starved(alloc: Global, call: Call) -> Result<Ends, Memory> {
+    let edges = begun(alloc, EDGES)?;
+    match ends(alloc, call, &edges.program, &edges.state) {
+        Ok(ends) => Ok(ends),
+        Err(_) => Err(Memory),
     }
-    Ok(())
+}
+
+#[test]
+fn a_refusal_is_named_until_memory_suffices(rt: HostRuntime) {
+    let copying = starved(rt.alloc(), Call::CopyState);
+    let working = starved(rt.alloc(), Call::NewWork);
+    let wanted = Ok((Outcome::Right, Outcome::Right, true));
+    assert!(rt; [copying, working] == [wanted; 2]);
 }

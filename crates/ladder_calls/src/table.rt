@@ -153,19 +153,24 @@ fn found(alloc: Global, first: u64) -> Result<(Vec<(u64, u64)>, u64), AllocError
     Ok((numbers, table.looks()))
 }
 
+/// Whether a search from `first` on gives these numbers, each with the looks so far, and how many looks there are.
+fn gives(alloc: Global, first: u64, wanted: &[(u64, u64)]) -> Result<(bool, u64), AllocError> {
+    let (numbers, looks) = found(alloc, first.min(16))?;
+    Ok((numbers.as_slice() == wanted, looks))
+}
+
+const CASES: [(u64, &[(u64, u64)], u64); 5] = [
+    (0, &[(3, 5), (8, 8), (9, 8), (10, 8), (11, 8), (14, 11)], 11),
+    (4, &[(8, 5), (9, 5), (10, 5), (11, 5), (14, 8)], 8),
+    (9, &[(9, 3), (10, 3), (11, 3), (14, 6)], 6),
+    (12, &[(14, 5)], 5),
+    (16, &[], 0),
+];
+
 #[test]
-fn a_table_is_searched(rt: HostRuntime) -> Result<(), AllocError> {
-    let cases: [(u64, &[(u64, u64)], u64); 5] = [
-        (0, &[(3, 5), (8, 8), (9, 8), (10, 8), (11, 8), (14, 11)], 11),
-        (4, &[(8, 5), (9, 5), (10, 5), (11, 5), (14, 8)], 8),
-        (9, &[(9, 3), (10, 3), (11, 3), (14, 6)], 6),
-        (12, &[(14, 5)], 5),
-        (16, &[], 0),
-    ];
-    for (first, wanted, looks) in cases {
-        let (numbers, made) = found(rt.alloc(), first.min(16))?;
-        assert!(rt; numbers.as_slice() == wanted, "from {first}");
-        assert_eq!(rt; made, looks, "from {first}");
+fn a_table_is_searched(rt: HostRuntime) {
+    for (first, wanted, looks) in CASES {
+        let given = gives(rt.alloc(), first, wanted);
+        assert!(rt; given == Ok((true, looks)), "from {first}");
     }
-    Ok(())
 }

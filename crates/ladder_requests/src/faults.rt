@@ -1,12 +1,14 @@
 //! The lines of faults, over writers that fail.
 
-use ladder_calls::memory::{ENDS, with_room};
+use crate::requests::written;
+use ladder_calls::memory::{ENDS, End, with_room};
 use ladder_causes::CauseFault;
 use ladder_grid::GridFault;
 use ladder_page::GridRule;
 use ladder_sim::{ReadFault, SimFault, StateFault, WriteFault};
 use ladder_tool::{TextKind, ToolFault, write_fault};
 use ladder_vars::{VarFault, VarRule};
+use std::alloc::Global;
 
 const DUPLICATE: VarFault = VarFault {
     rule: VarRule::Duplicate,
@@ -71,26 +73,41 @@ const LINES: [(ToolFault, &[u8]); 17] = [
     (ToolFault::Usage, b"fault usage\n"),
 ];
 
+/// Whether the writing of a fault fails, and whether it leaves this prefix of the line.
+fn wrote(
+    alloc: Global,
+    fault: &ToolFault,
+    full: (usize, usize, End),
+    prefix: &[u8],
+) -> (bool, bool) {
+    let (room, step, end) = full;
+    let mut writer = with_room(alloc, room, step, end);
+    let fails = write_fault(fault, &mut writer) == Err(WriteFault);
+    let (_, has_prefix) = written(writer, prefix);
+    (fails, has_prefix)
+}
+
+/// Whether a writer that takes so many bytes has as much of the line, with each way to be full, and in pieces of one byte and of many.
+fn is_cut(alloc: Global, fault: &ToolFault, line: &[u8], room: usize) -> bool {
+    let prefix = &line[..room.min(line.len())];
+    let wanted = (room < line.len(), true);
+    for end in ENDS {
+        for step in [1, 1000] {
+            if wrote(alloc, fault, (room, step, end), prefix) != wanted {
+                return false;
+            }
+        }
+    }
+    true
+}
+
 #[test]
 fn leaves_a_prefix_where_the_writer_fails(rt: HostRuntime) {
-    for (fault, line) in LINES {
-        for end in ENDS {
-            // No line is longer.
-            for room in 0..27 {
-                for step in [1, 1000] {
-                    let mut writer = with_room(rt.alloc(), room, step, end);
-                    let wrote = write_fault(&fault, &mut writer);
-                    assert_eq!(rt;
-                        wrote == Err(WriteFault),
-                        room < line.len(),
-                        "{fault:?} at {room}"
-                    );
-                    assert!(rt;
-                        writer.into_inner().bytes.as_slice() == &line[..room.min(line.len())],
-                        "{fault:?} at {room}"
-                    );
-                }
-            }
+    for (number, (fault, line)) in LINES.iter().enumerate() {
+        // No line is longer.
+        for room in 0..27 {
+            let is_cut = is_cut(rt.alloc(), fault, line, room);
+            assert!(rt; is_cut, "in row {number} at {room}");
         }
     }
 }

@@ -1,14 +1,14 @@
 //! Requests, performed over readers in memory.
 
-use crate::requests::{Asked, request};
+use crate::requests::{Asked, request, written};
 use ladder_calls::memory::{End, Hashes, with_room};
 use ladder_text::Reading;
 use ladder_tool::{Readers, perform_files};
 use ladder_words::CommandLine;
-use std::alloc::AllocError;
+use std::alloc::{AllocError, Global};
 
-/// A reader of so many bytes `#` that fails at the call of this number.
-fn hashes(left: usize, failing: usize) -> Reading<Hashes> {
+/// A reader of bytes `#`.
+fn hashes((left, failing): Text) -> Reading<Hashes> {
     Reading::new(Hashes {
         left,
         step: 16_384,
@@ -26,48 +26,69 @@ const PROGRAM: usize = 1_048_576;
 const STIMULUS: usize = 16_777_216;
 
 /// The texts of a program, a state and a stimulus, and the line of the first that can't be read, or of the program's fault.
-const FAULTS: [(Text, Text, Text, &[u8]); 9] = [
-    ((8, 1), (8, 1), (8, 1), b"fault X1 program\n"),
-    ((8, 2), (8, 0), (8, 0), b"fault X1 program\n"),
-    ((PROGRAM + 1, 0), (8, 1), (8, 1), b"fault X5 program\n"),
-    ((PROGRAM, 0), (8, 1), (8, 1), b"fault X1 state\n"),
-    ((8, 0), (8, 2), (STIMULUS + 1, 0), b"fault X1 state\n"),
-    ((8, 0), (PROGRAM + 1, 0), (8, 1), b"fault X5 state\n"),
-    ((8, 0), (PROGRAM, 0), (8, 1), b"fault X1 stimulus\n"),
-    ((8, 0), (8, 0), (STIMULUS + 1, 0), b"fault X5 stimulus\n"),
-    ((8, 0), (8, 0), (STIMULUS, 0), b"fault V2 line 1\n"),
+type Row = ([Text; 3], &'static [u8]);
+
+const FAULTS: [Row; 9] = [
+    ([(8, 1), (8, 1), (8, 1)], b"fault X1 program\n"),
+    ([(8, 2), (8, 0), (8, 0)], b"fault X1 program\n"),
+    ([(PROGRAM + 1, 0), (8, 1), (8, 1)], b"fault X5 program\n"),
+    ([(PROGRAM, 0), (8, 1), (8, 1)], b"fault X1 state\n"),
+    ([(8, 0), (8, 2), (STIMULUS + 1, 0)], b"fault X1 state\n"),
+    ([(8, 0), (PROGRAM + 1, 0), (8, 1)], b"fault X5 state\n"),
+    ([(8, 0), (PROGRAM, 0), (8, 1)], b"fault X1 stimulus\n"),
+    ([(8, 0), (8, 0), (STIMULUS + 1, 0)], b"fault X5 stimulus\n"),
+    ([(8, 0), (8, 0), (STIMULUS, 0)], b"fault V2 line 1\n"),
 ];
 
-#[test]
-fn the_first_text_that_cannot_be_read_is_named(rt: HostRuntime) -> Result<(), AllocError> {
+fn readers(texts: [Text; 3]) -> Readers<Reading<Hashes>> {
+    let [program, state, stimulus] = texts;
+    Readers {
+        program: hashes(program),
+        state: Some(hashes(state)),
+        stimulus: Some(hashes(stimulus)),
+    }
+}
+
+/// What a request leaves: the status, whether the writers of the trace and of the state were called, and whether the one of faults
+/// has this line.
+type Left = (u8, [bool; 2], bool);
+
+fn performed(
+    alloc: Global,
+    asked: &CommandLine,
+    readers: &mut Readers<Reading<Hashes>>,
+    line: &[u8],
+) -> Left {
+    let mut out = with_room(alloc, 0, 1, End::Fails);
+    let mut save = with_room(alloc, 0, 1, End::Fails);
+    let mut err = with_room(alloc, 100, 100, End::Fails);
+    let status = perform_files(alloc, asked, readers, &mut out, &mut save, &mut err);
+    let (is_traced, _) = written(out, b"");
+    let (is_saved, _) = written(save, b"");
+    let (_, has_line) = written(err, line);
+    (status, [is_traced, is_saved], has_line)
+}
+
+fn left(alloc: Global, texts: [Text; 3], line: &[u8]) -> Result<Left, AllocError> {
     let asked = CommandLine {
-        request: request(rt.alloc(), Asked::Saved)?,
+        request: request(alloc, Asked::Saved)?,
         why: false,
     };
-    for (number, (program, state, stimulus, line)) in FAULTS.iter().enumerate() {
-        let mut readers = Readers {
-            program: hashes(program.0, program.1),
-            state: Some(hashes(state.0, state.1)),
-            stimulus: Some(hashes(stimulus.0, stimulus.1)),
-        };
-        let mut out = with_room(rt.alloc(), 0, 1, End::Fails);
-        let mut save = with_room(rt.alloc(), 0, 1, End::Fails);
-        let mut err = with_room(rt.alloc(), 100, 100, End::Fails);
-        let status = perform_files(
-            rt.alloc(),
-            &asked,
-            &mut readers,
-            &mut out,
-            &mut save,
-            &mut err,
-        );
-        assert_eq!(rt; status, 1, "in row {number}");
-        assert_eq!(rt; out.into_inner().calls, 0, "in row {number}");
-        assert_eq!(rt; save.into_inner().calls, 0, "in row {number}");
-        assert!(rt;
-            err.into_inner().bytes.as_slice() == *line,
-            "in row {number}"
-        );
+    let mut readers = readers(texts);
+    Ok(performed(alloc, &asked, &mut readers, line))
+}
+
+/// The number of the first row that leaves something else.
+fn wrong_row(alloc: Global, rows: &[Row]) -> Result<Option<usize>, AllocError> {
+    for (number, (texts, line)) in rows.iter().enumerate() {
+        if left(alloc, *texts, line)? != (1, [false; 2], true) {
+            return Ok(Some(number));
+        }
     }
-    Ok(())
+    Ok(None)
+}
+
+#[test]
+fn the_first_text_that_cannot_be_read_is_named(rt: HostRuntime) {
+    assert_eq!(rt; wrong_row(rt.alloc(), FAULTS.as_slice()), Ok(None));
 }

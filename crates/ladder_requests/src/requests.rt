@@ -1,6 +1,7 @@
 //! Requests, performed over texts and writers in memory.
 
-use ladder_calls::memory::{ENDS, End, with_room};
+use ladder_calls::memory::{ENDS, End, Narrow, with_room};
+use ladder_text::Writing;
 use ladder_tool::{Texts, perform};
 use ladder_words::{
     Form, Grouping, InputOrder, ListRequest, Medium, Request, ShowRequest, SimRequest,
@@ -39,7 +40,7 @@ const USES: &[u8] =
     b"name,use,rung,row,column\nStart,contact,1,1,1\nStop,not_contact,1,1,2\nMotor,contact,1,2,1\nMotor,coil,1,1,3\n";
 
 /// What is asked of the motor.
-#[derive(Clone, Copy, Debug, PartialEq, Eq)]
+#[derive(Clone, Copy)]
 pub(crate) enum Asked {
     Check,
     Uses,
@@ -76,15 +77,11 @@ const AMPLE: Rooms = Rooms {
     end: End::Fails,
 };
 
-/// What a request leaves: the status, how often the state's writer was called, and the bytes of the three writers.
-#[derive(Drop)]
-struct Done {
-    status: u8,
-    calls: usize,
-    out: Vec<u8>,
-    saved: Vec<u8>,
-    err: Vec<u8>,
-}
+/// What a request leaves: the status, whether the state's writer was called, and whether each writer has the text that it is to have.
+type Left = (u8, bool, [bool; 3]);
+
+/// What a request leaves whose state isn't saved, since the writer of another text failed.
+const STOPPED: Left = (1, false, [true; 3]);
 
 /// The inputs that are listed.
 fn listed(alloc: Global) -> Result<Vec<String>, AllocError> {
@@ -94,61 +91,71 @@ fn listed(alloc: Global) -> Result<Vec<String>, AllocError> {
     Ok(inputs)
 }
 
+fn file(alloc: Global) -> Result<String, AllocError> {
+    String::from_str(alloc, "motor.ld")
+}
+
 /// The motor with its inputs.
-fn list(alloc: Global, file: String) -> Result<ListRequest, AllocError> {
+fn list(alloc: Global) -> Result<ListRequest, AllocError> {
     Ok(ListRequest {
         state: None,
         moment: None,
         limit: None,
         quiet: false,
-        file,
+        file: file(alloc)?,
         coil: String::from_str(alloc, "Motor")?,
         all_inputs: false,
         inputs: listed(alloc)?,
     })
 }
 
+fn show(alloc: Global) -> Result<ShowRequest, AllocError> {
+    Ok(ShowRequest {
+        state: None,
+        moment: None,
+        number: None,
+        medium: Medium::Text,
+        coil: None,
+        file: file(alloc)?,
+        all_inputs: false,
+        inputs: listed(alloc)?,
+    })
+}
+
+fn sim(alloc: Global) -> Result<SimRequest, AllocError> {
+    Ok(SimRequest {
+        state: None,
+        save: Some(String::from_str(alloc, "state.csv")?),
+        file: file(alloc)?,
+        stimulus: String::from_str(alloc, "stimulus.csv")?,
+    })
+}
+
 pub(crate) fn request(alloc: Global, asked: Asked) -> Result<Request, AllocError> {
-    let file = String::from_str(alloc, "motor.ld")?;
     match asked {
-        Asked::Check => Ok(Request::Check { file, warns: true }),
-        Asked::Uses => Ok(Request::Uses { file }),
+        Asked::Check => Ok(Request::Check {
+            file: file(alloc)?,
+            warns: true,
+        }),
+        Asked::Uses => Ok(Request::Uses { file: file(alloc)? }),
         Asked::Causes(after) => Ok(Request::Causes {
-            list: list(alloc, file)?,
+            list: list(alloc)?,
             after,
         }),
         Asked::Held => Ok(Request::Held {
-            list: list(alloc, file)?,
+            list: list(alloc)?,
             scans: 3,
             every: 10,
         }),
         Asked::Groups => Ok(Request::Groups {
-            list: list(alloc, file)?,
+            list: list(alloc)?,
             grouping: Grouping {
                 form: Form::Table,
                 order: InputOrder::Given,
             },
         }),
-        Asked::Shown => Ok(Request::Show(ShowRequest {
-            state: None,
-            moment: None,
-            number: None,
-            medium: Medium::Text,
-            coil: None,
-            file,
-            all_inputs: false,
-            inputs: listed(alloc)?,
-        })),
-        Asked::Saved | Asked::Back => {
-            let save = String::from_str(alloc, "state.csv")?;
-            let stimulus = String::from_str(alloc, "stimulus.csv")?;
-            Ok(Request::Sim(SimRequest {
-                state: None,
-                save: Some(save),
-                file,
-                stimulus,
-            }))
-        }
+        Asked::Shown => Ok(Request::Show(show(alloc)?)),
+        Asked::Saved | Asked::Back => Ok(Request::Sim(sim(alloc)?)),
     }
 }
 
@@ -175,25 +182,69 @@ fn texts(alloc: Global, asked: Asked) -> Result<Texts, AllocError> {
     })
 }
 
-fn performed(alloc: Global, asked: Asked, rooms: Rooms) -> Result<Done, AllocError> {
-    let request = request(alloc, asked)?;
-    let texts = texts(alloc, asked)?;
+/// Whether a writer was called, and whether it has this text.
+pub(crate) fn written(writer: Writing<Narrow>, text: &[u8]) -> (bool, bool) {
+    let writer = writer.into_inner();
+    (writer.calls != 0, writer.bytes.as_slice() == text)
+}
+
+fn performed(
+    alloc: Global,
+    request: &Request,
+    texts: &Texts,
+    rooms: Rooms,
+    wanted: [&[u8]; 3],
+) -> Left {
     let mut out = with_room(alloc, rooms.out, rooms.step, rooms.end);
     let mut save = with_room(alloc, rooms.save, rooms.step, rooms.end);
     let mut err = with_room(alloc, rooms.err, rooms.step, rooms.end);
-    let status = perform(alloc, &request, &texts, &mut out, &mut save, &mut err);
-    let save = save.into_inner();
-    Ok(Done {
-        status,
-        calls: save.calls,
-        out: out.into_inner().bytes,
-        saved: save.bytes,
-        err: err.into_inner().bytes,
-    })
+    let status = perform(alloc, request, texts, &mut out, &mut save, &mut err);
+    let (_, has_out) = written(out, wanted[0]);
+    let (is_saved, has_saved) = written(save, wanted[1]);
+    let (_, has_err) = written(err, wanted[2]);
+    (status, is_saved, [has_out, has_saved, has_err])
+}
+
+fn performed_over_texts(
+    alloc: Global,
+    asked: Asked,
+    request: &Request,
+    rooms: Rooms,
+    wanted: [&[u8]; 3],
+) -> Result<Left, AllocError> {
+    let texts = texts(alloc, asked)?;
+    Ok(performed(alloc, request, &texts, rooms, wanted))
+}
+
+/// What is left of a request whose writers are to have these texts.
+fn left(alloc: Global, asked: Asked, rooms: Rooms, wanted: [&[u8]; 3]) -> Result<Left, AllocError> {
+    let request = request(alloc, asked)?;
+    performed_over_texts(alloc, asked, &request, rooms, wanted)
+}
+
+/// Whether a request leaves the same with each way for a writer to be full, and with pieces of one byte and of many.
+fn leaves(
+    alloc: Global,
+    asked: Asked,
+    room: Rooms,
+    texts: [&[u8]; 3],
+    wanted: Left,
+) -> Result<bool, AllocError> {
+    for end in ENDS {
+        for step in [1, 1000] {
+            let rooms = Rooms { step, end, ..room };
+            if left(alloc, asked, rooms, texts)? != wanted {
+                return Ok(false);
+            }
+        }
+    }
+    Ok(true)
 }
 
 /// What is asked, the status, and what is written on each writer.
-const ENDINGS: [(Asked, u8, [&[u8]; 3]); 9] = [
+type Ending = (Asked, u8, [&'static [u8]; 3]);
+
+const ENDINGS: [Ending; 9] = [
     (
         Asked::Check,
         0,
@@ -213,17 +264,20 @@ const ENDINGS: [(Asked, u8, [&[u8]; 3]); 9] = [
     (Asked::Back, 1, [TRACE, b"", b"fault X4 row 4\n"]),
 ];
 
-#[test]
-fn a_request_writes_its_texts(rt: HostRuntime) -> Result<(), AllocError> {
-    for (asked, status, [out, saved, err]) in ENDINGS {
-        let done = performed(rt.alloc(), asked, AMPLE)?;
-        assert_eq!(rt; done.status, status, "{asked:?}");
-        assert_eq!(rt; done.calls == 0, saved.is_empty(), "{asked:?}");
-        assert!(rt; done.out.as_slice() == out, "{asked:?}");
-        assert!(rt; done.saved.as_slice() == saved, "{asked:?}");
-        assert!(rt; done.err.as_slice() == err, "{asked:?}");
+/// The number of the first row whose request ends otherwise.
+fn wrong_row(alloc: Global, rows: &[Ending]) -> Result<Option<usize>, AllocError> {
+    for (number, (asked, status, texts)) in rows.iter().enumerate() {
+        let wanted = (*status, !texts[1].is_empty(), [true; 3]);
+        if left(alloc, *asked, AMPLE, *texts)? != wanted {
+            return Ok(Some(number));
+        }
     }
-    Ok(())
+    Ok(None)
+}
+
+#[test]
+fn a_request_writes_its_texts(rt: HostRuntime) {
+    assert_eq!(rt; wrong_row(rt.alloc(), ENDINGS.as_slice()), Ok(None));
 }
 
 /// A text, and what asks for it.
@@ -237,73 +291,58 @@ const TEXTS: [(Asked, &[u8]); 7] = [
     (Asked::Back, TRACE),
 ];
 
-/// For each text, each byte at which its writer is full and each way to be full.
-#[test]
-fn a_prefix_is_left_where_the_writer_fails(rt: HostRuntime) -> Result<(), AllocError> {
-    for (asked, text) in TEXTS {
-        for end in ENDS {
-            for room in 0..text.len() {
-                for step in [1, 1000] {
-                    let rooms = Rooms {
-                        out: room,
-                        save: usize::MAX,
-                        err: usize::MAX,
-                        step,
-                        end,
-                    };
-                    let done = performed(rt.alloc(), asked, rooms)?;
-                    assert_eq!(rt; done.status, 1, "{asked:?} at {room}");
-                    assert_eq!(rt; done.calls, 0, "{asked:?} at {room}");
-                    assert!(rt; done.out.as_slice() == &text[..room], "{asked:?} at {room}");
-                    assert!(rt;
-                        done.err.as_slice() == b"fault X6\n".as_slice(),
-                        "{asked:?} at {room}"
-                    );
-                }
-            }
+const WRITE_FAULT: &[u8] = b"fault X6\n";
+
+/// The first room of a writer that is left something else than a prefix of the text.
+fn wrong_room(alloc: Global, asked: Asked, text: &[u8]) -> Result<Option<usize>, AllocError> {
+    for room in 0..text.len() {
+        let rooms = Rooms { out: room, ..AMPLE };
+        let prefix = [&text[..room], b"", WRITE_FAULT];
+        if !leaves(alloc, asked, rooms, prefix, STOPPED)? {
+            return Ok(Some(room));
         }
     }
-    Ok(())
+    Ok(None)
+}
+
+/// For each text, each byte at which its writer is full and each way to be full.
+#[test]
+fn a_prefix_is_left_where_the_writer_fails(rt: HostRuntime) {
+    for (number, (asked, text)) in TEXTS.iter().enumerate() {
+        let wrong = wrong_room(rt.alloc(), *asked, text);
+        assert_eq!(rt; wrong, Ok(None), "in row {number}");
+    }
+}
+
+/// The first room of the state's writer that is left something else than a prefix of the state.
+fn wrong_room_of_the_state(alloc: Global) -> Result<Option<usize>, AllocError> {
+    for room in 0..SAVED.len() {
+        let rooms = Rooms {
+            save: room,
+            ..AMPLE
+        };
+        let prefix = [TRACE, &SAVED[..room], WRITE_FAULT];
+        if !leaves(alloc, Asked::Saved, rooms, prefix, (1, true, [true; 3]))? {
+            return Ok(Some(room));
+        }
+    }
+    Ok(None)
 }
 
 /// The trace is whole before its state is saved.
 #[test]
-fn a_prefix_of_the_state_is_saved(rt: HostRuntime) -> Result<(), AllocError> {
-    for end in ENDS {
-        for room in 0..SAVED.len() {
-            for step in [1, 1000] {
-                let rooms = Rooms {
-                    out: usize::MAX,
-                    save: room,
-                    err: usize::MAX,
-                    step,
-                    end,
-                };
-                let done = performed(rt.alloc(), Asked::Saved, rooms)?;
-                assert_eq!(rt; done.status, 1, "at {room}");
-                assert!(rt; done.out.as_slice() == TRACE, "at {room}");
-                assert!(rt; done.saved.as_slice() == &SAVED[..room], "at {room}");
-                assert!(rt;
-                    done.err.as_slice() == b"fault X6\n".as_slice(),
-                    "at {room}"
-                );
-            }
-        }
-    }
-    Ok(())
+fn a_prefix_of_the_state_is_saved(rt: HostRuntime) {
+    assert_eq!(rt; wrong_room_of_the_state(rt.alloc()), Ok(None));
 }
 
 /// The rows are whole where the writer of their count fails, and one that failed after a row goes on after its number.
 #[test]
-fn a_list_goes_on_after_a_number(rt: HostRuntime) -> Result<(), AllocError> {
-    let short = Rooms { err: 4, ..AMPLE };
-    let done = performed(rt.alloc(), Asked::Causes(None), short)?;
-    assert_eq!(rt; done.status, 1);
-    assert!(rt; done.out.as_slice() == ROWS);
-    assert!(rt; done.err.as_slice() == b"rows".as_slice());
-    let short = Rooms { out: 24, ..AMPLE };
-    let done = performed(rt.alloc(), Asked::Causes(None), short)?;
-    assert_eq!(rt; done.status, 1);
-    assert!(rt; done.out.as_slice() == b"number,Start,Stop\n0,0,0\n".as_slice());
-    Ok(())
+fn a_list_goes_on_after_a_number(rt: HostRuntime) {
+    let asked = Asked::Causes(None);
+    let no_count = Rooms { err: 4, ..AMPLE };
+    let counted = left(rt.alloc(), asked, no_count, [ROWS, b"", b"rows"]);
+    let one_row = Rooms { out: 24, ..AMPLE };
+    let row = b"number,Start,Stop\n0,0,0\n".as_slice();
+    let listed = left(rt.alloc(), asked, one_row, [row, b"", WRITE_FAULT]);
+    assert!(rt; [counted, listed] == [Ok(STOPPED); 2]);
 }
