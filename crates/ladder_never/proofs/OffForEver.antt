@@ -25,7 +25,7 @@ use Rattle.ladder_signals.specs.Three.{three, three_known, three_allows}
 use Rattle.ladder_signals.specs.declared.tri.Tri.{Tri}
 use Rattle.ladder_signals.specs.declared.tri.Tri.TheVariants.{Off}
 use Rattle.ladder_never.specs.Never.{Bits, IsOff, IsSetOf, OneScan, after_each, is_in, knowing}
-use Rattle.ladder_never.specs.Cases.{AreNeverOn, IsSettled, IsSettledOff, by_cases, by_scan, pinned, told, with_q}
+use Rattle.ladder_never.specs.Cases.{AllowsState, AreNeverOn, SettledIsOff, is_on_in, IsSettled, IsSettledOff, by_cases, by_scan, pinned, told, with_q}
 use Rattle.ladder_never.specs.declared.point.Point.{Point}
 use Rattle.ladder_never.specs.declared.point.Point.TheVariants.{Variable, Output}
 use Rattle.ladder_never.specs.OutcomeLaws.{q_sound}
@@ -44,13 +44,13 @@ unfolding diagram_of
 diagram_kind p i = kind_of p.decls.instances i
 
 -- as many as the program has, each instance of its kind, and the set OFF
-record Holds (p : Drawing) (z : Bits) (h : Held) : Type 0 where
-  values : length h.values ≡ length p.decls.vars
-  memories : length h.kept.memories ≡ memories_of p
-  shapes : map shape h.kept.blocks ≡ map new_block (map (λ i. i.kind) p.decls.instances)
-  off : IsOff z h
+pub record Holds (p : Drawing) (z : Bits) (h : Held) : Type 0 where
+  pub values : length h.values ≡ length p.decls.vars
+  pub memories : length h.kept.memories ≡ memories_of p
+  pub shapes : map shape h.kept.blocks ≡ map new_block (map (λ i. i.kind) p.decls.instances)
+  pub off : IsOff z h
 
-knowing_allows : (p : Drawing) (z : Bits) → IsSetOf p z → (h : Held) → Holds p z h
+pub knowing_allows : (p : Drawing) (z : Bits) → IsSetOf p z → (h : Held) → Holds p z h
     → BothKnown Allows (λ inst. MayStore ((diagram_of p).kind inst)) (knowing p z) (all_known plain plainly h)
 knowing_allows p z set h holds = record {
   values = values_allow z.variables h.values (set.variables ∙ sym holds.values) holds.off.variables;
@@ -63,10 +63,6 @@ off_by : (x : Tri) (b : Bool) → three_allows x 0 b → x ≡ Off → b ≡ fal
 off_by x b h e = subst (λ (y : Tri). three_allows y 0 b) e h
 
 -- ---- a point in a state
-abbrev is_on_in : Point → Held → Bool
-is_on_in (Variable var) h = get_or h.values var false
-is_on_in (Output inst) h = q_of (get_or h.kept.blocks inst (new_block Ton))
-
 known_allows : (b : Bool) → three_allows (three_known b) 0 b
 known_allows true = refl
 known_allows false = refl
@@ -90,9 +86,6 @@ pin_blocks kind (b ∷ bs) [] h i = absurd h
 pin_blocks kind (b ∷ bs) (s ∷ ss) h zero = (q_pinned (kind 0) b s h.0, h.1)
 pin_blocks kind (b ∷ bs) (s ∷ ss) h (suc i) = (h.0, pin_blocks (λ j. kind (suc j)) bs ss h.1 i)
 
-abbrev AllowsState : Drawing → Known Tri Outcome → Held → Type 0
-AllowsState p k h = BothKnown Allows (λ inst. MayStore ((diagram_of p).kind inst)) k (all_known plain plainly h)
-
 pin_allows : (p : Drawing) (k : Known Tri Outcome) (h : Held) → AllowsState p k h → (point : Point) → AllowsState p (pinned k point (three_known (is_on_in point h))) h
 unfolding pinned
 pin_allows p k h both (Variable var) = record { values = pin_both k.values h.values both.values var; memories = both.memories; blocks = both.blocks }
@@ -114,15 +107,15 @@ either_case true f g = f refl
 either_case false f g = g refl
 
 -- the inputs are given: from then on the scan is one that gives none
-abbrev begun : Drawing → List Bool → Held → Held
+abbrev pub begun : Drawing → List Bool → Held → Held
 begun p inputs h = record { values = given (diagram_of p).inputs inputs h.values; kept = h.kept }
 
-scan_begun : (p : Drawing) (now : ℕ) (inputs : List Bool) (h : Held) → after_scan (diagram_of p) now [] (begun p inputs h) ≡ after_scan (diagram_of p) now inputs h
+pub scan_begun : (p : Drawing) (now : ℕ) (inputs : List Bool) (h : Held) → after_scan (diagram_of p) now [] (begun p inputs h) ≡ after_scan (diagram_of p) now inputs h
 scan_begun p now inputs h =
     let d = diagram_of p in
     ap (λ (values : List Bool). evaluated_from d now d.rungs 0 (record { values = values; kept = h.kept })) (given_none d.inputs (given d.inputs inputs h.values))
 
-holds_begun : (p : Drawing) (z : Bits) → IsSetOf p z → (inputs : List Bool) (h : Held) → Holds p z h → Holds p z (begun p inputs h)
+pub holds_begun : (p : Drawing) (z : Bits) → IsSetOf p z → (inputs : List Bool) (h : Held) → Holds p z h → Holds p z (begun p inputs h)
 unfolding diagram_of
 holds_begun p z set inputs h holds = record {
   values = size-given (map is_input p.decls.vars) inputs h.values ∙ holds.values;
@@ -197,3 +190,8 @@ never_on p sound keeps known s fits standing z set settled off scans =
       shapes = sound_shapes s.kinds s.held.kept.blocks s.moment standing.sound ∙ ap (map new_block) fits.kinds;
       off = off;
     })
+
+pub settled_is_off : (p : Drawing) → IsSound (diagram_of p)
+    → ((now : ℕ) → ScanKeeps (diagram_of p) three plain outcomes plainly Allows (λ inst. MayStore ((diagram_of p).kind inst)) 0 now)
+    → KnownIsScan (diagram_of p) → SettledIsOff p
+settled_is_off p sound keeps known = settled_off p sound keeps known

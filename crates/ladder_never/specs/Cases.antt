@@ -1,14 +1,21 @@
 -- What is settled by cases: a scan over three values, or two of them, one where something is OFF before it and one where it is ON, and so on.
-use Rattle.std.specs.Prelude.{◌≡◌, ℕ, true, false, List, [], slice_index_or, slice_set}
+use Rattle.std.specs.Prelude.{◌≡◌, ℕ, Bool, true, false, List, [], slice_index_or, slice_set}
+use Rattle.ladder_vars.specs.declared.kind.BlockKind.TheVariants.{Ton}
+use Rattle.ladder_elements.specs.Blocks.{q_of, new_block}
+use Rattle.ladder_elements.specs.Relations.{AllowsAt}
+use Rattle.ladder_elements.specs.Truth.{OnePlace, plain}
+use Rattle.ladder_scan.specs.Rung.{Held}
+use Rattle.ladder_scan.specs.Scan.{after_scan}
 use Rattle.ladder_grid.specs.Program.{Drawing}
 use Rattle.ladder_scan.specs.Programs.{diagram_of}
 use Rattle.ladder_scan.specs.Standing.{Standing, Fits, IsStanding}
-use Rattle.ladder_known.specs.KnownScan.{Known, after_known, kept_at}
-use Rattle.ladder_signals.specs.Three.{three, three_known}
+use Rattle.ladder_known.specs.KnownLaws.{BothKnown}
+use Rattle.ladder_known.specs.KnownScan.{Known, after_known, all_known, kept_at, plainly}
+use Rattle.ladder_signals.specs.Three.{AnyTri, three, three_allows, three_known}
 use Rattle.ladder_signals.specs.declared.tri.Tri.{Tri}
 use Rattle.ladder_signals.specs.declared.tri.Tri.TheVariants.{Off}
 use Rattle.ladder_never.specs.Never.{Bits, IsOff, IsSetOf, OneScan, StaysOff, IsWithin, after_each, is_in, knowing}
-use Rattle.ladder_never.specs.Outcomes.{outcomes, q_known}
+use Rattle.ladder_never.specs.Outcomes.{MayStore, outcomes, q_known}
 use Rattle.ladder_never.specs.declared.outcome.Outcome.{Outcome}
 use Rattle.ladder_never.specs.declared.outcome.Outcome.TheVariants.{OfKind, Anything}
 use Rattle.ladder_never.specs.declared.point.Point.{Point}
@@ -53,3 +60,21 @@ pub record IsNever (p : Drawing) (s : Standing) (z : Bits) : Type 0 where
 abbrev pub AreNeverOn : Drawing → Type 0
 AreNeverOn p = (s : Standing) → Fits p s → IsStanding s → (z : Bits) → IsSetOf p z → IsSettledOff p z → IsOff z s.held
     → (scans : List OneScan) → IsOff z (after_each (diagram_of p) scans s.held)
+
+-- ---- one scan
+
+-- A point is ON in this state.
+abbrev pub is_on_in : Point → Held → Bool
+is_on_in (Variable var) h = slice_index_or h.values var false
+is_on_in (Output inst) h = q_of (slice_index_or h.kept.blocks inst (new_block Ton))
+
+-- What is known allows this state: what is known of a value is so, and each instance stores what belongs to its kind, with a Q of which the
+-- same holds.
+abbrev pub AllowsState : Drawing → Known Tri Outcome → Held → Type 0
+AllowsState p k h = BothKnown (AllowsAt AnyTri OnePlace three_allows 0) (λ inst. MayStore ((diagram_of p).kind inst)) k (all_known plain plainly h)
+
+-- A point that is settled to be OFF is OFF after one scan from each state that is allowed, at any moment. The scan gives no input a value, so
+-- that inputs keep theirs.
+abbrev pub SettledIsOff : Drawing → Type 0
+SettledIsOff p = (target : Point) (k : Known Tri Outcome) → IsSettled p target k → (h : Held) → AllowsState p k h → (now : ℕ)
+    → is_on_in target (after_scan (diagram_of p) now [] h) ≡ false

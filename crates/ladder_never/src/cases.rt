@@ -17,13 +17,13 @@ use ladder_signals::Tri;
 
 /// Whether it is settled, and how many scans are left.
 #[derive(Clone, Copy, Debug, PartialEq, Eq)]
-pub(crate) struct Search {
-    pub(crate) is_settled: bool,
-    pub(crate) scans: u32,
+pub struct Search {
+    pub is_settled: bool,
+    pub scans: u32,
 }
 
-/// What is known of the target after a scan.
-fn look(
+/// What is known of the target after a scan from what is known in the case, which is the same afterwards.
+pub fn look(
     program: &Program,
     target: Point,
     case: &Knowledge<Tri, Outcome>,
@@ -43,7 +43,7 @@ fn look(
 }
 
 /// The first of the points that is open, or else their number.
-fn first_open(points: &[Point], case: &Knowledge<Tri, Outcome>) -> usize
+pub fn first_open(points: &[Point], case: &Knowledge<Tri, Outcome>) -> usize
     ensures { result ≤ length points.now }
 {
     for number in 0..points.len() {
@@ -56,7 +56,7 @@ fn first_open(points: &[Point], case: &Knowledge<Tri, Outcome>) -> usize
 
 /// Whether the target is settled to be OFF after a scan from what is known in the case, by at most so many scans, with further cases by
 /// these points. The case is the same afterwards.
-pub(crate) fn settle_off(
+pub fn settle_off(
     program: &Program,
     target: Point,
     points: &[Point],

@@ -47,7 +47,7 @@ fn know_blocks(instances: &[bool], known: &mut Knowledge<Tri, Outcome>)
 }
 
 /// Becomes what is known of a state of the program in which each of the set is OFF.
-pub(crate) fn know(program: &Program, set: &Set, known: &mut Knowledge<Tri, Outcome>)
+pub fn know(program: &Program, set: &Set, known: &mut Knowledge<Tri, Outcome>)
     requires set { IsSetOf program.now set.now }
     requires known { HasSizes program.now known.old }
     ensures known { known.new ≡ knowing program.now set.now }

@@ -3,7 +3,7 @@
 ghost use Rattle.ladder_elements.specs.Relations.{AllowsAt, allows_kept};
 ghost use Rattle.ladder_elements.specs.Truth.{OnePlace};
 ghost use Rattle.ladder_known.specs.KnownScan.{plainly};
-ghost use Rattle.ladder_never.specs.Cases.{AreNeverOn};
+ghost use Rattle.ladder_never.specs.Cases.{AreNeverOn, SettledIsOff};
 ghost use Rattle.ladder_never.specs.OutcomeLaws.{knows_kept, outcomes_grow, outcomes_keep};
 ghost use Rattle.ladder_never.specs.Outcomes.{KnowsMore, MayStore, TellsMore, outcomes};
 ghost use Rattle.ladder_never.specs.Removing.{LeavesOff};
@@ -87,6 +87,16 @@ impl StepRelation for Further {
 /// all memories are open. From a state of the program in which each is OFF, each is OFF after any scans, with any inputs and at any moments.
 pub fn never_on(program: &Program)
     ensures { AreNeverOn program.now }
+{
+    checked(program);
+    scan_keeps::<Allowing>();
+    known_is_scan(program);
+}
+
+/// A point that is settled to be OFF is OFF after a scan from each state that what is known allows, at any moment, where inputs keep their
+/// values.
+pub fn settled_off(program: &Program)
+    ensures { SettledIsOff program.now }
 {
     checked(program);
     scan_keeps::<Allowing>();

@@ -19,8 +19,9 @@ pub(crate) fn is_off(value: Tri) -> bool
     }
 }
 
+/// What is known of a point.
 #[tactic(auto, unfolding(crate::specs::Cases::told))]
-pub(crate) fn told(point: Point, known: &Knowledge<Tri, Outcome>) -> Tri
+pub fn told(point: Point, known: &Knowledge<Tri, Outcome>) -> Tri
     ensures { result ≡ told point known.now }
 {
     match point {
@@ -38,8 +39,9 @@ fn with_q(outcome: Outcome, q: Tri) -> Outcome
     }
 }
 
+/// Knows a value of a point; of an instance of which nothing is known nothing is.
 #[tactic(auto, unfolding(crate::specs::Cases::pinned))]
-pub(crate) fn pin(point: Point, value: Tri, known: &mut Knowledge<Tri, Outcome>)
+pub fn pin(point: Point, value: Tri, known: &mut Knowledge<Tri, Outcome>)
     ensures known { known.new ≡ pinned known.old point value }
     ensures sizes { AreAsLong known.new known.old }
 {

@@ -114,7 +114,7 @@ fn add_jumps(program: &Program, points: &mut [Point], count: usize) -> usize
 }
 
 /// Fills the list with points that the target may depend on, and returns how many there are.
-pub(crate) fn reach(program: &Program, target: Point, points: &mut [Point]) -> usize
+pub fn reach(program: &Program, target: Point, points: &mut [Point]) -> usize
     ensures { result ≤ length points.new }
 {
     let first = add(points, 0, target);

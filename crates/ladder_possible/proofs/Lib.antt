@@ -1,0 +1,4 @@
+pub mod Asking
+pub mod Covering
+pub mod Given
+pub mod Rows

@@ -1,0 +1,27 @@
+use Rattle.std.proofs.Common.{◌≡◌, ◌∙◌, ap, sym, arith, [], false, slice_index_or}
+use Rattle.ladder_scan.specs.Programs.{diagram_of}
+use Rattle.ladder_scan.specs.Rung.{Held}
+use Rattle.ladder_scan.specs.Scan.{after_scan}
+use Rattle.ladder_scan.specs.Standing.{Standing}
+use Rattle.ladder_questions.proofs.Asking.{value_at}
+use Rattle.ladder_possible.specs.declared.content.TheConstants.{MOMENT}
+use Rattle.ladder_possible.proofs.Asking.{cause_is}
+use Rattle.ladder_possible.proofs.candidate.is_switched_on.Goals as goal
+
+pub returns-in-Ok-clause-possible : goal.returns-in-Ok-clause-possible
+returns-in-Ok-clause-possible c = λ on.
+    let p = c.args.asked.program.now in
+    let s = c.args.state.now in
+    let held : c.scan.new.state.held ≡ after_scan (diagram_of p) MOMENT [] s.held =
+    ap (λ (t : Standing). t.held) c.in-Ok.ensures.done ∙ ap (λ (t : Standing). after_scan (diagram_of p) MOMENT [] t.held) c.copy_from.ensures in
+    record {
+      state = s;
+      moment = MOMENT;
+      fits = c.requires.fits;
+      standing = c.checked.ensures;
+      later = omega (arith, c.requires.moment);
+      small = omega arith;
+      cause = cause_is p s MOMENT c.args.asked.coil c.args.asked.listed.now c.args.asked.number c.requires.bits
+          ∙ ap (λ (h : Held). slice_index_or h.values c.args.asked.coil false) (sym held)
+          ∙ value_at c.scan.new.state.held.values c.args.asked.coil c.value.result c.value.ensures ∙ on;
+    }

@@ -1,0 +1,99 @@
+//! A state that may switch the coil on, and whether it does.
+
+ghost use Rattle.std.specs.Prelude.{◌≡◌, ◌<◌, ◌≤◌, ℕ, IsTrue, Some, length, slice_index_or};
+ghost use Rattle.ladder_scan.specs.Standing.{Fits, Standing};
+ghost use Rattle.ladder_possible.specs.Numbers.{HasBits, bit_for};
+ghost use Rattle.ladder_possible.specs.Possible.{IsPossible};
+ghost use Rattle.ladder_possible.specs.Searching.{IsTried};
+ghost use Rattle.ladder_possible.specs.declared.content.TheConstants.{MOMENT};
+
+use crate::asked::{Asked, Tried};
+use crate::content::{MOMENT, content};
+use crate::numbers::bit_for;
+use ladder_glance::{Keep, Knowledge};
+use ladder_grid::Program;
+use ladder_never::Outcome;
+use ladder_scan::{State, scan};
+use ladder_signals::Tri;
+
+/// Gives each variable a value that is allowed by what is known: of a listed input its bit, of another one ON where it must be.
+fn set_values(asked: Asked<'_>, case: &Knowledge<Tri, Outcome>, state: &mut State)
+    requires few { length asked.listed.now ≤ 64 }
+    requires fits { Fits asked.program.now state.old }
+    ensures fits { Fits asked.entry.program.now state.new }
+    ensures moment { state.new.moment ≡ state.old.moment }
+    ensures bits { HasBits asked.entry.listed.now asked.entry.number state.new.held.values }
+{
+    for var in 0..asked.program.decls().vars().len() {
+        let value = match bit_for(asked.listed, var, asked.number) {
+            Some(bit) => bit,
+            None => case.value(var) == Tri::On,
+        };
+        state.set_value(var, value);
+    }
+}
+
+/// Sets each memory that must be ON.
+fn set_memories(program: &Program, case: &Knowledge<Tri, Outcome>, state: &mut State)
+    requires fits { Fits program.now state.old }
+    ensures fits { Fits program.now state.new }
+    ensures moment { state.new.moment ≡ state.old.moment }
+    ensures values { state.new.held.values ≡ state.old.held.values }
+{
+    for number in 0..program.memories() {
+        state.set_memory(number, case.memory(Some(number)) == Tri::On);
+    }
+}
+
+/// Gives each instance a content with the Q that is known.
+fn set_blocks(program: &Program, case: &Knowledge<Tri, Outcome>, state: &mut State)
+    requires fits { Fits program.now state.old }
+    requires moment { state.old.moment ≡ MOMENT }
+    ensures fits { Fits program.now state.new }
+    ensures moment { state.new.moment ≡ MOMENT }
+    ensures values { state.new.held.values ≡ state.old.held.values }
+{
+    let instances = program.decls().instances();
+    for inst in 0..instances.len() {
+        state.checked();
+        let q = case.kept(inst).q() == Tri::On;
+        state.set_block(inst, content(instances[inst].kind, q));
+    }
+}
+
+/// Whether one scan of the state with the number's assignment leaves the coil's variable ON. `scanned` is written over.
+fn is_switched_on(asked: Asked<'_>, state: &State, scanned: &mut State) -> bool
+    requires coil { asked.coil < length asked.program.now.decls.vars }
+    requires fits { Fits asked.program.now state.now }
+    requires moment { state.now.moment ≡ MOMENT }
+    requires bits { HasBits asked.listed.now asked.number state.now.held.values }
+    requires scanned { Fits asked.program.now scanned.old }
+    ensures possible { IsTrue result → IsPossible asked.entry.program.now asked.entry.coil asked.entry.listed.now asked.entry.number }
+    ensures scanned { Fits asked.entry.program.now scanned.new }
+{
+    state.checked();
+    scanned.checked();
+    scanned.copy_from(state);
+    match scan(asked.program, scanned, &[], MOMENT) {
+        Ok(()) => scanned.value(asked.coil),
+        Err(_) => false,
+    }
+}
+
+/// Makes a state that is allowed by what is known, and tries whether it switches the coil on.
+pub(crate) fn is_possible(
+    asked: Asked<'_>,
+    case: &Knowledge<Tri, Outcome>,
+    tried: &mut Tried,
+) -> bool
+    requires few { length asked.listed.now ≤ 64 }
+    requires coil { asked.coil < length asked.program.now.decls.vars }
+    requires tried { IsTried asked.program.now tried.old }
+    ensures possible { IsTrue result → IsPossible asked.entry.program.now asked.entry.coil asked.entry.listed.now asked.entry.number }
+    ensures tried { IsTried asked.entry.program.now tried.new }
+{
+    set_values(asked, case, &mut tried.state);
+    set_memories(asked.program, case, &mut tried.state);
+    set_blocks(asked.program, case, &mut tried.state);
+    is_switched_on(asked, &tried.state, &mut tried.scanned)
+}

@@ -1,0 +1,89 @@
+//! Whether a number is possible.
+
+ghost use Rattle.std.specs.Prelude.{◌≡◌, true};
+ghost use Rattle.ladder_questions.specs.Listable.{IsListable};
+ghost use Rattle.ladder_never.specs.Never.{knowing};
+ghost use Rattle.ladder_possible.specs.Numbers.{IsGiven};
+ghost use Rattle.ladder_possible.specs.Possible.{IsPossible};
+ghost use Rattle.ladder_possible.specs.Searching.{IsSpace};
+ghost use Rattle.ladder_possible.specs.declared.judging.Verdict.TheVariants.{Never, Possible};
+
+use crate::asked::{Asked, Space};
+use crate::numbers::give;
+use crate::seeking::seek;
+use ladder_never::Point;
+use ladder_never::cases::settle_off;
+use ladder_never::knowing::know;
+use ladder_never::laws::settled_off;
+
+/// How many scans over three values a search for one number makes at most, and how many a proof that there is none.
+const SCANS: u32 = 4096;
+
+/// What is settled of a number.
+#[derive(Clone, Copy, Debug, PartialEq, Eq)]
+pub(crate) enum Verdict {
+    /// No state switches the coil on with it.
+    Never,
+    /// Some state does.
+    Possible,
+    /// It isn't settled.
+    Open,
+}
+
+/// Knows what the number gives the listed inputs, and nothing else.
+fn begin(asked: Asked<'_>, space: &mut Space)
+    requires listable { IsListable asked.program.now asked.coil asked.listed.now }
+    requires space { IsSpace asked.program.now space.old }
+    ensures given { IsGiven asked.entry.listed.now asked.entry.number (knowing asked.entry.program.now space.new.knowing.none) space.new.knowing.case }
+    ensures space { IsSpace asked.entry.program.now space.new }
+{
+    let known = &mut space.knowing;
+    know(asked.program, &known.none, &mut known.case);
+    give(
+        asked.listed,
+        asked.number,
+        asked.program.decls().vars().len(),
+        &mut known.case,
+    );
+}
+
+/// Whether no state leaves the coil ON with the number.
+fn is_never(asked: Asked<'_>, points: &[Point], space: &mut Space) -> bool
+    requires listable { IsListable asked.program.now asked.coil asked.listed.now }
+    requires space { IsSpace asked.program.now space.old }
+    ensures never { result ≡ true → IsPossible asked.entry.program.now asked.entry.coil asked.entry.listed.now asked.entry.number → ⊥ }
+    ensures space { IsSpace asked.entry.program.now space.new }
+{
+    settled_off(asked.program);
+    begin(asked, space);
+    let coil = Point::Variable(asked.coil);
+    let search = settle_off(
+        asked.program,
+        coil,
+        points,
+        &mut space.knowing.case,
+        &mut space.knowing.trial,
+        &mut space.knowing.room,
+        SCANS,
+    );
+    search.is_settled
+}
+
+/// What is settled of the number, with cases of these points.
+pub(crate) fn judge(asked: Asked<'_>, points: &[Point], space: &mut Space) -> Verdict
+    requires listable { IsListable asked.program.now asked.coil asked.listed.now }
+    requires space { IsSpace asked.program.now space.old }
+    ensures never { result ≡ Never → IsPossible asked.entry.program.now asked.entry.coil asked.entry.listed.now asked.entry.number → ⊥ }
+    ensures possible { result ≡ Possible → IsPossible asked.entry.program.now asked.entry.coil asked.entry.listed.now asked.entry.number }
+    ensures space { IsSpace asked.entry.program.now space.new }
+{
+    begin(asked, space);
+    if seek(asked, points, space, SCANS).is_found {
+        return Verdict::Possible;
+    }
+    if is_never(asked, points, space) {
+        Verdict::Never
+    } else {
+        Verdict::Open
+    }
+}

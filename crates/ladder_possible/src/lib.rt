@@ -1,0 +1,12 @@
+//! Which assignments of the listed inputs switch a coil on from some state.
+#![tactic(auto)]
+
+mod asked;
+mod candidate;
+mod content;
+mod judging;
+mod numbers;
+mod possible;
+mod seeking;
+
+pub use possible::{PossibleCause, PossibleCauses};

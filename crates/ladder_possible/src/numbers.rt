@@ -1,0 +1,47 @@
+//! What a number gives the listed inputs.
+
+ghost use Rattle.std.specs.Prelude.{◌≡◌, ◌==◌, ◌≤◌, length, position};
+ghost use Rattle.ladder_possible.specs.Numbers.{IsGiven, bit_for};
+
+use ladder_glance::Knowledge;
+use ladder_never::Outcome;
+use ladder_questions::source::{InputSource, bit};
+use ladder_signals::Tri;
+
+fn place_of(listed: &[usize], var: usize) -> Option<usize>
+    ensures { result ≡ position (λ l. l == var) listed.now }
+{
+    listed.iter().position(|l| *l == var)
+}
+
+/// The bit that the number gives a variable, where it is listed.
+pub(crate) fn bit_for(listed: &[usize], var: usize, number: u64) -> Option<bool>
+    requires { length listed.now ≤ 64 }
+    ensures { result ≡ bit_for listed.now number var }
+{
+    match place_of(listed, var) {
+        Some(place) => {
+            let shift = (listed.len() - (place + 1)) as u32;
+            Some(bit(InputSource::Listed { shift }, number))
+        }
+        None => None,
+    }
+}
+
+/// Knows what the number gives the listed inputs.
+pub(crate) fn give(
+    listed: &[usize],
+    number: u64,
+    variables: usize,
+    known: &mut Knowledge<Tri, Outcome>,
+)
+    requires few { length listed.now ≤ 64 }
+    requires variables { length known.old.values ≡ variables }
+    ensures { IsGiven listed.now number known.old known.new }
+{
+    for var in 0..variables {
+        if let Some(value) = bit_for(listed, var, number) {
+            known.put_value(var, if value { Tri::On } else { Tri::Off });
+        }
+    }
+}
