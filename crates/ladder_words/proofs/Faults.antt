@@ -1,14 +1,22 @@
 -- Why the arguments ask for no request.
-use Rattle.std.proofs.Common.{◌≡◌, ◌∙◌, ℕ, Bool, true, false, List, [], Option, None, Some, ap, arith, codes, get_or, inl, inr, map, refl, string_bytes, sym, unwrap_or}
+use Rattle.std.proofs.Common.{◌≡◌, ◌∙◌, ℕ, Bool, true, false, List, [], ◌∷◌, Option, None, Some, ap, arith, bytes_eq, codes, find, get_or, inl, inr, option_and_then, option_map, refl, slice_get, sym, unwrap_or}
 use Rattle.clap.specs.Words.{Row, Text, all_of, first_of}
-use Rattle.ladder_words.specs.Asking.{AsksNone, HasEvery, HasForm, HasInputs, HasLasting, HasNumber, HasScans, HasSwitch, HasOrder, IsNamed, NamesList}
+use Rattle.ladder_words.specs.Asking.{Asks, AsksNone, HasEvery, HasFlag, HasForm, HasInputs, HasLasting, HasNumber, HasOption, HasScans, HasSwitch, HasOrder, IsNamed, IsTable, MayHaveLimit, NamesList}
+use Rattle.ladder_words.specs.Parts.{HasGrouping, IsOfOneScan, IsOfRecords, IsWhole, MayLast, NamesScan, Plays}
 use Rattle.ladder_words.specs.Faults.{UsageWhere}
 use Rattle.ladder_words.specs.declared.request.Form.{Form}
-use Rattle.ladder_words.specs.declared.request.Form.TheVariants.{Table}
+use Rattle.ladder_words.specs.declared.request.Form.TheVariants.{Statement, Table, Terms}
 use Rattle.ladder_words.specs.declared.request.InputOrder.{InputOrder}
-use Rattle.ladder_words.specs.declared.request.InputOrder.TheVariants.{Given}
+use Rattle.ladder_words.specs.declared.request.InputOrder.TheVariants.{Given, Sifted}
 use Rattle.ladder_words.specs.declared.request.ListRequest.{ListRequest}
 use Rattle.ladder_words.specs.declared.words.Lasting.{Lasting}
+use Rattle.ladder_words.specs.declared.words.NamedScan.{NamedScan}
+use Rattle.ladder_words.specs.declared.request.Grouping.{Grouping}
+use Rattle.ladder_words.specs.declared.request.ShowRequest.{ShowRequest}
+use Rattle.ladder_words.specs.declared.request.FilmRequest.{FilmRequest}
+use Rattle.ladder_words.specs.declared.request.SimRequest.{SimRequest}
+use Rattle.ladder_words.specs.declared.request.WavesRequest.{WavesRequest}
+use Rattle.ladder_words.specs.declared.request.NeverRequest.{NeverRequest}
 use Rattle.ladder_words.specs.declared.words.Lasting.TheVariants.{Count, Until}
 use Rattle.ladder_words.specs.declared.request.Request.TheVariants.{Causes, Check, Film, Groups, Held, Never, Show, Sim, Uses, Waves}
 use Rattle.ladder_words.specs.declared.request.WordFault.{WordFault}
@@ -30,175 +38,262 @@ no_order rows text is none o (inr h) =
     let same : h.0 ≡ text = cc in
     none o (rw same at h.2)
 
-pub no_causes_of_form : (rows : List Row) → ((f : Form) → HasForm f rows → ⊥) → AsksNone (codes "causes") rows
-no_causes_of_form rows none (Check file warns) h = let other = h.0 in cc
-no_causes_of_form rows none (Causes list after) h = none Table h.1.1
-no_causes_of_form rows none (Held list scans every) h = none Table h.1.1
-no_causes_of_form rows none (Groups list grouping) h = none grouping.form h.2
-no_causes_of_form rows none (Show r) h = let other = h.0 in cc
-no_causes_of_form rows none (Film r) h = let other = h.0 in cc
-no_causes_of_form rows none (Sim r) h = let other = h.0 in cc
-no_causes_of_form rows none (Waves r) h = let other = h.0 in cc
-no_causes_of_form rows none (Uses file) h = let other = h.0 in cc
-no_causes_of_form rows none (Never r) h = let other = h.0 in cc
+-- A subcommand asks for the requests of its name alone.
+pub no_check : (rows : List Row) → first_of (codes "file") rows ≡ None → AsksNone (codes "check") rows
+no_check rows none (Check file warns) h = let some = h.1 in cc
+no_check rows none (Causes list after) h = let other = h.0 in cc
+no_check rows none (Held list scans every) h = let other = h.0 in cc
+no_check rows none (Groups list grouping) h = let other = h.0 in cc
+no_check rows none (Show r) h = let other = h.0 in cc
+no_check rows none (Film r) h = let other = h.0 in cc
+no_check rows none (Sim r) h = let other = h.0 in cc
+no_check rows none (Waves r) h = let other = h.0 in cc
+no_check rows none (Uses file) h = let other = h.0 in cc
+no_check rows none (Never r) h = let other : 99 ≡ 110 = ap (λ (name : List ℕ). get_or name 0 0) h.0 in absurd (omega (arith, other))
 
-pub no_causes_of_order : (rows : List Row) → ((o : InputOrder) → HasOrder o rows → ⊥) → AsksNone (codes "causes") rows
-no_causes_of_order rows none (Check file warns) h = let other = h.0 in cc
-no_causes_of_order rows none (Causes list after) h = none Given h.1.2
-no_causes_of_order rows none (Held list scans every) h = none Given h.1.2
-no_causes_of_order rows none (Groups list grouping) h = none grouping.order h.3
-no_causes_of_order rows none (Show r) h = let other = h.0 in cc
-no_causes_of_order rows none (Film r) h = let other = h.0 in cc
-no_causes_of_order rows none (Sim r) h = let other = h.0 in cc
-no_causes_of_order rows none (Waves r) h = let other = h.0 in cc
-no_causes_of_order rows none (Uses file) h = let other = h.0 in cc
-no_causes_of_order rows none (Never r) h = let other = h.0 in cc
+pub only_causes : (rows : List Row)
+    → ((list : ListRequest) (after : Option ℕ) → Asks (codes "causes") rows (Causes list after) → ⊥)
+    → ((list : ListRequest) (scans every : ℕ) → Asks (codes "causes") rows (Held list scans every) → ⊥)
+    → ((list : ListRequest) (grouping : Grouping) → Asks (codes "causes") rows (Groups list grouping) → ⊥)
+    → AsksNone (codes "causes") rows
+only_causes rows causes held groups (Check file warns) h = let other = h.0 in cc
+only_causes rows causes held groups (Causes list after) h = causes list after h
+only_causes rows causes held groups (Held list scans every) h = held list scans every h
+only_causes rows causes held groups (Groups list grouping) h = groups list grouping h
+only_causes rows causes held groups (Show r) h = let other = h.0 in cc
+only_causes rows causes held groups (Film r) h = let other = h.0 in cc
+only_causes rows causes held groups (Sim r) h = let other = h.0 in cc
+only_causes rows causes held groups (Waves r) h = let other = h.0 in cc
+only_causes rows causes held groups (Uses file) h = let other = h.0 in cc
+only_causes rows causes held groups (Never r) h = let other : 99 ≡ 110 = ap (λ (name : List ℕ). get_or name 0 0) h.0 in absurd (omega (arith, other))
 
-pub no_causes_of_start : (rows : List Row) → ((o : Option ℕ) → HasNumber (codes "after") rows o → ⊥) → AsksNone (codes "causes") rows
-no_causes_of_start rows none (Check file warns) h = let other = h.0 in cc
-no_causes_of_start rows none (Causes list after) h = none after h.5
-no_causes_of_start rows none (Held list scans every) h = none None h.4
-no_causes_of_start rows none (Groups list grouping) h = none None h.7
-no_causes_of_start rows none (Show r) h = let other = h.0 in cc
-no_causes_of_start rows none (Film r) h = let other = h.0 in cc
-no_causes_of_start rows none (Sim r) h = let other = h.0 in cc
-no_causes_of_start rows none (Waves r) h = let other = h.0 in cc
-no_causes_of_start rows none (Uses file) h = let other = h.0 in cc
-no_causes_of_start rows none (Never r) h = let other = h.0 in cc
+pub only_show : (rows : List Row)
+    → ((r : ShowRequest) → Asks (codes "show") rows (Show r) → ⊥)
+    → ((r : FilmRequest) → Asks (codes "show") rows (Film r) → ⊥)
+    → AsksNone (codes "show") rows
+only_show rows show film (Check file warns) h = let other = h.0 in cc
+only_show rows show film (Causes list after) h = let other = h.0 in cc
+only_show rows show film (Held list scans every) h = let other = h.0 in cc
+only_show rows show film (Groups list grouping) h = let other = h.0 in cc
+only_show rows show film (Show r) h = show r h
+only_show rows show film (Film r) h = film r h
+only_show rows show film (Sim r) h = let other = h.0 in cc
+only_show rows show film (Waves r) h = let other = h.0 in cc
+only_show rows show film (Uses file) h = let other : 115 ≡ 117 = ap (λ (name : List ℕ). get_or name 0 0) h.0 in absurd (omega (arith, other))
+only_show rows show film (Never r) h = let other : 115 ≡ 110 = ap (λ (name : List ℕ). get_or name 0 0) h.0 in absurd (omega (arith, other))
 
-pub no_show_of_moment : (rows : List Row) → ((o : Option ℕ) → HasNumber (codes "at") rows o → ⊥) → AsksNone (codes "show") rows
-no_show_of_moment rows none (Check file warns) h = let other = h.0 in cc
-no_show_of_moment rows none (Causes list after) h = let other = h.0 in cc
-no_show_of_moment rows none (Held list scans every) h = let other = h.0 in cc
-no_show_of_moment rows none (Groups list grouping) h = let other = h.0 in cc
-no_show_of_moment rows none (Show r) h = none r.moment h.3
-no_show_of_moment rows none (Film r) h = none None h.2
-no_show_of_moment rows none (Sim r) h = let other = h.0 in cc
-no_show_of_moment rows none (Waves r) h = let other = h.0 in cc
-no_show_of_moment rows none (Uses file) h = let other : 115 ≡ 117 = ap (λ (name : List ℕ). get_or name 0 0) h.0 in absurd (omega (arith, other))
-no_show_of_moment rows none (Never r) h = let other = h.0 in cc
+pub only_sim : (rows : List Row)
+    → ((r : SimRequest) → Asks (codes "sim") rows (Sim r) → ⊥)
+    → ((r : WavesRequest) → Asks (codes "sim") rows (Waves r) → ⊥)
+    → AsksNone (codes "sim") rows
+only_sim rows sim waves (Check file warns) h = let other = h.0 in cc
+only_sim rows sim waves (Causes list after) h = let other = h.0 in cc
+only_sim rows sim waves (Held list scans every) h = let other = h.0 in cc
+only_sim rows sim waves (Groups list grouping) h = let other = h.0 in cc
+only_sim rows sim waves (Show r) h = let other = h.0 in cc
+only_sim rows sim waves (Film r) h = let other = h.0 in cc
+only_sim rows sim waves (Sim r) h = sim r h
+only_sim rows sim waves (Waves r) h = waves r h
+only_sim rows sim waves (Uses file) h = let other : 115 ≡ 117 = ap (λ (name : List ℕ). get_or name 0 0) h.0 in absurd (omega (arith, other))
+only_sim rows sim waves (Never r) h = let other : 115 ≡ 110 = ap (λ (name : List ℕ). get_or name 0 0) h.0 in absurd (omega (arith, other))
 
-pub no_show_of_number : (rows : List Row) → ((o : Option ℕ) → HasNumber (codes "number") rows o → ⊥) → AsksNone (codes "show") rows
-no_show_of_number rows none (Check file warns) h = let other = h.0 in cc
-no_show_of_number rows none (Causes list after) h = let other = h.0 in cc
-no_show_of_number rows none (Held list scans every) h = let other = h.0 in cc
-no_show_of_number rows none (Groups list grouping) h = let other = h.0 in cc
-no_show_of_number rows none (Show r) h = none r.number h.4
-no_show_of_number rows none (Film r) h = none None h.3
-no_show_of_number rows none (Sim r) h = let other = h.0 in cc
-no_show_of_number rows none (Waves r) h = let other = h.0 in cc
-no_show_of_number rows none (Uses file) h = let other : 115 ≡ 117 = ap (λ (name : List ℕ). get_or name 0 0) h.0 in absurd (omega (arith, other))
-no_show_of_number rows none (Never r) h = let other = h.0 in cc
+pub no_uses : (rows : List Row) → first_of (codes "file") rows ≡ None → AsksNone (codes "uses") rows
+no_uses rows none (Check file warns) h = let other = h.0 in cc
+no_uses rows none (Causes list after) h = let other = h.0 in cc
+no_uses rows none (Held list scans every) h = let other = h.0 in cc
+no_uses rows none (Groups list grouping) h = let other = h.0 in cc
+no_uses rows none (Show r) h = let other : 117 ≡ 115 = ap (λ (name : List ℕ). get_or name 0 0) h.0 in absurd (omega (arith, other))
+no_uses rows none (Film r) h = let other : 117 ≡ 115 = ap (λ (name : List ℕ). get_or name 0 0) h.0 in absurd (omega (arith, other))
+no_uses rows none (Sim r) h = let other : 117 ≡ 115 = ap (λ (name : List ℕ). get_or name 0 0) h.0 in absurd (omega (arith, other))
+no_uses rows none (Waves r) h = let other : 117 ≡ 115 = ap (λ (name : List ℕ). get_or name 0 0) h.0 in absurd (omega (arith, other))
+no_uses rows none (Uses file) h = let some = h.1 in cc
+no_uses rows none (Never r) h = let other : 117 ≡ 110 = ap (λ (name : List ℕ). get_or name 0 0) h.0 in absurd (omega (arith, other))
+
+pub only_never : (rows : List Row)
+    → ((r : NeverRequest) → Asks (codes "never") rows (Never r) → ⊥)
+    → AsksNone (codes "never") rows
+only_never rows never (Check file warns) h = let other : 110 ≡ 99 = ap (λ (name : List ℕ). get_or name 0 0) h.0 in absurd (omega (arith, other))
+only_never rows never (Causes list after) h = let other : 110 ≡ 99 = ap (λ (name : List ℕ). get_or name 0 0) h.0 in absurd (omega (arith, other))
+only_never rows never (Held list scans every) h = let other : 110 ≡ 99 = ap (λ (name : List ℕ). get_or name 0 0) h.0 in absurd (omega (arith, other))
+only_never rows never (Groups list grouping) h = let other : 110 ≡ 99 = ap (λ (name : List ℕ). get_or name 0 0) h.0 in absurd (omega (arith, other))
+only_never rows never (Show r) h = let other : 110 ≡ 115 = ap (λ (name : List ℕ). get_or name 0 0) h.0 in absurd (omega (arith, other))
+only_never rows never (Film r) h = let other : 110 ≡ 115 = ap (λ (name : List ℕ). get_or name 0 0) h.0 in absurd (omega (arith, other))
+only_never rows never (Sim r) h = let other : 110 ≡ 115 = ap (λ (name : List ℕ). get_or name 0 0) h.0 in absurd (omega (arith, other))
+only_never rows never (Waves r) h = let other : 110 ≡ 115 = ap (λ (name : List ℕ). get_or name 0 0) h.0 in absurd (omega (arith, other))
+only_never rows never (Uses file) h = let other : 110 ≡ 117 = ap (λ (name : List ℕ). get_or name 0 0) h.0 in absurd (omega (arith, other))
+only_never rows never (Never r) h = never r h
+
+-- a table of causes
+pub no_table_of_grouping : (rows : List Row) → (HasFlag (codes "grouped") rows → ⊥) → (HasForm Table rows → HasOrder Given rows → ⊥) → AsksNone (codes "causes") rows
+no_table_of_grouping rows single none =
+    only_causes rows (λ list after h. none h.1.1 h.1.2) (λ list scans every h. none h.1.1 h.1.2) (λ list grouping h. single h.1)
+
+lasts : (rows : List Row) (scans every : ℕ) → HasScans scans every rows → (o : Option Lasting) × MayLast o rows
+lasts rows scans every (inl h) = (Some (Count scans), h)
+lasts rows scans every (inr h) = (Some (Until h.1.0), (h.0, h.1.1))
+
+pub no_table_of_lasting : (rows : List Row) → (HasFlag (codes "grouped") rows → ⊥) → ((o : Option Lasting) → MayLast o rows → ⊥) → AsksNone (codes "causes") rows
+no_table_of_lasting rows single none =
+    only_causes rows (λ list after h. none None (h.2, h.3)) (λ list scans every h. let l = lasts rows scans every h.2 in none l.0 l.1) (λ list grouping h. single h.1)
+
+not_several : (rows : List Row) (scans every : ℕ) → MayLast None rows → HasScans scans every rows → ⊥
+not_several rows scans every none (inl h) = let some = h.0.1 in let no = none.0 in cc
+not_several rows scans every none (inr h) = let some = h.1.1.1 in let no = none.1 in cc
+
+-- One scan has none that follows.
+pub no_list_of_every : (rows : List Row) → IsTable rows → MayLast None rows → (HasNumber (codes "every") rows None → ⊥) → AsksNone (codes "causes") rows
+no_list_of_every rows table one none =
+    only_causes rows (λ list after h. none h.4) (λ list scans every h. not_several rows scans every one h.2) (λ list grouping h. table.0 h.1)
+
+pub no_list_of_start : (rows : List Row) → ((o : Option ℕ) → HasNumber (codes "after") rows o → ⊥) → AsksNone (codes "causes") rows
+no_list_of_start rows none =
+    only_causes rows (λ list after h. none after h.5) (λ list scans every h. none None h.4) (λ list grouping h. none None h.7)
 
 pub no_causes_of_list : (rows : List Row) → ((l : ListRequest) → NamesList rows l → ⊥) → AsksNone (codes "causes") rows
-no_causes_of_list rows none (Check file warns) h = let other = h.0 in cc
-no_causes_of_list rows none (Causes list after) h = none list h.6
-no_causes_of_list rows none (Held list scans every) h = none list h.5
-no_causes_of_list rows none (Groups list grouping) h = none list h.9
-no_causes_of_list rows none (Show r) h = let other = h.0 in cc
-no_causes_of_list rows none (Film r) h = let other = h.0 in cc
-no_causes_of_list rows none (Sim r) h = let other = h.0 in cc
-no_causes_of_list rows none (Waves r) h = let other = h.0 in cc
-no_causes_of_list rows none (Uses file) h = let other = h.0 in cc
-no_causes_of_list rows none (Never r) h = let other = h.0 in cc
-
-no_scans : (rows : List Row) → ((o : Option ℕ) → HasNumber (codes "scans") rows o → ⊥) → (scans every : ℕ) → HasScans scans every rows → ⊥
-no_scans rows none scans every (inl h) = none (Some scans) h.0
-no_scans rows none scans every (inr h) = none None h.0
-
-pub no_causes_of_scans : (rows : List Row) → ((o : Option ℕ) → HasNumber (codes "scans") rows o → ⊥) → AsksNone (codes "causes") rows
-no_causes_of_scans rows none (Check file warns) h = let other = h.0 in cc
-no_causes_of_scans rows none (Causes list after) h = none None h.2
-no_causes_of_scans rows none (Held list scans every) h = no_scans rows none scans every h.2
-no_causes_of_scans rows none (Groups list grouping) h = none None h.4
-no_causes_of_scans rows none (Show r) h = let other = h.0 in cc
-no_causes_of_scans rows none (Film r) h = let other = h.0 in cc
-no_causes_of_scans rows none (Sim r) h = let other = h.0 in cc
-no_causes_of_scans rows none (Waves r) h = let other = h.0 in cc
-no_causes_of_scans rows none (Uses file) h = let other = h.0 in cc
-no_causes_of_scans rows none (Never r) h = let other = h.0 in cc
-
-no_time : (rows : List Row) → ((o : Option ℕ) → HasNumber (codes "for") rows o → ⊥) → (scans every : ℕ) → HasScans scans every rows → ⊥
-no_time rows none scans every (inl h) = none None h.1
-no_time rows none scans every (inr h) = none (Some h.1.0) h.1.1
-
-pub no_causes_of_time : (rows : List Row) → ((o : Option ℕ) → HasNumber (codes "for") rows o → ⊥) → AsksNone (codes "causes") rows
-no_causes_of_time rows none (Check file warns) h = let other = h.0 in cc
-no_causes_of_time rows none (Causes list after) h = none None h.3
-no_causes_of_time rows none (Held list scans every) h = no_time rows none scans every h.2
-no_causes_of_time rows none (Groups list grouping) h = none None h.5
-no_causes_of_time rows none (Show r) h = let other = h.0 in cc
-no_causes_of_time rows none (Film r) h = let other = h.0 in cc
-no_causes_of_time rows none (Sim r) h = let other = h.0 in cc
-no_causes_of_time rows none (Waves r) h = let other = h.0 in cc
-no_causes_of_time rows none (Uses file) h = let other = h.0 in cc
-no_causes_of_time rows none (Never r) h = let other = h.0 in cc
-
-given_twice : (rows : List Row) (n time : ℕ) → HasNumber (codes "scans") rows (Some n) → HasNumber (codes "for") rows (Some time)
-    → (scans every : ℕ) → HasScans scans every rows → ⊥
-given_twice rows n time some until scans every (inl h) = let both = h.1 in let given = until.1 in cc
-given_twice rows n time some until scans every (inr h) = let both = h.0 in let given = some.1 in cc
-
--- The number of scans and the time up to which they are made are not both asked for.
-pub no_causes_of_both : (rows : List Row) (n time : ℕ) → HasNumber (codes "scans") rows (Some n) → HasNumber (codes "for") rows (Some time) → AsksNone (codes "causes") rows
-no_causes_of_both rows n time some until (Check file warns) h = let other = h.0 in cc
-no_causes_of_both rows n time some until (Causes list after) h = let both = h.2 in let given = some.1 in cc
-no_causes_of_both rows n time some until (Held list scans every) h = given_twice rows n time some until scans every h.2
-no_causes_of_both rows n time some until (Groups list grouping) h = let both = h.4 in let given = some.1 in cc
-no_causes_of_both rows n time some until (Show r) h = let other = h.0 in cc
-no_causes_of_both rows n time some until (Film r) h = let other = h.0 in cc
-no_causes_of_both rows n time some until (Sim r) h = let other = h.0 in cc
-no_causes_of_both rows n time some until (Waves r) h = let other = h.0 in cc
-no_causes_of_both rows n time some until (Uses file) h = let other = h.0 in cc
-no_causes_of_both rows n time some until (Never r) h = let other = h.0 in cc
-
-pub no_every : (rows : List Row) → ((o : Option ℕ) → HasNumber (codes "every") rows o → ⊥) → (every : ℕ) → HasEvery every rows → ⊥
-no_every rows none every (inl h) = none (Some every) h
-no_every rows none every (inr h) = none None h.0
-
-pub no_causes_of_every : (rows : List Row) → ((o : Option ℕ) → HasNumber (codes "every") rows o → ⊥) → AsksNone (codes "causes") rows
-no_causes_of_every rows none (Check file warns) h = let other = h.0 in cc
-no_causes_of_every rows none (Causes list after) h = none None h.4
-no_causes_of_every rows none (Held list scans every) h = no_every rows none every h.3
-no_causes_of_every rows none (Groups list grouping) h = none None h.6
-no_causes_of_every rows none (Show r) h = let other = h.0 in cc
-no_causes_of_every rows none (Film r) h = let other = h.0 in cc
-no_causes_of_every rows none (Sim r) h = let other = h.0 in cc
-no_causes_of_every rows none (Waves r) h = let other = h.0 in cc
-no_causes_of_every rows none (Uses file) h = let other = h.0 in cc
-no_causes_of_every rows none (Never r) h = let other = h.0 in cc
+no_causes_of_list rows none =
+    only_causes rows (λ list after h. none list h.6) (λ list scans every h. none list h.5) (λ list grouping h. none list h.9)
 
 given_at_all : (rows : List Row) (l : Lasting) → HasLasting l rows → HasNumber (codes "scans") rows None → HasNumber (codes "for") rows None → ⊥
 given_at_all rows (Count n) h none no_time = let given = h.0.1 in cc
 given_at_all rows (Until time) h none no_time = let given = h.1.1 in cc
 
+-- several scans, whose list begins after no number
+pub no_held_of_start : (rows : List Row) (l : Lasting) → HasLasting l rows → (HasNumber (codes "after") rows None → ⊥) → AsksNone (codes "causes") rows
+no_held_of_start rows l some none =
+    only_causes rows (λ list after h. given_at_all rows l some h.2 h.3) (λ list scans every h. none h.4) (λ list grouping h. none h.7)
+
+pub no_every : (rows : List Row) → ((o : Option ℕ) → HasNumber (codes "every") rows o → ⊥) → (every : ℕ) → HasEvery every rows → ⊥
+no_every rows none every (inl h) = none (Some every) h
+no_every rows none every (inr h) = none None h.0
+
 -- The period is asked for beside several scans alone.
-pub no_causes_of_period : (rows : List Row) (l : Lasting) → HasLasting l rows → ((every : ℕ) → HasEvery every rows → ⊥) → AsksNone (codes "causes") rows
-no_causes_of_period rows l some none (Check file warns) h = let other = h.0 in cc
-no_causes_of_period rows l some none (Causes list after) h = given_at_all rows l some h.2 h.3
-no_causes_of_period rows l some none (Held list scans every) h = none every h.3
-no_causes_of_period rows l some none (Groups list grouping) h = given_at_all rows l some h.4 h.5
-no_causes_of_period rows l some none (Show r) h = let other = h.0 in cc
-no_causes_of_period rows l some none (Film r) h = let other = h.0 in cc
-no_causes_of_period rows l some none (Sim r) h = let other = h.0 in cc
-no_causes_of_period rows l some none (Waves r) h = let other = h.0 in cc
-no_causes_of_period rows l some none (Uses file) h = let other = h.0 in cc
-no_causes_of_period rows l some none (Never r) h = let other = h.0 in cc
+pub no_held_of_every : (rows : List Row) (l : Lasting) → HasLasting l rows → ((every : ℕ) → HasEvery every rows → ⊥) → AsksNone (codes "causes") rows
+no_held_of_every rows l some none =
+    only_causes rows (λ list after h. given_at_all rows l some h.2 h.3) (λ list scans every h. none every h.3) (λ list grouping h. given_at_all rows l some h.4 h.5)
 
-pub no_list_of_inputs : (rows : List Row) → ((all : Bool) (names : List Text) → HasInputs rows all names → ⊥) → (l : ListRequest) → NamesList rows l → ⊥
-no_list_of_inputs rows none l h = none l.all_inputs (map string_bytes l.inputs.items) h.6
+pub no_groups_of_scan : (rows : List Row) → HasFlag (codes "grouped") rows → (IsOfOneScan rows → ⊥) → AsksNone (codes "causes") rows
+no_groups_of_scan rows grouped none =
+    only_causes rows (λ list after h. h.1.0 grouped) (λ list scans every h. h.1.0 grouped) (λ list grouping h. none (h.4, h.5, h.6, h.7))
 
-pub no_show_of_inputs : (rows : List Row) → ((all : Bool) (names : List Text) → HasInputs rows all names → ⊥) → AsksNone (codes "show") rows
-no_show_of_inputs rows none (Check file warns) h = let other = h.0 in cc
-no_show_of_inputs rows none (Causes list after) h = let other = h.0 in cc
-no_show_of_inputs rows none (Held list scans every) h = let other = h.0 in cc
-no_show_of_inputs rows none (Groups list grouping) h = let other = h.0 in cc
-no_show_of_inputs rows none (Show r) h = none r.all_inputs (map string_bytes r.inputs.items) h.8
-no_show_of_inputs rows none (Film r) h = none false [] h.4
-no_show_of_inputs rows none (Sim r) h = let other = h.0 in cc
-no_show_of_inputs rows none (Waves r) h = let other = h.0 in cc
-no_show_of_inputs rows none (Uses file) h = let other : 115 ≡ 117 = ap (λ (name : List ℕ). get_or name 0 0) h.0 in absurd (omega (arith, other))
-no_show_of_inputs rows none (Never r) h = let other = h.0 in cc
+-- A statement has no limit, so a list of its groups has none.
+pub may_have_limit : (rows : List Row) (form : Form) (limit : Option ℕ) → IsWhole form rows → HasNumber (codes "limit") rows limit → MayHaveLimit form limit
+may_have_limit rows Table limit whole h = tt
+may_have_limit rows Terms limit whole h = tt
+may_have_limit rows Statement None whole h = refl
+may_have_limit rows Statement (Some n) whole h = let some = h.1 in cc
+
+is_whole : (rows : List Row) (form : Form) (limit : Option ℕ) → MayHaveLimit form limit → HasNumber (codes "limit") rows limit → IsWhole form rows
+is_whole rows Table limit may h = tt
+is_whole rows Terms limit may h = tt
+is_whole rows Statement None may h = h
+is_whole rows Statement (Some n) may h = cc
+
+pub no_groups_of_grouping : (rows : List Row) → HasFlag (codes "grouped") rows → ((g : Grouping) → HasGrouping rows g → ⊥) → AsksNone (codes "causes") rows
+no_groups_of_grouping rows grouped none =
+    only_causes rows (λ list after h. h.1.0 grouped) (λ list scans every h. h.1.0 grouped)
+    (λ list grouping h. none grouping (h.2, h.3, is_whole rows grouping.form list.limit h.8 h.9.2))
+
+-- One form is asked for.
+one_form : (rows : List Row) (a b : Form) → HasForm a rows → HasForm b rows → a ≡ b
+one_form rows Table Table h k = refl
+one_form rows Table Terms h k = absurd (h.0 k.0)
+one_form rows Table Statement h k = absurd (h.1 k.1)
+one_form rows Terms Table h k = absurd (k.0 h.0)
+one_form rows Terms Terms h k = refl
+one_form rows Terms Statement h k = absurd (k.0 h.0)
+one_form rows Statement Table h k = absurd (k.1 h.1)
+one_form rows Statement Terms h k = absurd (h.0 k.0)
+one_form rows Statement Statement h k = refl
+
+pub no_grouping_of_cut : (rows : List Row) (form : Form) → HasForm form rows → (IsWhole form rows → ⊥) → (g : Grouping) → HasGrouping rows g → ⊥
+no_grouping_of_cut rows form has cut g h = let same = one_form rows g.form form h.0 has in cut (rw same at h.2)
+
+pub not_sifted : (rows : List Row) → HasOrder Sifted rows → HasOrder Given rows → ⊥
+not_sifted rows (inl h) given = let other = h.1 in cc
+not_sifted rows (inr h) (inl g) = let some = h.1 in let none = g.0 in cc
+not_sifted rows (inr h) (inr g) =
+    let same : h.0 ≡ g.0 = let some = h.1 in let other = g.1 in cc in
+    let other : 97 ≡ 103 = ap (λ (name : List ℕ). get_or name 0 0) (sym h.2 ∙ same ∙ g.2) in
+    absurd (omega (arith, other))
+
+-- several scans, by their number or by a time
+pub no_lasting_of_scans : (rows : List Row) → ((o : Option ℕ) → HasNumber (codes "scans") rows o → ⊥) → (l : Option Lasting) → MayLast l rows → ⊥
+no_lasting_of_scans rows none None h = none None h.0
+no_lasting_of_scans rows none (Some (Count n)) h = none (Some n) h.0
+no_lasting_of_scans rows none (Some (Until time)) h = none None h.0
+
+pub no_lasting_of_time : (rows : List Row) → ((o : Option ℕ) → HasNumber (codes "for") rows o → ⊥) → (l : Option Lasting) → MayLast l rows → ⊥
+no_lasting_of_time rows none None h = none None h.1
+no_lasting_of_time rows none (Some (Count n)) h = none None h.1
+no_lasting_of_time rows none (Some (Until time)) h = none (Some time) h.1
+
+-- Both are not asked for.
+pub no_lasting_of_both : (rows : List Row) (n time : ℕ) → HasNumber (codes "scans") rows (Some n) → HasNumber (codes "for") rows (Some time)
+    → (l : Option Lasting) → MayLast l rows → ⊥
+no_lasting_of_both rows n time some until None h = let none = h.0 in let given = some.1 in cc
+no_lasting_of_both rows n time some until (Some (Count m)) h = let none = h.1 in let given = until.1 in cc
+no_lasting_of_both rows n time some until (Some (Until m)) h = let none = h.0 in let given = some.1 in cc
+
+-- the parts of a list of causes
+pub no_list_of_limit : (rows : List Row) → ((o : Option ℕ) → HasNumber (codes "limit") rows o → ⊥) → (l : ListRequest) → NamesList rows l → ⊥
+no_list_of_limit rows none l h = none l.limit h.2
+
+pub no_list_of_coil : (rows : List Row) → first_of (codes "coil") rows ≡ None → (l : ListRequest) → NamesList rows l → ⊥
+no_list_of_coil rows none l h = let some = h.5 in cc
+
+pub no_list_of_scan : (rows : List Row) → ((s : NamedScan) → NamesScan rows s → ⊥) → (l : ListRequest) → NamesList rows l → ⊥
+no_list_of_scan rows none l h =
+    none (record { state = l.state; moment = l.moment; file = l.file; all_inputs = l.all_inputs; inputs = l.inputs }) (h.0, h.1, h.4, h.6)
+
+-- a drawing of one scan
+pub no_scan_of_number : (rows : List Row) → HasOption (codes "stimulus") rows None → ((o : Option ℕ) → HasNumber (codes "number") rows o → ⊥) → AsksNone (codes "show") rows
+no_scan_of_number rows one none = only_show rows (λ r h. none r.number h.4) (λ r h. let some = h.1 in cc)
+
+pub no_scan_of_scan : (rows : List Row) → HasOption (codes "stimulus") rows None → ((s : NamedScan) → NamesScan rows s → ⊥) → AsksNone (codes "show") rows
+no_scan_of_scan rows one none =
+    only_show rows
+    (λ r h. none (record { state = r.state; moment = r.moment; file = r.file; all_inputs = r.all_inputs; inputs = r.inputs }) (h.2, h.3, h.7, h.8))
+    (λ r h. let some = h.1 in cc)
+
+-- the drawings of a stimulus
+pub no_film_of_scan : (rows : List Row) → (HasOption (codes "stimulus") rows None → ⊥) → (IsOfRecords rows → ⊥) → AsksNone (codes "show") rows
+no_film_of_scan rows some none = only_show rows (λ r h. some h.1) (λ r h. none (h.2, h.3, h.4))
+
+pub no_film_of_waves : (rows : List Row) → (HasOption (codes "stimulus") rows None → ⊥) → ((w : WavesRequest) → Plays rows w → ⊥) → AsksNone (codes "show") rows
+no_film_of_waves rows some none =
+    only_show rows (λ r h. some h.1) (λ r h. none (record { state = r.state; file = r.file; stimulus = r.stimulus }) (h.5, h.8, h.1))
+
+pub no_sim_of_waves : (rows : List Row) → ((w : WavesRequest) → Plays rows w → ⊥) → AsksNone (codes "sim") rows
+no_sim_of_waves rows none =
+    only_sim rows (λ r h. none (record { state = r.state; file = r.file; stimulus = r.stimulus }) (h.2, h.4, h.5))
+    (λ r h. none r (h.3, h.4, h.5))
+
+-- A state is saved beside a trace.
+pub no_waves_of_save : (rows : List Row) → HasFlag (codes "vcd") rows → (HasOption (codes "save") rows None → ⊥) → AsksNone (codes "sim") rows
+no_waves_of_save rows vcd none = only_sim rows (λ r h. h.1 vcd) (λ r h. none h.2)
+
+-- what is read of a file that is not named
+pub no_never : (rows : List Row) → first_of (codes "file") rows ≡ None → AsksNone (codes "never") rows
+no_never rows none = only_never rows (λ r h. let some = h.3 in cc)
+
+-- the values of an option that was not given
+no_first : (vs : List Text) → slice_get vs 0 ≡ None → vs ≡ []
+no_first [] none = refl
+no_first (v ∷ vs) none = cc
+
+pub no_values : (id : Text) (rows : List Row) → first_of id rows ≡ None → unwrap_or (all_of id rows) [] ≡ []
+no_values id rows none = go (find (λ r. bytes_eq r.id id) rows) none
+  where
+    go : (o : Option Row) → option_and_then (λ (r : Row). slice_get r.values 0) o ≡ None → unwrap_or (option_map (λ (r : Row). r.values) o) [] ≡ []
+    go None e = refl
+    go (Some r) e = no_first r.values e
+
+pub no_value : (id : Text) (rows : List Row) → unwrap_or (all_of id rows) [] ≡ [] → first_of id rows ≡ None
+no_value id rows none = go (find (λ r. bytes_eq r.id id) rows) none
+  where
+    go : (o : Option Row) → unwrap_or (option_map (λ (r : Row). r.values) o) [] ≡ [] → option_and_then (λ (r : Row). slice_get r.values 0) o ≡ None
+    go None e = refl
+    go (Some r) e = ap (λ (vs : List Text). slice_get vs 0) e
 
 -- A flag is given or not.
 pub one_switch : (id : Text) (rows : List Row) (a b : Bool) → HasSwitch id rows a → HasSwitch id rows b → a ≡ b
@@ -206,6 +301,15 @@ one_switch id rows true true h k = refl
 one_switch id rows true false h k = absurd (k h)
 one_switch id rows false true h k = absurd (h k)
 one_switch id rows false false h k = refl
+
+-- No inputs are listed.
+pub lists_none : (rows : List Row) (all : Bool) → HasSwitch (codes "all-inputs") rows all → all ≡ false → first_of (codes "inputs") rows ≡ None → HasInputs rows false []
+lists_none rows true flag named none = cc
+lists_none rows false flag named none = record { flag = flag; named = no_values (codes "inputs") rows none; either = λ (same : false ≡ true). refl }
+
+pub lists_all : (rows : List Row) (all : Bool) → HasSwitch (codes "all-inputs") rows all → all ≡ true → HasInputs rows false [] → ⊥
+lists_all rows true flag set h = h.flag flag
+lists_all rows false flag set h = cc
 
 -- All inputs, and names besides, are listed by no request.
 pub no_inputs : (rows : List Row) (names : List Text) → HasSwitch (codes "all-inputs") rows true → unwrap_or (all_of (codes "inputs") rows) [] ≡ names

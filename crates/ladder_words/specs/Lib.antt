@@ -1,2 +1,3 @@
 pub mod Asking
 pub mod Faults
+pub mod Parts

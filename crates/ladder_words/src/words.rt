@@ -5,6 +5,7 @@ ghost use Rattle.clap.specs.Words.{Row, Text, all_of, first_of, found_of, kind_o
 ghost use Rattle.clap.specs.Words.{fault_of as clap_fault};
 ghost use Rattle.ladder_command.specs.CommandLine.{ladder_app};
 ghost use Rattle.ladder_words.specs.Asking.{Asks, AsksBy, AsksNone, HasEvery, HasFlag, HasForm, HasInputs, HasLasting, HasMedium, HasNumber, HasOrder, HasOption, HasSwitch, IsNamed, IsTable, MayHaveLimit, NamesList, HasScans, Says, scans_until};
+ghost use Rattle.ladder_words.specs.Parts.{HasGrouping, HasSources, IsOfOneScan, IsOfRecords, IsWhole, MayLast, NamesScan, Plays};
 ghost use Rattle.ladder_words.specs.Faults.{IsFaultOf, SaysOf, UsageWhere};
 
 use crate::request::{
@@ -85,21 +86,31 @@ fn request_of(alloc: Global, name: &str, found: &ArgMatches<'_>) -> Result<Reque
     ensures err { IfErr result (UsageWhere (AsksNone name.now (rows_of (found_of found.now)))) }
 {
     match name {
-        "check" => {
-            let file = text(alloc, found, "file")?;
-            let warns = is_set(found, "warn");
-            Ok(Request::Check { file, warns })
-        }
-        "uses" => {
-            let file = text(alloc, found, "file")?;
-            Ok(Request::Uses { file })
-        }
+        "check" => check_request(alloc, found),
+        "uses" => uses_request(alloc, found),
         "never" => never_request(alloc, found),
         "causes" => causes_request(alloc, found),
         "show" => show_request(alloc, found),
         "sim" => sim_request(alloc, found),
         _ => Err(WordFault::Usage),
     }
+}
+
+fn check_request(alloc: Global, found: &ArgMatches<'_>) -> Result<Request, WordFault>
+    ensures ok { IfOk result (Asks (codes "check") (rows_of (found_of found.now))) }
+    ensures err { IfErr result (UsageWhere (AsksNone (codes "check") (rows_of (found_of found.now)))) }
+{
+    let warns = is_set(found, "warn");
+    let file = text(alloc, found, "file")?;
+    Ok(Request::Check { file, warns })
+}
+
+fn uses_request(alloc: Global, found: &ArgMatches<'_>) -> Result<Request, WordFault>
+    ensures ok { IfOk result (Asks (codes "uses") (rows_of (found_of found.now))) }
+    ensures err { IfErr result (UsageWhere (AsksNone (codes "uses") (rows_of (found_of found.now)))) }
+{
+    let file = text(alloc, found, "file")?;
+    Ok(Request::Uses { file })
 }
 
 fn causes_request(alloc: Global, found: &ArgMatches<'_>) -> Result<Request, WordFault>
@@ -117,17 +128,24 @@ fn table_request(alloc: Global, found: &ArgMatches<'_>) -> Result<Request, WordF
     ensures ok { IfOk result (Asks (codes "causes") (rows_of (found_of found.now))) }
     ensures err { IfErr result (UsageWhere (AsksNone (codes "causes") (rows_of (found_of found.now)))) }
 {
-    // A form and an order are those of groups.
-    if form_of(found)? != Form::Table || order_of(found)? != InputOrder::Given {
+    refuse_grouping(found)?;
+    match lasting_of(found)? {
+        None => list_request(alloc, found),
+        Some(lasting) => held_request(alloc, found, lasting),
+    }
+}
+
+/// A form and an order are those of groups.
+fn refuse_grouping(found: &ArgMatches<'_>) -> Result<(), WordFault>
+    ensures ok { IfOk result (λ u. HasForm Form.Table (rows_of (found_of found.now)) × HasOrder InputOrder.Given (rows_of (found_of found.now))) }
+    ensures err { IfErr result (UsageWhere (HasForm Form.Table (rows_of (found_of found.now)) → HasOrder InputOrder.Given (rows_of (found_of found.now)) → ⊥)) }
+{
+    if is_set(found, "terms") || is_set(found, "st") {
         return Err(WordFault::Usage);
     }
-    let scans = number(found, "scans")?;
-    let time = number(found, "for")?;
-    match (scans, time) {
-        (None, None) => list_request(alloc, found),
-        (Some(scans), None) => held_request(alloc, found, Lasting::Count(scans)),
-        (None, Some(time)) => held_request(alloc, found, Lasting::Until(time)),
-        (Some(_), Some(_)) => Err(WordFault::Usage),
+    match order_of(found)? {
+        InputOrder::Given => Ok(()),
+        InputOrder::Sifted => Err(WordFault::Usage),
     }
 }
 
@@ -136,6 +154,21 @@ fn table_request(alloc: Global, found: &ArgMatches<'_>) -> Result<Request, WordF
 enum Lasting {
     Count(u64),
     Until(u64),
+}
+
+/// How long the scans last, where several are asked for.
+fn lasting_of(found: &ArgMatches<'_>) -> Result<Option<Lasting>, WordFault>
+    ensures ok { IfOk result (λ o. MayLast o (rows_of (found_of found.now))) }
+    ensures err { IfErr result (UsageWhere ((o : Option Lasting) → MayLast o (rows_of (found_of found.now)) → ⊥)) }
+{
+    let scans = number(found, "scans")?;
+    let time = number(found, "for")?;
+    match (scans, time) {
+        (None, None) => Ok(None),
+        (Some(scans), None) => Ok(Some(Lasting::Count(scans))),
+        (None, Some(time)) => Ok(Some(Lasting::Until(time))),
+        (Some(_), Some(_)) => Err(WordFault::Usage),
+    }
 }
 
 /// How many scans are made up to a time after the first one's moment, and at it.
@@ -159,18 +192,16 @@ fn count(lasting: Lasting, every: u64) -> u64
 
 fn list_request(alloc: Global, found: &ArgMatches<'_>) -> Result<Request, WordFault>
     requires table { IsTable (rows_of (found_of found.now)) }
-    requires scans { HasNumber (codes "scans") (rows_of (found_of found.now)) None }
-    requires time { HasNumber (codes "for") (rows_of (found_of found.now)) None }
+    requires lasting { MayLast None (rows_of (found_of found.now)) }
     ensures ok { IfOk result (Asks (codes "causes") (rows_of (found_of found.now))) }
     ensures err { IfErr result (UsageWhere (AsksNone (codes "causes") (rows_of (found_of found.now)))) }
 {
     // One scan has none that follows.
-    if number(found, "every")?.is_some() {
+    if is_given(found, "every") {
         return Err(WordFault::Usage);
     }
     let after = number(found, "after")?;
-    let limit = number(found, "limit")?;
-    let list = list_of(alloc, found, limit)?;
+    let list = list_of(alloc, found)?;
     Ok(Request::Causes { list, after })
 }
 
@@ -184,13 +215,12 @@ fn held_request(
     ensures ok { IfOk result (Asks (codes "causes") (rows_of (found_of found.now))) }
     ensures err { IfErr result (UsageWhere (AsksNone (codes "causes") (rows_of (found_of found.now)))) }
 {
-    if number(found, "after")?.is_some() {
+    if is_given(found, "after") {
         return Err(WordFault::Usage);
     }
     let every = every_of(found)?;
-    let limit = number(found, "limit")?;
-    let list = list_of(alloc, found, limit)?;
     let scans = count(lasting, every);
+    let list = list_of(alloc, found)?;
     Ok(Request::Held { list, scans, every })
 }
 
@@ -208,49 +238,107 @@ fn groups_request(alloc: Global, found: &ArgMatches<'_>) -> Result<Request, Word
     ensures ok { IfOk result (Asks (codes "causes") (rows_of (found_of found.now))) }
     ensures err { IfErr result (UsageWhere (AsksNone (codes "causes") (rows_of (found_of found.now)))) }
 {
+    // Groups are those of one scan, and a group has no number, so there is none to begin after.
+    if is_counted(found) {
+        return Err(WordFault::Usage);
+    }
+    let grouping = grouping_of(found)?;
+    let list = list_of(alloc, found)?;
+    Ok(Request::Groups { list, grouping })
+}
+
+/// Whether several scans are asked for, or a number to begin after.
+fn is_counted(found: &ArgMatches<'_>) -> bool
+    ensures one { result ≡ false → IsOfOneScan (rows_of (found_of found.now)) }
+    ensures several { result ≡ true → IsOfOneScan (rows_of (found_of found.now)) → ⊥ }
+{
+    is_given(found, "scans")
+        || is_given(found, "for")
+        || is_given(found, "every")
+        || is_given(found, "after")
+}
+
+/// How the groups are asked for.
+fn grouping_of(found: &ArgMatches<'_>) -> Result<Grouping, WordFault>
+    ensures ok { IfOk result (HasGrouping (rows_of (found_of found.now))) }
+    ensures err { IfErr result (UsageWhere ((g : Grouping) → HasGrouping (rows_of (found_of found.now)) g → ⊥)) }
+{
     let form = form_of(found)?;
     let order = order_of(found)?;
-    let limit = number(found, "limit")?;
-    // Groups are those of one scan.
-    if number(found, "scans")?.is_some() || number(found, "for")?.is_some() {
+    // A statement that is cut off says something else.
+    if is_cut(found, form) {
         return Err(WordFault::Usage);
     }
-    if number(found, "every")?.is_some() {
-        return Err(WordFault::Usage);
-    }
-    // A group has no number, so there is none to begin after; and a statement that is cut off says something else.
-    if number(found, "after")?.is_some() || is_cut(form, limit) {
-        return Err(WordFault::Usage);
-    }
-    let list = list_of(alloc, found, limit)?;
-    Ok(Request::Groups {
-        list,
-        grouping: Grouping { form, order },
-    })
+    Ok(Grouping { form, order })
 }
 
 /// The scan, the coil and the inputs that a list is asked of, with its limit of rows.
-fn list_of(
-    alloc: Global,
-    found: &ArgMatches<'_>,
-    limit: Option<u64>,
-) -> Result<ListRequest, WordFault>
-    requires { HasNumber (codes "limit") (rows_of (found_of found.now)) limit }
+fn list_of(alloc: Global, found: &ArgMatches<'_>) -> Result<ListRequest, WordFault>
     ensures ok { IfOk result (NamesList (rows_of (found_of found.now))) }
-    ensures limit { IfOk result (λ l. l.limit ≡ limit) }
     ensures err { IfErr result (UsageWhere ((l : ListRequest) → NamesList (rows_of (found_of found.now)) l → ⊥)) }
 {
-    let listed = inputs_of(alloc, found)?;
+    let limit = number(found, "limit")?;
+    let quiet = is_set(found, "quiet");
+    let coil = text(alloc, found, "coil")?;
+    let NamedScan {
+        state,
+        moment,
+        file,
+        all_inputs,
+        inputs,
+    } = scan_of(alloc, found)?;
     Ok(ListRequest {
-        state: optional(alloc, found, "state")?,
-        moment: number(found, "at")?,
+        state,
+        moment,
         limit,
-        quiet: is_set(found, "quiet"),
-        file: text(alloc, found, "file")?,
-        coil: text(alloc, found, "coil")?,
-        all_inputs: listed.all,
-        inputs: listed.names,
+        quiet,
+        file,
+        coil,
+        all_inputs,
+        inputs,
     })
+}
+
+/// The scan that is asked of: the state in which it begins, its moment, the program text and the inputs that are listed.
+#[derive(Drop)]
+struct NamedScan {
+    state: Option<String>,
+    moment: Option<u64>,
+    file: String,
+    all_inputs: bool,
+    inputs: Vec<String>,
+}
+
+fn scan_of(alloc: Global, found: &ArgMatches<'_>) -> Result<NamedScan, WordFault>
+    ensures ok { IfOk result (NamesScan (rows_of (found_of found.now))) }
+    ensures err { IfErr result (UsageWhere ((s : NamedScan) → NamesScan (rows_of (found_of found.now)) s → ⊥)) }
+{
+    let moment = number(found, "at")?;
+    let InputNames { all, names } = inputs_of(alloc, found)?;
+    let Sources { state, file } = sources_of(alloc, found)?;
+    Ok(NamedScan {
+        state,
+        moment,
+        file,
+        all_inputs: all,
+        inputs: names,
+    })
+}
+
+/// What is read: the state and the program text.
+#[derive(Drop)]
+struct Sources {
+    state: Option<String>,
+    file: String,
+}
+
+fn sources_of(alloc: Global, found: &ArgMatches<'_>) -> Result<Sources, WordFault>
+    ensures ok { IfOk result (HasSources (rows_of (found_of found.now))) }
+    ensures err { IfErr result (UsageWhere (first_of (codes "file") (rows_of (found_of found.now)) ≡ None)) }
+{
+    let state = optional(alloc, found, "state")?;
+    let file = text(alloc, found, "file")?;
+    Ok(Sources { state, file })
 }
 
 /// The inputs that are listed: all, or those of these names.
@@ -273,12 +361,12 @@ fn inputs_of(alloc: Global, found: &ArgMatches<'_>) -> Result<InputNames, WordFa
 }
 
 /// Whether a statement is to end after so many groups.
-fn is_cut(form: Form, limit: Option<u64>) -> bool
-    ensures whole { result ≡ false → MayHaveLimit form limit }
-    ensures cut { result ≡ true → MayHaveLimit form limit → ⊥ }
+fn is_cut(found: &ArgMatches<'_>, form: Form) -> bool
+    ensures whole { result ≡ false → IsWhole form (rows_of (found_of found.now)) }
+    ensures cut { result ≡ true → IsWhole form (rows_of (found_of found.now)) → ⊥ }
 {
     match form {
-        Form::Statement => limit.is_some(),
+        Form::Statement => is_given(found, "limit"),
         Form::Table | Form::Terms => false,
     }
 }
@@ -323,9 +411,8 @@ fn never_request(alloc: Global, found: &ArgMatches<'_>) -> Result<Request, WordF
     ensures ok { IfOk result (Asks (codes "never") (rows_of (found_of found.now))) }
     ensures err { IfErr result (UsageWhere (AsksNone (codes "never") (rows_of (found_of found.now)))) }
 {
-    let state = optional(alloc, found, "state")?;
     let quiet = is_set(found, "quiet");
-    let file = text(alloc, found, "file")?;
+    let Sources { state, file } = sources_of(alloc, found)?;
     Ok(Request::Never(NeverRequest { state, quiet, file }))
 }
 
@@ -333,10 +420,10 @@ fn show_request(alloc: Global, found: &ArgMatches<'_>) -> Result<Request, WordFa
     ensures ok { IfOk result (Asks (codes "show") (rows_of (found_of found.now))) }
     ensures err { IfErr result (UsageWhere (AsksNone (codes "show") (rows_of (found_of found.now)))) }
 {
-    match optional(alloc, found, "stimulus")? {
-        Some(stimulus) => film_request(alloc, found, stimulus),
-        None => scan_request(alloc, found),
+    if is_given(found, "stimulus") {
+        return film_request(alloc, found);
     }
+    scan_request(alloc, found)
 }
 
 fn scan_request(alloc: Global, found: &ArgMatches<'_>) -> Result<Request, WordFault>
@@ -344,13 +431,16 @@ fn scan_request(alloc: Global, found: &ArgMatches<'_>) -> Result<Request, WordFa
     ensures ok { IfOk result (Asks (codes "show") (rows_of (found_of found.now))) }
     ensures err { IfErr result (UsageWhere (AsksNone (codes "show") (rows_of (found_of found.now)))) }
 {
-    let state = optional(alloc, found, "state")?;
-    let moment = number(found, "at")?;
     let number = number(found, "number")?;
     let medium = medium_of(found);
     let coil = optional(alloc, found, "coil")?;
-    let file = text(alloc, found, "file")?;
-    let listed = inputs_of(alloc, found)?;
+    let NamedScan {
+        state,
+        moment,
+        file,
+        all_inputs,
+        inputs,
+    } = scan_of(alloc, found)?;
     Ok(Request::Show(ShowRequest {
         state,
         moment,
@@ -358,35 +448,50 @@ fn scan_request(alloc: Global, found: &ArgMatches<'_>) -> Result<Request, WordFa
         medium,
         coil,
         file,
-        all_inputs: listed.all,
-        inputs: listed.names,
+        all_inputs,
+        inputs,
     }))
 }
 
-fn film_request(
-    alloc: Global,
-    found: &ArgMatches<'_>,
-    stimulus: String,
-) -> Result<Request, WordFault>
-    requires { HasOption (codes "stimulus") (rows_of (found_of found.now)) (Some (string_bytes stimulus)) }
+fn film_request(alloc: Global, found: &ArgMatches<'_>) -> Result<Request, WordFault>
+    requires { HasOption (codes "stimulus") (rows_of (found_of found.now)) None → ⊥ }
     ensures ok { IfOk result (Asks (codes "show") (rows_of (found_of found.now))) }
     ensures err { IfErr result (UsageWhere (AsksNone (codes "show") (rows_of (found_of found.now)))) }
 {
-    let listed = inputs_of(alloc, found)?;
     // Each record has its moment and its inputs.
-    if number(found, "at")?.is_some() || number(found, "number")?.is_some() {
+    if names_scan(found) {
         return Err(WordFault::Usage);
     }
-    if listed.all || !listed.names.is_empty() {
-        return Err(WordFault::Usage);
-    }
+    let medium = medium_of(found);
+    let explained = optional(alloc, found, "coil")?;
+    let WavesRequest {
+        state,
+        file,
+        stimulus,
+    } = waves_of(alloc, found)?;
     Ok(Request::Film(FilmRequest {
-        state: optional(alloc, found, "state")?,
-        medium: medium_of(found),
-        coil: optional(alloc, found, "coil")?,
-        file: text(alloc, found, "file")?,
+        state,
+        medium,
+        coil: explained,
+        file,
         stimulus,
     }))
+}
+
+/// Whether a moment, a number or inputs are given.
+fn names_scan(found: &ArgMatches<'_>) -> bool
+    ensures none { result ≡ false → IsOfRecords (rows_of (found_of found.now)) }
+    ensures some { result ≡ true → IsOfRecords (rows_of (found_of found.now)) → ⊥ }
+{
+    is_given(found, "at") || is_given(found, "number") || lists_inputs(found)
+}
+
+/// Whether inputs are listed.
+fn lists_inputs(found: &ArgMatches<'_>) -> bool
+    ensures none { result ≡ false → HasInputs (rows_of (found_of found.now)) false [] }
+    ensures some { result ≡ true → HasInputs (rows_of (found_of found.now)) false [] → ⊥ }
+{
+    is_set(found, "all-inputs") || is_given(found, "inputs")
 }
 
 /// How the flag wants a drawing to be written.
@@ -416,14 +521,25 @@ fn waves_request(alloc: Global, found: &ArgMatches<'_>) -> Result<Request, WordF
     ensures err { IfErr result (UsageWhere (AsksNone (codes "sim") (rows_of (found_of found.now)))) }
 {
     // A state is saved beside a trace.
-    if optional(alloc, found, "save")?.is_some() {
+    if is_given(found, "save") {
         return Err(WordFault::Usage);
     }
-    Ok(Request::Waves(WavesRequest {
-        state: optional(alloc, found, "state")?,
-        file: text(alloc, found, "file")?,
-        stimulus: text(alloc, found, "stimulus")?,
-    }))
+    let waves = waves_of(alloc, found)?;
+    Ok(Request::Waves(waves))
+}
+
+/// What is asked of a stimulus: the state in which the first scan begins, the program text and the stimulus itself.
+fn waves_of(alloc: Global, found: &ArgMatches<'_>) -> Result<WavesRequest, WordFault>
+    ensures ok { IfOk result (Plays (rows_of (found_of found.now))) }
+    ensures err { IfErr result (UsageWhere ((w : WavesRequest) → Plays (rows_of (found_of found.now)) w → ⊥)) }
+{
+    let stimulus = text(alloc, found, "stimulus")?;
+    let Sources { state, file } = sources_of(alloc, found)?;
+    Ok(WavesRequest {
+        state,
+        file,
+        stimulus,
+    })
 }
 
 fn trace_request(alloc: Global, found: &ArgMatches<'_>) -> Result<Request, WordFault>
@@ -431,10 +547,12 @@ fn trace_request(alloc: Global, found: &ArgMatches<'_>) -> Result<Request, WordF
     ensures ok { IfOk result (Asks (codes "sim") (rows_of (found_of found.now))) }
     ensures err { IfErr result (UsageWhere (AsksNone (codes "sim") (rows_of (found_of found.now)))) }
 {
-    let state = optional(alloc, found, "state")?;
     let save = optional(alloc, found, "save")?;
-    let file = text(alloc, found, "file")?;
-    let stimulus = text(alloc, found, "stimulus")?;
+    let WavesRequest {
+        state,
+        file,
+        stimulus,
+    } = waves_of(alloc, found)?;
     Ok(Request::Sim(SimRequest {
         state,
         save,
@@ -451,6 +569,14 @@ fn is_set(found: &ArgMatches<'_>, id: &str) -> bool
         Some(text) => text == "true",
         None => false,
     }
+}
+
+/// Whether an option was given.
+fn is_given(found: &ArgMatches<'_>, id: &str) -> bool
+    ensures absent { result ≡ false → HasOption id.now (rows_of (found_of found.now)) None × HasNumber id.now (rows_of (found_of found.now)) None }
+    ensures given { result ≡ true → (HasOption id.now (rows_of (found_of found.now)) None → ⊥) × (HasNumber id.now (rows_of (found_of found.now)) None → ⊥) }
+{
+    found.get_str(id).is_some()
 }
 
 /// The text of an option, where it was given.

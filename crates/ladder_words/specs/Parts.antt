@@ -1,0 +1,55 @@
+-- What is read of the parts of a request.
+use Rattle.std.specs.Prelude.{⊤, false, List, Option, None, Some, map, codes, string_bytes, option_map, []}
+use Rattle.clap.specs.Words.{Row}
+use Rattle.ladder_words.specs.Asking.{HasForm, HasInputs, HasLasting, HasNumber, HasOption, HasOrder, HasText}
+use Rattle.ladder_words.specs.declared.words.Lasting.{Lasting}
+use Rattle.ladder_words.specs.declared.words.NamedScan.{NamedScan}
+use Rattle.ladder_words.specs.declared.words.Sources.{Sources}
+use Rattle.ladder_words.specs.declared.request.Form.{Form}
+use Rattle.ladder_words.specs.declared.request.Form.TheVariants.{Statement}
+use Rattle.ladder_words.specs.declared.request.Grouping.{Grouping}
+use Rattle.ladder_words.specs.declared.request.WavesRequest.{WavesRequest}
+
+-- the state and the program text
+abbrev pub HasSources : List Row → Sources → Type 0
+HasSources rows s = HasOption (codes "state") rows (option_map string_bytes s.state) × HasText (codes "file") rows (string_bytes s.file)
+
+-- the scan, and the inputs that are listed
+abbrev pub NamesScan : List Row → NamedScan → Type 0
+NamesScan rows s = HasOption (codes "state") rows (option_map string_bytes s.state)
+    × HasNumber (codes "at") rows s.moment
+    × HasText (codes "file") rows (string_bytes s.file)
+    × HasInputs rows s.all_inputs (map string_bytes s.inputs.items)
+
+-- a stimulus, with the state in which its first scan begins
+abbrev pub Plays : List Row → WavesRequest → Type 0
+Plays rows w = HasOption (codes "state") rows (option_map string_bytes w.state)
+    × HasText (codes "file") rows (string_bytes w.file)
+    × HasText (codes "stimulus") rows (string_bytes w.stimulus)
+
+-- Each record of a stimulus has its own moment and inputs, so none are given besides.
+abbrev pub IsOfRecords : List Row → Type 0
+IsOfRecords rows = HasNumber (codes "at") rows None × HasNumber (codes "number") rows None × HasInputs rows false []
+
+-- One scan is asked for, and no number to begin after.
+abbrev pub IsOfOneScan : List Row → Type 0
+IsOfOneScan rows = HasNumber (codes "scans") rows None
+    × HasNumber (codes "for") rows None
+    × HasNumber (codes "every") rows None
+    × HasNumber (codes "after") rows None
+
+-- how long the scans last, where there are several
+abbrev pub MayLast : Option Lasting → List Row → Type 0
+MayLast None rows = HasNumber (codes "scans") rows None × HasNumber (codes "for") rows None
+MayLast (Some lasting) rows = HasLasting lasting rows
+
+-- A statement has no limit.
+abbrev pub IsWhole : Form → List Row → Type 0
+IsWhole Statement rows = HasNumber (codes "limit") rows None
+IsWhole form rows = ⊤
+
+-- how groups are asked for
+abbrev pub HasGrouping : List Row → Grouping → Type 0
+HasGrouping rows g = HasForm g.form rows
+    × HasOrder g.order rows
+    × IsWhole g.form rows
