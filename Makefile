@@ -22,6 +22,7 @@ test:
 	rt ci
 	python3 tests/end_to_end.py $(PROGRAM)
 	python3 tests/documents.py $(PROGRAM)
+	python3 tests/pages.py
 	python3 tests/completions.py $(PROGRAM)
 	python3 tests/growth.py $(PROGRAM)
 	python3 tests/saving.py $(PROGRAM)

@@ -1,4 +1,5 @@
 pub mod Below
 pub mod RouteLaws
 pub mod Rows
+pub mod SimilarRows
 pub mod WayLaws

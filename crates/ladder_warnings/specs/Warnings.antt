@@ -1,9 +1,11 @@
 -- What a drawing that breaks no rule has, and most likely does not mean.
 -- Rungs, rows and columns are counted from 0. Places go by rung, column and row.
-use Rattle.std.specs.Prelude.{◌∷◌, ◌+◌, ◌-◌, ◌/◌, ◌%◌, ◌==◌, ◌&&◌, ◌||◌, not, nat_le, nat_lt, ℕ, zero, suc, List, [], Bool, true, false, if◌then◌else◌, Option, Some, None, codes, decimal, length, slice_get}
+use Rattle.std.specs.Prelude.{◌∷◌, ◌++◌, ◌+◌, ◌-◌, ◌/◌, ◌%◌, ◌==◌, ◌&&◌, ◌||◌, not, nat_le, nat_lt, ℕ, zero, suc, List, [], Bool, true, false, if◌then◌else◌, Option, Some, None, codes, decimal, drop, length, min, slice_get, slice_index_or, take}
+use Rattle.std.specs.Char.{is_ascii_digit}
 use Rattle.std.specs.List.{flat_map, list_any, range_with_len}
 use Rattle.std.specs.Option.{option_map_or}
-use Rattle.ladder_vars.specs.Decls.{Declared, is_input}
+use Rattle.ladder_vars.specs.Name.{same_letters}
+use Rattle.ladder_vars.specs.Decls.{Declared, is_input, names_of}
 use Rattle.ladder_vars.specs.declared.decls.Symbol.{Symbol}
 use Rattle.ladder_vars.specs.declared.decls.Symbol.TheVariants as symbol
 use Rattle.ladder_vars.specs.declared.decls.Var.{Var}
@@ -262,5 +264,58 @@ unfoldable pub rows_at : Drawing → ℕ → List Fields
 rows_at d n = flat_map (row_if_warned d n) all_warnings
 
 -- A row for each warning of each place, in the order of places.
+unfoldable pub place_rows : Drawing → List Fields
+place_rows d = flat_map (rows_at d) (range_with_len 0 (length d.sites))
+
+-- ---- names that are similar
+
+-- The first text is the other with its first character replaced. Neither character is a digit, and more follows them: the last letter of
+-- PumpA and PumpB numbers, as a digit does.
+abbrev pub replaces_first : List ℕ → List ℕ → Bool
+replaces_first a b =
+    elim a [
+      | old ∷ behind ↦ elim b [ new ∷ after ↦ not (is_ascii_digit old) && (not (is_ascii_digit new) && (nat_le 1 (length behind) && same_letters behind after)) | [] ↦ false ]
+      | [] ↦ false
+    ]
+
+-- The first text is the other with a character before it that is no digit.
+abbrev pub adds_first : List ℕ → List ℕ → Bool
+adds_first a b = elim a [ added ∷ behind ↦ not (is_ascii_digit added) && same_letters behind b | [] ↦ false ]
+
+-- Up to a place the names are the same. There one character is replaced, added or left out, and behind it they are the same again.
+abbrev pub differ_at : List ℕ → List ℕ → ℕ → Bool
+differ_at a b n =
+    same_letters (take n a) (take n b)
+    && (replaces_first (drop n a) (drop n b) || (adds_first (drop n a) (drop n b) || adds_first (drop n b) (drop n a)))
+
+-- Two names that differ by one character, whatever the case of letters. One has 4 characters at least: shorter names are told apart at a glance.
+abbrev pub are_similar : List ℕ → List ℕ → Bool
+are_similar a b =
+    (nat_le 4 (length a) || nat_le 4 (length b)) && (not (same_letters a b) && some_below (differ_at a b) (min (length a) (length b) + 1))
+
+-- the name with a number: variables come first, then instances, each in order of declaration
+abbrev pub name_at_number : Declared → ℕ → List ℕ
+name_at_number declared n = slice_index_or (names_of declared) n []
+
+-- The row of two names. It is about their declarations, and so about no rung, row or column.
+abbrev pub similar_row : List ℕ → List ℕ → Fields
+similar_row name earlier = codes "warning" ∷ codes "similar_names" ∷ [] ∷ [] ∷ [] ∷ (name ++ (codes " " ++ earlier)) ∷ []
+
+abbrev pub row_if_similar : List ℕ → List ℕ → List Fields
+row_if_similar name earlier = if are_similar name earlier then similar_row name earlier ∷ [] else []
+
+-- the row of two names by their numbers, where they are similar
+abbrev pub row_of_names : Declared → ℕ → ℕ → List Fields
+row_of_names declared n earlier = row_if_similar (name_at_number declared n) (name_at_number declared earlier)
+
+-- the rows of a name with those before it
+unfoldable pub rows_of_name : Declared → ℕ → List Fields
+rows_of_name declared n = flat_map (row_of_names declared n) (range_with_len 0 n)
+
+-- A row for each two names that are similar.
+unfoldable pub name_rows : Declared → List Fields
+name_rows declared = flat_map (rows_of_name declared) (range_with_len 0 (length (names_of declared)))
+
+-- All rows: those of names, and then those of places.
 unfoldable pub warning_rows : Drawing → List Fields
-warning_rows d = flat_map (rows_at d) (range_with_len 0 (length d.sites))
+warning_rows d = name_rows d.decls ++ place_rows d

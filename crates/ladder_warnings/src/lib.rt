@@ -4,8 +4,10 @@
 mod apart;
 pub mod laws;
 mod leading;
+mod names;
 mod places;
 mod reaching;
+mod similar;
 mod symbols;
 mod warning;
 mod wired;

@@ -1,12 +1,13 @@
 //! The writing of the warnings of a program.
 
 ghost use Rattle.std.specs.Prelude.{◌≡◌, ◌*◌, ◌<◌, ◌≤◌, ◌∷◌, [], IfOk, codes, length};
-ghost use Rattle.ladder_page.specs.declared.geometry.TheConstants.{PLACES};
+ghost use Rattle.ladder_page.specs.declared.geometry.TheConstants.{PLACES, RUNGS};
 ghost use Rattle.ladder_records.specs.Text.{line_text, lines_text};
 ghost use Rattle.ladder_text.specs.Block.{Sends};
 ghost use Rattle.ladder_text.specs.Log.{Puts};
-ghost use Rattle.ladder_warnings.specs.Warnings.{name_of, row_if_warned, rows_at, warned_name, warning_row, warning_rows};
+ghost use Rattle.ladder_warnings.specs.Warnings.{name_of, place_rows, row_if_warned, rows_at, warned_name, warning_row, warning_rows};
 
+use crate::names::add_names;
 use crate::places::{cell_in, is_warned};
 use crate::symbols::symbol_of;
 use crate::warning::Warning;
@@ -132,8 +133,9 @@ fn add_places<W: Sink>(
     program: &Program,
     writer: &mut W,
 ) -> Result<u64, WriteFault>
-    ensures sends { Sends (W.log writer.old) (W.log writer.new) block.old block.new result (lines_text (warning_rows program.now)) }
-    ensures count { IfOk result (λ n. n ≡ length (warning_rows program.now)) }
+    ensures sends { Sends (W.log writer.old) (W.log writer.new) block.old block.new result (lines_text (place_rows program.now)) }
+    ensures count { IfOk result (λ n. n ≡ length (place_rows program.now)) }
+    ensures few { IfOk result (λ n. n ≤ 7 * (PLACES * RUNGS)) }
 {
     let mut rows = 0u64;
     for place in 0..PLACES * program.rungs() {
@@ -143,7 +145,7 @@ fn add_places<W: Sink>(
     Ok(rows)
 }
 
-/// Writes a row for each warning of a program, by rung, column and row, and returns how many. There is no header, and so nothing is
+/// Writes a row for each warning of a program, first of its names and then by rung, column and row, and returns how many. There is no header, and so nothing is
 /// written where nothing is warned of. It needs no memory.
 ///
 /// # Errors
@@ -154,7 +156,8 @@ pub fn write_warnings<W: Sink>(program: &Program, writer: &mut W) -> Result<u64,
     ensures rows { IfOk result (λ n. n ≡ length (warning_rows program.now)) }
 {
     let mut block = Block::new();
-    let rows = add_places(&mut block, program, writer)?;
+    let names = add_names(&mut block, program.decls(), writer)?;
+    let places = add_places(&mut block, program, writer)?;
     block.flush(writer)?;
-    Ok(rows)
+    Ok(names + places)
 }

@@ -4,12 +4,12 @@ use Rattle.std.proofs.lemmas.List.FromFn.{length-range_with_len}
 use Rattle.ladder_records.specs.Text.{lines_text}
 use Rattle.ladder_text.specs.Block.{SendsAll}
 use Rattle.ladder_text.proofs.Sending.{sends_err}
-use Rattle.ladder_warnings.specs.Warnings.{rows_at, warning_rows}
+use Rattle.ladder_warnings.specs.Warnings.{rows_at, place_rows}
 use Rattle.ladder_warnings.proofs.Rows.{number_at, rows_apart, rows_more, rows_prefix, rows_sent}
 use Rattle.ladder_warnings.proofs.write.add_places.Goals as goal
 
 pub returns-in_err-more-clause-sends : goal.returns-in_err-more-clause-sends
-unfolding warning_rows
+unfolding place_rows
 returns-in_err-more-clause-sends g c = sends_err _ _ _ _ _ _ c.from_residual.ensures.0
     (let p = c.args.program.now in
     let i = c.loop-place.place in
@@ -32,7 +32,7 @@ loop-place-preserved g c =
     )
 
 pub returns-clause-sends : goal.returns-clause-sends
-unfolding warning_rows
+unfolding place_rows
 returns-clause-sends g c =
     let p = c.args.program.now in
     let places = range_with_len 0 (length p.sites) in
@@ -41,7 +41,7 @@ returns-clause-sends g c =
     all c.loop-place.invariant.0
 
 pub returns-clause-count : goal.returns-clause-count
-unfolding warning_rows
+unfolding place_rows
 returns-clause-count g c =
     let p = c.args.program.now in
     let places = range_with_len 0 (length p.sites) in

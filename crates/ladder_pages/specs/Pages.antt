@@ -1,0 +1,15 @@
+-- The codes of the faults.
+use Rattle.std.specs.Prelude.{ℕ, Bool, List, [], ◌∷◌, codes, is_some, position}
+use Rattle.std.specs.Str.{bytes_eq}
+
+abbrev pub fault_codes : List (List ℕ)
+fault_codes =
+    codes "V1" ∷ codes "V2" ∷ codes "V3" ∷ codes "V4" ∷ codes "V5" ∷ codes "V6" ∷ codes "V7" ∷ codes "V8" ∷ codes "V9"
+    ∷ codes "G1" ∷ codes "G2" ∷ codes "G3" ∷ codes "G4" ∷ codes "G5" ∷ codes "G6" ∷ codes "G7" ∷ codes "G8" ∷ codes "G9" ∷ codes "G10"
+    ∷ codes "G11" ∷ codes "G12" ∷ codes "G13" ∷ codes "G14" ∷ codes "G15"
+    ∷ codes "C1" ∷ codes "C2" ∷ codes "C3" ∷ codes "C4" ∷ codes "C5" ∷ codes "C6" ∷ codes "C7" ∷ codes "C8" ∷ codes "S1"
+    ∷ codes "X1" ∷ codes "X2" ∷ codes "X3" ∷ codes "X4" ∷ codes "X5" ∷ codes "X6" ∷ codes "X7" ∷ codes "usage" ∷ []
+
+-- The text is one of the codes.
+abbrev pub is_fault_code : List ℕ → Bool
+is_fault_code code = is_some (position (λ c. bytes_eq code c) fault_codes)

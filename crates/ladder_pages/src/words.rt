@@ -1,0 +1,42 @@
+//! The pages of a part of docs/FAULTS.md: Words. `tests/pages.py --write` writes this file.
+
+pub(crate) const USAGE: &str = "\
+usage: the arguments are not those of a request
+
+The status is 2. A subcommand, a file or a coil is missing, an option is unknown, a number isn't one, or options don't go together. `--after` isn't for `--grouped`: the rows of a grouped list have no numbers to begin after. `--terms` and `--st` are forms of a grouped list, so they want `--grouped`, and only one of them; and a statement (`--st`) has no `--limit`, since one that is cut off says something else. `--order` is `auto` or `given`, and for a grouped list too. `show` has one row, so neither `--after` nor `--limit`: the row is `--number`. With `--stimulus` it has the moments and inputs of the records, so neither `--at` nor `--number` nor an INPUT. `--scans` and `--for` are not for `--grouped` and not for `--after`, and one stands in place of the other; `--every` wants one of them. `--all-inputs` stands in place of the names of inputs, not beside them. A state is saved beside a trace, so `--save` isn't for `--vcd`. The state of `--save` can't go to the program, to the stimulus, or to the file that standard output goes to; it may go to the file that it was read from. `ladder help`, and `--help` after a subcommand, describe the arguments.
+
+```console
+$ ladder causes motor.ld
+fault usage
+$ echo $?
+2
+$ ladder check --state state.csv motor.ld
+fault usage
+$ ladder causes --grouped --after 1 motor.ld Motor
+fault usage
+$ ladder causes --st motor.ld Motor
+fault usage
+$ ladder causes --grouped --st --limit 1 motor.ld Motor
+fault usage
+$ ladder causes --scans 10 --grouped motor.ld Motor
+fault usage
+$ ladder sim --save motor.ld motor.ld stimulus.csv
+fault usage
+```
+
+Corrected:
+
+```console
+$ ladder causes motor.ld Motor
+number
+rows 0 looks 1
+$ ladder causes --grouped motor.ld Motor
+causes
+rows 0 causes 0
+$ ladder causes --grouped --st motor.ld Motor
+Motor := FALSE;
+rows 0 causes 0
+$ ladder check motor.ld
+rungs 1 variables 4 instances 0
+```
+";

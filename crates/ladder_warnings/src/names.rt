@@ -1,0 +1,110 @@
+//! The writing of the names that are similar to others.
+
+ghost use Rattle.std.specs.Prelude.{◌≡◌, ◌<◌, ◌≤◌, ◌*◌, ◌∷◌, IfOk, [], length};
+ghost use Rattle.ladder_vars.specs.Decls.{names_of};
+ghost use Rattle.ladder_records.specs.Text.{lines_text};
+ghost use Rattle.ladder_text.specs.Block.{Sends};
+ghost use Rattle.ladder_warnings.specs.Warnings.{name_at_number, name_rows, row_of_names, rows_of_name, similar_row};
+
+use crate::similar::are_similar;
+use ladder_text::{Block, Piece, Sink, WriteFault, add_pieces};
+use ladder_vars::Decls;
+
+/// How many names are declared.
+fn count_names(decls: &Decls) -> usize
+    ensures value { result ≡ length (names_of decls.now) }
+    ensures few { result ≤ 320 }
+{
+    decls.vars().len() + decls.instances().len()
+}
+
+/// The name with a number: variables come first, then instances.
+fn name_at(decls: &Decls, number: usize) -> &[u8]
+    requires { number < length (names_of decls.now) }
+    ensures { result.now ≡ name_at_number decls.now number }
+{
+    let (vars, instances) = (decls.vars(), decls.instances());
+    if number < vars.len() {
+        vars[number].name.bytes()
+    } else {
+        instances[number - vars.len()].name.bytes()
+    }
+}
+
+fn add_row<'a, W: Sink>(
+    block: &mut Block,
+    name: &'a [u8],
+    earlier: &'a [u8],
+    writer: &mut W,
+) -> Result<(), WriteFault>
+    ensures { Sends (W.log writer.old) (W.log writer.new) block.old block.new result (lines_text (similar_row name.now earlier.now ∷ [])) }
+{
+    let pieces = [
+        Piece::Text(b"warning,similar_names,,,,"),
+        Piece::Text(name),
+        Piece::Text(b" "),
+        Piece::Text(earlier),
+        Piece::Text(b"\n"),
+    ];
+    add_pieces(block, pieces.as_slice(), writer)
+}
+
+/// Adds the row of two names if they are similar, and returns how many rows that makes.
+fn add_if_similar<W: Sink>(
+    block: &mut Block,
+    decls: &Decls,
+    number: usize,
+    earlier: usize,
+    writer: &mut W,
+) -> Result<u64, WriteFault>
+    requires numbers { (number < length (names_of decls.now)) × (earlier < length (names_of decls.now)) }
+    ensures sends { Sends (W.log writer.old) (W.log writer.new) block.old block.new result (lines_text (row_of_names decls.now number earlier)) }
+    ensures count { IfOk result (λ n. n ≡ length (row_of_names decls.now number earlier)) }
+    ensures few { IfOk result (λ n. n ≤ 1) }
+{
+    let (name, other) = (name_at(decls, number), name_at(decls, earlier));
+    if !are_similar(name, other) {
+        return Ok(0);
+    }
+    add_row(block, name, other, writer)?;
+    Ok(1)
+}
+
+/// Adds the rows of a name with those before it, and returns how many.
+fn add_name<W: Sink>(
+    block: &mut Block,
+    decls: &Decls,
+    number: usize,
+    writer: &mut W,
+) -> Result<u64, WriteFault>
+    requires numbers { number < length (names_of decls.now) }
+    requires few { number < 320 }
+    ensures sends { Sends (W.log writer.old) (W.log writer.new) block.old block.new result (lines_text (rows_of_name decls.now number)) }
+    ensures count { IfOk result (λ n. n ≡ length (rows_of_name decls.now number)) }
+    ensures few { IfOk result (λ n. n ≤ 320) }
+{
+    let mut rows = 0u64;
+    for earlier in 0..number {
+        let more = add_if_similar(block, decls, number, earlier, writer)?;
+        rows += more;
+    }
+    Ok(rows)
+}
+
+/// Adds a row for each two names that are similar, and returns how many.
+pub(crate) fn add_names<W: Sink>(
+    block: &mut Block,
+    decls: &Decls,
+    writer: &mut W,
+) -> Result<u64, WriteFault>
+    ensures sends { Sends (W.log writer.old) (W.log writer.new) block.old block.new result (lines_text (name_rows decls.now)) }
+    ensures count { IfOk result (λ n. n ≡ length (name_rows decls.now)) }
+    ensures few { IfOk result (λ n. n ≤ 320 * 320) }
+{
+    let mut rows = 0u64;
+    for number in 0..count_names(decls) {
+        let more = add_name(block, decls, number, writer)?;
+        rows += more;
+    }
+    Ok(rows)
+}

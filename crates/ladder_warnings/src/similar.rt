@@ -1,0 +1,70 @@
+//! Whether two names differ by one character.
+
+ghost use Rattle.std.specs.Prelude.{◌≡◌, ◌≤◌, length};
+ghost use Rattle.std.specs.Char.{is_ascii_digit};
+ghost use Rattle.ladder_vars.specs.Name.{same_letters};
+ghost use Rattle.ladder_warnings.specs.Warnings.{adds_first, are_similar, differ_at, replaces_first};
+
+use crate::symbols::either;
+
+/// Whether one text is the other but for the case of letters.
+fn same_letters(a: &[u8], b: &[u8]) -> bool
+    ensures { result ≡ same_letters a.now b.now }
+{
+    a.eq_ignore_ascii_case(b)
+}
+
+fn is_digit(byte: u8) -> bool
+    ensures { result ≡ is_ascii_digit byte }
+{
+    byte.is_ascii_digit()
+}
+
+/// Whether the first character was replaced: neither is a digit, and more follows.
+fn replaces_first(a: &[u8], b: &[u8]) -> bool
+    ensures { result ≡ replaces_first a.now b.now }
+{
+    match a {
+        [] => false,
+        [old, behind @ ..] => match b {
+            [] => false,
+            [new, after @ ..] => {
+                !is_digit(*old)
+                    && !is_digit(*new)
+                    && behind.len() >= 1
+                    && same_letters(behind, after)
+            }
+        },
+    }
+}
+
+/// Whether a character that is no digit stands before the other text.
+fn adds_first(a: &[u8], b: &[u8]) -> bool
+    ensures { result ≡ adds_first a.now b.now }
+{
+    match a {
+        [] => false,
+        [added, behind @ ..] => !is_digit(*added) && same_letters(behind, b),
+    }
+}
+
+/// Whether the names are the same but for one character at the place.
+fn differ_at(a: &[u8], b: &[u8], place: usize) -> bool
+    requires { (place ≤ length a.now) × (place ≤ length b.now) }
+    ensures { result ≡ differ_at a.now b.now place }
+{
+    let (rest, other) = (&a[place..], &b[place..]);
+    same_letters(&a[..place], &b[..place])
+        && (replaces_first(rest, other) || adds_first(rest, other) || adds_first(other, rest))
+}
+
+/// Whether the names are long enough to be told apart at a glance, and differ by one character.
+pub(crate) fn are_similar(a: &[u8], b: &[u8]) -> bool
+    ensures { result ≡ are_similar a.now b.now }
+{
+    let mut found = false;
+    for place in 0..a.len().min(b.len()) + 1 {
+        found = either(found, differ_at(a, b, place));
+    }
+    (a.len() >= 4 || b.len() >= 4) && !same_letters(a, b) && found
+}
