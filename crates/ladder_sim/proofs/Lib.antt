@@ -6,3 +6,5 @@ pub mod GroupRows
 pub mod CellLaws
 pub mod TermLaws
 pub mod FormLaws
+pub mod TwoFields
+pub mod PossibleLaws

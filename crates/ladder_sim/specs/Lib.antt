@@ -8,3 +8,5 @@ pub mod Fours
 pub mod TermText
 pub mod TermParts
 pub mod Forms
+pub mod PossibleText
+pub mod PossibleRows

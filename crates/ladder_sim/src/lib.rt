@@ -6,6 +6,7 @@ mod group_text;
 mod held_text;
 mod kept;
 mod near;
+mod possible_text;
 mod table;
 mod term_text;
 
@@ -19,3 +20,4 @@ pub use ladder_text::{
 };
 pub use ladder_trace::{Film, SimFault, simulate, write_film, write_waves};
 pub use ladder_uses::write_uses;
+pub use possible_text::{PossibleSummary, write_possible_causes};

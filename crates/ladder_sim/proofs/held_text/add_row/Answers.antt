@@ -1,16 +1,10 @@
-use Rattle.std.proofs.Common.{◌≡◌, ◌∙◌, ◌++◌, ◌∷◌, ℕ, List, [], ap, append_assoc, append-nil, codes, decimal, sym}
+use Rattle.std.proofs.Common.{◌++◌, [], codes, decimal}
 use Rattle.ladder_records.specs.Text.{after_commas, line_text}
 use Rattle.ladder_sim.specs.HeldText.{held_record}
 use Rattle.ladder_sim.specs.Rows.{bits}
 use Rattle.ladder_text.proofs.Sending.{sends_err, sends_last, sends_none, sends_prefix}
+use Rattle.ladder_sim.proofs.TwoFields.{in_two}
 use Rattle.ladder_sim.proofs.held_text.add_row.Goals as goal
-
--- a record in two parts: its first two fields, and what follows
-in_two : (first second rest end : List ℕ) → first ++ (((codes "," ++ second) ++ rest) ++ end) ≡ (first ++ (codes "," ++ (second ++ []))) ++ (rest ++ end)
-in_two first second rest end =
-    let inner : (second ++ rest) ++ end ≡ (second ++ []) ++ (rest ++ end) =
-    append_assoc second rest end ∙ ap (λ xs. xs ++ (rest ++ end)) (sym (append-nil second)) in
-    ap (λ xs. first ++ 44 ∷ xs) inner ∙ sym (append_assoc first (44 ∷ (second ++ [])) (rest ++ end))
 
 pub returns-in_err-add_pieces : goal.returns-in_err-add_pieces
 returns-in_err-add_pieces g c = sends_err _ _ _ _ _ _ c.from_residual.ensures.0

@@ -1,0 +1,14 @@
+use Rattle.std.proofs.Common.{◌≤◌, ◌^◌, ◌-◌, length}
+use Rattle.ladder_sim.specs.PossibleRows.{AddedRows}
+use Rattle.ladder_sim.proofs.possible_text.add_rows.Given as goal
+
+abbrev pub invariant-loop-limit : goal.invariant-loop-limit
+invariant-loop-limit g l = record {
+  added : AddedRows (g.W.Sink.log l.fn.writer) (g.W.Sink.log l.writer) l.fn.block l.block l.fn.causes l.causes l.count;
+  rows : l.count.rows ≤ l.causes.from;
+  unsettled : l.count.unsettled ≤ l.count.rows;
+  within : l.causes.from ≤ 2 ^ length l.fn.causes.listed;
+}
+
+abbrev pub decreases-loop-limit : goal.decreases-loop-limit
+decreases-loop-limit g l = 2 ^ length l.fn.causes.listed - l.causes.from
