@@ -32,7 +32,7 @@ fn is_answered(answer: Answer) -> Tri
 }
 
 /// What an instance answers in its next step.
-pub(crate) fn answer(inst: usize, known: &Knowledge<Tri, Outcome>) -> Answer
+pub fn answer(inst: usize, known: &Knowledge<Tri, Outcome>) -> Answer
     ensures { result ≡ answer_known (kept_at outcomes known.now inst) }
 {
     match known.kept(inst) {
