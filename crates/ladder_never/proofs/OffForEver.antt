@@ -49,13 +49,13 @@ unfolding diagram_of
 diagram_kind p i = kind_of p.decls.instances i
 
 -- as many as the program has, each instance of its kind, and the set OFF
-record Holds (p : Drawing) (z : Bits) (h : Held) : Type 0 where
-  values : length h.values ≡ length p.decls.vars
-  memories : length h.kept.memories ≡ memories_of p
-  shapes : map shape h.kept.blocks ≡ map new_block (map (λ i. i.kind) p.decls.instances)
-  off : IsOff z h
+pub record Holds (p : Drawing) (z : Bits) (h : Held) : Type 0 where
+  pub values : length h.values ≡ length p.decls.vars
+  pub memories : length h.kept.memories ≡ memories_of p
+  pub shapes : map shape h.kept.blocks ≡ map new_block (map (λ i. i.kind) p.decls.instances)
+  pub off : IsOff z h
 
-knowing_holds : (p : Drawing) (z : Bits) → IsSetOf p z → (now : ℕ) (h : Held) → Holds p z h → AllowsState p now (knowing p z) h
+pub knowing_holds : (p : Drawing) (z : Bits) → IsSetOf p z → (now : ℕ) (h : Held) → Holds p z h → AllowsState p now (knowing p z) h
 knowing_holds p z set now h holds = record {
   values = values_allow z.variables h.values (set.variables ∙ sym holds.values) holds.off.variables;
   memories = memories_allow (memories_of p) h.kept.memories holds.memories;
@@ -89,7 +89,7 @@ pin_blocks kind preset now (b ∷ bs) [] h i = absurd h
 pin_blocks kind preset now (b ∷ bs) (s ∷ ss) h zero = (q_pinned (kind 0) (preset 0) now b s h.0, h.1)
 pin_blocks kind preset now (b ∷ bs) (s ∷ ss) h (suc i) = (h.0, pin_blocks (λ j. kind (suc j)) (λ j. preset (suc j)) now bs ss h.1 i)
 
-pin_allows : (p : Drawing) (now : ℕ) (k : Known Tri Outcome) (h : Held) → AllowsState p now k h → (point : Point) → AllowsState p now (pinned k point (three_known (is_on_in point h))) h
+pub pin_allows : (p : Drawing) (now : ℕ) (k : Known Tri Outcome) (h : Held) → AllowsState p now k h → (point : Point) → AllowsState p now (pinned k point (three_known (is_on_in point h))) h
 unfolding pinned
 pin_allows p now k h both (Variable var) = record { values = pin_both k.values h.values both.values var; memories = both.memories; blocks = both.blocks }
 pin_allows p now k h both (Output inst) = record { values = both.values; memories = both.memories; blocks = pin_blocks (diagram_of p).kind (diagram_of p).preset now k.blocks h.kept.blocks both.blocks inst }
@@ -112,7 +112,7 @@ set_both Q (z ∷ xs) [] h i x e q = absurd h
 set_both Q (z ∷ xs) (y ∷ ys) h zero x e q = (q, h.1)
 set_both Q (z ∷ xs) (y ∷ ys) h (suc i) x e q = (h.0, set_both (λ j. Q (suc j)) xs ys h.1 i x e q)
 
-answer_allows : (p : Drawing) (now : ℕ) (k : Known Tri Outcome) (h : Held) → AllowsState p now k h → (inst : ℕ) → OneAnswer (λ a. AllowsState p now (answering k inst a) h)
+pub answer_allows : (p : Drawing) (now : ℕ) (k : Known Tri Outcome) (h : Held) → AllowsState p now k h → (inst : ℕ) → OneAnswer (λ a. AllowsState p now (answering k inst a) h)
 unfolding answering
 answer_allows p now k h both inst =
     let d = diagram_of p in
@@ -147,15 +147,15 @@ either_case true f g = f refl
 either_case false f g = g refl
 
 -- the inputs are given: from then on the scan is one that gives none
-abbrev begun : Drawing → List Bool → Held → Held
+abbrev pub begun : Drawing → List Bool → Held → Held
 begun p inputs h = record { values = given (diagram_of p).inputs inputs h.values; kept = h.kept }
 
-scan_begun : (p : Drawing) (now : ℕ) (inputs : List Bool) (h : Held) → after_scan (diagram_of p) now [] (begun p inputs h) ≡ after_scan (diagram_of p) now inputs h
+pub scan_begun : (p : Drawing) (now : ℕ) (inputs : List Bool) (h : Held) → after_scan (diagram_of p) now [] (begun p inputs h) ≡ after_scan (diagram_of p) now inputs h
 scan_begun p now inputs h =
     let d = diagram_of p in
     ap (λ (values : List Bool). evaluated_from d now d.rungs 0 (record { values = values; kept = h.kept })) (given_none d.inputs (given d.inputs inputs h.values))
 
-holds_begun : (p : Drawing) (z : Bits) → IsSetOf p z → (inputs : List Bool) (h : Held) → Holds p z h → Holds p z (begun p inputs h)
+pub holds_begun : (p : Drawing) (z : Bits) → IsSetOf p z → (inputs : List Bool) (h : Held) → Holds p z h → Holds p z (begun p inputs h)
 unfolding diagram_of
 holds_begun p z set inputs h holds = record {
   values = size-given (map is_input p.decls.vars) inputs h.values ∙ holds.values;
@@ -229,7 +229,7 @@ module _ (p : Drawing) (sound : IsSound (diagram_of p))
   off_after [] h holds = holds.off
   off_after (scan ∷ more) h holds = off_after more (after_scan (diagram_of p) scan.moment scan.inputs h) (holds_on h holds scan.moment scan.inputs)
 
-standing_holds : (p : Drawing) (s : Standing) → Fits p s → IsStanding s → (z : Bits) → IsOff z s.held → Holds p z s.held
+pub standing_holds : (p : Drawing) (s : Standing) → Fits p s → IsStanding s → (z : Bits) → IsOff z s.held → Holds p z s.held
 standing_holds p s fits standing z off = record {
   values = fits.values;
   memories = fits.memories;
