@@ -4,20 +4,18 @@ use Rattle.ladder_vars.specs.declared.kind.BlockKind.{BlockKind}
 use Rattle.ladder_vars.specs.declared.kind.BlockKind.TheVariants.{Ton}
 use Rattle.ladder_elements.specs.declared.block.Stored.{Stored}
 use Rattle.ladder_elements.specs.Blocks.{q_of, new_block}
-use Rattle.ladder_elements.specs.Relations.{AllowsAt, Both}
-use Rattle.ladder_elements.specs.Truth.{OnePlace}
+use Rattle.ladder_elements.specs.Relations.{Both}
 use Rattle.ladder_scan.specs.RungByRung.{shape}
 use Rattle.ladder_scan.specs.Scan.{given}
 use Rattle.ladder_known.specs.KnownLaws.{BothAt}
-use Rattle.ladder_signals.specs.Three.{AnyTri, three_allows}
-use Rattle.ladder_signals.specs.declared.tri.Tri.{Tri}
+use Rattle.ladder_signals.specs.Three.{three_allows}
 use Rattle.ladder_signals.specs.declared.tri.Tri.TheVariants.{Unsure}
+use Rattle.ladder_never.specs.Allowing.{Allows}
 use Rattle.ladder_never.specs.Never.{off_or_open}
+use Rattle.ladder_never.specs.OutcomeLaws.{open_answers}
 use Rattle.ladder_never.specs.Outcomes.{KnowsMore, MayStore, TellsMore}
+use Rattle.ladder_never.specs.declared.answer.Answer.TheVariants.{Open}
 use Rattle.ladder_never.specs.declared.outcome.Outcome.TheVariants.{OfKind}
-
-abbrev pub Allows : Tri → Bool → Type 0
-Allows = AllowsAt AnyTri OnePlace three_allows 0
 
 pub both_at : {A B : Type 0} (R : A → B → Type 0) (xs : List A) (ys : List B) → Both R xs ys → (d : A) (e : B) → R d e → (i : ℕ) → R (get_or xs i d) (get_or ys i e)
 both_at R [] [] h d e r i = r
@@ -56,18 +54,19 @@ none_one k ks e = cc
 one_none : (s : Stored) (ss : List Stored) → map shape (s ∷ ss) ≡ map new_block [] → ⊥
 one_none s ss e = cc
 
-pub blocks_allow : (kind : ℕ → BlockKind) (kinds : List BlockKind) (bits : List Bool) (ss : List Stored) → ((i : ℕ) → kind i ≡ get_or kinds i Ton)
+pub blocks_allow : (kind : ℕ → BlockKind) (preset : ℕ → ℕ) (now : ℕ) (kinds : List BlockKind) (bits : List Bool) (ss : List Stored) → ((i : ℕ) → kind i ≡ get_or kinds i Ton)
     → length bits ≡ length kinds → map shape ss ≡ map new_block kinds → ((i : ℕ) → get_or bits i false ≡ true → q_of (get_or ss i (new_block Ton)) ≡ false)
-    → BothAt (λ i. MayStore (kind i)) (map (λ b. OfKind (off_or_open b)) bits) (map (λ s. s) ss)
-blocks_allow kind [] [] [] k h e f = tt
-blocks_allow kind [] [] (s ∷ ss) k h e f = absurd (one_none s ss e)
-blocks_allow kind [] (b ∷ bits) ss k h e f = absurd (omega (arith, h))
-blocks_allow kind (x ∷ kinds) [] ss k h e f = absurd (omega (arith, h))
-blocks_allow kind (x ∷ kinds) (b ∷ bits) [] k h e f = absurd (none_one x kinds e)
-blocks_allow kind (x ∷ kinds) (b ∷ bits) (s ∷ ss) k h e f = (
-  (heads s ss x kinds e ∙ sym (ap new_block (k 0)), one_allows b (q_of s) (f 0)),
-  blocks_allow (λ i. kind (suc i)) kinds bits ss (λ i. k (suc i)) (omega (arith, h)) (tails s ss x kinds e) (λ i. f (suc i)),
-)
+    → BothAt (λ i. MayStore (kind i) (preset i) now) (map (λ b. OfKind (off_or_open b) Open) bits) (map (λ s. s) ss)
+blocks_allow kind preset now [] [] [] k h e f = tt
+blocks_allow kind preset now [] [] (s ∷ ss) k h e f = absurd (one_none s ss e)
+blocks_allow kind preset now [] (b ∷ bits) ss k h e f = absurd (omega (arith, h))
+blocks_allow kind preset now (x ∷ kinds) [] ss k h e f = absurd (omega (arith, h))
+blocks_allow kind preset now (x ∷ kinds) (b ∷ bits) [] k h e f = absurd (none_one x kinds e)
+blocks_allow kind preset now (x ∷ kinds) (b ∷ bits) (s ∷ ss) k h e f =
+    let fits = heads s ss x kinds e ∙ sym (ap new_block (k 0)) in (
+      (fits, one_allows b (q_of s) (f 0), open_answers (kind 0) (preset 0) now s fits),
+      blocks_allow (λ i. kind (suc i)) (λ i. preset (suc i)) now kinds bits ss (λ i. k (suc i)) (omega (arith, h)) (tails s ss x kinds e) (λ i. f (suc i)),
+    )
 
 -- ---- inputs
 pub given_none : (flags vs : List Bool) → given flags [] vs ≡ vs
@@ -113,8 +112,8 @@ memories_more zero = tt
 memories_more (suc n) = (tt, memories_more n)
 
 pub blocks_more : (bits more : List Bool) → length bits ≡ length more → ((i : ℕ) → get_or bits i false ≡ true → get_or more i false ≡ true)
-    → BothAt (λ i. TellsMore) (map (λ b. OfKind (off_or_open b)) bits) (map (λ b. OfKind (off_or_open b)) more)
+    → BothAt (λ i. TellsMore) (map (λ b. OfKind (off_or_open b) Open) bits) (map (λ b. OfKind (off_or_open b) Open) more)
 blocks_more [] [] h e = tt
 blocks_more [] (c ∷ more) h e = absurd (omega (arith, h))
 blocks_more (b ∷ bits) [] h e = absurd (omega (arith, h))
-blocks_more (b ∷ bits) (c ∷ more) h e = (one_more b c (e 0), blocks_more bits more (omega (arith, h)) (λ i. e (suc i)))
+blocks_more (b ∷ bits) (c ∷ more) h e = ((one_more b c (e 0), tt), blocks_more bits more (omega (arith, h)) (λ i. e (suc i)))

@@ -1,5 +1,5 @@
 -- A set that one scan over three values leaves OFF is OFF after any scans.
-use Rattle.std.proofs.Common.{◌≡◌, ◌∙◌, ℕ, Bool, true, false, List, [], ◌∷◌, map, get_or, length, set, zero, suc, refl, sym, ap, subst}
+use Rattle.std.proofs.Common.{◌≡◌, ◌∙◌, inl, inr, ℕ, Bool, true, false, List, [], ◌∷◌, map, get_or, length, set, zero, suc, refl, sym, ap, subst}
 use Rattle.std.proofs.lemmas.List.{length-map}
 use Rattle.std.specs.Prelude.{slice_get, unwrap_or, option_map}
 use Rattle.ladder_vars.specs.declared.kind.BlockKind.{BlockKind}
@@ -15,6 +15,7 @@ use Rattle.ladder_scan.specs.Rung.{Held}
 use Rattle.ladder_elements.specs.Relations.{Both}
 use Rattle.ladder_scan.specs.RungByRung.{scanned, shape}
 use Rattle.ladder_scan.specs.Scan.{after_scan, evaluated_from, given}
+use Rattle.ladder_scan.specs.Standing.{Standing, Fits, IsStanding}
 use Rattle.ladder_scan.proofs.ByList.{scanned_is}
 use Rattle.ladder_scan.proofs.Possible.{scanned_shapes, sound_shapes}
 use Rattle.ladder_scan.proofs.Sizes.{scan_lengths, size-given}
@@ -25,14 +26,18 @@ use Rattle.ladder_signals.specs.Three.{three, three_known, three_allows}
 use Rattle.ladder_signals.specs.declared.tri.Tri.{Tri}
 use Rattle.ladder_signals.specs.declared.tri.Tri.TheVariants.{Off}
 use Rattle.ladder_never.specs.Never.{Bits, IsOff, IsSetOf, OneScan, after_each, is_in, knowing}
-use Rattle.ladder_never.specs.Cases.{AllowsState, AreNeverOn, SettledIsOff, is_on_in, IsSettled, IsSettledOff, by_cases, by_scan, pinned, told, with_q}
+use Rattle.ladder_never.specs.Allowing.{Allows, AllowsState, KnowingAllows, SettledIsOff, is_on_in}
+use Rattle.ladder_never.specs.AnswerLaws.{OneAnswer, one_answer}
+use Rattle.ladder_never.specs.Cases.{AreNeverOn, IsSettled, IsSettledOff, answering, by_answers, by_cases, by_scan, pinned, told, with_answer, with_q}
+use Rattle.ladder_never.specs.declared.answer.Answer.{Answer}
+use Rattle.ladder_never.specs.declared.answer.Answer.TheVariants.{Off as AnswersOff, On as AnswersOn, Input}
 use Rattle.ladder_never.specs.declared.point.Point.{Point}
-use Rattle.ladder_never.specs.declared.point.Point.TheVariants.{Variable, Output}
+use Rattle.ladder_never.specs.declared.point.Point.TheVariants.{Variable, Output, Memory, Answer as AnswerOf}
 use Rattle.ladder_never.specs.OutcomeLaws.{q_sound}
 use Rattle.ladder_never.specs.Outcomes.{MayStore, outcomes, q_known}
 use Rattle.ladder_never.specs.declared.outcome.Outcome.{Outcome}
 use Rattle.ladder_never.specs.declared.outcome.Outcome.TheVariants.{Anything, OfKind}
-use Rattle.ladder_never.proofs.Listed.{Allows, blocks_allow, both_at, given_none, given_same, memories_allow, no_input_in, values_allow}
+use Rattle.ladder_never.proofs.Listed.{blocks_allow, both_at, given_none, given_same, memories_allow, no_input_in, values_allow}
 
 kind_of : (instances : List Instance) (i : ℕ) → unwrap_or (option_map (λ x. x.kind) (slice_get instances i)) Ton ≡ get_or (map (λ x. x.kind) instances) i Ton
 kind_of [] i = refl
@@ -50,19 +55,17 @@ pub record Holds (p : Drawing) (z : Bits) (h : Held) : Type 0 where
   pub shapes : map shape h.kept.blocks ≡ map new_block (map (λ i. i.kind) p.decls.instances)
   pub off : IsOff z h
 
-pub knowing_allows : (p : Drawing) (z : Bits) → IsSetOf p z → (h : Held) → Holds p z h
-    → BothKnown Allows (λ inst. MayStore ((diagram_of p).kind inst)) (knowing p z) (all_known plain plainly h)
-knowing_allows p z set h holds = record {
+pub knowing_holds : (p : Drawing) (z : Bits) → IsSetOf p z → (now : ℕ) (h : Held) → Holds p z h → AllowsState p now (knowing p z) h
+knowing_holds p z set now h holds = record {
   values = values_allow z.variables h.values (set.variables ∙ sym holds.values) holds.off.variables;
   memories = memories_allow (memories_of p) h.kept.memories holds.memories;
-  blocks = blocks_allow (diagram_of p).kind (map (λ i. i.kind) p.decls.instances) z.instances h.kept.blocks (diagram_kind p)
+  blocks = blocks_allow (diagram_of p).kind (diagram_of p).preset now (map (λ i. i.kind) p.decls.instances) z.instances h.kept.blocks (diagram_kind p)
       (set.instances ∙ sym (length-map p.decls.instances (λ i. i.kind))) holds.shapes holds.off.instances;
 }
 
 off_by : (x : Tri) (b : Bool) → three_allows x 0 b → x ≡ Off → b ≡ false
 off_by x b h e = subst (λ (y : Tri). three_allows y 0 b) e h
 
--- ---- a point in a state
 known_allows : (b : Bool) → three_allows (three_known b) 0 b
 known_allows true = refl
 known_allows false = refl
@@ -74,33 +77,70 @@ pin_both (x ∷ xs) [] h i = absurd h
 pin_both (x ∷ xs) (v ∷ vs) h zero = ((tt, λ _. known_allows v), h.1)
 pin_both (x ∷ xs) (v ∷ vs) h (suc i) = (h.0, pin_both xs vs h.1 i)
 
-q_pinned : (kind : BlockKind) (b : Outcome) (s : Stored) → MayStore kind b s → MayStore kind (with_q b (three_known (q_of s))) s
-q_pinned kind (OfKind q) s h = (h.0, known_allows (q_of s))
-q_pinned kind Anything s h = tt
+q_pinned : (kind : BlockKind) (preset now : ℕ) (b : Outcome) (s : Stored) → MayStore kind preset now b s → MayStore kind preset now (with_q b (three_known (q_of s))) s
+q_pinned kind preset now (OfKind q a) s h = (h.0, known_allows (q_of s), h.2)
+q_pinned kind preset now Anything s h = tt
 
-pin_blocks : (kind : ℕ → BlockKind) (bs : List Outcome) (ss : List Stored) → BothAt (λ i. MayStore (kind i)) bs (map (λ s. s) ss) → (i : ℕ)
-    → BothAt (λ i. MayStore (kind i)) (set bs i (with_q (get_or bs i Anything) (three_known (q_of (get_or ss i (new_block Ton)))))) (map (λ s. s) ss)
-pin_blocks kind [] [] h i = tt
-pin_blocks kind [] (s ∷ ss) h i = absurd h
-pin_blocks kind (b ∷ bs) [] h i = absurd h
-pin_blocks kind (b ∷ bs) (s ∷ ss) h zero = (q_pinned (kind 0) b s h.0, h.1)
-pin_blocks kind (b ∷ bs) (s ∷ ss) h (suc i) = (h.0, pin_blocks (λ j. kind (suc j)) bs ss h.1 i)
+pin_blocks : (kind : ℕ → BlockKind) (preset : ℕ → ℕ) (now : ℕ) (bs : List Outcome) (ss : List Stored) → BothAt (λ i. MayStore (kind i) (preset i) now) bs (map (λ s. s) ss) → (i : ℕ)
+    → BothAt (λ i. MayStore (kind i) (preset i) now) (set bs i (with_q (get_or bs i Anything) (three_known (q_of (get_or ss i (new_block Ton)))))) (map (λ s. s) ss)
+pin_blocks kind preset now [] [] h i = tt
+pin_blocks kind preset now [] (s ∷ ss) h i = absurd h
+pin_blocks kind preset now (b ∷ bs) [] h i = absurd h
+pin_blocks kind preset now (b ∷ bs) (s ∷ ss) h zero = (q_pinned (kind 0) (preset 0) now b s h.0, h.1)
+pin_blocks kind preset now (b ∷ bs) (s ∷ ss) h (suc i) = (h.0, pin_blocks (λ j. kind (suc j)) (λ j. preset (suc j)) now bs ss h.1 i)
 
-pin_allows : (p : Drawing) (k : Known Tri Outcome) (h : Held) → AllowsState p k h → (point : Point) → AllowsState p (pinned k point (three_known (is_on_in point h))) h
+pub pin_allows : (p : Drawing) (now : ℕ) (k : Known Tri Outcome) (h : Held) → AllowsState p now k h → (point : Point) → AllowsState p now (pinned k point (three_known (is_on_in point h))) h
 unfolding pinned
-pin_allows p k h both (Variable var) = record { values = pin_both k.values h.values both.values var; memories = both.memories; blocks = both.blocks }
-pin_allows p k h both (Output inst) = record { values = both.values; memories = both.memories; blocks = pin_blocks (diagram_of p).kind k.blocks h.kept.blocks both.blocks inst }
+pin_allows p now k h both (Variable var) = record { values = pin_both k.values h.values both.values var; memories = both.memories; blocks = both.blocks }
+pin_allows p now k h both (Output inst) = record { values = both.values; memories = both.memories; blocks = pin_blocks (diagram_of p).kind (diagram_of p).preset now k.blocks h.kept.blocks both.blocks inst }
+pin_allows p now k h both (Memory number) = record { values = both.values; memories = pin_both k.memories h.kept.memories both.memories number; blocks = both.blocks }
+pin_allows p now k h both (AnswerOf inst) = both
 
-told_off : (p : Drawing) (k : Known Tri Outcome) (h : Held) → AllowsState p k h → (point : Point) → told point k ≡ Off → is_on_in point h ≡ false
+-- ---- what an instance answers
+one_with : (kind : BlockKind) (preset now : ℕ) (b : Outcome) (s : Stored) → MayStore kind preset now b s → OneAnswer (λ a. MayStore kind preset now (with_answer b a) s)
+one_with kind preset now (OfKind q a) s h = elim (one_answer kind preset now s h.0) [
+  | inl d ↦ inl (h.0, h.1, d)
+  | inr (inl d) ↦ inr (inl (h.0, h.1, d))
+  | inr (inr d) ↦ inr (inr (h.0, h.1, d))
+]
+one_with kind preset now Anything s h = inl tt
+
+set_both : {A B : Type 0} (Q : ℕ → A → B → Type 0) (xs : List A) (ys : List B) → BothAt Q xs ys → (i : ℕ) (x : A) (e : B) → Q i x (get_or ys i e) → BothAt Q (set xs i x) ys
+set_both Q [] [] h i x e q = tt
+set_both Q [] (y ∷ ys) h i x e q = absurd h
+set_both Q (z ∷ xs) [] h i x e q = absurd h
+set_both Q (z ∷ xs) (y ∷ ys) h zero x e q = (q, h.1)
+set_both Q (z ∷ xs) (y ∷ ys) h (suc i) x e q = (h.0, set_both (λ j. Q (suc j)) xs ys h.1 i x e q)
+
+pub answer_allows : (p : Drawing) (now : ℕ) (k : Known Tri Outcome) (h : Held) → AllowsState p now k h → (inst : ℕ) → OneAnswer (λ a. AllowsState p now (answering k inst a) h)
+unfolding answering
+answer_allows p now k h both inst =
+    let d = diagram_of p in
+    let Q = λ (i : ℕ). MayStore (d.kind i) (d.preset i) now in
+    let ss = map (λ s. s) h.kept.blocks in
+    let with : (a : Answer) → Q inst (with_answer (kept_at outcomes k inst) a) (get_or ss inst (new_block Ton)) → AllowsState p now (answering k inst a) h = λ a m.
+    record { values = both.values; memories = both.memories; blocks = set_both Q k.blocks ss both.blocks inst (with_answer (kept_at outcomes k inst) a) (new_block Ton) m } in
+    elim (one_with (d.kind inst) (d.preset inst) now (kept_at outcomes k inst) (get_or ss inst (new_block Ton)) (get_both Q k.blocks ss both.blocks Anything (new_block Ton) (λ i. tt) inst)) [
+      | inl m ↦ inl (with AnswersOff m)
+      | inr (inl m) ↦ inr (inl (with AnswersOn m))
+      | inr (inr m) ↦ inr (inr (with Input m))
+    ]
+
+told_off : (p : Drawing) (now : ℕ) (k : Known Tri Outcome) (h : Held) → AllowsState p now k h → (point : Point) → told point k ≡ Off → is_on_in point h ≡ false
 unfolding told
-told_off p k h both (Variable var) e =
+told_off p now k h both (Variable var) e =
     subst (λ (vs : List Bool). get_or vs var false ≡ false) (map_same h.values)
     (off_by _ _ ((both_at Allows k.values (map (λ v. v) h.values) both.values Off false (tt, λ _. refl) var).1 refl) e)
-told_off p k h both (Output inst) e =
+told_off p now k h both (Output inst) e =
+    let d = diagram_of p in
     subst (λ (ss : List Stored). q_of (get_or ss inst (new_block Ton)) ≡ false) (map_same h.kept.blocks)
     (off_by (q_known (kept_at outcomes k inst)) _
-    (q_sound ((diagram_of p).kind inst) (kept_at outcomes k inst) (get_or (map (λ s. s) h.kept.blocks) inst (new_block Ton))
-    (get_both (λ i. MayStore ((diagram_of p).kind i)) k.blocks (map (λ s. s) h.kept.blocks) both.blocks Anything (new_block Ton) (λ i. tt) inst)) e)
+    (q_sound (d.kind inst) (d.preset inst) now (kept_at outcomes k inst) (get_or (map (λ s. s) h.kept.blocks) inst (new_block Ton))
+    (get_both (λ i. MayStore (d.kind i) (d.preset i) now) k.blocks (map (λ s. s) h.kept.blocks) both.blocks Anything (new_block Ton) (λ i. tt) inst)) e)
+told_off p now k h both (Memory number) e =
+    subst (λ (ms : List Bool). get_or ms number false ≡ false) (map_same h.kept.memories)
+    (off_by _ _ ((both_at Allows k.memories (map (λ m. m) h.kept.memories) both.memories Off false (tt, λ _. refl) number).1 refl) e)
+told_off p now k h both (AnswerOf inst) e = refl
 
 either_case : {A : Type 0} (b : Bool) → (b ≡ true → A) → (b ≡ false → A) → A
 either_case true f g = f refl
@@ -129,32 +169,41 @@ holds_begun p z set inputs h holds = record {
   };
 }
 
-module _ (p : Drawing) (sound : IsSound (diagram_of p))
-    (keeps : (now : ℕ) → ScanKeeps (diagram_of p) three plain outcomes plainly Allows (λ inst. MayStore ((diagram_of p).kind inst)) 0 now)
+module _ (p : Drawing)
+    (keeps : (now : ℕ) → ScanKeeps (diagram_of p) three plain outcomes plainly Allows (λ inst. MayStore ((diagram_of p).kind inst) ((diagram_of p).preset inst) now) 0 now)
     (known : KnownIsScan (diagram_of p)) where
-  scan_allows : (k : Known Tri Outcome) (h : Held) → AllowsState p k h → (now : ℕ) → AllowsState p (after_known three outcomes (diagram_of p) 0 [] k) (after_scan (diagram_of p) now [] h)
-  scan_allows k h both now =
-      subst (λ (l : Known Bool Stored). BothKnown Allows (λ inst. MayStore ((diagram_of p).kind inst)) (after_known three outcomes (diagram_of p) 0 [] k) l)
+  scan_allows : (now : ℕ) (k : Known Tri Outcome) (h : Held) → AllowsState p now k h → AllowsState p now (after_known three outcomes (diagram_of p) 0 [] k) (after_scan (diagram_of p) now [] h)
+  scan_allows now k h both =
+      let d = diagram_of p in
+      subst (λ (l : Known Bool Stored). BothKnown Allows (λ inst. MayStore (d.kind inst) (d.preset inst) now) (after_known three outcomes d 0 [] k) l)
       (known h now []) (keeps now [] [] tt k (all_known plain plainly h) both)
 
-  settled_off : (target : Point) (k : Known Tri Outcome) → IsSettled p target k → (h : Held) → AllowsState p k h → (now : ℕ)
+  settled_off : (target : Point) (k : Known Tri Outcome) → IsSettled p target k → (now : ℕ) (h : Held) → AllowsState p now k h
       → is_on_in target (after_scan (diagram_of p) now [] h) ≡ false
-  settled_off target _ (by_scan k e) h both now = told_off p _ _ (scan_allows k h both now) target e
-  settled_off target _ (by_cases k point off on) h both now =
-      let here = pin_allows p k h both point in
-      let Allowed = λ (b : Bool). AllowsState p (pinned k point (three_known b)) h in
+  settled_off target _ (by_scan k e) now h both = told_off p now _ _ (scan_allows now k h both) target e
+  settled_off target _ (by_cases k point off on) now h both =
+      let here = pin_allows p now k h both point in
+      let Allowed = λ (b : Bool). AllowsState p now (pinned k point (three_known b)) h in
       either_case (is_on_in point h)
-      (λ e. settled_off target (pinned k point (three_known true)) on h (subst Allowed e here) now)
-      (λ e. settled_off target (pinned k point (three_known false)) off h (subst Allowed e here) now)
+      (λ e. settled_off target (pinned k point (three_known true)) on now h (subst Allowed e here))
+      (λ e. settled_off target (pinned k point (three_known false)) off now h (subst Allowed e here))
+  settled_off target _ (by_answers k inst off on input) now h both = elim (answer_allows p now k h both inst) [
+    | inl m ↦ settled_off target (answering k inst AnswersOff) off now h m
+    | inr (inl m) ↦ settled_off target (answering k inst AnswersOn) on now h m
+    | inr (inr m) ↦ settled_off target (answering k inst Input) input now h m
+  ]
+
+  pub settled_is_off : SettledIsOff p
+  settled_is_off = settled_off
 
 module _ (p : Drawing) (sound : IsSound (diagram_of p))
-    (keeps : (now : ℕ) → ScanKeeps (diagram_of p) three plain outcomes plainly Allows (λ inst. MayStore ((diagram_of p).kind inst)) 0 now)
+    (keeps : (now : ℕ) → ScanKeeps (diagram_of p) three plain outcomes plainly Allows (λ inst. MayStore ((diagram_of p).kind inst) ((diagram_of p).preset inst) now) 0 now)
     (known : KnownIsScan (diagram_of p)) (z : Bits) (set : IsSetOf p z) (settled : IsSettledOff p z) where
   off_then : (target : Point) → IsSettled p target (knowing p z) → (h : Held) → Holds p z h → (now : ℕ) (inputs : List Bool)
       → is_on_in target (after_scan (diagram_of p) now inputs h) ≡ false
   off_then target is h holds now inputs =
       subst (λ (next : Held). is_on_in target next ≡ false) (scan_begun p now inputs h)
-      (settled_off p sound keeps known target (knowing p z) is (begun p inputs h) (knowing_allows p z set (begun p inputs h) (holds_begun p z set inputs h holds)) now)
+      (settled_off p keeps known target (knowing p z) is now (begun p inputs h) (knowing_holds p z set now (begun p inputs h) (holds_begun p z set inputs h holds)))
 
   still_off : (h : Held) → Holds p z h → (now : ℕ) (inputs : List Bool) → IsOff z (after_scan (diagram_of p) now inputs h)
   still_off h holds now inputs = record {
@@ -180,18 +229,18 @@ module _ (p : Drawing) (sound : IsSound (diagram_of p))
   off_after [] h holds = holds.off
   off_after (scan ∷ more) h holds = off_after more (after_scan (diagram_of p) scan.moment scan.inputs h) (holds_on h holds scan.moment scan.inputs)
 
-pub never_on : (p : Drawing) → IsSound (diagram_of p)
-    → ((now : ℕ) → ScanKeeps (diagram_of p) three plain outcomes plainly Allows (λ inst. MayStore ((diagram_of p).kind inst)) 0 now)
-    → KnownIsScan (diagram_of p) → AreNeverOn p
-never_on p sound keeps known s fits standing z set settled off scans =
-    off_after p sound keeps known z set settled scans s.held (record {
-      values = fits.values;
-      memories = fits.memories;
-      shapes = sound_shapes s.kinds s.held.kept.blocks s.moment standing.sound ∙ ap (map new_block) fits.kinds;
-      off = off;
-    })
+pub standing_holds : (p : Drawing) (s : Standing) → Fits p s → IsStanding s → (z : Bits) → IsOff z s.held → Holds p z s.held
+standing_holds p s fits standing z off = record {
+  values = fits.values;
+  memories = fits.memories;
+  shapes = sound_shapes s.kinds s.held.kept.blocks s.moment standing.sound ∙ ap (map new_block) fits.kinds;
+  off = off;
+}
 
-pub settled_is_off : (p : Drawing) → IsSound (diagram_of p)
-    → ((now : ℕ) → ScanKeeps (diagram_of p) three plain outcomes plainly Allows (λ inst. MayStore ((diagram_of p).kind inst)) 0 now)
-    → KnownIsScan (diagram_of p) → SettledIsOff p
-settled_is_off p sound keeps known = settled_off p sound keeps known
+pub knowing_allows : (p : Drawing) → KnowingAllows p
+knowing_allows p s fits standing z set off moment = knowing_holds p z set moment s.held (standing_holds p s fits standing z off)
+
+pub never_on : (p : Drawing) → IsSound (diagram_of p)
+    → ((now : ℕ) → ScanKeeps (diagram_of p) three plain outcomes plainly Allows (λ inst. MayStore ((diagram_of p).kind inst) ((diagram_of p).preset inst) now) 0 now)
+    → KnownIsScan (diagram_of p) → AreNeverOn p
+never_on p sound keeps known s fits standing z set settled off scans = off_after p sound keeps known z set settled scans s.held (standing_holds p s fits standing z off)

@@ -13,6 +13,7 @@ use Rattle.ladder_signals.specs.Three.{three}
 use Rattle.ladder_signals.specs.declared.tri.Tri.{Tri}
 use Rattle.ladder_signals.specs.declared.tri.Tri.TheVariants.{Off, Unsure}
 use Rattle.ladder_never.specs.Outcomes.{outcomes, q_known}
+use Rattle.ladder_never.specs.declared.answer.Answer.TheVariants.{Open}
 use Rattle.ladder_never.specs.declared.outcome.Outcome.{Outcome}
 use Rattle.ladder_never.specs.declared.outcome.Outcome.TheVariants.{OfKind}
 
@@ -39,13 +40,13 @@ abbrev pub off_or_open : Bool → Tri
 off_or_open true = Off
 off_or_open false = Unsure
 
--- All that is known of a state in which each of them is OFF: the other variables, the other Qs and all memories are open, and an instance
--- stores anything that belongs to its kind.
+-- All that is known of a state in which each of them is OFF: the other variables, the other Qs, all memories and all answers are open, and
+-- an instance stores anything that belongs to its kind.
 abbrev pub knowing : Drawing → Bits → Known Tri Outcome
 knowing p z = record {
   values = map off_or_open z.variables;
   memories = replicate (memories_of p) Unsure;
-  blocks = map (λ b. OfKind (off_or_open b)) z.instances;
+  blocks = map (λ b. OfKind (off_or_open b) Open) z.instances;
 }
 
 -- What is known after one scan from there. It gives no input a value, so that all inputs are open; its moment makes no difference.

@@ -1,91 +1,30 @@
 -- Private: what is known of an instance after a step allows what the step leaves, and where more is known before, more is known after.
-use Rattle.std.proofs.Common.{◌≡◌, ◌∙◌, ℕ, ℤ, Bool, true, false, not, cond, refl, sym, ap, ap₂, subst, ◌&&◌, ◌||◌, ◌-◌, nat_eq, nat_lt, nat_le, pos, int_le, arith}
-use Rattle.std.proofs.lemmas.Int.{ints}
-use Rattle.std.proofs.lemmas.Bool.Decides.{nat_tests}
+use Rattle.std.proofs.Common.{◌≡◌, ◌∙◌, inl, inr, ℕ, Bool, true, false, cond, refl, sym, ap, ap₂, subst, nat_eq}
 use Rattle.ladder_vars.specs.declared.kind.BlockKind.{BlockKind}
 use Rattle.ladder_vars.specs.declared.kind.BlockKind.TheVariants.{Ton, Tof, Tp, Ctu, Ctd, Sr, Rs}
 use Rattle.ladder_elements.specs.declared.block.Stored.{Stored}
 use Rattle.ladder_elements.specs.declared.block.Stored.TheVariants.{Timer, Counter, Bistable}
 use Rattle.ladder_elements.specs.Blocks.{step, q_of, new_block}
+use Rattle.ladder_elements.specs.Relations.{AllowsAt, IsKept}
 use Rattle.ladder_elements.specs.Truth.{OnePlace}
-use Rattle.ladder_signals.specs.Three.{three, three_known, three_join, three_meet, three_inverse, three_choice, three_allows}
+use Rattle.ladder_signals.specs.Three.{AnyTri, three, three_known, three_join, three_meet, three_inverse, three_choice, three_allows}
 use Rattle.ladder_signals.specs.ThreeLaws.{three_allowed}
 use Rattle.ladder_signals.specs.declared.tri.Tri.{Tri}
 use Rattle.ladder_signals.specs.declared.tri.Tri.TheVariants.{Off, On, Unsure}
-use Rattle.ladder_elements.specs.Relations.{IsKept}
-use Rattle.ladder_never.specs.Outcomes.{AnyOutcome, KnowsMore, MayStore, TellsMore, outcome_after, outcome_choice, outcomes, q_after, q_known}
-use Rattle.ladder_never.specs.declared.outcome.Outcome.{Outcome}
-use Rattle.ladder_never.specs.declared.outcome.Outcome.TheVariants.{OfKind, Anything}
 use Rattle.ladder_scan.specs.Cells.{Diagram}
 use Rattle.ladder_scan.specs.RungByRung.{shape}
 use Rattle.ladder_known.specs.KnownScan.{plainly}
 use Rattle.ladder_known.specs.KnownLaws.{StepsKeep}
 use Rattle.ladder_glance.specs.KeepsValues.{KeepsValues}
-use Rattle.ladder_elements.specs.Relations.{AllowsAt}
-use Rattle.ladder_signals.specs.Three.{AnyTri}
+use Rattle.ladder_never.specs.AnswerLaws.{one_answer}
+use Rattle.ladder_never.specs.Outcomes.{AnswersMore, AnyOutcome, DoesAnswer, KnowsMore, MayStore, TellsMore, agreed, answered, outcome_after, outcome_choice, outcomes, q_after, q_known}
+use Rattle.ladder_never.specs.declared.answer.Answer.{Answer}
+use Rattle.ladder_never.specs.declared.answer.Answer.TheVariants.{Off as AnswersOff, On as AnswersOn, Input, Open}
+use Rattle.ladder_never.specs.declared.outcome.Outcome.{Outcome}
+use Rattle.ladder_never.specs.declared.outcome.Outcome.TheVariants.{OfKind, Anything}
 
 abbrev Allows : Tri → Bool → Type 0
 Allows x b = three_allows x 0 b
-
-known_allows : (b : Bool) → Allows (three_known b) b
-known_allows true = refl
-known_allows false = refl
-
--- ---- timers: Q is OFF where IN is, or ON where IN is
-only_on : (x : Tri) (s b : Bool) → Allows x s → (s ≡ false → b ≡ false) → Allows (three_meet x Unsure) b
-only_on On s b h e = tt
-only_on Off s b h e = e h
-only_on Unsure s b h e = tt
-
-always_on : (x : Tri) (s b : Bool) → Allows x s → (s ≡ true → b ≡ true) → Allows (three_join x Unsure) b
-always_on On s b h e = e h
-always_on Off s b h e = tt
-always_on Unsure s b h e = tt
-
-ton_q : (on : Bool) (preset since since2 now : ℕ) → q_of (cond on (Timer true true since2 (nat_le preset (now - since))) (Timer false false 0 false)) ≡ (on && nat_le preset (now - since))
-ton_q true preset since since2 now = refl
-ton_q false preset since since2 now = refl
-
-tof_q : (on runs : Bool) (since : ℕ) → q_of (cond on (Timer true false 0 true) (Timer false runs since runs)) ≡ (on || runs)
-tof_q true runs since = refl
-tof_q false runs since = refl
-
-tp_q : (runs begins on : Bool) (start now : ℕ) → q_of (cond runs (Timer on true start true) (cond begins (Timer on true now true) (Timer on false 0 false))) ≡ (runs || begins)
-tp_q true begins on start now = refl
-tp_q false true on start now = refl
-tp_q false false on start now = refl
-
--- with preset 0 it never runs, and never begins
-never_runs : (preset n : ℕ) (runs : Bool) → nat_eq preset 0 ≡ true → (runs && nat_lt n preset) ≡ false
-never_runs preset n runs e = grind (arith, nat_tests)
-
-never_begins : (preset : ℕ) (on last : Bool) → nat_eq preset 0 ≡ true → (on && (not last && nat_lt 0 preset)) ≡ false
-never_begins preset on last e = grind (arith, nat_tests)
-
-has_passed : (preset n : ℕ) → nat_eq preset 0 ≡ true → nat_le preset n ≡ true
-has_passed preset n e = grind (arith, nat_tests)
-
-neither : (a b : Bool) → a ≡ false → b ≡ false → (a || b) ≡ false
-neither a b e f = cc
-
--- by whether the preset is 0
-either : (z : Bool) (x y : Tri) (b : Bool) → (z ≡ true → Allows x b) → (z ≡ false → Allows y b) → Allows (cond z x y) b
-either true x y b f g = f refl
-either false x y b f g = g refl
-
-and_off : (on b : Bool) → on ≡ false → (on && b) ≡ false
-and_off on b e = cc
-
-or_on : (on b : Bool) → on ≡ true → (on || b) ≡ true
-or_on on b e = cc
-
-and_on : (on b : Bool) → b ≡ true → (on && b) ≡ on
-and_on true b e = e
-and_on false b e = refl
-
-or_off : (on b : Bool) → b ≡ false → (on || b) ≡ on
-or_off true b e = refl
-or_off false b e = e
 
 join_on : (x : Tri) → three_join x On ≡ On
 join_on On = refl
@@ -102,72 +41,6 @@ same_choice On b = refl
 same_choice Off b = refl
 same_choice Unsure true = refl
 same_choice Unsure false = refl
-
--- ---- counters: R and LD leave what the preset tells
-reset_q : (tells : Bool) (y : Tri) (t b : Bool) → Allows y t → (t ≡ true → b ≡ tells) → Allows (three_choice y (three_known tells) Unsure) b
-reset_q tells On t b h e = subst (λ (c : Bool). Allows (three_known tells) c) (sym (e h)) (known_allows tells)
-reset_q tells Off t b h e = tt
-reset_q true Unsure t b h e = tt
-reset_q false Unsure t b h e = tt
-
-none_counted : (preset : ℕ) → int_le (pos preset) (pos 0) ≡ nat_eq preset 0
-none_counted preset = grind (arith, ints, nat_tests)
-
--- ---- each kind
-ton_allows : (preset : ℕ) (q x y : Tri) (s t : Bool) (now : ℕ) (last running : Bool) (start : ℕ) (b : Bool) → Allows x s
-    → Allows (q_after Ton preset q x y) (q_of (step Ton preset (Timer last running start b) s t now))
-unfolding q_after step
-ton_allows preset q x y s t now last running start b h =
-    let since = cond running start now in
-    either (nat_eq preset 0) x (three_meet x Unsure) _
-    (λ e. subst (λ (c : Bool). Allows x c) (sym (ton_q s preset since since now ∙ and_on s _ (has_passed preset (now - since) e))) h)
-    (λ e. only_on x s _ h (λ f. ton_q s preset since since now ∙ and_off s _ f))
-
-tof_allows : (preset : ℕ) (q x y : Tri) (s t : Bool) (now : ℕ) (last running : Bool) (start : ℕ) (b : Bool) → Allows x s
-    → Allows (q_after Tof preset q x y) (q_of (step Tof preset (Timer last running start b) s t now))
-unfolding q_after step
-tof_allows preset q x y s t now last running start b h =
-    let since = cond last now start in
-    let runs = (last || running) && nat_lt (now - since) preset in
-    let kept = cond runs since 0 in
-    either (nat_eq preset 0) x (three_join x Unsure) _
-    (λ e. subst (λ (c : Bool). Allows x c) (sym (tof_q s runs kept ∙ or_off s runs (never_runs preset (now - since) (last || running) e))) h)
-    (λ e. always_on x s _ h (λ f. tof_q s runs kept ∙ or_on s runs f))
-
-tp_allows : (preset : ℕ) (q x y : Tri) (s t : Bool) (now : ℕ) (last running : Bool) (start : ℕ) (b : Bool)
-    → Allows (q_after Tp preset q x y) (q_of (step Tp preset (Timer last running start b) s t now))
-unfolding q_after step
-tp_allows preset q x y s t now last running start b =
-    either (nat_eq preset 0) Off Unsure _
-    (λ e. tp_q (running && nat_lt (now - start) preset) (s && (not last && nat_lt 0 preset)) s start now
-    ∙ neither _ _ (never_runs preset (now - start) running e) (never_begins preset s last e))
-    (λ e. tt)
-
-ctu_allows : (preset : ℕ) (q x y : Tri) (s t : Bool) (now : ℕ) (last : Bool) (cv : ℤ) (b : Bool) → Allows y t
-    → Allows (q_after Ctu preset q x y) (q_of (step Ctu preset (Counter last cv b) s t now))
-unfolding q_after step
-ctu_allows preset q x y s true now last cv b h = reset_q (nat_eq preset 0) y true _ h (λ e. none_counted preset)
-ctu_allows preset q x y s false now last cv b h = reset_q (nat_eq preset 0) y false _ h (λ e. cc)
-
-ctd_allows : (preset : ℕ) (q x y : Tri) (s t : Bool) (now : ℕ) (last : Bool) (cv : ℤ) (b : Bool) → Allows y t
-    → Allows (q_after Ctd preset q x y) (q_of (step Ctd preset (Counter last cv b) s t now))
-unfolding q_after step
-ctd_allows preset q x y s true now last cv b h = reset_q (nat_eq preset 0) y true _ h (λ e. none_counted preset)
-ctd_allows preset q x y s false now last cv b h = reset_q (nat_eq preset 0) y false _ h (λ e. cc)
-
-sr_allows : (preset : ℕ) (q x y : Tri) (s t : Bool) (now : ℕ) (b : Bool) → Allows q b → Allows x s → Allows y t
-    → Allows (q_after Sr preset q x y) (q_of (step Sr preset (Bistable b) s t now))
-unfolding q_after step
-sr_allows preset q x y s t now b k h g =
-    three_allowed.join_allows x (three_meet (three_inverse y) q) 0 s (not t && b) tt tt refl h
-    (three_allowed.meet_allows (three_inverse y) q 0 (not t) b tt tt refl (three_allowed.inverse_allows y 0 t tt refl g) k)
-
-rs_allows : (preset : ℕ) (q x y : Tri) (s t : Bool) (now : ℕ) (b : Bool) → Allows q b → Allows x s → Allows y t
-    → Allows (q_after Rs preset q x y) (q_of (step Rs preset (Bistable b) s t now))
-unfolding q_after step
-rs_allows preset q x y s t now b k h g =
-    three_allowed.meet_allows (three_inverse y) (three_join x q) 0 (not t) (s || b) tt tt refl (three_allowed.inverse_allows y 0 t tt refl g)
-    (three_allowed.join_allows x q 0 s b tt tt refl h k)
 
 -- ---- where more is known before, more is known after
 knows_same : (x : Tri) → KnowsMore x x
@@ -225,35 +98,58 @@ knows_either : (z : Bool) (x y u v : Tri) → KnowsMore x u → KnowsMore y v �
 knows_either true x y u v h k = h
 knows_either false x y u v h k = k
 
-pub knows_after : (kind : BlockKind) (preset : ℕ) (q r x y u v : Tri) → KnowsMore q r → KnowsMore x u → KnowsMore y v
-    → KnowsMore (q_after kind preset q x y) (q_after kind preset r u v)
+knows_answer : (a b : Answer) (x u : Tri) → AnswersMore a b → KnowsMore x u → KnowsMore (answered a x) (answered b u)
+knows_answer AnswersOff b x u k h = ap (λ (c : Answer). answered c u) k
+knows_answer AnswersOn b x u k h = ap (λ (c : Answer). answered c u) k
+knows_answer Input b x u k h = subst (λ (c : Answer). KnowsMore x (answered c u)) (sym k) h
+knows_answer Open b x u k h = tt
+
+answers_same : (a : Answer) → AnswersMore a a
+answers_same AnswersOff = refl
+answers_same AnswersOn = refl
+answers_same Input = refl
+answers_same Open = tt
+
+knows_after : (kind : BlockKind) (preset : ℕ) (q r : Tri) (a b : Answer) (x y u v : Tri) → KnowsMore q r → AnswersMore a b → KnowsMore x u → KnowsMore y v
+    → KnowsMore (q_after kind preset q a x y) (q_after kind preset r b u v)
 unfolding q_after
-knows_after Ton preset q r x y u v k h g = knows_either (nat_eq preset 0) x (three_meet x Unsure) u (three_meet u Unsure) h (knows_meet x Unsure u Unsure h tt)
-knows_after Tof preset q r x y u v k h g = knows_either (nat_eq preset 0) x (three_join x Unsure) u (three_join u Unsure) h (knows_join x Unsure u Unsure h tt)
-knows_after Tp preset q r x y u v k h g = knows_same (cond (nat_eq preset 0) Off Unsure)
-knows_after Ctu preset q r x y u v k h g = knows_choice y (three_known (nat_eq preset 0)) Unsure v (three_known (nat_eq preset 0)) Unsure g (knows_same (three_known (nat_eq preset 0))) tt
-knows_after Ctd preset q r x y u v k h g = knows_choice y (three_known (nat_eq preset 0)) Unsure v (three_known (nat_eq preset 0)) Unsure g (knows_same (three_known (nat_eq preset 0))) tt
-knows_after Sr preset q r x y u v k h g = knows_join x (three_meet (three_inverse y) q) u (three_meet (three_inverse v) r) h (knows_meet (three_inverse y) q (three_inverse v) r (knows_inverse y v g) k)
-knows_after Rs preset q r x y u v k h g = knows_meet (three_inverse y) (three_join x q) (three_inverse v) (three_join u r) (knows_inverse y v g) (knows_join x q u r h k)
+knows_after Ton preset q r a b x y u v k m h g =
+    knows_either (nat_eq preset 0) x (three_meet x (answered a x)) u (three_meet u (answered b u)) h (knows_meet x (answered a x) u (answered b u) h (knows_answer a b x u m h))
+knows_after Tof preset q r a b x y u v k m h g =
+    knows_either (nat_eq preset 0) x (three_join x (answered a x)) u (three_join u (answered b u)) h (knows_join x (answered a x) u (answered b u) h (knows_answer a b x u m h))
+knows_after Tp preset q r a b x y u v k m h g = knows_either (nat_eq preset 0) Off (answered a x) Off (answered b u) refl (knows_answer a b x u m h)
+knows_after Ctu preset q r a b x y u v k m h g =
+    knows_choice y (three_known (nat_eq preset 0)) (answered a x) v (three_known (nat_eq preset 0)) (answered b u) g (knows_same (three_known (nat_eq preset 0))) (knows_answer a b x u m h)
+knows_after Ctd preset q r a b x y u v k m h g =
+    knows_choice y (three_known (nat_eq preset 0)) (answered a x) v (three_known (nat_eq preset 0)) (answered b u) g (knows_same (three_known (nat_eq preset 0))) (knows_answer a b x u m h)
+knows_after Sr preset q r a b x y u v k m h g = knows_join x (three_meet (three_inverse y) q) u (three_meet (three_inverse v) r) h (knows_meet (three_inverse y) q (three_inverse v) r (knows_inverse y v g) k)
+knows_after Rs preset q r a b x y u v k m h g = knows_meet (three_inverse y) (three_join x q) (three_inverse v) (three_join u r) (knows_inverse y v g) (knows_join x q u r h k)
 
--- ---- an instance of any kind
-timer_counter : Timer false false 0 false ≡ Counter false (pos 0) false → ⊥
-timer_counter h = cc
+-- what is known allows a truth value just where that one knows more
+more_known : (x : Tri) (b : Bool) → Allows x b → KnowsMore x (three_known b)
+more_known On b h = ap three_known h
+more_known Off b h = ap three_known h
+more_known Unsure b h = tt
 
-timer_bistable : Timer false false 0 false ≡ Bistable false → ⊥
-timer_bistable h = cc
+allows_less : (x y : Tri) (b : Bool) → KnowsMore x y → Allows y b → Allows x b
+allows_less On y b h k = subst (λ (z : Tri). Allows z b) h k
+allows_less Off y b h k = subst (λ (z : Tri). Allows z b) h k
+allows_less Unsure y b h k = tt
 
-counter_timer : Counter false (pos 0) false ≡ Timer false false 0 false → ⊥
-counter_timer h = cc
+-- ---- what is stored
+-- Where less is said of the answer it does so too.
+answers_less : (kind : BlockKind) (preset now : ℕ) (a b : Answer) (s : Stored) → AnswersMore a b → DoesAnswer kind preset now b s → DoesAnswer kind preset now a s
+answers_less kind preset now a b s m d x y =
+    let same = λ (c : Bool). knows_same (three_known c) in
+    allows_less (q_after kind preset (three_known (q_of s)) a (three_known x) (three_known y)) (q_after kind preset (three_known (q_of s)) b (three_known x) (three_known y)) _
+    (knows_after kind preset (three_known (q_of s)) (three_known (q_of s)) a b (three_known x) (three_known y) (three_known x) (three_known y) (same (q_of s)) m (same x) (same y)) (d x y)
 
-counter_bistable : Counter false (pos 0) false ≡ Bistable false → ⊥
-counter_bistable h = cc
-
-bistable_timer : Bistable false ≡ Timer false false 0 false → ⊥
-bistable_timer h = cc
-
-bistable_counter : Bistable false ≡ Counter false (pos 0) false → ⊥
-bistable_counter h = cc
+pub open_answers : (kind : BlockKind) (preset now : ℕ) (s : Stored) → shape s ≡ new_block kind → DoesAnswer kind preset now Open s
+open_answers kind preset now s e = elim (one_answer kind preset now s e) [
+  | inl d ↦ answers_less kind preset now Open AnswersOff s tt d
+  | inr (inl d) ↦ answers_less kind preset now Open AnswersOn s tt d
+  | inr (inr d) ↦ answers_less kind preset now Open Input s tt d
+]
 
 either_shape : (b : Bool) (x y z : Stored) → shape x ≡ z → shape y ≡ z → shape (cond b x y) ≡ z
 either_shape true x y z h k = h
@@ -265,85 +161,135 @@ tp_shape true begins on start now = refl
 tp_shape false true on start now = refl
 tp_shape false false on start now = refl
 
-timer_step : (kind : BlockKind) (preset : ℕ) (q x y : Tri) (s t : Bool) (now : ℕ) (last running : Bool) (start : ℕ) (b : Bool) → shape (Timer last running start b) ≡ new_block kind → Allows x s
-    → MayStore kind (OfKind (q_after kind preset q x y)) (step kind preset (Timer last running start b) s t now)
+step_shape : (kind : BlockKind) (preset : ℕ) (s : Stored) (x y : Bool) (now : ℕ) → shape (step kind preset s x y now) ≡ shape s
 unfolding step
-timer_step Ton preset q x y s t now last running start b e h = (either_shape s _ _ _ refl refl, ton_allows preset q x y s t now last running start b h)
-timer_step Tof preset q x y s t now last running start b e h = (either_shape s _ _ _ refl refl, tof_allows preset q x y s t now last running start b h)
-timer_step Tp preset q x y s t now last running start b e h = (tp_shape _ _ s start now, tp_allows preset q x y s t now last running start b)
-timer_step Ctu preset q x y s t now last running start b e h = absurd (timer_counter e)
-timer_step Ctd preset q x y s t now last running start b e h = absurd (timer_counter e)
-timer_step Sr preset q x y s t now last running start b e h = absurd (timer_bistable e)
-timer_step Rs preset q x y s t now last running start b e h = absurd (timer_bistable e)
+step_shape Ton preset (Timer last running start q) x y now = either_shape x _ _ _ refl refl
+step_shape Tof preset (Timer last running start q) x y now = either_shape x _ _ _ refl refl
+step_shape Tp preset (Timer last running start q) x y now = tp_shape _ _ x start now
+step_shape Ctu preset (Timer last running start q) x y now = refl
+step_shape Ctd preset (Timer last running start q) x y now = refl
+step_shape Sr preset (Timer last running start q) x y now = refl
+step_shape Rs preset (Timer last running start q) x y now = refl
+step_shape Ton preset (Counter last cv q) x y now = refl
+step_shape Tof preset (Counter last cv q) x y now = refl
+step_shape Tp preset (Counter last cv q) x y now = refl
+step_shape Ctu preset (Counter last cv q) x y now = refl
+step_shape Ctd preset (Counter last cv q) x y now = refl
+step_shape Sr preset (Counter last cv q) x y now = refl
+step_shape Rs preset (Counter last cv q) x y now = refl
+step_shape Ton preset (Bistable q) x y now = refl
+step_shape Tof preset (Bistable q) x y now = refl
+step_shape Tp preset (Bistable q) x y now = refl
+step_shape Ctu preset (Bistable q) x y now = refl
+step_shape Ctd preset (Bistable q) x y now = refl
+step_shape Sr preset (Bistable q) x y now = refl
+step_shape Rs preset (Bistable q) x y now = refl
 
-counter_step : (kind : BlockKind) (preset : ℕ) (q x y : Tri) (s t : Bool) (now : ℕ) (last : Bool) (cv : ℤ) (b : Bool) → shape (Counter last cv b) ≡ new_block kind → Allows y t
-    → MayStore kind (OfKind (q_after kind preset q x y)) (step kind preset (Counter last cv b) s t now)
-unfolding step
-counter_step Ton preset q x y s t now last cv b e h = absurd (counter_timer e)
-counter_step Tof preset q x y s t now last cv b e h = absurd (counter_timer e)
-counter_step Tp preset q x y s t now last cv b e h = absurd (counter_timer e)
-counter_step Ctu preset q x y s t now last cv b e h = (refl, ctu_allows preset q x y s t now last cv b h)
-counter_step Ctd preset q x y s t now last cv b e h = (refl, ctd_allows preset q x y s t now last cv b h)
-counter_step Sr preset q x y s t now last cv b e h = absurd (counter_bistable e)
-counter_step Rs preset q x y s t now last cv b e h = absurd (counter_bistable e)
+step_sound : (kind : BlockKind) (preset now : ℕ) (b : Outcome) (s : Stored) (x y : Tri) (u v : Bool) → MayStore kind preset now b s → Allows x u → Allows y v
+    → MayStore kind preset now (outcome_after kind preset b x y) (step kind preset s u v now)
+step_sound kind preset now Anything s x y u v k h g = tt
+step_sound kind preset now (OfKind q a) s x y u v k h g =
+    let fits = step_shape kind preset s u v now ∙ k.0 in (
+      fits,
+      allows_less (q_after kind preset q a x y) (q_after kind preset (three_known (q_of s)) a (three_known u) (three_known v)) _
+          (knows_after kind preset q (three_known (q_of s)) a a x y (three_known u) (three_known v) (more_known q (q_of s) k.1) (answers_same a) (more_known x u h) (more_known y v g))
+          (k.2 u v),
+      open_answers kind preset now (step kind preset s u v now) fits,
+    )
 
-bistable_step : (kind : BlockKind) (preset : ℕ) (q x y : Tri) (s t : Bool) (now : ℕ) (b : Bool) → shape (Bistable b) ≡ new_block kind → Allows q b → Allows x s → Allows y t
-    → MayStore kind (OfKind (q_after kind preset q x y)) (step kind preset (Bistable b) s t now)
-unfolding step
-bistable_step Ton preset q x y s t now b e k h g = absurd (bistable_timer e)
-bistable_step Tof preset q x y s t now b e k h g = absurd (bistable_timer e)
-bistable_step Tp preset q x y s t now b e k h g = absurd (bistable_timer e)
-bistable_step Ctu preset q x y s t now b e k h g = absurd (bistable_counter e)
-bistable_step Ctd preset q x y s t now b e k h g = absurd (bistable_counter e)
-bistable_step Sr preset q x y s t now b e k h g = (refl, sr_allows preset q x y s t now b k h g)
-bistable_step Rs preset q x y s t now b e k h g = (refl, rs_allows preset q x y s t now b k h g)
+pub q_sound : (kind : BlockKind) (preset now : ℕ) (b : Outcome) (s : Stored) → MayStore kind preset now b s → Allows (q_known b) (q_of s)
+q_sound kind preset now (OfKind q a) s h = h.1
+q_sound kind preset now Anything s h = tt
 
-step_sound : (kind : BlockKind) (preset : ℕ) (b : Outcome) (c : Stored) (x y : Tri) (s t : Bool) (now : ℕ) → MayStore kind b c → Allows x s → Allows y t
-    → MayStore kind (outcome_after kind preset b x y) (step kind preset c s t now)
-step_sound kind preset Anything c x y s t now k h g = tt
-step_sound kind preset (OfKind q) (Timer last running start b) x y s t now k h g = timer_step kind preset q x y s t now last running start b k.0 h
-step_sound kind preset (OfKind q) (Counter last cv b) x y s t now k h g = counter_step kind preset q x y s t now last cv b k.0 g
-step_sound kind preset (OfKind q) (Bistable b) x y s t now k h g = bistable_step kind preset q x y s t now b k.0 k.1 h g
+agreed_first : (a b : Answer) → AnswersMore (agreed a b) a
+agreed_first AnswersOff AnswersOff = refl
+agreed_first AnswersOff AnswersOn = tt
+agreed_first AnswersOff Input = tt
+agreed_first AnswersOff Open = tt
+agreed_first AnswersOn AnswersOff = tt
+agreed_first AnswersOn AnswersOn = refl
+agreed_first AnswersOn Input = tt
+agreed_first AnswersOn Open = tt
+agreed_first Input AnswersOff = tt
+agreed_first Input AnswersOn = tt
+agreed_first Input Input = refl
+agreed_first Input Open = tt
+agreed_first Open b = tt
 
-pub q_sound : (kind : BlockKind) (b : Outcome) (s : Stored) → MayStore kind b s → Allows (q_known b) (q_of s)
-q_sound kind (OfKind q) s h = h.1
-q_sound kind Anything s h = tt
+agreed_swaps : (a b : Answer) → agreed a b ≡ agreed b a
+agreed_swaps AnswersOff AnswersOff = refl
+agreed_swaps AnswersOff AnswersOn = refl
+agreed_swaps AnswersOff Input = refl
+agreed_swaps AnswersOff Open = refl
+agreed_swaps AnswersOn AnswersOff = refl
+agreed_swaps AnswersOn AnswersOn = refl
+agreed_swaps AnswersOn Input = refl
+agreed_swaps AnswersOn Open = refl
+agreed_swaps Input AnswersOff = refl
+agreed_swaps Input AnswersOn = refl
+agreed_swaps Input Input = refl
+agreed_swaps Input Open = refl
+agreed_swaps Open AnswersOff = refl
+agreed_swaps Open AnswersOn = refl
+agreed_swaps Open Input = refl
+agreed_swaps Open Open = refl
 
-one_of : (kind : BlockKind) (q : Tri) (h : Bool) (s t : Stored) → shape s ≡ new_block kind → shape t ≡ new_block kind → Allows q (cond h (q_of s) (q_of t)) → MayStore kind (OfKind q) (cond h s t)
-one_of kind q true s t e f k = (e, k)
-one_of kind q false s t e f k = (f, k)
+agreed_second : (a b : Answer) → AnswersMore (agreed a b) b
+agreed_second a b = subst (λ (c : Answer). AnswersMore c b) (agreed_swaps b a) (agreed_first b a)
 
-choice_sound : (kind : BlockKind) (g : Tri) (h : Bool) (b e : Outcome) (c f : Stored) → Allows g h → MayStore kind b c → MayStore kind e f → MayStore kind (outcome_choice g b e) (cond h c f)
-choice_sound kind g h (OfKind q) (OfKind r) c f k m n =
-    one_of kind (three_choice g q r) h c f m.0 n.0 (three_allowed.choice_allows g q r 0 h (q_of c) (q_of f) tt tt tt refl k m.1 n.1)
-choice_sound kind g h (OfKind q) Anything c f k m n = tt
-choice_sound kind g h Anything e c f k m n = tt
+one_of : (kind : BlockKind) (preset now : ℕ) (q : Tri) (a b : Answer) (h : Bool) (s t : Stored) → shape s ≡ new_block kind → shape t ≡ new_block kind
+    → DoesAnswer kind preset now a s → DoesAnswer kind preset now b t → Allows q (cond h (q_of s) (q_of t)) → MayStore kind preset now (OfKind q (agreed a b)) (cond h s t)
+one_of kind preset now q a b true s t e f m n k = (e, k, answers_less kind preset now (agreed a b) a s (agreed_first a b) m)
+one_of kind preset now q a b false s t e f m n k = (f, k, answers_less kind preset now (agreed a b) b t (agreed_second a b) n)
 
--- What is known of instances allows what steps and choices leave, whatever the moments.
-pub outcomes_keep : (now : ℕ) (d : Diagram) → StepsKeep d outcomes plainly (AllowsAt AnyTri OnePlace three_allows 0) (λ inst. MayStore (d.kind inst)) 0 now
+choice_sound : (kind : BlockKind) (preset now : ℕ) (g : Tri) (h : Bool) (b e : Outcome) (c f : Stored) → Allows g h → MayStore kind preset now b c → MayStore kind preset now e f
+    → MayStore kind preset now (outcome_choice g b e) (cond h c f)
+choice_sound kind preset now g h (OfKind q a) (OfKind r b) c f k m n =
+    one_of kind preset now (three_choice g q r) a b h c f m.0 n.0 m.2 n.2 (three_allowed.choice_allows g q r 0 h (q_of c) (q_of f) tt tt tt refl k m.1 n.1)
+choice_sound kind preset now g h (OfKind q a) Anything c f k m n = tt
+choice_sound kind preset now g h Anything e c f k m n = tt
+
+-- What is known of instances allows what steps and choices leave, at any moment.
+pub outcomes_keep : (now : ℕ) (d : Diagram) → StepsKeep d outcomes plainly (AllowsAt AnyTri OnePlace three_allows 0) (λ inst. MayStore (d.kind inst) (d.preset inst) now) 0 now
 outcomes_keep now d = record {
   past = λ inst. tt;
-  q = λ inst b c h. (tt, λ _. q_sound (d.kind inst) b c h);
-  step = λ inst b c x y s t h first second. step_sound (d.kind inst) (d.preset inst) b c x y s t now h (first.1 refl) (second.1 refl);
-  choice = λ inst g h b e c f r p q. choice_sound (d.kind inst) g h b e c f (r.1 refl) p q;
+  q = λ inst b c h. (tt, λ _. q_sound (d.kind inst) (d.preset inst) now b c h);
+  step = λ inst b c x y s t h first second. step_sound (d.kind inst) (d.preset inst) now b c x y s t h (first.1 refl) (second.1 refl);
+  choice = λ inst g h b e c f r p q. choice_sound (d.kind inst) (d.preset inst) now g h b e c f (r.1 refl) p q;
 }
 
 -- ---- where more is known
 pub tells_q : (b c : Outcome) → TellsMore b c → KnowsMore (q_known b) (q_known c)
-tells_q (OfKind q) (OfKind r) h = h
-tells_q (OfKind q) Anything h = absurd h
+tells_q (OfKind q a) (OfKind r b) h = h.0
+tells_q (OfKind q a) Anything h = absurd h
 tells_q Anything c h = tt
 
 tells_step : (kind : BlockKind) (preset : ℕ) (b c : Outcome) (x y u v : Tri) → TellsMore b c → KnowsMore x u → KnowsMore y v → TellsMore (outcome_after kind preset b x y) (outcome_after kind preset c u v)
-tells_step kind preset (OfKind q) (OfKind r) x y u v k h g = knows_after kind preset q r x y u v k h g
-tells_step kind preset (OfKind q) Anything x y u v k h g = absurd k
+tells_step kind preset (OfKind q a) (OfKind r b) x y u v k h g = (knows_after kind preset q r a b x y u v k.0 k.1 h g, tt)
+tells_step kind preset (OfKind q a) Anything x y u v k h g = absurd k
 tells_step kind preset Anything c x y u v k h g = tt
 
+-- what two answers agree on
+agreed_more : (a b c d : Answer) → AnswersMore a c → AnswersMore b d → AnswersMore (agreed a b) (agreed c d)
+agreed_more AnswersOff AnswersOff c d h k = ap₂ agreed h k
+agreed_more AnswersOff AnswersOn c d h k = tt
+agreed_more AnswersOff Input c d h k = tt
+agreed_more AnswersOff Open c d h k = tt
+agreed_more AnswersOn AnswersOff c d h k = tt
+agreed_more AnswersOn AnswersOn c d h k = ap₂ agreed h k
+agreed_more AnswersOn Input c d h k = tt
+agreed_more AnswersOn Open c d h k = tt
+agreed_more Input AnswersOff c d h k = tt
+agreed_more Input AnswersOn c d h k = tt
+agreed_more Input Input c d h k = ap₂ agreed h k
+agreed_more Input Open c d h k = tt
+agreed_more Open b c d h k = tt
+
 tells_choice : (g h : Tri) (b e c f : Outcome) → KnowsMore g h → TellsMore b c → TellsMore e f → TellsMore (outcome_choice g b e) (outcome_choice h c f)
-tells_choice g h (OfKind q) (OfKind r) (OfKind u) (OfKind v) k m n = knows_choice g q r h u v k m n
-tells_choice g h (OfKind q) (OfKind r) Anything f k m n = absurd m
-tells_choice g h (OfKind q) (OfKind r) (OfKind u) Anything k m n = absurd n
-tells_choice g h (OfKind q) Anything c f k m n = tt
+tells_choice g h (OfKind q a) (OfKind r b) (OfKind u c) (OfKind v d) k m n = (knows_choice g q r h u v k m.0 n.0, agreed_more a b c d m.1 n.1)
+tells_choice g h (OfKind q a) (OfKind r b) Anything f k m n = absurd m
+tells_choice g h (OfKind q a) (OfKind r b) (OfKind u c) Anything k m n = absurd n
+tells_choice g h (OfKind q a) Anything c f k m n = tt
 tells_choice g h Anything e c f k m n = tt
 
 pub outcomes_grow : (d : Diagram) → StepsKeep d outcomes outcomes KnowsMore (λ inst. TellsMore) 0 0

@@ -8,8 +8,9 @@ ghost use Rattle.ladder_never.specs.Cases.{told, IsSettled};
 ghost use Rattle.ladder_never.specs.Outcomes.{outcomes};
 ghost use Rattle.ladder_signals.specs.Three.{three};
 
+use crate::answer::Answer;
 use crate::outcome::Outcome;
-use crate::pinning::{is_off, pin, told};
+use crate::pinning::{answer, is_off, pin, pin_answer, told};
 use crate::point::Point;
 use ladder_glance::{Knowledge, Room, scan_known};
 use ladder_grid::Program;
@@ -56,6 +57,7 @@ pub fn first_open(points: &[Point], case: &Knowledge<Tri, Outcome>) -> usize
 
 /// Whether the target is settled to be OFF after a scan from what is known in the case, by at most so many scans, with further cases by
 /// these points. The case is the same afterwards.
+#[cycle(settling)]
 pub fn settle_off(
     program: &Program,
     target: Point,
@@ -90,11 +92,38 @@ pub fn settle_off(
             scans: left,
         };
     }
-    let point = points[next];
     let rest = &points[next + 1..];
+    match points[next] {
+        Point::Answer(inst) => by_answers(program, target, inst, rest, case, trial, room, left),
+        point => by_values(program, target, point, rest, case, trial, room, left),
+    }
+}
+
+/// The same where the point is ON, and where it is OFF.
+#[cycle(settling)]
+fn by_values(
+    program: &Program,
+    target: Point,
+    point: Point,
+    rest: &[Point],
+    case: &mut Knowledge<Tri, Outcome>,
+    trial: &mut Knowledge<Tri, Outcome>,
+    room: &mut Room<Tri>,
+    scans: u32,
+) -> Search
+    requires case { HasSizes program.now case.old }
+    requires trial { HasSizes program.now trial.old }
+    requires room { IsSpareFor program.now room.old }
+    ensures settled { IsTrue result.is_settled → IsSettled program.now target case.old }
+    ensures scans { result.scans ≤ scans }
+    ensures none { scans ≡ 0 → result.is_settled ≡ false }
+    ensures case { case.new ≡ case.old }
+    ensures trial { HasSizes program.now trial.new }
+    ensures room { room.new ≡ room.old }
+{
     let before = told(point, case);
     pin(point, Tri::On, case);
-    let on = settle_off(program, target, rest, case, trial, room, left);
+    let on = settle_off(program, target, rest, case, trial, room, scans);
     if !on.is_settled {
         pin(point, before, case);
         return on;
@@ -103,4 +132,45 @@ pub fn settle_off(
     let off = settle_off(program, target, rest, case, trial, room, on.scans);
     pin(point, before, case);
     off
+}
+
+/// The same with each of the three answers of an instance.
+#[cycle(settling)]
+fn by_answers(
+    program: &Program,
+    target: Point,
+    inst: usize,
+    rest: &[Point],
+    case: &mut Knowledge<Tri, Outcome>,
+    trial: &mut Knowledge<Tri, Outcome>,
+    room: &mut Room<Tri>,
+    scans: u32,
+) -> Search
+    requires case { HasSizes program.now case.old }
+    requires trial { HasSizes program.now trial.old }
+    requires room { IsSpareFor program.now room.old }
+    ensures settled { IsTrue result.is_settled → IsSettled program.now target case.old }
+    ensures scans { result.scans ≤ scans }
+    ensures none { scans ≡ 0 → result.is_settled ≡ false }
+    ensures case { case.new ≡ case.old }
+    ensures trial { HasSizes program.now trial.new }
+    ensures room { room.new ≡ room.old }
+{
+    let before = answer(inst, case);
+    pin_answer(inst, Answer::On, case);
+    let on = settle_off(program, target, rest, case, trial, room, scans);
+    if !on.is_settled {
+        pin_answer(inst, before, case);
+        return on;
+    }
+    pin_answer(inst, Answer::Off, case);
+    let off = settle_off(program, target, rest, case, trial, room, on.scans);
+    if !off.is_settled {
+        pin_answer(inst, before, case);
+        return off;
+    }
+    pin_answer(inst, Answer::Input, case);
+    let input = settle_off(program, target, rest, case, trial, room, off.scans);
+    pin_answer(inst, before, case);
+    input
 }

@@ -1,10 +1,10 @@
-//! An instance is kept over three values by what is known of its Q.
+//! An instance is kept over three values by what is known of its Q and of its answer.
 
 ghost use Rattle.ladder_never.specs.OutcomeLaws.{outcomes_keep_values};
 ghost use Rattle.ladder_never.specs.Outcomes.{AnyOutcome, outcomes};
 
 use crate::outcome::Outcome;
-use crate::table::outcome_after;
+use crate::table::{agreed, outcome_after};
 use ladder_elements::{Operations, Stored};
 use ladder_glance::Keep;
 use ladder_signals::Tri;
@@ -23,7 +23,7 @@ impl Keep<Tri> for Outcome {
 
     fn q(self) -> Tri {
         match self {
-            Outcome::OfKind(q) => q,
+            Outcome::OfKind { q, .. } => q,
             Outcome::Anything => Tri::Unsure,
         }
     }
@@ -34,10 +34,19 @@ impl Keep<Tri> for Outcome {
 
     fn choose(condition: Tri, on: Outcome, off: Outcome) -> Outcome {
         match (on, off) {
-            (Outcome::OfKind(q), Outcome::OfKind(r)) => Outcome::OfKind(Tri::choose(
-                condition, q, r,
-            )),
-            (Outcome::OfKind(_) | Outcome::Anything, _) => Outcome::Anything,
+            (
+                Outcome::OfKind { q, answer },
+                Outcome::OfKind {
+                    q: r,
+                    answer: other,
+                },
+            ) => {
+                Outcome::OfKind {
+                    q: Tri::choose(condition, q, r),
+                    answer: agreed(answer, other),
+                }
+            }
+            (Outcome::OfKind { .. } | Outcome::Anything, _) => Outcome::Anything,
         }
     }
 }

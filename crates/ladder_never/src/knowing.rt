@@ -4,9 +4,11 @@ ghost use Rattle.std.specs.Prelude.{◌≡◌, length, map, replicate};
 ghost use Rattle.ladder_grid.specs.Program.{memories_of};
 ghost use Rattle.ladder_glance.specs.Sizes.{HasSizes};
 ghost use Rattle.ladder_never.specs.Never.{off_or_open, knowing, IsSetOf};
+ghost use Rattle.ladder_never.specs.declared.answer.Answer.TheVariants as answer;
 ghost use Rattle.ladder_never.specs.declared.outcome.Outcome.TheVariants as outcome;
 ghost use Rattle.ladder_signals.specs.declared.tri.Tri.TheVariants.{Unsure};
 
+use crate::answer::Answer;
 use crate::outcome::Outcome;
 use crate::set::Set;
 use ladder_glance::Knowledge;
@@ -39,10 +41,14 @@ fn open_memories(count: usize, known: &mut Knowledge<Tri, Outcome>)
 
 fn know_blocks(instances: &[bool], known: &mut Knowledge<Tri, Outcome>)
     requires { length known.old.blocks ≡ length instances.now }
-    ensures { known.new ≡ record known.old { blocks = map (λ b. outcome.OfKind (off_or_open b)) instances.now } }
+    ensures { known.new ≡ record known.old { blocks = map (λ b. outcome.OfKind (off_or_open b) answer.Open) instances.now } }
 {
     for inst in 0..instances.len() {
-        known.keep(inst, Outcome::OfKind(off_or_open(instances[inst])));
+        let of_kind = Outcome::OfKind {
+            q: off_or_open(instances[inst]),
+            answer: Answer::Open,
+        };
+        known.keep(inst, of_kind);
     }
 }
 

@@ -3,7 +3,8 @@
 ghost use Rattle.ladder_elements.specs.Relations.{AllowsAt, allows_kept};
 ghost use Rattle.ladder_elements.specs.Truth.{OnePlace};
 ghost use Rattle.ladder_known.specs.KnownScan.{plainly};
-ghost use Rattle.ladder_never.specs.Cases.{AreNeverOn, SettledIsOff};
+ghost use Rattle.ladder_never.specs.Allowing.{KnowingAllows, SettledIsOff};
+ghost use Rattle.ladder_never.specs.Cases.{AreNeverOn};
 ghost use Rattle.ladder_never.specs.OutcomeLaws.{knows_kept, outcomes_grow, outcomes_keep};
 ghost use Rattle.ladder_never.specs.Outcomes.{KnowsMore, MayStore, TellsMore, outcomes};
 ghost use Rattle.ladder_never.specs.Removing.{LeavesOff};
@@ -38,7 +39,7 @@ impl StepRelation for Allowing {
 
     ghost related = { λ _. AllowsAt AnyTri OnePlace three_allows 0 };
 
-    ghost alike = { λ _ d inst. MayStore (d.kind inst) };
+    ghost alike = { λ at d inst. MayStore (d.kind inst) (d.preset inst) at.now };
 
     ghost left_moment = { λ _. 0 };
 
@@ -93,14 +94,20 @@ pub fn never_on(program: &Program)
     known_is_scan(program);
 }
 
-/// A point that is settled to be OFF is OFF after a scan from each state that what is known allows, at any moment, where inputs keep their
+/// A point that is settled to be OFF is OFF after a scan from each state that what is known allows at its moment, where inputs keep their
 /// values.
 pub fn settled_off(program: &Program)
     ensures { SettledIsOff program.now }
 {
-    checked(program);
     scan_keeps::<Allowing>();
     known_is_scan(program);
+}
+
+/// All that is known where a set is OFF allows each state of the program in which it is, at any moment.
+pub fn knowing_allows(program: &Program)
+    ensures { KnowingAllows program.now }
+{
+    let _program = program;
 }
 
 /// What one scan leaves OFF of a set it leaves OFF of each larger one.

@@ -4,6 +4,7 @@
 //! switches a coil on.
 #![tactic(auto)]
 
+mod answer;
 mod begin;
 pub mod cases;
 mod keeping;
@@ -18,6 +19,7 @@ mod removing;
 mod set;
 mod table;
 
+pub use answer::Answer;
 pub use never::never_on;
 pub use outcome::Outcome;
 pub use point::Point;

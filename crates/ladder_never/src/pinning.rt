@@ -2,9 +2,12 @@
 
 ghost use Rattle.std.specs.Prelude.{◌≡◌};
 ghost use Rattle.ladder_glance.specs.Sizes.{AreAsLong};
-ghost use Rattle.ladder_never.specs.Cases.{pinned, told, with_q};
+ghost use Rattle.ladder_known.specs.KnownScan.{kept_at};
+ghost use Rattle.ladder_never.specs.Cases.{answering, is_answered, pinned, told, with_answer, with_q};
+ghost use Rattle.ladder_never.specs.Outcomes.{answer_known, outcomes};
 ghost use Rattle.ladder_never.specs.Removing.{is_off};
 
+use crate::answer::Answer;
 use crate::outcome::Outcome;
 use crate::point::Point;
 use ladder_glance::{Keep, Knowledge};
@@ -19,7 +22,26 @@ pub(crate) fn is_off(value: Tri) -> bool
     }
 }
 
-/// What is known of a point.
+fn is_answered(answer: Answer) -> Tri
+    ensures { result ≡ is_answered answer }
+{
+    match answer {
+        Answer::Off | Answer::On | Answer::Input => Tri::On,
+        Answer::Open => Tri::Unsure,
+    }
+}
+
+/// What an instance answers in its next step.
+pub fn answer(inst: usize, known: &Knowledge<Tri, Outcome>) -> Answer
+    ensures { result ≡ answer_known (kept_at outcomes known.now inst) }
+{
+    match known.kept(inst) {
+        Outcome::OfKind { answer, .. } => answer,
+        Outcome::Anything => Answer::Open,
+    }
+}
+
+/// What is known of a point: of what an instance answers, ON where it is known.
 #[tactic(auto, unfolding(crate::specs::Cases::told))]
 pub fn told(point: Point, known: &Knowledge<Tri, Outcome>) -> Tri
     ensures { result ≡ told point known.now }
@@ -27,6 +49,8 @@ pub fn told(point: Point, known: &Knowledge<Tri, Outcome>) -> Tri
     match point {
         Point::Variable(var) => known.value(var),
         Point::Output(inst) => known.kept(inst).q(),
+        Point::Memory(number) => known.memory(Some(number)),
+        Point::Answer(inst) => is_answered(answer(inst, known)),
     }
 }
 
@@ -34,12 +58,12 @@ fn with_q(outcome: Outcome, q: Tri) -> Outcome
     ensures { result ≡ with_q outcome q }
 {
     match outcome {
-        Outcome::OfKind(_) => Outcome::OfKind(q),
+        Outcome::OfKind { answer, .. } => Outcome::OfKind { q, answer },
         Outcome::Anything => Outcome::Anything,
     }
 }
 
-/// Knows a value of a point; of an instance of which nothing is known nothing is.
+/// Gives a point a value. What an instance answers has none: `pin_answer` gives it one.
 #[tactic(auto, unfolding(crate::specs::Cases::pinned))]
 pub fn pin(point: Point, value: Tri, known: &mut Knowledge<Tri, Outcome>)
     ensures known { known.new ≡ pinned known.old point value }
@@ -51,5 +75,26 @@ pub fn pin(point: Point, value: Tri, known: &mut Knowledge<Tri, Outcome>)
             let old = known.kept(inst);
             known.keep(inst, with_q(old, value));
         }
+        Point::Memory(number) => known.put_memory(number, value),
+        Point::Answer(_) => {}
     }
+}
+
+fn with_answer(outcome: Outcome, answer: Answer) -> Outcome
+    ensures { result ≡ with_answer outcome answer }
+{
+    match outcome {
+        Outcome::OfKind { q, .. } => Outcome::OfKind { q, answer },
+        Outcome::Anything => Outcome::Anything,
+    }
+}
+
+/// Says what an instance answers in its next step.
+#[tactic(auto, unfolding(crate::specs::Cases::answering))]
+pub fn pin_answer(inst: usize, answer: Answer, known: &mut Knowledge<Tri, Outcome>)
+    ensures known { known.new ≡ answering known.old inst answer }
+    ensures sizes { AreAsLong known.new known.old }
+{
+    let old = known.kept(inst);
+    known.keep(inst, with_answer(old, answer));
 }

@@ -1,14 +1,16 @@
 //! The points that a target may depend on, the nearest first. Their order decides how long a search takes, and nothing else.
+//!
 
 ghost use Rattle.std.specs.Prelude.{◌≡◌, ◌<◌, ◌≤◌, length};
 
 use crate::point::Point;
 use ladder_grid::{Cell, Operand, Program};
 use ladder_page::geometry::PLACES;
-use ladder_scan::scene::cell;
+use ladder_scan::scene::{cell, instance};
+use ladder_vars::BlockKind;
 
-/// What a cell sees before the scan.
-fn seen_by(cell: Cell) -> Option<Point> {
+/// What a contact reads.
+fn operand_seen(cell: Cell) -> Option<Point> {
     match cell {
         Cell::Contact {
             operand: Operand::Var(var),
@@ -17,10 +19,51 @@ fn seen_by(cell: Cell) -> Option<Point> {
         Cell::Contact {
             operand: Operand::Output(inst),
             ..
-        }
-        | Cell::Block { inst } => Some(Point::Output(inst)),
+        } => Some(Point::Output(inst)),
         Cell::Empty
         | Cell::Wire
+        | Cell::Coil { .. }
+        | Cell::Block { .. }
+        | Cell::Lower { .. }
+        | Cell::Jump { .. }
+        | Cell::Return => None,
+    }
+}
+
+/// The memory of an edge contact or an edge coil.
+fn memory_seen(cell: Cell) -> Option<Point> {
+    match cell {
+        Cell::Contact {
+            memory: Some(number),
+            ..
+        }
+        | Cell::Coil {
+            memory: Some(number),
+            ..
+        } => Some(Point::Memory(number)),
+        Cell::Empty
+        | Cell::Wire
+        | Cell::Contact { .. }
+        | Cell::Coil { .. }
+        | Cell::Block { .. }
+        | Cell::Lower { .. }
+        | Cell::Jump { .. }
+        | Cell::Return => None,
+    }
+}
+
+/// What a timer or a counter answers, which doesn't depend on its Q, and the Q of a bistable.
+fn block_seen(program: &Program, cell: Cell) -> Option<Point> {
+    match cell {
+        Cell::Block { inst } => match instance(program, inst).0 {
+            BlockKind::Ton | BlockKind::Tof | BlockKind::Tp | BlockKind::Ctu | BlockKind::Ctd => {
+                Some(Point::Answer(inst))
+            }
+            BlockKind::Sr | BlockKind::Rs => Some(Point::Output(inst)),
+        },
+        Cell::Empty
+        | Cell::Wire
+        | Cell::Contact { .. }
         | Cell::Coil { .. }
         | Cell::Lower { .. }
         | Cell::Jump { .. }
@@ -28,11 +71,12 @@ fn seen_by(cell: Cell) -> Option<Point> {
     }
 }
 
+/// A memory and an answer matter just where they are seen.
 fn is_written_by(point: Point, cell: Cell) -> bool {
     match (point, cell) {
         (Point::Variable(var), Cell::Coil { var: written, .. }) => var == written,
         (Point::Output(inst), Cell::Block { inst: stepped }) => inst == stepped,
-        (Point::Variable(_) | Point::Output(_), _) => false,
+        (Point::Variable(_) | Point::Output(_) | Point::Memory(_) | Point::Answer(_), _) => false,
     }
 }
 
@@ -70,6 +114,26 @@ fn add(points: &mut [Point], count: usize, point: Point) -> usize
     count + 1
 }
 
+fn add_found(points: &mut [Point], count: usize, found: Option<Point>) -> usize
+    requires { count ≤ length points.old }
+    ensures { result ≤ length points.new }
+{
+    match found {
+        Some(point) => add(points, count, point),
+        None => count,
+    }
+}
+
+/// Adds what a cell sees.
+fn add_cell(program: &Program, cell: Cell, points: &mut [Point], count: usize) -> usize
+    requires { count ≤ length points.old }
+    ensures { result ≤ length points.new }
+{
+    let operand = add_found(points, count, operand_seen(cell));
+    let memory = add_found(points, operand, memory_seen(cell));
+    add_found(points, memory, block_seen(program, cell))
+}
+
 /// Adds what the cells of a rung see.
 fn add_seen(program: &Program, rung: usize, points: &mut [Point], count: usize) -> usize
     requires rung { rung < program.now.rungs }
@@ -78,9 +142,7 @@ fn add_seen(program: &Program, rung: usize, points: &mut [Point], count: usize) 
 {
     let mut more = count;
     for place in 0..PLACES {
-        if let Some(point) = seen_by(cell(program, rung, place)) {
-            more = add(points, more, point);
-        }
+        more = add_cell(program, cell(program, rung, place), points, more);
     }
     more
 }

@@ -1,0 +1,11 @@
+use Rattle.std.proofs.Common.{◌+◌, ◌*◌}
+use Rattle.ladder_never.proofs.cases.+settling.Given as goal
+
+abbrev pub decreases-settle_off : goal.decreases-settle_off
+decreases-settle_off l = 2 * l.scans
+
+abbrev pub decreases-by_values : goal.decreases-by_values
+decreases-by_values l = 2 * l.scans + 1
+
+abbrev pub decreases-by_answers : goal.decreases-by_answers
+decreases-by_answers l = 2 * l.scans + 1

@@ -1,0 +1,46 @@
+-- Which states what is known allows.
+use Rattle.std.specs.Prelude.{◌≡◌, ℕ, Bool, false, [], slice_index_or}
+use Rattle.ladder_vars.specs.declared.kind.BlockKind.TheVariants.{Ton}
+use Rattle.ladder_grid.specs.Program.{Drawing}
+use Rattle.ladder_elements.specs.Blocks.{q_of, new_block}
+use Rattle.ladder_elements.specs.Relations.{AllowsAt}
+use Rattle.ladder_elements.specs.Truth.{OnePlace, plain}
+use Rattle.ladder_scan.specs.Programs.{diagram_of}
+use Rattle.ladder_scan.specs.Rung.{Held}
+use Rattle.ladder_scan.specs.Scan.{after_scan}
+use Rattle.ladder_scan.specs.Standing.{Standing, Fits, IsStanding}
+use Rattle.ladder_known.specs.KnownScan.{Known, all_known, plainly}
+use Rattle.ladder_known.specs.KnownLaws.{BothKnown}
+use Rattle.ladder_signals.specs.Three.{AnyTri, three_allows}
+use Rattle.ladder_signals.specs.declared.tri.Tri.{Tri}
+use Rattle.ladder_never.specs.Never.{Bits, IsOff, IsSetOf, knowing}
+use Rattle.ladder_never.specs.Cases.{IsSettled}
+use Rattle.ladder_never.specs.Outcomes.{MayStore}
+use Rattle.ladder_never.specs.declared.outcome.Outcome.{Outcome}
+use Rattle.ladder_never.specs.declared.point.Point.{Point}
+use Rattle.ladder_never.specs.declared.point.Point.TheVariants.{Variable, Output, Memory, Answer as AnswerOf}
+
+abbrev pub Allows : Tri → Bool → Type 0
+Allows = AllowsAt AnyTri OnePlace three_allows 0
+
+-- The state may be this one, where a scan of it is made at the moment: what is known allows each value and each memory, and each instance
+-- may store what it does.
+abbrev pub AllowsState : Drawing → ℕ → Known Tri Outcome → Held → Type 0
+AllowsState p moment k h = BothKnown Allows (λ inst. MayStore ((diagram_of p).kind inst) ((diagram_of p).preset inst) moment) k (all_known plain plainly h)
+
+-- Whether a point is ON in a state; what an instance answers is no truth value.
+abbrev pub is_on_in : Point → Held → Bool
+is_on_in (Variable var) h = slice_index_or h.values var false
+is_on_in (Output inst) h = q_of (slice_index_or h.kept.blocks inst (new_block Ton))
+is_on_in (Memory number) h = slice_index_or h.kept.memories number false
+is_on_in (AnswerOf inst) h = false
+
+-- A point that is settled to be OFF from what is known is OFF after one scan from each state that this allows, at the same moment. The scan
+-- gives no input a value, so that inputs keep theirs.
+abbrev pub SettledIsOff : Drawing → Type 0
+SettledIsOff p = (target : Point) (k : Known Tri Outcome) → IsSettled p target k → (moment : ℕ) (h : Held) → AllowsState p moment k h
+    → is_on_in target (after_scan (diagram_of p) moment [] h) ≡ false
+
+-- All that is known where a set is OFF allows each state in which it is OFF, at any moment.
+abbrev pub KnowingAllows : Drawing → Type 0
+KnowingAllows p = (s : Standing) → Fits p s → IsStanding s → (z : Bits) → IsSetOf p z → IsOff z s.held → (moment : ℕ) → AllowsState p moment (knowing p z) s.held
