@@ -13,6 +13,7 @@ use crate::numbers::bit_for;
 use ladder_glance::{Keep, Knowledge};
 use ladder_grid::Program;
 use ladder_never::Outcome;
+use ladder_never::pinning::answer;
 use ladder_scan::{State, scan};
 use ladder_signals::Tri;
 
@@ -45,7 +46,7 @@ fn set_memories(program: &Program, case: &Knowledge<Tri, Outcome>, state: &mut S
     }
 }
 
-/// Gives each instance a content with the Q that is known.
+/// Gives each instance a content with the Q and the answer that are known.
 fn set_blocks(program: &Program, case: &Knowledge<Tri, Outcome>, state: &mut State)
     requires fits { Fits program.now state.old }
     requires moment { state.old.moment ≡ MOMENT }
@@ -56,8 +57,10 @@ fn set_blocks(program: &Program, case: &Knowledge<Tri, Outcome>, state: &mut Sta
     let instances = program.decls().instances();
     for inst in 0..instances.len() {
         state.checked();
+        let kind = instances[inst].kind;
+        let preset = instances[inst].preset;
         let q = case.kept(inst).q() == Tri::On;
-        state.set_block(inst, content(instances[inst].kind, q));
+        state.set_block(inst, content(kind, preset, answer(inst, case), q));
     }
 }
 

@@ -1,14 +1,16 @@
 //! The search for a state that switches the coil on.
 
 ghost use Rattle.std.specs.Prelude.{◌≡◌, ◌<◌, ◌≤◌, IsTrue, length};
+ghost use Rattle.ladder_glance.specs.Sizes.{AreAsLong};
 ghost use Rattle.ladder_possible.specs.Possible.{IsPossible};
 ghost use Rattle.ladder_possible.specs.Searching.{IsSpace};
 
 use crate::asked::{Asked, Space};
 use crate::candidate::is_possible;
-use ladder_never::Point;
+use ladder_glance::Knowledge;
 use ladder_never::cases::{first_open, look};
-use ladder_never::pinning::pin;
+use ladder_never::pinning::{pin, pin_answer};
+use ladder_never::{Answer, Outcome, Point};
 use ladder_signals::Tri;
 
 /// Whether a state was found, and how many scans are left.
@@ -18,8 +20,35 @@ pub(crate) struct Attempt {
     pub scans: u32,
 }
 
+/// The cases of a point, in the order in which they are tried: it is ON or OFF, and an instance may also answer what its input is.
+const CASES: [Answer; 3] = [Answer::On, Answer::Off, Answer::Input];
+
+/// Takes a case of a point, where it has that one.
+fn choose(point: Point, answer: Answer, case: &mut Knowledge<Tri, Outcome>) -> bool
+    ensures { AreAsLong case.new case.old }
+{
+    match (point, answer) {
+        (Point::Answer(inst), _) => pin_answer(inst, answer, case),
+        (_, Answer::On) => pin(point, Tri::On, case),
+        (_, Answer::Off) => pin(point, Tri::Off, case),
+        (_, Answer::Input | Answer::Open) => return false,
+    }
+    true
+}
+
+/// Leaves a point open.
+fn leave(point: Point, case: &mut Knowledge<Tri, Outcome>)
+    ensures { AreAsLong case.new case.old }
+{
+    match point {
+        Point::Answer(inst) => pin_answer(inst, Answer::Open, case),
+        Point::Variable(_) | Point::Output(_) | Point::Memory(_) => pin(point, Tri::Unsure, case),
+    }
+}
+
 /// Tries to find a state that switches the coil on, among those that the case allows: by further cases of the points, and by at most so
 /// many scans over three values. What is found is scanned as it stands.
+#[cycle(seeking)]
 pub(crate) fn seek(asked: Asked<'_>, points: &[Point], space: &mut Space, scans: u32) -> Attempt
     requires few { length asked.listed.now ≤ 64 }
     requires coil { asked.coil < length asked.program.now.decls.vars }
@@ -45,28 +74,45 @@ pub(crate) fn seek(asked: Asked<'_>, points: &[Point], space: &mut Space, scans:
         &mut known.room,
     );
     let next = first_open(points, &known.case);
-    if value == Tri::Off {
-        return Attempt {
-            is_found: false,
-            scans: left,
-        };
+    if value == Tri::Unsure && next < points.len() {
+        return by_cases(asked, points[next], &points[next + 1..], space, left);
     }
-    if value == Tri::On || next == points.len() {
-        let is_found = is_possible(asked, &space.knowing.case, &mut space.tried);
-        return Attempt {
-            is_found,
-            scans: left,
-        };
+    let is_found = value != Tri::Off && is_possible(asked, &space.knowing.case, &mut space.tried);
+    Attempt {
+        is_found,
+        scans: left,
     }
-    let point = points[next];
-    let rest = &points[next + 1..];
-    pin(point, Tri::On, &mut space.knowing.case);
-    let on = seek(asked, rest, space, left);
-    if on.is_found {
-        return on;
+}
+
+/// The same in each case of a point.
+#[cycle(seeking)]
+fn by_cases(
+    asked: Asked<'_>,
+    point: Point,
+    rest: &[Point],
+    space: &mut Space,
+    scans: u32,
+) -> Attempt
+    requires few { length asked.listed.now ≤ 64 }
+    requires coil { asked.coil < length asked.program.now.decls.vars }
+    requires space { IsSpace asked.program.now space.old }
+    ensures found { IsTrue result.is_found → IsPossible asked.entry.program.now asked.entry.coil asked.entry.listed.now asked.entry.number }
+    ensures scans { result.scans ≤ scans }
+    ensures space { IsSpace asked.entry.program.now space.new }
+{
+    let mut left = scans;
+    for case in 0..CASES.len() {
+        if choose(point, CASES[case], &mut space.knowing.case) {
+            let attempt = seek(asked, rest, space, left);
+            if attempt.is_found {
+                return attempt;
+            }
+            left = attempt.scans;
+        }
     }
-    pin(point, Tri::Off, &mut space.knowing.case);
-    let off = seek(asked, rest, space, on.scans);
-    pin(point, Tri::Unsure, &mut space.knowing.case);
-    off
+    leave(point, &mut space.knowing.case);
+    Attempt {
+        is_found: false,
+        scans: left,
+    }
 }
