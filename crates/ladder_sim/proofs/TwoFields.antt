@@ -7,4 +7,3 @@ in_two first second rest end =
     let inner : (second ++ rest) ++ end ≡ (second ++ []) ++ (rest ++ end) =
     append_assoc second rest end ∙ ap (λ xs. xs ++ (rest ++ end)) (sym (append-nil second)) in
     ap (λ xs. first ++ 44 ∷ xs) inner ∙ sym (append_assoc first (44 ∷ (second ++ [])) (rest ++ end))
-
