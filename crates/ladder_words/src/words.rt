@@ -26,7 +26,7 @@ const EVERY: u64 = 10;
 ///
 /// `Usage` where `clap` finds a fault other than that help is asked for, where groups or a list over several scans are to begin after a
 /// number, where a time between scans is asked for without several scans, several scans by their number and by a time, or in groups, where a form or the order `auto` is asked for without groups, or both forms, or a statement with a limit, or an order that has another name, where
-/// inputs are named beside all of them, where every state is asked of and a state, a moment, a number to begin after, several scans, a time between scans, groups, a form or the order `auto` are asked for as well, where a stimulus is to be shown with a moment, a number or listed inputs, or a waveform to be written with a saved state, and nowhere else; `Help` with its text where help is asked for; `Memory` when out of memory.
+/// inputs are named beside all of them, where any state is asked of and a state, a moment, a number to begin after, several scans, a time between scans, groups, a form or the order `auto` is named as well, where a stimulus is to be shown with a moment, a number or listed inputs, or a waveform to be written with a saved state, and nowhere else; `Help` with its text where help is asked for; `Memory` when out of memory.
 pub fn read_words(alloc: Global, words: Vec<String>) -> Result<CommandLine, WordFault>
     ensures asks { IfOk result (AsksBy ladder_app (map string_bytes words.items)) }
 
@@ -131,7 +131,7 @@ fn possible_request(alloc: Global, found: &ArgMatches<'_>) -> Result<Request, Wo
     ensures ok { IfOk result (Asks (codes "causes") (rows_of (found_of found.now))) }
     ensures err { IfErr result (UsageWhere (AsksNone (codes "causes") (rows_of (found_of found.now)))) }
 {
-    // Every state is asked of, at every moment, and one scan of each; a row has no number to begin after.
+    // Any state is meant, at any moment, and one scan from it; the list has its rows from the first one on.
     if is_bound(found) {
         return Err(WordFault::Usage);
     }
