@@ -65,6 +65,7 @@ complete -c ladder -n '__ladder_at causes more 0' -l grouped -d 'The causes in g
 complete -c ladder -n '__ladder_at causes more 0' -l terms -d 'Groups as terms'
 complete -c ladder -n '__ladder_at causes more 0' -l st -d 'Groups as a statement in Structured Text'
 complete -c ladder -n '__ladder_at causes more 0' -l order -x -a 'auto given' -d 'The order of the inputs'
+complete -c ladder -n '__ladder_at causes more 0' -l any -d 'What some state switches on'
 complete -c ladder -n '__ladder_at show more 0' -l number -x -d 'The number of the row'
 complete -c ladder -n '__ladder_at show more 0' -l html -d 'One page of HTML'
 complete -c ladder -n '__ladder_at show more 0' -l stimulus -r -F -d 'One scan for each record'

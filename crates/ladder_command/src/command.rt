@@ -6,11 +6,11 @@ ghost use Rattle.ladder_command.specs.CommandLine.{IsApp, ladder_app, taking};
 ghost use Rattle.ladder_command.specs.Table.{ladder_by, word_rule};
 
 use crate::help::{
-    AFTER_HELP, ALL_HELP, AT_HELP, CAUSES_ABOUT, CHECK_ABOUT, COIL_HELP, EVERY_HELP, EXPLAIN_HELP,
-    FAULTS, FILE_HELP, FILM_HELP, FOR_HELP, GROUPED_HELP, HTML_HELP, INPUTS_HELP, LADDER_ABOUT,
-    LIMIT_HELP, NEVER_ABOUT, NUMBER_HELP, ORDER_HELP, QUIET_HELP, SAVE_HELP, SCANS_HELP,
-    SHOW_ABOUT, SHOWN_HELP, SIM_ABOUT, STATE_HELP, STATEMENT_HELP, STIMULUS_HELP, TERMS_HELP,
-    USES_ABOUT, WARN_HELP, WAVES_HELP, WHY_HELP,
+    AFTER_HELP, ALL_HELP, ANY_HELP, AT_HELP, CAUSES_ABOUT, CHECK_ABOUT, COIL_HELP, EVERY_HELP,
+    EXPLAIN_HELP, FAULTS, FILE_HELP, FILM_HELP, FOR_HELP, GROUPED_HELP, HTML_HELP, INPUTS_HELP,
+    LADDER_ABOUT, LIMIT_HELP, NEVER_ABOUT, NUMBER_HELP, ORDER_HELP, QUIET_HELP, SAVE_HELP,
+    SCANS_HELP, SHOW_ABOUT, SHOWN_HELP, SIM_ABOUT, STATE_HELP, STATEMENT_HELP, STIMULUS_HELP,
+    TERMS_HELP, USES_ABOUT, WARN_HELP, WAVES_HELP, WHY_HELP,
 };
 use clap::{Arg, ArgAction, Command, value_parser};
 use std::alloc::{AllocError, Global};
@@ -66,6 +66,7 @@ const CAUSES: &[Word] = &[
     Word::Flag("terms", TERMS_HELP),
     Word::Flag("st", STATEMENT_HELP),
     Word::Text("order", "ORDER", ORDER_HELP),
+    Word::Flag("any", ANY_HELP),
     Word::Flag("all-inputs", ALL_HELP),
     Word::Flag("quiet", QUIET_HELP),
     Word::Flag("why", EXPLAIN_HELP),

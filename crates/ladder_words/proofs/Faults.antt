@@ -2,7 +2,7 @@
 use Rattle.std.proofs.Common.{◌≡◌, ◌∙◌, ℕ, Bool, true, false, List, [], ◌∷◌, Option, None, Some, ap, arith, bytes_eq, codes, find, get_or, inl, inr, option_and_then, option_map, refl, slice_get, sym, unwrap_or}
 use Rattle.clap.specs.Words.{Row, Text, all_of, first_of}
 use Rattle.ladder_words.specs.Asking.{Asks, AsksNone, HasEvery, HasFlag, HasForm, HasInputs, HasLasting, HasNumber, HasOption, HasScans, HasSwitch, HasOrder, IsNamed, IsTable, MayHaveLimit, NamesList}
-use Rattle.ladder_words.specs.Parts.{HasGrouping, IsOfOneScan, IsOfRecords, IsWhole, MayLast, NamesScan, Plays}
+use Rattle.ladder_words.specs.Parts.{HasGrouping, IsOfAnyState, IsOfOneScan, IsOfRecords, IsWhole, MayLast, NamesScan, Plays}
 use Rattle.ladder_words.specs.Faults.{UsageWhere}
 use Rattle.ladder_words.specs.declared.request.Form.{Form}
 use Rattle.ladder_words.specs.declared.request.Form.TheVariants.{Statement, Table, Terms}
@@ -16,9 +16,10 @@ use Rattle.ladder_words.specs.declared.request.ShowRequest.{ShowRequest}
 use Rattle.ladder_words.specs.declared.request.FilmRequest.{FilmRequest}
 use Rattle.ladder_words.specs.declared.request.SimRequest.{SimRequest}
 use Rattle.ladder_words.specs.declared.request.WavesRequest.{WavesRequest}
+use Rattle.ladder_words.specs.declared.request.PossibleRequest.{PossibleRequest}
 use Rattle.ladder_words.specs.declared.request.NeverRequest.{NeverRequest}
 use Rattle.ladder_words.specs.declared.words.Lasting.TheVariants.{Count, Until}
-use Rattle.ladder_words.specs.declared.request.Request.TheVariants.{Causes, Check, Film, Groups, Held, Never, Show, Sim, Uses, Waves}
+use Rattle.ladder_words.specs.declared.request.Request.TheVariants.{Causes, Check, Film, Groups, Held, Never, Possible, Show, Sim, Uses, Waves}
 use Rattle.ladder_words.specs.declared.request.WordFault.{WordFault}
 use Rattle.ladder_words.specs.declared.request.WordFault.TheVariants.{Help, Memory, Usage}
 
@@ -44,6 +45,7 @@ no_check rows none (Check file warns) h = let some = h.1 in cc
 no_check rows none (Causes list after) h = let other = h.0 in cc
 no_check rows none (Held list scans every) h = let other = h.0 in cc
 no_check rows none (Groups list grouping) h = let other = h.0 in cc
+no_check rows none (Possible r) h = let other = h.0 in cc
 no_check rows none (Show r) h = let other = h.0 in cc
 no_check rows none (Film r) h = let other = h.0 in cc
 no_check rows none (Sim r) h = let other = h.0 in cc
@@ -55,17 +57,31 @@ pub only_causes : (rows : List Row)
     → ((list : ListRequest) (after : Option ℕ) → Asks (codes "causes") rows (Causes list after) → ⊥)
     → ((list : ListRequest) (scans every : ℕ) → Asks (codes "causes") rows (Held list scans every) → ⊥)
     → ((list : ListRequest) (grouping : Grouping) → Asks (codes "causes") rows (Groups list grouping) → ⊥)
+    → ((r : PossibleRequest) → Asks (codes "causes") rows (Possible r) → ⊥)
     → AsksNone (codes "causes") rows
-only_causes rows causes held groups (Check file warns) h = let other = h.0 in cc
-only_causes rows causes held groups (Causes list after) h = causes list after h
-only_causes rows causes held groups (Held list scans every) h = held list scans every h
-only_causes rows causes held groups (Groups list grouping) h = groups list grouping h
-only_causes rows causes held groups (Show r) h = let other = h.0 in cc
-only_causes rows causes held groups (Film r) h = let other = h.0 in cc
-only_causes rows causes held groups (Sim r) h = let other = h.0 in cc
-only_causes rows causes held groups (Waves r) h = let other = h.0 in cc
-only_causes rows causes held groups (Uses file) h = let other = h.0 in cc
-only_causes rows causes held groups (Never r) h = let other : 99 ≡ 110 = ap (λ (name : List ℕ). get_or name 0 0) h.0 in absurd (omega (arith, other))
+only_causes rows causes held groups possible (Check file warns) h = let other = h.0 in cc
+only_causes rows causes held groups possible (Causes list after) h = causes list after h
+only_causes rows causes held groups possible (Held list scans every) h = held list scans every h
+only_causes rows causes held groups possible (Groups list grouping) h = groups list grouping h
+only_causes rows causes held groups possible (Possible r) h = possible r h
+only_causes rows causes held groups possible (Show r) h = let other = h.0 in cc
+only_causes rows causes held groups possible (Film r) h = let other = h.0 in cc
+only_causes rows causes held groups possible (Sim r) h = let other = h.0 in cc
+only_causes rows causes held groups possible (Waves r) h = let other = h.0 in cc
+only_causes rows causes held groups possible (Uses file) h = let other = h.0 in cc
+only_causes rows causes held groups possible (Never r) h = let other : 99 ≡ 110 = ap (λ (name : List ℕ). get_or name 0 0) h.0 in absurd (omega (arith, other))
+
+-- What some state switches on is asked for by a flag, and the other lists without it.
+only_possible : (rows : List Row) → HasFlag (codes "any") rows → ((r : PossibleRequest) → Asks (codes "causes") rows (Possible r) → ⊥)
+    → AsksNone (codes "causes") rows
+only_possible rows any none = only_causes rows (λ list after h. h.7 any) (λ list scans every h. h.6 any) (λ list grouping h. h.10 any) none
+
+only_of_one_state : (rows : List Row) → (HasFlag (codes "any") rows → ⊥)
+    → ((list : ListRequest) (after : Option ℕ) → Asks (codes "causes") rows (Causes list after) → ⊥)
+    → ((list : ListRequest) (scans every : ℕ) → Asks (codes "causes") rows (Held list scans every) → ⊥)
+    → ((list : ListRequest) (grouping : Grouping) → Asks (codes "causes") rows (Groups list grouping) → ⊥)
+    → AsksNone (codes "causes") rows
+only_of_one_state rows one_state causes held groups = only_causes rows causes held groups (λ r h. one_state h.1)
 
 pub only_show : (rows : List Row)
     → ((r : ShowRequest) → Asks (codes "show") rows (Show r) → ⊥)
@@ -75,6 +91,7 @@ only_show rows show film (Check file warns) h = let other = h.0 in cc
 only_show rows show film (Causes list after) h = let other = h.0 in cc
 only_show rows show film (Held list scans every) h = let other = h.0 in cc
 only_show rows show film (Groups list grouping) h = let other = h.0 in cc
+only_show rows show film (Possible r) h = let other = h.0 in cc
 only_show rows show film (Show r) h = show r h
 only_show rows show film (Film r) h = film r h
 only_show rows show film (Sim r) h = let other = h.0 in cc
@@ -90,6 +107,7 @@ only_sim rows sim waves (Check file warns) h = let other = h.0 in cc
 only_sim rows sim waves (Causes list after) h = let other = h.0 in cc
 only_sim rows sim waves (Held list scans every) h = let other = h.0 in cc
 only_sim rows sim waves (Groups list grouping) h = let other = h.0 in cc
+only_sim rows sim waves (Possible r) h = let other = h.0 in cc
 only_sim rows sim waves (Show r) h = let other = h.0 in cc
 only_sim rows sim waves (Film r) h = let other = h.0 in cc
 only_sim rows sim waves (Sim r) h = sim r h
@@ -102,6 +120,7 @@ no_uses rows none (Check file warns) h = let other = h.0 in cc
 no_uses rows none (Causes list after) h = let other = h.0 in cc
 no_uses rows none (Held list scans every) h = let other = h.0 in cc
 no_uses rows none (Groups list grouping) h = let other = h.0 in cc
+no_uses rows none (Possible r) h = let other = h.0 in cc
 no_uses rows none (Show r) h = let other : 117 ≡ 115 = ap (λ (name : List ℕ). get_or name 0 0) h.0 in absurd (omega (arith, other))
 no_uses rows none (Film r) h = let other : 117 ≡ 115 = ap (λ (name : List ℕ). get_or name 0 0) h.0 in absurd (omega (arith, other))
 no_uses rows none (Sim r) h = let other : 117 ≡ 115 = ap (λ (name : List ℕ). get_or name 0 0) h.0 in absurd (omega (arith, other))
@@ -116,6 +135,7 @@ only_never rows never (Check file warns) h = let other : 110 ≡ 99 = ap (λ (na
 only_never rows never (Causes list after) h = let other : 110 ≡ 99 = ap (λ (name : List ℕ). get_or name 0 0) h.0 in absurd (omega (arith, other))
 only_never rows never (Held list scans every) h = let other : 110 ≡ 99 = ap (λ (name : List ℕ). get_or name 0 0) h.0 in absurd (omega (arith, other))
 only_never rows never (Groups list grouping) h = let other : 110 ≡ 99 = ap (λ (name : List ℕ). get_or name 0 0) h.0 in absurd (omega (arith, other))
+only_never rows never (Possible r) h = let other : 110 ≡ 99 = ap (λ (name : List ℕ). get_or name 0 0) h.0 in absurd (omega (arith, other))
 only_never rows never (Show r) h = let other : 110 ≡ 115 = ap (λ (name : List ℕ). get_or name 0 0) h.0 in absurd (omega (arith, other))
 only_never rows never (Film r) h = let other : 110 ≡ 115 = ap (λ (name : List ℕ). get_or name 0 0) h.0 in absurd (omega (arith, other))
 only_never rows never (Sim r) h = let other : 110 ≡ 115 = ap (λ (name : List ℕ). get_or name 0 0) h.0 in absurd (omega (arith, other))
@@ -124,56 +144,56 @@ only_never rows never (Uses file) h = let other : 110 ≡ 117 = ap (λ (name : L
 only_never rows never (Never r) h = never r h
 
 -- a table of causes
-pub no_table_of_grouping : (rows : List Row) → (HasFlag (codes "grouped") rows → ⊥) → (HasForm Table rows → HasOrder Given rows → ⊥) → AsksNone (codes "causes") rows
-no_table_of_grouping rows single none =
-    only_causes rows (λ list after h. none h.1.1 h.1.2) (λ list scans every h. none h.1.1 h.1.2) (λ list grouping h. single h.1)
+pub no_table_of_grouping : (rows : List Row) → (HasFlag (codes "any") rows → ⊥) → (HasFlag (codes "grouped") rows → ⊥) → (HasForm Table rows → HasOrder Given rows → ⊥) → AsksNone (codes "causes") rows
+no_table_of_grouping rows one_state single none =
+    only_of_one_state rows one_state (λ list after h. none h.1.1 h.1.2) (λ list scans every h. none h.1.1 h.1.2) (λ list grouping h. single h.1)
 
 lasts : (rows : List Row) (scans every : ℕ) → HasScans scans every rows → (o : Option Lasting) × MayLast o rows
 lasts rows scans every (inl h) = (Some (Count scans), h)
 lasts rows scans every (inr h) = (Some (Until h.1.0), (h.0, h.1.1))
 
-pub no_table_of_lasting : (rows : List Row) → (HasFlag (codes "grouped") rows → ⊥) → ((o : Option Lasting) → MayLast o rows → ⊥) → AsksNone (codes "causes") rows
-no_table_of_lasting rows single none =
-    only_causes rows (λ list after h. none None (h.2, h.3)) (λ list scans every h. let l = lasts rows scans every h.2 in none l.0 l.1) (λ list grouping h. single h.1)
+pub no_table_of_lasting : (rows : List Row) → (HasFlag (codes "any") rows → ⊥) → (HasFlag (codes "grouped") rows → ⊥) → ((o : Option Lasting) → MayLast o rows → ⊥) → AsksNone (codes "causes") rows
+no_table_of_lasting rows one_state single none =
+    only_of_one_state rows one_state (λ list after h. none None (h.2, h.3)) (λ list scans every h. let l = lasts rows scans every h.2 in none l.0 l.1) (λ list grouping h. single h.1)
 
 not_several : (rows : List Row) (scans every : ℕ) → MayLast None rows → HasScans scans every rows → ⊥
 not_several rows scans every none (inl h) = let some = h.0.1 in let no = none.0 in cc
 not_several rows scans every none (inr h) = let some = h.1.1.1 in let no = none.1 in cc
 
 -- One scan has none that follows.
-pub no_list_of_every : (rows : List Row) → IsTable rows → MayLast None rows → (HasNumber (codes "every") rows None → ⊥) → AsksNone (codes "causes") rows
-no_list_of_every rows table one none =
-    only_causes rows (λ list after h. none h.4) (λ list scans every h. not_several rows scans every one h.2) (λ list grouping h. table.0 h.1)
+pub no_list_of_every : (rows : List Row) → (HasFlag (codes "any") rows → ⊥) → IsTable rows → MayLast None rows → (HasNumber (codes "every") rows None → ⊥) → AsksNone (codes "causes") rows
+no_list_of_every rows one_state table one none =
+    only_of_one_state rows one_state (λ list after h. none h.4) (λ list scans every h. not_several rows scans every one h.2) (λ list grouping h. table.0 h.1)
 
-pub no_list_of_start : (rows : List Row) → ((o : Option ℕ) → HasNumber (codes "after") rows o → ⊥) → AsksNone (codes "causes") rows
-no_list_of_start rows none =
-    only_causes rows (λ list after h. none after h.5) (λ list scans every h. none None h.4) (λ list grouping h. none None h.7)
+pub no_list_of_start : (rows : List Row) → (HasFlag (codes "any") rows → ⊥) → ((o : Option ℕ) → HasNumber (codes "after") rows o → ⊥) → AsksNone (codes "causes") rows
+no_list_of_start rows one_state none =
+    only_of_one_state rows one_state (λ list after h. none after h.5) (λ list scans every h. none None h.4) (λ list grouping h. none None h.7)
 
-pub no_causes_of_list : (rows : List Row) → ((l : ListRequest) → NamesList rows l → ⊥) → AsksNone (codes "causes") rows
-no_causes_of_list rows none =
-    only_causes rows (λ list after h. none list h.6) (λ list scans every h. none list h.5) (λ list grouping h. none list h.9)
+pub no_causes_of_list : (rows : List Row) → (HasFlag (codes "any") rows → ⊥) → ((l : ListRequest) → NamesList rows l → ⊥) → AsksNone (codes "causes") rows
+no_causes_of_list rows one_state none =
+    only_of_one_state rows one_state (λ list after h. none list h.6) (λ list scans every h. none list h.5) (λ list grouping h. none list h.9)
 
 given_at_all : (rows : List Row) (l : Lasting) → HasLasting l rows → HasNumber (codes "scans") rows None → HasNumber (codes "for") rows None → ⊥
 given_at_all rows (Count n) h none no_time = let given = h.0.1 in cc
 given_at_all rows (Until time) h none no_time = let given = h.1.1 in cc
 
 -- several scans, whose list begins after no number
-pub no_held_of_start : (rows : List Row) (l : Lasting) → HasLasting l rows → (HasNumber (codes "after") rows None → ⊥) → AsksNone (codes "causes") rows
-no_held_of_start rows l some none =
-    only_causes rows (λ list after h. given_at_all rows l some h.2 h.3) (λ list scans every h. none h.4) (λ list grouping h. none h.7)
+pub no_held_of_start : (rows : List Row) → (HasFlag (codes "any") rows → ⊥) → (l : Lasting) → HasLasting l rows → (HasNumber (codes "after") rows None → ⊥) → AsksNone (codes "causes") rows
+no_held_of_start rows one_state l some none =
+    only_of_one_state rows one_state (λ list after h. given_at_all rows l some h.2 h.3) (λ list scans every h. none h.4) (λ list grouping h. none h.7)
 
 pub no_every : (rows : List Row) → ((o : Option ℕ) → HasNumber (codes "every") rows o → ⊥) → (every : ℕ) → HasEvery every rows → ⊥
 no_every rows none every (inl h) = none (Some every) h
 no_every rows none every (inr h) = none None h.0
 
 -- The period is asked for beside several scans alone.
-pub no_held_of_every : (rows : List Row) (l : Lasting) → HasLasting l rows → ((every : ℕ) → HasEvery every rows → ⊥) → AsksNone (codes "causes") rows
-no_held_of_every rows l some none =
-    only_causes rows (λ list after h. given_at_all rows l some h.2 h.3) (λ list scans every h. none every h.3) (λ list grouping h. given_at_all rows l some h.4 h.5)
+pub no_held_of_every : (rows : List Row) → (HasFlag (codes "any") rows → ⊥) → (l : Lasting) → HasLasting l rows → ((every : ℕ) → HasEvery every rows → ⊥) → AsksNone (codes "causes") rows
+no_held_of_every rows one_state l some none =
+    only_of_one_state rows one_state (λ list after h. given_at_all rows l some h.2 h.3) (λ list scans every h. none every h.3) (λ list grouping h. given_at_all rows l some h.4 h.5)
 
-pub no_groups_of_scan : (rows : List Row) → HasFlag (codes "grouped") rows → (IsOfOneScan rows → ⊥) → AsksNone (codes "causes") rows
-no_groups_of_scan rows grouped none =
-    only_causes rows (λ list after h. h.1.0 grouped) (λ list scans every h. h.1.0 grouped) (λ list grouping h. none (h.4, h.5, h.6, h.7))
+pub no_groups_of_scan : (rows : List Row) → (HasFlag (codes "any") rows → ⊥) → HasFlag (codes "grouped") rows → (IsOfOneScan rows → ⊥) → AsksNone (codes "causes") rows
+no_groups_of_scan rows one_state grouped none =
+    only_of_one_state rows one_state (λ list after h. h.1.0 grouped) (λ list scans every h. h.1.0 grouped) (λ list grouping h. none (h.4, h.5, h.6, h.7))
 
 -- A statement has no limit, so a list of its groups has none.
 pub may_have_limit : (rows : List Row) (form : Form) (limit : Option ℕ) → IsWhole form rows → HasNumber (codes "limit") rows limit → MayHaveLimit form limit
@@ -188,10 +208,25 @@ is_whole rows Terms limit may h = tt
 is_whole rows Statement None may h = h
 is_whole rows Statement (Some n) may h = cc
 
-pub no_groups_of_grouping : (rows : List Row) → HasFlag (codes "grouped") rows → ((g : Grouping) → HasGrouping rows g → ⊥) → AsksNone (codes "causes") rows
-no_groups_of_grouping rows grouped none =
-    only_causes rows (λ list after h. h.1.0 grouped) (λ list scans every h. h.1.0 grouped)
+pub no_groups_of_grouping : (rows : List Row) → (HasFlag (codes "any") rows → ⊥) → HasFlag (codes "grouped") rows → ((g : Grouping) → HasGrouping rows g → ⊥) → AsksNone (codes "causes") rows
+no_groups_of_grouping rows one_state grouped none =
+    only_of_one_state rows one_state (λ list after h. h.1.0 grouped) (λ list scans every h. h.1.0 grouped)
     (λ list grouping h. none grouping (h.2, h.3, is_whole rows grouping.form list.limit h.8 h.9.2))
+
+-- what some state switches on
+pub no_possible_of_bound : (rows : List Row) → HasFlag (codes "any") rows → (IsOfAnyState rows → ⊥) → AsksNone (codes "causes") rows
+no_possible_of_bound rows any none = only_possible rows any (λ r h. none (h.2, h.3, h.4.0, (h.5, h.6, h.7, h.8)))
+
+pub no_possible_of_grouping : (rows : List Row) → HasFlag (codes "any") rows → (HasForm Table rows → HasOrder Given rows → ⊥) → AsksNone (codes "causes") rows
+no_possible_of_grouping rows any none = only_possible rows any (λ r h. none h.4.1 h.4.2)
+
+pub no_possible_of_list : (rows : List Row) → HasFlag (codes "any") rows → ((l : ListRequest) → NamesList rows l → ⊥) → AsksNone (codes "causes") rows
+no_possible_of_list rows any none =
+    only_possible rows any
+    (λ r h.
+    none
+    (record { state = None; moment = None; limit = r.limit; quiet = r.quiet; file = r.file; coil = r.coil; all_inputs = r.all_inputs; inputs = r.inputs })
+    (h.2, h.3, h.9, h.10, h.11, h.12, h.13))
 
 -- One form is asked for.
 one_form : (rows : List Row) (a b : Form) → HasForm a rows → HasForm b rows → a ≡ b

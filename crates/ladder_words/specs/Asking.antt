@@ -14,7 +14,7 @@ use Rattle.ladder_words.specs.declared.request.Medium.TheVariants as medium
 use Rattle.ladder_words.specs.declared.request.CommandLine.{CommandLine}
 use Rattle.ladder_words.specs.declared.request.ListRequest.{ListRequest}
 use Rattle.ladder_words.specs.declared.request.Request.{Request}
-use Rattle.ladder_words.specs.declared.request.Request.TheVariants.{Causes, Check, Film, Groups, Held, Never, Show, Sim, Uses, Waves}
+use Rattle.ladder_words.specs.declared.request.Request.TheVariants.{Causes, Check, Film, Groups, Held, Never, Possible, Show, Sim, Uses, Waves}
 
 abbrev pub HasText : Text → List Row → List ℕ → Type 0
 HasText id rows text = first_of id rows ≡ Some text
@@ -113,12 +113,14 @@ Asks name rows (Causes list after) = (name ≡ codes "causes")
     × HasNumber (codes "every") rows None
     × HasNumber (codes "after") rows after
     × NamesList rows list
+    × (HasFlag (codes "any") rows → ⊥)
 Asks name rows (Held list scans every) = (name ≡ codes "causes")
     × IsTable rows
     × HasScans scans every rows
     × HasEvery every rows
     × HasNumber (codes "after") rows None
     × NamesList rows list
+    × (HasFlag (codes "any") rows → ⊥)
 Asks name rows (Groups list grouping) = (name ≡ codes "causes")
     × HasFlag (codes "grouped") rows
     × HasForm grouping.form rows
@@ -129,6 +131,21 @@ Asks name rows (Groups list grouping) = (name ≡ codes "causes")
     × HasNumber (codes "after") rows None
     × MayHaveLimit grouping.form list.limit
     × NamesList rows list
+    × (HasFlag (codes "any") rows → ⊥)
+Asks name rows (Possible r) = (name ≡ codes "causes")
+    × HasFlag (codes "any") rows
+    × HasOption (codes "state") rows None
+    × HasNumber (codes "at") rows None
+    × IsTable rows
+    × HasNumber (codes "scans") rows None
+    × HasNumber (codes "for") rows None
+    × HasNumber (codes "every") rows None
+    × HasNumber (codes "after") rows None
+    × HasNumber (codes "limit") rows r.limit
+    × HasSwitch (codes "quiet") rows r.quiet
+    × HasText (codes "file") rows (string_bytes r.file)
+    × HasText (codes "coil") rows (string_bytes r.coil)
+    × HasInputs rows r.all_inputs (map string_bytes r.inputs.items)
 Asks name rows (Never r) = (name ≡ codes "never")
     × HasOption (codes "state") rows (option_map string_bytes r.state)
     × HasSwitch (codes "quiet") rows r.quiet

@@ -1,7 +1,7 @@
 -- What is read of the parts of a request.
 use Rattle.std.specs.Prelude.{⊤, false, List, Option, None, Some, map, codes, string_bytes, option_map, []}
 use Rattle.clap.specs.Words.{Row}
-use Rattle.ladder_words.specs.Asking.{HasForm, HasInputs, HasLasting, HasNumber, HasOption, HasOrder, HasText}
+use Rattle.ladder_words.specs.Asking.{HasFlag, HasForm, HasInputs, HasLasting, HasNumber, HasOption, HasOrder, HasText}
 use Rattle.ladder_words.specs.declared.words.Lasting.{Lasting}
 use Rattle.ladder_words.specs.declared.words.NamedScan.{NamedScan}
 use Rattle.ladder_words.specs.declared.words.Sources.{Sources}
@@ -37,6 +37,13 @@ IsOfOneScan rows = HasNumber (codes "scans") rows None
     × HasNumber (codes "for") rows None
     × HasNumber (codes "every") rows None
     × HasNumber (codes "after") rows None
+
+-- One scan of any state, at any moment, is asked for, and no groups: no state and no moment are given.
+abbrev pub IsOfAnyState : List Row → Type 0
+IsOfAnyState rows = HasOption (codes "state") rows None
+    × HasNumber (codes "at") rows None
+    × (HasFlag (codes "grouped") rows → ⊥)
+    × IsOfOneScan rows
 
 -- how long the scans last, where there are several
 abbrev pub MayLast : Option Lasting → List Row → Type 0

@@ -61,6 +61,23 @@ pub struct ListRequest {
     pub inputs: Vec<String>,
 }
 
+/// What a request for what is possible from some state names: the coil and the inputs, and how the list is written.
+#[derive(Drop)]
+pub struct PossibleRequest {
+    /// How many rows are written at most.
+    pub limit: Option<u64>,
+    /// Whether the line of counts is left out.
+    pub quiet: bool,
+    /// The file of the program text.
+    pub file: String,
+    /// The name of the coil's variable.
+    pub coil: String,
+    /// Whether all inputs are listed; otherwise they are named.
+    pub all_inputs: bool,
+    /// The names of the listed inputs, the first one most significant.
+    pub inputs: Vec<String>,
+}
+
 /// What a request for what can never come ON names.
 #[derive(Drop)]
 pub struct NeverRequest {
@@ -162,6 +179,8 @@ pub enum Request {
         /// Which groups, and how they are written.
         grouping: Grouping,
     },
+    /// What is possible from some state: the assignments of the listed inputs with which some state, at some moment, switches a coil on.
+    Possible(PossibleRequest),
     /// The drawing with the power flow of one scan.
     Show(ShowRequest),
     /// The drawings of a stimulus: one scan, with its power flow, for each of its records.

@@ -5,12 +5,12 @@ ghost use Rattle.clap.specs.Words.{Row, Text, all_of, first_of, found_of, kind_o
 ghost use Rattle.clap.specs.Words.{fault_of as clap_fault};
 ghost use Rattle.ladder_command.specs.CommandLine.{ladder_app};
 ghost use Rattle.ladder_words.specs.Asking.{Asks, AsksBy, AsksNone, HasEvery, HasFlag, HasForm, HasInputs, HasLasting, HasMedium, HasNumber, HasOrder, HasOption, HasSwitch, IsNamed, IsTable, MayHaveLimit, NamesList, HasScans, Says, scans_until};
-ghost use Rattle.ladder_words.specs.Parts.{HasGrouping, HasSources, IsOfOneScan, IsOfRecords, IsWhole, MayLast, NamesScan, Plays};
+ghost use Rattle.ladder_words.specs.Parts.{HasGrouping, HasSources, IsOfAnyState, IsOfOneScan, IsOfRecords, IsWhole, MayLast, NamesScan, Plays};
 ghost use Rattle.ladder_words.specs.Faults.{IsFaultOf, SaysOf, UsageWhere};
 
 use crate::request::{
     CommandLine, FilmRequest, Form, Grouping, InputOrder, ListRequest, Medium, NeverRequest,
-    Request, ShowRequest, SimRequest, WavesRequest, WordFault,
+    PossibleRequest, Request, ShowRequest, SimRequest, WavesRequest, WordFault,
 };
 use clap::ArgMatches;
 use clap::error::ErrorKind;
@@ -26,7 +26,7 @@ const EVERY: u64 = 10;
 ///
 /// `Usage` where `clap` finds a fault other than that help is asked for, where groups or a list over several scans are to begin after a
 /// number, where a time between scans is asked for without several scans, several scans by their number and by a time, or in groups, where a form or the order `auto` is asked for without groups, or both forms, or a statement with a limit, or an order that has another name, where
-/// inputs are named beside all of them, where a stimulus is to be shown with a moment, a number or listed inputs, or a waveform to be written with a saved state, and nowhere else; `Help` with its text where help is asked for; `Memory` when out of memory.
+/// inputs are named beside all of them, where any state is asked of and a state, a moment, a number to begin after, several scans, a time between scans, groups, a form or the order `auto` is named as well, where a stimulus is to be shown with a moment, a number or listed inputs, or a waveform to be written with a saved state, and nowhere else; `Help` with its text where help is asked for; `Memory` when out of memory.
 pub fn read_words(alloc: Global, words: Vec<String>) -> Result<CommandLine, WordFault>
     ensures asks { IfOk result (AsksBy ladder_app (map string_bytes words.items)) }
 
@@ -117,14 +117,58 @@ fn causes_request(alloc: Global, found: &ArgMatches<'_>) -> Result<Request, Word
     ensures ok { IfOk result (Asks (codes "causes") (rows_of (found_of found.now))) }
     ensures err { IfErr result (UsageWhere (AsksNone (codes "causes") (rows_of (found_of found.now)))) }
 {
+    if is_set(found, "any") {
+        return possible_request(alloc, found);
+    }
     if is_set(found, "grouped") {
         return groups_request(alloc, found);
     }
     table_request(alloc, found)
 }
 
+fn possible_request(alloc: Global, found: &ArgMatches<'_>) -> Result<Request, WordFault>
+    requires { HasFlag (codes "any") (rows_of (found_of found.now)) }
+    ensures ok { IfOk result (Asks (codes "causes") (rows_of (found_of found.now))) }
+    ensures err { IfErr result (UsageWhere (AsksNone (codes "causes") (rows_of (found_of found.now)))) }
+{
+    // Any state is meant, at any moment, and one scan from it; the list has its rows from the first one on.
+    if is_bound(found) {
+        return Err(WordFault::Usage);
+    }
+    refuse_grouping(found)?;
+    let ListRequest {
+        limit,
+        quiet,
+        file,
+        coil,
+        all_inputs,
+        inputs,
+        ..
+    } = list_of(alloc, found)?;
+    Ok(Request::Possible(PossibleRequest {
+        limit,
+        quiet,
+        file,
+        coil,
+        all_inputs,
+        inputs,
+    }))
+}
+
+/// Whether a state, a moment, groups, several scans or a number to begin after are asked for.
+fn is_bound(found: &ArgMatches<'_>) -> bool
+    ensures none { result ≡ false → IsOfAnyState (rows_of (found_of found.now)) }
+    ensures some { result ≡ true → IsOfAnyState (rows_of (found_of found.now)) → ⊥ }
+{
+    is_given(found, "state")
+        || is_given(found, "at")
+        || is_set(found, "grouped")
+        || is_counted(found)
+}
+
 fn table_request(alloc: Global, found: &ArgMatches<'_>) -> Result<Request, WordFault>
-    requires { HasFlag (codes "grouped") (rows_of (found_of found.now)) → ⊥ }
+    requires one_state { HasFlag (codes "any") (rows_of (found_of found.now)) → ⊥ }
+    requires single { HasFlag (codes "grouped") (rows_of (found_of found.now)) → ⊥ }
     ensures ok { IfOk result (Asks (codes "causes") (rows_of (found_of found.now))) }
     ensures err { IfErr result (UsageWhere (AsksNone (codes "causes") (rows_of (found_of found.now)))) }
 {
@@ -191,6 +235,7 @@ fn count(lasting: Lasting, every: u64) -> u64
 }
 
 fn list_request(alloc: Global, found: &ArgMatches<'_>) -> Result<Request, WordFault>
+    requires one_state { HasFlag (codes "any") (rows_of (found_of found.now)) → ⊥ }
     requires table { IsTable (rows_of (found_of found.now)) }
     requires lasting { MayLast None (rows_of (found_of found.now)) }
     ensures ok { IfOk result (Asks (codes "causes") (rows_of (found_of found.now))) }
@@ -210,6 +255,7 @@ fn held_request(
     found: &ArgMatches<'_>,
     lasting: Lasting,
 ) -> Result<Request, WordFault>
+    requires one_state { HasFlag (codes "any") (rows_of (found_of found.now)) → ⊥ }
     requires table { IsTable (rows_of (found_of found.now)) }
     requires lasting { HasLasting lasting (rows_of (found_of found.now)) }
     ensures ok { IfOk result (Asks (codes "causes") (rows_of (found_of found.now))) }
@@ -234,7 +280,8 @@ fn every_of(found: &ArgMatches<'_>) -> Result<u64, WordFault>
 }
 
 fn groups_request(alloc: Global, found: &ArgMatches<'_>) -> Result<Request, WordFault>
-    requires { HasFlag (codes "grouped") (rows_of (found_of found.now)) }
+    requires one_state { HasFlag (codes "any") (rows_of (found_of found.now)) → ⊥ }
+    requires grouped { HasFlag (codes "grouped") (rows_of (found_of found.now)) }
     ensures ok { IfOk result (Asks (codes "causes") (rows_of (found_of found.now))) }
     ensures err { IfErr result (UsageWhere (AsksNone (codes "causes") (rows_of (found_of found.now)))) }
 {

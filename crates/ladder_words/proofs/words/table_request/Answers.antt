@@ -5,12 +5,12 @@ use Rattle.ladder_words.proofs.words.table_request.Goals as goal
 
 pub returns-in_err-refuse_grouping-clause-err : goal.returns-in_err-refuse_grouping-clause-err
 returns-in_err-refuse_grouping-clause-err c =
-    let none = no_table_of_grouping (rows_of (found_of c.args.found.now)) c.requires in
+    let none = no_table_of_grouping (rows_of (found_of c.args.found.now)) c.requires.one_state c.requires.single in
     let fault = err_from_is_err_and c.from_residual.result c.from_residual.ensures.1 in
     rw (fault.1, fault.2) (usage_weaker _ none c.in_err-refuse_grouping.ensures.err)
 
 pub returns-in_err-lasting_of-clause-err : goal.returns-in_err-lasting_of-clause-err
 returns-in_err-lasting_of-clause-err c =
-    let none = no_table_of_lasting (rows_of (found_of c.args.found.now)) c.requires in
+    let none = no_table_of_lasting (rows_of (found_of c.args.found.now)) c.requires.one_state c.requires.single in
     let fault = err_from_is_err_and c.from_residual-in_err-lasting_of.result c.from_residual-in_err-lasting_of.ensures.1 in
     rw (fault.1, fault.2) (usage_weaker _ none c.in_err-lasting_of.ensures.err)
