@@ -14,3 +14,7 @@ about_text Uses = uses_text
 
 abbrev pub question_of : Asked → Question
 question_of a = question a.program a.state a.moment a.coil a.inputs.items
+
+-- what is asked of all states, with the one that the texts give
+abbrev pub stored_question : Asked → Question
+stored_question a = question a.program a.state a.state.moment a.coil a.inputs.items

@@ -1,5 +1,5 @@
 -- How a request ends: all is written, or a fault stops it.
-use Rattle.std.specs.Prelude.{◌≡◌, ◌⊎◌, ◌++◌, ◌∷◌, ℕ, List, Bool, true, false, Option, None, Some, Result, Ok, Err, codes, decimal, if◌then◌else◌, is_some, [], length, map, option_map, string_bytes, unwrap_or}
+use Rattle.std.specs.Prelude.{◌≡◌, ◌⊎◌, ◌++◌, ◌^◌, ◌∷◌, ℕ, List, Bool, true, false, Option, None, Some, Result, Ok, Err, codes, count_by, decimal, if◌then◌else◌, is_some, [], length, map, not, option_map, string_bytes, unwrap_or}
 use Rattle.std.specs.Option.{option_or}
 use Rattle.ladder_vars.specs.Decls.{Declared}
 use Rattle.ladder_grid.specs.Program.{Drawing, has_coil}
@@ -31,7 +31,10 @@ use Rattle.ladder_show.specs.Showing.{IsDrawn, OneScan, one_scan}
 use Rattle.ladder_show.specs.declared.picture.Style.{Style}
 use Rattle.ladder_show.specs.declared.picture.Style.TheVariants as style
 use Rattle.ladder_sim.specs.CauseText.{cause_text, limited}
+use Rattle.ladder_possible.specs.Possible.{AreRows}
+use Rattle.ladder_possible.specs.declared.possible.PossibleCause.{PossibleCause}
 use Rattle.ladder_sim.specs.HeldText.{held_text}
+use Rattle.ladder_sim.specs.PossibleText.{possible_text}
 use Rattle.ladder_sim.specs.TermText.{form_text}
 use Rattle.ladder_sim.specs.declared.group_text.GroupForm.{GroupForm}
 use Rattle.ladder_sim.specs.declared.group_text.GroupForm.TheVariants as group_form
@@ -55,6 +58,7 @@ use Rattle.ladder_words.specs.declared.request.ListRequest.{ListRequest}
 use Rattle.ladder_words.specs.declared.request.Medium.{Medium}
 use Rattle.ladder_words.specs.declared.request.Medium.TheVariants as medium
 use Rattle.ladder_words.specs.declared.request.NeverRequest.{NeverRequest}
+use Rattle.ladder_words.specs.declared.request.PossibleRequest.{PossibleRequest}
 use Rattle.ladder_words.specs.declared.request.Request.{Request}
 use Rattle.ladder_words.specs.declared.request.Request.TheVariants.{Causes, Check, Groups, Held, Show, Sim, Uses}
 use Rattle.ladder_words.specs.declared.request.Request.TheVariants as request
@@ -243,6 +247,52 @@ abbrev pub BreaksNever : Given → NeverRequest → Logs → Logs → Type 0
 BreaksNever g r old new =
     (ListsNever g (PutsPrefix old.out new.out) × IsReported g old.err new.err fault.Write)
     ⊎ CountsNever g r old.out new.out (PutsPrefix old.err new.err)
+
+-- ---- what some state switches on
+
+-- The texts describe the program, and the names are those of the variables. There is a state as well, which makes no difference.
+pub record IsAskedOfAll (g : Given) (r : PossibleRequest) (q : Question) : Type 0 where
+  pub set : IsSet g q.program q.state
+  pub at : q.now ≡ q.state.moment
+  pub on : variable_of q.program.decls (string_bytes r.coil) ≡ Some q.coil
+  pub among : AreListed q.program.decls r.all_inputs (map string_bytes r.inputs.items) q.listed
+
+-- The text of some rows is written, whole or as far as `Written` says: below a number each one with which some state, at some moment, switches
+-- the coil on has a row, and the number of each row that is settled is such a one.
+pub record ListsPossible (g : Given) (r : PossibleRequest) (Written : List ℕ → Type 0) : Type 0 where
+  pub question : Question
+  pub asked : IsAskedOfAll g r question
+  pub accepted : refusal question None ≡ None
+  pub rows : List PossibleCause
+  pub to : ℕ
+  pub are : AreRows question.program question.coil question.listed 0 to rows
+  pub written : Written (possible_text question.program question.listed rows)
+
+-- A fault of the names: COIL is word 1, the first INPUT word 2.
+abbrev pub HasNamesFault : Given → PossibleRequest → ToolFault → Type 0
+HasNamesFault g r f =
+    (p : Drawing) × (s : Standing) × IsSet g p s × HasWordFault p.decls (string_bytes r.coil ∷ map string_bytes r.inputs.items) f
+
+-- Faults are looked for in the order of those of a list.
+abbrev pub HasPossibleFault : Given → PossibleRequest → ToolFault → Type 0
+HasPossibleFault g r f = HasSettingFault g f ⊎ (HasNamesFault g r f ⊎ ((q : Question) × IsAskedOfAll g r q × HasCauseFault (refusal q None) f))
+
+-- `rows R unsettled U`
+abbrev pub possible_line : ℕ → ℕ → List ℕ
+possible_line rows unsettled = codes "rows " ++ (decimal rows ++ (codes " unsettled " ++ (decimal unsettled ++ codes "\n")))
+
+-- All rows were listed, or as many as the limit allows, and then their number is written and that of those that aren't settled: whole, or as
+-- far as `Counted` says.
+pub record CountsPossible (g : Given) (r : PossibleRequest) (out out' : WriteLog) (Counted : List ℕ → Type 0) : Type 0 where
+  pub list : ListsPossible g r (PutsAll out out')
+  pub all : (list.to ≡ 2 ^ length list.question.listed) ⊎ (r.limit ≡ Some (length list.rows))
+  pub count : Counted (unless_quiet r.quiet (possible_line (length list.rows) (count_by (λ row. not row.is_settled) list.rows)))
+
+-- Status 1: `out` failed at the rows, or `err` at their count.
+abbrev pub BreaksPossible : Given → PossibleRequest → Logs → Logs → Type 0
+BreaksPossible g r old new =
+    (ListsPossible g r (PutsPrefix old.out new.out) × IsReported g old.err new.err fault.Write)
+    ⊎ CountsPossible g r old.out new.out (PutsPrefix old.err new.err)
 
 -- ---- a list of causes in groups
 
@@ -445,6 +495,7 @@ IsDone (Check file warns) g old new = Prints (check_text warns) g.program (PutsA
 IsDone (Causes list after) g old new = CountsList g list after old.out new.out (PutsAll old.err new.err) × (new.save ≡ old.save)
 IsDone (Held list scans every) g old new = CountsHeld g list (scans_of scans every) old.out new.out (PutsAll old.err new.err) × (new.save ≡ old.save)
 IsDone (request.Never r) g old new = CountsNever g r old.out new.out (PutsAll old.err new.err) × (new.save ≡ old.save)
+IsDone (request.Possible r) g old new = CountsPossible g r old.out new.out (PutsAll old.err new.err) × (new.save ≡ old.save)
 IsDone (Groups list grouping) g old new = CountsGroups g list grouping old.out new.out (PutsAll old.err new.err) × (new.save ≡ old.save)
 IsDone (Show r) g old new = Shows g r (PutsAll old.out new.out) × (new.save ≡ old.save) × (new.err ≡ old.err)
 IsDone (request.Film r) g old new = IsFilmed g r old.out new.out × (new.save ≡ old.save) × (new.err ≡ old.err)
@@ -458,6 +509,7 @@ HasFault (Check file warns) g = HasProgramFault g.program
 HasFault (Causes list after) g = HasListFault g list after
 HasFault (Held list scans every) g = HasHeldFault g list (scans_of scans every)
 HasFault (request.Never r) g = HasNeverFault g
+HasFault (request.Possible r) g = HasPossibleFault g r
 HasFault (Groups list grouping) g = HasListFault g list None
 HasFault (Show r) g = HasShowFault g r
 HasFault (request.Film r) g = HasFilmFault g r
@@ -472,6 +524,7 @@ Breaks (Check file warns) g old new =
 Breaks (Causes list after) g old new = BreaksList g list after old new × (new.save ≡ old.save)
 Breaks (Held list scans every) g old new = BreaksHeld g list (scans_of scans every) old new × (new.save ≡ old.save)
 Breaks (request.Never r) g old new = BreaksNever g r old new × (new.save ≡ old.save)
+Breaks (request.Possible r) g old new = BreaksPossible g r old new × (new.save ≡ old.save)
 Breaks (Groups list grouping) g old new = BreaksGroups g list grouping old new × (new.save ≡ old.save)
 Breaks (Show r) g old new = Shows g r (PutsPrefix old.out new.out) × (new.save ≡ old.save) × IsReported g old.err new.err fault.Write
 Breaks (request.Film r) g old new = BreaksFilm g r old new × (new.save ≡ old.save)

@@ -12,6 +12,7 @@ mod listing;
 mod never;
 mod opening;
 mod performing;
+mod possible;
 mod printing;
 mod program;
 mod report;

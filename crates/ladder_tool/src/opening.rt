@@ -63,6 +63,11 @@ pub(crate) fn readers_of<'a>(
                 state: reading_named(rt, &list.state),
                 stimulus: None,
             },
+        Request::Possible(possible) => Readers {
+            program: reading(rt, possible.file.as_str()),
+            state: None,
+            stimulus: None,
+        },
         Request::Never(never) => Readers {
             program: reading(rt, never.file.as_str()),
             state: reading_named(rt, &never.state),

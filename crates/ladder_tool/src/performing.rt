@@ -9,6 +9,7 @@ use crate::grouping::list_groups;
 use crate::holding::list_held;
 use crate::listing::list_causes;
 use crate::never::list_never;
+use crate::possible::list_possible;
 use crate::printing::{About, print};
 use crate::showing::show;
 use crate::texts::Texts;
@@ -40,6 +41,7 @@ pub fn perform<O: Sink, S: Sink, E: Sink>(
         }
         Request::Uses { .. } => print(alloc, About::Uses, texts, out, err),
         Request::Never(never) => list_never(alloc, never, texts, out, err),
+        Request::Possible(possible) => list_possible(alloc, possible, texts, out, err),
         Request::Causes { list, after } => list_causes(alloc, list, *after, texts, out, err),
         Request::Held { list, scans, every } => {
             let scans = Scans {

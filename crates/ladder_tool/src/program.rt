@@ -117,6 +117,7 @@ fn saving_of(request: &Request) -> Option<(&str, &SimRequest)> {
         | Request::Held { .. }
         | Request::Groups { .. }
         | Request::Never(_)
+        | Request::Possible(_)
         | Request::Show(_)
         | Request::Film(_)
         | Request::Waves(_)

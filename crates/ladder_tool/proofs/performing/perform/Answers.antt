@@ -16,6 +16,9 @@ returns-in-Causes-clause-failed g c = λ status. rw c.in-Causes.is (with_third r
 pub returns-in-Never-clause-failed : goal.returns-in-Never-clause-failed
 returns-in-Never-clause-failed g c = λ status. rw c.in-Never.is (with_third refl (c.list_never.ensures.failed (g.S.Sink.log c.args.save.now) status))
 
+pub returns-in-Possible-clause-failed : goal.returns-in-Possible-clause-failed
+returns-in-Possible-clause-failed g c = λ status. rw c.in-Possible.is (with_third refl (c.list_possible.ensures.failed (g.S.Sink.log c.args.save.now) status))
+
 pub returns-in-Groups-clause-failed : goal.returns-in-Groups-clause-failed
 returns-in-Groups-clause-failed g c = λ status. rw c.in-Groups.is (with_third refl (c.list_groups.ensures.failed (g.S.Sink.log c.args.save.now) status))
 
