@@ -5,8 +5,8 @@ Each drawing has one to five rungs of all forms of cells, joints and vertical li
 state, at any moment. Rows and looks must be the model's, and the rows of groups too, in each form and in the sifted order; so must the
 drawing with the power flow of one number, and its page, with the elements read as marks. A film must have the drawings of its records,
 each shown by itself from the state that `sim --save` has left. A list over several scans must be that of the scans one after the other, from
-the fresh state or from one that `sim --save` has left. What `never` names stays OFF in random runs. A drawing with a difference is printed
-whole.
+the fresh state or from one that `sim --save` has left. What `never` names stays OFF in random runs, and what switches a coil on from
+some random state has a row in the list of `causes --any`. A drawing with a difference is printed whole.
 """
 import html
 import os
@@ -265,6 +265,47 @@ def compare_never(program, folder, chance, text):
     return found
 
 
+def any_state(chance, saved):
+    """A saved state with everything at random that it stores."""
+    lines = []
+    for line in saved.splitlines():
+        kind, *fields = line.split(",")
+        bits = [str(chance.randrange(2)) for _ in range(3)]
+        if kind == "moment":
+            fields = ["100000"]
+        elif kind in ("var", "memory", "bistable"):
+            fields[-1] = bits[0]
+        elif kind == "timer":
+            start = chance.choice([0, 1, 95_000, 99_999, 100_000]) if bits[1] == "1" else 0
+            fields[1:] = [bits[0], bits[1], str(start), bits[2]]
+        elif kind == "counter":
+            fields[1:] = [bits[0], str(chance.choice([-32768, -1, 0, 1, 2, 3, 32767])), bits[1]]
+        lines.append(",".join([kind, *fields]))
+    return "".join(f"{line}\n" for line in lines)
+
+
+def compare_possible(program, folder, chance, coil, listed):
+    """What some state switches on: what a random state does has a row."""
+    place, listed = pathlib.Path(folder), listed[:4]
+    out, said, status = run(program, ["causes", "--any", "program.ld", coil, *listed], folder)
+    rows = [line.split(",") for line in out.decode().splitlines()]
+    numbers = [int(row[0]) for row in rows[1:]]
+    bits = [[str(number >> shift & 1) for shift in reversed(range(len(listed)))] for number in numbers]
+    open_rows = sum(row[1] == "?" for row in rows[1:])
+    wanted = [["number", "settled", *listed], *([str(number), row[1], *its] for number, row, its in zip(numbers, rows[1:], bits))]
+    found = differences((rows, said, status), (wanted, f"rows {len(numbers)} unsettled {open_rows}\n".encode(), 0))
+    found += [] if numbers == sorted(set(numbers)) else ["rows that don't ascend"]
+    (place / "stimulus.csv").write_text("moment\n0\n", "ascii")
+    run(program, ["sim", "--save", "saved.csv", "program.ld", "stimulus.csv"], folder)
+    for _ in range(6):
+        (place / "any.csv").write_text(any_state(chance, (place / "saved.csv").read_text("ascii")), "ascii")
+        asked = ["--state", "any.csv", "--at", str(100_000 + chance.choice([0, 0, 1, 4_999, 5_000, 90_000])), "program.ld", coil, *listed]
+        lines = run(program, ["causes", *asked], folder)[0].decode().splitlines()
+        missing = {int(line.split(",")[0]) for line in lines[1:]} - set(numbers)
+        found += [f"{coil} comes ON from a state with {sorted(missing)}, and `--any` has no row: {asked}"] if missing else []
+    return found
+
+
 def main():
     """Compares so many drawings and answers the status."""
     program = os.path.abspath(sys.argv[1])
@@ -283,6 +324,7 @@ def main():
             found += compare_film(program, folder, coil, listed, stimulus(chance, listed))
             found += compare_held(program, folder, chance, text, coil, listed)
             found += compare_never(program, folder, chance, text)
+            found += compare_possible(program, folder, chance, coil, listed)
             if found:
                 different += 1
                 print(text, " ".join([*moment, coil, *listed]), f"number {shown}", *found, sep="\n")

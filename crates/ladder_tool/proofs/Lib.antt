@@ -1,3 +1,4 @@
 pub mod UnknownWords
 pub mod Settings
 pub mod Endings
+pub mod PossibleEnds
