@@ -43,6 +43,7 @@ all_of q c d rows limit made gave (inr e) = inr e
 pub counts : (g : Given) (r : PossibleRequest) (q : Question) (c d : PossibleCursor) (rows : List PossibleCause) (out out' : WriteLog) (Counted : List ℕ → Type 0)
     → (s : PossibleSummary) → IsAskedOfAll g r q → refusal q None ≡ None → IsMadeFor c q → Gave c rows d → PutsAll out out' (possible_text c.program c.listed rows)
     → IsCount s rows → AreAll d rows r.limit → Counted (unless_quiet r.quiet (possible_line s.rows s.unsettled)) → CountsPossible g r out out' Counted
+unfolding lists
 counts g r q c d rows out out' Counted s asked accepted made gave written counted all said = record {
   list = lists g r q c d rows (PutsAll out out') asked accepted made gave written;
   all = all_of q c d rows r.limit made gave all;
