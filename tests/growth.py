@@ -32,6 +32,7 @@ REQUESTS = (
     (("causes", "motor.ld", "Motor", "Start", "Stop"), LINES),
     (("causes", "--state", "running.csv", "motor.ld", "Motor", "Start", "Stop"), LINES),
     (("causes", "--scans", "3", "--state", "running.csv", "motor.ld", "Motor", "Start", "Stop"), LINES),
+    (("causes", "--any", "motor.ld", "Motor", "Start", "Stop"), LINES),
     (("causes", "--grouped", "--state", "running.csv", "motor.ld", "Motor", "Start", "Stop"), LINES),
     (("causes", "--grouped", "--st", "--order", "auto", "motor.ld", "Motor", "Start", "Stop"), LINES),
     (("show", "--state", "running.csv", "--number", "2", "motor.ld", "Start", "Stop"), LINES),
