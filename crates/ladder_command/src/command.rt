@@ -6,8 +6,8 @@ ghost use Rattle.ladder_command.specs.CommandLine.{IsApp, ladder_app, taking};
 ghost use Rattle.ladder_command.specs.Table.{ladder_by, word_rule};
 
 use crate::help::{
-    AFTER_HELP, ALL_HELP, ANY_HELP, AT_HELP, CAUSES_ABOUT, CHECK_ABOUT, COIL_HELP, EVERY_HELP,
-    EXPLAIN_HELP, FAULTS, FILE_HELP, FILM_HELP, FOR_HELP, GROUPED_HELP, HTML_HELP, INPUTS_HELP,
+    AFTER_HELP, ALL_HELP, ANY_HELP, AT_HELP, CAUSES_ABOUT, CHECK_ABOUT, CODES_HELP, COIL_HELP,
+    EVERY_HELP, EXPLAIN_ABOUT, EXPLAIN_HELP, FAULTS, FILE_HELP, FILM_HELP, FOR_HELP, GROUPED_HELP, HTML_HELP, INPUTS_HELP,
     LADDER_ABOUT, LIMIT_HELP, NEVER_ABOUT, NUMBER_HELP, ORDER_HELP, QUIET_HELP, SAVE_HELP,
     SCANS_HELP, SHOW_ABOUT, SHOWN_HELP, SIM_ABOUT, STATE_HELP, STATEMENT_HELP, STIMULUS_HELP,
     TERMS_HELP, USES_ABOUT, WARN_HELP, WAVES_HELP, WHY_HELP,
@@ -97,6 +97,8 @@ const SIM: &[Word] = &[
     Word::Place("stimulus", "STIMULUS", STIMULUS_HELP),
 ];
 
+const EXPLAIN: &[Word] = &[Word::List("codes", "CODE", CODES_HELP)];
+
 const SUBCOMMANDS: &[Subcommand] = &[
     Subcommand {
         name: "check",
@@ -127,6 +129,11 @@ const SUBCOMMANDS: &[Subcommand] = &[
         name: "never",
         about: NEVER_ABOUT,
         words: NEVER,
+    },
+    Subcommand {
+        name: "explain",
+        about: EXPLAIN_ABOUT,
+        words: EXPLAIN,
     },
 ];
 

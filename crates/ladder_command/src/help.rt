@@ -10,6 +10,7 @@ pub(crate) const FAULTS: &str =
   C1 to C8    there is no list of causes, or no scan to show, for this question
   X1 to X7    a file can't be read, or a word or record of it is bad; X6: a write failed; X7: out of memory
   usage       the words are not those of a request
+`ladder explain CODE` says more of each.
 Status: 0 all was written, 1 a fault stopped it, 2 wrong words.
 Documents: README.md and docs/ of the repository.";
 
@@ -33,8 +34,14 @@ pub(crate) const NEVER_ABOUT: &str =
     "Lists the variables and outputs of blocks that can never come ON from the state on, \
      whatever the inputs do, with the places where they are drawn";
 
+pub(crate) const EXPLAIN_ABOUT: &str =
+    "Says what a fault means and what corrects it, or lists all faults";
+
+pub(crate) const CODES_HELP: &str =
+    "Codes of faults, as the line of a fault has them (G4, X2, usage), in any letter case; without one all are listed";
+
 pub(crate) const WARN_HELP: &str =
-    "Also prints a row for each place that breaks no rule and is most likely not meant: `warning,KIND,RUNG,ROW,COLUMN,NAME`";
+    "Also prints a row for each place or name that breaks no rule and is most likely not meant: `warning,KIND,RUNG,ROW,COLUMN,NAME`";
 
 pub(crate) const EXPLAIN_HELP: &str =
     "After the line of a fault: its rule in words, and the lines of the program where it shows";

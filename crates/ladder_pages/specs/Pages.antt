@@ -1,6 +1,6 @@
 -- The codes of the faults.
 use Rattle.std.specs.Prelude.{ℕ, Bool, List, [], ◌∷◌, codes, is_some, position}
-use Rattle.std.specs.Str.{bytes_eq}
+use Rattle.std.specs.Str.{str_eq_ignore_ascii_case}
 
 abbrev pub fault_codes : List (List ℕ)
 fault_codes =
@@ -10,6 +10,6 @@ fault_codes =
     ∷ codes "C1" ∷ codes "C2" ∷ codes "C3" ∷ codes "C4" ∷ codes "C5" ∷ codes "C6" ∷ codes "C7" ∷ codes "C8" ∷ codes "S1"
     ∷ codes "X1" ∷ codes "X2" ∷ codes "X3" ∷ codes "X4" ∷ codes "X5" ∷ codes "X6" ∷ codes "X7" ∷ codes "usage" ∷ []
 
--- The text is one of the codes.
+-- The text is one of the codes, in any letter case.
 abbrev pub is_fault_code : List ℕ → Bool
-is_fault_code code = is_some (position (λ c. bytes_eq code c) fault_codes)
+is_fault_code code = is_some (position (λ c. str_eq_ignore_ascii_case code c) fault_codes)

@@ -1,25 +1,25 @@
 //! The page of a code.
 
 ghost use Rattle.std.specs.Prelude.{◌≡◌, is_some, position};
-ghost use Rattle.std.specs.Str.{bytes_eq};
+ghost use Rattle.std.specs.Str.{str_eq_ignore_ascii_case};
 ghost use Rattle.ladder_pages.specs.Pages.{fault_codes, is_fault_code};
 
 use crate::list::{CODES, PAGES, TITLES};
 
 fn number_in(codes: &[&str], code: &str) -> Option<usize>
-    ensures { result ≡ position (λ c. bytes_eq code.now c.now) codes.now }
+    ensures { result ≡ position (λ c. str_eq_ignore_ascii_case code.now c.now) codes.now }
 {
-    codes.iter().position(|c| code == *c)
+    codes.iter().position(|c| code.eq_ignore_ascii_case(c))
 }
 
 /// The number of a code among all.
 fn number_of(code: &str) -> Option<usize>
-    ensures { result ≡ position (λ c. bytes_eq code.now c) fault_codes }
+    ensures { result ≡ position (λ c. str_eq_ignore_ascii_case code.now c) fault_codes }
 {
     number_in(&CODES, code)
 }
 
-/// The page of a fault: its section of `docs/FAULTS.md`, from the heading on, each line with its end. Letter case makes a difference.
+/// The page of a fault: its section of `docs/FAULTS.md`, from the heading on, each line with its end. Letter case makes no difference.
 pub fn page_of(code: &str) -> Option<&'static str>
     ensures { is_some result ≡ is_fault_code code.now }
 {

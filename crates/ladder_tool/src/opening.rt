@@ -7,6 +7,9 @@ use std::fs::File;
 use std::io::Read;
 use std::{fs, io};
 
+/// What is read in place of a file named `-`.
+const STANDARD_INPUT: &str = "/dev/stdin";
+
 /// A file that is opened at the first read of it. One that doesn't open is a failed read.
 #[derive(Drop)]
 pub(crate) struct NamedFile<'a> {
@@ -20,7 +23,12 @@ impl Read for NamedFile<'_> {
         if let Some(file) = &mut self.file {
             return file.read(bytes);
         }
-        let mut file = fs::open(self.rt, self.path)?;
+        let path = if self.path == "-" {
+            STANDARD_INPUT
+        } else {
+            self.path
+        };
+        let mut file = fs::open(self.rt, path)?;
         let count = file.read(bytes);
         self.file = Some(file);
         count

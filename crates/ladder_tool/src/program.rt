@@ -6,30 +6,90 @@ use crate::fault::{ToolFault, write_fault};
 use crate::files::perform_files;
 use crate::opening::readers_of;
 use crate::saving::{SavedFile, followed};
-use ladder_text::{Writing, put};
-use ladder_words::{CommandLine, Request, SimRequest, WordFault, read_words};
+use ladder_pages::{codes, page_of};
+use ladder_text::{Sink, WriteFault, Writing, put};
+use ladder_words::{CommandLine, Request, SimRequest, Task, WordFault, read_words};
 use std::alloc::{AllocError, Global};
 use std::fs::File;
 use std::io::Write;
 use std::{fs, io};
+
+/// What is said of words that `clap` takes and that ask for nothing.
+const CLASH: &str =
+    "usage: options that exclude one another, or an INPUT beside --all-inputs, or no such order or code; \
+    `ladder help` with the name of the subcommand says which there are\n";
 
 /// Reads the arguments and the files that they name, and performs the request over the standard streams. Returns
 /// the status: 0 done, 1 a fault in a file or while running, 2 wrong usage. The first argument is the program's name.
 pub fn run(rt: &HostRuntime, alloc: Global, words: Vec<String>) -> u8
     ensures { result ≤ 2 }
 {
+    // Words that can't be taken don't say what the flag means, so it is looked for among them.
+    let why = words.iter().any(|word| word.as_str() == "--why");
     match read_words(alloc, words) {
-        Ok(line) => run_line(rt, alloc, &line),
-        Err(WordFault::Help(text)) => show_help(rt, text.as_str()),
-        Err(WordFault::Usage) => {
-            report(rt, &ToolFault::Usage);
+        Ok(Task::Perform(line)) => run_line(rt, alloc, &line),
+        Ok(Task::Explain(names)) => explain(rt, &names),
+        Err(fault) => refuse(rt, why, &fault),
+    }
+}
+
+/// Shows the help that the arguments ask for, or reports why they ask for nothing. Returns the status.
+fn refuse(rt: &HostRuntime, why: bool, fault: &WordFault) -> u8
+    ensures { result ≤ 2 }
+{
+    match fault {
+        WordFault::Help(text) => show(rt, text.as_str()),
+        WordFault::Mistake(text) => {
+            report_usage(rt, why, text.as_str());
             2
         }
-        Err(WordFault::Memory) => {
+        WordFault::Usage => {
+            report_usage(rt, why, CLASH);
+            2
+        }
+        WordFault::Memory => {
             report(rt, &ToolFault::Memory);
             1
         }
     }
+}
+
+/// Writes the line of wrong usage on standard error, and after it, where that is asked for, what is wrong.
+fn report_usage(rt: &HostRuntime, why: bool, text: &str) {
+    report(rt, &ToolFault::Usage);
+    if why {
+        let _ = put(&mut Writing::new(rt.stderr()), text.as_bytes());
+    }
+}
+
+/// Writes the pages of these faults, or the list of all faults where there is none. Returns the status.
+fn explain(rt: &HostRuntime, names: &[String]) -> u8
+    ensures { result ≤ 1 }
+{
+    if names.is_empty() {
+        return show(rt, codes());
+    }
+    match write_pages(names, &mut Writing::new(io::writer(rt))) {
+        Ok(()) => 0,
+        Err(_) => {
+            report(rt, &ToolFault::Write);
+            1
+        }
+    }
+}
+
+/// Writes the pages of these faults, a blank line between one and the next.
+fn write_pages<W: Sink>(names: &[String], writer: &mut W) -> Result<(), WriteFault> {
+    let mut is_first = true;
+    for name in names {
+        if !is_first {
+            put(writer, b"\n")?;
+        }
+        is_first = false;
+        let page = page_of(name.as_str()).unwrap_or("");
+        put(writer, page.as_bytes())?;
+    }
+    Ok(())
 }
 
 /// Performs the request of a command line over its files and the standard streams.
@@ -146,7 +206,8 @@ where
     perform_files(alloc, line, &mut readers, &mut out, save, &mut err)
 }
 
-fn show_help(rt: &HostRuntime, text: &str) -> u8
+/// Writes a text on standard output. Returns the status.
+fn show(rt: &HostRuntime, text: &str) -> u8
     ensures { result ≤ 1 }
 {
     match put(&mut Writing::new(io::writer(rt)), text.as_bytes()) {

@@ -1,7 +1,9 @@
 -- Why the arguments ask for no request.
-use Rattle.std.proofs.Common.{◌≡◌, ◌∙◌, ℕ, Bool, true, false, List, [], ◌∷◌, Option, None, Some, ap, arith, bytes_eq, codes, find, get_or, inl, inr, option_and_then, option_map, refl, slice_get, sym, unwrap_or}
+use Rattle.std.proofs.Common.{◌≡◌, ◌∙◌, ℕ, Bool, true, false, List, [], ◌∷◌, Option, None, Some, ap, arith, bytes_eq, codes, find, map, string_bytes, String, Global, ◌&&◌, get_or, inl, inr, option_and_then, option_map, refl, slice_get, sym, unwrap_or}
+use Rattle.std.specs.List.{list_all}
 use Rattle.clap.specs.Words.{Row, Text, all_of, first_of}
-use Rattle.ladder_words.specs.Asking.{Asks, AsksNone, HasEvery, HasFlag, HasForm, HasInputs, HasLasting, HasNumber, HasOption, HasScans, HasSwitch, HasOrder, IsNamed, IsTable, MayHaveLimit, NamesList}
+use Rattle.ladder_pages.specs.Pages.{is_fault_code}
+use Rattle.ladder_words.specs.Asking.{Asks, AsksNone, HasEvery, HasNoTask, HasFlag, HasForm, HasInputs, HasLasting, HasNumber, HasOption, HasScans, HasSwitch, HasOrder, IsNamed, IsTable, MayHaveLimit, NamesList}
 use Rattle.ladder_words.specs.Parts.{HasGrouping, IsOfAnyState, IsOfOneScan, IsOfRecords, IsWhole, MayLast, NamesScan, Plays}
 use Rattle.ladder_words.specs.Faults.{UsageWhere}
 use Rattle.ladder_words.specs.declared.request.Form.{Form}
@@ -21,10 +23,12 @@ use Rattle.ladder_words.specs.declared.request.NeverRequest.{NeverRequest}
 use Rattle.ladder_words.specs.declared.words.Lasting.TheVariants.{Count, Until}
 use Rattle.ladder_words.specs.declared.request.Request.TheVariants.{Causes, Check, Film, Groups, Held, Never, Possible, Show, Sim, Uses, Waves}
 use Rattle.ladder_words.specs.declared.request.WordFault.{WordFault}
-use Rattle.ladder_words.specs.declared.request.WordFault.TheVariants.{Help, Memory, Usage}
+use Rattle.ladder_words.specs.declared.request.WordFault.TheVariants.{Help, Memory, Mistake, Usage}
+use Rattle.ladder_words.specs.declared.request.Task.TheVariants.{Explain, Perform}
 
 pub usage_weaker : {P Q : Type 0} (e : WordFault) → (P → Q) → UsageWhere P e → UsageWhere Q e
 usage_weaker Usage f p = f p
+usage_weaker (Mistake text) f p = absurd p
 usage_weaker (Help text) f p = absurd p
 usage_weaker Memory f p = tt
 
@@ -38,6 +42,43 @@ no_order rows text is none o (inr h) =
     let both = sym h.1 ∙ is in
     let same : h.0 ≡ text = cc in
     none o (rw same at h.2)
+
+-- The subcommand that explains makes no request, and no other one explains.
+name_differs : {name other : List ℕ} → name ≡ other → get_or name 0 0 ≡ get_or other 0 0
+name_differs same = ap (λ (name : List ℕ). get_or name 0 0) same
+
+explains_alone : (rows : List Row) → AsksNone (codes "explain") rows
+explains_alone rows (Check file warns) h = let other : 101 ≡ 99 = name_differs h.0 in absurd (omega (arith, other))
+explains_alone rows (Causes list after) h = let other : 101 ≡ 99 = name_differs h.0 in absurd (omega (arith, other))
+explains_alone rows (Held list scans every) h = let other : 101 ≡ 99 = name_differs h.0 in absurd (omega (arith, other))
+explains_alone rows (Groups list grouping) h = let other : 101 ≡ 99 = name_differs h.0 in absurd (omega (arith, other))
+explains_alone rows (Possible r) h = let other : 101 ≡ 99 = name_differs h.0 in absurd (omega (arith, other))
+explains_alone rows (Show r) h = let other : 101 ≡ 115 = name_differs h.0 in absurd (omega (arith, other))
+explains_alone rows (Film r) h = let other : 101 ≡ 115 = name_differs h.0 in absurd (omega (arith, other))
+explains_alone rows (Sim r) h = let other : 101 ≡ 115 = name_differs h.0 in absurd (omega (arith, other))
+explains_alone rows (Waves r) h = let other : 101 ≡ 115 = name_differs h.0 in absurd (omega (arith, other))
+explains_alone rows (Uses file) h = let other : 101 ≡ 117 = name_differs h.0 in absurd (omega (arith, other))
+explains_alone rows (Never r) h = let other : 101 ≡ 110 = name_differs h.0 in absurd (omega (arith, other))
+
+abbrev pub all_codes : List (String Global) → Bool
+all_codes names = list_all (λ name. is_fault_code (string_bytes name)) names
+
+all_codes_of : (names : List (String Global)) → all_codes names ≡ list_all is_fault_code (map string_bytes names)
+all_codes_of [] = refl
+all_codes_of (name ∷ names) = ap (λ b. is_fault_code (string_bytes name) && b) (all_codes_of names)
+
+-- A name is no code.
+pub no_pages : (rows : List Row) (names : List (String Global)) → unwrap_or (all_of (codes "codes") rows) [] ≡ map string_bytes names → all_codes names ≡ false
+    → HasNoTask (codes "explain") rows
+no_pages rows names given none (Perform line) h = explains_alone rows line.request h.0
+no_pages rows names given none (Explain other) h =
+    let same = all_codes_of names ∙ ap (λ texts. list_all is_fault_code texts) (sym given ∙ h.1.0) ∙ sym (all_codes_of other.items) in
+    let bad = sym none ∙ same ∙ h.1.1 in
+    cc
+
+pub no_line : (name : Text) (rows : List Row) → (name ≡ codes "explain" → ⊥) → AsksNone name rows → HasNoTask name rows
+no_line name rows differs none (Perform line) h = none line.request h.0
+no_line name rows differs none (Explain other) h = differs h.0
 
 -- A subcommand asks for the requests of its name alone.
 pub no_check : (rows : List Row) → first_of (codes "file") rows ≡ None → AsksNone (codes "check") rows

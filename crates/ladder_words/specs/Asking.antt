@@ -1,7 +1,10 @@
--- What a request asks, by the subcommand and the values of its arguments.
-use Rattle.std.specs.Prelude.{◌≡◌, ◌⊎◌, ◌<◌, ◌+◌, ◌-◌, ◌/◌, ◌^◌, ⊤, ℕ, zero, suc, min, Bool, true, false, List, Option, None, Some, map, codes, string_bytes, unwrap_or, option_map, []}
+-- What the arguments ask for, by the subcommand and the values of its arguments.
+use Rattle.std.specs.Prelude.{◌≡◌, ◌⊎◌, ◌<◌, ◌+◌, ◌-◌, ◌/◌, ◌^◌, ⊤, ℕ, zero, suc, min, Bool, true, false, List, Option, None, Some, map, codes, string_bytes, unwrap_or, option_map, [], String}
+use Rattle.std.specs.Global.{Global}
+use Rattle.std.specs.List.{list_all}
 use Rattle.std.specs.Str.Parse.{IsNumeral, digits_value, without_leading_plus}
 use Rattle.clap.specs.Words.{App, Row, Text, all_of, first_of, one_of, subcommand_of}
+use Rattle.ladder_pages.specs.Pages.{is_fault_code}
 use Rattle.ladder_words.specs.declared.words.TheConstants.{EVERY}
 use Rattle.ladder_words.specs.declared.words.Lasting.{Lasting}
 use Rattle.ladder_words.specs.declared.words.Lasting.TheVariants.{Count, Until}
@@ -15,6 +18,8 @@ use Rattle.ladder_words.specs.declared.request.CommandLine.{CommandLine}
 use Rattle.ladder_words.specs.declared.request.ListRequest.{ListRequest}
 use Rattle.ladder_words.specs.declared.request.Request.{Request}
 use Rattle.ladder_words.specs.declared.request.Request.TheVariants.{Causes, Check, Film, Groups, Held, Never, Possible, Show, Sim, Uses, Waves}
+use Rattle.ladder_words.specs.declared.request.Task.{Task}
+use Rattle.ladder_words.specs.declared.request.Task.TheVariants.{Explain, Perform}
 
 abbrev pub HasText : Text → List Row → List ℕ → Type 0
 HasText id rows text = first_of id rows ≡ Some text
@@ -190,10 +195,23 @@ AsksNone name rows = (r : Request) → Asks name rows r → ⊥
 abbrev pub Says : Text → List Row → CommandLine → Type 0
 Says name rows line = Asks name rows line.request × HasSwitch (codes "why") rows line.why
 
--- the command takes the arguments, and they say this
-abbrev pub AsksBy : App → List Text → CommandLine → Type 0
-AsksBy app words line = (name : Text) × (rows : List Row) × (subcommand_of app words ≡ Some (name, rows)) × Says name rows line
+-- these names are given, and each is the code of a fault
+abbrev pub NamesCodes : List Row → List (String Global) → Type 0
+NamesCodes rows names = (unwrap_or (all_of (codes "codes") rows) [] ≡ map string_bytes names) × (list_all (λ name. is_fault_code (string_bytes name)) names ≡ true)
 
--- the arguments ask for no request
+-- what is to be done: a request, or what `ladder explain` says of faults
+abbrev pub HasTask : Text → List Row → Task → Type 0
+HasTask name rows (Perform line) = Says name rows line
+HasTask name rows (Explain names) = (name ≡ codes "explain") × NamesCodes rows names.items
+
+-- the subcommand's name and values ask for nothing
+abbrev pub HasNoTask : Text → List Row → Type 0
+HasNoTask name rows = (t : Task) → HasTask name rows t → ⊥
+
+-- the command takes the arguments, and they ask for this
+abbrev pub AsksBy : App → List Text → Task → Type 0
+AsksBy app words task = (name : Text) × (rows : List Row) × (subcommand_of app words ≡ Some (name, rows)) × HasTask name rows task
+
+-- the arguments ask for nothing
 abbrev pub AsksNothing : App → List Text → Type 0
-AsksNothing app words = (line : CommandLine) → AsksBy app words line → ⊥
+AsksNothing app words = (task : Task) → AsksBy app words task → ⊥

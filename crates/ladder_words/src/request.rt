@@ -198,7 +198,16 @@ pub enum Request {
     Never(NeverRequest),
 }
 
-/// What a command line says.
+/// What a command line asks for.
+#[derive(Drop)]
+pub enum Task {
+    /// To perform a request.
+    Perform(CommandLine),
+    /// To say what the faults with these codes mean, or to list all faults where none is named.
+    Explain(Vec<String>),
+}
+
+/// A request, with the flag of every subcommand that makes one.
 #[derive(Drop)]
 pub struct CommandLine {
     pub request: Request,
@@ -211,6 +220,9 @@ pub struct CommandLine {
 pub enum WordFault {
     #[error("the arguments are no request")]
     Usage,
+    /// `clap` finds a fault in them, and this is what it says of it.
+    #[error("{0}")]
+    Mistake(String),
     /// They ask for help, and this is its text.
     #[error("{0}")]
     Help(String),

@@ -1,46 +1,49 @@
 //! From the arguments of a command line to a request.
 
 ghost use Rattle.std.specs.Prelude.{◌≡◌, ℕ, Bool, List, [], true, false, codes, IfSome, IsSome, OnOk, IfOk, IfErr, map, option_map, string_bytes, unwrap_or, None, Option, Some};
+ghost use Rattle.std.specs.List.{list_all};
 ghost use Rattle.clap.specs.Words.{Row, Text, all_of, first_of, found_of, kind_of, rows_of, subcommand_rows_of};
 ghost use Rattle.clap.specs.Words.{fault_of as clap_fault};
 ghost use Rattle.ladder_command.specs.CommandLine.{ladder_app};
-ghost use Rattle.ladder_words.specs.Asking.{Asks, AsksBy, AsksNone, HasEvery, HasFlag, HasForm, HasInputs, HasLasting, HasMedium, HasNumber, HasOrder, HasOption, HasSwitch, IsNamed, IsTable, MayHaveLimit, NamesList, HasScans, Says, scans_until};
+ghost use Rattle.ladder_pages.specs.Pages.{is_fault_code};
+ghost use Rattle.ladder_words.specs.Asking.{Asks, AsksBy, AsksNone, HasNoTask, HasTask, HasEvery, HasFlag, HasForm, HasInputs, HasLasting, HasMedium, HasNumber, HasOrder, HasOption, HasSwitch, IsNamed, IsTable, MayHaveLimit, NamesList, HasScans, Says, scans_until};
 ghost use Rattle.ladder_words.specs.Parts.{HasGrouping, HasSources, IsOfAnyState, IsOfOneScan, IsOfRecords, IsWhole, MayLast, NamesScan, Plays};
 ghost use Rattle.ladder_words.specs.Faults.{IsFaultOf, SaysOf, UsageWhere};
 
 use crate::request::{
     CommandLine, FilmRequest, Form, Grouping, InputOrder, ListRequest, Medium, NeverRequest,
-    PossibleRequest, Request, ShowRequest, SimRequest, WavesRequest, WordFault,
+    PossibleRequest, Request, ShowRequest, SimRequest, Task, WavesRequest, WordFault,
 };
 use clap::ArgMatches;
 use clap::error::ErrorKind;
 use ladder_command::ladder;
+use ladder_pages::page_of;
 use std::alloc::Global;
 
 /// The time from each scan to the next where no word says otherwise, in ms.
 const EVERY: u64 = 10;
 
-/// Reads the request of a command line, of which the first word is the program's name.
+/// Reads what a command line asks for. Its first word is the program's name.
 ///
 /// # Errors
 ///
-/// `Usage` where `clap` finds a fault other than that help is asked for, where groups or a list over several scans are to begin after a
+/// `Mistake` where `clap` finds a fault other than that help is asked for, with what it says of it, or `Usage` when there is no memory for that; `Usage` where a fault has none of the named codes, where groups or a list over several scans are to begin after a
 /// number, where a time between scans is asked for without several scans, several scans by their number and by a time, or in groups, where a form or the order `auto` is asked for without groups, or both forms, or a statement with a limit, or an order that has another name, where
 /// inputs are named beside all of them, where any state is asked of and a state, a moment, a number to begin after, several scans, a time between scans, groups, a form or the order `auto` is named as well, where a stimulus is to be shown with a moment, a number or listed inputs, or a waveform to be written with a saved state, and nowhere else; `Help` with its text where help is asked for; `Memory` when out of memory.
-pub fn read_words(alloc: Global, words: Vec<String>) -> Result<CommandLine, WordFault>
+pub fn read_words(alloc: Global, words: Vec<String>) -> Result<Task, WordFault>
     ensures asks { IfOk result (AsksBy ladder_app (map string_bytes words.items)) }
 
-    // Only arguments in which `clap` finds no fault are a request.
+    // Only arguments in which `clap` finds no fault ask for something.
     ensures accepted { OnOk result (clap_fault ladder_app (map string_bytes words.items) ≡ []) }
 
-    // A usage fault comes only where `clap` finds one or the arguments ask for no request, and help only where it is asked for.
+    // A usage fault comes only where `clap` finds one or the arguments ask for nothing, and help only where it is asked for.
     ensures fault { IfErr result (IsFaultOf ladder_app (map string_bytes words.items)) }
 {
     let Ok(command) = ladder(alloc) else {
         return Err(WordFault::Memory);
     };
     match command.try_get_matches_from(words.as_slice()) {
-        Ok(matches) => line_in(alloc, &matches),
+        Ok(matches) => task_in(alloc, &matches),
         Err(error) => Err(fault_of(alloc, &error)),
     }
 }
@@ -54,18 +57,58 @@ fn fault_of(alloc: Global, error: &clap::Error) -> WordFault
             Ok(text) => WordFault::Help(text),
             Err(_) => WordFault::Memory,
         },
-        _ => WordFault::Usage,
+        _ => match error.to_string(alloc) {
+            Ok(text) => WordFault::Mistake(text),
+            Err(_) => WordFault::Usage,
+        },
     }
 }
 
-fn line_in(alloc: Global, matches: &ArgMatches<'_>) -> Result<CommandLine, WordFault>
-    ensures ok { IfOk result (λ l. IfSome (subcommand_rows_of matches.now) (λ p. Says p.0 p.1 l) × IsSome (subcommand_rows_of matches.now)) }
-    ensures err { IfErr result (UsageWhere (IfSome (subcommand_rows_of matches.now) (λ p. AsksNone p.0 p.1))) }
+fn task_in(alloc: Global, matches: &ArgMatches<'_>) -> Result<Task, WordFault>
+    ensures ok { IfOk result (λ t. IfSome (subcommand_rows_of matches.now) (λ p. HasTask p.0 p.1 t) × IsSome (subcommand_rows_of matches.now)) }
+    ensures err { IfErr result (UsageWhere (IfSome (subcommand_rows_of matches.now) (λ p. HasNoTask p.0 p.1))) }
 {
     match matches.subcommand() {
-        Some((name, found)) => line_of(alloc, name, found),
+        Some((name, found)) => task_of(alloc, name, found),
         None => Err(WordFault::Usage),
     }
+}
+
+fn task_of(alloc: Global, name: &str, found: &ArgMatches<'_>) -> Result<Task, WordFault>
+    ensures ok { IfOk result (HasTask name.now (rows_of (found_of found.now))) }
+    ensures err { IfErr result (UsageWhere (HasNoTask name.now (rows_of (found_of found.now)))) }
+{
+    if name == "explain" {
+        return explain_task(alloc, found);
+    }
+    match line_of(alloc, name, found) {
+        Ok(line) => Ok(Task::Perform(line)),
+        Err(fault) => Err(fault),
+    }
+}
+
+fn explain_task(alloc: Global, found: &ArgMatches<'_>) -> Result<Task, WordFault>
+    ensures ok { IfOk result (HasTask (codes "explain") (rows_of (found_of found.now))) }
+    ensures err { IfErr result (UsageWhere (HasNoTask (codes "explain") (rows_of (found_of found.now)))) }
+{
+    let names = texts(alloc, found, "codes")?;
+    if !are_codes(&names) {
+        return Err(WordFault::Usage);
+    }
+    Ok(Task::Explain(names))
+}
+
+fn is_code(name: &String) -> bool
+    ensures { result ≡ is_fault_code (string_bytes name.now) }
+{
+    page_of(name.as_str()).is_some()
+}
+
+/// Whether all are codes of faults.
+fn are_codes(names: &[String]) -> bool
+    ensures { result ≡ list_all (λ name. is_fault_code (string_bytes name)) names.now }
+{
+    names.iter().all(|name| is_code(name))
 }
 
 fn line_of(alloc: Global, name: &str, found: &ArgMatches<'_>) -> Result<CommandLine, WordFault>
