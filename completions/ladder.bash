@@ -10,12 +10,17 @@ _ladder_inputs() {
     sed -n 's/^[[:space:]]*\([A-Za-z_][A-Za-z0-9_]*\)[[:space:]]\{1,\}[Aa][Tt][[:space:]]\{1,\}%[Ii].*/\1/p' "$1" 2> /dev/null
 }
 
+# The codes of all faults.
+_ladder_codes() {
+    ladder explain 2> /dev/null | sed 's/:.*//'
+}
+
 _ladder() {
     local word=${COMP_WORDS[COMP_CWORD]} before=${COMP_WORDS[COMP_CWORD - 1]} subcommand=${COMP_WORDS[1]}
     local options file='' coil='' place=0 number
     COMPREPLY=()
     if ((COMP_CWORD == 1)); then
-        mapfile -t COMPREPLY < <(compgen -W 'check causes show sim uses never help --help' -- "$word")
+        mapfile -t COMPREPLY < <(compgen -W 'check causes show sim uses never explain help --help' -- "$word")
         return
     fi
     case $subcommand in
@@ -25,8 +30,9 @@ _ladder() {
         check) options='--warn --why --help' ;;
         uses) options='--why --help' ;;
         never) options='--state --quiet --why --help' ;;
+        explain) options='--help' ;;
         help)
-            mapfile -t COMPREPLY < <(compgen -W 'check causes show sim uses never' -- "$word")
+            mapfile -t COMPREPLY < <(compgen -W 'check causes show sim uses never explain' -- "$word")
             return
             ;;
     esac
@@ -50,6 +56,8 @@ _ladder() {
         *)
             if [[ $word == -* ]]; then
                 mapfile -t COMPREPLY < <(compgen -W "$options" -- "$word")
+            elif [[ $subcommand == explain ]]; then
+                mapfile -t COMPREPLY < <(compgen -W "$(_ladder_codes)" -- "$word")
             elif ((place == 0)) || [[ $subcommand == sim && $place == 1 ]]; then
                 mapfile -t COMPREPLY < <(compgen -f -- "$word")
             elif [[ $subcommand == causes && -z $coil ]]; then

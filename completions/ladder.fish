@@ -39,6 +39,11 @@ function __ladder_inputs
     sed -n 's/^[[:space:]]*\([A-Za-z_][A-Za-z0-9_]*\)[[:space:]]\{1,\}[Aa][Tt][[:space:]]\{1,\}%[Ii].*/\1/p' $places[2] 2> /dev/null
 end
 
+# The codes of all faults.
+function __ladder_codes
+    ladder explain 2> /dev/null | sed 's/:.*//'
+end
+
 complete -c ladder -f
 complete -c ladder -s h -l help -d 'Print help'
 complete -c ladder -n 'test (count (__ladder_places)) = 0' -a check -d 'Check a program'
@@ -47,8 +52,9 @@ complete -c ladder -n 'test (count (__ladder_places)) = 0' -a show -d 'Print the
 complete -c ladder -n 'test (count (__ladder_places)) = 0' -a sim -d 'Scan a stimulus record by record'
 complete -c ladder -n 'test (count (__ladder_places)) = 0' -a uses -d 'Print where each name is drawn'
 complete -c ladder -n 'test (count (__ladder_places)) = 0' -a never -d 'Print what can never come ON'
+complete -c ladder -n 'test (count (__ladder_places)) = 0' -a explain -d 'Say what a fault means'
 complete -c ladder -n 'test (count (__ladder_places)) = 0' -a help -d 'Print help'
-complete -c ladder -n '__ladder_at help 1' -a 'check causes show sim uses never'
+complete -c ladder -n '__ladder_at help 1' -a 'check causes show sim uses never explain'
 
 complete -c ladder -n '__ladder_at check,causes,show,sim,uses,never more 0' -l why -d 'Faults are explained'
 complete -c ladder -n '__ladder_at check more 0' -l warn -d 'What is most likely not meant'
@@ -75,6 +81,7 @@ complete -c ladder -n '__ladder_at sim more 0' -l save -r -F -d 'The file that g
 
 complete -c ladder -n '__ladder_at check,causes,show,sim,uses,never 1' -F
 complete -c ladder -n '__ladder_at sim 2' -F
+complete -c ladder -n '__ladder_at explain more 0' -a '(__ladder_codes)'
 complete -c ladder -n '__ladder_at causes 2' -a '(__ladder_coils)'
 complete -c ladder -n '__ladder_at causes more 2' -a '(__ladder_inputs)'
 complete -c ladder -n '__ladder_at show more 1' -a '(__ladder_inputs)'

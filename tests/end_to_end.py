@@ -227,6 +227,25 @@ def parts_of_32_inputs(program, folder):
     return differences((joined,), (f"{3 * 2 ** 30 - 1},1,0{',1' * 30}\n".encode(),))
 
 
+def program_from_standard_input(program, folder):
+    """A file named - is standard input."""
+    text = HERE / "programs" / "motor.ld"
+    with open(text, "rb") as stream:
+        have = run(program, ["causes", "-", *CAUSES[2:]], folder, stdin=stream)
+    shutil.copy(text, folder)
+    return differences(have, run(program, CAUSES, folder))
+
+
+def stimulus_from_a_pipe(program, folder):
+    """So is a stimulus that comes through a pipe."""
+    shutil.copy(HERE / "programs" / "motor.ld", folder)
+    reader, writer = os.pipe()
+    os.write(writer, ONE)
+    os.close(writer)
+    with open(reader, "rb") as stream:
+        return differences(run(program, ["sim", "motor.ld", "-"], folder, stdin=stream), (TRACE, b"", 0))
+
+
 CAUSES = ["causes", "motor.ld", "Motor", "Start", "Stop"]
 SIM = ["sim", "motor.ld", "stimulus.csv"]
 STATE = ["causes", "--state", "state.csv", "motor.ld", "Motor"]
@@ -249,6 +268,8 @@ SPECIAL = {
     "streams-rows-in-a-file-of-limited-size": rows_in_a_file_of_limited_size,
     "streams-rows-on-a-pipe-closed-after-a-line": pipe_closed_after_a_line,
     "streams-saved-state-over-the-program": long_texts(["sim", "--save", "motor.ld", *SIM[1:]], "stimulus.csv", ONE, (b"", b"fault usage\n", 2)),
+    "streams-program-from-standard-input": program_from_standard_input,
+    "streams-stimulus-from-a-pipe": stimulus_from_a_pipe,
     "streams-sim-without-input": sim_with_closed_streams([0], (TRACE, b"", 0), SAVED),
     "streams-sim-without-output": sim_with_closed_streams([1], (b"", b"fault X6\n", 1), b""),
     "streams-sim-without-error": sim_with_closed_streams([2], (TRACE, b"", 0), SAVED),
