@@ -129,6 +129,33 @@ def held(program, runs):
             wrong(f"{name}: {said.strip()!r}, and rows {due} must come out")
 
 
+# from any state, with all inputs of the stations: coil, rows, and how many of them aren't settled
+POSSIBLE = [("Feed", 0, 0), ("Run1", 0, 0), ("Run2", 0, 0), ("Run3", 0, 0), ("Horn", 0, 0)]
+
+
+def coils(program, circuit):
+    """The variables that a coil of the circuit writes."""
+    rows = subprocess.run([program, "uses", circuit], stdout=subprocess.PIPE, check=True).stdout.decode().splitlines()[1:]
+    return sorted({name for name, use, *_ in (row.split(",") for row in rows) if use.endswith("coil")})
+
+
+def possible(program, runs):
+    """What some state switches on: each coil without listed inputs, the slowest of a circuit told; and with all inputs."""
+    print(f"{'from any state':34}{'ms':>10}{'rows':>12}{'unsettled':>10}{'ms of never':>12}")
+    for circuit in sorted([*(HERE.parent / "examples").glob("*/*.ld"), HERE / "circuits" / "three_stations.ld"]):
+        tried = [(least([program, "causes", "--any", str(circuit), coil], runs), coil) for coil in coils(program, circuit)]
+        (seconds, _, _), coil = max(tried)
+        unsettled = sum(counts(said, "unsettled")[1] for (_, _, said), _ in tried)
+        never, _, _ = least([program, "never", str(circuit)], runs)
+        print(f"{f'{circuit.parent.name}/{circuit.stem} {coil}':34}{seconds * 1e3:10.2f}{'':12}{unsettled:10}{never * 1e3:12.2f}")
+    for coil, rows, unsettled in POSSIBLE:
+        words = [str(HERE / "circuits" / "three_stations.ld"), coil, *STATIONS]
+        seconds, _, said = least([program, "causes", "--any", *words], runs)
+        print(f"{f'three stations, 20 inputs, {coil}':34}{seconds * 1e3:10.2f}{counts(said, 'unsettled')[0]:12}{counts(said, 'unsettled')[1]:10}")
+        if counts(said, "unsettled") != (rows, unsettled):
+            wrong(f"{coil}: {said.strip()!r}, and rows {rows} unsettled {unsettled} must come out")
+
+
 def declarations():
     """Declarations of the greatest length."""
     text = "VAR\n" + "(* a comment that fills the block *)\n" * 27_000 + "  Y AT %QX0 : BOOL;\nEND_VAR\n"
@@ -236,6 +263,7 @@ def main():
         report(case.name, seconds, said, (case.rows, case.looks))
     grouped(program, runs)
     held(program, runs)
+    possible(program, runs)
     for name, text in TEXTS:
         with tempfile.NamedTemporaryFile() as file:
             file.write(text())

@@ -27,7 +27,7 @@ import tempfile
 ROOT = pathlib.Path(__file__).resolve().parent.parent
 DOCUMENTS = ["README.md", "docs/DRAWING.md", "docs/FAULTS.md", "docs/TUTORIAL.md", "examples/*/README.md", "examples/*/PICTURES.md",
              "man/ladder.1"]
-SUBCOMMANDS = ["check", "causes", "show", "sim", "uses"]
+SUBCOMMANDS = ["check", "causes", "show", "sim", "uses", "never", "explain"]
 # the faults that a text or a command can show, and those that have a section alone
 SHOWN = [f"V{number}" for number in range(1, 9)] + [f"G{number}" for number in range(1, 16)]
 SHOWN += [f"C{number}" for number in range(1, 7)] + ["C8"] + [f"X{number}" for number in range(1, 7)] + ["usage"]
