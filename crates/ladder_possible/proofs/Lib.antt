@@ -2,3 +2,4 @@ pub mod Asking
 pub mod Covering
 pub mod Given
 pub mod Rows
+pub mod Words

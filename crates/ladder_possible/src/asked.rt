@@ -4,6 +4,7 @@ ghost use Rattle.std.specs.Prelude.{◌≡◌, IfOk};
 ghost use Rattle.ladder_possible.specs.Searching.{IsKnowing, IsSpace, IsTried};
 
 use crate::content::MOMENT;
+use crate::sight::{Sight, new_sight};
 use ladder_glance::{Knowledge, Room};
 use ladder_grid::Program;
 use ladder_never::{Outcome, Set};
@@ -25,6 +26,7 @@ pub(crate) struct Asked<'a> {
 pub(crate) struct Space {
     pub knowing: Knowing,
     pub tried: Tried,
+    pub sight: Sight,
 }
 
 /// What is known in a search.
@@ -74,5 +76,10 @@ pub(crate) fn new_space(alloc: Global, program: &Program) -> Result<Space, Memor
 {
     let knowing = new_knowing(alloc, program)?;
     let tried = new_tried(alloc, program)?;
-    Ok(Space { knowing, tried })
+    let sight = new_sight(alloc, program)?;
+    Ok(Space {
+        knowing,
+        tried,
+        sight,
+    })
 }

@@ -1,10 +1,10 @@
 //! Whether a number is possible.
 
-ghost use Rattle.std.specs.Prelude.{◌≡◌, true};
+ghost use Rattle.std.specs.Prelude.{◌≡◌, ◌+◌, ◌%◌, ◌^◌, true};
 ghost use Rattle.ladder_questions.specs.Listable.{IsListable};
 ghost use Rattle.ladder_never.specs.Never.{knowing};
 ghost use Rattle.ladder_possible.specs.Numbers.{IsGiven};
-ghost use Rattle.ladder_possible.specs.Possible.{IsPossible};
+ghost use Rattle.ladder_possible.specs.Possible.{AreNone, IsPossible};
 ghost use Rattle.ladder_possible.specs.Searching.{IsSpace};
 ghost use Rattle.ladder_possible.specs.declared.judging.Verdict.TheVariants.{Never, Possible};
 
@@ -30,32 +30,41 @@ pub(crate) enum Verdict {
     Open,
 }
 
-/// Knows what the number gives the listed inputs, and nothing else.
-fn begin(asked: Asked<'_>, space: &mut Space)
+/// Knows what the number gives the listed inputs, but for those of its last bits, which are open, and nothing else.
+fn begin(asked: Asked<'_>, open_bits: u32, space: &mut Space)
     requires listable { IsListable asked.program.now asked.coil asked.listed.now }
     requires space { IsSpace asked.program.now space.old }
-    ensures given { IsGiven asked.entry.listed.now asked.entry.number (knowing asked.entry.program.now space.new.knowing.none) space.new.knowing.case }
+    ensures given { IsGiven asked.entry.listed.now open_bits asked.entry.number (knowing asked.entry.program.now space.new.knowing.none) space.new.knowing.case }
     ensures space { IsSpace asked.entry.program.now space.new }
 {
     let known = &mut space.knowing;
     know(asked.program, &known.none, &mut known.case);
     give(
         asked.listed,
+        open_bits,
         asked.number,
         asked.program.decls().vars().len(),
         &mut known.case,
     );
 }
 
-/// Whether no state leaves the coil ON with the number.
-fn is_never(asked: Asked<'_>, points: &[Point], space: &mut Space) -> bool
+/// Whether at most so many scans settle that no state leaves the coil ON with the number, whatever its last bits are, which are open.
+pub(crate) fn is_never(
+    asked: Asked<'_>,
+    open_bits: u32,
+    points: &[Point],
+    space: &mut Space,
+    scans: u32,
+) -> bool
     requires listable { IsListable asked.program.now asked.coil asked.listed.now }
+    requires aligned { asked.number % 2 ^ open_bits ≡ 0 }
     requires space { IsSpace asked.program.now space.old }
-    ensures never { result ≡ true → IsPossible asked.entry.program.now asked.entry.coil asked.entry.listed.now asked.entry.number → ⊥ }
+    ensures never { result ≡ true
+        → AreNone asked.entry.program.now asked.entry.coil asked.entry.listed.now asked.entry.number (asked.entry.number + 2 ^ open_bits) }
     ensures space { IsSpace asked.entry.program.now space.new }
 {
     settled_off(asked.program);
-    begin(asked, space);
+    begin(asked, open_bits, space);
     let coil = Point::Variable(asked.coil);
     let search = settle_off(
         asked.program,
@@ -64,7 +73,7 @@ fn is_never(asked: Asked<'_>, points: &[Point], space: &mut Space) -> bool
         &mut space.knowing.case,
         &mut space.knowing.trial,
         &mut space.knowing.room,
-        SCANS,
+        scans,
     );
     search.is_settled
 }
@@ -77,11 +86,11 @@ pub(crate) fn judge(asked: Asked<'_>, points: &[Point], space: &mut Space) -> Ve
     ensures possible { result ≡ Possible → IsPossible asked.entry.program.now asked.entry.coil asked.entry.listed.now asked.entry.number }
     ensures space { IsSpace asked.entry.program.now space.new }
 {
-    begin(asked, space);
+    begin(asked, 0, space);
     if seek(asked, points, space, SCANS).is_found {
         return Verdict::Possible;
     }
-    if is_never(asked, points, space) {
+    if is_never(asked, 0, points, space, SCANS) {
         Verdict::Never
     } else {
         Verdict::Open

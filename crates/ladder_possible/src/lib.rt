@@ -8,5 +8,6 @@ mod judging;
 mod numbers;
 mod possible;
 mod seeking;
+mod sight;
 
 pub use possible::{PossibleCause, PossibleCauses};

@@ -1,14 +1,15 @@
 //! What a number gives the listed inputs.
 
 ghost use Rattle.std.specs.Prelude.{◌≡◌, ◌==◌, ◌≤◌, length, position};
-ghost use Rattle.ladder_possible.specs.Numbers.{IsGiven, bit_for};
+ghost use Rattle.ladder_possible.specs.Numbers.{IsGiven, bit_for, prefix_bit};
 
 use ladder_glance::Knowledge;
 use ladder_never::Outcome;
 use ladder_questions::source::{InputSource, bit};
 use ladder_signals::Tri;
 
-fn place_of(listed: &[usize], var: usize) -> Option<usize>
+/// The place of a variable among the listed ones.
+pub(crate) fn place_of(listed: &[usize], var: usize) -> Option<usize>
     ensures { result ≡ position (λ l. l == var) listed.now }
 {
     listed.iter().position(|l| *l == var)
@@ -28,19 +29,37 @@ pub(crate) fn bit_for(listed: &[usize], var: usize, number: u64) -> Option<bool>
     }
 }
 
-/// Knows what the number gives the listed inputs.
+/// The bit that the number gives a variable, where it is listed and its bit is none of the last ones, which are open.
+fn prefix_bit(listed: &[usize], var: usize, open_bits: u32, number: u64) -> Option<bool>
+    requires { length listed.now ≤ 64 }
+    ensures { result ≡ prefix_bit listed.now open_bits number var }
+{
+    match place_of(listed, var) {
+        Some(place) => {
+            let shift = (listed.len() - (place + 1)) as u32;
+            if shift < open_bits {
+                return None;
+            }
+            Some(bit(InputSource::Listed { shift }, number))
+        }
+        None => None,
+    }
+}
+
+/// Knows what the number gives the listed inputs, but for those of its last bits, which are open.
 pub(crate) fn give(
     listed: &[usize],
+    open_bits: u32,
     number: u64,
     variables: usize,
     known: &mut Knowledge<Tri, Outcome>,
 )
     requires few { length listed.now ≤ 64 }
     requires variables { length known.old.values ≡ variables }
-    ensures { IsGiven listed.now number known.old known.new }
+    ensures { IsGiven listed.now open_bits number known.old known.new }
 {
     for var in 0..variables {
-        if let Some(value) = bit_for(listed, var, number) {
+        if let Some(value) = prefix_bit(listed, var, open_bits, number) {
             known.put_value(var, if value { Tri::On } else { Tri::Off });
         }
     }
