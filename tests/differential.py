@@ -1,5 +1,5 @@
 #!/usr/bin/env python3
-"""Compares the built program with the model on random drawings: differential.py PROGRAM [NUMBER] [SEED].
+"""Compares the built program with the models on random drawings: differential.py PROGRAM [NUMBER] [SEED] [--only KIND].
 
 Each drawing has one to five rungs of all forms of cells, joints and vertical links, and breaks no rule; it is asked from the fresh
 state, at any moment. Rows and looks must be the model's, and the rows of groups too, in each form and in the sifted order; so must the
@@ -7,18 +7,21 @@ drawing with the power flow of one number, and its page, with the elements read 
 each shown by itself from the state that `sim --save` has left. A list over several scans must be that of the scans one after the other, from
 the fresh state or from one that `sim --save` has left. What `never` names stays OFF in random runs, and what switches a coil on from
 some random state has a row in the list of `causes --any`. A drawing with a difference is printed whole.
+
+With --only one kind is compared alone: `groups` and `held` from random states too, `show`, and `never` and `possible` on small
+drawings, against a scan from every state (`lanes.py`).
 """
-import html
+import argparse
 import os
 import pathlib
 import random
-import re
 import sys
 import tempfile
+from collections import Counter
+from typing import NamedTuple
 
-from end_to_end import differences, run
-from model import COILS, COLUMNS, CONTACTS, FORMS, ROWS, Program
-from running import Running
+from comparing import ALL, ALONE, Trial
+from model import COILS, COLUMNS, CONTACTS, ROWS, Program, forget
 
 INPUTS, OUTPUTS, MEMORIES = 9, 2, 2
 UPPER = {
@@ -28,7 +31,19 @@ UPPER = {
 LOWER = {"CTU": "|R       |", "CTD": "|LD      |", "SR": "|R       |", "RS": "|R1      |"}
 INSTANCES = {f"B{number}": kind for number, kind in enumerate([*UPPER, *UPPER], 1)}
 EMPTY = (" " * 11, " " * 11, False)
-FRAME = re.compile(r'<input type=radio name=record title="(.*?)">\n<pre>\n(.*?)</pre>', re.DOTALL)
+
+
+class Size(NamedTuple):
+    """How many there are at most."""
+
+    rungs: int
+    rows: int
+    columns: int
+
+
+LARGE, SMALL = Size(5, ROWS, COLUMNS), Size(3, 4, 5)
+# How many inputs are listed at least and at most where one kind is compared alone.
+INPUTS_LISTED = {"groups": (1, 7), "held": (1, 6), "show": (1, 9), "never": (0, 0), "possible": (0, 4)}
 
 
 def names(letter, count):
@@ -126,8 +141,8 @@ def joints(chance, leads):
     return signs, links, enters
 
 
-def rung(chance, sheet, number):
-    rows, columns = chance.randint(1, ROWS), chance.randint(2, COLUMNS)
+def rung(chance, sheet, number, size):
+    rows, columns = chance.randint(1, size.rows), chance.randint(2, size.columns)
     sheet.begin(number)
     over, wires, enters = ["|"] * rows, ["|"] * rows, [chance.random() < 0.8 for _ in range(rows)]
     for column in range(1, columns + 1):
@@ -140,195 +155,65 @@ def rung(chance, sheet, number):
     return [line.rstrip() for pair in zip(over, wires) for line in pair]
 
 
-def drawing(chance):
-    lines, rungs = declarations(chance), chance.randint(1, 5)
+def drawing(chance, size):
+    lines, rungs = declarations(chance), chance.randint(1, size.rungs)
     sheet = Sheet(chance, rungs)
     for number in range(1, rungs + 1):
-        lines += [f"L{number}:", *rung(chance, sheet, number)]
+        lines += [f"L{number}:", *rung(chance, sheet, number, size)]
     return "\n".join(lines) + "\n"
 
 
-def question(chance, text):
-    """The words behind the file: a coil that is drawn, or None, and some inputs in any order; rather one that they decide."""
-    program, listed = Program(text), chance.sample(names("I", INPUTS), chance.choice([1, 2, 6, 7, 8, 8, 9, 9, 9]))
+def question(chance, text, least, most):
+    """The words behind the file: a coil that is drawn, or None, and some inputs in any order; rather one that they decide, and
+    where one kind is compared alone rather none than another one."""
+    count = chance.choice([1, 2, 6, 7, 8, 8, 9, 9, 9]) if most is None else chance.randint(least, most)
+    program, listed = Program(text), chance.sample(names("I", INPUTS), count)
     coils = [name for name in WRITTEN if any(rung.has_coil(name) for rung in program.rungs)]
     values = program.scan(dict.fromkeys(listed))
     depending = [name for name in coils if values[name] is None]
-    return chance.choice(depending or coils or [None]), listed
+    others = coils if most in (None, 0) or chance.random() < 0.1 else []
+    return chance.choice(depending or others or [None]), listed
 
 
-def marked(element):
-    """What an element of a page says of its characters, as marks."""
-    is_live, kind, text = element[1] == "b", element[2], html.unescape(element[3])
-    if kind == "s":
-        return {"|": "[", "(": "{"}[text[0]] + text[1:-1] + {"|": "]", ")": "}"}[text[-1]]
-    signs = {"w": "=" if is_live else "-", "p": ".", "j": "#" if is_live else "+", "v": "!" if is_live else "|", "r": "|"}
-    return signs[kind] * len(text)
+def compared(trial, only):
+    """The differences of a drawing; None where what is asked can't be compared."""
+    if only:
+        return ALONE[only](trial)
+    return [difference for compare in ALL for difference in compare(trial)]
 
 
-def without_legend(text, length):
-    """The lines without the first ones behind the inputs, which say what the marks mean."""
-    lines = text.splitlines()
-    legend = next(number for number, line in enumerate(lines) if line.startswith("(* ==="))
-    return lines[:legend] + lines[legend + length:]
-
-
-def read_page(page):
-    """The marked drawing that a page shows."""
-    body = page.split("<pre>\n", 1)[1].rsplit("</pre>", 1)[0]
-    return html.unescape(re.sub(r"<([bi]) class=(\w)>(.*?)</\1>", marked, body))
-
-
-def compare(program, folder, text, coil, listed, moment, number):
-    """The differences of one question, and of the scan with the assignment of this number."""
-    pathlib.Path(folder, "program.ld").write_text(text, "ascii")
-    model, found = Program(text), []
-    wanted = [([], model.answer(coil, listed))]
-    wanted += [(["--grouped", *flags], model.grouped_answer(coil, listed, form)) for flags, form in FORMS.items()]
-    wanted.append((["--grouped", "--order", "auto"], model.grouped_answer(coil, listed, sift=True)))
-    for flags, (out, err) in wanted:
-        have = run(program, ["causes", *flags, *moment, "program.ld", coil, *listed], folder)
-        found += differences(have, (out.encode(), err.encode(), 0))
-    explained = coil if number % 3 else None
-    asked = [*(["--coil", coil] if explained else []), "--number", str(number), "program.ld", *listed]
-    have = run(program, ["show", *moment, *asked], folder)
-    drawn = model.shown(listed, number, int((moment or ["", "0"])[1]), explained)
-    found += differences(have, (drawn.encode(), b"", 0))
-    page, said, status = run(program, ["show", "--html", *moment, *asked], folder)
-    return found + differences((without_legend(read_page(page.decode()), 2), said, status), (without_legend(drawn, 1), b"", 0))
-
-
-def stimulus(chance, listed):
-    """Moments that don't fall, each with a number of bits for the listed inputs."""
-    moments = sorted(chance.choice([0, 5, 700, 900, chance.randrange(5000)]) for _ in range(chance.randint(1, 4)))
-    return [(moment, chance.randrange(2 ** len(listed))) for moment in moments]
-
-
-def record(moment, number, length):
-    """A record of a stimulus."""
-    return ",".join([str(moment), *(f"{number:0{length}b}" if length else "")])
-
-
-def compare_film(program, folder, coil, listed, records):
-    """The differences of a film from its scans, each shown by itself from the state that the one before it has left."""
-    place, explained = pathlib.Path(folder), ["--coil", coil] if len(records) % 2 else []
-    header = ",".join(["moment", *listed])
-    (place / "stimulus.csv").write_text("\n".join([header, *(record(*one, len(listed)) for one in records)]) + "\n", "ascii")
-    pictures, state = [], []
-    for moment, number in records:
-        asked = [*state, *explained, "--at", str(moment), "--number", str(number), "program.ld", *listed]
-        pictures.append(run(program, ["show", *asked], folder)[0].decode())
-        (place / "one.csv").write_text(f"{header}\n{record(moment, number, len(listed))}\n", "ascii")
-        run(program, ["sim", *state, "--save", "next.csv", "program.ld", "one.csv"], folder)
-        (place / "next.csv").replace(place / "state.csv")
-        state = ["--state", "state.csv"]
-    asked = [*explained, "--stimulus", "stimulus.csv", "program.ld"]
-    found = differences(run(program, ["show", *asked], folder), ("".join(f"{one}\n" for one in pictures).encode(), b"", 0))
-    page, said, status = run(program, ["show", "--html", *asked], folder)
-    shown = [(title, without_legend(read_page(f"<pre>\n{body}</pre>"), 2)) for title, body in FRAME.findall(page.decode())]
-    wanted = [(f"{moment} ms", without_legend(one, 1)) for (moment, _), one in zip(records, pictures)]
-    return found + differences((shown, said, status), (wanted, b"", 0))
-
-
-def compare_held(program, folder, chance, text, coil, listed):
-    """The differences of a list over several scans, from the fresh state or from one that some scans have left."""
-    place, model, asked = pathlib.Path(folder), Running(Program(text)), []
-    records = stimulus(chance, listed) if chance.random() < 0.6 else []
-    for moment, number in records:
-        model.scan({name.upper(): bool(number >> shift & 1) for shift, name in enumerate(reversed(listed))}, moment)
-    if records:
-        lines = [",".join(["moment", *listed]), *(record(*one, len(listed)) for one in records)]
-        (place / "stimulus.csv").write_text("\n".join(lines) + "\n", "ascii")
-        run(program, ["sim", "--save", "held.csv", "program.ld", "stimulus.csv"], folder)
-        asked = ["--state", "held.csv"]
-    last = records[-1][0] if records else 0
-    moment, every, scans = last + chance.choice([0, 0, 1, 900]), chance.choice([0, 1, 10, 700, 5000]), chance.choice([1, 2, 3, 5, 9, 40])
-    asked += ["--at", str(moment), "--scans", str(scans), "--every", str(every), "program.ld", coil, *listed]
-    out, err = model.held(coil, listed, moment, every, scans)
-    return differences(run(program, ["causes", *asked], folder), (out.encode(), err.encode(), 0))
-
-
-def compare_never(program, folder, chance, text):
-    """What is told of names that can never come ON: their rows are those of the cross-reference, and no run switches one of them on."""
-    out, said, status = run(program, ["never", "program.ld"], folder)
-    lines, every = out.decode().splitlines(), run(program, ["uses", "program.ld"], folder)[0].decode().splitlines()
-    dead = {line.split(",")[0] for line in lines[1:]}
-    wanted = [every[0], *(line for line in every[1:] if line.split(",")[0] in dead)]
-    found = differences(("\n".join(lines).encode(), said, status), ("\n".join(wanted).encode(), f"rows {len(wanted) - 1}\n".encode(), 0))
-    model, moment = Running(Program(text)), 0
-    for _ in range(60):
-        moment += chance.choice([0, 1, 10, 700, 5000])
-        model.scan({name: chance.random() < 0.5 for name in names("I", INPUTS)}, moment)
-        for name in dead:
-            if any(model.values.get(f"{name.upper()}{end}", False) for end in ("", ".Q", ".Q1")):
-                found.append(f"{name} came ON at {moment}, and `never` names it")
-    return found
-
-
-def any_state(chance, saved):
-    """A saved state with everything at random that it stores."""
-    lines = []
-    for line in saved.splitlines():
-        kind, *fields = line.split(",")
-        bits = [str(chance.randrange(2)) for _ in range(3)]
-        if kind == "moment":
-            fields = ["100000"]
-        elif kind in ("var", "memory", "bistable"):
-            fields[-1] = bits[0]
-        elif kind == "timer":
-            start = chance.choice([0, 1, 95_000, 99_999, 100_000]) if bits[1] == "1" else 0
-            fields[1:] = [bits[0], bits[1], str(start), bits[2]]
-        elif kind == "counter":
-            fields[1:] = [bits[0], str(chance.choice([-32768, -1, 0, 1, 2, 3, 32767])), bits[1]]
-        lines.append(",".join([kind, *fields]))
-    return "".join(f"{line}\n" for line in lines)
-
-
-def compare_possible(program, folder, chance, coil, listed):
-    """What some state switches on: what a random state does has a row."""
-    place, listed = pathlib.Path(folder), listed[:4]
-    out, said, status = run(program, ["causes", "--any", "program.ld", coil, *listed], folder)
-    rows = [line.split(",") for line in out.decode().splitlines()]
-    numbers = [int(row[0]) for row in rows[1:]]
-    bits = [[str(number >> shift & 1) for shift in reversed(range(len(listed)))] for number in numbers]
-    open_rows = sum(row[1] == "?" for row in rows[1:])
-    wanted = [["number", "settled", *listed], *([str(number), row[1], *its] for number, row, its in zip(numbers, rows[1:], bits))]
-    found = differences((rows, said, status), (wanted, f"rows {len(numbers)} unsettled {open_rows}\n".encode(), 0))
-    found += [] if numbers == sorted(set(numbers)) else ["rows that don't ascend"]
-    (place / "stimulus.csv").write_text("moment\n0\n", "ascii")
-    run(program, ["sim", "--save", "saved.csv", "program.ld", "stimulus.csv"], folder)
-    for _ in range(6):
-        (place / "any.csv").write_text(any_state(chance, (place / "saved.csv").read_text("ascii")), "ascii")
-        asked = ["--state", "any.csv", "--at", str(100_000 + chance.choice([0, 0, 1, 4_999, 5_000, 90_000])), "program.ld", coil, *listed]
-        lines = run(program, ["causes", *asked], folder)[0].decode().splitlines()
-        missing = {int(line.split(",")[0]) for line in lines[1:]} - set(numbers)
-        found += [f"{coil} comes ON from a state with {sorted(missing)}, and `--any` has no row: {asked}"] if missing else []
-    return found
+def read_words():
+    """What is asked for on the command line."""
+    words = argparse.ArgumentParser(description=__doc__, formatter_class=argparse.RawDescriptionHelpFormatter)
+    words.add_argument("program")
+    words.add_argument("number", type=int, nargs="?", default=200)
+    words.add_argument("seed", type=int, nargs="?", default=1)
+    words.add_argument("--only", choices=ALONE)
+    words.add_argument("--inputs", type=int, nargs=2, metavar=("LEAST", "MOST"), help="how many inputs are listed")
+    return words.parse_args()
 
 
 def main():
     """Compares so many drawings and answers the status."""
-    program = os.path.abspath(sys.argv[1])
-    number, seed = (int(word) for word in (sys.argv[2:] + ["200", "1"][len(sys.argv) - 2:]))
-    chance, different, compared = random.Random(seed), 0, 0
+    words = read_words()
+    number, least, most = words.number, *(words.inputs or INPUTS_LISTED.get(words.only, (None, None)))
+    chance, tally, different = random.Random(words.seed), Counter(), 0
     with tempfile.TemporaryDirectory() as folder:
-        while compared < number:
-            text = drawing(chance)
-            coil, listed = question(chance, text)
-            moment = chance.choice([[], ["--at", str(chance.randrange(10_000))]])
+        while tally["compared"] < number:
+            forget()
+            text = drawing(chance, SMALL if words.only in ("never", "possible") else LARGE)
+            coil, listed = question(chance, text, least, most)
             if coil is None:
                 continue
-            compared += 1
-            shown = chance.randrange(2 ** len(listed))
-            found = compare(program, folder, text, coil, listed, moment, shown)
-            found += compare_film(program, folder, coil, listed, stimulus(chance, listed))
-            found += compare_held(program, folder, chance, text, coil, listed)
-            found += compare_never(program, folder, chance, text)
-            found += compare_possible(program, folder, chance, coil, listed)
+            pathlib.Path(folder, "program.ld").write_text(text, "ascii")
+            found = compared(Trial(os.path.abspath(words.program), folder, chance, text, coil, listed, tally), words.only)
+            tally["passed over" if found is None else "compared"] += 1
             if found:
                 different += 1
-                print(text, " ".join([*moment, coil, *listed]), f"number {shown}", *found, sep="\n")
+                print(text, " ".join([coil, *listed]), *found, sep="\n", flush=True)
     print(f"{number - different} of {number} alike")
+    for what in sorted(set(tally) - {"compared"}):
+        print(f"  {what}: {tally[what]}")
     return 1 if different else 0
 
 

@@ -1,0 +1,332 @@
+"""What `differential.py` compares of a drawing, each way for itself: a trial is asked of the program and of the models.
+
+`model.py` and `running.py` scan one after the other, `lanes.py` many at once; a lane chosen at random is scanned by `running.py` too. What
+is compared is counted in the tally of a trial.
+"""
+import html
+import pathlib
+import random
+import re
+from collections import Counter
+from typing import NamedTuple
+
+from end_to_end import differences, run
+from lanes import MOMENT, Everywhere, Lanes, never, open_bits
+from model import FORMS, Program, text_of
+from running import Running
+
+FRAME = re.compile(r'<input type=radio name=record title="(.*?)">\n<pre>\n(.*?)</pre>', re.DOTALL)
+MOST_BITS = 18
+
+
+class Trial(NamedTuple):
+    """A drawing, and what is asked of it."""
+
+    tool: str
+    folder: str
+    chance: random.Random
+    text: str
+    coil: str
+    listed: list
+    tally: Counter
+
+    def ask(self, *words):
+        """Standard output, standard error and status."""
+        return run(self.tool, words, self.folder)
+
+    def write(self, name, text):
+        pathlib.Path(self.folder, name).write_text(text, "ascii")
+
+    def read(self, name):
+        return pathlib.Path(self.folder, name).read_text("ascii")
+
+    def inputs(self, number):
+        """The bits that a number gives the listed inputs."""
+        return {name.upper(): bool(bit) for name, bit in zip(self.listed, bits_of(number, len(self.listed)))}
+
+    def save(self, records):
+        """Saves the state that a stimulus leaves."""
+        lines = [",".join(["moment", *self.listed]), *(record(*one, len(self.listed)) for one in records)]
+        self.write("stimulus.csv", "\n".join(lines) + "\n")
+        self.ask("sim", "--save", "state.csv", "program.ld", "stimulus.csv")
+
+
+class Told(Program):
+    """A program of which it is told with which assignments one scan leaves a coil ON."""
+
+    table = ()
+
+    def causes_of(self, coil, listed):
+        return [(number, bits_of(number, len(listed))) for number, is_on in enumerate(self.table) if is_on], None
+
+
+def bits_of(number, length):
+    """The bits of a number, the most significant one first."""
+    return [number >> shift & 1 for shift in reversed(range(length))]
+
+
+def some_moment(chance):
+    return chance.choice([0, chance.randrange(10_000)])
+
+
+def compare_lists(trial):
+    """Rows and looks, and the rows of groups in each form, of one scan from the fresh state."""
+    coil, listed, model, found = trial.coil, trial.listed, Program(trial.text), []
+    wanted = [([], model.answer(coil, listed))]
+    wanted += [(["--grouped", *flags], model.grouped_answer(coil, listed, form)) for flags, form in FORMS.items()]
+    wanted.append((["--grouped", "--order", "auto"], model.grouped_answer(coil, listed, sift=True)))
+    moment = some_moment(trial.chance)
+    for flags, (out, err) in wanted:
+        have = trial.ask("causes", *flags, "--at", str(moment), "program.ld", coil, *listed)
+        found += differences(have, (out.encode(), err.encode(), 0))
+    return found
+
+
+def marked(element):
+    """What an element of a page says of its characters, as marks."""
+    is_live, kind, text = element[1] == "b", element[2], html.unescape(element[3])
+    if kind == "s":
+        return {"|": "[", "(": "{"}[text[0]] + text[1:-1] + {"|": "]", ")": "}"}[text[-1]]
+    signs = {"w": "=" if is_live else "-", "p": ".", "j": "#" if is_live else "+", "v": "!" if is_live else "|", "r": "|"}
+    return signs[kind] * len(text)
+
+
+def without_legend(text, length):
+    """The lines without the first ones behind the inputs, which say what the marks mean."""
+    lines = text.splitlines()
+    legend = next(number for number, line in enumerate(lines) if line.startswith("(* ==="))
+    return lines[:legend] + lines[legend + length:]
+
+
+def read_page(page):
+    """The marked drawing that a page shows."""
+    body = page.split("<pre>\n", 1)[1].rsplit("</pre>", 1)[0]
+    return html.unescape(re.sub(r"<([bi]) class=(\w)>(.*?)</\1>", marked, body))
+
+
+def compare_shown(trial):
+    """The drawing with the power flow of a scan from the fresh state, as text and as a page."""
+    chance, listed = trial.chance, trial.listed
+    moment, number = some_moment(chance), chance.randrange(2 ** len(listed))
+    explained = trial.coil if number % 3 else None
+    asked = ["--at", str(moment), *(["--coil", explained] if explained else []), "--number", str(number), "program.ld", *listed]
+    drawn = Program(trial.text).shown(listed, number, moment, explained)
+    found = differences(trial.ask("show", *asked), (drawn.encode(), b"", 0))
+    page, said, status = trial.ask("show", "--html", *asked)
+    trial.tally["lines"] += 2 * drawn.count("\n")
+    trial.tally["places where power ends"] += drawn.count("(* row ")
+    return found + differences((without_legend(read_page(page.decode()), 2), said, status), (without_legend(drawn, 1), b"", 0))
+
+
+def stimulus(chance, listed):
+    """Moments that don't fall, each with a number of bits for the listed inputs."""
+    moments = sorted(chance.choice([0, 5, 700, 900, chance.randrange(5000)]) for _ in range(chance.randint(1, 4)))
+    return [(moment, chance.randrange(2 ** len(listed))) for moment in moments]
+
+
+def record(moment, number, length):
+    """A record of a stimulus."""
+    return ",".join(map(str, [moment, *bits_of(number, length)]))
+
+
+def compare_film(trial):
+    """A film is that of its scans, each shown by itself from the state that the one before it has left."""
+    records = stimulus(trial.chance, trial.listed)
+    explained, pictures, state = ["--coil", trial.coil] if len(records) % 2 else [], [], []
+    header = ",".join(["moment", *trial.listed])
+    for moment, number in records:
+        asked = [*state, *explained, "--at", str(moment), "--number", str(number), "program.ld", *trial.listed]
+        pictures.append(trial.ask("show", *asked)[0].decode())
+        trial.write("one.csv", f"{header}\n{record(moment, number, len(trial.listed))}\n")
+        trial.ask("sim", *state, "--save", "next.csv", "program.ld", "one.csv")
+        trial.write("state.csv", trial.read("next.csv"))
+        state = ["--state", "state.csv"]
+    trial.save(records)
+    asked = [*explained, "--stimulus", "stimulus.csv", "program.ld"]
+    found = differences(trial.ask("show", *asked), ("".join(f"{one}\n" for one in pictures).encode(), b"", 0))
+    page, said, status = trial.ask("show", "--html", *asked)
+    shown = [(title, without_legend(read_page(f"<pre>\n{body}</pre>"), 2)) for title, body in FRAME.findall(page.decode())]
+    wanted = [(f"{moment} ms", without_legend(one, 1)) for (moment, _), one in zip(records, pictures)]
+    return found + differences((shown, said, status), (wanted, b"", 0))
+
+
+def compare_held(trial):
+    """A list over several scans, one number after the other, from the fresh state or from one that some scans have left."""
+    chance, listed, model, asked = trial.chance, trial.listed, Running(Program(trial.text)), []
+    records = stimulus(chance, listed) if chance.random() < 0.6 else []
+    for moment, number in records:
+        model.scan(trial.inputs(number), moment)
+    if records:
+        trial.save(records)
+        asked = ["--state", "state.csv"]
+    moment = (records[-1][0] if records else 0) + chance.choice([0, 0, 1, 900])
+    every, scans = chance.choice([0, 1, 10, 700, 5000]), chance.choice([1, 2, 3, 5, 9, 40])
+    asked += ["--at", str(moment), "--scans", str(scans), "--every", str(every), "program.ld", trial.coil, *listed]
+    out, err = model.held(trial.coil, listed, moment, every, scans)
+    return differences(trial.ask("causes", *asked), (out.encode(), err.encode(), 0))
+
+
+def any_state(chance, saved):
+    """A saved state with everything at random that it stores."""
+    lines = []
+    for line in saved.splitlines():
+        kind, *fields = line.split(",")
+        bits = [str(chance.randrange(2)) for _ in range(3)]
+        if kind == "moment":
+            fields = ["100000"]
+        elif kind in ("var", "memory", "bistable"):
+            fields[-1] = bits[0]
+        elif kind == "timer":
+            start = chance.choice([0, 1, 95_000, 99_999, 100_000]) if bits[1] == "1" else 0
+            fields[1:] = [bits[0], bits[1], str(start), bits[2]]
+        elif kind == "counter":
+            fields[1:] = [bits[0], str(chance.choice([-32768, -1, 0, 1, 2, 3, 32767])), bits[1]]
+        lines.append(",".join([kind, *fields]))
+    return "".join(f"{line}\n" for line in lines)
+
+
+def begun(trial):
+    """Lanes in the fresh state, in one that some scans have left, or in one at random; a moment, and the words that name them."""
+    chance, listed, sort = trial.chance, trial.listed, trial.chance.choice(["fresh", "left", "random"])
+    lanes, words, moment = Lanes(Told(trial.text), 2 ** len(listed)), [], 0
+    if sort == "left":
+        records = stimulus(chance, listed)
+        trial.save(records)
+        words, moment = ["--state", "state.csv"], records[-1][0]
+        for at, number in records:
+            lanes.scan({name: bit * lanes.every for name, bit in trial.inputs(number).items()}, at)
+    elif sort == "random":
+        trial.save([(0, 0)])
+        trial.write("state.csv", any_state(chance, trial.read("state.csv")))
+        lanes.load(trial.read("state.csv"))
+        words, moment = ["--state", "state.csv"], 100_000
+    trial.tally[f"from a {sort} state"] += 1
+    moment += chance.choice([0, 0, 1, 900, 5_000])
+    return lanes, moment, [*words, "--at", str(moment)]
+
+
+def compare_groups(trial):
+    """The rows of groups are those of the whole table: as a table, in one of the other forms, and in the sifted order."""
+    lanes, moment, words = begun(trial)
+    program, listed, number = lanes.program, trial.listed, trial.chance.randrange(2 ** len(trial.listed))
+    one, found = lanes.lane(number), []
+    program.table = lanes.table(trial.coil, listed, moment)
+    one.scan(trial.inputs(number), moment)
+    if one.values[trial.coil.upper()] != program.table[number]:
+        found.append(f"the models differ at {number}")
+    for flags, sift in [((), False), (trial.chance.choice(list(FORMS)[1:]), False), ((), True)]:
+        out, err = program.grouped_answer(trial.coil, listed, FORMS[flags], sift)
+        order = ["--order", "auto"] if sift else []
+        found += differences(trial.ask("causes", "--grouped", *flags, *order, *words, "program.ld", trial.coil, *listed), (out.encode(), err.encode(), 0))
+        trial.tally["rows"] += out.count("\n") - (not flags)
+    trial.tally["assignments"] += 2 ** len(listed)
+    trial.tally["questions with causes and others"] += len(set(program.table)) > 1
+    return found
+
+
+def compare_many_held(trial):
+    """A list over several scans, with a lane for each number."""
+    lanes, moment, words = begun(trial)
+    chance, coil, listed = trial.chance, trial.coil, trial.listed
+    every, scans = chance.choice([0, 1, 10, 700, 5000]), chance.choice([1, 2, 3, 5, 9, 40])
+    number = chance.randrange(2 ** len(listed))
+    alone = lanes.lane(number).first_on(coil.upper(), trial.inputs(number), moment, every, scans)
+    trial.tally["with a timer that runs"] += lanes.has_running()
+    first = lanes.firsts(coil, listed, moment, every, scans)
+    found = [] if first.get(number) == alone else [f"the models differ at {number}"]
+    table = [[str(number), str(first[number]), *map(str, bits_of(number, len(listed)))] for number in sorted(first)]
+    out = text_of([["number", "scan", *(lanes.program.spelled[name.upper()] for name in listed)], *table])
+    trial.tally["rows"] += len(table)
+    trial.tally["questions with rows and others"] += 0 < len(table) < 2 ** len(listed)
+    trial.tally["rows after the first scan"] += sum(count > 1 for count in first.values())
+    asked = [*words, "--scans", str(scans), "--every", str(every), "program.ld", coil, *listed]
+    return found + differences(trial.ask("causes", *asked), (out.encode(), f"rows {len(table)}\n".encode(), 0))
+
+
+def run_at_random(trial, dead):
+    """Names that never come ON, of which one does in some of 64 random runs."""
+    lanes, moment, found = Lanes(Program(trial.text), 64), 0, []
+    for _ in range(40):
+        moment += trial.chance.choice([0, 1, 10, 700, 5000])
+        lanes.scan({name: trial.chance.getrandbits(64) for name in lanes.program.inputs}, moment)
+        for name in dead:
+            if any(lanes.values.get(f"{name.upper()}{end}", 0) for end in ("", ".Q", ".Q1")):
+                found.append(f"{name} came ON at {moment}, and `never` names it")
+    return found
+
+
+def compare_never(trial):
+    """What can never come ON: rows of the cross-reference, OFF in random runs, and OFF after a scan from every state that has them OFF."""
+    out, said, status = trial.ask("never", "program.ld")
+    lines, every = out.decode().splitlines(), trial.ask("uses", "program.ld")[0].decode().splitlines()
+    dead = {line.split(",")[0] for line in lines[1:]}
+    wanted = [every[0], *(line for line in every[1:] if line.split(",")[0] in dead)]
+    found = differences(("\n".join(lines).encode(), said, status), ("\n".join(wanted).encode(), f"rows {len(wanted) - 1}\n".encode(), 0))
+    program = Program(trial.text)
+    found += run_at_random(trial, dead)
+    if len(open_bits(program)) > MOST_BITS:
+        return found
+    most = never(program)
+    trial.tally["names that never come ON"] += len(most)
+    trial.tally["of these named"] += len(dead)
+    wrong = sorted({name.upper() for name in dead} - most)
+    return found + ([f"{wrong} can come ON, and `never` names them"] if wrong else [])
+
+
+def rows_of_any(trial):
+    """The settled numbers and the others of a list of what some state switches on, and what is wrong with its text."""
+    out, said, status = trial.ask("causes", "--any", "program.ld", trial.coil, *trial.listed)
+    rows = [line.split(",") for line in out.decode().splitlines()]
+    numbers, open_rows = [int(row[0]) for row in rows[1:]], sum(row[1] == "?" for row in rows[1:])
+    table = [[str(number), "?" if row[1] == "?" else "1", *map(str, bits_of(number, len(trial.listed)))] for number, row in zip(numbers, rows[1:])]
+    wanted = text_of([["number", "settled", *trial.listed], *table])
+    found = differences((out, said, status), (wanted.encode(), f"rows {len(numbers)} unsettled {open_rows}\n".encode(), 0))
+    found += [] if numbers == sorted(set(numbers)) else ["rows that don't ascend"]
+    return {int(row[0]) for row in rows[1:] if row[1] == "1"}, {int(row[0]) for row in rows[1:] if row[1] == "?"}, found
+
+
+def scan_at_random(trial, numbers, times):
+    """From so many random states, what comes ON without a row among these numbers."""
+    trial.save([(0, 0)])
+    saved, found = trial.read("state.csv"), []
+    for _ in range(times):
+        trial.write("any.csv", any_state(trial.chance, saved))
+        moment = 100_000 + trial.chance.choice([0, 0, 1, 4_999, 5_000, 90_000])
+        asked = ["--state", "any.csv", "--at", str(moment), "program.ld", trial.coil, *trial.listed]
+        missing = {int(line.split(b",")[0]) for line in trial.ask("causes", *asked)[0].splitlines()[1:]} - numbers
+        found += [f"{trial.coil} comes ON from a state with {sorted(missing)}, and `--any` has no row: {asked}"] if missing else []
+    return found
+
+
+def compare_random_states(trial):
+    """What some state switches on: what a random state does has a row."""
+    trial = trial._replace(listed=trial.listed[:4])
+    settled, others, found = rows_of_any(trial)
+    return found + scan_at_random(trial, settled | others, 6)
+
+
+def compare_possible(trial):
+    """What some state switches on, against a scan from every state; None where these are too many."""
+    every = Everywhere(Program(trial.text), trial.listed)
+    if every.bits > MOST_BITS:
+        return None
+    settled, others, found = rows_of_any(trial)
+    one = every.fill().lane(number := trial.chance.randrange(2 ** every.bits))
+    possible = set(every.possible(trial.coil))
+    one.scan({}, MOMENT)
+    if one.values != {name: bool(word >> number & 1) for name, word in every.values.items()}:
+        found.append(f"the models differ at {number}")
+    missing, wrong = sorted(possible - settled - others), sorted(settled - possible)
+    found += [f"some state switches {trial.coil} on with {missing}, and `--any` has no row"] if missing else []
+    found += [f"no state switches {trial.coil} on with {wrong}, and `--any` has settled rows"] if wrong else []
+    trial.tally["numbers"] += 2 ** len(trial.listed)
+    trial.tally["settled rows"] += len(settled)
+    trial.tally["rows `?`"] += len(others)
+    trial.tally["of these possible"] += len(others & possible)
+    trial.tally["questions with a number that no state switches on"] += len(possible) < 2 ** len(trial.listed)
+    trial.tally["states"] += 2 ** every.bits
+    return found + scan_at_random(trial, settled | others, 1)
+
+
+ALL = (compare_lists, compare_shown, compare_film, compare_held, compare_never, compare_random_states)
+ALONE = {"groups": compare_groups, "show": compare_shown, "held": compare_many_held, "never": compare_never, "possible": compare_possible}
