@@ -11,12 +11,13 @@ from collections import Counter
 from typing import NamedTuple
 
 from end_to_end import differences, run
-from lanes import MOMENT, Everywhere, Lanes, never, open_bits
+from lanes import MOMENT, Everywhere, Lanes, do_suffice, never, open_bits
 from model import FORMS, Program, text_of
 from running import Running
 
 FRAME = re.compile(r'<input type=radio name=record title="(.*?)">\n<pre>\n(.*?)</pre>', re.DOTALL)
 MOST_BITS = 18
+SORTS = ("fresh", "left", "random")
 
 
 class Trial(NamedTuple):
@@ -185,9 +186,9 @@ def any_state(chance, saved):
     return "".join(f"{line}\n" for line in lines)
 
 
-def begun(trial):
+def begun(trial, sort):
     """Lanes in the fresh state, in one that some scans have left, or in one at random; a moment, and the words that name them."""
-    chance, listed, sort = trial.chance, trial.listed, trial.chance.choice(["fresh", "left", "random"])
+    chance, listed = trial.chance, trial.listed
     lanes, words, moment = Lanes(Told(trial.text), 2 ** len(listed)), [], 0
     if sort == "left":
         records = stimulus(chance, listed)
@@ -206,39 +207,52 @@ def begun(trial):
 
 
 def compare_groups(trial):
-    """The rows of groups are those of the whole table: as a table, in one of the other forms, and in the sifted order."""
-    lanes, moment, words = begun(trial)
+    """The rows of groups are those of the whole table: in one of the forms, and every other time in the sifted order too."""
+    lanes, moment, words = begun(trial, trial.chance.choice(SORTS))
     program, listed, number = lanes.program, trial.listed, trial.chance.randrange(2 ** len(trial.listed))
     one, found = lanes.lane(number), []
     program.table = lanes.table(trial.coil, listed, moment)
     one.scan(trial.inputs(number), moment)
     if one.values[trial.coil.upper()] != program.table[number]:
         found.append(f"the models differ at {number}")
-    for flags, sift in [((), False), (trial.chance.choice(list(FORMS)[1:]), False), ((), True)]:
+    for flags, sift in [(trial.chance.choice([(), *FORMS]), False), ((), True)][:trial.chance.choice([1, 2])]:
         out, err = program.grouped_answer(trial.coil, listed, FORMS[flags], sift)
-        order = ["--order", "auto"] if sift else []
-        found += differences(trial.ask("causes", "--grouped", *flags, *order, *words, "program.ld", trial.coil, *listed), (out.encode(), err.encode(), 0))
-        trial.tally["rows"] += out.count("\n") - (not flags)
+        asked = ["--grouped", *flags, *(["--order", "auto"] if sift else []), *words, "program.ld", trial.coil, *listed]
+        found += differences(trial.ask("causes", *asked), (out.encode(), err.encode(), 0))
+        trial.tally["rows"] += int(err.split()[1])
+        trial.tally["lists"] += 1
     trial.tally["assignments"] += 2 ** len(listed)
     trial.tally["questions with causes and others"] += len(set(program.table)) > 1
     return found
 
 
 def compare_many_held(trial):
-    """A list over several scans, with a lane for each number."""
-    lanes, moment, words = begun(trial)
-    chance, coil, listed = trial.chance, trial.coil, trial.listed
-    every, scans = chance.choice([0, 1, 10, 700, 5000]), chance.choice([1, 2, 3, 5, 9, 40])
-    number = chance.randrange(2 ** len(listed))
-    alone = lanes.lane(number).first_on(coil.upper(), trial.inputs(number), moment, every, scans)
+    """Lists over several scans, with a lane for each number: from each sort of state where a number switches the coil on in a later scan
+    from the fresh one; of other questions only every other one, from one of these states."""
+    chance = trial.chance
+    every, scans = chance.choice([0, 1, 10, 700, 5000]), chance.choice([2, 3, 5, 9, 40])
+    fresh = Lanes(Program(trial.text), 2 ** len(trial.listed)).firsts(trial.coil, trial.listed, 0, every, scans)
+    is_late = any(count > 1 for count in fresh.values())
+    if not is_late and chance.random() < 0.5:
+        return None
+    sorts = SORTS if is_late else [chance.choice(SORTS)]
+    return [difference for sort in sorts for difference in compare_held_from(trial, sort, every, scans)]
+
+
+def compare_held_from(trial, sort, every, scans):
+    """A list over so many scans from a state of this sort; one number is scanned by the other model as well."""
+    lanes, moment, words = begun(trial, sort)
+    coil, listed, number = trial.coil, trial.listed, trial.chance.randrange(2 ** len(trial.listed))
     trial.tally["with a timer that runs"] += lanes.has_running()
+    alone = lanes.lane(number).first_on(coil.upper(), trial.inputs(number), moment, every, scans)
     first = lanes.firsts(coil, listed, moment, every, scans)
     found = [] if first.get(number) == alone else [f"the models differ at {number}"]
     table = [[str(number), str(first[number]), *map(str, bits_of(number, len(listed)))] for number in sorted(first)]
     out = text_of([["number", "scan", *(lanes.program.spelled[name.upper()] for name in listed)], *table])
     trial.tally["rows"] += len(table)
-    trial.tally["questions with rows and others"] += 0 < len(table) < 2 ** len(listed)
-    trial.tally["rows after the first scan"] += sum(count > 1 for count in first.values())
+    trial.tally["rows with a later scan than the first"] += sum(count > 1 for count in first.values())
+    trial.tally["lists with rows and without some"] += 0 < len(table) < 2 ** len(listed)
+    trial.tally["lists with a later scan than the first"] += any(count > 1 for count in first.values())
     asked = [*words, "--scans", str(scans), "--every", str(every), "program.ld", coil, *listed]
     return found + differences(trial.ask("causes", *asked), (out.encode(), f"rows {len(table)}\n".encode(), 0))
 
@@ -314,6 +328,8 @@ def compare_possible(trial):
     one = every.fill().lane(number := trial.chance.randrange(2 ** every.bits))
     possible = set(every.possible(trial.coil))
     one.scan({}, MOMENT)
+    instances = set(every.program.rungs[0].instances.values())
+    found += [f"contents that don't suffice: {instance}" for instance in instances if not do_suffice(*instance)]
     if one.values != {name: bool(word >> number & 1) for name, word in every.values.items()}:
         found.append(f"the models differ at {number}")
     missing, wrong = sorted(possible - settled - others), sorted(settled - possible)

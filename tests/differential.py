@@ -189,30 +189,40 @@ def read_words():
     words.add_argument("number", type=int, nargs="?", default=200)
     words.add_argument("seed", type=int, nargs="?", default=1)
     words.add_argument("--only", choices=ALONE)
+    words.add_argument("--large", action="store_true", help="no small drawings")
     words.add_argument("--inputs", type=int, nargs=2, metavar=("LEAST", "MOST"), help="how many inputs are listed")
     return words.parse_args()
 
 
+def compare_next(words, chance, folder, tally):
+    """Compares a drawing, unless it has no question, and prints it where there are differences."""
+    least, most = words.inputs or INPUTS_LISTED.get(words.only, (None, None))
+    forget()
+    text = drawing(chance, SMALL if words.only in ("never", "possible") and not words.large else LARGE)
+    coil, listed = question(chance, text, least, most)
+    if coil is None:
+        return
+    pathlib.Path(folder, "program.ld").write_text(text, "ascii")
+    found = compared(Trial(os.path.abspath(words.program), folder, chance, text, coil, listed, tally), words.only)
+    tally["passed over" if found is None else "compared"] += 1
+    tally["different"] += bool(found)
+    if found:
+        print(text, " ".join([coil, *listed]), *found, sep="\n", flush=True)
+
+
 def main():
-    """Compares so many drawings and answers the status."""
+    """Compares so many drawings, or those until it is interrupted, and answers the status."""
     words = read_words()
-    number, least, most = words.number, *(words.inputs or INPUTS_LISTED.get(words.only, (None, None)))
-    chance, tally, different = random.Random(words.seed), Counter(), 0
-    with tempfile.TemporaryDirectory() as folder:
-        while tally["compared"] < number:
-            forget()
-            text = drawing(chance, SMALL if words.only in ("never", "possible") else LARGE)
-            coil, listed = question(chance, text, least, most)
-            if coil is None:
-                continue
-            pathlib.Path(folder, "program.ld").write_text(text, "ascii")
-            found = compared(Trial(os.path.abspath(words.program), folder, chance, text, coil, listed, tally), words.only)
-            tally["passed over" if found is None else "compared"] += 1
-            if found:
-                different += 1
-                print(text, " ".join([coil, *listed]), *found, sep="\n", flush=True)
+    chance, tally = random.Random(words.seed), Counter(compared=0, different=0)
+    try:
+        with tempfile.TemporaryDirectory() as folder:
+            while tally["compared"] < words.number:
+                compare_next(words, chance, folder, tally)
+    except KeyboardInterrupt:
+        print("interrupted")
+    number, different = tally.pop("compared"), tally.pop("different")
     print(f"{number - different} of {number} alike")
-    for what in sorted(set(tally) - {"compared"}):
+    for what in sorted(tally):
         print(f"  {what}: {tally[what]}")
     return 1 if different else 0
 
