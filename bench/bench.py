@@ -130,7 +130,7 @@ def held(program, runs):
 
 
 # from any state, with all inputs of the stations: coil, rows, and how many of them aren't settled
-POSSIBLE = [("Feed", 0, 0), ("Run1", 0, 0), ("Run2", 0, 0), ("Run3", 0, 0), ("Horn", 0, 0)]
+POSSIBLE = [("Safe", 65_536, 0), ("Feed", 166_144, 0), ("X4", 173_752, 0), ("Run2", 1_021_952, 0), ("Horn", 1_048_576, 0)]
 
 
 def coils(program, circuit):
