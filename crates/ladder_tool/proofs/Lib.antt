@@ -1,4 +1,1 @@
-pub mod UnknownWords
-pub mod Settings
 pub mod Endings
-pub mod PossibleEnds

@@ -4,12 +4,12 @@ use Rattle.ladder_text.specs.Calls.{LastFails}
 use Rattle.ladder_text.specs.Log.{ReadLog}
 use Rattle.ladder_text.specs.declared.fault.ReadFault.{ReadFault}
 use Rattle.ladder_text.specs.declared.fault.ReadFault.TheVariants as read
-use Rattle.ladder_tool.specs.declared.fault.TextKind.{TextKind}
-use Rattle.ladder_tool.specs.declared.fault.TextKind.TheVariants as kind
-use Rattle.ladder_tool.specs.declared.fault.ToolFault.{ToolFault}
-use Rattle.ladder_tool.specs.declared.fault.ToolFault.TheVariants as fault
+use Rattle.ladder_setting.specs.declared.fault.TextKind.{TextKind}
+use Rattle.ladder_setting.specs.declared.fault.TextKind.TheVariants as kind
+use Rattle.ladder_setting.specs.declared.fault.ToolFault.{ToolFault}
+use Rattle.ladder_setting.specs.declared.fault.ToolFault.TheVariants as fault
 use Rattle.ladder_tool.specs.declared.files.TheConstants.{TEXT_LIMIT, STIMULUS_LIMIT}
-use Rattle.ladder_tool.specs.Setting.{Given}
+use Rattle.ladder_setting.specs.Setting.{Given}
 
 -- the readers of a program, and of a state and a stimulus where the request names them
 pub record Files : Type 0 where

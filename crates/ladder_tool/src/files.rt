@@ -3,13 +3,12 @@
 ghost use Rattle.std.specs.Prelude.{◌≡◌, ◌≤◌, ◌⊎◌, IfErr, IfOk, option_map, vec_items};
 ghost use Rattle.ladder_tool.specs.Files.{AreRead, AreUnread, AreWhole, IsUnread, IsWhole, StopsAt, files, largest};
 ghost use Rattle.ladder_text.specs.declared.fault.ReadFault.{ReadFault};
-ghost use Rattle.ladder_tool.specs.Performs.{IsDone, IsFailed, Refuses, logs, unread};
-ghost use Rattle.ladder_tool.specs.Setting.{Given, given_by};
+ghost use Rattle.ladder_setting.specs.Reports.{Refuses, logs, unread};
+ghost use Rattle.ladder_tool.specs.Performs.{IsDone, IsFailed};
+ghost use Rattle.ladder_setting.specs.Setting.{Given, given_by};
 
-use crate::fault::{TextKind, ToolFault};
 use crate::performing::perform;
-use crate::report::report_unread;
-use crate::texts::Texts;
+use ladder_setting::{TextKind, Texts, ToolFault, report_unread};
 use ladder_text::{Sink, Source, read_text};
 use ladder_words::CommandLine;
 use std::alloc::Global;

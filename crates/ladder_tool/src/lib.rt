@@ -1,32 +1,13 @@
-//! What a request of the program `ladder` does: the bytes on its outputs, its status and the lines of its faults.
+//! What the program `ladder` does for a request: the files that it reads, the bytes on its outputs, and its status.
 #![tactic(auto)]
 
-mod asking;
-mod explaining;
-mod fault;
 mod files;
-mod filming;
-mod grouping;
-mod holding;
-mod listing;
-mod never;
 mod opening;
 mod performing;
-mod possible;
-mod printing;
 mod program;
-mod report;
 mod saving;
-mod setting;
-mod showing;
-mod texts;
-mod tracing;
-mod variables;
-mod waving;
 
-pub use explaining::write_report;
-pub use fault::{TextKind, ToolFault, write_fault};
 pub use files::{Readers, perform_files};
+pub use ladder_setting::{TextKind, Texts, ToolFault, write_fault, write_report};
 pub use performing::perform;
 pub use program::run;
-pub use texts::Texts;

@@ -1,22 +1,15 @@
 //! What is done for a request.
 
 ghost use Rattle.std.specs.Prelude.{◌≡◌, ◌≤◌};
-ghost use Rattle.ladder_tool.specs.Performs.{IsDone, IsFailed, logs};
-ghost use Rattle.ladder_tool.specs.Setting.{given_by};
+ghost use Rattle.ladder_setting.specs.Reports.{logs};
+ghost use Rattle.ladder_tool.specs.Performs.{IsDone, IsFailed};
+ghost use Rattle.ladder_setting.specs.Setting.{given_by};
 
-use crate::filming::film;
-use crate::grouping::list_groups;
-use crate::holding::list_held;
-use crate::listing::list_causes;
-use crate::never::list_never;
-use crate::possible::list_possible;
-use crate::printing::{About, print};
-use crate::showing::show;
-use crate::texts::Texts;
-use crate::tracing::trace;
-use crate::waving::wave;
 use ladder_held::Scans;
+use ladder_lists::{list_causes, list_groups, list_held, list_never, list_possible};
+use ladder_setting::Texts;
 use ladder_text::Sink;
+use ladder_views::{About, film, print, show, trace, wave};
 use ladder_words::Request;
 use std::alloc::Global;
 

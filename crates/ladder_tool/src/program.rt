@@ -2,11 +2,11 @@
 
 ghost use Rattle.std.specs.Prelude.{◌≤◌};
 
-use crate::fault::{ToolFault, write_fault};
 use crate::files::perform_files;
 use crate::opening::readers_of;
 use crate::saving::{SavedFile, followed};
 use ladder_pages::{codes, page_of};
+use ladder_setting::{ToolFault, write_fault};
 use ladder_text::{Sink, WriteFault, Writing, put};
 use ladder_words::{CommandLine, Request, SimRequest, Task, WordFault, read_words};
 use std::alloc::{AllocError, Global};

@@ -1,0 +1,52 @@
+-- How a list of what some state switches on ends.
+use Rattle.std.proofs.Common.{◌≡◌, ◌∙◌, ◌⊎◌, ◌^◌, ℕ, List, None, Option, Some, ap, inl, inr, length, refl, subst}
+use Rattle.ladder_grid.specs.Program.{Drawing}
+use Rattle.ladder_questions.specs.Causes.{Question, question}
+use Rattle.ladder_questions.specs.Refusal.{refusal}
+use Rattle.ladder_possible.specs.Possible.{AreRows, PossibleCursor}
+use Rattle.ladder_possible.specs.declared.possible.PossibleCause.{PossibleCause}
+use Rattle.ladder_sim.specs.PossibleText.{AreAll, Gave, IsCount, possible_text}
+use Rattle.ladder_sim.specs.declared.possible_text.PossibleSummary.{PossibleSummary}
+use Rattle.ladder_text.specs.Log.{PutsAll, WriteLog}
+use Rattle.ladder_words.specs.declared.request.PossibleRequest.{PossibleRequest}
+use Rattle.ladder_lists.specs.Asked.{stored_question}
+use Rattle.ladder_lists.specs.Lists.{CountsPossible, IsAskedOfAll, ListsPossible, possible_line, unless_quiet}
+use Rattle.ladder_setting.specs.Setting.{Given}
+use Rattle.ladder_lists.specs.declared.asking.Asked.{Asked}
+
+-- where the listed inputs are these
+pub asked_all : (g : Given) (r : PossibleRequest) (a : Asked) (listed : List ℕ) → listed ≡ a.inputs.items → IsAskedOfAll g r (stored_question a)
+    → IsAskedOfAll g r (question a.program a.state a.state.moment a.coil listed)
+asked_all g r a listed same asked = rw same asked
+
+abbrev pub IsMadeFor : PossibleCursor → Question → Type 0
+IsMadeFor c q = c ≡ record { program = q.program; coil = q.coil; listed = q.listed; from = 0 }
+
+pub lists : (g : Given) (r : PossibleRequest) (q : Question) (c d : PossibleCursor) (rows : List PossibleCause) (Written : List ℕ → Type 0) → IsAskedOfAll g r q
+    → refusal q None ≡ None → IsMadeFor c q → Gave c rows d → Written (possible_text c.program c.listed rows) → ListsPossible g r Written
+lists g r q c d rows Written asked accepted made gave written = record {
+  question = q;
+  asked = asked;
+  accepted = accepted;
+  rows = rows;
+  to = d.from;
+  are = subst (λ (x : PossibleCursor). AreRows x.program x.coil x.listed x.from d.from rows) made gave.rows_are;
+  written = subst (λ (x : PossibleCursor). Written (possible_text x.program x.listed rows)) made written;
+}
+
+all_of : (q : Question) (c d : PossibleCursor) (rows : List PossibleCause) (limit : Option ℕ) → IsMadeFor c q → Gave c rows d → AreAll d rows limit
+    → (d.from ≡ 2 ^ length q.listed) ⊎ (limit ≡ Some (length rows))
+all_of q c d rows limit made gave (inl e) =
+    inl (e ∙ ap (λ (xs : List ℕ). 2 ^ length xs) (ap (λ (x : PossibleCursor). x.listed) gave.same ∙ ap (λ (x : PossibleCursor). x.listed) made))
+all_of q c d rows limit made gave (inr e) = inr e
+
+pub counts : (g : Given) (r : PossibleRequest) (q : Question) (c d : PossibleCursor) (rows : List PossibleCause) (out out' : WriteLog) (Counted : List ℕ → Type 0)
+    → (s : PossibleSummary) → IsAskedOfAll g r q → refusal q None ≡ None → IsMadeFor c q → Gave c rows d → PutsAll out out' (possible_text c.program c.listed rows)
+    → IsCount s rows → AreAll d rows r.limit → Counted (unless_quiet r.quiet (possible_line s.rows s.unsettled)) → CountsPossible g r out out' Counted
+unfolding lists
+counts g r q c d rows out out' Counted s asked accepted made gave written counted all said = record {
+  list = lists g r q c d rows (PutsAll out out') asked accepted made gave written;
+  all = all_of q c d rows r.limit made gave all;
+  count = subst Counted
+      (ap (λ n. unless_quiet r.quiet (possible_line n s.unsettled)) counted.0 ∙ ap (λ n. unless_quiet r.quiet (possible_line (length rows) n)) counted.1) said;
+}

@@ -1,0 +1,14 @@
+use Rattle.std.proofs.Common.{refl, inl}
+use Rattle.std.specs.Prelude.{None}
+use Rattle.ladder_setting.specs.Setting.{given_by}
+use Rattle.ladder_lists.proofs.Endings.{before_asking}
+use Rattle.ladder_lists.proofs.grouping.list_groups.Goals as goal
+
+pub returns-in-Err-clause-failed : goal.returns-in-Err-clause-failed
+returns-in-Err-clause-failed g c = λ save status. inl (record {
+  reason = c.in-Err.fault;
+  has = before_asking (given_by c.args.texts.now) c.args.request.now None c.in-Err.fault c.in-Err.ensures.fault;
+  unwritten = refl {a = g.O.Sink.log c.args.out.now};
+  unsaved = refl {a = save};
+  reported = c.report.ensures.line;
+})

@@ -1,0 +1,264 @@
+-- How a request for a list ends: all its rows are written, or a fault stops it.
+use Rattle.std.specs.Prelude.{◌≡◌, ◌⊎◌, ◌++◌, ◌^◌, ◌∷◌, ℕ, List, Bool, true, false, Option, None, Some, codes, count_by, decimal, [], length, map, not, string_bytes, unwrap_or}
+use Rattle.ladder_grid.specs.Program.{Drawing}
+use Rattle.ladder_scan.specs.Programs.{diagram_of}
+use Rattle.ladder_scan.specs.Standing.{Standing}
+use Rattle.ladder_questions.specs.declared.fault.CauseFault.TheVariants as cause
+use Rattle.ladder_questions.specs.Causes.{Question, causes_after, is_cause}
+use Rattle.ladder_causes.specs.Cursor.{first_number, looks_given}
+use Rattle.ladder_causes.specs.GroupCursor.{causes_in}
+use Rattle.ladder_causes.specs.Order.{in_order, sifted}
+use Rattle.ladder_causes.specs.Prefixes.{search_of}
+use Rattle.ladder_questions.specs.Refusal.{refusal}
+use Rattle.ladder_groups.specs.Groups.{Row}
+use Rattle.ladder_groups.specs.Groups as groups
+use Rattle.ladder_held.specs.HeldRefusal.{held_refusal}
+use Rattle.ladder_held.specs.Holding.{held_causes}
+use Rattle.ladder_held.specs.declared.fault.HeldFault.{HeldFault}
+use Rattle.ladder_held.specs.declared.fault.HeldFault.TheVariants as held
+use Rattle.ladder_held.specs.declared.scans.Scans.{Scans}
+use Rattle.ladder_dead.specs.Dead.{dead_rows, dead_text}
+use Rattle.ladder_never.specs.Cases.{IsNever}
+use Rattle.ladder_never.specs.Never.{Bits, IsOff, after_each}
+use Rattle.ladder_never.specs.Never as never
+use Rattle.ladder_sim.specs.CauseText.{cause_text, limited}
+use Rattle.ladder_possible.specs.Possible.{AreRows}
+use Rattle.ladder_possible.specs.declared.possible.PossibleCause.{PossibleCause}
+use Rattle.ladder_sim.specs.HeldText.{held_text}
+use Rattle.ladder_sim.specs.PossibleText.{possible_text}
+use Rattle.ladder_sim.specs.TermText.{form_text}
+use Rattle.ladder_sim.specs.declared.group_text.GroupForm.{GroupForm}
+use Rattle.ladder_sim.specs.declared.group_text.GroupForm.TheVariants as group_form
+use Rattle.ladder_text.specs.Log.{PutsAll, PutsPrefix, WriteLog}
+use Rattle.ladder_setting.specs.declared.fault.ToolFault.{ToolFault}
+use Rattle.ladder_setting.specs.declared.fault.ToolFault.TheVariants as fault
+use Rattle.ladder_words.specs.declared.request.Form.{Form}
+use Rattle.ladder_words.specs.declared.request.Form.TheVariants.{Statement, Table, Terms}
+use Rattle.ladder_words.specs.declared.request.Grouping.{Grouping}
+use Rattle.ladder_words.specs.declared.request.InputOrder.{InputOrder}
+use Rattle.ladder_words.specs.declared.request.InputOrder.TheVariants as order
+use Rattle.ladder_words.specs.declared.request.ListRequest.{ListRequest}
+use Rattle.ladder_words.specs.declared.request.NeverRequest.{NeverRequest}
+use Rattle.ladder_words.specs.declared.request.PossibleRequest.{PossibleRequest}
+use Rattle.ladder_setting.specs.Setting.{Given, HasSettingFault, IsSet}
+use Rattle.ladder_setting.specs.Variables.{AreListed, variable_of}
+use Rattle.ladder_setting.specs.Reports.{HasCauseFault, HasWordFault, IsReported, Logs}
+
+-- ---- a list of causes
+
+-- The texts describe the program and the state, and the names are those of the variables. Without a moment the scan is at the stored one.
+pub record IsAsked (g : Given) (r : ListRequest) (q : Question) : Type 0 where
+  pub set : IsSet g q.program q.state
+  pub at : q.now ≡ unwrap_or r.moment q.state.moment
+  pub on : variable_of q.program.decls (string_bytes r.coil) ≡ Some q.coil
+  pub among : AreListed q.program.decls r.all_inputs (map string_bytes r.inputs.items) q.listed
+
+-- the causes that are listed, after a number where there is one
+abbrev pub causes_for : ListRequest → Option ℕ → Question → List ℕ
+causes_for r after q = limited r.limit (causes_after after q)
+
+-- The text of the causes is written, whole or as far as `Written` says: all rows that are asked for, and no other.
+pub record Lists (g : Given) (r : ListRequest) (after : Option ℕ) (Written : List ℕ → Type 0) : Type 0 where
+  pub question : Question
+  pub asked : IsAsked g r question
+  pub accepted : refusal question after ≡ None
+  pub rows : Written (cause_text question.program question.listed (limited r.limit (causes_after after question)))
+
+abbrev pub ListsCauses : Given → ListRequest → Option ℕ → WriteLog → WriteLog → Type 0
+ListsCauses g r after out out' = Lists g r after (PutsAll out out')
+
+-- A fault of the names: COIL is word 1, the first INPUT word 2.
+abbrev pub HasNameFault : Given → ListRequest → ToolFault → Type 0
+HasNameFault g r f =
+    (p : Drawing) × (s : Standing) × IsSet g p s × HasWordFault p.decls (string_bytes r.coil ∷ map string_bytes r.inputs.items) f
+
+-- Faults are looked for in this order: in the program text, in the state text, in the names, in what is asked.
+abbrev pub HasListFault : Given → ListRequest → Option ℕ → ToolFault → Type 0
+HasListFault g r after f = HasSettingFault g f ⊎ (HasNameFault g r f ⊎ ((q : Question) × IsAsked g r q × HasCauseFault (refusal q after) f))
+
+-- ---- the count of a list's rows and of the looks for them
+
+-- how many looks the search for the listed causes makes
+abbrev pub looks_for : ListRequest → Option ℕ → Question → ℕ
+looks_for r after q = looks_given (search_of q (first_number after)) 0 r.limit (causes_after after q)
+
+-- `rows R looks L`
+abbrev pub rows_line : ℕ → ℕ → List ℕ
+rows_line rows looks = codes "rows " ++ (decimal rows ++ (codes " looks " ++ (decimal looks ++ codes "\n")))
+
+-- A line of counts, where it isn't left out.
+abbrev pub unless_quiet : Bool → List ℕ → List ℕ
+unless_quiet true line = []
+unless_quiet false line = line
+
+abbrev pub rows_text : ListRequest → Option ℕ → Question → List ℕ
+rows_text r after q = unless_quiet r.quiet (rows_line (length (causes_for r after q)) (looks_for r after q))
+
+-- The rows were listed, and then their number and that of the looks for them is written: whole, or as far as `Counted` says.
+pub record CountsList (g : Given) (r : ListRequest) (after : Option ℕ) (out out' : WriteLog) (Counted : List ℕ → Type 0) : Type 0 where
+  pub list : ListsCauses g r after out out'
+  pub count : Counted (rows_text r after list.question)
+
+-- Status 1: `out` failed at the rows, or `err` at their count.
+abbrev pub BreaksList : Given → ListRequest → Option ℕ → Logs → Logs → Type 0
+BreaksList g r after old new =
+    (Lists g r after (PutsPrefix old.out new.out) × IsReported g old.err new.err fault.Write)
+    ⊎ CountsList g r after old.out new.out (PutsPrefix old.err new.err)
+
+-- ---- a list over several scans
+
+-- so many scans, each this time after the one before it
+abbrev pub scans_of : ℕ → ℕ → Scans
+scans_of count every = record { count = count; every = every }
+
+-- The text of the causes over these scans is written, whole or as far as `Written` says: all rows that are asked for, and no other.
+pub record ListsHeld (g : Given) (r : ListRequest) (s : Scans) (Written : List ℕ → Type 0) : Type 0 where
+  pub question : Question
+  pub asked : IsAsked g r question
+  pub accepted : held_refusal question s ≡ None
+  pub rows : Written (held_text question.program question.listed (limited r.limit (held_causes question s)))
+
+-- This is the rule that is broken first; being out of memory has no reason in what is asked.
+abbrev pub HasScansFault : Option HeldFault → ToolFault → Type 0
+HasScansFault first (fault.Cause f) = (f ≡ cause.Memory) ⊎ (first ≡ Some (held.Question f))
+HasScansFault first fault.NoScans = first ≡ Some held.NoScans
+HasScansFault first other = ⊥
+
+-- Faults are looked for in the order of those of a list, and then in the scans.
+abbrev pub HasHeldFault : Given → ListRequest → Scans → ToolFault → Type 0
+HasHeldFault g r s f = HasSettingFault g f ⊎ (HasNameFault g r f ⊎ ((q : Question) × IsAsked g r q × HasScansFault (held_refusal q s) f))
+
+-- `rows R`
+abbrev pub held_line : ℕ → List ℕ
+held_line rows = codes "rows " ++ (decimal rows ++ codes "\n")
+
+-- The rows were listed, and then their number is written: whole, or as far as `Counted` says.
+pub record CountsHeld (g : Given) (r : ListRequest) (s : Scans) (out out' : WriteLog) (Counted : List ℕ → Type 0) : Type 0 where
+  pub list : ListsHeld g r s (PutsAll out out')
+  pub count : Counted (unless_quiet r.quiet (held_line (length (limited r.limit (held_causes list.question s)))))
+
+-- Status 1: `out` failed at the rows, or `err` at their count.
+abbrev pub BreaksHeld : Given → ListRequest → Scans → Logs → Logs → Type 0
+BreaksHeld g r s old new =
+    (ListsHeld g r s (PutsPrefix old.out new.out) × IsReported g old.err new.err fault.Write)
+    ⊎ CountsHeld g r s old.out new.out (PutsPrefix old.err new.err)
+
+-- ---- what can never come ON
+
+-- The names of some variables and blocks are written with the places where they are drawn, whole or as far as `Written` says. None is an
+-- input, each is OFF in the state, and after any scans from there, with any inputs and at any moments.
+pub record ListsNever (g : Given) (Written : List ℕ → Type 0) : Type 0 where
+  pub program : Drawing
+  pub state : Standing
+  pub set : IsSet g program state
+  pub dead : Bits
+  pub settled : IsNever program state dead
+  pub off : (scans : List never.OneScan) → IsOff dead (after_each (diagram_of program) scans state.held)
+  pub rows : Written (dead_text program dead)
+
+-- A fault of the texts, or being out of memory.
+abbrev pub HasNeverFault : Given → ToolFault → Type 0
+HasNeverFault g f = HasSettingFault g f ⊎ (f ≡ fault.Memory)
+
+-- The rows were listed, and then their number is written: whole, or as far as `Counted` says.
+pub record CountsNever (g : Given) (r : NeverRequest) (out out' : WriteLog) (Counted : List ℕ → Type 0) : Type 0 where
+  pub list : ListsNever g (PutsAll out out')
+  pub count : Counted (unless_quiet r.quiet (held_line (length (dead_rows list.program list.dead))))
+
+-- Status 1: `out` failed at the rows, or `err` at their count.
+abbrev pub BreaksNever : Given → NeverRequest → Logs → Logs → Type 0
+BreaksNever g r old new =
+    (ListsNever g (PutsPrefix old.out new.out) × IsReported g old.err new.err fault.Write)
+    ⊎ CountsNever g r old.out new.out (PutsPrefix old.err new.err)
+
+-- ---- what some state switches on
+
+-- The texts describe the program, and the names are those of the variables. There is a state as well, which makes no difference.
+pub record IsAskedOfAll (g : Given) (r : PossibleRequest) (q : Question) : Type 0 where
+  pub set : IsSet g q.program q.state
+  pub at : q.now ≡ q.state.moment
+  pub on : variable_of q.program.decls (string_bytes r.coil) ≡ Some q.coil
+  pub among : AreListed q.program.decls r.all_inputs (map string_bytes r.inputs.items) q.listed
+
+-- The text of some rows is written, whole or as far as `Written` says: below a number each one with which some state, at some moment, switches
+-- the coil on has a row, and the number of each row that is settled is such a one.
+pub record ListsPossible (g : Given) (r : PossibleRequest) (Written : List ℕ → Type 0) : Type 0 where
+  pub question : Question
+  pub asked : IsAskedOfAll g r question
+  pub accepted : refusal question None ≡ None
+  pub rows : List PossibleCause
+  pub to : ℕ
+  pub are : AreRows question.program question.coil question.listed 0 to rows
+  pub written : Written (possible_text question.program question.listed rows)
+
+-- A fault of the names: COIL is word 1, the first INPUT word 2.
+abbrev pub HasNamesFault : Given → PossibleRequest → ToolFault → Type 0
+HasNamesFault g r f =
+    (p : Drawing) × (s : Standing) × IsSet g p s × HasWordFault p.decls (string_bytes r.coil ∷ map string_bytes r.inputs.items) f
+
+-- Faults are looked for in the order of those of a list.
+abbrev pub HasPossibleFault : Given → PossibleRequest → ToolFault → Type 0
+HasPossibleFault g r f = HasSettingFault g f ⊎ (HasNamesFault g r f ⊎ ((q : Question) × IsAskedOfAll g r q × HasCauseFault (refusal q None) f))
+
+-- `rows R unsettled U`
+abbrev pub possible_line : ℕ → ℕ → List ℕ
+possible_line rows unsettled = codes "rows " ++ (decimal rows ++ (codes " unsettled " ++ (decimal unsettled ++ codes "\n")))
+
+-- All rows were listed, or as many as the limit allows, and then their number is written and that of those that aren't settled: whole, or as
+-- far as `Counted` says.
+pub record CountsPossible (g : Given) (r : PossibleRequest) (out out' : WriteLog) (Counted : List ℕ → Type 0) : Type 0 where
+  pub list : ListsPossible g r (PutsAll out out')
+  pub all : (list.to ≡ 2 ^ length list.question.listed) ⊎ (r.limit ≡ Some (length list.rows))
+  pub count : Counted (unless_quiet r.quiet (possible_line (length list.rows) (count_by (λ row. not row.is_settled) list.rows)))
+
+-- Status 1: `out` failed at the rows, or `err` at their count.
+abbrev pub BreaksPossible : Given → PossibleRequest → Logs → Logs → Type 0
+BreaksPossible g r old new =
+    (ListsPossible g r (PutsPrefix old.out new.out) × IsReported g old.err new.err fault.Write)
+    ⊎ CountsPossible g r old.out new.out (PutsPrefix old.err new.err)
+
+-- ---- a list of causes in groups
+
+-- the rows of all causes, or the first of them where there is a limit
+abbrev pub rows_for : ListRequest → Question → List Row
+rows_for r q = limited r.limit (groups.rows (is_cause q) (length q.listed) 0)
+
+-- a form for the groups of a coil
+abbrev pub form_on : Form → ℕ → GroupForm
+form_on Table coil = group_form.Table
+form_on Terms coil = group_form.Terms
+form_on Statement coil = group_form.Statement coil
+
+-- what is asked, with the inputs in this order
+abbrev pub ordered : InputOrder → Question → Question
+ordered order.Given q = q
+ordered order.Sifted q = in_order q (sifted q)
+
+-- The text of the groups is written in this form, whole or as far as `Written` says: all rows that are asked for, and no other.
+pub record Grouped (g : Given) (r : ListRequest) (how : Grouping) (Written : List ℕ → Type 0) : Type 0 where
+  pub question : Question
+  pub asked : IsAsked g r question
+  pub accepted : refusal question None ≡ None
+  pub rows : Written (form_text (form_on how.form question.coil) question.program (ordered how.order question).listed (rows_for r (ordered how.order question)))
+
+abbrev pub ListsGroups : Given → ListRequest → Grouping → WriteLog → WriteLog → Type 0
+ListsGroups g r how out out' = Grouped g r how (PutsAll out out')
+
+-- `rows R causes C`
+abbrev pub groups_line : ℕ → ℕ → List ℕ
+groups_line rows causes = codes "rows " ++ (decimal rows ++ (codes " causes " ++ (decimal causes ++ codes "\n")))
+
+-- how many rows are listed, and how many causes they stand for
+abbrev pub counts_text : ListRequest → Question → List ℕ
+counts_text r q = unless_quiet r.quiet (groups_line (length (rows_for r q)) (causes_in (rows_for r q)))
+
+-- The rows were listed, and then their number and that of their causes is written: whole, or as far as `Counted` says.
+pub record CountsGroups (g : Given) (r : ListRequest) (how : Grouping) (out out' : WriteLog) (Counted : List ℕ → Type 0) : Type 0 where
+  pub list : ListsGroups g r how out out'
+  pub count : Counted (counts_text r (ordered how.order list.question))
+
+-- Status 1: `out` failed at the rows, or `err` at their count.
+abbrev pub BreaksGroups : Given → ListRequest → Grouping → Logs → Logs → Type 0
+BreaksGroups g r how old new =
+    (Grouped g r how (PutsPrefix old.out new.out) × IsReported g old.err new.err fault.Write)
+    ⊎ CountsGroups g r how old.out new.out (PutsPrefix old.err new.err)

@@ -1,0 +1,133 @@
+//! A request for the causes of a coil in groups.
+
+ghost use Rattle.std.specs.Prelude.{◌≡◌, ◌≤◌, ◌⊎◌, IfErr, IfOk, None};
+ghost use Rattle.ladder_scan.specs.Standing.{Fits};
+ghost use Rattle.ladder_questions.specs.Refusal.{reason, refusal};
+ghost use Rattle.ladder_text.specs.Log.{Puts, PutsAll, WriteLog};
+ghost use Rattle.ladder_lists.specs.Asked.{question_of};
+ghost use Rattle.ladder_setting.specs.Reports.{Refuses, logs};
+ghost use Rattle.ladder_lists.specs.Lists.{BreaksGroups, CountsGroups, HasListFault, IsAsked, form_on, groups_line, ordered, unless_quiet};
+ghost use Rattle.ladder_setting.specs.Setting.{given_by};
+
+use crate::asking::{Asked, read_question};
+use ladder_causes::laws::orders;
+use ladder_causes::{CauseFault, Groups, sifted};
+use ladder_setting::{Texts, ToolFault, report};
+use ladder_sim::{GroupForm, GroupSummary, write_groups};
+use ladder_text::{Piece, Sink, WriteFault, put_pieces};
+use ladder_words::{Form, Grouping, InputOrder, ListRequest};
+use std::alloc::Global;
+
+fn put_counts<E: Sink>(quiet: bool, summary: GroupSummary, err: &mut E) -> Result<(), WriteFault>
+    ensures { Puts (E.log err.old) (E.log err.new) result (unless_quiet quiet (groups_line summary.rows summary.causes)) }
+{
+    if quiet {
+        return Ok(());
+    }
+    let pieces = [
+        Piece::Text(b"rows "),
+        Piece::Number(summary.rows),
+        Piece::Text(b" causes "),
+        Piece::Number(summary.causes),
+        Piece::Text(b"\n"),
+    ];
+    put_pieces(err, pieces.as_slice())
+}
+
+/// The form for the groups of a coil.
+fn form_of(form: Form, coil: usize) -> GroupForm
+    ensures { result ≡ form_on form coil }
+{
+    match form {
+        Form::Table => GroupForm::Table,
+        Form::Terms => GroupForm::Terms,
+        Form::Statement => GroupForm::Statement { coil },
+    }
+}
+
+/// Puts the listed inputs in an order.
+fn put_in_order(alloc: Global, asked: &mut Asked, order: InputOrder) -> Result<(), CauseFault>
+    requires fits { Fits asked.old.program asked.old.state }
+    ensures fits { Fits asked.new.program asked.new.state }
+    ensures ordered { IfOk result (λ _. question_of asked.new ≡ ordered order (question_of asked.old)) }
+    ensures refused { IfErr result (λ e. refusal (question_of asked.old) None ≡ reason e) }
+{
+    if let InputOrder::Sifted = order {
+        asked.inputs = sifted(
+            alloc,
+            &asked.program,
+            &asked.state,
+            asked.moment,
+            asked.coil,
+            &asked.inputs,
+        )?;
+    }
+    Ok(())
+}
+
+/// Lists the causes of what is asked in groups.
+fn list_asked<O: Sink, E: Sink>(
+    alloc: Global,
+    request: &ListRequest,
+    how: Grouping,
+    asked: &mut Asked,
+    texts: &Texts,
+    out: &mut O,
+    err: &mut E,
+) -> u8
+    requires fits { Fits asked.old.program asked.old.state }
+    requires asked { IsAsked (given_by texts.now) request.now (question_of asked.old) }
+    ensures status { result ≤ 1 }
+    ensures done { result ≡ 0 → CountsGroups (given_by texts.now) request.now how (O.log out.old) (O.log out.new) (PutsAll (E.log err.old) (E.log err.new)) }
+    ensures failed { (save : WriteLog) → result ≡ 1
+        → Refuses (given_by texts.now) (HasListFault (given_by texts.now) request.now None) (logs (O.log out.old) save (E.log err.old)) (logs (O.log out.new) save (E.log err.new))
+        ⊎ BreaksGroups (given_by texts.now) request.now how (logs (O.log out.old) save (E.log err.old)) (logs (O.log out.new) save (E.log err.new)) }
+{
+    match put_in_order(alloc, asked, how.order) {
+        Ok(()) => (),
+        Err(fault) => return report(texts, &ToolFault::Cause(fault), err),
+    }
+    orders();
+    let mut cursor = match Groups::new(
+        alloc,
+        &asked.program,
+        &asked.state,
+        asked.moment,
+        asked.coil,
+        &asked.inputs,
+    ) {
+        Ok(cursor) => cursor,
+        Err(fault) => return report(texts, &ToolFault::Cause(fault), err),
+    };
+    let form = form_of(how.form, asked.coil);
+    let written = write_groups(&mut cursor, form, request.limit, out);
+    drop(cursor);
+    let Ok(summary) = written else {
+        return report(texts, &ToolFault::Write, err);
+    };
+    let Ok(()) = put_counts(request.quiet, summary, err) else {
+        return 1;
+    };
+    0
+}
+
+/// Lists the causes of the coil in the state of the texts in groups.
+pub fn list_groups<O: Sink, E: Sink>(
+    alloc: Global,
+    request: &ListRequest,
+    how: Grouping,
+    texts: &Texts,
+    out: &mut O,
+    err: &mut E,
+) -> u8
+    ensures status { result ≤ 1 }
+    ensures done { result ≡ 0 → CountsGroups (given_by texts.now) request.now how (O.log out.old) (O.log out.new) (PutsAll (E.log err.old) (E.log err.new)) }
+    ensures failed { (save : WriteLog) → result ≡ 1
+        → Refuses (given_by texts.now) (HasListFault (given_by texts.now) request.now None) (logs (O.log out.old) save (E.log err.old)) (logs (O.log out.new) save (E.log err.new))
+        ⊎ BreaksGroups (given_by texts.now) request.now how (logs (O.log out.old) save (E.log err.old)) (logs (O.log out.new) save (E.log err.new)) }
+{
+    match read_question(alloc, request, texts) {
+        Ok(mut asked) => list_asked(alloc, request, how, &mut asked, texts, out, err),
+        Err(fault) => report(texts, &fault, err),
+    }
+}

@@ -1,0 +1,15 @@
+//! What a request for a list does: its rows, the line of their counts, and its faults.
+#![tactic(auto)]
+
+mod asking;
+mod grouping;
+mod holding;
+mod listing;
+mod never;
+mod possible;
+
+pub use grouping::list_groups;
+pub use holding::list_held;
+pub use listing::list_causes;
+pub use never::list_never;
+pub use possible::list_possible;

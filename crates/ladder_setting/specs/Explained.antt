@@ -1,0 +1,67 @@
+-- What is said of a fault: its line, and where it is explained its rule in words and, for a program text, the lines where it shows.
+use Rattle.std.specs.Prelude.{◌++◌, ℕ, Bool, true, false, List, codes}
+use Rattle.ladder_questions.specs.declared.fault.CauseFault.{CauseFault}
+use Rattle.ladder_questions.specs.declared.fault.CauseFault.TheVariants as cause
+use Rattle.ladder_reasons.specs.Reasons.{reason_text}
+use Rattle.ladder_state.specs.declared.fault.StateFault.{StateFault}
+use Rattle.ladder_state.specs.declared.fault.StateFault.TheVariants as state
+use Rattle.ladder_text.specs.declared.fault.ReadFault.{ReadFault}
+use Rattle.ladder_text.specs.declared.fault.ReadFault.TheVariants as read
+use Rattle.ladder_trace.specs.declared.fault.SimFault.{SimFault}
+use Rattle.ladder_trace.specs.declared.fault.SimFault.TheVariants as sim
+use Rattle.ladder_setting.specs.declared.fault.ToolFault.{ToolFault}
+use Rattle.ladder_setting.specs.declared.fault.ToolFault.TheVariants as fault
+use Rattle.ladder_setting.specs.FaultLine.{fault_line}
+
+abbrev pub memory_sentence : List ℕ
+memory_sentence = codes "X7: out of memory"
+
+-- why there is no list of causes, or no scan to show
+abbrev pub cause_sentence : CauseFault → List ℕ
+cause_sentence cause.MomentBack = codes "C1: the moment is before the one that the state stores"
+cause_sentence cause.NotACoil = codes "C2: no coil writes this variable"
+cause_sentence cause.TooManyFree = codes "C3: too many inputs are listed"
+cause_sentence cause.NotAnInput = codes "C4: a listed variable isn't an input"
+cause_sentence cause.RepeatedInput = codes "C5: an input is listed twice"
+cause_sentence cause.AfterOutOfRange = codes "C6: the listed inputs have no such number"
+cause_sentence cause.Memory = codes "C7: out of memory"
+
+abbrev pub read_sentence : ReadFault → List ℕ
+read_sentence read.Read = codes "X1: the file can't be read"
+read_sentence read.TooLong = codes "X5: the file is too long"
+read_sentence read.Memory = memory_sentence
+
+abbrev pub state_sentence : StateFault → List ℕ
+state_sentence (state.BadRow row) = codes "X2: the record is none of a state of this program; records are counted from 1"
+state_sentence state.Memory = memory_sentence
+
+-- why a simulation ended; its records are counted from 1, the header included
+abbrev pub sim_sentence : SimFault → List ℕ
+sim_sentence (sim.BadRow row) = codes "X2: the record isn't a moment with a 0 or 1 for each name of the header, which is record 1"
+sim_sentence (sim.UnknownName row) = codes "X3: a name of the header isn't an input of this program"
+sim_sentence (sim.MomentBack row) = codes "X4: the moment is before that of the record above it, or of the state; the header is record 1"
+sim_sentence (sim.TooLong row) = codes "X5: there are too many records; the header is record 1"
+sim_sentence sim.Write = codes "X6: a write failed"
+sim_sentence sim.Memory = memory_sentence
+
+-- the sentence of a fault that shows in no program text
+abbrev pub sentence : ToolFault → List ℕ
+sentence (fault.Cause f) = cause_sentence f
+sentence fault.NoScans = codes "C8: there are no such scans: none, too many, or one past the last moment"
+sentence (fault.Read kind f) = read_sentence f
+sentence (fault.State f) = state_sentence f
+sentence (fault.Word number) = codes "X3: the word names no variable; COIL is word 1, and the first INPUT the next one"
+sentence (fault.Sim f) = sim_sentence f
+sentence fault.Write = codes "X6: a write failed"
+sentence fault.Memory = memory_sentence
+sentence other = codes "usage: the words are not those of a request"
+
+-- A fault of the program text shows there; of the others the sentence is all.
+abbrev pub explained : List ℕ → ToolFault → List ℕ
+explained text (fault.Grid f) = reason_text text f
+explained text other = sentence other ++ codes "\n"
+
+-- The line of the fault, and its explanation where that is asked for.
+abbrev pub report_of : Bool → List ℕ → ToolFault → List ℕ
+report_of true text f = fault_line f ++ explained text f
+report_of false text f = fault_line f

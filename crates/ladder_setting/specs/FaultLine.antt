@@ -1,0 +1,91 @@
+-- The line of a fault: the code of the rule, and where it shows.
+use Rattle.std.specs.Prelude.{◌++◌, ℕ, List, codes, decimal}
+use Rattle.ladder_vars.specs.declared.fault.VarRule.{VarRule}
+use Rattle.ladder_vars.specs.declared.fault.VarRule.TheVariants as var
+use Rattle.ladder_grid.specs.declared.fault.GridFault.TheVariants as grid
+use Rattle.ladder_page.specs.declared.fault.GridRule.{GridRule}
+use Rattle.ladder_page.specs.declared.fault.GridRule.TheVariants as rule
+use Rattle.ladder_questions.specs.declared.fault.CauseFault.{CauseFault}
+use Rattle.ladder_questions.specs.declared.fault.CauseFault.TheVariants as cause
+use Rattle.ladder_text.specs.declared.fault.ReadFault.TheVariants as read
+use Rattle.ladder_state.specs.declared.fault.StateFault.TheVariants as state
+use Rattle.ladder_trace.specs.declared.fault.SimFault.TheVariants as sim
+use Rattle.ladder_setting.specs.declared.fault.TextKind.{TextKind}
+use Rattle.ladder_setting.specs.declared.fault.TextKind.TheVariants as kind
+use Rattle.ladder_setting.specs.declared.fault.ToolFault.{ToolFault}
+use Rattle.ladder_setting.specs.declared.fault.ToolFault.TheVariants as fault
+
+-- the rules of the declarations, V1 to V9
+abbrev pub var_number : VarRule → ℕ
+var_number var.BadByte = 1
+var_number var.BadToken = 2
+var_number var.BadName = 3
+var_number var.Duplicate = 4
+var_number var.DuplicateAddress = 5
+var_number var.BadPreset = 6
+var_number var.TooMany = 7
+var_number var.Unfinished = 8
+var_number var.Memory = 9
+
+-- the rules of the drawing, G1 to G15
+abbrev pub grid_number : GridRule → ℕ
+grid_number rule.TooWide = 1
+grid_number rule.TooTall = 2
+grid_number rule.BadCell = 3
+grid_number rule.BadJoint = 4
+grid_number rule.BrokenVertical = 5
+grid_number rule.Unfed = 6
+grid_number rule.NameMissing = 7
+grid_number rule.NameWithoutSymbol = 8
+grid_number rule.Undeclared = 9
+grid_number rule.WrongKind = 10
+grid_number rule.BlockShape = 11
+grid_number rule.DrawnTwice = 12
+grid_number rule.LabelFault = 13
+grid_number rule.TwoJumps = 14
+grid_number rule.TooManyRungs = 15
+
+-- the reasons why there is no list of causes, C1 to C7; C8, of one over several scans, stands below
+abbrev pub cause_number : CauseFault → ℕ
+cause_number cause.MomentBack = 1
+cause_number cause.NotACoil = 2
+cause_number cause.TooManyFree = 3
+cause_number cause.NotAnInput = 4
+cause_number cause.RepeatedInput = 5
+cause_number cause.AfterOutOfRange = 6
+cause_number cause.Memory = 7
+
+abbrev pub kind_word : TextKind → List ℕ
+kind_word kind.Program = codes "program"
+kind_word kind.State = codes "state"
+kind_word kind.Stimulus = codes "stimulus"
+
+-- a line that ends with a number
+abbrev pub numbered : List ℕ → ℕ → List ℕ
+numbered text number = text ++ (decimal number ++ codes "\n")
+
+-- A rule of the declarations and its line; out of memory has no line of the text.
+abbrev pub var_line : VarRule → ℕ → List ℕ
+var_line var.Memory line = codes "fault V9\n"
+var_line rule line = codes "fault V" ++ (decimal (var_number rule) ++ numbered (codes " line ") line)
+
+-- By the letter: V and G the rules of a program text, C those of a question, and X what else stops a request. Records are counted from 1,
+-- a bad one is X2; X1 is a text that can't be read, X5 one that is too long, X6 a writer that failed, and X7, the rest, out of memory.
+abbrev pub fault_line : ToolFault → List ℕ
+fault_line (fault.Grid (grid.Vars f)) = var_line f.rule f.line
+fault_line (fault.Grid (grid.Grid r rung line)) =
+    codes "fault G" ++ (decimal (grid_number r) ++ (codes " rung " ++ (decimal rung ++ numbered (codes " line ") line)))
+fault_line (fault.Cause f) = numbered (codes "fault C") (cause_number f)
+fault_line fault.NoScans = codes "fault C8\n"
+fault_line (fault.Read k read.Read) = codes "fault X1 " ++ (kind_word k ++ codes "\n")
+fault_line (fault.Read k read.TooLong) = codes "fault X5 " ++ (kind_word k ++ codes "\n")
+fault_line (fault.State (state.BadRow row)) = numbered (codes "fault X2 state row ") row
+fault_line (fault.Word number) = numbered (codes "fault X3 word ") number
+fault_line (fault.Sim (sim.BadRow row)) = numbered (codes "fault X2 stimulus row ") row
+fault_line (fault.Sim (sim.UnknownName row)) = numbered (codes "fault X3 row ") row
+fault_line (fault.Sim (sim.MomentBack row)) = numbered (codes "fault X4 row ") row
+fault_line (fault.Sim (sim.TooLong row)) = numbered (codes "fault X5 row ") row
+fault_line (fault.Sim sim.Write) = codes "fault X6\n"
+fault_line fault.Write = codes "fault X6\n"
+fault_line fault.Usage = codes "fault usage\n"
+fault_line other = codes "fault X7\n"

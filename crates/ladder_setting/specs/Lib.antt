@@ -1,0 +1,5 @@
+pub mod FaultLine
+pub mod Explained
+pub mod Variables
+pub mod Setting
+pub mod Reports

@@ -1,0 +1,119 @@
+//! What is said of a fault after its line.
+
+ghost use Rattle.std.specs.Prelude.{◌≡◌, ◌++◌, codes};
+ghost use Rattle.ladder_text.specs.Log.{Puts};
+ghost use Rattle.ladder_setting.specs.Explained.{cause_sentence, explained, read_sentence, report_of, sentence, sim_sentence, state_sentence};
+
+use crate::fault::{ToolFault, write_fault};
+use ladder_questions::CauseFault;
+use ladder_reasons::write_reason;
+use ladder_state::StateFault;
+use ladder_text::{Piece, ReadFault, Sink, WriteFault, put_pieces};
+use ladder_trace::SimFault;
+
+const MEMORY: &[u8] = b"X7: out of memory";
+
+fn cause_sentence(fault: CauseFault) -> &'static [u8]
+    ensures { result.now ≡ cause_sentence fault }
+{
+    match fault {
+        CauseFault::MomentBack => b"C1: the moment is before the one that the state stores",
+        CauseFault::NotACoil => b"C2: no coil writes this variable",
+        CauseFault::TooManyFree => b"C3: too many inputs are listed",
+        CauseFault::NotAnInput => b"C4: a listed variable isn't an input",
+        CauseFault::RepeatedInput => b"C5: an input is listed twice",
+        CauseFault::AfterOutOfRange => b"C6: the listed inputs have no such number",
+        CauseFault::Memory => b"C7: out of memory",
+    }
+}
+
+fn read_sentence(fault: ReadFault) -> &'static [u8]
+    ensures { result.now ≡ read_sentence fault }
+{
+    match fault {
+        ReadFault::Read => b"X1: the file can't be read",
+        ReadFault::TooLong => { b"X5: the file is too long" }
+        ReadFault::Memory => MEMORY,
+    }
+}
+
+fn state_sentence(fault: StateFault) -> &'static [u8]
+    ensures { result.now ≡ state_sentence fault }
+{
+    match fault {
+        StateFault::BadRow { .. } => {
+            b"X2: the record is none of a state of this program; records are counted from 1"
+        }
+        StateFault::Memory => MEMORY,
+    }
+}
+
+fn sim_sentence(fault: SimFault) -> &'static [u8]
+    ensures { result.now ≡ sim_sentence fault }
+{
+    match fault {
+        SimFault::BadRow { .. } => {
+            b"X2: the record isn't a moment with a 0 or 1 for each name of the header, which is record 1"
+        }
+        SimFault::UnknownName { .. } => b"X3: a name of the header isn't an input of this program",
+        SimFault::MomentBack { .. } => {
+            b"X4: the moment is before that of the record above it, or of the state; the header is record 1"
+        }
+        SimFault::TooLong { .. } => b"X5: there are too many records; the header is record 1",
+        SimFault::Write => b"X6: a write failed",
+        SimFault::Memory => MEMORY,
+    }
+}
+
+/// The sentence of a fault; of one of a program text `write_reason` says more.
+fn sentence(fault: ToolFault) -> &'static [u8]
+    ensures { result.now ≡ sentence fault }
+{
+    match fault {
+        ToolFault::Cause(fault) => cause_sentence(fault),
+        ToolFault::NoScans => {
+            b"C8: there are no such scans: none, too many, or one past the last moment"
+        }
+        ToolFault::Read(_, fault) => read_sentence(fault),
+        ToolFault::State(fault) => state_sentence(fault),
+        ToolFault::Word { .. } => {
+            b"X3: the word names no variable; COIL is word 1, and the first INPUT the next one"
+        }
+        ToolFault::Sim(fault) => sim_sentence(fault),
+        ToolFault::Write => b"X6: a write failed",
+        ToolFault::Memory => MEMORY,
+        ToolFault::Grid(_) | ToolFault::Usage => b"usage: the words are not those of a request",
+    }
+}
+
+fn explain<W: Sink>(text: &[u8], fault: &ToolFault, writer: &mut W) -> Result<(), WriteFault>
+    ensures { Puts (W.log writer.old) (W.log writer.new) result (explained text.now fault.now) }
+{
+    match *fault {
+        ToolFault::Grid(fault) => write_reason(text, &fault, writer),
+        other => {
+            let pieces = [Piece::Text(sentence(other)), Piece::Text(b"\n")];
+            put_pieces(writer, pieces.as_slice())
+        }
+    }
+}
+
+/// Writes the line of a fault, and after it, where that is asked for, its explanation by the program text. It needs no memory.
+///
+/// # Errors
+///
+/// `WriteFault` where the writer fails. What was written is then a prefix of both.
+pub fn write_report<W: Sink>(
+    why: bool,
+    text: &[u8],
+    fault: &ToolFault,
+    writer: &mut W,
+) -> Result<(), WriteFault>
+    ensures { Puts (W.log writer.old) (W.log writer.new) result (report_of why text.now fault.now) }
+{
+    write_fault(fault, writer)?;
+    if why {
+        return explain(text, fault, writer);
+    }
+    Ok(())
+}

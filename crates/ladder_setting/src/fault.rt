@@ -1,0 +1,211 @@
+//! What stops a request, and the line that says so.
+
+ghost use Rattle.std.specs.Prelude.{◌≡◌};
+ghost use Rattle.ladder_text.specs.Log.{Puts};
+ghost use Rattle.ladder_setting.specs.FaultLine.{cause_number, fault_line, grid_number, kind_word, numbered, var_line, var_number};
+ghost use Rattle.ladder_setting.specs.declared.fault.ToolFault.TheVariants.{Read, Sim};
+
+use ladder_grid::GridFault;
+use ladder_page::GridRule;
+use ladder_questions::CauseFault;
+use ladder_state::StateFault;
+use ladder_text::{Piece, ReadFault, Sink, WriteFault, put, put_pieces};
+use ladder_trace::SimFault;
+use ladder_vars::{VarFault, VarRule};
+use thiserror::Error;
+
+/// Which of the files a text is from.
+#[derive(Clone, Copy, Debug, PartialEq, Eq)]
+pub enum TextKind {
+    Program,
+    State,
+    Stimulus,
+}
+
+/// What stops a request.
+#[derive(Clone, Copy, Debug, PartialEq, Eq, Error)]
+pub enum ToolFault {
+    /// The program text breaks a rule.
+    #[error("{0}")]
+    Grid(GridFault),
+    /// There is no list of causes.
+    #[error("{0}")]
+    Cause(CauseFault),
+    /// There is no list over such scans.
+    #[error("C8: there are no such scans")]
+    NoScans,
+    /// A text can't be read.
+    #[error("{1}")]
+    Read(TextKind, ReadFault),
+    /// The state text has a bad record.
+    #[error("{0}")]
+    State(StateFault),
+    /// An argument names no variable; COIL is word 1, the first INPUT word 2.
+    #[error("word {number} names no variable")]
+    Word { number: usize },
+    /// A simulation ended before the end of its stimulus.
+    #[error("{0}")]
+    Sim(SimFault),
+    #[error("the writer failed")]
+    Write,
+    #[error("out of memory")]
+    Memory,
+    #[error("the arguments are no request")]
+    Usage,
+}
+
+/// Writes the line of a fault. It needs no memory.
+///
+/// # Errors
+///
+/// `WriteFault` where the writer fails. What was written is then a prefix of the line.
+pub fn write_fault<W: Sink>(fault: &ToolFault, writer: &mut W) -> Result<(), WriteFault>
+    ensures { Puts (W.log writer.old) (W.log writer.new) result (fault_line fault.now) }
+{
+    match *fault {
+        ToolFault::Grid(GridFault::Vars(fault)) => write_var_fault(fault, writer),
+        ToolFault::Grid(GridFault::Grid { rule, rung, line }) => {
+            let pieces = [
+                Piece::Text(b"fault G"),
+                Piece::Number(grid_number(rule)),
+                Piece::Text(b" rung "),
+                Piece::Number(rung as u64),
+                Piece::Text(b" line "),
+                Piece::Number(line as u64),
+                Piece::Text(b"\n"),
+            ];
+            put_pieces(writer, pieces.as_slice())
+        }
+        ToolFault::Cause(fault) => write_numbered(b"fault C", cause_number(fault), writer),
+        ToolFault::NoScans => put(writer, b"fault C8\n"),
+        ToolFault::Read(kind, fault) => write_read_fault(kind, fault, writer),
+        ToolFault::State(StateFault::BadRow { row }) => {
+            write_numbered(b"fault X2 state row ", row, writer)
+        }
+        ToolFault::State(StateFault::Memory) => put(writer, b"fault X7\n"),
+        ToolFault::Word { number } => write_numbered(b"fault X3 word ", number as u64, writer),
+        ToolFault::Sim(fault) => write_sim_fault(fault, writer),
+        ToolFault::Write => put(writer, b"fault X6\n"),
+        ToolFault::Memory => put(writer, b"fault X7\n"),
+        ToolFault::Usage => put(writer, b"fault usage\n"),
+    }
+}
+
+fn write_var_fault<W: Sink>(fault: VarFault, writer: &mut W) -> Result<(), WriteFault>
+    ensures { Puts (W.log writer.old) (W.log writer.new) result (var_line fault.rule fault.line) }
+{
+    if fault.rule == VarRule::Memory {
+        return put(writer, b"fault V9\n");
+    }
+    let pieces = [
+        Piece::Text(b"fault V"),
+        Piece::Number(var_number(fault.rule)),
+        Piece::Text(b" line "),
+        Piece::Number(fault.line as u64),
+        Piece::Text(b"\n"),
+    ];
+    put_pieces(writer, pieces.as_slice())
+}
+
+fn write_read_fault<W: Sink>(
+    kind: TextKind,
+    fault: ReadFault,
+    writer: &mut W,
+) -> Result<(), WriteFault>
+    ensures { Puts (W.log writer.old) (W.log writer.new) result (fault_line (Read kind fault)) }
+{
+    let rule: &[u8] = match fault {
+        ReadFault::Read => b"fault X1 ",
+        ReadFault::TooLong => b"fault X5 ",
+        ReadFault::Memory => return put(writer, b"fault X7\n"),
+    };
+    let pieces = [
+        Piece::Text(rule),
+        Piece::Text(kind_word(kind)),
+        Piece::Text(b"\n"),
+    ];
+    put_pieces(writer, pieces.as_slice())
+}
+
+fn write_sim_fault<W: Sink>(fault: SimFault, writer: &mut W) -> Result<(), WriteFault>
+    ensures { Puts (W.log writer.old) (W.log writer.new) result (fault_line (Sim fault)) }
+{
+    match fault {
+        SimFault::BadRow { row } => write_numbered(b"fault X2 stimulus row ", row, writer),
+        SimFault::UnknownName { row } => write_numbered(b"fault X3 row ", row, writer),
+        SimFault::MomentBack { row } => write_numbered(b"fault X4 row ", row, writer),
+        SimFault::TooLong { row } => write_numbered(b"fault X5 row ", row, writer),
+        SimFault::Write => put(writer, b"fault X6\n"),
+        SimFault::Memory => put(writer, b"fault X7\n"),
+    }
+}
+
+/// Writes a line that ends with a number.
+fn write_numbered<W: Sink>(text: &[u8], number: u64, writer: &mut W) -> Result<(), WriteFault>
+    ensures { Puts (W.log writer.old) (W.log writer.new) result (numbered text.now number) }
+{
+    let pieces = [Piece::Text(text), Piece::Number(number), Piece::Text(b"\n")];
+    put_pieces(writer, pieces.as_slice())
+}
+
+fn kind_word(kind: TextKind) -> &'static [u8]
+    ensures { result.now ≡ kind_word kind }
+{
+    match kind {
+        TextKind::Program => b"program",
+        TextKind::State => b"state",
+        TextKind::Stimulus => b"stimulus",
+    }
+}
+
+fn var_number(rule: VarRule) -> u64
+    ensures { result ≡ var_number rule }
+{
+    match rule {
+        VarRule::BadByte => 1,
+        VarRule::BadToken => 2,
+        VarRule::BadName => 3,
+        VarRule::Duplicate => 4,
+        VarRule::DuplicateAddress => 5,
+        VarRule::BadPreset => 6,
+        VarRule::TooMany => 7,
+        VarRule::Unfinished => 8,
+        VarRule::Memory => 9,
+    }
+}
+
+fn grid_number(rule: GridRule) -> u64
+    ensures { result ≡ grid_number rule }
+{
+    match rule {
+        GridRule::TooWide => 1,
+        GridRule::TooTall => 2,
+        GridRule::BadCell => 3,
+        GridRule::BadJoint => 4,
+        GridRule::BrokenVertical => 5,
+        GridRule::Unfed => 6,
+        GridRule::NameMissing => 7,
+        GridRule::NameWithoutSymbol => 8,
+        GridRule::Undeclared => 9,
+        GridRule::WrongKind => 10,
+        GridRule::BlockShape => 11,
+        GridRule::DrawnTwice => 12,
+        GridRule::LabelFault => 13,
+        GridRule::TwoJumps => 14,
+        GridRule::TooManyRungs => 15,
+    }
+}
+
+fn cause_number(fault: CauseFault) -> u64
+    ensures { result ≡ cause_number fault }
+{
+    match fault {
+        CauseFault::MomentBack => 1,
+        CauseFault::NotACoil => 2,
+        CauseFault::TooManyFree => 3,
+        CauseFault::NotAnInput => 4,
+        CauseFault::RepeatedInput => 5,
+        CauseFault::AfterOutOfRange => 6,
+        CauseFault::Memory => 7,
+    }
+}

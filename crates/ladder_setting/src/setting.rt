@@ -1,0 +1,64 @@
+//! The program and the state that the texts of a request describe.
+
+ghost use Rattle.std.specs.Prelude.{◌≡◌, IfErr, IfOk, option_map, unwrap_or, vec_items};
+ghost use Rattle.ladder_scan.specs.Standing.{Fits};
+ghost use Rattle.ladder_setting.specs.Setting.{HasSettingFault, HasState, HasStateFault, IsSet, given_by};
+
+use crate::fault::ToolFault;
+use crate::texts::Texts;
+use ladder_grid::{Program, read_program};
+use ladder_scan::State;
+use ladder_state::read_state;
+use std::alloc::Global;
+
+/// A program, and the state in which its first scan begins.
+#[derive(Drop)]
+pub struct Setting {
+    pub program: Program,
+    pub state: State,
+}
+
+/// The state of a text, or the fresh one where there is no text.
+fn starting_state(
+    alloc: Global,
+    program: &Program,
+    text: &Option<Vec<u8>>,
+) -> Result<State, ToolFault>
+    ensures fits { IfOk result (Fits program.now) }
+    ensures state { IfOk result (HasState program.now (option_map vec_items text.now)) }
+    ensures fault { IfErr result (HasStateFault program.now (option_map vec_items text.now)) }
+{
+    match text {
+        Some(text) => match read_state(alloc, program, text) {
+            Ok(state) => Ok(state),
+            Err(fault) => Err(ToolFault::State(fault)),
+        },
+        None => match State::fresh(alloc, program) {
+            Ok(state) => Ok(state),
+            Err(_) => Err(ToolFault::Memory),
+        },
+    }
+}
+
+/// Reads the program text, and then the state text where there is one.
+pub fn read_setting(alloc: Global, texts: &Texts) -> Result<Setting, ToolFault>
+    ensures fits { IfOk result (λ s. Fits s.program s.state) }
+    ensures set { IfOk result (λ s. IsSet (given_by texts.now) s.program s.state) }
+    ensures fault { IfErr result (HasSettingFault (given_by texts.now)) }
+{
+    let program = match read_program(alloc, &texts.program) {
+        Ok(program) => program,
+        Err(fault) => return Err(ToolFault::Grid(fault)),
+    };
+    match starting_state(alloc, &program, &texts.state) {
+        Ok(state) => Ok(Setting { program, state }),
+        Err(fault) => Err(fault),
+    }
+}
+
+/// The moment of the scan: the stored one where none is asked for.
+pub fn moment(asked: Option<u64>, stored: u64) -> u64
+    ensures { result ≡ unwrap_or asked stored }
+{
+    asked.unwrap_or(stored)
+}

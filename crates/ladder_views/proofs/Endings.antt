@@ -1,0 +1,61 @@
+-- How a request for one scan that is shown, or for a simulation, ends.
+use Rattle.std.proofs.Common.{◌≡◌, ◌∙◌, Result, ap, subst, sym, ℕ, Bool, List, Option, Some}
+use Rattle.std.specs.Prelude.{None, unwrap_or}
+use Rattle.std.specs.Option.{option_or}
+use Rattle.ladder_grid.specs.Program.{Drawing}
+use Rattle.ladder_scan.specs.Programs.{diagram_of}
+use Rattle.ladder_scan.specs.Standing.{Standing}
+use Rattle.ladder_show.specs.Showing.{IsDrawn, OneScan, one_scan}
+use Rattle.ladder_show.specs.declared.picture.Style.{Style}
+use Rattle.ladder_questions.specs.Assignment.{assignment}
+use Rattle.ladder_questions.specs.declared.fault.CauseFault.{CauseFault}
+use Rattle.ladder_questions.specs.Causes.{question}
+use Rattle.ladder_questions.specs.Refusal.{scan_refusal}
+use Rattle.ladder_text.specs.Log.{WriteLog}
+use Rattle.ladder_views.specs.Views.{broken_first, coil_refusal, shown_scan, style_for}
+use Rattle.ladder_setting.specs.Setting.{Given}
+use Rattle.ladder_words.specs.declared.request.ShowRequest.{ShowRequest}
+use Rattle.ladder_records.specs.Text.{records_of}
+use Rattle.ladder_trace.specs.declared.fault.SimFault.{SimFault}
+use Rattle.ladder_trace.specs.declared.recording.Film.{Film}
+use Rattle.ladder_trace.specs.Simulation.{Films, Simulates, Waves}
+
+-- The coil's rule comes first.
+pub coil_first : (v : ShowRequest) (p : Drawing) (s : Standing) (coil : Option ℕ) (listed : List ℕ) (f : CauseFault) → coil_refusal p coil ≡ Some f
+    → broken_first v p s coil listed ≡ Some f
+coil_first v p s coil listed f e = ap (λ x. option_or x (scan_refusal (question p s (unwrap_or v.moment s.moment) 0 listed) (unwrap_or v.number 0))) e
+
+-- It is refused as what is asked is, where its moment, its listed inputs and its number are those that are asked for.
+pub same_refusal : (v : ShowRequest) (p : Drawing) (s : Standing) (now n : ℕ) (coil : Option ℕ) (listed given : List ℕ) → coil_refusal p coil ≡ None → given ≡ listed
+    → now ≡ unwrap_or v.moment s.moment → n ≡ unwrap_or v.number 0 → broken_first v p s coil listed ≡ scan_refusal (question p s now 0 given) n
+same_refusal v p s now n coil listed given of_coil as_given at number =
+    ap (λ x. option_or x (scan_refusal (question p s (unwrap_or v.moment s.moment) 0 listed) (unwrap_or v.number 0))) of_coil
+    ∙ ap (λ xs. scan_refusal (question p s (unwrap_or v.moment s.moment) 0 xs) (unwrap_or v.number 0)) (sym as_given)
+    ∙ ap (λ t. scan_refusal (question p s t 0 given) (unwrap_or v.number 0)) (sym at)
+    ∙ ap (λ k. scan_refusal (question p s now 0 given) k) (sym number)
+
+-- What is drawn of it is what is asked.
+pub same_drawing : (g : Given) (v : ShowRequest) (p : Drawing) (s : Standing) (now n : ℕ) (coil : Option ℕ) (listed given text : List ℕ) (inputs image : List Bool) (style : Style)
+    (shown : List ℕ) → given ≡ listed → now ≡ unwrap_or v.moment s.moment → n ≡ unwrap_or v.number 0 → text ≡ g.program → image ≡ inputs
+    → inputs ≡ assignment (diagram_of p).inputs given n s.held.values → style ≡ style_for v.medium
+    → IsDrawn style (one_scan text p s image now coil) shown → IsDrawn (style_for v.medium) (shown_scan g v p s coil listed) shown
+same_drawing g v p s now n coil listed given text inputs image style shown as_given at number same read made by drawn =
+    let flags = (diagram_of p).inputs in
+    let values : image ≡ assignment flags listed (unwrap_or v.number 0) s.held.values =
+    read ∙ made ∙ ap (λ xs. assignment flags xs n s.held.values) as_given ∙ ap (λ k. assignment flags listed k s.held.values) number in
+    let scan : one_scan text p s image now coil ≡ shown_scan g v p s coil listed =
+    ap (λ t. one_scan t p s image now coil) same ∙ ap (λ xs. one_scan g.program p s xs now coil) values
+    ∙ ap (λ t. one_scan g.program p s (assignment flags listed (unwrap_or v.number 0) s.held.values) t coil) at in
+    subst (λ (x : OneScan). IsDrawn (style_for v.medium) x shown) scan (subst (λ (x : Style). IsDrawn x (one_scan text p s image now coil) shown) by drawn)
+
+pub same_stimulus : (p : Drawing) (s t : Standing) (a b : List ℕ) (old new : WriteLog) (r : Result ℕ SimFault) → a ≡ b
+    → Simulates p s (records_of a) t old new r → Simulates p s (records_of b) t old new r
+same_stimulus p s t a b old new r e h = rw e at h
+
+pub same_film : (film : Film) (p : Drawing) (s t : Standing) (a b : List ℕ) (old new : WriteLog) (r : Result ℕ SimFault) → a ≡ b
+    → Films film p s (records_of a) t old new r → Films film p s (records_of b) t old new r
+same_film film p s t a b old new r e h = rw e at h
+
+pub same_waves : (p : Drawing) (s t : Standing) (a b : List ℕ) (old new : WriteLog) (r : Result ℕ SimFault) → a ≡ b
+    → Waves p s (records_of a) t old new r → Waves p s (records_of b) t old new r
+same_waves p s t a b old new r e h = rw e at h

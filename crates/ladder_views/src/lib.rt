@@ -1,0 +1,14 @@
+//! What a request does for a text about the program, the drawing of a scan, or what is written of a simulation.
+#![tactic(auto)]
+
+mod filming;
+mod printing;
+mod showing;
+mod tracing;
+mod waving;
+
+pub use filming::film;
+pub use printing::{About, print};
+pub use showing::show;
+pub use tracing::trace;
+pub use waving::wave;

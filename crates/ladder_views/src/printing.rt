@@ -1,0 +1,86 @@
+//! A request for a text about a program alone: its check or its cross-reference.
+
+ghost use Rattle.std.specs.Prelude.{◌≡◌, ◌≤◌, ◌⊎◌};
+ghost use Rattle.ladder_setting.specs.Setting.{given_by};
+ghost use Rattle.ladder_text.specs.Log.{Puts, PutsAll, PutsPrefix, WriteLog};
+ghost use Rattle.ladder_setting.specs.Setting.{HasProgramFault};
+ghost use Rattle.ladder_views.specs.About.{about_text};
+ghost use Rattle.ladder_setting.specs.Reports.{Refuses, IsReported, logs};
+ghost use Rattle.ladder_views.specs.Views.{Prints, check_line, check_text};
+
+use ladder_grid::{Program, read_program};
+use ladder_setting::{Texts, ToolFault, report};
+use ladder_text::{Piece, Sink, WriteFault, put_pieces};
+use ladder_uses::write_uses;
+use ladder_warnings::write_warnings;
+use std::alloc::Global;
+
+/// Which text about a program.
+#[derive(Clone, Copy)]
+pub enum About {
+    /// How many rungs, variables and instances it has, and what it is warned of.
+    Check { warns: bool },
+    /// Where each variable and each instance is drawn.
+    Uses,
+}
+
+fn put_counts<O: Sink>(program: &Program, out: &mut O) -> Result<(), WriteFault>
+    ensures { Puts (O.log out.old) (O.log out.new) result (check_line program.now) }
+{
+    let decls = program.decls();
+    let pieces = [
+        Piece::Text(b"rungs "),
+        Piece::Number(program.rungs() as u64),
+        Piece::Text(b" variables "),
+        Piece::Number(decls.vars().len() as u64),
+        Piece::Text(b" instances "),
+        Piece::Number(decls.instances().len() as u64),
+        Piece::Text(b"\n"),
+    ];
+    put_pieces(out, pieces.as_slice())
+}
+
+fn put_check<O: Sink>(warns: bool, program: &Program, out: &mut O) -> Result<(), WriteFault>
+    ensures { Puts (O.log out.old) (O.log out.new) result (check_text warns program.now) }
+{
+    put_counts(program, out)?;
+    if warns {
+        write_warnings(program, out)?;
+    }
+    Ok(())
+}
+
+fn put_about<O: Sink>(about: About, program: &Program, out: &mut O) -> Result<(), WriteFault>
+    ensures { Puts (O.log out.old) (O.log out.new) result (about_text about program.now) }
+{
+    match about {
+        About::Check { warns } => put_check(warns, program, out),
+        About::Uses => match write_uses(program, out) {
+            Ok(_) => Ok(()),
+            Err(fault) => Err(fault),
+        },
+    }
+}
+
+/// Reads the program, and writes the text about it.
+pub fn print<O: Sink, E: Sink>(
+    alloc: Global,
+    about: About,
+    texts: &Texts,
+    out: &mut O,
+    err: &mut E,
+) -> u8
+    ensures status { result ≤ 1 }
+    ensures done { result ≡ 0 → Prints (about_text about) (given_by texts.now).program (PutsAll (O.log out.old) (O.log out.new)) × (E.log err.new ≡ E.log err.old) }
+    ensures failed { (save : WriteLog) → result ≡ 1 → Refuses (given_by texts.now) (HasProgramFault (given_by texts.now).program) (logs (O.log out.old) save (E.log err.old)) (logs (O.log out.new) save (E.log err.new))
+        ⊎ (Prints (about_text about) (given_by texts.now).program (PutsPrefix (O.log out.old) (O.log out.new)) × IsReported (given_by texts.now) (E.log err.old) (E.log err.new) ToolFault.Write) }
+{
+    let program = match read_program(alloc, &texts.program) {
+        Ok(program) => program,
+        Err(fault) => return report(texts, &ToolFault::Grid(fault), err),
+    };
+    let Ok(()) = put_about(about, &program, out) else {
+        return report(texts, &ToolFault::Write, err);
+    };
+    0
+}

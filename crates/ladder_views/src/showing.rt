@@ -1,0 +1,118 @@
+//! A request for the drawing with the power flow of one scan.
+
+ghost use Rattle.std.specs.Prelude.{◌≡◌, ◌≤◌, ◌⊎◌};
+ghost use Rattle.ladder_scan.specs.Standing.{Fits};
+ghost use Rattle.ladder_text.specs.Log.{PutsAll, PutsPrefix, WriteLog};
+ghost use Rattle.ladder_setting.specs.Reports.{IsReported, Refuses, logs};
+ghost use Rattle.ladder_views.specs.Views.{HasShowFault, Shows, coil_refusal, style_for};
+ghost use Rattle.ladder_setting.specs.Setting.{IsSet, given_by};
+
+use ladder_grid::Program;
+use ladder_questions::{CauseFault, assignment};
+use ladder_scan::State;
+use ladder_setting::{Texts, ToolFault, moment, read_setting, report, shown_variables};
+use ladder_show::{Scan, ShowFault, Style, write_drawing};
+use ladder_text::Sink;
+use ladder_words::{Medium, ShowRequest};
+use std::alloc::Global;
+
+/// The style of a drawing.
+fn style_for(medium: Medium) -> Style
+    ensures { result ≡ style_for medium }
+{
+    match medium {
+        Medium::Text => Style::Marked,
+        Medium::Page => Style::Page,
+    }
+}
+
+/// Whether the variable that is explained is that of a coil.
+pub(crate) fn coil_refusal(program: &Program, coil: Option<usize>) -> Option<CauseFault>
+    ensures { result ≡ coil_refusal program.now coil }
+{
+    match coil {
+        Some(var) => {
+            if program.has_coil(var) {
+                None
+            } else {
+                Some(CauseFault::NotACoil)
+            }
+        }
+        None => None,
+    }
+}
+
+/// Shows one scan in a state.
+fn show_from<O: Sink, E: Sink>(
+    alloc: Global,
+    request: &ShowRequest,
+    program: &Program,
+    state: &mut State,
+    texts: &Texts,
+    out: &mut O,
+    err: &mut E,
+) -> u8
+    requires fits { Fits program.now state.old }
+    requires set { IsSet (given_by texts.now) program.now state.old }
+    ensures status { result ≤ 1 }
+    ensures done { result ≡ 0 → Shows (given_by texts.now) request.now (PutsAll (O.log out.old) (O.log out.new)) × (E.log err.new ≡ E.log err.old) }
+    ensures failed { (save : WriteLog) → result ≡ 1
+        → Refuses (given_by texts.now) (HasShowFault (given_by texts.now) request.now) (logs (O.log out.old) save (E.log err.old)) (logs (O.log out.new) save (E.log err.new))
+        ⊎ (Shows (given_by texts.now) request.now (PutsPrefix (O.log out.old) (O.log out.new)) × IsReported (given_by texts.now) (E.log err.old) (E.log err.new) ToolFault.Write) }
+{
+    let asked = match shown_variables(
+        alloc,
+        program.decls(),
+        &request.coil,
+        request.all_inputs,
+        &request.inputs,
+    ) {
+        Ok(asked) => asked,
+        Err(fault) => return report(texts, &fault, err),
+    };
+    match coil_refusal(program, asked.coil) {
+        Some(fault) => return report(texts, &ToolFault::Cause(fault), err),
+        None => (),
+    }
+    let now = moment(request.moment, state.moment());
+    let number = request.number.unwrap_or(0);
+    let inputs = match assignment(alloc, program, state, now, &asked.inputs, number) {
+        Ok(inputs) => inputs,
+        Err(fault) => return report(texts, &ToolFault::Cause(fault), err),
+    };
+    let scan = Scan {
+        text: &texts.program,
+        program,
+        inputs: &inputs,
+        moment: now,
+        coil: asked.coil,
+    };
+    match write_drawing(alloc, style_for(request.medium), scan, state, out) {
+        Ok(()) => 0,
+        Err(ShowFault::Memory) => report(texts, &ToolFault::Memory, err),
+        Err(ShowFault::Write) => report(texts, &ToolFault::Write, err),
+    }
+}
+
+/// Shows one scan in the state of the texts.
+pub fn show<O: Sink, E: Sink>(
+    alloc: Global,
+    request: &ShowRequest,
+    texts: &Texts,
+    out: &mut O,
+    err: &mut E,
+) -> u8
+    ensures status { result ≤ 1 }
+    ensures done { result ≡ 0 → Shows (given_by texts.now) request.now (PutsAll (O.log out.old) (O.log out.new)) × (E.log err.new ≡ E.log err.old) }
+    ensures failed { (save : WriteLog) → result ≡ 1
+        → Refuses (given_by texts.now) (HasShowFault (given_by texts.now) request.now) (logs (O.log out.old) save (E.log err.old)) (logs (O.log out.new) save (E.log err.new))
+        ⊎ (Shows (given_by texts.now) request.now (PutsPrefix (O.log out.old) (O.log out.new)) × IsReported (given_by texts.now) (E.log err.old) (E.log err.new) ToolFault.Write) }
+{
+    match read_setting(alloc, texts) {
+        Ok(mut setting) => {
+            let (program, state) = (&setting.program, &mut setting.state);
+            show_from(alloc, request, program, state, texts, out, err)
+        }
+        Err(fault) => report(texts, &fault, err),
+    }
+}

@@ -1,0 +1,80 @@
+//! A request for the trace of a stimulus.
+
+ghost use Rattle.std.specs.Prelude.{◌≡◌, ◌≤◌, ◌⊎◌, [], OnErr, OnOk, true, unwrap_or};
+ghost use Rattle.ladder_scan.specs.Standing.{Fits};
+ghost use Rattle.ladder_state.specs.StateText.{state_text};
+ghost use Rattle.ladder_text.specs.Log.{PutsPrefix};
+ghost use Rattle.ladder_setting.specs.Reports.{Refuses, logs};
+ghost use Rattle.ladder_views.specs.Views.{BreaksTrace, IsSaved, IsTraced};
+ghost use Rattle.ladder_setting.specs.Setting.{HasSettingFault, given_by};
+
+use ladder_grid::Program;
+use ladder_scan::State;
+use ladder_setting::{Texts, ToolFault, read_setting, report};
+use ladder_state::write_state;
+use ladder_text::{Sink, WriteFault};
+use ladder_trace::simulate;
+use std::alloc::Global;
+
+/// Writes the state where it is to be saved.
+fn save_state<S: Sink>(
+    saves: bool,
+    program: &Program,
+    state: &State,
+    save: &mut S,
+) -> Result<(), WriteFault>
+    requires { Fits program.now state.now }
+    ensures saved { OnOk result (IsSaved saves (S.log save.old) (S.log save.new) program.now state.now) }
+    ensures asked { OnErr result (saves ≡ true) }
+    ensures broken { OnErr result (PutsPrefix (S.log save.old) (S.log save.new) (state_text program.now state.now)) }
+{
+    if saves {
+        return write_state(program, state, save);
+    }
+    Ok(())
+}
+
+/// The bytes of the stimulus; none where there is no text.
+pub(crate) fn stimulus(texts: &Texts) -> &[u8]
+    ensures { result.now ≡ unwrap_or (given_by texts.now).stimulus [] }
+{
+    match &texts.stimulus {
+        Some(text) => text,
+        None => &[],
+    }
+}
+
+/// Simulates the stimulus from the state of the texts, and saves the state after its last scan where that is asked for.
+pub fn trace<O: Sink, S: Sink, E: Sink>(
+    alloc: Global,
+    texts: &Texts,
+    saves: bool,
+    out: &mut O,
+    save: &mut S,
+    err: &mut E,
+) -> u8
+    ensures status { result ≤ 1 }
+    ensures done { result ≡ 0 → IsTraced (given_by texts.now) saves (logs (O.log out.old) (S.log save.old) (E.log err.old)) (logs (O.log out.new) (S.log save.new) (E.log err.new)) }
+    ensures failed { result ≡ 1
+        → Refuses (given_by texts.now) (HasSettingFault (given_by texts.now)) (logs (O.log out.old) (S.log save.old) (E.log err.old)) (logs (O.log out.new) (S.log save.new) (E.log err.new))
+        ⊎ BreaksTrace (given_by texts.now) saves (logs (O.log out.old) (S.log save.old) (E.log err.old)) (logs (O.log out.new) (S.log save.new) (E.log err.new)) }
+{
+    let mut setting = match read_setting(alloc, texts) {
+        Ok(setting) => setting,
+        Err(fault) => return report(texts, &fault, err),
+    };
+    let run = simulate(
+        alloc,
+        &setting.program,
+        &mut setting.state,
+        stimulus(texts),
+        out,
+    );
+    if let Err(fault) = run {
+        return report(texts, &ToolFault::Sim(fault), err);
+    }
+    let Ok(()) = save_state(saves, &setting.program, &setting.state, save) else {
+        return report(texts, &ToolFault::Write, err);
+    };
+    0
+}
