@@ -76,7 +76,7 @@ pub(crate) const AFTER_HELP: &str = "Lists the causes with a greater number than
 pub(crate) const LIMIT_HELP: &str = "Lists at most N rows";
 
 pub(crate) const SCANS_HELP: &str =
-    "Lists over N scans, at most 1000000, with the inputs held: each assignment after one of which the coil is ON, and the first such scan; not with --after or --grouped";
+    "Lists over N scans, at most 1000000, with the inputs held: each assignment after one of which the coil is ON, and the first such scan; not with --after";
 
 pub(crate) const FOR_HELP: &str =
     "In place of --scans: all scans up to MS after the first one, and at it";
@@ -112,4 +112,10 @@ pub(crate) const ORDER_HELP: &str =
     "With --grouped: `auto` looks for an order of the inputs with fewer groups, `given` keeps that of the list (as without it)";
 
 pub(crate) const ANY_HELP: &str =
-    "Lists what some state, at some moment, switches on: a row for each such assignment, marked ? where that isn't settled; not with --state, --at, --after, --scans, --for, --every or --grouped";
+    "Lists what some state, at some moment, switches on: a row for each such assignment, marked ? where that isn't settled; not with --state, --at, --after, --scans, --for or --every";
+
+pub(crate) const OFF_HELP: &str =
+    "With --any: counts only states in which the coil is OFF, so lists what can switch it ON; not with --must";
+
+pub(crate) const MUST_HELP: &str =
+    "With --any: lists what leaves the coil ON from every state, at every moment, in place of from some one";

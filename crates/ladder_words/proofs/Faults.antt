@@ -3,7 +3,7 @@ use Rattle.std.proofs.Common.{◌≡◌, ◌∙◌, ℕ, Bool, true, false, List
 use Rattle.std.specs.List.{list_all}
 use Rattle.clap.specs.Words.{Row, Text, all_of, first_of}
 use Rattle.ladder_pages.specs.Pages.{is_fault_code}
-use Rattle.ladder_words.specs.Asking.{Asks, AsksNone, HasEvery, HasNoTask, HasFlag, HasForm, HasInputs, HasLasting, HasNumber, HasOption, HasScans, HasSwitch, HasOrder, IsNamed, IsTable, MayHaveLimit, NamesList}
+use Rattle.ladder_words.specs.Asking.{Asks, AsksNone, HasEvery, HasNoTask, HasFlag, HasForm, HasInputs, HasLasting, HasNumber, HasOption, HasScans, HasStates, HasSwitch, HasOrder, IsNamed, IsOfOneState, MayHaveLimit, NamesList}
 use Rattle.ladder_words.specs.Parts.{HasGrouping, IsOfAnyState, IsOfOneScan, IsOfRecords, IsWhole, MayLast, NamesScan, Plays}
 use Rattle.ladder_words.specs.Faults.{UsageWhere}
 use Rattle.ladder_words.specs.declared.request.Form.{Form}
@@ -11,6 +11,8 @@ use Rattle.ladder_words.specs.declared.request.Form.TheVariants.{Statement, Tabl
 use Rattle.ladder_words.specs.declared.request.InputOrder.{InputOrder}
 use Rattle.ladder_words.specs.declared.request.InputOrder.TheVariants.{Given, Sifted}
 use Rattle.ladder_words.specs.declared.request.ListRequest.{ListRequest}
+use Rattle.ladder_words.specs.declared.request.States.{States}
+use Rattle.ladder_words.specs.declared.request.States.TheVariants as states
 use Rattle.ladder_words.specs.declared.words.Lasting.{Lasting}
 use Rattle.ladder_words.specs.declared.words.NamedScan.{NamedScan}
 use Rattle.ladder_words.specs.declared.request.Grouping.{Grouping}
@@ -50,7 +52,7 @@ name_differs same = ap (λ (name : List ℕ). get_or name 0 0) same
 explains_alone : (rows : List Row) → AsksNone (codes "explain") rows
 explains_alone rows (Check file warns) h = let other : 101 ≡ 99 = name_differs h.0 in absurd (omega (arith, other))
 explains_alone rows (Causes list after) h = let other : 101 ≡ 99 = name_differs h.0 in absurd (omega (arith, other))
-explains_alone rows (Held list scans every) h = let other : 101 ≡ 99 = name_differs h.0 in absurd (omega (arith, other))
+explains_alone rows (Held list scans every grouped) h = let other : 101 ≡ 99 = name_differs h.0 in absurd (omega (arith, other))
 explains_alone rows (Groups list grouping) h = let other : 101 ≡ 99 = name_differs h.0 in absurd (omega (arith, other))
 explains_alone rows (Possible r) h = let other : 101 ≡ 99 = name_differs h.0 in absurd (omega (arith, other))
 explains_alone rows (Show r) h = let other : 101 ≡ 115 = name_differs h.0 in absurd (omega (arith, other))
@@ -84,7 +86,7 @@ no_line name rows differs none (Explain other) h = differs h.0
 pub no_check : (rows : List Row) → first_of (codes "file") rows ≡ None → AsksNone (codes "check") rows
 no_check rows none (Check file warns) h = let some = h.1 in cc
 no_check rows none (Causes list after) h = let other = h.0 in cc
-no_check rows none (Held list scans every) h = let other = h.0 in cc
+no_check rows none (Held list scans every grouped) h = let other = h.0 in cc
 no_check rows none (Groups list grouping) h = let other = h.0 in cc
 no_check rows none (Possible r) h = let other = h.0 in cc
 no_check rows none (Show r) h = let other = h.0 in cc
@@ -96,13 +98,13 @@ no_check rows none (Never r) h = let other : 99 ≡ 110 = ap (λ (name : List �
 
 pub only_causes : (rows : List Row)
     → ((list : ListRequest) (after : Option ℕ) → Asks (codes "causes") rows (Causes list after) → ⊥)
-    → ((list : ListRequest) (scans every : ℕ) → Asks (codes "causes") rows (Held list scans every) → ⊥)
+    → ((list : ListRequest) (scans every : ℕ) (grouped : Bool) → Asks (codes "causes") rows (Held list scans every grouped) → ⊥)
     → ((list : ListRequest) (grouping : Grouping) → Asks (codes "causes") rows (Groups list grouping) → ⊥)
     → ((r : PossibleRequest) → Asks (codes "causes") rows (Possible r) → ⊥)
     → AsksNone (codes "causes") rows
 only_causes rows causes held groups possible (Check file warns) h = let other = h.0 in cc
 only_causes rows causes held groups possible (Causes list after) h = causes list after h
-only_causes rows causes held groups possible (Held list scans every) h = held list scans every h
+only_causes rows causes held groups possible (Held list scans every grouped) h = held list scans every grouped h
 only_causes rows causes held groups possible (Groups list grouping) h = groups list grouping h
 only_causes rows causes held groups possible (Possible r) h = possible r h
 only_causes rows causes held groups possible (Show r) h = let other = h.0 in cc
@@ -115,14 +117,19 @@ only_causes rows causes held groups possible (Never r) h = let other : 99 ≡ 11
 -- What some state switches on is asked for by a flag, and the other lists without it.
 only_possible : (rows : List Row) → HasFlag (codes "any") rows → ((r : PossibleRequest) → Asks (codes "causes") rows (Possible r) → ⊥)
     → AsksNone (codes "causes") rows
-only_possible rows any none = only_causes rows (λ list after h. h.7 any) (λ list scans every h. h.6 any) (λ list grouping h. h.10 any) none
+only_possible rows any none = only_causes rows (λ list after h. h.7.0 any) (λ list scans every grouped h. h.8.0 any) (λ list grouping h. h.10.0 any) none
 
-only_of_one_state : (rows : List Row) → (HasFlag (codes "any") rows → ⊥)
+only_of_one_state : (rows : List Row) → IsOfOneState rows
     → ((list : ListRequest) (after : Option ℕ) → Asks (codes "causes") rows (Causes list after) → ⊥)
-    → ((list : ListRequest) (scans every : ℕ) → Asks (codes "causes") rows (Held list scans every) → ⊥)
+    → ((list : ListRequest) (scans every : ℕ) (grouped : Bool) → Asks (codes "causes") rows (Held list scans every grouped) → ⊥)
     → ((list : ListRequest) (grouping : Grouping) → Asks (codes "causes") rows (Groups list grouping) → ⊥)
     → AsksNone (codes "causes") rows
-only_of_one_state rows one_state causes held groups = only_causes rows causes held groups (λ r h. one_state h.1)
+only_of_one_state rows one_state causes held groups = only_causes rows causes held groups (λ r h. one_state.0 h.1)
+
+-- Which states are meant is said of any state alone.
+pub no_one_state : (rows : List Row) → (HasFlag (codes "any") rows → ⊥) → (HasStates states.Some rows → ⊥) → AsksNone (codes "causes") rows
+no_one_state rows not_any none =
+    only_causes rows (λ list after h. none (h.7.1, h.7.2)) (λ list scans every grouped h. none (h.8.1, h.8.2)) (λ list grouping h. none (h.10.1, h.10.2)) (λ r h. not_any h.1)
 
 pub only_show : (rows : List Row)
     → ((r : ShowRequest) → Asks (codes "show") rows (Show r) → ⊥)
@@ -130,7 +137,7 @@ pub only_show : (rows : List Row)
     → AsksNone (codes "show") rows
 only_show rows show film (Check file warns) h = let other = h.0 in cc
 only_show rows show film (Causes list after) h = let other = h.0 in cc
-only_show rows show film (Held list scans every) h = let other = h.0 in cc
+only_show rows show film (Held list scans every grouped) h = let other = h.0 in cc
 only_show rows show film (Groups list grouping) h = let other = h.0 in cc
 only_show rows show film (Possible r) h = let other = h.0 in cc
 only_show rows show film (Show r) h = show r h
@@ -146,7 +153,7 @@ pub only_sim : (rows : List Row)
     → AsksNone (codes "sim") rows
 only_sim rows sim waves (Check file warns) h = let other = h.0 in cc
 only_sim rows sim waves (Causes list after) h = let other = h.0 in cc
-only_sim rows sim waves (Held list scans every) h = let other = h.0 in cc
+only_sim rows sim waves (Held list scans every grouped) h = let other = h.0 in cc
 only_sim rows sim waves (Groups list grouping) h = let other = h.0 in cc
 only_sim rows sim waves (Possible r) h = let other = h.0 in cc
 only_sim rows sim waves (Show r) h = let other = h.0 in cc
@@ -159,7 +166,7 @@ only_sim rows sim waves (Never r) h = let other : 115 ≡ 110 = ap (λ (name : L
 pub no_uses : (rows : List Row) → first_of (codes "file") rows ≡ None → AsksNone (codes "uses") rows
 no_uses rows none (Check file warns) h = let other = h.0 in cc
 no_uses rows none (Causes list after) h = let other = h.0 in cc
-no_uses rows none (Held list scans every) h = let other = h.0 in cc
+no_uses rows none (Held list scans every grouped) h = let other = h.0 in cc
 no_uses rows none (Groups list grouping) h = let other = h.0 in cc
 no_uses rows none (Possible r) h = let other = h.0 in cc
 no_uses rows none (Show r) h = let other : 117 ≡ 115 = ap (λ (name : List ℕ). get_or name 0 0) h.0 in absurd (omega (arith, other))
@@ -174,7 +181,7 @@ pub only_never : (rows : List Row)
     → AsksNone (codes "never") rows
 only_never rows never (Check file warns) h = let other : 110 ≡ 99 = ap (λ (name : List ℕ). get_or name 0 0) h.0 in absurd (omega (arith, other))
 only_never rows never (Causes list after) h = let other : 110 ≡ 99 = ap (λ (name : List ℕ). get_or name 0 0) h.0 in absurd (omega (arith, other))
-only_never rows never (Held list scans every) h = let other : 110 ≡ 99 = ap (λ (name : List ℕ). get_or name 0 0) h.0 in absurd (omega (arith, other))
+only_never rows never (Held list scans every grouped) h = let other : 110 ≡ 99 = ap (λ (name : List ℕ). get_or name 0 0) h.0 in absurd (omega (arith, other))
 only_never rows never (Groups list grouping) h = let other : 110 ≡ 99 = ap (λ (name : List ℕ). get_or name 0 0) h.0 in absurd (omega (arith, other))
 only_never rows never (Possible r) h = let other : 110 ≡ 99 = ap (λ (name : List ℕ). get_or name 0 0) h.0 in absurd (omega (arith, other))
 only_never rows never (Show r) h = let other : 110 ≡ 115 = ap (λ (name : List ℕ). get_or name 0 0) h.0 in absurd (omega (arith, other))
@@ -184,57 +191,69 @@ only_never rows never (Waves r) h = let other : 110 ≡ 115 = ap (λ (name : Lis
 only_never rows never (Uses file) h = let other : 110 ≡ 117 = ap (λ (name : List ℕ). get_or name 0 0) h.0 in absurd (omega (arith, other))
 only_never rows never (Never r) h = never r h
 
--- a table of causes
-pub no_table_of_grouping : (rows : List Row) → (HasFlag (codes "any") rows → ⊥) → (HasFlag (codes "grouped") rows → ⊥) → (HasForm Table rows → HasOrder Given rows → ⊥) → AsksNone (codes "causes") rows
-no_table_of_grouping rows one_state single none =
-    only_of_one_state rows one_state (λ list after h. none h.1.1 h.1.2) (λ list scans every h. none h.1.1 h.1.2) (λ list grouping h. single h.1)
-
 lasts : (rows : List Row) (scans every : ℕ) → HasScans scans every rows → (o : Option Lasting) × MayLast o rows
 lasts rows scans every (inl h) = (Some (Count scans), h)
 lasts rows scans every (inr h) = (Some (Until h.1.0), (h.0, h.1.1))
 
-pub no_table_of_lasting : (rows : List Row) → (HasFlag (codes "any") rows → ⊥) → (HasFlag (codes "grouped") rows → ⊥) → ((o : Option Lasting) → MayLast o rows → ⊥) → AsksNone (codes "causes") rows
-no_table_of_lasting rows one_state single none =
-    only_of_one_state rows one_state (λ list after h. none None (h.2, h.3)) (λ list scans every h. let l = lasts rows scans every h.2 in none l.0 l.1) (λ list grouping h. single h.1)
+-- one scan, or several
+pub no_lasting : (rows : List Row) → IsOfOneState rows → ((o : Option Lasting) → MayLast o rows → ⊥) → AsksNone (codes "causes") rows
+no_lasting rows one_state none =
+    only_of_one_state rows one_state (λ list after h. none None (h.2, h.3)) (λ list scans every grouped h. let l = lasts rows scans every h.4 in none l.0 l.1)
+    (λ list grouping h. none None (h.4, h.5))
 
 not_several : (rows : List Row) (scans every : ℕ) → MayLast None rows → HasScans scans every rows → ⊥
 not_several rows scans every none (inl h) = let some = h.0.1 in let no = none.0 in cc
 not_several rows scans every none (inr h) = let some = h.1.1.1 in let no = none.1 in cc
 
+-- Without groups a list of one scan has a row for each cause, and no form and order of groups.
+pub no_list_of_grouping : (rows : List Row) → IsOfOneState rows → (HasFlag (codes "grouped") rows → ⊥) → MayLast None rows
+    → (HasForm Table rows → HasOrder Given rows → ⊥) → AsksNone (codes "causes") rows
+no_list_of_grouping rows one_state single one none =
+    only_of_one_state rows one_state (λ list after h. none h.1.1 h.1.2) (λ list scans every grouped h. not_several rows scans every one h.4) (λ list grouping h. single h.1)
+
 -- One scan has none that follows.
-pub no_list_of_every : (rows : List Row) → (HasFlag (codes "any") rows → ⊥) → IsTable rows → MayLast None rows → (HasNumber (codes "every") rows None → ⊥) → AsksNone (codes "causes") rows
-no_list_of_every rows one_state table one none =
-    only_of_one_state rows one_state (λ list after h. none h.4) (λ list scans every h. not_several rows scans every one h.2) (λ list grouping h. table.0 h.1)
+pub no_list_of_every : (rows : List Row) → IsOfOneState rows → (HasFlag (codes "grouped") rows → ⊥) → MayLast None rows → (HasNumber (codes "every") rows None → ⊥)
+    → AsksNone (codes "causes") rows
+no_list_of_every rows one_state single one none =
+    only_of_one_state rows one_state (λ list after h. none h.4) (λ list scans every grouped h. not_several rows scans every one h.4) (λ list grouping h. single h.1)
 
-pub no_list_of_start : (rows : List Row) → (HasFlag (codes "any") rows → ⊥) → ((o : Option ℕ) → HasNumber (codes "after") rows o → ⊥) → AsksNone (codes "causes") rows
+pub no_list_of_start : (rows : List Row) → IsOfOneState rows → ((o : Option ℕ) → HasNumber (codes "after") rows o → ⊥) → AsksNone (codes "causes") rows
 no_list_of_start rows one_state none =
-    only_of_one_state rows one_state (λ list after h. none after h.5) (λ list scans every h. none None h.4) (λ list grouping h. none None h.7)
+    only_of_one_state rows one_state (λ list after h. none after h.5) (λ list scans every grouped h. none None h.6) (λ list grouping h. none None h.7)
 
-pub no_causes_of_list : (rows : List Row) → (HasFlag (codes "any") rows → ⊥) → ((l : ListRequest) → NamesList rows l → ⊥) → AsksNone (codes "causes") rows
+pub no_causes_of_list : (rows : List Row) → IsOfOneState rows → ((l : ListRequest) → NamesList rows l → ⊥) → AsksNone (codes "causes") rows
 no_causes_of_list rows one_state none =
-    only_of_one_state rows one_state (λ list after h. none list h.6) (λ list scans every h. none list h.5) (λ list grouping h. none list h.9)
+    only_of_one_state rows one_state (λ list after h. none list h.6) (λ list scans every grouped h. none list h.7) (λ list grouping h. none list h.9)
 
 given_at_all : (rows : List Row) (l : Lasting) → HasLasting l rows → HasNumber (codes "scans") rows None → HasNumber (codes "for") rows None → ⊥
 given_at_all rows (Count n) h none no_time = let given = h.0.1 in cc
 given_at_all rows (Until time) h none no_time = let given = h.1.1 in cc
 
 -- several scans, whose list begins after no number
-pub no_held_of_start : (rows : List Row) → (HasFlag (codes "any") rows → ⊥) → (l : Lasting) → HasLasting l rows → (HasNumber (codes "after") rows None → ⊥) → AsksNone (codes "causes") rows
+pub no_held_of_start : (rows : List Row) → IsOfOneState rows → (l : Lasting) → HasLasting l rows → (HasNumber (codes "after") rows None → ⊥) → AsksNone (codes "causes") rows
 no_held_of_start rows one_state l some none =
-    only_of_one_state rows one_state (λ list after h. given_at_all rows l some h.2 h.3) (λ list scans every h. none h.4) (λ list grouping h. none h.7)
+    only_of_one_state rows one_state (λ list after h. given_at_all rows l some h.2 h.3) (λ list scans every grouped h. none h.6) (λ list grouping h. none h.7)
+
+-- Their groups have one form, and the inputs the order in which they are listed.
+pub no_held_of_grouping : (rows : List Row) → IsOfOneState rows → (l : Lasting) → HasLasting l rows → (HasForm Table rows → HasOrder Given rows → ⊥) → AsksNone (codes "causes") rows
+no_held_of_grouping rows one_state l some none =
+    only_of_one_state rows one_state (λ list after h. given_at_all rows l some h.2 h.3) (λ list scans every grouped h. none h.2 h.3)
+    (λ list grouping h. given_at_all rows l some h.4 h.5)
 
 pub no_every : (rows : List Row) → ((o : Option ℕ) → HasNumber (codes "every") rows o → ⊥) → (every : ℕ) → HasEvery every rows → ⊥
 no_every rows none every (inl h) = none (Some every) h
 no_every rows none every (inr h) = none None h.0
 
 -- The period is asked for beside several scans alone.
-pub no_held_of_every : (rows : List Row) → (HasFlag (codes "any") rows → ⊥) → (l : Lasting) → HasLasting l rows → ((every : ℕ) → HasEvery every rows → ⊥) → AsksNone (codes "causes") rows
+pub no_held_of_every : (rows : List Row) → IsOfOneState rows → (l : Lasting) → HasLasting l rows → ((every : ℕ) → HasEvery every rows → ⊥) → AsksNone (codes "causes") rows
 no_held_of_every rows one_state l some none =
-    only_of_one_state rows one_state (λ list after h. given_at_all rows l some h.2 h.3) (λ list scans every h. none every h.3) (λ list grouping h. given_at_all rows l some h.4 h.5)
+    only_of_one_state rows one_state (λ list after h. given_at_all rows l some h.2 h.3) (λ list scans every grouped h. none every h.5)
+    (λ list grouping h. given_at_all rows l some h.4 h.5)
 
-pub no_groups_of_scan : (rows : List Row) → (HasFlag (codes "any") rows → ⊥) → HasFlag (codes "grouped") rows → (IsOfOneScan rows → ⊥) → AsksNone (codes "causes") rows
-no_groups_of_scan rows one_state grouped none =
-    only_of_one_state rows one_state (λ list after h. h.1.0 grouped) (λ list scans every h. h.1.0 grouped) (λ list grouping h. none (h.4, h.5, h.6, h.7))
+pub no_groups_of_scan : (rows : List Row) → IsOfOneState rows → HasFlag (codes "grouped") rows → MayLast None rows → (IsOfOneScan rows → ⊥) → AsksNone (codes "causes") rows
+no_groups_of_scan rows one_state grouped one none =
+    only_of_one_state rows one_state (λ list after h. h.1.0 grouped) (λ list scans every held h. not_several rows scans every one h.4)
+    (λ list grouping h. none (h.4, h.5, h.6, h.7))
 
 -- A statement has no limit, so a list of its groups has none.
 pub may_have_limit : (rows : List Row) (form : Form) (limit : Option ℕ) → IsWhole form rows → HasNumber (codes "limit") rows limit → MayHaveLimit form limit
@@ -249,17 +268,21 @@ is_whole rows Terms limit may h = tt
 is_whole rows Statement None may h = h
 is_whole rows Statement (Some n) may h = cc
 
-pub no_groups_of_grouping : (rows : List Row) → (HasFlag (codes "any") rows → ⊥) → HasFlag (codes "grouped") rows → ((g : Grouping) → HasGrouping rows g → ⊥) → AsksNone (codes "causes") rows
-no_groups_of_grouping rows one_state grouped none =
-    only_of_one_state rows one_state (λ list after h. h.1.0 grouped) (λ list scans every h. h.1.0 grouped)
+pub no_groups_of_grouping : (rows : List Row) → IsOfOneState rows → HasFlag (codes "grouped") rows → MayLast None rows → ((g : Grouping) → HasGrouping rows g → ⊥)
+    → AsksNone (codes "causes") rows
+no_groups_of_grouping rows one_state grouped one none =
+    only_of_one_state rows one_state (λ list after h. h.1.0 grouped) (λ list scans every held h. not_several rows scans every one h.4)
     (λ list grouping h. none grouping (h.2, h.3, is_whole rows grouping.form list.limit h.8 h.9.2))
 
 -- what some state switches on
 pub no_possible_of_bound : (rows : List Row) → HasFlag (codes "any") rows → (IsOfAnyState rows → ⊥) → AsksNone (codes "causes") rows
-no_possible_of_bound rows any none = only_possible rows any (λ r h. none (h.2, h.3, h.4.0, (h.5, h.6, h.7, h.8)))
+no_possible_of_bound rows any none = only_possible rows any (λ r h. none (h.3, h.4, (h.8, h.9, h.10, h.11)))
+
+pub no_possible_of_states : (rows : List Row) → HasFlag (codes "any") rows → ((s : States) → HasStates s rows → ⊥) → AsksNone (codes "causes") rows
+no_possible_of_states rows any none = only_possible rows any (λ r h. none r.states h.2)
 
 pub no_possible_of_grouping : (rows : List Row) → HasFlag (codes "any") rows → (HasForm Table rows → HasOrder Given rows → ⊥) → AsksNone (codes "causes") rows
-no_possible_of_grouping rows any none = only_possible rows any (λ r h. none h.4.1 h.4.2)
+no_possible_of_grouping rows any none = only_possible rows any (λ r h. none h.6 h.7)
 
 pub no_possible_of_list : (rows : List Row) → HasFlag (codes "any") rows → ((l : ListRequest) → NamesList rows l → ⊥) → AsksNone (codes "causes") rows
 no_possible_of_list rows any none =
@@ -267,7 +290,7 @@ no_possible_of_list rows any none =
     (λ r h.
     none
     (record { state = None; moment = None; limit = r.limit; quiet = r.quiet; file = r.file; coil = r.coil; all_inputs = r.all_inputs; inputs = r.inputs })
-    (h.2, h.3, h.9, h.10, h.11, h.12, h.13))
+    (h.3, h.4, h.12, h.13, h.14, h.15, h.16))
 
 -- One form is asked for.
 one_form : (rows : List Row) (a b : Form) → HasForm a rows → HasForm b rows → a ≡ b
@@ -393,3 +416,9 @@ pub no_inputs : (rows : List Row) (names : List Text) → HasSwitch (codes "all-
 no_inputs rows names flag named some all other h =
     let same = one_switch (codes "all-inputs") rows true all flag h.flag in
     some (sym named ∙ h.named ∙ h.either (sym same))
+
+-- Both flags of states are not asked for.
+pub no_states_of_both : (rows : List Row) → HasFlag (codes "off") rows → HasFlag (codes "must") rows → (s : States) → HasStates s rows → ⊥
+no_states_of_both rows off must states.Some h = h.0 off
+no_states_of_both rows off must states.SomeOff h = h.1 must
+no_states_of_both rows off must states.Every h = h.0 off

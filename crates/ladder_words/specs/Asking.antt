@@ -16,6 +16,8 @@ use Rattle.ladder_words.specs.declared.request.Medium.{Medium}
 use Rattle.ladder_words.specs.declared.request.Medium.TheVariants as medium
 use Rattle.ladder_words.specs.declared.request.CommandLine.{CommandLine}
 use Rattle.ladder_words.specs.declared.request.ListRequest.{ListRequest}
+use Rattle.ladder_words.specs.declared.request.States.{States}
+use Rattle.ladder_words.specs.declared.request.States.TheVariants as states
 use Rattle.ladder_words.specs.declared.request.Request.{Request}
 use Rattle.ladder_words.specs.declared.request.Request.TheVariants.{Causes, Check, Film, Groups, Held, Never, Possible, Show, Sim, Uses, Waves}
 use Rattle.ladder_words.specs.declared.request.Task.{Task}
@@ -63,6 +65,16 @@ IsNamed name Sifted = name ≡ codes "auto"
 abbrev pub HasOrder : InputOrder → List Row → Type 0
 HasOrder order rows = ((first_of (codes "order") rows ≡ None) × (order ≡ Given))
     ⊎ (name : List ℕ) × HasText (codes "order") rows name × IsNamed name order
+
+-- One state is asked of: no flag says that any is, or which.
+abbrev pub IsOfOneState : List Row → Type 0
+IsOfOneState rows = (HasFlag (codes "any") rows → ⊥) × (HasFlag (codes "off") rows → ⊥) × (HasFlag (codes "must") rows → ⊥)
+
+-- from which states an assignment is to leave the coil ON: from some one where no flag says otherwise
+abbrev pub HasStates : States → List Row → Type 0
+HasStates states.Some rows = (HasFlag (codes "off") rows → ⊥) × (HasFlag (codes "must") rows → ⊥)
+HasStates states.SomeOff rows = HasFlag (codes "off") rows × (HasFlag (codes "must") rows → ⊥)
+HasStates states.Every rows = (HasFlag (codes "off") rows → ⊥) × HasFlag (codes "must") rows
 
 -- A statement is written whole or not at all.
 abbrev pub MayHaveLimit : Form → Option ℕ → Type 0
@@ -118,14 +130,16 @@ Asks name rows (Causes list after) = (name ≡ codes "causes")
     × HasNumber (codes "every") rows None
     × HasNumber (codes "after") rows after
     × NamesList rows list
-    × (HasFlag (codes "any") rows → ⊥)
-Asks name rows (Held list scans every) = (name ≡ codes "causes")
-    × IsTable rows
+    × IsOfOneState rows
+Asks name rows (Held list scans every grouped) = (name ≡ codes "causes")
+    × HasSwitch (codes "grouped") rows grouped
+    × HasForm Table rows
+    × HasOrder Given rows
     × HasScans scans every rows
     × HasEvery every rows
     × HasNumber (codes "after") rows None
     × NamesList rows list
-    × (HasFlag (codes "any") rows → ⊥)
+    × IsOfOneState rows
 Asks name rows (Groups list grouping) = (name ≡ codes "causes")
     × HasFlag (codes "grouped") rows
     × HasForm grouping.form rows
@@ -136,12 +150,15 @@ Asks name rows (Groups list grouping) = (name ≡ codes "causes")
     × HasNumber (codes "after") rows None
     × MayHaveLimit grouping.form list.limit
     × NamesList rows list
-    × (HasFlag (codes "any") rows → ⊥)
+    × IsOfOneState rows
 Asks name rows (Possible r) = (name ≡ codes "causes")
     × HasFlag (codes "any") rows
+    × HasStates r.states rows
     × HasOption (codes "state") rows None
     × HasNumber (codes "at") rows None
-    × IsTable rows
+    × HasSwitch (codes "grouped") rows r.grouped
+    × HasForm Table rows
+    × HasOrder Given rows
     × HasNumber (codes "scans") rows None
     × HasNumber (codes "for") rows None
     × HasNumber (codes "every") rows None

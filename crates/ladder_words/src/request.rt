@@ -31,6 +31,17 @@ pub struct Grouping {
     pub order: InputOrder,
 }
 
+/// The states from which an assignment leaves the coil ON, where it has a row in a list of any state.
+#[derive(Clone, Copy, Debug, PartialEq, Eq)]
+pub enum States {
+    /// Some state.
+    Some,
+    /// Some state in which the coil is OFF.
+    SomeOff,
+    /// Every state.
+    Every,
+}
+
 /// How a drawing is written.
 #[derive(Clone, Copy, Debug, PartialEq, Eq)]
 pub enum Medium {
@@ -61,9 +72,13 @@ pub struct ListRequest {
     pub inputs: Vec<String>,
 }
 
-/// What a request for what is possible from some state names: the coil and the inputs, and how the list is written.
+/// What a request for a list of any state names: the states, the coil and the inputs, and how the list is written.
 #[derive(Drop)]
 pub struct PossibleRequest {
+    /// From which states an assignment leaves the coil ON, where it has a row.
+    pub states: States,
+    /// Whether rows are those of groups, with the inputs that don't matter in each.
+    pub grouped: bool,
     /// How many rows are written at most.
     pub limit: Option<u64>,
     /// Whether the line of counts is left out.
@@ -172,6 +187,8 @@ pub enum Request {
         scans: u64,
         /// The time from each scan to the next, in ms.
         every: u64,
+        /// Whether rows are those of groups, with the inputs that don't matter in each.
+        grouped: bool,
     },
     /// The causes of a coil in groups, with the inputs that don't matter in each.
     Groups {
@@ -179,7 +196,7 @@ pub enum Request {
         /// Which groups, and how they are written.
         grouping: Grouping,
     },
-    /// What is possible from some state: the assignments of the listed inputs with which some state, at some moment, switches a coil on.
+    /// What happens from any state: the assignments of the listed inputs with which some state, or every one, leaves a coil ON, at any moment.
     Possible(PossibleRequest),
     /// The drawing with the power flow of one scan.
     Show(ShowRequest),

@@ -6,13 +6,13 @@ ghost use Rattle.clap.specs.Words.{Row, Text, all_of, first_of, found_of, kind_o
 ghost use Rattle.clap.specs.Words.{fault_of as clap_fault};
 ghost use Rattle.ladder_command.specs.CommandLine.{ladder_app};
 ghost use Rattle.ladder_pages.specs.Pages.{is_fault_code};
-ghost use Rattle.ladder_words.specs.Asking.{Asks, AsksBy, AsksNone, HasNoTask, HasTask, HasEvery, HasFlag, HasForm, HasInputs, HasLasting, HasMedium, HasNumber, HasOrder, HasOption, HasSwitch, IsNamed, IsTable, MayHaveLimit, NamesList, HasScans, Says, scans_until};
+ghost use Rattle.ladder_words.specs.Asking.{Asks, AsksBy, AsksNone, HasNoTask, HasTask, HasEvery, HasFlag, HasForm, HasInputs, HasLasting, HasMedium, HasNumber, HasOrder, HasOption, HasStates, HasSwitch, IsNamed, IsOfOneState, IsTable, MayHaveLimit, NamesList, HasScans, Says, scans_until};
 ghost use Rattle.ladder_words.specs.Parts.{HasGrouping, HasSources, IsOfAnyState, IsOfOneScan, IsOfRecords, IsWhole, MayLast, NamesScan, Plays};
 ghost use Rattle.ladder_words.specs.Faults.{IsFaultOf, SaysOf, UsageWhere};
 
 use crate::request::{
     CommandLine, FilmRequest, Form, Grouping, InputOrder, ListRequest, Medium, NeverRequest,
-    PossibleRequest, Request, ShowRequest, SimRequest, Task, WavesRequest, WordFault,
+    PossibleRequest, Request, ShowRequest, SimRequest, States, Task, WavesRequest, WordFault,
 };
 use clap::ArgMatches;
 use clap::error::ErrorKind;
@@ -27,9 +27,9 @@ const EVERY: u64 = 10;
 ///
 /// # Errors
 ///
-/// `Mistake` where `clap` finds a fault other than that help is asked for, with what it says of it, or `Usage` when there is no memory for that; `Usage` where a fault has none of the named codes, where groups or a list over several scans are to begin after a
-/// number, where a time between scans is asked for without several scans, several scans by their number and by a time, or in groups, where a form or the order `auto` is asked for without groups, or both forms, or a statement with a limit, or an order that has another name, where
-/// inputs are named beside all of them, where any state is asked of and a state, a moment, a number to begin after, several scans, a time between scans, groups, a form or the order `auto` is named as well, where a stimulus is to be shown with a moment, a number or listed inputs, or a waveform to be written with a saved state, and nowhere else; `Help` with its text where help is asked for; `Memory` when out of memory.
+/// `Mistake` where `clap` finds a fault other than that help is asked for, with what it says of it, or `Usage` when there is no memory for that; `Usage` where a fault has none of the named codes, where groups of one scan or a list over several scans are to begin after a
+/// number, where a time between scans is asked for without several scans, several scans by their number and by a time, where a form or the order `auto` is asked for without groups of one scan in one state, or both forms, or a statement with a limit, or an order that has another name, where
+/// inputs are named beside all of them, where any state is asked of and a state, a moment, a number to begin after, several scans, a time between scans, a form or the order `auto` is named as well, or both which states are meant, where it is said which states are meant and any state isn't asked of, where a stimulus is to be shown with a moment, a number or listed inputs, or a waveform to be written with a saved state, and nowhere else; `Help` with its text where help is asked for; `Memory` when out of memory.
 pub fn read_words(alloc: Global, words: Vec<String>) -> Result<Task, WordFault>
     ensures asks { IfOk result (AsksBy ladder_app (map string_bytes words.items)) }
 
@@ -163,10 +163,42 @@ fn causes_request(alloc: Global, found: &ArgMatches<'_>) -> Result<Request, Word
     if is_set(found, "any") {
         return possible_request(alloc, found);
     }
+    // Which states are meant is said of any state alone.
+    if names_states(found) {
+        return Err(WordFault::Usage);
+    }
+    one_state_request(alloc, found)
+}
+
+/// Whether a flag says which states are meant.
+fn names_states(found: &ArgMatches<'_>) -> bool
+    ensures none { result ≡ false → HasStates States.Some (rows_of (found_of found.now)) }
+    ensures some { result ≡ true → HasStates States.Some (rows_of (found_of found.now)) → ⊥ }
+{
+    is_set(found, "off") || is_set(found, "must")
+}
+
+fn one_state_request(alloc: Global, found: &ArgMatches<'_>) -> Result<Request, WordFault>
+    requires one_state { IsOfOneState (rows_of (found_of found.now)) }
+    ensures ok { IfOk result (Asks (codes "causes") (rows_of (found_of found.now))) }
+    ensures err { IfErr result (UsageWhere (AsksNone (codes "causes") (rows_of (found_of found.now)))) }
+{
+    match lasting_of(found)? {
+        None => one_scan_request(alloc, found),
+        Some(lasting) => held_request(alloc, found, lasting),
+    }
+}
+
+fn one_scan_request(alloc: Global, found: &ArgMatches<'_>) -> Result<Request, WordFault>
+    requires one_state { IsOfOneState (rows_of (found_of found.now)) }
+    requires lasting { MayLast None (rows_of (found_of found.now)) }
+    ensures ok { IfOk result (Asks (codes "causes") (rows_of (found_of found.now))) }
+    ensures err { IfErr result (UsageWhere (AsksNone (codes "causes") (rows_of (found_of found.now)))) }
+{
     if is_set(found, "grouped") {
         return groups_request(alloc, found);
     }
-    table_request(alloc, found)
+    list_request(alloc, found)
 }
 
 fn possible_request(alloc: Global, found: &ArgMatches<'_>) -> Result<Request, WordFault>
@@ -179,6 +211,8 @@ fn possible_request(alloc: Global, found: &ArgMatches<'_>) -> Result<Request, Wo
         return Err(WordFault::Usage);
     }
     refuse_grouping(found)?;
+    let states = states_of(found)?;
+    let grouped = is_set(found, "grouped");
     let ListRequest {
         limit,
         quiet,
@@ -189,6 +223,8 @@ fn possible_request(alloc: Global, found: &ArgMatches<'_>) -> Result<Request, Wo
         ..
     } = list_of(alloc, found)?;
     Ok(Request::Possible(PossibleRequest {
+        states,
+        grouped,
         limit,
         quiet,
         file,
@@ -198,31 +234,28 @@ fn possible_request(alloc: Global, found: &ArgMatches<'_>) -> Result<Request, Wo
     }))
 }
 
-/// Whether a state, a moment, groups, several scans or a number to begin after are asked for.
+/// The states that the flags ask for.
+fn states_of(found: &ArgMatches<'_>) -> Result<States, WordFault>
+    ensures ok { IfOk result (λ s. HasStates s (rows_of (found_of found.now))) }
+    ensures err { IfErr result (UsageWhere ((s : States) → HasStates s (rows_of (found_of found.now)) → ⊥)) }
+{
+    match (is_set(found, "off"), is_set(found, "must")) {
+        (false, false) => Ok(States::Some),
+        (true, false) => Ok(States::SomeOff),
+        (false, true) => Ok(States::Every),
+        (true, true) => Err(WordFault::Usage),
+    }
+}
+
+/// Whether a state, a moment, several scans or a number to begin after are asked for.
 fn is_bound(found: &ArgMatches<'_>) -> bool
     ensures none { result ≡ false → IsOfAnyState (rows_of (found_of found.now)) }
     ensures some { result ≡ true → IsOfAnyState (rows_of (found_of found.now)) → ⊥ }
 {
-    is_given(found, "state")
-        || is_given(found, "at")
-        || is_set(found, "grouped")
-        || is_counted(found)
+    is_given(found, "state") || is_given(found, "at") || is_counted(found)
 }
 
-fn table_request(alloc: Global, found: &ArgMatches<'_>) -> Result<Request, WordFault>
-    requires one_state { HasFlag (codes "any") (rows_of (found_of found.now)) → ⊥ }
-    requires single { HasFlag (codes "grouped") (rows_of (found_of found.now)) → ⊥ }
-    ensures ok { IfOk result (Asks (codes "causes") (rows_of (found_of found.now))) }
-    ensures err { IfErr result (UsageWhere (AsksNone (codes "causes") (rows_of (found_of found.now)))) }
-{
-    refuse_grouping(found)?;
-    match lasting_of(found)? {
-        None => list_request(alloc, found),
-        Some(lasting) => held_request(alloc, found, lasting),
-    }
-}
-
-/// A form and an order are those of groups.
+/// A form and an order are those of the groups of one scan in one state.
 fn refuse_grouping(found: &ArgMatches<'_>) -> Result<(), WordFault>
     ensures ok { IfOk result (λ u. HasForm Form.Table (rows_of (found_of found.now)) × HasOrder InputOrder.Given (rows_of (found_of found.now))) }
     ensures err { IfErr result (UsageWhere (HasForm Form.Table (rows_of (found_of found.now)) → HasOrder InputOrder.Given (rows_of (found_of found.now)) → ⊥)) }
@@ -278,12 +311,13 @@ fn count(lasting: Lasting, every: u64) -> u64
 }
 
 fn list_request(alloc: Global, found: &ArgMatches<'_>) -> Result<Request, WordFault>
-    requires one_state { HasFlag (codes "any") (rows_of (found_of found.now)) → ⊥ }
-    requires table { IsTable (rows_of (found_of found.now)) }
+    requires one_state { IsOfOneState (rows_of (found_of found.now)) }
+    requires single { HasFlag (codes "grouped") (rows_of (found_of found.now)) → ⊥ }
     requires lasting { MayLast None (rows_of (found_of found.now)) }
     ensures ok { IfOk result (Asks (codes "causes") (rows_of (found_of found.now))) }
     ensures err { IfErr result (UsageWhere (AsksNone (codes "causes") (rows_of (found_of found.now)))) }
 {
+    refuse_grouping(found)?;
     // One scan has none that follows.
     if is_given(found, "every") {
         return Err(WordFault::Usage);
@@ -298,8 +332,7 @@ fn held_request(
     found: &ArgMatches<'_>,
     lasting: Lasting,
 ) -> Result<Request, WordFault>
-    requires one_state { HasFlag (codes "any") (rows_of (found_of found.now)) → ⊥ }
-    requires table { IsTable (rows_of (found_of found.now)) }
+    requires one_state { IsOfOneState (rows_of (found_of found.now)) }
     requires lasting { HasLasting lasting (rows_of (found_of found.now)) }
     ensures ok { IfOk result (Asks (codes "causes") (rows_of (found_of found.now))) }
     ensures err { IfErr result (UsageWhere (AsksNone (codes "causes") (rows_of (found_of found.now)))) }
@@ -307,10 +340,17 @@ fn held_request(
     if is_given(found, "after") {
         return Err(WordFault::Usage);
     }
+    refuse_grouping(found)?;
     let every = every_of(found)?;
     let scans = count(lasting, every);
+    let grouped = is_set(found, "grouped");
     let list = list_of(alloc, found)?;
-    Ok(Request::Held { list, scans, every })
+    Ok(Request::Held {
+        list,
+        scans,
+        every,
+        grouped,
+    })
 }
 
 /// The time from each scan to the next.
@@ -323,12 +363,13 @@ fn every_of(found: &ArgMatches<'_>) -> Result<u64, WordFault>
 }
 
 fn groups_request(alloc: Global, found: &ArgMatches<'_>) -> Result<Request, WordFault>
-    requires one_state { HasFlag (codes "any") (rows_of (found_of found.now)) → ⊥ }
+    requires one_state { IsOfOneState (rows_of (found_of found.now)) }
     requires grouped { HasFlag (codes "grouped") (rows_of (found_of found.now)) }
+    requires lasting { MayLast None (rows_of (found_of found.now)) }
     ensures ok { IfOk result (Asks (codes "causes") (rows_of (found_of found.now))) }
     ensures err { IfErr result (UsageWhere (AsksNone (codes "causes") (rows_of (found_of found.now)))) }
 {
-    // Groups are those of one scan, and a group has no number, so there is none to begin after.
+    // One scan has none that follows, and a group has no number, so there is none to begin after.
     if is_counted(found) {
         return Err(WordFault::Usage);
     }
