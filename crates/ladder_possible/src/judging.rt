@@ -4,7 +4,7 @@ ghost use Rattle.std.specs.Prelude.{◌≡◌, ◌+◌, ◌<◌, ◌%◌, ◌^�
 ghost use Rattle.ladder_questions.specs.Listable.{IsListable};
 ghost use Rattle.ladder_never.specs.Never.{knowing};
 ghost use Rattle.ladder_glance.specs.Sizes.{AreAsLong};
-ghost use Rattle.ladder_possible.specs.Numbers.{IsGiven, IsBegun, MayKnowCoil};
+ghost use Rattle.ladder_possible.specs.Numbers.{IsBegun, IsGiven, MayKnowCoil};
 ghost use Rattle.ladder_possible.specs.Possible.{AreNone, IsPossible};
 ghost use Rattle.ladder_possible.specs.Searching.{IsSpace};
 ghost use Rattle.ladder_possible.specs.declared.judging.Verdict.TheVariants.{Never, Possible};
@@ -14,11 +14,11 @@ use crate::before::Before;
 use crate::numbers::give;
 use crate::seeking::seek;
 use ladder_glance::Knowledge;
-use ladder_never::{Outcome, Point};
 use ladder_never::cases::settle_off;
 use ladder_never::knowing::know;
 use ladder_never::laws::settled_off;
 use ladder_never::pinning::pin;
+use ladder_never::{Outcome, Point};
 use ladder_signals::Tri;
 
 /// How many scans over three values a search for one number makes at most, and how many a proof that there is none.
