@@ -287,9 +287,9 @@ def compare_never(trial):
     return found + ([f"{wrong} can come ON, and `never` names them"] if wrong else [])
 
 
-def rows_of_any(trial):
+def rows_of_any(trial, *options):
     """The settled numbers and the others of a list of what some state switches on, and what is wrong with its text."""
-    out, said, status = trial.ask("causes", "--any", "program.ld", trial.coil, *trial.listed)
+    out, said, status = trial.ask("causes", "--any", *options, "program.ld", trial.coil, *trial.listed)
     rows = [line.split(",") for line in out.decode().splitlines()]
     numbers, open_rows = [int(row[0]) for row in rows[1:]], sum(row[1] == "?" for row in rows[1:])
     table = [[str(number), "?" if row[1] == "?" else "1", *map(str, bits_of(number, len(trial.listed)))] for number, row in zip(numbers, rows[1:])]
@@ -319,29 +319,51 @@ def compare_random_states(trial):
     return found + scan_at_random(trial, settled | others, 6)
 
 
-def compare_possible(trial):
-    """What some state switches on, against a scan from every state; None where these are too many."""
-    every = Everywhere(Program(trial.text), trial.listed)
+def compare_with_each(trial, *options):
+    """What some state leaves ON, or with `--must` every one, of all states or with `--off` of those in which the coil is OFF, against a scan
+    from each; None where these are too many."""
+    every = Everywhere(Program(trial.text), trial.listed, {trial.coil.upper()} if "--off" in options else ())
     if every.bits > MOST_BITS:
         return None
-    settled, others, found = rows_of_any(trial)
+    settled, others, found = rows_of_any(trial, *options)
     one = every.fill().lane(number := trial.chance.randrange(2 ** every.bits))
-    possible = set(every.possible(trial.coil))
+    wanted = set(every.forced(trial.coil) if "--must" in options else every.possible(trial.coil))
     one.scan({}, MOMENT)
     instances = set(every.program.rungs[0].instances.values())
     found += [f"contents that don't suffice: {instance}" for instance in instances if not do_suffice(*instance)]
     if one.values != {name: bool(word >> number & 1) for name, word in every.values.items()}:
         found.append(f"the models differ at {number}")
-    missing, wrong = sorted(possible - settled - others), sorted(settled - possible)
-    found += [f"some state switches {trial.coil} on with {missing}, and `--any` has no row"] if missing else []
-    found += [f"no state switches {trial.coil} on with {wrong}, and `--any` has settled rows"] if wrong else []
+    missing, wrong = sorted(wanted - settled - others), sorted(settled - wanted)
+    words = " ".join(("--any", *options))
+    found += [f"`{words}` has no row for {missing} of {trial.coil}"] if missing else []
+    found += [f"`{words}` has settled rows for {wrong} of {trial.coil}"] if wrong else []
     trial.tally["numbers"] += 2 ** len(trial.listed)
     trial.tally["settled rows"] += len(settled)
     trial.tally["rows `?`"] += len(others)
-    trial.tally["of these possible"] += len(others & possible)
-    trial.tally["questions with a number that no state switches on"] += len(possible) < 2 ** len(trial.listed)
+    trial.tally["of these right"] += len(others & wanted)
+    trial.tally["questions with a number that is in no row"] += len(wanted) < 2 ** len(trial.listed)
     trial.tally["states"] += 2 ** every.bits
-    return found + scan_at_random(trial, settled | others, 1)
+    return found if options else found + scan_at_random(trial, settled | others, 1)
+
+
+def compare_possible(trial):
+    """What some state switches on."""
+    return compare_with_each(trial)
+
+
+def compare_off(trial):
+    """What some state in which the coil is OFF switches on."""
+    return compare_with_each(trial, "--off")
+
+
+def compare_must(trial):
+    """What every state leaves ON."""
+    return compare_with_each(trial, "--must")
+
+
+def compare_off_must(trial):
+    """What every state in which the coil is OFF switches on."""
+    return compare_with_each(trial, "--off", "--must")
 
 
 ALL = (compare_lists, compare_shown, compare_film, compare_held, compare_never, compare_random_states)

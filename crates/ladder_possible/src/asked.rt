@@ -3,6 +3,7 @@
 ghost use Rattle.std.specs.Prelude.{◌≡◌, IfOk};
 ghost use Rattle.ladder_possible.specs.Searching.{IsKnowing, IsSpace, IsTried};
 
+use crate::before::Before;
 use crate::content::MOMENT;
 use crate::sight::{Sight, new_sight};
 use ladder_glance::{Knowledge, Room};
@@ -18,6 +19,7 @@ pub(crate) struct Asked<'a> {
     pub program: &'a Program,
     pub coil: usize,
     pub listed: &'a [usize],
+    pub before: Before,
     pub number: u64,
 }
 

@@ -8,6 +8,7 @@ ghost use Rattle.ladder_possible.specs.Searching.{IsTried};
 ghost use Rattle.ladder_possible.specs.declared.content.TheConstants.{MOMENT};
 
 use crate::asked::{Asked, Tried};
+use crate::before::counts;
 use crate::content::{MOMENT, content};
 use crate::numbers::bit_for;
 use ladder_glance::{Keep, Knowledge};
@@ -64,18 +65,21 @@ fn set_blocks(program: &Program, case: &Knowledge<Tri, Outcome>, state: &mut Sta
     }
 }
 
-/// Whether one scan of the state with the number's assignment leaves the coil's variable ON. `scanned` is written over.
+/// Whether the state counts, and one scan of it with the number's assignment leaves the coil's variable ON. `scanned` is written over.
 fn is_switched_on(asked: Asked<'_>, state: &State, scanned: &mut State) -> bool
     requires coil { asked.coil < length asked.program.now.decls.vars }
     requires fits { Fits asked.program.now state.now }
     requires moment { state.now.moment ≡ MOMENT }
     requires bits { HasBits asked.listed.now asked.number state.now.held.values }
     requires scanned { Fits asked.program.now scanned.old }
-    ensures possible { IsTrue result → IsPossible asked.entry.program.now asked.entry.coil asked.entry.listed.now asked.entry.number }
+    ensures possible { IsTrue result → IsPossible asked.entry.program.now asked.entry.coil asked.entry.listed.now asked.entry.before asked.entry.number }
     ensures scanned { Fits asked.entry.program.now scanned.new }
 {
     state.checked();
     scanned.checked();
+    if !counts(asked.before, asked.coil, state) {
+        return false;
+    }
     scanned.copy_from(state);
     match scan(asked.program, scanned, &[], MOMENT) {
         Ok(()) => scanned.value(asked.coil),
@@ -92,7 +96,7 @@ pub(crate) fn is_possible(
     requires few { length asked.listed.now ≤ 64 }
     requires coil { asked.coil < length asked.program.now.decls.vars }
     requires tried { IsTried asked.program.now tried.old }
-    ensures possible { IsTrue result → IsPossible asked.entry.program.now asked.entry.coil asked.entry.listed.now asked.entry.number }
+    ensures possible { IsTrue result → IsPossible asked.entry.program.now asked.entry.coil asked.entry.listed.now asked.entry.before asked.entry.number }
     ensures tried { IsTried asked.entry.program.now tried.new }
 {
     set_values(asked, case, &mut tried.state);

@@ -1,20 +1,25 @@
 //! Whether a number is possible.
 
-ghost use Rattle.std.specs.Prelude.{◌≡◌, ◌+◌, ◌%◌, ◌^◌, true};
+ghost use Rattle.std.specs.Prelude.{◌≡◌, ◌+◌, ◌<◌, ◌%◌, ◌^◌, length, true};
 ghost use Rattle.ladder_questions.specs.Listable.{IsListable};
 ghost use Rattle.ladder_never.specs.Never.{knowing};
-ghost use Rattle.ladder_possible.specs.Numbers.{IsGiven};
+ghost use Rattle.ladder_glance.specs.Sizes.{AreAsLong};
+ghost use Rattle.ladder_possible.specs.Numbers.{IsBegun, IsGiven, MayKnowCoil};
 ghost use Rattle.ladder_possible.specs.Possible.{AreNone, IsPossible};
 ghost use Rattle.ladder_possible.specs.Searching.{IsSpace};
 ghost use Rattle.ladder_possible.specs.declared.judging.Verdict.TheVariants.{Never, Possible};
 
 use crate::asked::{Asked, Space};
+use crate::before::Before;
 use crate::numbers::give;
 use crate::seeking::seek;
-use ladder_never::Point;
+use ladder_glance::Knowledge;
 use ladder_never::cases::settle_off;
 use ladder_never::knowing::know;
 use ladder_never::laws::settled_off;
+use ladder_never::pinning::pin;
+use ladder_never::{Outcome, Point};
+use ladder_signals::Tri;
 
 /// How many scans over three values a search for one number makes at most, and how many a proof that there is none.
 const SCANS: u32 = 4096;
@@ -30,11 +35,24 @@ pub(crate) enum Verdict {
     Open,
 }
 
-/// Knows what the number gives the listed inputs, but for those of its last bits, which are open, and nothing else.
+/// Knows that the coil is OFF where only such states count.
+fn know_coil(asked: Asked<'_>, known: &mut Knowledge<Tri, Outcome>)
+    requires coil { asked.coil < length asked.program.now.decls.vars }
+    ensures coil { MayKnowCoil asked.entry.program.now asked.entry.coil asked.entry.before known.old known.new }
+    ensures sizes { AreAsLong known.new known.old }
+{
+    if asked.before == Before::Off && !asked.program.decls().vars()[asked.coil].is_input() {
+        pin(Point::Variable(asked.coil), Tri::Off, known);
+    }
+}
+
+/// Knows what the number gives the listed inputs, but for those of its last bits, which are open, that the coil is OFF where only such states
+/// count, and nothing else.
 fn begin(asked: Asked<'_>, open_bits: u32, space: &mut Space)
     requires listable { IsListable asked.program.now asked.coil asked.listed.now }
     requires space { IsSpace asked.program.now space.old }
-    ensures given { IsGiven asked.entry.listed.now open_bits asked.entry.number (knowing asked.entry.program.now space.new.knowing.none) space.new.knowing.case }
+    ensures begun { IsBegun asked.entry.program.now asked.entry.coil asked.entry.listed.now asked.entry.before open_bits asked.entry.number
+        (knowing asked.entry.program.now space.new.knowing.none) space.new.knowing.case }
     ensures space { IsSpace asked.entry.program.now space.new }
 {
     let known = &mut space.knowing;
@@ -46,6 +64,7 @@ fn begin(asked: Asked<'_>, open_bits: u32, space: &mut Space)
         asked.program.decls().vars().len(),
         &mut known.case,
     );
+    know_coil(asked, &mut known.case);
 }
 
 /// Whether at most so many scans settle that no state leaves the coil ON with the number, whatever its last bits are, which are open.
@@ -60,7 +79,7 @@ pub(crate) fn is_never(
     requires aligned { asked.number % 2 ^ open_bits ≡ 0 }
     requires space { IsSpace asked.program.now space.old }
     ensures never { result ≡ true
-        → AreNone asked.entry.program.now asked.entry.coil asked.entry.listed.now asked.entry.number (asked.entry.number + 2 ^ open_bits) }
+        → AreNone asked.entry.program.now asked.entry.coil asked.entry.listed.now asked.entry.before asked.entry.number (asked.entry.number + 2 ^ open_bits) }
     ensures space { IsSpace asked.entry.program.now space.new }
 {
     settled_off(asked.program);
@@ -82,8 +101,8 @@ pub(crate) fn is_never(
 pub(crate) fn judge(asked: Asked<'_>, points: &[Point], space: &mut Space) -> Verdict
     requires listable { IsListable asked.program.now asked.coil asked.listed.now }
     requires space { IsSpace asked.program.now space.old }
-    ensures never { result ≡ Never → IsPossible asked.entry.program.now asked.entry.coil asked.entry.listed.now asked.entry.number → ⊥ }
-    ensures possible { result ≡ Possible → IsPossible asked.entry.program.now asked.entry.coil asked.entry.listed.now asked.entry.number }
+    ensures never { result ≡ Never → IsPossible asked.entry.program.now asked.entry.coil asked.entry.listed.now asked.entry.before asked.entry.number → ⊥ }
+    ensures possible { result ≡ Possible → IsPossible asked.entry.program.now asked.entry.coil asked.entry.listed.now asked.entry.before asked.entry.number }
     ensures space { IsSpace asked.entry.program.now space.new }
 {
     begin(asked, 0, space);

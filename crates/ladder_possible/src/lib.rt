@@ -2,6 +2,7 @@
 #![tactic(auto)]
 
 mod asked;
+mod before;
 mod candidate;
 mod content;
 mod judging;
@@ -10,4 +11,5 @@ mod possible;
 mod seeking;
 mod sight;
 
+pub use before::Before;
 pub use possible::{PossibleCause, PossibleCauses};

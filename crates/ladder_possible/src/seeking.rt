@@ -53,7 +53,7 @@ pub(crate) fn seek(asked: Asked<'_>, points: &[Point], space: &mut Space, scans:
     requires few { length asked.listed.now ≤ 64 }
     requires coil { asked.coil < length asked.program.now.decls.vars }
     requires space { IsSpace asked.program.now space.old }
-    ensures found { IsTrue result.is_found → IsPossible asked.entry.program.now asked.entry.coil asked.entry.listed.now asked.entry.number }
+    ensures found { IsTrue result.is_found → IsPossible asked.entry.program.now asked.entry.coil asked.entry.listed.now asked.entry.before asked.entry.number }
     ensures scans { result.scans ≤ scans }
     ensures space { IsSpace asked.entry.program.now space.new }
 {
@@ -96,7 +96,7 @@ fn by_cases(
     requires few { length asked.listed.now ≤ 64 }
     requires coil { asked.coil < length asked.program.now.decls.vars }
     requires space { IsSpace asked.program.now space.old }
-    ensures found { IsTrue result.is_found → IsPossible asked.entry.program.now asked.entry.coil asked.entry.listed.now asked.entry.number }
+    ensures found { IsTrue result.is_found → IsPossible asked.entry.program.now asked.entry.coil asked.entry.listed.now asked.entry.before asked.entry.number }
     ensures scans { result.scans ≤ scans }
     ensures space { IsSpace asked.entry.program.now space.new }
 {

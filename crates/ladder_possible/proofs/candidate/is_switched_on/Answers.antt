@@ -19,6 +19,7 @@ returns-in-Ok-clause-possible c = λ on.
       moment = MOMENT;
       fits = c.requires.fits;
       standing = c.checked.ensures;
+      counts = c.counts.ensures c.if-not-counts.false;
       later = omega (arith, c.requires.moment);
       small = omega arith;
       cause = cause_is p s MOMENT c.args.asked.coil c.args.asked.listed.now c.args.asked.number c.requires.bits
