@@ -2,7 +2,7 @@
 -- `ladder causes [--state STATE] [--at MS] [--after N] [--limit N] [--scans N] [--every MS] [--grouped] [--terms] [--st] [--order ORDER] [--all-inputs] [--quiet] FILE COIL [INPUT]...`,
 -- `ladder causes --any [--off] [--must] [--limit N] [--grouped] [--all-inputs] [--quiet] FILE COIL [INPUT]...`,
 -- `ladder show [--state STATE] [--at MS] [--number N] [--stimulus STIMULUS] [--html] [--coil COIL] [--all-inputs] FILE [INPUT]...`,
--- `ladder sim [--state STATE] [--save STATE] [--vcd] FILE STIMULUS`, `ladder uses FILE` and `ladder never [--state STATE] [--quiet] FILE`, each with `[--why]`;
+-- `ladder sim [--state STATE] [--save STATE] [--vcd] FILE STIMULUS`, `ladder uses FILE`, `ladder import PROJECT` and `ladder never [--state STATE] [--quiet] FILE`, each with `[--why]`;
 -- and `ladder explain [CODE]...`.
 use Rattle.std.specs.Prelude.{◌≡◌, List, Some, [], ◌∷◌, codes, true, false}
 use Rattle.clap.specs.Simple.{new_shape}
@@ -63,6 +63,9 @@ sim_app = taking (codes "sim") (
     text_rule (codes "state") ∷ text_rule (codes "save") ∷ flag_rule (codes "vcd") ∷ flag_rule (codes "why") ∷ place_rule (codes "file") ∷ place_rule (codes "stimulus") ∷ []
     )
 
+abbrev pub import_app : App
+import_app = taking (codes "import") (flag_rule (codes "why") ∷ place_rule (codes "file") ∷ [])
+
 abbrev pub explain_app : App
 explain_app = taking (codes "explain") (list_rule (codes "codes") ∷ [])
 
@@ -70,7 +73,7 @@ explain_app = taking (codes "explain") (list_rule (codes "codes") ∷ [])
 abbrev pub ladder_app : App
 ladder_app = record {
   top = record (new_shape (codes "ladder")) { is_leaf = false; subcommand_required = true };
-  subs = check_app.top ∷ causes_app.top ∷ show_app.top ∷ sim_app.top ∷ uses_app.top ∷ never_app.top ∷ explain_app.top ∷ [];
+  subs = check_app.top ∷ causes_app.top ∷ show_app.top ∷ sim_app.top ∷ uses_app.top ∷ never_app.top ∷ import_app.top ∷ explain_app.top ∷ [];
 }
 
 -- a command with no argument that is common to all subcommands, which clap reads as this

@@ -8,9 +8,10 @@ ghost use Rattle.ladder_command.specs.Table.{ladder_by, word_rule};
 use crate::help::{
     AFTER_HELP, ALL_HELP, ANY_HELP, AT_HELP, CAUSES_ABOUT, CHECK_ABOUT, CODES_HELP, COIL_HELP,
     EVERY_HELP, EXPLAIN_ABOUT, EXPLAIN_HELP, FAULTS, FILE_HELP, FILM_HELP, FOR_HELP, GROUPED_HELP,
-    HTML_HELP, INPUTS_HELP, LADDER_ABOUT, LIMIT_HELP, MUST_HELP, NEVER_ABOUT, NUMBER_HELP, OFF_HELP, ORDER_HELP,
-    QUIET_HELP, SAVE_HELP, SCANS_HELP, SHOW_ABOUT, SHOWN_HELP, SIM_ABOUT, STATE_HELP,
-    STATEMENT_HELP, STIMULUS_HELP, TERMS_HELP, USES_ABOUT, WARN_HELP, WAVES_HELP, WHY_HELP,
+    HTML_HELP, IMPORT_ABOUT, INPUTS_HELP, LADDER_ABOUT, LIMIT_HELP, MUST_HELP, NEVER_ABOUT,
+    NUMBER_HELP, OFF_HELP, ORDER_HELP, PROJECT_HELP, QUIET_HELP, SAVE_HELP, SCANS_HELP, SHOW_ABOUT,
+    SHOWN_HELP, SIM_ABOUT, STATE_HELP, STATEMENT_HELP, STIMULUS_HELP, TERMS_HELP, USES_ABOUT,
+    WARN_HELP, WAVES_HELP, WHY_HELP,
 };
 use clap::{Arg, ArgAction, Command, value_parser};
 use std::alloc::{AllocError, Global};
@@ -99,6 +100,11 @@ const SIM: &[Word] = &[
     Word::Place("stimulus", "STIMULUS", STIMULUS_HELP),
 ];
 
+const IMPORT: &[Word] = &[
+    Word::Flag("why", EXPLAIN_HELP),
+    Word::Place("file", "PROJECT", PROJECT_HELP),
+];
+
 const EXPLAIN: &[Word] = &[Word::List("codes", "CODE", CODES_HELP)];
 
 const SUBCOMMANDS: &[Subcommand] = &[
@@ -131,6 +137,11 @@ const SUBCOMMANDS: &[Subcommand] = &[
         name: "never",
         about: NEVER_ABOUT,
         words: NEVER,
+    },
+    Subcommand {
+        name: "import",
+        about: IMPORT_ABOUT,
+        words: IMPORT,
     },
     Subcommand {
         name: "explain",

@@ -34,6 +34,9 @@ pub(crate) const NEVER_ABOUT: &str =
     "Lists the variables and outputs of blocks that can never come ON from the state on, \
      whatever the inputs do, with the places where they are drawn";
 
+pub(crate) const IMPORT_ABOUT: &str =
+    "Writes the program text of a ClassicLadder project, or says what of it can't be carried over";
+
 pub(crate) const EXPLAIN_ABOUT: &str =
     "Says what a fault means and what corrects it, or lists all faults";
 
@@ -51,6 +54,9 @@ pub(crate) const ALL_HELP: &str = "Lists all inputs, in order of declaration; no
 pub(crate) const QUIET_HELP: &str = "Writes no line of counts on standard error; faults stay";
 
 pub(crate) const FILE_HELP: &str = "The program: declarations and rungs; at most 1048576 bytes";
+
+pub(crate) const PROJECT_HELP: &str =
+    "The ClassicLadder project, a .clp file; at most 1048576 bytes";
 
 pub(crate) const COIL_HELP: &str = "The variable of a coil, in any letter case";
 

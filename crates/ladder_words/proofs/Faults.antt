@@ -23,7 +23,7 @@ use Rattle.ladder_words.specs.declared.request.WavesRequest.{WavesRequest}
 use Rattle.ladder_words.specs.declared.request.PossibleRequest.{PossibleRequest}
 use Rattle.ladder_words.specs.declared.request.NeverRequest.{NeverRequest}
 use Rattle.ladder_words.specs.declared.words.Lasting.TheVariants.{Count, Until}
-use Rattle.ladder_words.specs.declared.request.Request.TheVariants.{Causes, Check, Film, Groups, Held, Never, Possible, Show, Sim, Uses, Waves}
+use Rattle.ladder_words.specs.declared.request.Request.TheVariants.{Causes, Check, Film, Groups, Held, Import, Never, Possible, Show, Sim, Uses, Waves}
 use Rattle.ladder_words.specs.declared.request.WordFault.{WordFault}
 use Rattle.ladder_words.specs.declared.request.WordFault.TheVariants.{Help, Memory, Mistake, Usage}
 use Rattle.ladder_words.specs.declared.request.Task.TheVariants.{Explain, Perform}
@@ -61,6 +61,7 @@ explains_alone rows (Sim r) h = let other : 101 ≡ 115 = name_differs h.0 in ab
 explains_alone rows (Waves r) h = let other : 101 ≡ 115 = name_differs h.0 in absurd (omega (arith, other))
 explains_alone rows (Uses file) h = let other : 101 ≡ 117 = name_differs h.0 in absurd (omega (arith, other))
 explains_alone rows (Never r) h = let other : 101 ≡ 110 = name_differs h.0 in absurd (omega (arith, other))
+explains_alone rows (Import file) h = let other : 101 ≡ 105 = name_differs h.0 in absurd (omega (arith, other))
 
 abbrev pub all_codes : List (String Global) → Bool
 all_codes names = list_all (λ name. is_fault_code (string_bytes name)) names
@@ -95,6 +96,7 @@ no_check rows none (Sim r) h = let other = h.0 in cc
 no_check rows none (Waves r) h = let other = h.0 in cc
 no_check rows none (Uses file) h = let other = h.0 in cc
 no_check rows none (Never r) h = let other : 99 ≡ 110 = ap (λ (name : List ℕ). get_or name 0 0) h.0 in absurd (omega (arith, other))
+no_check rows none (Import file) h = let other : 99 ≡ 105 = ap (λ (name : List ℕ). get_or name 0 0) h.0 in absurd (omega (arith, other))
 
 pub only_causes : (rows : List Row)
     → ((list : ListRequest) (after : Option ℕ) → Asks (codes "causes") rows (Causes list after) → ⊥)
@@ -113,6 +115,7 @@ only_causes rows causes held groups possible (Sim r) h = let other = h.0 in cc
 only_causes rows causes held groups possible (Waves r) h = let other = h.0 in cc
 only_causes rows causes held groups possible (Uses file) h = let other = h.0 in cc
 only_causes rows causes held groups possible (Never r) h = let other : 99 ≡ 110 = ap (λ (name : List ℕ). get_or name 0 0) h.0 in absurd (omega (arith, other))
+only_causes rows causes held groups possible (Import file) h = let other : 99 ≡ 105 = ap (λ (name : List ℕ). get_or name 0 0) h.0 in absurd (omega (arith, other))
 
 -- What some state switches on is asked for by a flag, and the other lists without it.
 only_possible : (rows : List Row) → HasFlag (codes "any") rows → ((r : PossibleRequest) → Asks (codes "causes") rows (Possible r) → ⊥)
@@ -146,6 +149,7 @@ only_show rows show film (Sim r) h = let other = h.0 in cc
 only_show rows show film (Waves r) h = let other = h.0 in cc
 only_show rows show film (Uses file) h = let other : 115 ≡ 117 = ap (λ (name : List ℕ). get_or name 0 0) h.0 in absurd (omega (arith, other))
 only_show rows show film (Never r) h = let other : 115 ≡ 110 = ap (λ (name : List ℕ). get_or name 0 0) h.0 in absurd (omega (arith, other))
+only_show rows show film (Import file) h = let other : 115 ≡ 105 = ap (λ (name : List ℕ). get_or name 0 0) h.0 in absurd (omega (arith, other))
 
 pub only_sim : (rows : List Row)
     → ((r : SimRequest) → Asks (codes "sim") rows (Sim r) → ⊥)
@@ -162,6 +166,7 @@ only_sim rows sim waves (Sim r) h = sim r h
 only_sim rows sim waves (Waves r) h = waves r h
 only_sim rows sim waves (Uses file) h = let other : 115 ≡ 117 = ap (λ (name : List ℕ). get_or name 0 0) h.0 in absurd (omega (arith, other))
 only_sim rows sim waves (Never r) h = let other : 115 ≡ 110 = ap (λ (name : List ℕ). get_or name 0 0) h.0 in absurd (omega (arith, other))
+only_sim rows sim waves (Import file) h = let other : 115 ≡ 105 = ap (λ (name : List ℕ). get_or name 0 0) h.0 in absurd (omega (arith, other))
 
 pub no_uses : (rows : List Row) → first_of (codes "file") rows ≡ None → AsksNone (codes "uses") rows
 no_uses rows none (Check file warns) h = let other = h.0 in cc
@@ -175,6 +180,21 @@ no_uses rows none (Sim r) h = let other : 117 ≡ 115 = ap (λ (name : List ℕ)
 no_uses rows none (Waves r) h = let other : 117 ≡ 115 = ap (λ (name : List ℕ). get_or name 0 0) h.0 in absurd (omega (arith, other))
 no_uses rows none (Uses file) h = let some = h.1 in cc
 no_uses rows none (Never r) h = let other : 117 ≡ 110 = ap (λ (name : List ℕ). get_or name 0 0) h.0 in absurd (omega (arith, other))
+no_uses rows none (Import file) h = let other : 117 ≡ 105 = ap (λ (name : List ℕ). get_or name 0 0) h.0 in absurd (omega (arith, other))
+
+pub no_import : (rows : List Row) → first_of (codes "file") rows ≡ None → AsksNone (codes "import") rows
+no_import rows none (Check file warns) h = let other : 105 ≡ 99 = name_differs h.0 in absurd (omega (arith, other))
+no_import rows none (Causes list after) h = let other : 105 ≡ 99 = name_differs h.0 in absurd (omega (arith, other))
+no_import rows none (Held list scans every grouped) h = let other : 105 ≡ 99 = name_differs h.0 in absurd (omega (arith, other))
+no_import rows none (Groups list grouping) h = let other : 105 ≡ 99 = name_differs h.0 in absurd (omega (arith, other))
+no_import rows none (Possible r) h = let other : 105 ≡ 99 = name_differs h.0 in absurd (omega (arith, other))
+no_import rows none (Show r) h = let other : 105 ≡ 115 = name_differs h.0 in absurd (omega (arith, other))
+no_import rows none (Film r) h = let other : 105 ≡ 115 = name_differs h.0 in absurd (omega (arith, other))
+no_import rows none (Sim r) h = let other : 105 ≡ 115 = name_differs h.0 in absurd (omega (arith, other))
+no_import rows none (Waves r) h = let other : 105 ≡ 115 = name_differs h.0 in absurd (omega (arith, other))
+no_import rows none (Uses file) h = let other : 105 ≡ 117 = name_differs h.0 in absurd (omega (arith, other))
+no_import rows none (Never r) h = let other : 105 ≡ 110 = name_differs h.0 in absurd (omega (arith, other))
+no_import rows none (Import file) h = let some = h.1 in cc
 
 pub only_never : (rows : List Row)
     → ((r : NeverRequest) → Asks (codes "never") rows (Never r) → ⊥)
@@ -190,6 +210,7 @@ only_never rows never (Sim r) h = let other : 110 ≡ 115 = ap (λ (name : List 
 only_never rows never (Waves r) h = let other : 110 ≡ 115 = ap (λ (name : List ℕ). get_or name 0 0) h.0 in absurd (omega (arith, other))
 only_never rows never (Uses file) h = let other : 110 ≡ 117 = ap (λ (name : List ℕ). get_or name 0 0) h.0 in absurd (omega (arith, other))
 only_never rows never (Never r) h = never r h
+only_never rows never (Import file) h = let other : 110 ≡ 105 = ap (λ (name : List ℕ). get_or name 0 0) h.0 in absurd (omega (arith, other))
 
 lasts : (rows : List Row) (scans every : ℕ) → HasScans scans every rows → (o : Option Lasting) × MayLast o rows
 lasts rows scans every (inl h) = (Some (Count scans), h)

@@ -19,7 +19,7 @@ use Rattle.ladder_words.specs.declared.request.ListRequest.{ListRequest}
 use Rattle.ladder_words.specs.declared.request.States.{States}
 use Rattle.ladder_words.specs.declared.request.States.TheVariants as states
 use Rattle.ladder_words.specs.declared.request.Request.{Request}
-use Rattle.ladder_words.specs.declared.request.Request.TheVariants.{Causes, Check, Film, Groups, Held, Never, Possible, Show, Sim, Uses, Waves}
+use Rattle.ladder_words.specs.declared.request.Request.TheVariants.{Causes, Check, Film, Groups, Held, Import, Never, Possible, Show, Sim, Uses, Waves}
 use Rattle.ladder_words.specs.declared.request.Task.{Task}
 use Rattle.ladder_words.specs.declared.request.Task.TheVariants.{Explain, Perform}
 
@@ -203,6 +203,7 @@ Asks name rows (Waves r) = (name ≡ codes "sim")
     × HasText (codes "file") rows (string_bytes r.file)
     × HasText (codes "stimulus") rows (string_bytes r.stimulus)
 Asks name rows (Uses file) = (name ≡ codes "uses") × HasText (codes "file") rows (string_bytes file)
+Asks name rows (Import file) = (name ≡ codes "import") × HasText (codes "file") rows (string_bytes file)
 
 -- the subcommand's name and values ask for no request
 abbrev pub AsksNone : Text → List Row → Type 0

@@ -213,6 +213,11 @@ pub enum Request {
     },
     /// What can never come ON from a state on.
     Never(NeverRequest),
+    /// The program text of a ClassicLadder project.
+    Import {
+        /// The file of the project.
+        file: String,
+    },
 }
 
 /// What a command line asks for.

@@ -135,6 +135,7 @@ fn request_of(alloc: Global, name: &str, found: &ArgMatches<'_>) -> Result<Reque
         "causes" => causes_request(alloc, found),
         "show" => show_request(alloc, found),
         "sim" => sim_request(alloc, found),
+        "import" => import_request(alloc, found),
         _ => Err(WordFault::Usage),
     }
 }
@@ -154,6 +155,14 @@ fn uses_request(alloc: Global, found: &ArgMatches<'_>) -> Result<Request, WordFa
 {
     let file = text(alloc, found, "file")?;
     Ok(Request::Uses { file })
+}
+
+fn import_request(alloc: Global, found: &ArgMatches<'_>) -> Result<Request, WordFault>
+    ensures ok { IfOk result (Asks (codes "import") (rows_of (found_of found.now))) }
+    ensures err { IfErr result (UsageWhere (AsksNone (codes "import") (rows_of (found_of found.now)))) }
+{
+    let file = text(alloc, found, "file")?;
+    Ok(Request::Import { file })
 }
 
 fn causes_request(alloc: Global, found: &ArgMatches<'_>) -> Result<Request, WordFault>
