@@ -121,7 +121,7 @@ pub(crate) const ANY_HELP: &str =
     "Lists what some state, at some moment, switches on: a row for each such assignment, marked ? where that isn't settled; not with --state, --at, --after, --scans, --for or --every";
 
 pub(crate) const OFF_HELP: &str =
-    "With --any: counts only states in which the coil is OFF, so lists what can switch it ON; not with --must";
+    "With --any: counts only states in which the coil is OFF, so lists what can switch it ON";
 
 pub(crate) const MUST_HELP: &str =
     "With --any: lists what leaves the coil ON from every state, at every moment, in place of from some one";

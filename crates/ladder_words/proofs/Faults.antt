@@ -3,16 +3,14 @@ use Rattle.std.proofs.Common.{◌≡◌, ◌∙◌, ℕ, Bool, true, false, List
 use Rattle.std.specs.List.{list_all}
 use Rattle.clap.specs.Words.{Row, Text, all_of, first_of}
 use Rattle.ladder_pages.specs.Pages.{is_fault_code}
-use Rattle.ladder_words.specs.Asking.{Asks, AsksNone, HasEvery, HasNoTask, HasFlag, HasForm, HasInputs, HasLasting, HasNumber, HasOption, HasScans, HasStates, HasSwitch, HasOrder, IsNamed, IsOfOneState, MayHaveLimit, NamesList}
-use Rattle.ladder_words.specs.Parts.{HasGrouping, IsOfAnyState, IsOfOneScan, IsOfRecords, IsWhole, MayLast, NamesScan, Plays}
+use Rattle.ladder_words.specs.Asking.{Asks, AsksNone, HasEvery, HasNoTask, HasFlag, HasForm, HasInputs, HasLasting, HasNumber, HasOption, HasScans, HasSwitch, HasOrder, IsNamed, IsOfOneState, MayHaveLimit, NamesList}
+use Rattle.ladder_words.specs.Parts.{HasGrouping, IsOfAnyState, IsOfOneScan, IsOfRecords, IsWhole, MayLast, NamesNoStates, NamesScan, Plays}
 use Rattle.ladder_words.specs.Faults.{UsageWhere}
 use Rattle.ladder_words.specs.declared.request.Form.{Form}
 use Rattle.ladder_words.specs.declared.request.Form.TheVariants.{Statement, Table, Terms}
 use Rattle.ladder_words.specs.declared.request.InputOrder.{InputOrder}
 use Rattle.ladder_words.specs.declared.request.InputOrder.TheVariants.{Given, Sifted}
 use Rattle.ladder_words.specs.declared.request.ListRequest.{ListRequest}
-use Rattle.ladder_words.specs.declared.request.States.{States}
-use Rattle.ladder_words.specs.declared.request.States.TheVariants as states
 use Rattle.ladder_words.specs.declared.words.Lasting.{Lasting}
 use Rattle.ladder_words.specs.declared.words.NamedScan.{NamedScan}
 use Rattle.ladder_words.specs.declared.request.Grouping.{Grouping}
@@ -130,7 +128,7 @@ only_of_one_state : (rows : List Row) → IsOfOneState rows
 only_of_one_state rows one_state causes held groups = only_causes rows causes held groups (λ r h. one_state.0 h.1)
 
 -- Which states are meant is said of any state alone.
-pub no_one_state : (rows : List Row) → (HasFlag (codes "any") rows → ⊥) → (HasStates states.Some rows → ⊥) → AsksNone (codes "causes") rows
+pub no_one_state : (rows : List Row) → (HasFlag (codes "any") rows → ⊥) → (NamesNoStates rows → ⊥) → AsksNone (codes "causes") rows
 no_one_state rows not_any none =
     only_causes rows (λ list after h. none (h.7.1, h.7.2)) (λ list scans every grouped h. none (h.8.1, h.8.2)) (λ list grouping h. none (h.10.1, h.10.2)) (λ r h. not_any h.1)
 
@@ -297,13 +295,10 @@ no_groups_of_grouping rows one_state grouped one none =
 
 -- what some state switches on
 pub no_possible_of_bound : (rows : List Row) → HasFlag (codes "any") rows → (IsOfAnyState rows → ⊥) → AsksNone (codes "causes") rows
-no_possible_of_bound rows any none = only_possible rows any (λ r h. none (h.3, h.4, (h.8, h.9, h.10, h.11)))
-
-pub no_possible_of_states : (rows : List Row) → HasFlag (codes "any") rows → ((s : States) → HasStates s rows → ⊥) → AsksNone (codes "causes") rows
-no_possible_of_states rows any none = only_possible rows any (λ r h. none r.states h.2)
+no_possible_of_bound rows any none = only_possible rows any (λ r h. none (h.4, h.5, (h.9, h.10, h.11, h.12)))
 
 pub no_possible_of_grouping : (rows : List Row) → HasFlag (codes "any") rows → (HasForm Table rows → HasOrder Given rows → ⊥) → AsksNone (codes "causes") rows
-no_possible_of_grouping rows any none = only_possible rows any (λ r h. none h.6 h.7)
+no_possible_of_grouping rows any none = only_possible rows any (λ r h. none h.7 h.8)
 
 pub no_possible_of_list : (rows : List Row) → HasFlag (codes "any") rows → ((l : ListRequest) → NamesList rows l → ⊥) → AsksNone (codes "causes") rows
 no_possible_of_list rows any none =
@@ -311,7 +306,7 @@ no_possible_of_list rows any none =
     (λ r h.
     none
     (record { state = None; moment = None; limit = r.limit; quiet = r.quiet; file = r.file; coil = r.coil; all_inputs = r.all_inputs; inputs = r.inputs })
-    (h.3, h.4, h.12, h.13, h.14, h.15, h.16))
+    (h.4, h.5, h.13, h.14, h.15, h.16, h.17))
 
 -- One form is asked for.
 one_form : (rows : List Row) (a b : Form) → HasForm a rows → HasForm b rows → a ≡ b
@@ -437,9 +432,3 @@ pub no_inputs : (rows : List Row) (names : List Text) → HasSwitch (codes "all-
 no_inputs rows names flag named some all other h =
     let same = one_switch (codes "all-inputs") rows true all flag h.flag in
     some (sym named ∙ h.named ∙ h.either (sym same))
-
--- Both flags of states are not asked for.
-pub no_states_of_both : (rows : List Row) → HasFlag (codes "off") rows → HasFlag (codes "must") rows → (s : States) → HasStates s rows → ⊥
-no_states_of_both rows off must states.Some h = h.0 off
-no_states_of_both rows off must states.SomeOff h = h.1 must
-no_states_of_both rows off must states.Every h = h.0 off

@@ -16,8 +16,6 @@ use Rattle.ladder_words.specs.declared.request.Medium.{Medium}
 use Rattle.ladder_words.specs.declared.request.Medium.TheVariants as medium
 use Rattle.ladder_words.specs.declared.request.CommandLine.{CommandLine}
 use Rattle.ladder_words.specs.declared.request.ListRequest.{ListRequest}
-use Rattle.ladder_words.specs.declared.request.States.{States}
-use Rattle.ladder_words.specs.declared.request.States.TheVariants as states
 use Rattle.ladder_words.specs.declared.request.Request.{Request}
 use Rattle.ladder_words.specs.declared.request.Request.TheVariants.{Causes, Check, Film, Groups, Held, Import, Never, Possible, Show, Sim, Uses, Waves}
 use Rattle.ladder_words.specs.declared.request.Task.{Task}
@@ -69,12 +67,6 @@ HasOrder order rows = ((first_of (codes "order") rows ≡ None) × (order ≡ Gi
 -- One state is asked of: no flag says that any is, or which.
 abbrev pub IsOfOneState : List Row → Type 0
 IsOfOneState rows = (HasFlag (codes "any") rows → ⊥) × (HasFlag (codes "off") rows → ⊥) × (HasFlag (codes "must") rows → ⊥)
-
--- from which states an assignment is to leave the coil ON: from some one where no flag says otherwise
-abbrev pub HasStates : States → List Row → Type 0
-HasStates states.Some rows = (HasFlag (codes "off") rows → ⊥) × (HasFlag (codes "must") rows → ⊥)
-HasStates states.SomeOff rows = HasFlag (codes "off") rows × (HasFlag (codes "must") rows → ⊥)
-HasStates states.Every rows = (HasFlag (codes "off") rows → ⊥) × HasFlag (codes "must") rows
 
 -- A statement is written whole or not at all.
 abbrev pub MayHaveLimit : Form → Option ℕ → Type 0
@@ -153,7 +145,8 @@ Asks name rows (Groups list grouping) = (name ≡ codes "causes")
     × IsOfOneState rows
 Asks name rows (Possible r) = (name ≡ codes "causes")
     × HasFlag (codes "any") rows
-    × HasStates r.states rows
+    × HasSwitch (codes "off") rows r.off
+    × HasSwitch (codes "must") rows r.must
     × HasOption (codes "state") rows None
     × HasNumber (codes "at") rows None
     × HasSwitch (codes "grouped") rows r.grouped

@@ -44,6 +44,10 @@ IsOfAnyState rows = HasOption (codes "state") rows None
     × HasNumber (codes "at") rows None
     × IsOfOneScan rows
 
+-- No flag says which states count, or whether every one is meant.
+abbrev pub NamesNoStates : List Row → Type 0
+NamesNoStates rows = (HasFlag (codes "off") rows → ⊥) × (HasFlag (codes "must") rows → ⊥)
+
 -- how long the scans last, where there are several
 abbrev pub MayLast : Option Lasting → List Row → Type 0
 MayLast None rows = HasNumber (codes "scans") rows None × HasNumber (codes "for") rows None

@@ -31,17 +31,6 @@ pub struct Grouping {
     pub order: InputOrder,
 }
 
-/// The states from which an assignment leaves the coil ON, where it has a row in a list of any state.
-#[derive(Clone, Copy, Debug, PartialEq, Eq)]
-pub enum States {
-    /// Some state.
-    Some,
-    /// Some state in which the coil is OFF.
-    SomeOff,
-    /// Every state.
-    Every,
-}
-
 /// How a drawing is written.
 #[derive(Clone, Copy, Debug, PartialEq, Eq)]
 pub enum Medium {
@@ -75,8 +64,10 @@ pub struct ListRequest {
 /// What a request for a list of any state names: the states, the coil and the inputs, and how the list is written.
 #[derive(Drop)]
 pub struct PossibleRequest {
-    /// From which states an assignment leaves the coil ON, where it has a row.
-    pub states: States,
+    /// Whether only states count in which the coil is OFF.
+    pub off: bool,
+    /// Whether every state that counts is to leave the coil ON, in place of some one.
+    pub must: bool,
     /// Whether rows are those of groups, with the inputs that don't matter in each.
     pub grouped: bool,
     /// How many rows are written at most.

@@ -6,13 +6,13 @@ ghost use Rattle.clap.specs.Words.{Row, Text, all_of, first_of, found_of, kind_o
 ghost use Rattle.clap.specs.Words.{fault_of as clap_fault};
 ghost use Rattle.ladder_command.specs.CommandLine.{ladder_app};
 ghost use Rattle.ladder_pages.specs.Pages.{is_fault_code};
-ghost use Rattle.ladder_words.specs.Asking.{Asks, AsksBy, AsksNone, HasNoTask, HasTask, HasEvery, HasFlag, HasForm, HasInputs, HasLasting, HasMedium, HasNumber, HasOrder, HasOption, HasStates, HasSwitch, IsNamed, IsOfOneState, IsTable, MayHaveLimit, NamesList, HasScans, Says, scans_until};
-ghost use Rattle.ladder_words.specs.Parts.{HasGrouping, HasSources, IsOfAnyState, IsOfOneScan, IsOfRecords, IsWhole, MayLast, NamesScan, Plays};
+ghost use Rattle.ladder_words.specs.Asking.{Asks, AsksBy, AsksNone, HasNoTask, HasTask, HasEvery, HasFlag, HasForm, HasInputs, HasLasting, HasMedium, HasNumber, HasOrder, HasOption, HasSwitch, IsNamed, IsOfOneState, IsTable, MayHaveLimit, NamesList, HasScans, Says, scans_until};
+ghost use Rattle.ladder_words.specs.Parts.{HasGrouping, HasSources, IsOfAnyState, IsOfOneScan, IsOfRecords, IsWhole, MayLast, NamesNoStates, NamesScan, Plays};
 ghost use Rattle.ladder_words.specs.Faults.{IsFaultOf, SaysOf, UsageWhere};
 
 use crate::request::{
     CommandLine, FilmRequest, Form, Grouping, InputOrder, ListRequest, Medium, NeverRequest,
-    PossibleRequest, Request, ShowRequest, SimRequest, States, Task, WavesRequest, WordFault,
+    PossibleRequest, Request, ShowRequest, SimRequest, Task, WavesRequest, WordFault,
 };
 use clap::ArgMatches;
 use clap::error::ErrorKind;
@@ -29,7 +29,7 @@ const EVERY: u64 = 10;
 ///
 /// `Mistake` where `clap` finds a fault other than that help is asked for, with what it says of it, or `Usage` when there is no memory for that; `Usage` where a fault has none of the named codes, where groups of one scan or a list over several scans are to begin after a
 /// number, where a time between scans is asked for without several scans, several scans by their number and by a time, where a form or the order `auto` is asked for without groups of one scan in one state, or both forms, or a statement with a limit, or an order that has another name, where
-/// inputs are named beside all of them, where any state is asked of and a state, a moment, a number to begin after, several scans, a time between scans, a form or the order `auto` is named as well, or both which states are meant, where it is said which states are meant and any state isn't asked of, where a stimulus is to be shown with a moment, a number or listed inputs, or a waveform to be written with a saved state, and nowhere else; `Help` with its text where help is asked for; `Memory` when out of memory.
+/// inputs are named beside all of them, where any state is asked of and a state, a moment, a number to begin after, several scans, a time between scans, a form or the order `auto` is named as well, where it is said which states count and any state isn't asked of, where a stimulus is to be shown with a moment, a number or listed inputs, or a waveform to be written with a saved state, and nowhere else; `Help` with its text where help is asked for; `Memory` when out of memory.
 pub fn read_words(alloc: Global, words: Vec<String>) -> Result<Task, WordFault>
     ensures asks { IfOk result (AsksBy ladder_app (map string_bytes words.items)) }
 
@@ -172,17 +172,17 @@ fn causes_request(alloc: Global, found: &ArgMatches<'_>) -> Result<Request, Word
     if is_set(found, "any") {
         return possible_request(alloc, found);
     }
-    // Which states are meant is said of any state alone.
+    // Which states count is said of any state alone.
     if names_states(found) {
         return Err(WordFault::Usage);
     }
     one_state_request(alloc, found)
 }
 
-/// Whether a flag says which states are meant.
+/// Whether a flag says which states count, or that every one is meant.
 fn names_states(found: &ArgMatches<'_>) -> bool
-    ensures none { result ≡ false → HasStates States.Some (rows_of (found_of found.now)) }
-    ensures some { result ≡ true → HasStates States.Some (rows_of (found_of found.now)) → ⊥ }
+    ensures none { result ≡ false → NamesNoStates (rows_of (found_of found.now)) }
+    ensures some { result ≡ true → NamesNoStates (rows_of (found_of found.now)) → ⊥ }
 {
     is_set(found, "off") || is_set(found, "must")
 }
@@ -220,7 +220,8 @@ fn possible_request(alloc: Global, found: &ArgMatches<'_>) -> Result<Request, Wo
         return Err(WordFault::Usage);
     }
     refuse_grouping(found)?;
-    let states = states_of(found)?;
+    let off = is_set(found, "off");
+    let must = is_set(found, "must");
     let grouped = is_set(found, "grouped");
     let ListRequest {
         limit,
@@ -232,7 +233,8 @@ fn possible_request(alloc: Global, found: &ArgMatches<'_>) -> Result<Request, Wo
         ..
     } = list_of(alloc, found)?;
     Ok(Request::Possible(PossibleRequest {
-        states,
+        off,
+        must,
         grouped,
         limit,
         quiet,
@@ -241,19 +243,6 @@ fn possible_request(alloc: Global, found: &ArgMatches<'_>) -> Result<Request, Wo
         all_inputs,
         inputs,
     }))
-}
-
-/// The states that the flags ask for.
-fn states_of(found: &ArgMatches<'_>) -> Result<States, WordFault>
-    ensures ok { IfOk result (λ s. HasStates s (rows_of (found_of found.now))) }
-    ensures err { IfErr result (UsageWhere ((s : States) → HasStates s (rows_of (found_of found.now)) → ⊥)) }
-{
-    match (is_set(found, "off"), is_set(found, "must")) {
-        (false, false) => Ok(States::Some),
-        (true, false) => Ok(States::SomeOff),
-        (false, true) => Ok(States::Every),
-        (true, true) => Err(WordFault::Usage),
-    }
 }
 
 /// Whether a state, a moment, several scans or a number to begin after are asked for.
