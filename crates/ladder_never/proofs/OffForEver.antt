@@ -26,7 +26,7 @@ use Rattle.ladder_signals.specs.Three.{three, three_known, three_allows}
 use Rattle.ladder_signals.specs.declared.tri.Tri.{Tri}
 use Rattle.ladder_signals.specs.declared.tri.Tri.TheVariants.{Off}
 use Rattle.ladder_never.specs.Never.{Bits, IsOff, IsSetOf, OneScan, after_each, is_in, knowing}
-use Rattle.ladder_never.specs.Allowing.{Allows, AllowsState, KnowingAllows, SettledIsOff, is_on_in}
+use Rattle.ladder_never.specs.Allowing.{Allows, AllowsState, KnowingAllows, SettledHolds, is_on_in}
 use Rattle.ladder_never.specs.AnswerLaws.{OneAnswer, one_answer}
 use Rattle.ladder_never.specs.Cases.{AreNeverOn, IsSettled, IsSettledOff, answering, by_answers, by_cases, by_scan, pinned, told, with_answer, with_q}
 use Rattle.ladder_never.specs.declared.answer.Answer.{Answer}
@@ -142,6 +142,17 @@ told_off p now k h both (Memory number) e =
     (off_by _ _ ((both_at Allows k.memories (map (λ m. m) h.kept.memories) both.memories Off false (tt, λ _. refl) number).1 refl) e)
 told_off p now k h both (AnswerOf inst) e = refl
 
+is_known : (x : Tri) (b value : Bool) → three_allows x 0 b → x ≡ three_known value → b ≡ value
+is_known x b true h e = subst (λ (y : Tri). three_allows y 0 b) e h
+is_known x b false h e = subst (λ (y : Tri). three_allows y 0 b) e h
+
+told_value : (p : Drawing) (now : ℕ) (k : Known Tri Outcome) (h : Held) → AllowsState p now k h → (var : ℕ) (value : Bool) → told (Variable var) k ≡ three_known value
+    → get_or h.values var false ≡ value
+unfolding told
+told_value p now k h both var value e =
+    subst (λ (vs : List Bool). get_or vs var false ≡ value) (map_same h.values)
+    (is_known _ _ value ((both_at Allows k.values (map (λ v. v) h.values) both.values Off false (tt, λ _. refl) var).1 refl) e)
+
 either_case : {A : Type 0} (b : Bool) → (b ≡ true → A) → (b ≡ false → A) → A
 either_case true f g = f refl
 either_case false f g = g refl
@@ -178,28 +189,34 @@ module _ (p : Drawing)
       subst (λ (l : Known Bool Stored). BothKnown Allows (λ inst. MayStore (d.kind inst) (d.preset inst) now) (after_known three outcomes d 0 [] k) l)
       (known h now []) (keeps now [] [] tt k (all_known plain plainly h) both)
 
-  settled_off : (target : Point) (k : Known Tri Outcome) → IsSettled p target k → (now : ℕ) (h : Held) → AllowsState p now k h
-      → is_on_in target (after_scan (diagram_of p) now [] h) ≡ false
-  settled_off target _ (by_scan k e) now h both = told_off p now _ _ (scan_allows now k h both) target e
-  settled_off target _ (by_cases k point off on) now h both =
+  -- What is told of the target holds after the scan.
+  settled_by : (target : Point) (value : Bool) (P : Held → Type 0)
+      → ((now : ℕ) (k : Known Tri Outcome) (h : Held) → AllowsState p now k h → told target k ≡ three_known value → P h)
+      → (k : Known Tri Outcome) → IsSettled p target value k → (now : ℕ) (h : Held) → AllowsState p now k h → P (after_scan (diagram_of p) now [] h)
+  settled_by target value P tells _ (by_scan k e) now h both = tells now _ _ (scan_allows now k h both) e
+  settled_by target value P tells _ (by_cases k point off on) now h both =
       let here = pin_allows p now k h both point in
       let Allowed = λ (b : Bool). AllowsState p now (pinned k point (three_known b)) h in
       either_case (is_on_in point h)
-      (λ e. settled_off target (pinned k point (three_known true)) on now h (subst Allowed e here))
-      (λ e. settled_off target (pinned k point (three_known false)) off now h (subst Allowed e here))
-  settled_off target _ (by_answers k inst off on input) now h both = elim (answer_allows p now k h both inst) [
-    | inl m ↦ settled_off target (answering k inst AnswersOff) off now h m
-    | inr (inl m) ↦ settled_off target (answering k inst AnswersOn) on now h m
-    | inr (inr m) ↦ settled_off target (answering k inst Input) input now h m
+      (λ e. settled_by target value P tells (pinned k point (three_known true)) on now h (subst Allowed e here))
+      (λ e. settled_by target value P tells (pinned k point (three_known false)) off now h (subst Allowed e here))
+  settled_by target value P tells _ (by_answers k inst off on input) now h both = elim (answer_allows p now k h both inst) [
+    | inl m ↦ settled_by target value P tells (answering k inst AnswersOff) off now h m
+    | inr (inl m) ↦ settled_by target value P tells (answering k inst AnswersOn) on now h m
+    | inr (inr m) ↦ settled_by target value P tells (answering k inst Input) input now h m
   ]
 
-  pub settled_is_off : SettledIsOff p
-  settled_is_off = settled_off
+  settled_off : (target : Point) (k : Known Tri Outcome) → IsSettled p target false k → (now : ℕ) (h : Held) → AllowsState p now k h
+      → is_on_in target (after_scan (diagram_of p) now [] h) ≡ false
+  settled_off target = settled_by target false (λ h. is_on_in target h ≡ false) (λ now k h both e. told_off p now k h both target e)
+
+  pub settled_holds : SettledHolds p
+  settled_holds var value = settled_by (Variable var) value (λ h. get_or h.values var false ≡ value) (λ now k h both e. told_value p now k h both var value e)
 
 module _ (p : Drawing) (sound : IsSound (diagram_of p))
     (keeps : (now : ℕ) → ScanKeeps (diagram_of p) three plain outcomes plainly Allows (λ inst. MayStore ((diagram_of p).kind inst) ((diagram_of p).preset inst) now) 0 now)
     (known : KnownIsScan (diagram_of p)) (z : Bits) (set : IsSetOf p z) (settled : IsSettledOff p z) where
-  off_then : (target : Point) → IsSettled p target (knowing p z) → (h : Held) → Holds p z h → (now : ℕ) (inputs : List Bool)
+  off_then : (target : Point) → IsSettled p target false (knowing p z) → (h : Held) → Holds p z h → (now : ℕ) (inputs : List Bool)
       → is_on_in target (after_scan (diagram_of p) now inputs h) ≡ false
   off_then target is h holds now inputs =
       subst (λ (next : Held). is_on_in target next ≡ false) (scan_begun p now inputs h)

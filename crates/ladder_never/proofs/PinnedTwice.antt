@@ -135,7 +135,7 @@ set_of variables instances = record { variables = variables; instances = instanc
 pub same_bits : (xs ys zs ws : List Bool) → xs ≡ zs → ys ≡ ws → set_of xs ys ≡ set_of zs ws
 same_bits xs ys zs ws e f = ap (λ (vs : List Bool). set_of vs ys) e ∙ ap (set_of zs) f
 
-pub staying_settled : {p : Drawing} {target : Point} {after case : Known Tri Outcome} {scans : ℕ} → IsStaying p target after case scans → IsSettled p target case
+pub staying_settled : {p : Drawing} {target : Point} {after case : Known Tri Outcome} {scans : ℕ} → IsStaying p target after case scans → IsSettled p target false case
 staying_settled (staying settled plain) = settled
 
 pub staying_plain : {p : Drawing} {target : Point} {after case : Known Tri Outcome} {scans : ℕ} → IsStaying p target after case scans → scans ≡ 0

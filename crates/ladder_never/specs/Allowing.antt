@@ -35,11 +35,11 @@ is_on_in (Output inst) h = q_of (slice_index_or h.kept.blocks inst (new_block To
 is_on_in (Memory number) h = slice_index_or h.kept.memories number false
 is_on_in (AnswerOf inst) h = false
 
--- A point that is settled to be OFF from what is known is OFF after one scan from each state that this allows, at the same moment. The scan
+-- A variable that is settled from what is known has that value after one scan from each state that this allows, at the same moment. The scan
 -- gives no input a value, so that inputs keep theirs.
-abbrev pub SettledIsOff : Drawing → Type 0
-SettledIsOff p = (target : Point) (k : Known Tri Outcome) → IsSettled p target k → (moment : ℕ) (h : Held) → AllowsState p moment k h
-    → is_on_in target (after_scan (diagram_of p) moment [] h) ≡ false
+abbrev pub SettledHolds : Drawing → Type 0
+SettledHolds p = (var : ℕ) (value : Bool) (k : Known Tri Outcome) → IsSettled p (Variable var) value k → (moment : ℕ) (h : Held) → AllowsState p moment k h
+    → slice_index_or (after_scan (diagram_of p) moment [] h).values var false ≡ value
 
 -- All that is known where a set is OFF allows each state in which it is OFF, at any moment.
 abbrev pub KnowingAllows : Drawing → Type 0

@@ -1,6 +1,6 @@
 -- What is settled by cases: a scan over three values, or two of them, one where something is OFF before it and one where it is ON, or three,
 -- one for each answer of an instance, and so on.
-use Rattle.std.specs.Prelude.{◌≡◌, ℕ, true, false, List, [], slice_index_or, slice_set}
+use Rattle.std.specs.Prelude.{◌≡◌, ℕ, Bool, true, false, List, [], slice_index_or, slice_set}
 use Rattle.ladder_grid.specs.Program.{Drawing}
 use Rattle.ladder_scan.specs.Programs.{diagram_of}
 use Rattle.ladder_scan.specs.Standing.{Standing, Fits, IsStanding}
@@ -47,19 +47,19 @@ with_answer Anything b = Anything
 unfoldable pub answering : Known Tri Outcome → ℕ → Answer → Known Tri Outcome
 answering k inst a = record k { blocks = slice_set k.blocks inst (with_answer (kept_at outcomes k inst) a) }
 
--- The target is OFF after a scan from what is known: over three values it is, or else both from there with some point OFF and from there
--- with that point ON, or from there with each of the three answers of some instance.
-pub data IsSettled (p : Drawing) (target : Point) : Known Tri Outcome → Type 0 where
-  by_scan : (k : Known Tri Outcome) → told target (after_known three outcomes (diagram_of p) 0 [] k) ≡ Off → IsSettled p target k
-  by_cases : (k : Known Tri Outcome) (point : Point) → IsSettled p target (pinned k point (three_known false))
-      → IsSettled p target (pinned k point (three_known true)) → IsSettled p target k
-  by_answers : (k : Known Tri Outcome) (inst : ℕ) → IsSettled p target (answering k inst AnswersOff) → IsSettled p target (answering k inst AnswersOn)
-      → IsSettled p target (answering k inst Input) → IsSettled p target k
+-- The target has the value after a scan from what is known: over three values it has, or else both from there with some point OFF and from
+-- there with that point ON, or from there with each of the three answers of some instance.
+pub data IsSettled (p : Drawing) (target : Point) (value : Bool) : Known Tri Outcome → Type 0 where
+  by_scan : (k : Known Tri Outcome) → told target (after_known three outcomes (diagram_of p) 0 [] k) ≡ three_known value → IsSettled p target value k
+  by_cases : (k : Known Tri Outcome) (point : Point) → IsSettled p target value (pinned k point (three_known false))
+      → IsSettled p target value (pinned k point (three_known true)) → IsSettled p target value k
+  by_answers : (k : Known Tri Outcome) (inst : ℕ) → IsSettled p target value (answering k inst AnswersOff) → IsSettled p target value (answering k inst AnswersOn)
+      → IsSettled p target value (answering k inst Input) → IsSettled p target value k
 
 -- Each of the set is settled to be OFF after a scan from all that is known where the set is OFF.
 pub record IsSettledOff (p : Drawing) (z : Bits) : Type 0 where
-  pub variables : (var : ℕ) → is_in z.variables var ≡ true → IsSettled p (Variable var) (knowing p z)
-  pub instances : (inst : ℕ) → is_in z.instances inst ≡ true → IsSettled p (Output inst) (knowing p z)
+  pub variables : (var : ℕ) → is_in z.variables var ≡ true → IsSettled p (Variable var) false (knowing p z)
+  pub instances : (inst : ℕ) → is_in z.instances inst ≡ true → IsSettled p (Output inst) false (knowing p z)
 
 -- The set is OFF in a state and settled to stay OFF. Each set that one scan over three values leaves OFF, without cases, is within it, where
 -- it is OFF in the state.

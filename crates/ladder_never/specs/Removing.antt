@@ -33,7 +33,7 @@ size z = members z.variables + members z.instances
 
 -- The target is settled to be OFF after a scan from the case; without scans for further cases, that scan over three values tells it.
 pub data IsStaying (p : Drawing) (target : Point) (after case : Known Tri Outcome) (scans : ℕ) : Type 0 where
-  staying : IsSettled p target case → (scans ≡ 0 → is_off (told target after) ≡ true) → IsStaying p target after case scans
+  staying : IsSettled p target false case → (scans ≡ 0 → is_off (told target after) ≡ true) → IsStaying p target after case scans
 
 -- In the second list are some of the first: all that pass the test, and none without the property.
 pub record IsLeftBy (test : ℕ → Bool) (P : ℕ → Type 0) (bits left : List Bool) (removed : ℕ) : Type 0 where

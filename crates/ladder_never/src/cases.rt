@@ -1,4 +1,4 @@
-//! Settling, by cases, that a point is OFF after a scan.
+//! Settling, by cases, what a point is after a scan.
 
 ghost use Rattle.std.specs.Prelude.{◌≡◌, ◌≤◌, [], false, length, IsTrue};
 ghost use Rattle.ladder_scan.specs.Programs.{diagram_of};
@@ -10,7 +10,7 @@ ghost use Rattle.ladder_signals.specs.Three.{three};
 
 use crate::answer::Answer;
 use crate::outcome::Outcome;
-use crate::pinning::{answer, is_off, pin, pin_answer, told};
+use crate::pinning::{answer, is_known, pin, pin_answer, told};
 use crate::point::Point;
 use ladder_glance::{Knowledge, Room, scan_known};
 use ladder_grid::Program;
@@ -55,12 +55,13 @@ pub fn first_open(points: &[Point], case: &Knowledge<Tri, Outcome>) -> usize
     points.len()
 }
 
-/// Whether the target is settled to be OFF after a scan from what is known in the case, by at most so many scans, with further cases by
-/// these points. The case is the same afterwards.
+/// Whether the target is settled to have the wanted value after a scan from what is known in the case, by at most so many scans, with
+/// further cases by these points. The case is the same afterwards.
 #[cycle(settling)]
-pub fn settle_off(
+pub fn settle_value(
     program: &Program,
     target: Point,
+    wanted: bool,
     points: &[Point],
     case: &mut Knowledge<Tri, Outcome>,
     trial: &mut Knowledge<Tri, Outcome>,
@@ -70,7 +71,7 @@ pub fn settle_off(
     requires case { HasSizes program.now case.old }
     requires trial { HasSizes program.now trial.old }
     requires room { IsSpareFor program.now room.old }
-    ensures settled { IsTrue result.is_settled → IsSettled program.now target case.old }
+    ensures settled { IsTrue result.is_settled → IsSettled program.now target wanted case.old }
     ensures scans { result.scans ≤ scans }
     ensures none { scans ≡ 0 → result.is_settled ≡ false }
     ensures case { case.new ≡ case.old }
@@ -88,14 +89,18 @@ pub fn settle_off(
     let next = first_open(points, case);
     if value != Tri::Unsure || next == points.len() {
         return Search {
-            is_settled: is_off(value),
+            is_settled: is_known(value, wanted),
             scans: left,
         };
     }
     let rest = &points[next + 1..];
     match points[next] {
-        Point::Answer(inst) => by_answers(program, target, inst, rest, case, trial, room, left),
-        point => by_values(program, target, point, rest, case, trial, room, left),
+        Point::Answer(inst) => by_answers(
+            program, target, wanted, inst, rest, case, trial, room, left,
+        ),
+        point => by_values(
+            program, target, wanted, point, rest, case, trial, room, left,
+        ),
     }
 }
 
@@ -104,6 +109,7 @@ pub fn settle_off(
 fn by_values(
     program: &Program,
     target: Point,
+    wanted: bool,
     point: Point,
     rest: &[Point],
     case: &mut Knowledge<Tri, Outcome>,
@@ -114,7 +120,7 @@ fn by_values(
     requires case { HasSizes program.now case.old }
     requires trial { HasSizes program.now trial.old }
     requires room { IsSpareFor program.now room.old }
-    ensures settled { IsTrue result.is_settled → IsSettled program.now target case.old }
+    ensures settled { IsTrue result.is_settled → IsSettled program.now target wanted case.old }
     ensures scans { result.scans ≤ scans }
     ensures none { scans ≡ 0 → result.is_settled ≡ false }
     ensures case { case.new ≡ case.old }
@@ -123,13 +129,13 @@ fn by_values(
 {
     let before = told(point, case);
     pin(point, Tri::On, case);
-    let on = settle_off(program, target, rest, case, trial, room, scans);
+    let on = settle_value(program, target, wanted, rest, case, trial, room, scans);
     if !on.is_settled {
         pin(point, before, case);
         return on;
     }
     pin(point, Tri::Off, case);
-    let off = settle_off(program, target, rest, case, trial, room, on.scans);
+    let off = settle_value(program, target, wanted, rest, case, trial, room, on.scans);
     pin(point, before, case);
     off
 }
@@ -139,6 +145,7 @@ fn by_values(
 fn by_answers(
     program: &Program,
     target: Point,
+    wanted: bool,
     inst: usize,
     rest: &[Point],
     case: &mut Knowledge<Tri, Outcome>,
@@ -149,7 +156,7 @@ fn by_answers(
     requires case { HasSizes program.now case.old }
     requires trial { HasSizes program.now trial.old }
     requires room { IsSpareFor program.now room.old }
-    ensures settled { IsTrue result.is_settled → IsSettled program.now target case.old }
+    ensures settled { IsTrue result.is_settled → IsSettled program.now target wanted case.old }
     ensures scans { result.scans ≤ scans }
     ensures none { scans ≡ 0 → result.is_settled ≡ false }
     ensures case { case.new ≡ case.old }
@@ -158,19 +165,19 @@ fn by_answers(
 {
     let before = answer(inst, case);
     pin_answer(inst, Answer::On, case);
-    let on = settle_off(program, target, rest, case, trial, room, scans);
+    let on = settle_value(program, target, wanted, rest, case, trial, room, scans);
     if !on.is_settled {
         pin_answer(inst, before, case);
         return on;
     }
     pin_answer(inst, Answer::Off, case);
-    let off = settle_off(program, target, rest, case, trial, room, on.scans);
+    let off = settle_value(program, target, wanted, rest, case, trial, room, on.scans);
     if !off.is_settled {
         pin_answer(inst, before, case);
         return off;
     }
     pin_answer(inst, Answer::Input, case);
-    let input = settle_off(program, target, rest, case, trial, room, off.scans);
+    let input = settle_value(program, target, wanted, rest, case, trial, room, off.scans);
     pin_answer(inst, before, case);
     input
 }

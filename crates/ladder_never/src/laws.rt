@@ -3,7 +3,7 @@
 ghost use Rattle.ladder_elements.specs.Relations.{AllowsAt, allows_kept};
 ghost use Rattle.ladder_elements.specs.Truth.{OnePlace};
 ghost use Rattle.ladder_known.specs.KnownScan.{plainly};
-ghost use Rattle.ladder_never.specs.Allowing.{KnowingAllows, SettledIsOff};
+ghost use Rattle.ladder_never.specs.Allowing.{KnowingAllows, SettledHolds};
 ghost use Rattle.ladder_never.specs.Cases.{AreNeverOn};
 ghost use Rattle.ladder_never.specs.OutcomeLaws.{knows_kept, outcomes_grow, outcomes_keep};
 ghost use Rattle.ladder_never.specs.Outcomes.{KnowsMore, MayStore, TellsMore, outcomes};
@@ -94,10 +94,10 @@ pub fn never_on(program: &Program)
     known_is_scan(program);
 }
 
-/// A point that is settled to be OFF is OFF after a scan from each state that what is known allows at its moment, where inputs keep their
+/// A variable that is settled has that value after a scan from each state that what is known allows at its moment, where inputs keep their
 /// values.
-pub fn settled_off(program: &Program)
-    ensures { SettledIsOff program.now }
+pub fn settled(program: &Program)
+    ensures { SettledHolds program.now }
 {
     scan_keeps::<Allowing>();
     known_is_scan(program);

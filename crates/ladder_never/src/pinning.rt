@@ -1,11 +1,11 @@
 //! What is known of a point, and what is known with a value for it.
 
-ghost use Rattle.std.specs.Prelude.{◌≡◌};
+ghost use Rattle.std.specs.Prelude.{◌≡◌, true};
 ghost use Rattle.ladder_glance.specs.Sizes.{AreAsLong};
 ghost use Rattle.ladder_known.specs.KnownScan.{kept_at};
 ghost use Rattle.ladder_never.specs.Cases.{answering, is_answered, pinned, told, with_answer, with_q};
 ghost use Rattle.ladder_never.specs.Outcomes.{answer_known, outcomes};
-ghost use Rattle.ladder_never.specs.Removing.{is_off};
+ghost use Rattle.ladder_signals.specs.Three.{three_known};
 
 use crate::answer::Answer;
 use crate::outcome::Outcome;
@@ -13,12 +13,14 @@ use crate::point::Point;
 use ladder_glance::{Keep, Knowledge};
 use ladder_signals::Tri;
 
-pub(crate) fn is_off(value: Tri) -> bool
-    ensures { result ≡ is_off value }
+/// Whether it is known to be this value.
+pub fn is_known(known: Tri, value: bool) -> bool
+    ensures { result ≡ true → known ≡ three_known value }
 {
-    match value {
-        Tri::Off => true,
-        Tri::On | Tri::Unsure => false,
+    match known {
+        Tri::On => value,
+        Tri::Off => !value,
+        Tri::Unsure => false,
     }
 }
 

@@ -12,7 +12,7 @@ ghost use Rattle.ladder_never.specs.declared.point.Point.TheVariants as point;
 ghost use Rattle.ladder_signals.specs.Three.{three};
 ghost use Rattle.ladder_signals.specs.declared.tri.Tri.TheVariants.{Off};
 
-use crate::cases::settle_off;
+use crate::cases::settle_value;
 use crate::knowing::know;
 use crate::laws::leaves_off;
 use crate::outcome::Outcome;
@@ -60,9 +60,10 @@ fn stays(
         Tri::Unsure => {
             let mut points = [target; MOST_POINTS];
             let count = reach(program, target, &mut points);
-            let search = settle_off(
+            let search = settle_value(
                 program,
                 target,
+                false,
                 &points[..count],
                 &mut space.case,
                 &mut space.trial,

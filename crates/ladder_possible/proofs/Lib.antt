@@ -1,4 +1,5 @@
 pub mod Asking
+pub mod Claims
 pub mod Covering
 pub mod Given
 pub mod Rows

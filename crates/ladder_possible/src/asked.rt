@@ -20,6 +20,8 @@ pub(crate) struct Asked<'a> {
     pub coil: usize,
     pub listed: &'a [usize],
     pub before: Before,
+    /// The value of the coil that is sought after a scan.
+    pub sought: bool,
     pub number: u64,
 }
 
@@ -46,7 +48,7 @@ pub(crate) struct Knowing {
 /// What is tried in a search.
 #[derive(Drop)]
 pub(crate) struct Tried {
-    /// A state that may switch the coil on.
+    /// A state that may leave the coil at the sought value.
     pub state: State,
     /// The same after a scan.
     pub scanned: State,

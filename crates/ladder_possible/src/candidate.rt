@@ -1,9 +1,9 @@
-//! A state that may switch the coil on, and whether it does.
+//! A state that may leave the coil at the sought value, and whether it does.
 
 ghost use Rattle.std.specs.Prelude.{◌≡◌, ◌<◌, ◌≤◌, ℕ, IsTrue, Some, length, slice_index_or};
 ghost use Rattle.ladder_scan.specs.Standing.{Fits, Standing};
 ghost use Rattle.ladder_possible.specs.Numbers.{HasBits, bit_for};
-ghost use Rattle.ladder_possible.specs.Possible.{IsPossible};
+ghost use Rattle.ladder_possible.specs.Possible.{SomeLeaves};
 ghost use Rattle.ladder_possible.specs.Searching.{IsTried};
 ghost use Rattle.ladder_possible.specs.declared.content.TheConstants.{MOMENT};
 
@@ -65,14 +65,15 @@ fn set_blocks(program: &Program, case: &Knowledge<Tri, Outcome>, state: &mut Sta
     }
 }
 
-/// Whether the state counts, and one scan of it with the number's assignment leaves the coil's variable ON. `scanned` is written over.
-fn is_switched_on(asked: Asked<'_>, state: &State, scanned: &mut State) -> bool
+/// Whether the state counts, and one scan of it with the number's assignment leaves the coil's variable at the sought value. `scanned` is
+/// written over.
+fn leaves_sought(asked: Asked<'_>, state: &State, scanned: &mut State) -> bool
     requires coil { asked.coil < length asked.program.now.decls.vars }
     requires fits { Fits asked.program.now state.now }
     requires moment { state.now.moment ≡ MOMENT }
     requires bits { HasBits asked.listed.now asked.number state.now.held.values }
     requires scanned { Fits asked.program.now scanned.old }
-    ensures possible { IsTrue result → IsPossible asked.entry.program.now asked.entry.coil asked.entry.listed.now asked.entry.before asked.entry.number }
+    ensures found { IsTrue result → SomeLeaves asked.entry.program.now asked.entry.coil asked.entry.listed.now asked.entry.before asked.entry.sought asked.entry.number }
     ensures scanned { Fits asked.entry.program.now scanned.new }
 {
     state.checked();
@@ -82,25 +83,21 @@ fn is_switched_on(asked: Asked<'_>, state: &State, scanned: &mut State) -> bool
     }
     scanned.copy_from(state);
     match scan(asked.program, scanned, &[], MOMENT) {
-        Ok(()) => scanned.value(asked.coil),
+        Ok(()) => scanned.value(asked.coil) == asked.sought,
         Err(_) => false,
     }
 }
 
-/// Makes a state that is allowed by what is known, and tries whether it switches the coil on.
-pub(crate) fn is_possible(
-    asked: Asked<'_>,
-    case: &Knowledge<Tri, Outcome>,
-    tried: &mut Tried,
-) -> bool
+/// Makes a state that is allowed by what is known, and tries whether it leaves the coil at the sought value.
+pub(crate) fn is_found(asked: Asked<'_>, case: &Knowledge<Tri, Outcome>, tried: &mut Tried) -> bool
     requires few { length asked.listed.now ≤ 64 }
     requires coil { asked.coil < length asked.program.now.decls.vars }
     requires tried { IsTried asked.program.now tried.old }
-    ensures possible { IsTrue result → IsPossible asked.entry.program.now asked.entry.coil asked.entry.listed.now asked.entry.before asked.entry.number }
+    ensures found { IsTrue result → SomeLeaves asked.entry.program.now asked.entry.coil asked.entry.listed.now asked.entry.before asked.entry.sought asked.entry.number }
     ensures tried { IsTried asked.entry.program.now tried.new }
 {
     set_values(asked, case, &mut tried.state);
     set_memories(asked.program, case, &mut tried.state);
     set_blocks(asked.program, case, &mut tried.state);
-    is_switched_on(asked, &tried.state, &mut tried.scanned)
+    leaves_sought(asked, &tried.state, &mut tried.scanned)
 }

@@ -1,22 +1,22 @@
-//! Whether a number is possible.
+//! Whether some state leaves the coil at the sought value with a number.
 
 ghost use Rattle.std.specs.Prelude.{◌≡◌, ◌+◌, ◌<◌, ◌%◌, ◌^◌, length, true};
 ghost use Rattle.ladder_questions.specs.Listable.{IsListable};
 ghost use Rattle.ladder_never.specs.Never.{knowing};
 ghost use Rattle.ladder_glance.specs.Sizes.{AreAsLong};
-ghost use Rattle.ladder_possible.specs.Numbers.{IsBegun, IsGiven, MayKnowCoil};
-ghost use Rattle.ladder_possible.specs.Possible.{AreNone, IsPossible};
+ghost use Rattle.ladder_possible.specs.Numbers.{IsBegun, IsGiven, MayKnowCoil, NoneLeaves};
+ghost use Rattle.ladder_possible.specs.Possible.{SomeLeaves};
 ghost use Rattle.ladder_possible.specs.Searching.{IsSpace};
-ghost use Rattle.ladder_possible.specs.declared.judging.Verdict.TheVariants.{Never, Possible};
+ghost use Rattle.ladder_possible.specs.declared.judging.Verdict.TheVariants.{Never, Found};
 
 use crate::asked::{Asked, Space};
 use crate::before::Before;
 use crate::numbers::give;
 use crate::seeking::seek;
 use ladder_glance::Knowledge;
-use ladder_never::cases::settle_off;
+use ladder_never::cases::settle_value;
 use ladder_never::knowing::know;
-use ladder_never::laws::settled_off;
+use ladder_never::laws::settled;
 use ladder_never::pinning::pin;
 use ladder_never::{Outcome, Point};
 use ladder_signals::Tri;
@@ -27,10 +27,10 @@ const SCANS: u32 = 4096;
 /// What is settled of a number.
 #[derive(Clone, Copy, Debug, PartialEq, Eq)]
 pub(crate) enum Verdict {
-    /// No state switches the coil on with it.
+    /// No state leaves the coil at the sought value with it.
     Never,
     /// Some state does.
-    Possible,
+    Found,
     /// It isn't settled.
     Open,
 }
@@ -67,7 +67,8 @@ fn begin(asked: Asked<'_>, open_bits: u32, space: &mut Space)
     know_coil(asked, &mut known.case);
 }
 
-/// Whether at most so many scans settle that no state leaves the coil ON with the number, whatever its last bits are, which are open.
+/// Whether at most so many scans settle that no state leaves the coil at the sought value with the number, whatever its last bits are, which
+/// are open.
 pub(crate) fn is_never(
     asked: Asked<'_>,
     open_bits: u32,
@@ -79,15 +80,16 @@ pub(crate) fn is_never(
     requires aligned { asked.number % 2 ^ open_bits ≡ 0 }
     requires space { IsSpace asked.program.now space.old }
     ensures never { result ≡ true
-        → AreNone asked.entry.program.now asked.entry.coil asked.entry.listed.now asked.entry.before asked.entry.number (asked.entry.number + 2 ^ open_bits) }
+        → NoneLeaves asked.entry.program.now asked.entry.coil asked.entry.listed.now asked.entry.before asked.entry.sought asked.entry.number (asked.entry.number + 2 ^ open_bits) }
     ensures space { IsSpace asked.entry.program.now space.new }
 {
-    settled_off(asked.program);
+    settled(asked.program);
     begin(asked, open_bits, space);
     let coil = Point::Variable(asked.coil);
-    let search = settle_off(
+    let search = settle_value(
         asked.program,
         coil,
+        !asked.sought,
         points,
         &mut space.knowing.case,
         &mut space.knowing.trial,
@@ -101,13 +103,13 @@ pub(crate) fn is_never(
 pub(crate) fn judge(asked: Asked<'_>, points: &[Point], space: &mut Space) -> Verdict
     requires listable { IsListable asked.program.now asked.coil asked.listed.now }
     requires space { IsSpace asked.program.now space.old }
-    ensures never { result ≡ Never → IsPossible asked.entry.program.now asked.entry.coil asked.entry.listed.now asked.entry.before asked.entry.number → ⊥ }
-    ensures possible { result ≡ Possible → IsPossible asked.entry.program.now asked.entry.coil asked.entry.listed.now asked.entry.before asked.entry.number }
+    ensures never { result ≡ Never → SomeLeaves asked.entry.program.now asked.entry.coil asked.entry.listed.now asked.entry.before asked.entry.sought asked.entry.number → ⊥ }
+    ensures found { result ≡ Found → SomeLeaves asked.entry.program.now asked.entry.coil asked.entry.listed.now asked.entry.before asked.entry.sought asked.entry.number }
     ensures space { IsSpace asked.entry.program.now space.new }
 {
     begin(asked, 0, space);
     if seek(asked, points, space, SCANS).is_found {
-        return Verdict::Possible;
+        return Verdict::Found;
     }
     if is_never(asked, 0, points, space, SCANS) {
         Verdict::Never

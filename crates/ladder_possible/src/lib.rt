@@ -1,9 +1,10 @@
-//! Which assignments of the listed inputs switch a coil on from some state.
+//! Which assignments of the listed inputs switch a coil on from some state, or from every one.
 #![tactic(auto)]
 
 mod asked;
 mod before;
 mod candidate;
+mod claim;
 mod content;
 mod judging;
 mod numbers;
@@ -12,4 +13,5 @@ mod seeking;
 mod sight;
 
 pub use before::Before;
+pub use claim::Claim;
 pub use possible::{PossibleCause, PossibleCauses};

@@ -1,15 +1,15 @@
-//! The search for a state that switches the coil on.
+//! The search for a state that leaves the coil at the sought value.
 
 ghost use Rattle.std.specs.Prelude.{◌≡◌, ◌<◌, ◌≤◌, IsTrue, length};
 ghost use Rattle.ladder_glance.specs.Sizes.{AreAsLong};
-ghost use Rattle.ladder_possible.specs.Possible.{IsPossible};
+ghost use Rattle.ladder_possible.specs.Possible.{SomeLeaves};
 ghost use Rattle.ladder_possible.specs.Searching.{IsSpace};
 
 use crate::asked::{Asked, Space};
-use crate::candidate::is_possible;
+use crate::candidate::is_found;
 use ladder_glance::Knowledge;
 use ladder_never::cases::{first_open, look};
-use ladder_never::pinning::{pin, pin_answer};
+use ladder_never::pinning::{is_known, pin, pin_answer};
 use ladder_never::{Answer, Outcome, Point};
 use ladder_signals::Tri;
 
@@ -46,14 +46,14 @@ fn leave(point: Point, case: &mut Knowledge<Tri, Outcome>)
     }
 }
 
-/// Tries to find a state that switches the coil on, among those that the case allows: by further cases of the points, and by at most so
-/// many scans over three values. What is found is scanned as it stands.
+/// Tries to find a state that leaves the coil at the sought value, among those that the case allows: by further cases of the points, and by
+/// at most so many scans over three values. What is found is scanned as it stands.
 #[cycle(seeking)]
 pub(crate) fn seek(asked: Asked<'_>, points: &[Point], space: &mut Space, scans: u32) -> Attempt
     requires few { length asked.listed.now ≤ 64 }
     requires coil { asked.coil < length asked.program.now.decls.vars }
     requires space { IsSpace asked.program.now space.old }
-    ensures found { IsTrue result.is_found → IsPossible asked.entry.program.now asked.entry.coil asked.entry.listed.now asked.entry.before asked.entry.number }
+    ensures found { IsTrue result.is_found → SomeLeaves asked.entry.program.now asked.entry.coil asked.entry.listed.now asked.entry.before asked.entry.sought asked.entry.number }
     ensures scans { result.scans ≤ scans }
     ensures space { IsSpace asked.entry.program.now space.new }
 {
@@ -77,7 +77,8 @@ pub(crate) fn seek(asked: Asked<'_>, points: &[Point], space: &mut Space, scans:
     if value == Tri::Unsure && next < points.len() {
         return by_cases(asked, points[next], &points[next + 1..], space, left);
     }
-    let is_found = value != Tri::Off && is_possible(asked, &space.knowing.case, &mut space.tried);
+    let is_found = !is_known(value, !asked.sought)
+        && is_found(asked, &space.knowing.case, &mut space.tried);
     Attempt {
         is_found,
         scans: left,
@@ -96,7 +97,7 @@ fn by_cases(
     requires few { length asked.listed.now ≤ 64 }
     requires coil { asked.coil < length asked.program.now.decls.vars }
     requires space { IsSpace asked.program.now space.old }
-    ensures found { IsTrue result.is_found → IsPossible asked.entry.program.now asked.entry.coil asked.entry.listed.now asked.entry.before asked.entry.number }
+    ensures found { IsTrue result.is_found → SomeLeaves asked.entry.program.now asked.entry.coil asked.entry.listed.now asked.entry.before asked.entry.sought asked.entry.number }
     ensures scans { result.scans ≤ scans }
     ensures space { IsSpace asked.entry.program.now space.new }
 {

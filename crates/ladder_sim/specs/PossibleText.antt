@@ -1,4 +1,4 @@
--- The text of what is possible: a record with the names of the listed inputs, and one for each row.
+-- The text of what is possible, or forced: a record with the names of the listed inputs, and one for each row.
 use Rattle.std.specs.Prelude.{◌≡◌, ◌⊎◌, ◌≤◌, ℕ, ◌^◌, Bool, true, false, not, List, ◌∷◌, length, map, codes, count_by, decimal, Option, Some}
 use Rattle.std.specs.List.{range_with_len}
 use Rattle.ladder_records.specs.Left.{Fields}
@@ -13,7 +13,7 @@ use Rattle.ladder_sim.specs.declared.possible_text.PossibleSummary.{PossibleSumm
 abbrev pub possible_header : Drawing → List ℕ → Fields
 possible_header p listed = codes "number" ∷ codes "settled" ∷ map (name_of p) listed
 
--- whether it is settled that some state switches the coil on
+-- whether it is settled what is claimed of the number
 abbrev pub mark : Bool → List ℕ
 mark true = codes "1"
 mark false = codes "?"
@@ -32,7 +32,7 @@ IsCount s rows = (s.rows ≡ length rows) × (s.unsettled ≡ count_by (λ row. 
 -- A cursor gave these rows, and is where it is after them.
 pub record Gave (c : PossibleCursor) (rows : List PossibleCause) (d : PossibleCursor) : Type 0 where
   pub later : c.from ≤ d.from
-  pub rows_are : AreRows c.program c.coil c.listed c.before c.from d.from rows
+  pub rows_are : AreRows c.program c.coil c.listed c.before c.claim c.from d.from rows
   pub same : d ≡ record c { from = d.from }
 
 -- They were all, or as many as the limit allows.

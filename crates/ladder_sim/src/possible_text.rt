@@ -1,4 +1,4 @@
-//! The text of a list of what is possible.
+//! The text of a list of what is possible, or forced.
 
 ghost use Rattle.std.specs.Prelude.{◌≡◌, ◌≤◌, ◌^◌, ◌∷◌, [], IfOk, List, count_by, length, not};
 ghost use Rattle.ladder_questions.specs.declared.TheConstants.{LISTED_LIMIT};
@@ -16,7 +16,7 @@ use ladder_text::{Block, Piece, Sink, WriteFault, add_pieces};
 /// How many bytes the bits of a row and its line feed have at most.
 const END: usize = ROW - DIGITS;
 
-/// How many rows there are, and for how many of them it isn't settled that some state switches the coil on.
+/// How many rows there are, and for how many of them it isn't settled what the list claims.
 #[derive(Clone, Copy, Debug, PartialEq, Eq)]
 pub struct PossibleSummary {
     pub rows: u64,
@@ -87,8 +87,8 @@ fn add_rows<W: Sink>(
     }
 }
 
-/// Writes the text of what is possible from where the cursor is, or of its first rows where there is a limit: a header, and a row for each
-/// number that isn't settled to be impossible. It needs no memory.
+/// Writes the text of what is possible, or forced, from where the cursor is, or of its first rows where there is a limit: a header, and a row
+/// for each number of which the contrary isn't settled. It needs no memory.
 ///
 /// # Errors
 ///

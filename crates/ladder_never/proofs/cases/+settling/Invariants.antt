@@ -1,8 +1,8 @@
 use Rattle.std.proofs.Common.{◌+◌, ◌*◌}
 use Rattle.ladder_never.proofs.cases.+settling.Given as goal
 
-abbrev pub decreases-settle_off : goal.decreases-settle_off
-decreases-settle_off l = 2 * l.scans
+abbrev pub decreases-settle_value : goal.decreases-settle_value
+decreases-settle_value l = 2 * l.scans
 
 abbrev pub decreases-by_values : goal.decreases-by_values
 decreases-by_values l = 2 * l.scans + 1

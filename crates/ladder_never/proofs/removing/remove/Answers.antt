@@ -1,4 +1,4 @@
-use Rattle.std.proofs.Common.{◌∙◌, ap, arith, subst, sym, []}
+use Rattle.std.proofs.Common.{◌∙◌, ap, arith, false, subst, sym, []}
 use Rattle.std.proofs.lemmas.List.{with_items_is}
 use Rattle.ladder_scan.specs.Programs.{diagram_of}
 use Rattle.ladder_known.specs.KnownScan.{after_known, Known}
@@ -69,9 +69,9 @@ returns-clause-settled c = λ nothing.
     (with_items_is before.instances c.leave_instances-instances.new.instances (c.leave_instances-instances.auto.instances ∙ c.deref_mut-2.ensures.len) ∙ instances)))
     (record {
       variables = λ var m.
-          subst (λ (k : Known Tri Outcome). IsSettled c.args.program.now (Variable var) k) c.know.ensures.known
+          subst (λ (k : Known Tri Outcome). IsSettled c.args.program.now (Variable var) false k) c.know.ensures.known
           (staying_settled (c.leave_variables-variables.ensures.left.holds var (moved _ _ var (sym variables) m)));
       instances = λ inst m.
-          subst (λ (k : Known Tri Outcome). IsSettled c.args.program.now (Output inst) k) (c.leave_variables-variables.ensures.case ∙ c.know.ensures.known)
+          subst (λ (k : Known Tri Outcome). IsSettled c.args.program.now (Output inst) false k) (c.leave_variables-variables.ensures.case ∙ c.know.ensures.known)
           (staying_settled (c.leave_instances-instances.ensures.left.holds inst (moved _ _ inst (sym instances) m)));
     })

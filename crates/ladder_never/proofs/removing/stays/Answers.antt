@@ -11,4 +11,4 @@ returns-in-Off-clause-stays c = λ yes.
 
 pub returns-in-Unsure-clause-stays : goal.returns-in-Unsure-clause-stays
 returns-in-Unsure-clause-stays c = λ yes.
-    staying (c.settle_off-search.ensures.settled yes) (λ none. neither_on (c.settle_off-search.ensures.none none) yes)
+    staying (c.settle_value-search.ensures.settled yes) (λ none. neither_on (c.settle_value-search.ensures.none none) yes)

@@ -1,4 +1,4 @@
-use Rattle.std.proofs.Common.{◌∙◌, ◌+◌, add-one, ap, drop, refl, sym}
+use Rattle.std.proofs.Common.{◌∙◌, add-one, ap, drop, refl, sym}
 use Rattle.ladder_records.specs.Text.{line_text}
 use Rattle.ladder_sim.specs.HeldText.{held_record}
 use Rattle.ladder_sim.proofs.Limits.{added_prefix, added_more, added_none, lines}
