@@ -12,8 +12,8 @@ from typing import NamedTuple
 
 from end_to_end import differences, run
 from lanes import MOMENT, Everywhere, Lanes, do_suffice, never, open_bits
-from model import FORMS, Program, text_of
-from running import Running
+from model import FORMS, Program, classes_answer, text_of
+from running import Running, bits_of
 
 FRAME = re.compile(r'<input type=radio name=record title="(.*?)">\n<pre>\n(.*?)</pre>', re.DOTALL)
 MOST_BITS = 18
@@ -59,11 +59,6 @@ class Told(Program):
 
     def causes_of(self, coil, listed):
         return [(number, bits_of(number, len(listed))) for number, is_on in enumerate(self.table) if is_on], None
-
-
-def bits_of(number, length):
-    """The bits of a number, the most significant one first."""
-    return [number >> shift & 1 for shift in reversed(range(length))]
 
 
 def some_moment(chance):
@@ -237,6 +232,14 @@ def compare_many_held(trial):
         return None
     sorts = SORTS if is_late else [chance.choice(SORTS)]
     return [difference for sort in sorts for difference in compare_held_from(trial, sort, every, scans)]
+
+
+def compare_held_groups(trial, first, asked):
+    """The list over several scans in groups; `first` has the first scan of each number that has one, and the list was asked by these words."""
+    header = Program(trial.text).header("causes", trial.listed)
+    header.insert(1, "scan")
+    out, err = classes_answer(header, first, len(trial.listed))
+    return differences(trial.ask("causes", "--grouped", *asked), (out.encode(), err.encode(), 0))
 
 
 def compare_held_from(trial, sort, every, scans):

@@ -1,0 +1,25 @@
+-- The text of groups by class: a record with the names of the listed inputs, and one for each group.
+use Rattle.std.specs.Prelude.{ℕ, List, ◌∷◌, length, map, codes, decimal}
+use Rattle.ladder_classes.specs.declared.walk.ClassGroup.{ClassGroup}
+use Rattle.ladder_grid.specs.Program.{Drawing}
+use Rattle.ladder_groups.specs.Groups.{Row, cells, size}
+use Rattle.ladder_records.specs.Left.{Fields}
+use Rattle.ladder_records.specs.Text.{lines_text}
+use Rattle.ladder_sim.specs.CauseText.{name_of}
+use Rattle.ladder_sim.specs.GroupText.{cell_text}
+
+-- how many causes the row stands for, in decimal, the column of their class, and the row's cells
+abbrev pub class_record : List ℕ → Row → Fields
+class_record column row = decimal (size row) ∷ column ∷ map cell_text row
+
+-- ---- over several scans
+
+abbrev pub held_group_header : Drawing → List ℕ → Fields
+held_group_header p listed = codes "causes" ∷ codes "scan" ∷ map (name_of p) listed
+
+-- The class is the first scan after which the coil is ON.
+abbrev pub held_group_record : ℕ → ClassGroup → Fields
+held_group_record k r = class_record (decimal r.class) (cells k r.group)
+
+abbrev pub held_group_text : Drawing → List ℕ → List ClassGroup → List ℕ
+held_group_text p listed groups = lines_text (held_group_header p listed ∷ map (held_group_record (length listed)) groups)

@@ -1,0 +1,9 @@
+//! The texts of groups by class.
+#![tactic(auto)]
+
+mod cells;
+mod header;
+mod held_text;
+mod row;
+
+pub use held_text::write_held_groups;

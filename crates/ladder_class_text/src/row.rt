@@ -1,0 +1,52 @@
+//! The row of a group.
+
+ghost use Rattle.std.specs.Prelude.{◌≡◌, ◌≤◌, IfOk};
+ghost use Rattle.ladder_text.specs.Block.{Sends};
+ghost use Rattle.ladder_text.specs.Pieces.{piece_text};
+ghost use Rattle.ladder_records.specs.Text.{line_text};
+ghost use Rattle.ladder_groups.specs.Groups.{cells, size};
+ghost use Rattle.ladder_class_text.specs.ClassText.{class_record};
+
+use crate::cells::{fill_end, size_of};
+use ladder_groups::Group;
+use ladder_text::{Block, Piece, Sink, WriteFault, add_pieces};
+
+/// How many bytes the cells of a row and its line feed have at most.
+const END: usize = 65;
+
+/// Adds the record of a group that has so many numbers, and this in the column of its class.
+fn add_record<W: Sink>(
+    block: &mut Block,
+    group: Group,
+    numbers: u64,
+    column: Piece<'_>,
+    listed: usize,
+    writer: &mut W,
+) -> Result<(), WriteFault>
+    requires few { listed ≤ 32 }
+    requires numbers { numbers ≡ size (cells listed group) }
+    ensures { Sends (W.log writer.old) (W.log writer.new) block.old block.new result (line_text (class_record (piece_text column.entry) (cells listed group))) }
+{
+    let pieces = [Piece::Number(numbers), Piece::Text(b","), column];
+    let mut end = [0; END];
+    fill_end(&mut end, listed, group);
+    add_pieces(block, pieces.as_slice(), writer)?;
+    block.add(&end[..2 * listed + 1], writer)
+}
+
+/// Adds the row of a group, with this in the column of its class, and returns how many numbers the group has.
+pub(crate) fn add_row<W: Sink>(
+    block: &mut Block,
+    group: Group,
+    column: Piece<'_>,
+    listed: usize,
+    writer: &mut W,
+) -> Result<u64, WriteFault>
+    requires few { listed ≤ 32 }
+    ensures sends { Sends (W.log writer.old) (W.log writer.new) block.old block.new result (line_text (class_record (piece_text column.entry) (cells listed group))) }
+    ensures size { IfOk result (λ n. n ≡ size (cells listed group)) }
+{
+    let numbers = size_of(group, listed);
+    add_record(block, group, numbers, column, listed, writer)?;
+    Ok(numbers)
+}

@@ -1,0 +1,3 @@
+pub mod Cursor
+pub mod FirstScans
+pub mod GroupRefusal
