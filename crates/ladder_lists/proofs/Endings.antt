@@ -21,12 +21,18 @@ use Rattle.ladder_lists.specs.Asked.{question_of}
 use Rattle.ladder_lists.specs.declared.asking.Asked.{Asked}
 use Rattle.ladder_held.specs.HeldRefusal.{held_reason}
 use Rattle.ladder_several.specs.Rows.{HeldCursor}
+use Rattle.ladder_held_groups.specs.Cursor.{HeldGroupCursor, held_groups}
+use Rattle.ladder_held_groups.specs.GroupRefusal.{held_group_reason}
+use Rattle.ladder_held_groups.specs.declared.fault.HeldGroupFault.{HeldGroupFault}
+use Rattle.ladder_held_groups.specs.declared.fault.HeldGroupFault.TheVariants as held_group
+use Rattle.ladder_classes.specs.Classes.{numbers_in}
+use Rattle.ladder_class_text.specs.ClassText.{held_group_text}
 use Rattle.ladder_held.specs.Holding.{held_causes}
 use Rattle.ladder_held.specs.declared.fault.HeldFault.{HeldFault}
 use Rattle.ladder_held.specs.declared.fault.HeldFault.TheVariants as held
 use Rattle.ladder_held.specs.declared.scans.Scans.{Scans}
 use Rattle.ladder_sim.specs.HeldText.{held_text}
-use Rattle.ladder_lists.specs.Lists.{HasHeldFault, HasListFault, HasScansFault, HasNameFault, IsAsked, causes_for, counts_text, form_on, groups_line, held_line, looks_for, ordered, rows_for, rows_line, rows_text, unless_quiet}
+use Rattle.ladder_lists.specs.Lists.{HasHeldFault, HasHeldGroupFault, HasHeldGroupsFault, HasListFault, HasNameFault, HasScansFault, IsAsked, causes_for, counts_text, form_on, groups_line, held_counts_text, held_groups_for, held_line, looks_for, ordered, rows_for, rows_line, rows_text, unless_quiet}
 use Rattle.ladder_setting.specs.Setting.{Given, HasSettingFault, IsSet}
 use Rattle.ladder_setting.specs.declared.fault.ToolFault.{ToolFault}
 use Rattle.ladder_causes.specs.Order.{RefusedInAnyOrder, SiftedIsPermutation, sifted}
@@ -101,6 +107,35 @@ scans_fault first cause.NotAnInput h = inr h
 scans_fault first cause.RepeatedInput h = inr h
 scans_fault first cause.AfterOutOfRange h = inr h
 scans_fault first cause.Memory h = inl refl
+
+-- The same for groups over several scans.
+pub before_held_groups : (g : Given) (r : ListRequest) (s : Scans) (f : ToolFault) → HasSettingFault g f ⊎ HasNameFault g r f → HasHeldGroupsFault g r s f
+before_held_groups g r s f (inl setting) = inl setting
+before_held_groups g r s f (inr name) = inr (inl name)
+
+pub held_groups_fault : (first : Option HeldGroupFault) (f : CauseFault) → first ≡ held_group_reason (held_group.Held (held.Question f)) → HasHeldGroupFault first (fault.Cause f)
+held_groups_fault first cause.MomentBack h = inr (inl h)
+held_groups_fault first cause.NotACoil h = inr (inl h)
+held_groups_fault first cause.TooManyFree h = inr (inl h)
+held_groups_fault first cause.NotAnInput h = inr (inl h)
+held_groups_fault first cause.RepeatedInput h = inr (inl h)
+held_groups_fault first cause.AfterOutOfRange h = inr (inl h)
+held_groups_fault first cause.Memory h = inl refl
+
+pub held_groups_are : (r : ListRequest) (q : Question) (s : Scans) (c : HeldGroupCursor) → c.program ≡ q.program → c.listed ≡ q.listed → c.rest ≡ held_groups q s
+    → held_group_text c.program c.listed (limited r.limit c.rest) ≡ held_group_text q.program q.listed (held_groups_for r q s)
+held_groups_are r q s c of_program of_listed made =
+    ap (λ (d : Drawing). held_group_text d c.listed (limited r.limit c.rest)) of_program
+    ∙ ap (λ g. held_group_text q.program g (limited r.limit c.rest)) of_listed
+    ∙ ap (λ rs. held_group_text q.program q.listed (limited r.limit rs)) made
+
+pub held_groups_count : (r : ListRequest) (q : Question) (s : Scans) (c : HeldGroupCursor) (rows causes : ℕ) → c.listed ≡ q.listed → c.rest ≡ held_groups q s
+    → rows ≡ length (limited r.limit c.rest) → causes ≡ numbers_in (length c.listed) (limited r.limit c.rest)
+    → unless_quiet r.quiet (groups_line rows causes) ≡ held_counts_text r q s
+held_groups_count r q s c rows causes of_listed made h l =
+    ap (λ n. unless_quiet r.quiet (groups_line n causes)) (h ∙ ap (λ rs. length (limited r.limit rs)) made)
+    ∙ ap (λ n. unless_quiet r.quiet (groups_line (length (held_groups_for r q s)) n))
+    (l ∙ ap (λ xs. numbers_in (length xs) (limited r.limit c.rest)) of_listed ∙ ap (λ rs. numbers_in (length q.listed) (limited r.limit rs)) made)
 
 -- What a cursor over groups has to give, in a form, is what is asked.
 pub groups_are : (r : ListRequest) (p : Drawing) (q : Question) (form asked : GroupForm) → form ≡ asked → (c : GroupCursor) → c.program ≡ p → c.listed ≡ q.listed

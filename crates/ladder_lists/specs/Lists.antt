@@ -14,6 +14,13 @@ use Rattle.ladder_groups.specs.Groups.{Row}
 use Rattle.ladder_groups.specs.Groups as groups
 use Rattle.ladder_held.specs.HeldRefusal.{held_refusal}
 use Rattle.ladder_held.specs.Holding.{held_causes}
+use Rattle.ladder_held_groups.specs.Cursor.{held_groups}
+use Rattle.ladder_held_groups.specs.GroupRefusal.{held_group_refusal}
+use Rattle.ladder_held_groups.specs.declared.fault.HeldGroupFault.{HeldGroupFault}
+use Rattle.ladder_held_groups.specs.declared.fault.HeldGroupFault.TheVariants as held_group
+use Rattle.ladder_classes.specs.Classes.{numbers_in}
+use Rattle.ladder_classes.specs.declared.walk.ClassGroup.{ClassGroup}
+use Rattle.ladder_class_text.specs.ClassText.{held_group_text}
 use Rattle.ladder_held.specs.declared.fault.HeldFault.{HeldFault}
 use Rattle.ladder_held.specs.declared.fault.HeldFault.TheVariants as held
 use Rattle.ladder_held.specs.declared.scans.Scans.{Scans}
@@ -23,6 +30,10 @@ use Rattle.ladder_never.specs.Never.{Bits, IsOff, after_each}
 use Rattle.ladder_never.specs.Never as never
 use Rattle.ladder_sim.specs.CauseText.{cause_text, limited}
 use Rattle.ladder_possible.specs.Possible.{AreRows}
+use Rattle.ladder_possible.specs.declared.before.Before.{Before}
+use Rattle.ladder_possible.specs.declared.before.Before.TheVariants as before
+use Rattle.ladder_possible.specs.declared.claim.Claim.{Claim}
+use Rattle.ladder_possible.specs.declared.claim.Claim.TheVariants as claim
 use Rattle.ladder_possible.specs.declared.possible.PossibleCause.{PossibleCause}
 use Rattle.ladder_sim.specs.HeldText.{held_text}
 use Rattle.ladder_sim.specs.PossibleText.{possible_text}
@@ -143,6 +154,65 @@ BreaksHeld g r s old new =
     (ListsHeld g r s (PutsPrefix old.out new.out) × IsReported g old.err new.err fault.Write)
     ⊎ CountsHeld g r s old.out new.out (PutsPrefix old.err new.err)
 
+-- ---- a list over several scans in groups
+
+-- the groups of each first scan, or the first of them where there is a limit
+abbrev pub held_groups_for : ListRequest → Question → Scans → List ClassGroup
+held_groups_for r q s = limited r.limit (held_groups q s)
+
+-- The text of the groups over these scans is written, whole or as far as `Written` says: all rows that are asked for, and no other.
+pub record GroupsHeld (g : Given) (r : ListRequest) (s : Scans) (Written : List ℕ → Type 0) : Type 0 where
+  pub question : Question
+  pub asked : IsAsked g r question
+  pub accepted : held_group_refusal question s ≡ None
+  pub rows : Written (held_group_text question.program question.listed (held_groups_for r question s))
+
+-- The same, where groups have a rule of their own: they are of fewer inputs than other lists, and too many are told in the same way.
+abbrev pub HasHeldGroupFault : Option HeldGroupFault → ToolFault → Type 0
+HasHeldGroupFault first (fault.Cause f) =
+    (f ≡ cause.Memory) ⊎ ((first ≡ Some (held_group.Held (held.Question f))) ⊎ ((f ≡ cause.TooManyFree) × (first ≡ Some held_group.TooManyInputs)))
+HasHeldGroupFault first fault.NoScans = first ≡ Some (held_group.Held held.NoScans)
+HasHeldGroupFault first other = ⊥
+
+-- Faults are looked for in the order of those of a list over several scans.
+abbrev pub HasHeldGroupsFault : Given → ListRequest → Scans → ToolFault → Type 0
+HasHeldGroupsFault g r s f =
+    HasSettingFault g f ⊎ (HasNameFault g r f ⊎ ((q : Question) × IsAsked g r q × HasHeldGroupFault (held_group_refusal q s) f))
+
+-- `rows R causes C`
+abbrev pub groups_line : ℕ → ℕ → List ℕ
+groups_line rows causes = codes "rows " ++ (decimal rows ++ (codes " causes " ++ (decimal causes ++ codes "\n")))
+
+-- how many rows are listed, and how many causes they stand for
+abbrev pub held_counts_text : ListRequest → Question → Scans → List ℕ
+held_counts_text r q s =
+    unless_quiet r.quiet (groups_line (length (held_groups_for r q s)) (numbers_in (length q.listed) (held_groups_for r q s)))
+
+-- The rows were listed, and then their number and that of their causes is written: whole, or as far as `Counted` says.
+pub record CountsHeldGroups (g : Given) (r : ListRequest) (s : Scans) (out out' : WriteLog) (Counted : List ℕ → Type 0) : Type 0 where
+  pub list : GroupsHeld g r s (PutsAll out out')
+  pub count : Counted (held_counts_text r list.question s)
+
+-- Status 1: `out` failed at the rows, or `err` at their count.
+abbrev pub BreaksHeldGroups : Given → ListRequest → Scans → Logs → Logs → Type 0
+BreaksHeldGroups g r s old new =
+    (GroupsHeld g r s (PutsPrefix old.out new.out) × IsReported g old.err new.err fault.Write)
+    ⊎ CountsHeldGroups g r s old.out new.out (PutsPrefix old.err new.err)
+
+-- ---- a list over several scans, in groups or not
+
+abbrev pub CountsHeldBy : Bool → Given → ListRequest → Scans → WriteLog → WriteLog → (List ℕ → Type 0) → Type 0
+CountsHeldBy true = CountsHeldGroups
+CountsHeldBy false = CountsHeld
+
+abbrev pub HasHeldFaultBy : Bool → Given → ListRequest → Scans → ToolFault → Type 0
+HasHeldFaultBy true = HasHeldGroupsFault
+HasHeldFaultBy false = HasHeldFault
+
+abbrev pub BreaksHeldBy : Bool → Given → ListRequest → Scans → Logs → Logs → Type 0
+BreaksHeldBy true = BreaksHeldGroups
+BreaksHeldBy false = BreaksHeld
+
 -- ---- what can never come ON
 
 -- The names of some variables and blocks are written with the places where they are drawn, whole or as far as `Written` says. None is an
@@ -180,15 +250,25 @@ pub record IsAskedOfAll (g : Given) (r : PossibleRequest) (q : Question) : Type 
   pub on : variable_of q.program.decls (string_bytes r.coil) ≡ Some q.coil
   pub among : AreListed q.program.decls r.all_inputs (map string_bytes r.inputs.items) q.listed
 
--- The text of some rows is written, whole or as far as `Written` says: below a number each one with which some state, at some moment, switches
--- the coil on has a row, and the number of each row that is settled is such a one.
+-- which states count: all, or those in which the coil is OFF
+abbrev pub counted : Bool → Before
+counted true = before.Off
+counted false = before.Any
+
+-- what a row claims of its number: that every state that counts leaves the coil ON, or that some one does
+abbrev pub claimed : Bool → Claim
+claimed true = claim.Forced
+claimed false = claim.Possible
+
+-- The text of some rows is written, whole or as far as `Written` says: below a number each one of which the claim holds has a row, and the
+-- claim holds of each row that is settled.
 pub record ListsPossible (g : Given) (r : PossibleRequest) (Written : List ℕ → Type 0) : Type 0 where
   pub question : Question
   pub asked : IsAskedOfAll g r question
   pub accepted : refusal question None ≡ None
   pub rows : List PossibleCause
   pub to : ℕ
-  pub are : AreRows question.program question.coil question.listed 0 to rows
+  pub are : AreRows question.program question.coil question.listed (counted r.off) (claimed r.must) 0 to rows
   pub written : Written (possible_text question.program question.listed rows)
 
 -- A fault of the names: COIL is word 1, the first INPUT word 2.
@@ -243,10 +323,6 @@ pub record Grouped (g : Given) (r : ListRequest) (how : Grouping) (Written : Lis
 
 abbrev pub ListsGroups : Given → ListRequest → Grouping → WriteLog → WriteLog → Type 0
 ListsGroups g r how out out' = Grouped g r how (PutsAll out out')
-
--- `rows R causes C`
-abbrev pub groups_line : ℕ → ℕ → List ℕ
-groups_line rows causes = codes "rows " ++ (decimal rows ++ (codes " causes " ++ (decimal causes ++ codes "\n")))
 
 -- how many rows are listed, and how many causes they stand for
 abbrev pub counts_text : ListRequest → Question → List ℕ

@@ -18,7 +18,12 @@ use ladder_text::{Piece, Sink, WriteFault, put_pieces};
 use ladder_words::{Form, Grouping, InputOrder, ListRequest};
 use std::alloc::Global;
 
-fn put_counts<E: Sink>(quiet: bool, summary: GroupSummary, err: &mut E) -> Result<(), WriteFault>
+/// Writes how many rows there are, and how many causes they stand for, where that is asked for.
+pub(crate) fn put_counts<E: Sink>(
+    quiet: bool,
+    summary: GroupSummary,
+    err: &mut E,
+) -> Result<(), WriteFault>
     ensures { Puts (E.log err.old) (E.log err.new) result (unless_quiet quiet (groups_line summary.rows summary.causes)) }
 {
     if quiet {

@@ -3,6 +3,7 @@
 
 mod asking;
 mod grouping;
+mod held_grouping;
 mod holding;
 mod listing;
 mod never;

@@ -1,14 +1,14 @@
-//! A request for what some state switches on.
+//! A request for what some state, or every one, switches on.
 
 ghost use Rattle.std.specs.Prelude.{◌≡◌, ◌≤◌, ◌⊎◌, IfErr, IfOk};
 ghost use Rattle.ladder_text.specs.Log.{Puts, PutsAll, WriteLog};
 ghost use Rattle.ladder_lists.specs.Asked.{stored_question};
 ghost use Rattle.ladder_setting.specs.Reports.{Refuses, logs};
-ghost use Rattle.ladder_lists.specs.Lists.{BreaksPossible, CountsPossible, HasNamesFault, HasPossibleFault, IsAskedOfAll, possible_line, unless_quiet};
+ghost use Rattle.ladder_lists.specs.Lists.{BreaksPossible, CountsPossible, HasNamesFault, HasPossibleFault, IsAskedOfAll, claimed, counted, possible_line, unless_quiet};
 ghost use Rattle.ladder_setting.specs.Setting.{HasSettingFault, given_by};
 
 use crate::asking::Asked;
-use ladder_possible::PossibleCauses;
+use ladder_possible::{Before, Claim, PossibleCauses};
 use ladder_setting::{Setting, Texts, ToolFault, asked_variables, read_setting, report};
 use ladder_sim::{PossibleSummary, write_possible_causes};
 use ladder_text::{Piece, Sink, WriteFault, put_pieces};
@@ -63,7 +63,21 @@ fn read_asked(alloc: Global, request: &PossibleRequest, texts: &Texts) -> Result
     }
 }
 
-/// Lists what some state switches on, of what is asked.
+/// Which states count.
+fn before_of(off: bool) -> Before
+    ensures { result ≡ counted off }
+{
+    if off { Before::Off } else { Before::Any }
+}
+
+/// What a row claims of its number.
+fn claim_of(must: bool) -> Claim
+    ensures { result ≡ claimed must }
+{
+    if must { Claim::Forced } else { Claim::Possible }
+}
+
+/// Lists what some state, or every one, switches on, of what is asked.
 fn list_asked<O: Sink, E: Sink>(
     alloc: Global,
     request: &PossibleRequest,
@@ -79,12 +93,16 @@ fn list_asked<O: Sink, E: Sink>(
         → Refuses (given_by texts.now) (HasPossibleFault (given_by texts.now) request.now) (logs (O.log out.old) save (E.log err.old)) (logs (O.log out.new) save (E.log err.new))
         ⊎ BreaksPossible (given_by texts.now) request.now (logs (O.log out.old) save (E.log err.old)) (logs (O.log out.new) save (E.log err.new)) }
 {
+    let before = before_of(request.off);
+    let claim = claim_of(request.must);
     let mut cursor = match PossibleCauses::new(
         alloc,
         &asked.program,
         &asked.state,
         asked.coil,
         &asked.inputs,
+        before,
+        claim,
     ) {
         Ok(cursor) => cursor,
         Err(fault) => return report(texts, &ToolFault::Cause(fault), err),
@@ -100,7 +118,7 @@ fn list_asked<O: Sink, E: Sink>(
     0
 }
 
-/// Lists what some state switches on, of the coil of the texts.
+/// Lists what some state, or every one, switches on, of the coil of the texts.
 pub fn list_possible<O: Sink, E: Sink>(
     alloc: Global,
     request: &PossibleRequest,

@@ -9,14 +9,14 @@ use Rattle.ladder_words.specs.declared.request.Request.TheVariants.{Causes, Chec
 use Rattle.ladder_words.specs.declared.request.Request.TheVariants as request
 use Rattle.ladder_setting.specs.Setting.{Given, HasProgramFault, HasSettingFault}
 use Rattle.ladder_setting.specs.Reports.{IsReported, Logs, Refuses}
-use Rattle.ladder_lists.specs.Lists.{BreaksGroups, BreaksHeld, BreaksList, BreaksNever, BreaksPossible, CountsGroups, CountsHeld, CountsList, CountsNever, CountsPossible, HasHeldFault, HasListFault, HasNeverFault, HasPossibleFault, scans_of}
+use Rattle.ladder_lists.specs.Lists.{BreaksGroups, BreaksHeldBy, BreaksList, BreaksNever, BreaksPossible, CountsGroups, CountsHeldBy, CountsList, CountsNever, CountsPossible, HasHeldFaultBy, HasListFault, HasNeverFault, HasPossibleFault, scans_of}
 use Rattle.ladder_views.specs.Views.{BreaksFilm, BreaksTrace, BreaksWaves, HasFilmFault, HasShowFault, IsFilmed, IsTraced, IsWaved, Prints, Shows, check_text}
 
 -- Status 0. Only a simulation writes on `save`, and only a list on `err`.
 abbrev pub IsDone : Request → Given → Logs → Logs → Type 0
 IsDone (Check file warns) g old new = Prints (check_text warns) g.program (PutsAll old.out new.out) × (new.save ≡ old.save) × (new.err ≡ old.err)
 IsDone (Causes list after) g old new = CountsList g list after old.out new.out (PutsAll old.err new.err) × (new.save ≡ old.save)
-IsDone (Held list scans every) g old new = CountsHeld g list (scans_of scans every) old.out new.out (PutsAll old.err new.err) × (new.save ≡ old.save)
+IsDone (Held list scans every grouped) g old new = CountsHeldBy grouped g list (scans_of scans every) old.out new.out (PutsAll old.err new.err) × (new.save ≡ old.save)
 IsDone (request.Never r) g old new = CountsNever g r old.out new.out (PutsAll old.err new.err) × (new.save ≡ old.save)
 IsDone (request.Possible r) g old new = CountsPossible g r old.out new.out (PutsAll old.err new.err) × (new.save ≡ old.save)
 IsDone (Groups list grouping) g old new = CountsGroups g list grouping old.out new.out (PutsAll old.err new.err) × (new.save ≡ old.save)
@@ -30,7 +30,7 @@ IsDone (Uses file) g old new = Prints uses_text g.program (PutsAll old.out new.o
 abbrev pub HasFault : Request → Given → ToolFault → Type 0
 HasFault (Check file warns) g = HasProgramFault g.program
 HasFault (Causes list after) g = HasListFault g list after
-HasFault (Held list scans every) g = HasHeldFault g list (scans_of scans every)
+HasFault (Held list scans every grouped) g = HasHeldFaultBy grouped g list (scans_of scans every)
 HasFault (request.Never r) g = HasNeverFault g
 HasFault (request.Possible r) g = HasPossibleFault g r
 HasFault (Groups list grouping) g = HasListFault g list None
@@ -45,7 +45,7 @@ abbrev pub Breaks : Request → Given → Logs → Logs → Type 0
 Breaks (Check file warns) g old new =
     Prints (check_text warns) g.program (PutsPrefix old.out new.out) × (new.save ≡ old.save) × IsReported g old.err new.err fault.Write
 Breaks (Causes list after) g old new = BreaksList g list after old new × (new.save ≡ old.save)
-Breaks (Held list scans every) g old new = BreaksHeld g list (scans_of scans every) old new × (new.save ≡ old.save)
+Breaks (Held list scans every grouped) g old new = BreaksHeldBy grouped g list (scans_of scans every) old new × (new.save ≡ old.save)
 Breaks (request.Never r) g old new = BreaksNever g r old new × (new.save ≡ old.save)
 Breaks (request.Possible r) g old new = BreaksPossible g r old new × (new.save ≡ old.save)
 Breaks (Groups list grouping) g old new = BreaksGroups g list grouping old new × (new.save ≡ old.save)

@@ -36,12 +36,17 @@ pub fn perform<O: Sink, S: Sink, E: Sink>(
         Request::Never(never) => list_never(alloc, never, texts, out, err),
         Request::Possible(possible) => list_possible(alloc, possible, texts, out, err),
         Request::Causes { list, after } => list_causes(alloc, list, *after, texts, out, err),
-        Request::Held { list, scans, every } => {
+        Request::Held {
+            list,
+            scans,
+            every,
+            grouped,
+        } => {
             let scans = Scans {
                 count: *scans,
                 every: *every,
             };
-            list_held(alloc, list, scans, texts, out, err)
+            list_held(alloc, list, scans, *grouped, texts, out, err)
         }
         Request::Groups { list, grouping } => list_groups(alloc, list, *grouping, texts, out, err),
         Request::Show(scan) => show(alloc, scan, texts, out, err),

@@ -1,0 +1,91 @@
+//! The import of a project.
+
+ghost use Rattle.std.specs.Prelude.{◌≡◌, ◌≤◌};
+ghost use Rattle.ladder_clp.specs.Project.{IsProject};
+ghost use Rattle.ladder_text.specs.Log.{PutsAll};
+ghost use Rattle.ladder_carry.specs.Carrying.{BreaksCarrying, Carries};
+
+use crate::faults::{write_import_fault, write_project_fault, write_refusals};
+use ladder_clp::{Project, read_project};
+use ladder_import::{ImportFault, import, refusals};
+use ladder_setting::{ToolFault, report_unread};
+use ladder_text::{Sink, WriteFault, put};
+use std::alloc::Global;
+
+/// The status where something was said of a fault, as far as the writer took it.
+fn told(written: Result<(), WriteFault>) -> u8
+    ensures { result ≡ 1 }
+{
+    match written {
+        Ok(()) => 1,
+        Err(_) => 1,
+    }
+}
+
+/// Writes the program text of a project none of whose elements is refused.
+fn carry_whole<O: Sink, E: Sink>(
+    alloc: Global,
+    why: bool,
+    text: &[u8],
+    project: &Project<'_>,
+    out: &mut O,
+    err: &mut E,
+) -> u8
+    requires { IsProject text.now project.now }
+    ensures status { result ≤ 1 }
+    ensures done { result ≡ 0 → Carries text.now (PutsAll (O.log out.old) (O.log out.new)) × (E.log err.new ≡ E.log err.old) }
+    ensures failed { result ≡ 1 → BreaksCarrying why text.now (O.log out.old) (O.log out.new) (E.log err.old) (E.log err.new) }
+{
+    match import(alloc, project) {
+        Ok(drawn) => match put(out, &drawn) {
+            Ok(()) => 0,
+            Err(_) => report_unread(why, &ToolFault::Write, err),
+        },
+        Err(fault) => told(write_import_fault(why, fault, err)),
+    }
+}
+
+/// Writes the program text of the project, or what is refused of it.
+fn carry_project<O: Sink, E: Sink>(
+    alloc: Global,
+    why: bool,
+    text: &[u8],
+    project: &Project<'_>,
+    out: &mut O,
+    err: &mut E,
+) -> u8
+    requires { IsProject text.now project.now }
+    ensures status { result ≤ 1 }
+    ensures done { result ≡ 0 → Carries text.now (PutsAll (O.log out.old) (O.log out.new)) × (E.log err.new ≡ E.log err.old) }
+    ensures failed { result ≡ 1 → BreaksCarrying why text.now (O.log out.old) (O.log out.new) (E.log err.old) (E.log err.new) }
+{
+    match refusals(alloc, project) {
+        Ok(refused) => {
+            if refused.is_empty() {
+                return carry_whole(alloc, why, text, project, out, err);
+            }
+            told(write_refusals(why, &refused, err))
+        }
+        Err(_) => told(write_import_fault(why, ImportFault::Memory, err)),
+    }
+}
+
+/// Writes the program text of a ClassicLadder project on `out`, or on `err` what is said of why there is none: a line for each element
+/// that can't be carried over, or the line of another fault, each explained where that is asked for. Returns the status: 0 where the whole
+/// text was written, or 1.
+pub fn carry<O: Sink, E: Sink>(
+    alloc: Global,
+    why: bool,
+    text: &[u8],
+    out: &mut O,
+    err: &mut E,
+) -> u8
+    ensures status { result ≤ 1 }
+    ensures done { result ≡ 0 → Carries text.now (PutsAll (O.log out.old) (O.log out.new)) × (E.log err.new ≡ E.log err.old) }
+    ensures failed { result ≡ 1 → BreaksCarrying why text.now (O.log out.old) (O.log out.new) (E.log err.old) (E.log err.new) }
+{
+    match read_project(alloc, text) {
+        Ok(project) => carry_project(alloc, why, text, &project, out, err),
+        Err(fault) => told(write_project_fault(why, fault, err)),
+    }
+}
