@@ -1,0 +1,26 @@
+use Rattle.std.proofs.Common.{◌≡◌, ◌∙◌, ◌+◌, ◌&&◌, ℕ, suc, List, arith, add-one, ap, refl}
+use Rattle.ladder_page.specs.declared.geometry.TheConstants.{ROWS}
+use Rattle.ladder_clp.specs.declared.element.Element.{Element}
+use Rattle.ladder_import.specs.Reach.{comes_from}
+use Rattle.ladder_import.specs.Sheets.{enters, reached, some_below}
+use Rattle.ladder_import.proofs.Below.{none_below, one_more}
+use Rattle.ladder_import.proofs.sheet.reaches.Goals as goal
+
+onward : (es : List Element) (row column n : ℕ) → n ≡ suc column → some_below (λ q. enters es row n q && reached es column q) ROWS ≡ reached es n row
+unfolding reached
+onward es row column n h = rw h refl
+
+all_rows : (es : List Element) (row column from : ℕ) → from ≡ ROWS → some_below (comes_from es row column) from ≡ reached es (column + 1) row
+all_rows es row column from e = ap (some_below (comes_from es row column)) e ∙ onward es row column (column + 1) (add-one column)
+
+pub loop-from-init : goal.loop-from-init
+loop-from-init c = none_below (comes_from c.args.elements.now c.args.row c.args.column)
+
+pub loop-from-preserved : goal.loop-from-preserved
+loop-from-preserved c = c.either-found.ensures ∙ one_more (comes_from c.args.elements.now c.args.row c.args.column) c.loop-from.from _ _ c.loop-from.invariant
+    (c.comes.ensures ∙ ap (λ b. enters c.args.elements.now c.args.row (c.args.column + 1) c.loop-from.from && b) (c.requires.before c.loop-from.from c.loop-from-test.true))
+
+pub returns : goal.returns
+returns c =
+    c.loop-from.invariant
+    ∙ all_rows c.args.elements.now c.args.row c.args.column c.loop-from.from (omega (arith, c.loop-from-test.false, c.loop-from.auto.from-end))

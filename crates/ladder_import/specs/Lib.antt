@@ -1,0 +1,4 @@
+pub mod Carried
+pub mod Meanings
+pub mod Reach
+pub mod Sheets

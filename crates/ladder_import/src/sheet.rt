@@ -1,0 +1,402 @@
+//! The elements of a rung, and how power goes through them.
+
+ghost use Rattle.std.specs.Prelude.{◌≡◌, ◌+◌, ◌*◌, ◌/◌, ◌%◌, ◌<◌, ◌≤◌, ◌&&◌, ◌||◌};
+ghost use Rattle.ladder_page.specs.declared.geometry.TheConstants.{COLUMNS, ROWS, PLACES};
+ghost use Rattle.ladder_import.specs.Reach.{AreReached};
+ghost use Rattle.ladder_import.specs.Sheets.{element_at, ends_rung, enters, fed, gives, has_places, is_blank_at, is_block, is_contact, is_effect, is_effect_below, is_idle, is_left_half, is_linked, is_read_by, is_running, is_tied, meaning_at, passes, reached, reads_late, reads_place, same_sort, some_below, source_is, stands, stands_as, tied};
+
+use crate::meaning::{BlockSort, Meaning, Source, is_blank_kind, meaning_of, source_of};
+use ladder_clp::Element;
+use ladder_page::CoilMode;
+use ladder_page::geometry::{COLUMNS, ROWS};
+
+const BLANK: Element = Element {
+    kind: 0,
+    link: 0,
+    class: 0,
+    number: 0,
+};
+
+pub fn either(a: bool, b: bool) -> bool
+    ensures { result ≡ (a || b) }
+{
+    a || b
+}
+
+fn both(a: bool, b: bool) -> bool
+    ensures { result ≡ (a && b) }
+{
+    a && b
+}
+
+/// The element at a place.
+pub fn element_at(elements: &[Element], row: usize, column: usize) -> Element
+    requires { (row ≤ ROWS) × (column < COLUMNS) }
+    ensures { result ≡ element_at elements.now row column }
+{
+    let place = COLUMNS * row + column;
+    if place < elements.len() {
+        elements[place]
+    } else {
+        BLANK
+    }
+}
+
+fn is_blank_at(elements: &[Element], row: usize, column: usize) -> bool
+    requires { (row ≤ ROWS) × (column < COLUMNS) }
+    ensures { result ≡ is_blank_at elements.now row column }
+{
+    is_blank_kind(element_at(elements, row, column).kind)
+}
+
+/// Whether the row and the one above it are joined on the left of the column.
+pub fn is_linked(elements: &[Element], row: usize, column: usize) -> bool
+    requires { (row ≤ ROWS) × (column < COLUMNS) }
+    ensures { result ≡ is_linked elements.now row column }
+{
+    element_at(elements, row, column).link != 0
+}
+
+fn is_block(meaning: Meaning) -> bool
+    ensures { result ≡ is_block meaning }
+{
+    match meaning {
+        Meaning::Block(_) => true,
+        Meaning::Blank
+        | Meaning::Wire
+        | Meaning::Contact(_)
+        | Meaning::Coil(_)
+        | Meaning::Jump
+        | Meaning::Other => false,
+    }
+}
+
+fn is_left_half(elements: &[Element], row: usize, column: usize) -> bool
+    requires { (row ≤ ROWS) × (column < COLUMNS) }
+    ensures { result ≡ is_left_half elements.now row column }
+{
+    column + 1 < COLUMNS && is_block(meaning_of(element_at(elements, row, column + 1).kind))
+}
+
+/// What the element at a place means.
+pub fn meaning_at(elements: &[Element], row: usize, column: usize) -> Meaning
+    requires { (row ≤ ROWS) × (column < COLUMNS) }
+    ensures { result ≡ meaning_at elements.now row column }
+{
+    if is_left_half(elements, row, column) {
+        if is_blank_at(elements, row, column) {
+            Meaning::Wire
+        } else {
+            Meaning::Other
+        }
+    } else {
+        meaning_of(element_at(elements, row, column).kind)
+    }
+}
+
+/// Whether the second output of an old timer is there.
+pub fn is_running(elements: &[Element], row: usize, column: usize) -> bool
+    requires { (row ≤ ROWS) × (column < COLUMNS) }
+    ensures { result ≡ is_running elements.now row column }
+{
+    row >= 1 && element_at(elements, row - 1, column).kind == 10
+}
+
+/// Whether power goes through.
+pub fn passes(meaning: Meaning) -> bool
+    ensures { result ≡ passes meaning }
+{
+    match meaning {
+        Meaning::Wire | Meaning::Contact(_) | Meaning::Block(_) => true,
+        Meaning::Blank | Meaning::Coil(_) | Meaning::Jump | Meaning::Other => false,
+    }
+}
+
+fn gives(elements: &[Element], row: usize, column: usize) -> bool
+    requires { (row ≤ ROWS) × (column < COLUMNS) }
+    ensures { result ≡ gives elements.now row column }
+{
+    passes(meaning_at(elements, row, column)) || is_running(elements, row, column)
+}
+
+/// Whether links join so many rows below to this one, on the left of the column.
+fn tied(elements: &[Element], row: usize, column: usize, count: usize) -> bool
+    requires { (row + count < ROWS) × (column < COLUMNS) }
+    ensures { result ≡ tied elements.now row column count }
+{
+    let mut all = true;
+    for i in 0..count {
+        all = both(all, is_linked(elements, row + i + 1, column));
+    }
+    all
+}
+
+fn enters(elements: &[Element], row: usize, column: usize, from: usize) -> bool
+    requires rows { (row < ROWS) × (from < ROWS) }
+    requires columns { column < COLUMNS }
+    ensures { result ≡ enters elements.now row column from }
+{
+    column >= 1
+        && gives(elements, from, column - 1)
+        && tied(
+            elements,
+            row.min(from),
+            column,
+            row.max(from) - row.min(from),
+        )
+}
+
+fn comes(elements: &[Element], row: usize, column: usize, from: usize, here: bool) -> bool
+    requires rows { (row < ROWS) × (from < ROWS) }
+    requires columns { column + 1 < COLUMNS }
+    ensures { result ≡ (enters elements.now row (column + 1) from && here) }
+{
+    enters(elements, row, column + 1, from) && here
+}
+
+/// Whether power can come to the row in the next column; `before`: where it can in this one.
+fn reaches(elements: &[Element], row: usize, column: usize, before: &[bool; ROWS]) -> bool
+    requires rows { row < ROWS }
+    requires columns { column + 1 < COLUMNS }
+    requires before { AreReached elements.now column before.now }
+    ensures { result ≡ reached elements.now (column + 1) row }
+{
+    let mut found = false;
+    for from in 0..ROWS {
+        found = either(found, comes(elements, row, column, from, before[from]));
+    }
+    found
+}
+
+fn reached_next(elements: &[Element], column: usize, before: &[bool; ROWS]) -> [bool; ROWS]
+    requires columns { column + 1 < COLUMNS }
+    requires before { AreReached elements.now column before.now }
+    ensures { AreReached elements.now (column + 1) result }
+{
+    let mut reached = [false; ROWS];
+    for row in 0..ROWS {
+        reached[row] = reaches(elements, row, column, before);
+    }
+    reached
+}
+
+/// To which rows of a column power can come.
+pub fn reached_in(elements: &[Element], column: usize) -> [bool; ROWS]
+    requires { column < COLUMNS }
+    ensures { AreReached elements.now column result }
+{
+    let mut reached = [true; ROWS];
+    for before in 0..column {
+        reached = reached_next(elements, before, &reached);
+    }
+    reached
+}
+
+/// Whether power can come to the place.
+pub fn reached(elements: &[Element], row: usize, column: usize) -> bool
+    requires { (row < ROWS) × (column < COLUMNS) }
+    ensures { result ≡ reached elements.now column row }
+{
+    reached_in(elements, column)[row]
+}
+
+/// Whether power comes from the row, where it can come.
+pub fn fed(elements: &[Element], row: usize, column: usize, from: usize) -> bool
+    requires rows { (row < ROWS) × (from < ROWS) }
+    requires columns { column < COLUMNS }
+    ensures { result ≡ fed elements.now row column from }
+{
+    enters(elements, row, column, from) && reached(elements, from, column.saturating_sub(1))
+}
+
+fn is_effect(meaning: Meaning) -> bool
+    ensures { result ≡ is_effect meaning }
+{
+    match meaning {
+        Meaning::Coil(_) | Meaning::Jump => true,
+        Meaning::Blank
+        | Meaning::Wire
+        | Meaning::Contact(_)
+        | Meaning::Block(_)
+        | Meaning::Other => false,
+    }
+}
+
+fn is_effect_below(elements: &[Element], row: usize, column: usize, lower: usize) -> bool
+    requires { (lower < ROWS) × (column < COLUMNS) }
+    ensures { result ≡ is_effect_below elements.now row column lower }
+{
+    row < lower && is_effect(meaning_at(elements, lower, column))
+}
+
+/// Whether nothing that writes or leads out of the rung is below.
+pub fn ends_rung(elements: &[Element], row: usize, column: usize) -> bool
+    requires { (row < ROWS) × (column < COLUMNS) }
+    ensures { result ≡ ends_rung elements.now row column }
+{
+    let mut found = false;
+    for lower in 0..ROWS {
+        found = either(found, is_effect_below(elements, row, column, lower));
+    }
+    !found
+}
+
+/// Whether the second input of an old timer is joined with the first.
+pub fn is_tied(elements: &[Element], row: usize, column: usize, sort: BlockSort) -> bool
+    requires { (row < ROWS) × (1 ≤ column) × (column < COLUMNS) }
+    ensures { result ≡ is_tied elements.now row column sort }
+{
+    match sort {
+        BlockSort::Timer => column == 1 || is_linked(elements, row + 1, column - 1),
+        BlockSort::Monostable | BlockSort::IecTimer => true,
+    }
+}
+
+/// Whether a block has its four places.
+pub fn has_places(elements: &[Element], row: usize, column: usize) -> bool
+    requires { (row < ROWS) × (column < COLUMNS) }
+    ensures { result ≡ has_places elements.now row column }
+{
+    column >= 1
+        && row + 1 < ROWS
+        && !is_linked(elements, row, column)
+        && !is_linked(elements, row + 1, column)
+        && is_blank_at(elements, row + 1, column - 1)
+        && is_blank_at(elements, row + 1, column)
+        && !is_left_half(elements, row + 1, column)
+}
+
+fn stands_as(elements: &[Element], row: usize, column: usize, meaning: Meaning) -> bool
+    requires { (row < ROWS) × (column < COLUMNS) }
+    ensures { result ≡ stands_as elements.now row column meaning }
+{
+    match meaning {
+        Meaning::Contact(_) => column + 1 < COLUMNS,
+        Meaning::Coil(_) => column + 1 == COLUMNS,
+        Meaning::Jump => column + 1 == COLUMNS && ends_rung(elements, row, column),
+        Meaning::Block(sort) => {
+            has_places(elements, row, column) && is_tied(elements, row, column, sort)
+        }
+        Meaning::Blank | Meaning::Wire | Meaning::Other => true,
+    }
+}
+
+/// Whether the element stands where it means the same in a program.
+pub fn stands(elements: &[Element], row: usize, column: usize) -> bool
+    requires { (row < ROWS) × (column < COLUMNS) }
+    ensures { result ≡ stands elements.now row column }
+{
+    stands_as(elements, row, column, meaning_at(elements, row, column))
+}
+
+pub fn same_sort(a: BlockSort, b: BlockSort) -> bool
+    ensures { result ≡ same_sort a b }
+{
+    match a {
+        BlockSort::Timer => match b {
+            BlockSort::Timer => true,
+            BlockSort::Monostable | BlockSort::IecTimer => false,
+        },
+        BlockSort::Monostable => match b {
+            BlockSort::Monostable => true,
+            BlockSort::Timer | BlockSort::IecTimer => false,
+        },
+        BlockSort::IecTimer => match b {
+            BlockSort::IecTimer => true,
+            BlockSort::Timer | BlockSort::Monostable => false,
+        },
+    }
+}
+
+fn source_is(source: Source, sort: BlockSort) -> bool
+    ensures { result ≡ source_is source sort }
+{
+    match source {
+        Source::Done(other) => same_sort(other, sort),
+        Source::Input | Source::Output | Source::Memory | Source::Other => false,
+    }
+}
+
+fn is_read_by(reader: Element, block: Element, meaning: Meaning) -> bool
+    ensures { result ≡ is_read_by reader block meaning }
+{
+    match meaning {
+        Meaning::Block(sort) => {
+            source_is(source_of(reader.class), sort) && reader.number == block.number
+        }
+        Meaning::Blank
+        | Meaning::Wire
+        | Meaning::Contact(_)
+        | Meaning::Coil(_)
+        | Meaning::Jump
+        | Meaning::Other => false,
+    }
+}
+
+fn is_contact(meaning: Meaning) -> bool
+    ensures { result ≡ is_contact meaning }
+{
+    match meaning {
+        Meaning::Contact(_) => true,
+        Meaning::Blank
+        | Meaning::Wire
+        | Meaning::Coil(_)
+        | Meaning::Jump
+        | Meaning::Block(_)
+        | Meaning::Other => false,
+    }
+}
+
+fn reads_place(elements: &[Element], reader: Element, place: usize) -> bool
+    requires { place < PLACES }
+    ensures { result ≡ reads_place elements.now reader place }
+{
+    let (row, column) = (place % ROWS, place / ROWS);
+    is_read_by(
+        reader,
+        element_at(elements, row, column),
+        meaning_at(elements, row, column),
+    )
+}
+
+fn reads_before(elements: &[Element], reader: Element, count: usize) -> bool
+    requires { count ≤ PLACES }
+    ensures { result ≡ some_below (reads_place elements.now reader) count }
+{
+    let mut found = false;
+    for place in 0..count {
+        found = either(found, reads_place(elements, reader, place));
+    }
+    found
+}
+
+/// Whether a contact reads a block that comes before it in its rung.
+pub fn reads_late(elements: &[Element], row: usize, column: usize) -> bool
+    requires { (row < ROWS) × (column < COLUMNS) }
+    ensures { result ≡ reads_late elements.now row column }
+{
+    is_contact(meaning_at(elements, row, column))
+        && reads_before(
+            elements,
+            element_at(elements, row, column),
+            ROWS * column + row,
+        )
+}
+
+/// Whether the element does nothing where no power comes.
+pub fn is_idle(meaning: Meaning) -> bool
+    ensures { result ≡ is_idle meaning }
+{
+    match meaning {
+        Meaning::Coil(CoilMode::Set | CoilMode::Reset) => true,
+        Meaning::Coil(
+            CoilMode::Store | CoilMode::Inverse | CoilMode::Rising | CoilMode::Falling,
+        ) => false,
+        Meaning::Other => false,
+        Meaning::Blank
+        | Meaning::Wire
+        | Meaning::Contact(_)
+        | Meaning::Jump
+        | Meaning::Block(_) => true,
+    }
+}
