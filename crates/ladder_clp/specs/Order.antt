@@ -30,8 +30,8 @@ behind_rungs front (Err fault) = Err fault
 abbrev pub with_section : List Rung → Section → Result (List Placed) ClpFault → Result (List Placed) ClpFault
 with_section rungs s others =
     if s.language == 0 then (if is_none s.subroutine
-        then elim (way s.number s.last rungs (length rungs) s.first) [ Some placed ↦ behind_rungs placed others | None ↦ Err (BrokenWay s.number) ]
-        else others)
+    then elim (way s.number s.last rungs (length rungs) s.first) [ Some placed ↦ behind_rungs placed others | None ↦ Err (BrokenWay s.number) ]
+    else others)
     else Err (NotLadder s.number)
 
 -- the rungs in the order of the scan, or the first fault of a section

@@ -81,12 +81,7 @@ fn project_in<'a>(alloc: Global, lines: &[&'a [u8]]) -> Result<Project<'a>, ClpF
     }
     let rungs = rungs_of(alloc, lines)?;
     let timers = preset_table(alloc, Table::Timers, b"_FILE-timers.csv", lines)?;
-    let monostables = preset_table(
-        alloc,
-        Table::Monostables,
-        b"_FILE-monostables.csv",
-        lines,
-    )?;
+    let monostables = preset_table(alloc, Table::Monostables, b"_FILE-monostables.csv", lines)?;
     let iec_timers = preset_table(alloc, Table::IecTimers, b"_FILE-timers_iec.csv", lines)?;
     let symbols = symbols_in(alloc, part_of(b"_FILE-symbols.csv", lines))?;
     Ok(Project {

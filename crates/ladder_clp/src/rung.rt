@@ -116,10 +116,7 @@ fn rung_number(line: &[u8]) -> Option<u32>
 }
 
 /// The rungs of all parts that are one.
-pub(crate) fn rungs_in<'a>(
-    alloc: Global,
-    mut lines: &[&'a [u8]],
-) -> Result<Vec<Rung<'a>>, ClpFault>
+pub(crate) fn rungs_in<'a>(alloc: Global, mut lines: &[&'a [u8]]) -> Result<Vec<Rung<'a>>, ClpFault>
     ensures found { IfOk result (λ v. rungs_in (map (λ l. l.now) lines.entry.now) ≡ Ok (map read_of v.items)) }
     ensures none { IfErr result (λ e. IsRungFault (rungs_in (map (λ l. l.now) lines.entry.now)) e) }
 {

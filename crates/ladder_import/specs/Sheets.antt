@@ -35,41 +35,56 @@ is_block m = elim m [ meaning.Block s ↦ true | _ ↦ false ]
 abbrev pub is_left_half : List Element → ℕ → ℕ → Bool
 is_left_half es r c = nat_lt (c + 1) COLUMNS && is_block (meaning_of (element_at es r (c + 1)).kind)
 
--- What an element means: power goes through the left half of a block as through a wire.
-abbrev pub meaning_at : List Element → ℕ → ℕ → Meaning
-meaning_at es r c =
-    if is_left_half es r c then (if is_blank_at es r c then meaning.Wire else meaning.Other) else meaning_of (element_at es r c).kind
-
--- ---- power
-
 -- below an old timer is its second output, which is ON while it runs
 abbrev pub is_running : List Element → ℕ → ℕ → Bool
 is_running es r c = nat_le 1 r && (element_at es (r - 1) c).kind == 10
 
-abbrev pub passes : Meaning → Bool
-passes m = elim m [ meaning.Wire ↦ true | meaning.Contact n ↦ true | meaning.Block s ↦ true | _ ↦ false ]
+-- Nothing is at the place from which power could go on to its right.
+abbrev pub is_bare : List Element → ℕ → ℕ → Bool
+is_bare es r c = is_blank_at es r c && (not (is_left_half es r c) && not (is_running es r c))
 
--- Power can leave the element on its right.
-abbrev pub gives : List Element → ℕ → ℕ → Bool
-gives es r c = passes (meaning_at es r c) || is_running es r c
+-- Nothing is drawn to the second input of an old timer, so that its time never passes.
+abbrev pub is_stopped : List Element → ℕ → ℕ → Bool
+is_stopped es r c =
+    nat_le 2 c && (nat_lt (r + 1) ROWS && (not (is_linked es (r + 1) (c - 1)) && (not (is_linked es (r + 2) (c - 1)) && is_bare es (r + 1) (c - 2))))
+
+-- what a block means: the output of an old timer that is stopped is always OFF
+abbrev pub stopped_as : List Element → ℕ → ℕ → Meaning → Meaning
+stopped_as es r c (meaning.Block sort.Timer) = if is_stopped es r c then meaning.Off else meaning.Block sort.Timer
+stopped_as es r c m = m
+
+-- What an element means: power goes through the left half of a block as through a wire.
+abbrev pub meaning_at : List Element → ℕ → ℕ → Meaning
+meaning_at es r c =
+    if is_left_half es r c then (if is_blank_at es r c then meaning.Wire else meaning.Other) else stopped_as es r c (meaning_of (element_at es r c).kind)
+
+-- ---- power
+
+abbrev pub passes : Meaning → Bool
+passes m = elim m [ meaning.Wire ↦ true | meaning.Contact n ↦ true | meaning.Block s ↦ true | meaning.Off ↦ true | _ ↦ false ]
 
 -- links on the left of the column join the n + 1 rows from this one on
 unfoldable pub tied : List Element → ℕ → ℕ → ℕ → Bool
 tied es r c zero = true
 tied es r c (suc n) = tied es r c n && is_linked es (r + n + 1) c
 
--- Power from the row q in the column before comes to the left of the element.
-abbrev pub enters : List Element → ℕ → ℕ → ℕ → Bool
-enters es r c q = nat_le 1 c && (gives es q (c - 1) && tied es (min r q) c (max r q - min r q))
+-- links on the left of the column join the two rows
+abbrev pub are_tied : List Element → ℕ → ℕ → ℕ → Bool
+are_tied es r c q = tied es (min r q) c (max r q - min r q)
 
--- Power can come to the element: it is in the first column, or one that power comes to leads to it.
+-- Power can leave the place on its right: through the element, where power can come to it, or from the second output of the old
+-- timer above, where it can come to that.
+abbrev pub brings : List Element → ℕ → ℕ → Bool → Bool → Bool
+brings es q c here above = (passes (meaning_at es q c) && here) || (is_running es q c && above)
+
+-- Power can come to the element: it is in the first column, or power from the column before comes to its left.
 unfoldable pub reached : List Element → ℕ → ℕ → Bool
 reached es zero r = true
-reached es (suc c) r = some_below (λ q. enters es r (suc c) q && reached es c q) ROWS
+reached es (suc c) r = some_below (λ q. brings es q c (reached es c q) (reached es c (q - 1)) && are_tied es r (suc c) q) ROWS
 
--- Power comes from the row q, where power can come.
+-- Power can come to the left of the element from the row q.
 abbrev pub fed : List Element → ℕ → ℕ → ℕ → Bool
-fed es r c q = enters es r c q && reached es (c - 1) q
+fed es r c q = nat_le 1 c && (brings es q (c - 1) (reached es (c - 1) q) (reached es (c - 1) (q - 1)) && are_tied es r c q)
 
 -- ---- where elements may stand
 
@@ -87,7 +102,7 @@ ends_rung es r c = not (some_below (is_effect_below es r c) ROWS)
 -- The second input of an old timer, which stops its time, is joined with the first, or at the rail.
 abbrev pub is_tied : List Element → ℕ → ℕ → BlockSort → Bool
 is_tied es r c sort.Timer = c == 1 || is_linked es (r + 1) (c - 1)
-is_tied es r c other = true
+is_tied es r c s = true
 
 -- A block has its four places, which nothing else uses and no link joins with others.
 abbrev pub has_places : List Element → ℕ → ℕ → Bool
@@ -101,7 +116,8 @@ stands_as es r c (meaning.Contact n) = nat_lt (c + 1) COLUMNS
 stands_as es r c (meaning.Coil n) = c + 1 == COLUMNS
 stands_as es r c meaning.Jump = c + 1 == COLUMNS && ends_rung es r c
 stands_as es r c (meaning.Block s) = has_places es r c && is_tied es r c s
-stands_as es r c other = true
+stands_as es r c meaning.Off = has_places es r c && nat_lt (c + 1) COLUMNS
+stands_as es r c m = true
 
 abbrev pub stands : List Element → ℕ → ℕ → Bool
 stands es r c = stands_as es r c (meaning_at es r c)
@@ -116,12 +132,12 @@ same_sort a b = false
 
 abbrev pub source_is : Source → BlockSort → Bool
 source_is (source.Done s) t = same_sort s t
-source_is other t = false
+source_is s t = false
 
 -- The element, with this meaning, is the block that the other one reads.
 abbrev pub is_read_by : Element → Element → Meaning → Bool
 is_read_by reader block (meaning.Block s) = source_is (source_of reader.class) s && (reader.number == block.number)
-is_read_by reader block other = false
+is_read_by reader block m = false
 
 abbrev pub is_contact : Meaning → Bool
 is_contact m = elim m [ meaning.Contact n ↦ true | _ ↦ false ]
@@ -140,6 +156,6 @@ reads_late es r c = is_contact (meaning_at es r c) && some_below (reads_place es
 abbrev pub is_idle : Meaning → Bool
 is_idle (meaning.Coil coil.Set) = true
 is_idle (meaning.Coil coil.Reset) = true
-is_idle (meaning.Coil other) = false
+is_idle (meaning.Coil n) = false
 is_idle meaning.Other = false
-is_idle other = true
+is_idle m = true

@@ -1,20 +1,25 @@
 //! Whether a program has what a project has.
 
-ghost use Rattle.std.specs.Prelude.{◌≡◌, ◌+◌, ◌&&◌, ◌<◌, ◌≤◌, ℕ, Some, length, not, slice_get, true};
+ghost use Rattle.std.specs.Prelude.{◌≡◌, ◌+◌, ◌-◌, ◌&&◌, ◌<◌, ◌≤◌, ℕ, Some, length, not, slice_get, true};
 ghost use Rattle.std.specs.List.{list_all, list_any};
 ghost use Rattle.ladder_page.specs.declared.geometry.TheConstants.{COLUMNS, ROWS};
 ghost use Rattle.ladder_grid.specs.Program.{feeds, is_empty, joined, site_at, takes_power};
 ghost use Rattle.ladder_clp.specs.declared.order.Placed.{Placed};
+ghost use Rattle.ladder_grid.specs.declared.cell.Operand.TheVariants as operands;
+ghost use Rattle.ladder_grid.specs.declared.cell.Cell.TheVariants as cells;
+ghost use Rattle.ladder_page.specs.Operand.{is_input_at};
+ghost use Rattle.ladder_import.specs.Reach.{AreReached};
 ghost use Rattle.ladder_import.specs.Sheets.{fed};
-ghost use Rattle.ladder_import.specs.Carried.{AreApart, AreCarried, AreInstances, IsCarriedOver, IsCell, IsInstance, IsLeftOut, IsOperand, IsPlaceCarried, IsRungCarried, IsTarget, IsVar, entry_of, same_block};
+ghost use Rattle.ladder_import.specs.Carried.{AreApart, AreCarried, AreInstances, IsAlike, IsCarriedOver, IsBlockOf, IsCell, IsCoilOn, IsContactOn, IsFedAlike, IsInstance, IsJumpTo, IsLeftOut, IsNever, IsOperand, IsPlaceCarried, IsRungCarried, IsTarget, IsVar, IsWritten, entry_of, same_block};
 
 use crate::meaning::{BlockRef, BlockSort, Meaning, Source, source_of, timed_as};
 use crate::sheet::{
-    element_at, fed, is_idle, meaning_at, reached, reads_late, same_sort, stands,
+    element_at, fed, is_idle, meaning_at, reached, reached_in, reads_late, same_sort, stands,
 };
 use ladder_clp::{Element, Placed, Preset, Project};
 use ladder_grid::{Cell, Joint, Operand, Program};
 use ladder_page::geometry::{COLUMNS, ROWS};
+use ladder_page::{CoilMode, Mode};
 use ladder_vars::{Address, Decls, Instance};
 
 fn takes_power(joint: Joint) -> bool
@@ -116,26 +121,69 @@ fn is_instance_of(blocks: &[BlockRef], block: BlockRef, inst: usize) -> bool
     }
 }
 
+/// Whether the variable is always OFF.
+fn is_never(program: &Program, var: usize) -> bool
+    ensures { result ≡ true → IsNever program.now var }
+{
+    !program.has_coil(var) && !is_input_at(program.decls(), var)
+}
+
+fn is_input_at(decls: &Decls, var: usize) -> bool
+    ensures { result ≡ is_input_at (slice_get decls.now.vars var) }
+{
+    match decls.vars().get(var) {
+        Some(v) => v.is_input(),
+        None => false,
+    }
+}
+
+/// Whether the variable is what a contact reads.
+fn is_var_read(
+    program: &Program,
+    blocks: &[BlockRef],
+    source: Source,
+    number: u32,
+    var: usize,
+) -> bool
+    ensures { result ≡ true → IsOperand program.now blocks.now source number (operands.Var var) }
+{
+    match source {
+        Source::Input => is_var(program.decls(), 'I', number, var),
+        Source::Output => is_var(program.decls(), 'Q', number, var),
+        Source::Memory => is_var(program.decls(), 'M', number, var),
+        Source::Done(sort) => {
+            !is_among(BlockRef { sort, number }, blocks) && is_never(program, var)
+        }
+        Source::Other => false,
+    }
+}
+
 fn is_operand(
-    decls: &Decls,
+    program: &Program,
     blocks: &[BlockRef],
     source: Source,
     number: u32,
     operand: Operand,
 ) -> bool
-    ensures { result ≡ true → IsOperand decls.now blocks.now source number operand }
+    ensures { result ≡ true → IsOperand program.now blocks.now source number operand }
 {
     match operand {
-        Operand::Var(var) => match source {
-            Source::Input => is_var(decls, 'I', number, var),
-            Source::Output => is_var(decls, 'Q', number, var),
-            Source::Memory => is_var(decls, 'M', number, var),
-            Source::Done(_) | Source::Other => false,
-        },
+        Operand::Var(var) => is_var_read(program, blocks, source, number, var),
         Operand::Output(inst) => match source {
             Source::Done(sort) => is_instance_of(blocks, BlockRef { sort, number }, inst),
             Source::Input | Source::Output | Source::Memory | Source::Other => false,
         },
+    }
+}
+
+/// Whether the variable is what a coil writes.
+fn is_written(program: &Program, source: Source, number: u32, var: usize) -> bool
+    ensures { result ≡ true → IsWritten program.now source number var }
+{
+    match source {
+        Source::Output => is_var(program.decls(), 'Q', number, var),
+        Source::Memory => is_var(program.decls(), 'M', number, var),
+        Source::Input | Source::Done(_) | Source::Other => false,
     }
 }
 
@@ -149,9 +197,101 @@ fn is_target(rungs: &[Placed<'_>], section: u32, number: u32, target: usize) -> 
     }
 }
 
+/// Whether the cell is a contact of this mode on the operand.
+fn is_contact_on(
+    program: &Program,
+    blocks: &[BlockRef],
+    mode: Mode,
+    source: Source,
+    number: u32,
+    cell: Cell,
+) -> bool
+    ensures { result ≡ true → IsContactOn program.now blocks.now mode source number cell }
+{
+    match cell {
+        Cell::Contact {
+            mode: drawn,
+            operand,
+            ..
+        } => drawn == mode && is_operand(program, blocks, source, number, operand),
+        Cell::Empty
+        | Cell::Wire
+        | Cell::Coil { .. }
+        | Cell::Block { .. }
+        | Cell::Lower { .. }
+        | Cell::Jump { .. }
+        | Cell::Return => false,
+    }
+}
+
+/// Whether the cell is a coil of this mode on the variable.
+fn is_coil_on(program: &Program, mode: CoilMode, source: Source, number: u32, cell: Cell) -> bool
+    ensures { result ≡ true → IsCoilOn program.now mode source number cell }
+{
+    match cell {
+        Cell::Coil {
+            mode: drawn,
+            var,
+            ..
+        } => drawn == mode && is_written(program, source, number, var),
+        Cell::Empty
+        | Cell::Wire
+        | Cell::Contact { .. }
+        | Cell::Block { .. }
+        | Cell::Lower { .. }
+        | Cell::Jump { .. }
+        | Cell::Return => false,
+    }
+}
+
+fn is_wire(cell: Cell) -> bool
+    ensures { result ≡ true → cell ≡ cells.Wire }
+{
+    match cell {
+        Cell::Wire => true,
+        Cell::Empty
+        | Cell::Contact { .. }
+        | Cell::Coil { .. }
+        | Cell::Block { .. }
+        | Cell::Lower { .. }
+        | Cell::Jump { .. }
+        | Cell::Return => false,
+    }
+}
+
+fn is_jump_to(rungs: &[Placed<'_>], section: u32, number: u32, cell: Cell) -> bool
+    ensures { result ≡ true → IsJumpTo rungs.now section number cell }
+{
+    match cell {
+        Cell::Jump { target } => is_target(rungs, section, number, target),
+        Cell::Empty
+        | Cell::Wire
+        | Cell::Contact { .. }
+        | Cell::Coil { .. }
+        | Cell::Block { .. }
+        | Cell::Lower { .. }
+        | Cell::Return => false,
+    }
+}
+
+fn is_block_of(blocks: &[BlockRef], block: BlockRef, cell: Cell) -> bool
+    ensures { result ≡ true → IsBlockOf blocks.now block cell }
+{
+    match cell {
+        Cell::Block { inst } => is_instance_of(blocks, block, inst),
+        Cell::Empty
+        | Cell::Wire
+        | Cell::Contact { .. }
+        | Cell::Coil { .. }
+        | Cell::Lower { .. }
+        | Cell::Jump { .. }
+        | Cell::Return => false,
+    }
+}
+
 /// Whether the cell is what the element means.
 fn is_cell(
-    decls: &Decls,
+    program: &Program,
     rungs: &[Placed<'_>],
     blocks: &[BlockRef],
     section: u32,
@@ -159,47 +299,21 @@ fn is_cell(
     meaning: Meaning,
     cell: Cell,
 ) -> bool
-    ensures { result ≡ true → IsCell decls.now rungs.now blocks.now section element meaning cell }
+    ensures { result ≡ true → IsCell program.now rungs.now blocks.now section element meaning cell }
 {
     let source = source_of(element.class);
+    let number = element.number;
     match meaning {
         Meaning::Blank => is_empty(cell),
-        Meaning::Wire => match cell {
-            Cell::Wire => true,
-            _ => false,
-        },
-        Meaning::Contact(mode) => match cell {
-            Cell::Contact {
-                mode: drawn,
-                operand,
-                ..
-            } => drawn == mode && is_operand(decls, blocks, source, element.number, operand),
-            _ => false,
-        },
-        Meaning::Coil(mode) => match cell {
-            Cell::Coil {
-                mode: drawn, var, ..
-            } => {
-                drawn == mode
-                    && is_operand(decls, blocks, source, element.number, Operand::Var(var))
-            }
-            _ => false,
-        },
-        Meaning::Jump => match cell {
-            Cell::Jump { target } => is_target(rungs, section, element.number, target),
-            _ => false,
-        },
-        Meaning::Block(sort) => match cell {
-            Cell::Block { inst } => is_instance_of(
-                blocks,
-                BlockRef {
-                    sort,
-                    number: element.number,
-                },
-                inst,
-            ),
-            _ => false,
-        },
+        Meaning::Wire => is_wire(cell),
+        Meaning::Contact(mode) => is_contact_on(program, blocks, mode, source, number, cell),
+        Meaning::Coil(mode) => is_coil_on(program, mode, source, number, cell),
+        Meaning::Jump => is_jump_to(rungs, section, number, cell),
+        Meaning::Block(sort) => is_block_of(blocks, BlockRef { sort, number }, cell),
+        Meaning::Off => {
+            let done = Source::Done(BlockSort::Timer);
+            is_contact_on(program, blocks, Mode::Plain, done, number, cell)
+        }
         Meaning::Other => false,
     }
 }
@@ -212,7 +326,7 @@ fn is_left_out(elements: &[Element], row: usize, column: usize, cell: Cell) -> b
     !reached(elements, row, column) && is_idle(meaning_at(elements, row, column)) && is_empty(cell)
 }
 
-/// Whether the cell is fed from the row as the element is.
+/// Whether the cell is fed from the row as the element is; `before`: where power can come to in the column before.
 fn is_fed_alike(
     program: &Program,
     rung: usize,
@@ -220,13 +334,15 @@ fn is_fed_alike(
     row: usize,
     column: usize,
     from: usize,
+    before: &[bool; ROWS],
 ) -> bool
     requires rungs { rung < program.now.rungs }
     requires rows { (row < ROWS) × (from < ROWS) }
     requires columns { column < COLUMNS }
+    requires before { AreReached elements.now (column - 1) before.now }
     ensures { result ≡ true → feeds program.now rung row column from ≡ fed elements.now row column from }
 {
-    feeds(program, rung, row, column, from) == fed(elements, row, column, from)
+    feeds(program, rung, row, column, from) == fed(elements, row, column, from, before)
 }
 
 /// Whether the cell is fed from the same rows.
@@ -240,14 +356,27 @@ fn are_fed_alike(
     requires rungs { rung < program.now.rungs }
     requires rows { row < ROWS }
     requires columns { column < COLUMNS }
-    ensures { result ≡ true → (q : ℕ) → q < ROWS → feeds program.now rung row column q ≡ fed elements.now row column q }
+    ensures { result ≡ true → IsFedAlike program.now rung elements.now row column }
 {
+    let before = reached_in(elements, column.saturating_sub(1));
     for from in 0..ROWS {
-        if !is_fed_alike(program, rung, elements, row, column, from) {
+        if !is_fed_alike(program, rung, elements, row, column, from, &before) {
             return false;
         }
     }
     true
+}
+
+/// Whether a cell is fed as its element is, which stands where it means the same.
+fn is_alike(program: &Program, rung: usize, elements: &[Element], row: usize, column: usize) -> bool
+    requires rungs { rung < program.now.rungs }
+    requires rows { row < ROWS }
+    requires columns { column < COLUMNS }
+    ensures { result ≡ true → IsAlike program.now rung elements.now row column }
+{
+    stands(elements, row, column)
+        && !reads_late(elements, row, column)
+        && are_fed_alike(program, rung, elements, row, column)
 }
 
 /// Whether a place has what the project has there.
@@ -270,7 +399,7 @@ fn is_place_carried(
     let element = element_at(elements, row, column);
     let meaning = meaning_at(elements, row, column);
     (is_cell(
-        program.decls(),
+        program,
         rungs,
         blocks,
         placed.section,
@@ -278,9 +407,7 @@ fn is_place_carried(
         meaning,
         cell,
     ) || is_left_out(elements, row, column, cell))
-        && (is_empty(cell) || are_fed_alike(program, rung, elements, row, column))
-        && stands(elements, row, column)
-        && !reads_late(elements, row, column)
+        && (is_empty(cell) || is_alike(program, rung, elements, row, column))
 }
 
 fn is_row_carried(
@@ -322,12 +449,7 @@ fn is_rung_carried(
 }
 
 /// Whether the rung with a number has what the project has.
-fn is_carried_at(
-    program: &Program,
-    rungs: &[Placed<'_>],
-    blocks: &[BlockRef],
-    rung: usize,
-) -> bool
+fn is_carried_at(program: &Program, rungs: &[Placed<'_>], blocks: &[BlockRef], rung: usize) -> bool
     requires { rung < program.now.rungs }
     ensures { result ≡ true → (x : Placed) → slice_get rungs.now rung ≡ Some x → IsRungCarried program.now rungs.now blocks.now rung x }
 {
@@ -400,11 +522,7 @@ fn is_instance(project: &Project<'_>, block: BlockRef, instance: Instance) -> bo
 }
 
 /// Whether each instance has the kind and the preset of the block that it stands for.
-fn are_instances(
-    project: &Project<'_>,
-    mut blocks: &[BlockRef],
-    mut instances: &[Instance],
-) -> bool
+fn are_instances(project: &Project<'_>, mut blocks: &[BlockRef], mut instances: &[Instance]) -> bool
     ensures { result ≡ true → AreInstances project.now blocks.entry.now instances.entry.now }
 {
     while let [block, others @ ..] = blocks {
@@ -428,11 +546,7 @@ fn are_off(decls: &Decls) -> bool
 }
 
 /// Whether a program is a project carried over, with the blocks in the order of the instances.
-pub fn is_carried_over(
-    project: &Project<'_>,
-    blocks: &[BlockRef],
-    program: &Program,
-) -> bool
+pub fn is_carried_over(project: &Project<'_>, blocks: &[BlockRef], program: &Program) -> bool
     ensures { result ≡ true → IsCarriedOver project.now program.now }
 {
     let decls = program.decls();

@@ -1,6 +1,15 @@
 //! Writes the program text of a ClassicLadder project.
 #![tactic(auto)]
 
-pub mod check;
-pub mod meaning;
-pub mod sheet;
+mod bytes;
+mod check;
+mod draw;
+mod drawn;
+mod importing;
+mod meaning;
+mod names;
+mod refusal;
+mod sheet;
+
+pub use importing::{ImportFault, import};
+pub use refusal::{Reason, Refusal, refusals};

@@ -8,7 +8,7 @@ use ladder_page::{CoilMode, Mode};
 use ladder_vars::BlockKind;
 
 /// The blocks that are carried over.
-#[derive(Clone, Copy, Debug, PartialEq, Eq)]
+#[derive(Clone, Copy, Debug, PartialEq, Eq, PartialOrd, Ord)]
 pub enum BlockSort {
     /// A timer of the old sort, `%T`.
     Timer,
@@ -35,12 +35,14 @@ pub enum Meaning {
     Coil(CoilMode),
     Jump,
     Block(BlockSort),
+    /// The output of an old timer whose time never passes: always OFF.
+    Off,
     /// It isn't carried over.
     Other,
 }
 
 /// What a contact reads or a coil writes.
-#[derive(Clone, Copy, Debug, PartialEq, Eq)]
+#[derive(Clone, Copy, Debug, PartialEq, Eq, PartialOrd, Ord)]
 pub enum Source {
     /// `%I`.
     Input,

@@ -1,9 +1,9 @@
 //! The elements of a rung, and how power goes through them.
 
-ghost use Rattle.std.specs.Prelude.{◌≡◌, ◌+◌, ◌*◌, ◌/◌, ◌%◌, ◌<◌, ◌≤◌, ◌&&◌, ◌||◌};
+ghost use Rattle.std.specs.Prelude.{◌≡◌, ◌+◌, ◌-◌, ◌*◌, ◌<◌, ◌≤◌, ◌&&◌, ◌||◌};
 ghost use Rattle.ladder_page.specs.declared.geometry.TheConstants.{COLUMNS, ROWS, PLACES};
 ghost use Rattle.ladder_import.specs.Reach.{AreReached};
-ghost use Rattle.ladder_import.specs.Sheets.{element_at, ends_rung, enters, fed, gives, has_places, is_blank_at, is_block, is_contact, is_effect, is_effect_below, is_idle, is_left_half, is_linked, is_read_by, is_running, is_tied, meaning_at, passes, reached, reads_late, reads_place, same_sort, some_below, source_is, stands, stands_as, tied};
+ghost use Rattle.ladder_import.specs.Sheets.{are_tied, brings, element_at, ends_rung, fed, has_places, is_bare, is_blank_at, is_block, is_contact, is_effect, is_effect_below, is_idle, is_left_half, is_linked, is_read_by, is_running, is_tied, meaning_at, passes, reached, reads_late, reads_place, same_sort, some_below, source_is, stands, stands_as, is_stopped, stopped_as, tied};
 
 use crate::meaning::{BlockSort, Meaning, Source, is_blank_kind, meaning_of, source_of};
 use ladder_clp::Element;
@@ -17,7 +17,7 @@ const BLANK: Element = Element {
     number: 0,
 };
 
-pub fn either(a: bool, b: bool) -> bool
+pub(crate) fn either(a: bool, b: bool) -> bool
     ensures { result ≡ (a || b) }
 {
     a || b
@@ -30,7 +30,7 @@ fn both(a: bool, b: bool) -> bool
 }
 
 /// The element at a place.
-pub fn element_at(elements: &[Element], row: usize, column: usize) -> Element
+pub(crate) fn element_at(elements: &[Element], row: usize, column: usize) -> Element
     requires { (row ≤ ROWS) × (column < COLUMNS) }
     ensures { result ≡ element_at elements.now row column }
 {
@@ -50,14 +50,14 @@ fn is_blank_at(elements: &[Element], row: usize, column: usize) -> bool
 }
 
 /// Whether the row and the one above it are joined on the left of the column.
-pub fn is_linked(elements: &[Element], row: usize, column: usize) -> bool
+pub(crate) fn is_linked(elements: &[Element], row: usize, column: usize) -> bool
     requires { (row ≤ ROWS) × (column < COLUMNS) }
     ensures { result ≡ is_linked elements.now row column }
 {
     element_at(elements, row, column).link != 0
 }
 
-fn is_block(meaning: Meaning) -> bool
+pub(crate) fn is_block(meaning: Meaning) -> bool
     ensures { result ≡ is_block meaning }
 {
     match meaning {
@@ -67,6 +67,7 @@ fn is_block(meaning: Meaning) -> bool
         | Meaning::Contact(_)
         | Meaning::Coil(_)
         | Meaning::Jump
+        | Meaning::Off
         | Meaning::Other => false,
     }
 }
@@ -78,8 +79,61 @@ fn is_left_half(elements: &[Element], row: usize, column: usize) -> bool
     column + 1 < COLUMNS && is_block(meaning_of(element_at(elements, row, column + 1).kind))
 }
 
+/// Whether the second output of an old timer is there.
+pub(crate) fn is_running(elements: &[Element], row: usize, column: usize) -> bool
+    requires { (row ≤ ROWS) × (column < COLUMNS) }
+    ensures { result ≡ is_running elements.now row column }
+{
+    row >= 1 && element_at(elements, row - 1, column).kind == 10
+}
+
+/// Whether nothing is there from which power could go on.
+fn is_bare(elements: &[Element], row: usize, column: usize) -> bool
+    requires { (row ≤ ROWS) × (column < COLUMNS) }
+    ensures { result ≡ is_bare elements.now row column }
+{
+    is_blank_at(elements, row, column)
+        && !is_left_half(elements, row, column)
+        && !is_running(elements, row, column)
+}
+
+/// Whether nothing is drawn to the second input of an old timer.
+fn is_stopped(elements: &[Element], row: usize, column: usize) -> bool
+    requires { (row ≤ ROWS) × (column < COLUMNS) }
+    ensures { result ≡ is_stopped elements.now row column }
+{
+    column >= 2
+        && row + 1 < ROWS
+        && !is_linked(elements, row + 1, column - 1)
+        && !is_linked(elements, row + 2, column - 1)
+        && is_bare(elements, row + 1, column - 2)
+}
+
+fn stopped_as(elements: &[Element], row: usize, column: usize, meaning: Meaning) -> Meaning
+    requires { (row ≤ ROWS) × (column < COLUMNS) }
+    ensures { result ≡ stopped_as elements.now row column meaning }
+{
+    match meaning {
+        Meaning::Block(BlockSort::Timer) => {
+            if is_stopped(elements, row, column) {
+                Meaning::Off
+            } else {
+                Meaning::Block(BlockSort::Timer)
+            }
+        }
+        Meaning::Block(BlockSort::Monostable | BlockSort::IecTimer)
+        | Meaning::Blank
+        | Meaning::Wire
+        | Meaning::Contact(_)
+        | Meaning::Coil(_)
+        | Meaning::Jump
+        | Meaning::Off
+        | Meaning::Other => meaning,
+    }
+}
+
 /// What the element at a place means.
-pub fn meaning_at(elements: &[Element], row: usize, column: usize) -> Meaning
+pub(crate) fn meaning_at(elements: &[Element], row: usize, column: usize) -> Meaning
     requires { (row ≤ ROWS) × (column < COLUMNS) }
     ensures { result ≡ meaning_at elements.now row column }
 {
@@ -90,33 +144,19 @@ pub fn meaning_at(elements: &[Element], row: usize, column: usize) -> Meaning
             Meaning::Other
         }
     } else {
-        meaning_of(element_at(elements, row, column).kind)
+        let meaning = meaning_of(element_at(elements, row, column).kind);
+        stopped_as(elements, row, column, meaning)
     }
-}
-
-/// Whether the second output of an old timer is there.
-pub fn is_running(elements: &[Element], row: usize, column: usize) -> bool
-    requires { (row ≤ ROWS) × (column < COLUMNS) }
-    ensures { result ≡ is_running elements.now row column }
-{
-    row >= 1 && element_at(elements, row - 1, column).kind == 10
 }
 
 /// Whether power goes through.
-pub fn passes(meaning: Meaning) -> bool
+pub(crate) fn passes(meaning: Meaning) -> bool
     ensures { result ≡ passes meaning }
 {
     match meaning {
-        Meaning::Wire | Meaning::Contact(_) | Meaning::Block(_) => true,
+        Meaning::Wire | Meaning::Contact(_) | Meaning::Block(_) | Meaning::Off => true,
         Meaning::Blank | Meaning::Coil(_) | Meaning::Jump | Meaning::Other => false,
     }
-}
-
-fn gives(elements: &[Element], row: usize, column: usize) -> bool
-    requires { (row ≤ ROWS) × (column < COLUMNS) }
-    ensures { result ≡ gives elements.now row column }
-{
-    passes(meaning_at(elements, row, column)) || is_running(elements, row, column)
 }
 
 /// Whether links join so many rows below to this one, on the left of the column.
@@ -131,27 +171,41 @@ fn tied(elements: &[Element], row: usize, column: usize, count: usize) -> bool
     all
 }
 
-fn enters(elements: &[Element], row: usize, column: usize, from: usize) -> bool
+fn are_tied(elements: &[Element], row: usize, column: usize, from: usize) -> bool
     requires rows { (row < ROWS) × (from < ROWS) }
     requires columns { column < COLUMNS }
-    ensures { result ≡ enters elements.now row column from }
+    ensures { result ≡ are_tied elements.now row column from }
 {
-    column >= 1
-        && gives(elements, from, column - 1)
-        && tied(
-            elements,
-            row.min(from),
-            column,
-            row.max(from) - row.min(from),
-        )
+    tied(
+        elements,
+        row.min(from),
+        column,
+        row.max(from) - row.min(from),
+    )
 }
 
-fn comes(elements: &[Element], row: usize, column: usize, from: usize, here: bool) -> bool
+/// Whether power can leave the place on its right; `here` and `above`: whether it can come to it and to the one above.
+fn brings(elements: &[Element], row: usize, column: usize, here: bool, above: bool) -> bool
+    requires { (row < ROWS) × (column < COLUMNS) }
+    ensures { result ≡ brings elements.now row column here above }
+{
+    passes(meaning_at(elements, row, column)) && here || is_running(elements, row, column) && above
+}
+
+/// Whether power comes from a row of the column to a row in the next one.
+fn comes(
+    elements: &[Element],
+    row: usize,
+    column: usize,
+    from: usize,
+    here: bool,
+    above: bool,
+) -> bool
     requires rows { (row < ROWS) × (from < ROWS) }
     requires columns { column + 1 < COLUMNS }
-    ensures { result ≡ (enters elements.now row (column + 1) from && here) }
+    ensures { result ≡ (brings elements.now from column here above && are_tied elements.now row (column + 1) from) }
 {
-    enters(elements, row, column + 1, from) && here
+    brings(elements, from, column, here, above) && are_tied(elements, row, column + 1, from)
 }
 
 /// Whether power can come to the row in the next column; `before`: where it can in this one.
@@ -163,7 +217,17 @@ fn reaches(elements: &[Element], row: usize, column: usize, before: &[bool; ROWS
 {
     let mut found = false;
     for from in 0..ROWS {
-        found = either(found, comes(elements, row, column, from, before[from]));
+        found = either(
+            found,
+            comes(
+                elements,
+                row,
+                column,
+                from,
+                before[from],
+                before[from.saturating_sub(1)],
+            ),
+        );
     }
     found
 }
@@ -181,7 +245,7 @@ fn reached_next(elements: &[Element], column: usize, before: &[bool; ROWS]) -> [
 }
 
 /// To which rows of a column power can come.
-pub fn reached_in(elements: &[Element], column: usize) -> [bool; ROWS]
+pub(crate) fn reached_in(elements: &[Element], column: usize) -> [bool; ROWS]
     requires { column < COLUMNS }
     ensures { AreReached elements.now column result }
 {
@@ -193,20 +257,31 @@ pub fn reached_in(elements: &[Element], column: usize) -> [bool; ROWS]
 }
 
 /// Whether power can come to the place.
-pub fn reached(elements: &[Element], row: usize, column: usize) -> bool
+pub(crate) fn reached(elements: &[Element], row: usize, column: usize) -> bool
     requires { (row < ROWS) × (column < COLUMNS) }
     ensures { result ≡ reached elements.now column row }
 {
     reached_in(elements, column)[row]
 }
 
-/// Whether power comes from the row, where it can come.
-pub fn fed(elements: &[Element], row: usize, column: usize, from: usize) -> bool
+/// Whether power can come to the left of the element from the row; `before`: where it can come to in the column before.
+pub(crate) fn fed(
+    elements: &[Element],
+    row: usize,
+    column: usize,
+    from: usize,
+    before: &[bool; ROWS],
+) -> bool
     requires rows { (row < ROWS) × (from < ROWS) }
     requires columns { column < COLUMNS }
+    requires before { AreReached elements.now (column - 1) before.now }
     ensures { result ≡ fed elements.now row column from }
 {
-    enters(elements, row, column, from) && reached(elements, from, column.saturating_sub(1))
+    if column == 0 {
+        return false;
+    }
+    let (here, above) = (before[from], before[from.saturating_sub(1)]);
+    brings(elements, from, column - 1, here, above) && are_tied(elements, row, column, from)
 }
 
 fn is_effect(meaning: Meaning) -> bool
@@ -218,6 +293,7 @@ fn is_effect(meaning: Meaning) -> bool
         | Meaning::Wire
         | Meaning::Contact(_)
         | Meaning::Block(_)
+        | Meaning::Off
         | Meaning::Other => false,
     }
 }
@@ -230,7 +306,7 @@ fn is_effect_below(elements: &[Element], row: usize, column: usize, lower: usize
 }
 
 /// Whether nothing that writes or leads out of the rung is below.
-pub fn ends_rung(elements: &[Element], row: usize, column: usize) -> bool
+pub(crate) fn ends_rung(elements: &[Element], row: usize, column: usize) -> bool
     requires { (row < ROWS) × (column < COLUMNS) }
     ensures { result ≡ ends_rung elements.now row column }
 {
@@ -242,7 +318,7 @@ pub fn ends_rung(elements: &[Element], row: usize, column: usize) -> bool
 }
 
 /// Whether the second input of an old timer is joined with the first.
-pub fn is_tied(elements: &[Element], row: usize, column: usize, sort: BlockSort) -> bool
+pub(crate) fn is_tied(elements: &[Element], row: usize, column: usize, sort: BlockSort) -> bool
     requires { (row < ROWS) × (1 ≤ column) × (column < COLUMNS) }
     ensures { result ≡ is_tied elements.now row column sort }
 {
@@ -253,7 +329,7 @@ pub fn is_tied(elements: &[Element], row: usize, column: usize, sort: BlockSort)
 }
 
 /// Whether a block has its four places.
-pub fn has_places(elements: &[Element], row: usize, column: usize) -> bool
+pub(crate) fn has_places(elements: &[Element], row: usize, column: usize) -> bool
     requires { (row < ROWS) × (column < COLUMNS) }
     ensures { result ≡ has_places elements.now row column }
 {
@@ -277,19 +353,20 @@ fn stands_as(elements: &[Element], row: usize, column: usize, meaning: Meaning) 
         Meaning::Block(sort) => {
             has_places(elements, row, column) && is_tied(elements, row, column, sort)
         }
+        Meaning::Off => has_places(elements, row, column) && column + 1 < COLUMNS,
         Meaning::Blank | Meaning::Wire | Meaning::Other => true,
     }
 }
 
 /// Whether the element stands where it means the same in a program.
-pub fn stands(elements: &[Element], row: usize, column: usize) -> bool
+pub(crate) fn stands(elements: &[Element], row: usize, column: usize) -> bool
     requires { (row < ROWS) × (column < COLUMNS) }
     ensures { result ≡ stands elements.now row column }
 {
     stands_as(elements, row, column, meaning_at(elements, row, column))
 }
 
-pub fn same_sort(a: BlockSort, b: BlockSort) -> bool
+pub(crate) fn same_sort(a: BlockSort, b: BlockSort) -> bool
     ensures { result ≡ same_sort a b }
 {
     match a {
@@ -329,11 +406,12 @@ fn is_read_by(reader: Element, block: Element, meaning: Meaning) -> bool
         | Meaning::Contact(_)
         | Meaning::Coil(_)
         | Meaning::Jump
+        | Meaning::Off
         | Meaning::Other => false,
     }
 }
 
-fn is_contact(meaning: Meaning) -> bool
+pub(crate) fn is_contact(meaning: Meaning) -> bool
     ensures { result ≡ is_contact meaning }
 {
     match meaning {
@@ -343,6 +421,7 @@ fn is_contact(meaning: Meaning) -> bool
         | Meaning::Coil(_)
         | Meaning::Jump
         | Meaning::Block(_)
+        | Meaning::Off
         | Meaning::Other => false,
     }
 }
@@ -371,7 +450,7 @@ fn reads_before(elements: &[Element], reader: Element, count: usize) -> bool
 }
 
 /// Whether a contact reads a block that comes before it in its rung.
-pub fn reads_late(elements: &[Element], row: usize, column: usize) -> bool
+pub(crate) fn reads_late(elements: &[Element], row: usize, column: usize) -> bool
     requires { (row < ROWS) × (column < COLUMNS) }
     ensures { result ≡ reads_late elements.now row column }
 {
@@ -384,19 +463,19 @@ pub fn reads_late(elements: &[Element], row: usize, column: usize) -> bool
 }
 
 /// Whether the element does nothing where no power comes.
-pub fn is_idle(meaning: Meaning) -> bool
+pub(crate) fn is_idle(meaning: Meaning) -> bool
     ensures { result ≡ is_idle meaning }
 {
     match meaning {
         Meaning::Coil(CoilMode::Set | CoilMode::Reset) => true,
-        Meaning::Coil(
-            CoilMode::Store | CoilMode::Inverse | CoilMode::Rising | CoilMode::Falling,
-        ) => false,
+        Meaning::Coil(CoilMode::Store | CoilMode::Inverse | CoilMode::Rising | CoilMode::Falling) =>
+            false,
         Meaning::Other => false,
         Meaning::Blank
         | Meaning::Wire
         | Meaning::Contact(_)
         | Meaning::Jump
-        | Meaning::Block(_) => true,
+        | Meaning::Block(_)
+        | Meaning::Off => true,
     }
 }

@@ -22,7 +22,7 @@ returns-then-number-section c =
     let p = placed_in c.args.section.number c.in-Some.rung in (
       c.loop-count.invariant.0 ++ p ∷ [],
       last_rung _ c.loop-count.invariant.0 _ _ _ _ c.loop-count._count c.loop-count.number c.in-Some.rung c.loop-count-test.true (sym c.in-Some.ensures)
-      (search rules) c.loop-count.invariant.2,
+          (search rules) c.loop-count.invariant.2,
       c.in_ok-push.ensures.items ∙ ap (λ z. z ++ p ∷ []) c.loop-count.invariant.1 ∙ append_assoc c.args.placed.now.items c.loop-count.invariant.0 (p ∷ []),
     )
 
@@ -32,5 +32,5 @@ loop-count-preserved c =
       c.loop-count.invariant.0 ++ p ∷ [],
       c.in_ok-push.ensures.items ∙ ap (λ z. z ++ p ∷ []) c.loop-count.invariant.1 ∙ append_assoc c.args.placed.now.items c.loop-count.invariant.0 (p ∷ []),
       next_rung _ c.loop-count.invariant.0 _ _ _ _ c.loop-count._count c.loop-count.number _ c.in-Some.rung c.loop-count-test.true (sym c.in-Some.ensures)
-      (search rules) c.in-Some-next.is c.loop-count.invariant.2,
+          (search rules) c.in-Some-next.is c.loop-count.invariant.2,
     )
