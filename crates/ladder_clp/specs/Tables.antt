@@ -1,0 +1,55 @@
+-- The tables of a project. Each line with data is an entry, and its fields have commas (44) between them.
+use Rattle.std.specs.Prelude.{ℕ, List, [], ◌∷◌, Option, Some, None, if◌then◌else◌}
+use Rattle.ladder_clp.specs.declared.table.Preset.{Preset}
+use Rattle.ladder_clp.specs.declared.table.Section.{Section}
+use Rattle.ladder_clp.specs.declared.table.Symbol.{Symbol}
+use Rattle.ladder_clp.specs.Format.{number_in, other_in, before, behind, is_data}
+use Rattle.ladder_clp.specs.Rungs.{with_first}
+
+abbrev pub preset_with : Option ℕ → Option ℕ → Option ℕ → Option Preset
+preset_with (Some base) (Some count) (Some mode) = Some (record { base = base; count = count; mode = mode })
+preset_with base count mode = None
+
+-- 0 where there is no third field
+abbrev pub mode_in : List ℕ → Option ℕ
+mode_in [] = Some 0
+mode_in (b ∷ bs) = number_in (before 44 (b ∷ bs))
+
+-- A preset is `base,count` or `base,count,mode`.
+abbrev pub preset_in : List ℕ → Option Preset
+preset_in line = preset_with (number_in (before 44 line)) (number_in (before 44 (behind 44 line))) (mode_in (behind 44 (behind 44 line)))
+
+abbrev pub presets_in : List (List ℕ) → Option (List Preset)
+presets_in [] = Some []
+presets_in (l ∷ ls) = if is_data l then with_first (preset_in l) (presets_in ls) else presets_in ls
+
+abbrev pub section_with : Option ℕ → Option ℕ → Option (Option ℕ) → Option ℕ → Option ℕ → Option Section
+section_with (Some number) (Some language) (Some subroutine) (Some first) (Some last) =
+    Some (record { number = number; language = language; subroutine = subroutine; first = first; last = last })
+section_with number language subroutine first last = None
+
+-- A section is `number,language,subroutine,first,last`, and more that says nothing of the scan.
+abbrev pub section_in : List ℕ → Option Section
+section_in line =
+    section_with (number_in (before 44 line)) (number_in (before 44 (behind 44 line))) (other_in (before 44 (behind 44 (behind 44 line))))
+    (number_in (before 44 (behind 44 (behind 44 (behind 44 line))))) (number_in (before 44 (behind 44 (behind 44 (behind 44 (behind 44 line))))))
+
+abbrev pub sections_in : List (List ℕ) → Option (List Section)
+sections_in [] = Some []
+sections_in (l ∷ ls) = if is_data l then with_first (section_in l) (sections_in ls) else sections_in ls
+
+-- A symbol: the variable, its name, and a comment.
+pub record SymbolRead : Type 0 where
+  pub variable : List ℕ
+  pub name : List ℕ
+  pub comment : List ℕ
+
+abbrev pub symbol_of : Symbol → SymbolRead
+symbol_of s = record { variable = s.variable.now; name = s.name.now; comment = s.comment.now }
+
+abbrev pub symbol_in : List ℕ → SymbolRead
+symbol_in line = record { variable = before 44 line; name = before 44 (behind 44 line); comment = behind 44 (behind 44 line) }
+
+abbrev pub symbols_in : List (List ℕ) → List SymbolRead
+symbols_in [] = []
+symbols_in (l ∷ ls) = if is_data l then symbol_in l ∷ symbols_in ls else symbols_in ls

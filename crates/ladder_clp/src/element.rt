@@ -1,0 +1,79 @@
+//! The elements of a rung.
+
+ghost use Rattle.std.specs.Prelude.{◌≡◌, ◌++◌, IfOk, map, option_map};
+ghost use Rattle.ladder_clp.specs.Rungs.{element_in, element_with, elements_in, row_in};
+
+use crate::lines::fields_of;
+use crate::number::{before, behind, number_in};
+use std::alloc::{AllocError, Global};
+
+/// An element of a rung: its kind, whether a link goes up from its left, and the variable or the entry of a table that it has.
+#[derive(Clone, Copy, Debug, PartialEq, Eq)]
+pub struct Element {
+    pub kind: u32,
+    /// Not 0 where its row and the one above it are joined on its left.
+    pub link: u32,
+    /// The sort of the variable.
+    pub class: u32,
+    /// The number of the variable, or that of the entry in its table.
+    pub number: u32,
+}
+
+fn element_with(
+    kind: Option<u32>,
+    link: Option<u32>,
+    class: Option<u32>,
+    number: Option<u32>,
+) -> Option<Element>
+    ensures { result ≡ element_with kind link class number }
+{
+    match (kind, link, class, number) {
+        (Some(kind), Some(link), Some(class), Some(number)) => Some(Element {
+            kind,
+            link,
+            class,
+            number,
+        }),
+        _ => None,
+    }
+}
+
+/// The element that a field is.
+fn element_in(field: &[u8]) -> Option<Element>
+    ensures { result ≡ element_in field.now }
+{
+    let rest = behind(b'-', field);
+    let last = behind(b'-', rest);
+    element_with(
+        number_in(before(b'-', field)),
+        number_in(before(b'-', rest)),
+        number_in(before(b'/', last)),
+        number_in(behind(b'/', last)),
+    )
+}
+
+/// The elements that the fields are, where each is one.
+fn elements_in(alloc: Global, mut fields: &[&[u8]]) -> Result<Option<Vec<Element>>, AllocError>
+    ensures { IfOk result (λ o. option_map (λ v. v.items) o ≡ elements_in (map (λ l. l.now) fields.entry.now)) }
+{
+    let mut elements = Vec::new(alloc);
+    while let [field, rest @ ..] = fields {
+        match element_in(field) {
+            Some(element) => elements.push(element)?,
+            None => return Ok(None),
+        }
+        fields = rest;
+    }
+    Ok(Some(elements))
+}
+
+/// The elements of a row.
+pub(crate) fn row_in(alloc: Global, line: &[u8]) -> Result<Option<Vec<Element>>, AllocError>
+    ensures { IfOk result (λ o. option_map (λ v. v.items) o ≡ row_in line.now) }
+{
+    let fields = fields_of(alloc, line)?;
+    if fields.len() != 10 {
+        return Ok(None);
+    }
+    elements_in(alloc, &fields)
+}

@@ -1,0 +1,18 @@
+//! Reads a project of ClassicLadder, the ladder editor and engine of LinuxCNC.
+#![tactic(auto)]
+
+mod element;
+mod fault;
+mod lines;
+mod number;
+mod order;
+mod project;
+mod rung;
+mod table;
+
+pub use element::Element;
+pub use fault::{ClpFault, Table};
+pub use order::Placed;
+pub use project::{Project, read_project};
+pub use rung::{ELEMENTS, Rung};
+pub use table::{Preset, Section, Symbol};

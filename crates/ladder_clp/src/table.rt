@@ -1,0 +1,168 @@
+//! The tables of a project: presets, sections and symbols, a line each.
+
+ghost use Rattle.std.specs.Prelude.{◌≡◌, IfOk, map, option_map};
+ghost use Rattle.ladder_clp.specs.Tables.{mode_in, preset_in, preset_with, presets_in, section_in, section_with, sections_in, symbol_of, symbols_in};
+
+use crate::lines::is_data;
+use crate::number::{before, behind, number_in, other_in};
+use std::alloc::{AllocError, Global};
+
+/// The preset of a timer or a monostable, and the mode of an IEC timer, by its base and how often that is counted.
+#[derive(Clone, Copy, Debug, PartialEq, Eq)]
+pub struct Preset {
+    pub base: u32,
+    pub count: u32,
+    /// 0 where the line has no third field.
+    pub mode: u32,
+}
+
+/// A section: rungs from a first to a last one, each after the one that names it as its next.
+#[derive(Clone, Copy, Debug, PartialEq, Eq)]
+pub struct Section {
+    pub number: u32,
+    /// 0 for a ladder diagram.
+    pub language: u32,
+    /// The number by which it is called; a section without one is scanned.
+    pub subroutine: Option<u32>,
+    pub first: u32,
+    pub last: u32,
+}
+
+/// What the project calls a variable, as it stands there.
+#[derive(Clone, Copy)]
+pub struct Symbol<'a> {
+    pub variable: &'a [u8],
+    pub name: &'a [u8],
+    pub comment: &'a [u8],
+}
+
+fn preset_with(base: Option<u32>, count: Option<u32>, mode: Option<u32>) -> Option<Preset>
+    ensures { result ≡ preset_with base count mode }
+{
+    match (base, count, mode) {
+        (Some(base), Some(count), Some(mode)) => Some(Preset { base, count, mode }),
+        _ => None,
+    }
+}
+
+fn mode_in(field: &[u8]) -> Option<u32>
+    ensures { result ≡ mode_in field.now }
+{
+    if field.is_empty() {
+        Some(0)
+    } else {
+        number_in(before(b',', field))
+    }
+}
+
+fn preset_in(line: &[u8]) -> Option<Preset>
+    ensures { result ≡ preset_in line.now }
+{
+    let rest = behind(b',', line);
+    preset_with(
+        number_in(before(b',', line)),
+        number_in(before(b',', rest)),
+        mode_in(behind(b',', rest)),
+    )
+}
+
+/// The presets of a table, where each line with data is one.
+pub(crate) fn presets_in(
+    alloc: Global,
+    mut lines: &[&[u8]],
+) -> Result<Option<Vec<Preset>>, AllocError>
+    ensures { IfOk result (λ o. option_map (λ v. v.items) o ≡ presets_in (map (λ l. l.now) lines.entry.now)) }
+{
+    let mut presets = Vec::new(alloc);
+    while let [line, rest @ ..] = lines {
+        if is_data(line) {
+            match preset_in(line) {
+                Some(preset) => presets.push(preset)?,
+                None => return Ok(None),
+            }
+        }
+        lines = rest;
+    }
+    Ok(Some(presets))
+}
+
+fn section_with(
+    number: Option<u32>,
+    language: Option<u32>,
+    subroutine: Option<Option<u32>>,
+    first: Option<u32>,
+    last: Option<u32>,
+) -> Option<Section>
+    ensures { result ≡ section_with number language subroutine first last }
+{
+    match (number, language, subroutine, first, last) {
+        (Some(number), Some(language), Some(subroutine), Some(first), Some(last)) => {
+            Some(Section {
+                number,
+                language,
+                subroutine,
+                first,
+                last,
+            })
+        }
+        _ => None,
+    }
+}
+
+fn section_in(line: &[u8]) -> Option<Section>
+    ensures { result ≡ section_in line.now }
+{
+    let second = behind(b',', line);
+    let third = behind(b',', second);
+    let fourth = behind(b',', third);
+    let fifth = behind(b',', fourth);
+    section_with(
+        number_in(before(b',', line)),
+        number_in(before(b',', second)),
+        other_in(before(b',', third)),
+        number_in(before(b',', fourth)),
+        number_in(before(b',', fifth)),
+    )
+}
+
+/// The sections, where each line with data is one.
+pub(crate) fn sections_in(
+    alloc: Global,
+    mut lines: &[&[u8]],
+) -> Result<Option<Vec<Section>>, AllocError>
+    ensures { IfOk result (λ o. option_map (λ v. v.items) o ≡ sections_in (map (λ l. l.now) lines.entry.now)) }
+{
+    let mut sections = Vec::new(alloc);
+    while let [line, rest @ ..] = lines {
+        if is_data(line) {
+            match section_in(line) {
+                Some(section) => sections.push(section)?,
+                None => return Ok(None),
+            }
+        }
+        lines = rest;
+    }
+    Ok(Some(sections))
+}
+
+/// The symbols, one in each line with data.
+pub(crate) fn symbols_in<'a>(
+    alloc: Global,
+    mut lines: &[&'a [u8]],
+) -> Result<Vec<Symbol<'a>>, AllocError>
+    ensures { IfOk result (λ v. map symbol_of v.items ≡ symbols_in (map (λ l. l.now) lines.entry.now)) }
+{
+    let mut symbols = Vec::new(alloc);
+    while let [line, rest @ ..] = lines {
+        if is_data(line) {
+            let after = behind(b',', line);
+            symbols.push(Symbol {
+                variable: before(b',', line),
+                name: before(b',', after),
+                comment: behind(b',', after),
+            })?;
+        }
+        lines = rest;
+    }
+    Ok(symbols)
+}

@@ -1,0 +1,13 @@
+-- Private: where power can come to, while it is found out.
+use Rattle.std.specs.Prelude.{◌≡◌, ◌+◌, ◌-◌, ◌<◌, ◌&&◌, ℕ, List, Bool, false, slice_index_or}
+use Rattle.ladder_page.specs.declared.geometry.TheConstants.{ROWS}
+use Rattle.ladder_clp.specs.declared.element.Element.{Element}
+use Rattle.ladder_import.specs.Sheets.{are_tied, brings, reached}
+
+-- for each row, whether power can come to it in the column
+abbrev pub AreReached : List Element → ℕ → List Bool → Type 0
+AreReached es c here = (row : ℕ) → row < ROWS → slice_index_or here row false ≡ reached es c row
+
+-- power comes from the row `from` of a column to the row in the next one
+abbrev pub comes_from : List Element → ℕ → ℕ → ℕ → Bool
+comes_from es row c from = brings es from c (reached es c from) (reached es c (from - 1)) && are_tied es row (c + 1) from

@@ -1,0 +1,356 @@
+//! The text of a program, as it is drawn.
+
+ghost use Rattle.std.specs.Prelude.{◌<◌};
+ghost use Rattle.ladder_page.specs.declared.geometry.TheConstants.{COLUMNS, ROWS};
+
+use crate::bytes::{add, add_line, add_number, add_remark, fill, trimmed};
+use crate::check::entry_of;
+use crate::drawn::{Sheet, sheet_of};
+use crate::meaning::{BlockSort, Meaning, Source, source_of, timed_as};
+use crate::names::{Named, Used, letters, name_in, symbol_of};
+use crate::sheet::{element_at, meaning_at};
+use ladder_clp::{Placed, Project};
+use ladder_page::geometry::{CELL, COLUMNS, ROWS};
+use ladder_page::{CoilMode, Mode};
+use ladder_vars::BlockKind;
+use std::alloc::{AllocError, Global};
+
+/// Adds a duration in parts, from days to milliseconds.
+fn add_duration(text: &mut Vec<u8>, millis: u32) -> Result<(), AllocError> {
+    add(text, b"T#")?;
+    let parts = [
+        (millis / 86_400_000, b"d".as_slice()),
+        (millis / 3_600_000 % 24, b"h".as_slice()),
+        (millis / 60_000 % 60, b"m".as_slice()),
+        (millis / 1000 % 60, b"s".as_slice()),
+    ];
+    for (number, unit) in parts {
+        if number > 0 {
+            add_number(text, number)?;
+            add(text, unit)?;
+        }
+    }
+    if millis % 1000 > 0 || millis == 0 {
+        add_number(text, millis % 1000)?;
+        add(text, b"ms")?;
+    }
+    Ok(())
+}
+
+/// Adds the address of a variable, which one that stands for a block hasn't.
+fn add_address(text: &mut Vec<u8>, used: Used) -> Result<(), AllocError> {
+    match used.source {
+        Source::Input => add(text, b" AT %IX")?,
+        Source::Output => add(text, b" AT %QX")?,
+        Source::Memory => add(text, b" AT %MX")?,
+        Source::Done(_) | Source::Other => return Ok(()),
+    }
+    add_number(text, used.number)
+}
+
+fn type_name(kind: BlockKind) -> &'static [u8] {
+    kind.traits().word
+}
+
+/// Adds the type of a block, and its preset.
+fn add_type(text: &mut Vec<u8>, project: &Project<'_>, used: Used) -> Result<(), AllocError> {
+    let Source::Done(sort) = used.source else {
+        return Ok(());
+    };
+    let Some(timed) = timed_as(sort, entry_of(project, sort, used.number as usize)) else {
+        return Ok(());
+    };
+    let Ok(preset) = u32::try_from(timed.preset) else {
+        return Ok(());
+    };
+    add(text, b" : ")?;
+    add(text, type_name(timed.kind))?;
+    add(text, b" := (PT := ")?;
+    add_duration(text, preset)?;
+    add(text, b");")
+}
+
+/// Adds what the project says of it.
+fn add_origin(
+    alloc: Global,
+    text: &mut Vec<u8>,
+    project: &Project<'_>,
+    named: Named,
+) -> Result<(), AllocError> {
+    add(text, b"(* %")?;
+    add(text, letters(named.used.source))?;
+    add_number(text, named.used.number)?;
+    if let Some(symbol) = symbol_of(alloc, project, named.used)? {
+        for words in [symbol.name, symbol.comment] {
+            if !trimmed(words).is_empty() {
+                add(text, b", ")?;
+                add_remark(text, words)?;
+            }
+        }
+    }
+    if let (Source::Done(_), false) = (named.used.source, named.is_block) {
+        add(text, b": nothing writes it, always OFF")?;
+    }
+    add(text, b" *)\n")
+}
+
+fn add_declaration(
+    alloc: Global,
+    text: &mut Vec<u8>,
+    project: &Project<'_>,
+    named: Named,
+) -> Result<(), AllocError> {
+    let start = text.len();
+    add(text, b"  ")?;
+    add(text, named.name.bytes())?;
+    if named.is_block {
+        add_type(text, project, named.used)?;
+    } else {
+        add_address(text, named.used)?;
+        add(text, b" : BOOL;")?;
+    }
+    fill(text, start, 40)?;
+    add_origin(alloc, text, project, named)
+}
+
+fn contact_cell(mode: Mode) -> &'static [u8] {
+    match mode {
+        Mode::Plain => b"----| |----",
+        Mode::Negated => b"----|/|----",
+        Mode::Rising => b"----|P|----",
+        Mode::Falling => b"----|N|----",
+    }
+}
+
+fn coil_cell(mode: CoilMode) -> &'static [u8] {
+    match mode {
+        CoilMode::Store => b"----( )----",
+        CoilMode::Inverse => b"----(/)----",
+        CoilMode::Set => b"----(S)----",
+        CoilMode::Reset => b"----(R)----",
+        CoilMode::Rising => b"----(P)----",
+        CoilMode::Falling => b"----(N)----",
+    }
+}
+
+fn block_cell(kind: BlockKind) -> &'static [u8] {
+    match kind {
+        BlockKind::Tof => b"-|IN TOF Q|",
+        BlockKind::Tp => b"-|IN TP  Q|",
+        BlockKind::Ton | BlockKind::Ctu | BlockKind::Ctd | BlockKind::Sr | BlockKind::Rs => {
+            b"-|IN TON Q|"
+        }
+    }
+}
+
+/// Adds the characters of a cell.
+fn add_cell(
+    text: &mut Vec<u8>,
+    project: &Project<'_>,
+    meaning: Meaning,
+    number: u32,
+) -> Result<(), AllocError> {
+    match meaning {
+        Meaning::Blank | Meaning::Other => add(text, b"           "),
+        Meaning::Wire => add(text, b"-----------"),
+        Meaning::Contact(mode) => add(text, contact_cell(mode)),
+        Meaning::Off => add(text, contact_cell(Mode::Plain)),
+        Meaning::Coil(mode) => add(text, coil_cell(mode)),
+        Meaning::Jump => {
+            add(text, b"--->>R")?;
+            add_number(text, number)
+        }
+        Meaning::Block(sort) => {
+            match timed_as(sort, entry_of(project, sort, number as usize)) {
+                Some(timed) => add(text, block_cell(timed.kind)),
+                None => Ok(()),
+            }
+        }
+    }
+}
+
+/// Adds the name over a cell, in its middle.
+fn add_name(
+    text: &mut Vec<u8>,
+    named: &[Named],
+    meaning: Meaning,
+    class: u32,
+    number: u32,
+) -> Result<(), AllocError> {
+    let start = text.len();
+    let source = match meaning {
+        Meaning::Block(sort) => Source::Done(sort),
+        Meaning::Off => Source::Done(BlockSort::Timer),
+        Meaning::Contact(_) | Meaning::Coil(_) => source_of(class),
+        Meaning::Blank | Meaning::Wire | Meaning::Jump | Meaning::Other => Source::Other,
+    };
+    if let Some(found) = name_in(named, Used { source, number }) {
+        let spelling = found.name.bytes();
+        for _ in 0..CELL.saturating_sub(spelling.len()) / 2 {
+            text.push(b' ')?;
+        }
+        add(text, spelling)?;
+        if let (Meaning::Contact(_), true) = (meaning, found.is_block) {
+            add(text, b".Q")?;
+        }
+    }
+    let done = text.len().saturating_sub(start);
+    for _ in done..CELL.max(done) {
+        text.push(b' ')?;
+    }
+    Ok(())
+}
+
+/// The joint on the left of a column.
+fn joint(sheet: &Sheet<'_>, row: usize, column: usize) -> u8
+    requires { (row < ROWS) × (column < COLUMNS) }
+{
+    let (left, right) = (sheet.is_left(row, column), sheet.is_drawn(row, column));
+    let linked = sheet.has_link(row, column) || sheet.has_link(row + 1, column);
+    if linked && (left || right) {
+        b'+'
+    } else if linked {
+        b'|'
+    } else if left && right {
+        b'-'
+    } else {
+        b' '
+    }
+}
+
+fn add_name_line(
+    alloc: Global,
+    text: &mut Vec<u8>,
+    named: &[Named],
+    sheet: &Sheet<'_>,
+    row: usize,
+) -> Result<(), AllocError>
+    requires { row < ROWS }
+{
+    let mut line = Vec::new(alloc);
+    add(&mut line, b"|")?;
+    for column in 0..COLUMNS {
+        if column >= 1 {
+            line.push(if sheet.has_link(row, column) {
+                b'|'
+            } else {
+                b' '
+            })?;
+        }
+        let element = element_at(sheet.elements, row, column);
+        let meaning = if sheet.is_drawn(row, column) {
+            meaning_at(sheet.elements, row, column)
+        } else {
+            Meaning::Blank
+        };
+        add_name(&mut line, named, meaning, element.class, element.number)?;
+    }
+    add_line(text, &line)
+}
+
+fn add_wire_line(
+    alloc: Global,
+    text: &mut Vec<u8>,
+    project: &Project<'_>,
+    sheet: &Sheet<'_>,
+    row: usize,
+) -> Result<(), AllocError>
+    requires { row < ROWS }
+{
+    let mut line = Vec::new(alloc);
+    add(&mut line, b"|")?;
+    for column in 0..COLUMNS {
+        if column >= 1 {
+            line.push(joint(sheet, row, column))?;
+        }
+        let element = element_at(sheet.elements, row, column);
+        let meaning = if sheet.is_drawn(row, column) {
+            meaning_at(sheet.elements, row, column)
+        } else {
+            Meaning::Blank
+        };
+        add_cell(&mut line, project, meaning, element.number)?;
+    }
+    add_line(text, &line)
+}
+
+/// Whether the rung jumps to the number.
+fn jumps_to(placed: &Placed<'_>, number: u32) -> bool {
+    let sheet = sheet_of(placed.rung.elements.as_slice());
+    for row in 0..ROWS {
+        let element = element_at(sheet.elements, row, COLUMNS - 1);
+        if sheet.is_drawn(row, COLUMNS - 1) && element.kind == 54 && element.number == number {
+            return true;
+        }
+    }
+    false
+}
+
+/// Whether a rung before this one, of the same section, jumps to it.
+fn is_target(before: &[Placed<'_>], placed: &Placed<'_>) -> bool {
+    for other in before {
+        if other.section == placed.section && jumps_to(other, placed.rung.number) {
+            return true;
+        }
+    }
+    false
+}
+
+/// Adds the comment over a rung.
+fn add_title(text: &mut Vec<u8>, count: u32, placed: &Placed<'_>) -> Result<(), AllocError> {
+    add(text, b"\n(* ")?;
+    add_number(text, count)?;
+    add(text, b": ClassicLadder rung ")?;
+    add_number(text, placed.rung.number)?;
+    for words in [placed.rung.label, placed.rung.comment] {
+        if !trimmed(words).is_empty() {
+            add(text, b", ")?;
+            add_remark(text, words)?;
+        }
+    }
+    add(text, b" *)\n")
+}
+
+fn add_rows(
+    alloc: Global,
+    text: &mut Vec<u8>,
+    project: &Project<'_>,
+    named: &[Named],
+    placed: &Placed<'_>,
+) -> Result<(), AllocError> {
+    let sheet = sheet_of(placed.rung.elements.as_slice());
+    let rows = sheet.rows();
+    for row in 0..ROWS {
+        if row < rows {
+            add_name_line(alloc, text, named, &sheet, row)?;
+            add_wire_line(alloc, text, project, &sheet, row)?;
+        }
+    }
+    Ok(())
+}
+
+/// The text of a program, with these names.
+pub(crate) fn drawing(
+    alloc: Global,
+    project: &Project<'_>,
+    named: &[Named],
+) -> Result<Vec<u8>, AllocError> {
+    let mut text = Vec::new(alloc);
+    add(&mut text, b"VAR\n")?;
+    for other in named {
+        add_declaration(alloc, &mut text, project, *other)?;
+    }
+    add(&mut text, b"END_VAR\n")?;
+    let mut count = 0u32;
+    for (number, placed) in project.rungs.iter().enumerate() {
+        count = count.saturating_add(1);
+        add_title(&mut text, count, placed)?;
+        if is_target(&project.rungs[..number], placed) {
+            add(&mut text, b"R")?;
+            add_number(&mut text, placed.rung.number)?;
+            add(&mut text, b":\n")?;
+        }
+        add_rows(alloc, &mut text, project, named, placed)?;
+    }
+    Ok(text)
+}

@@ -1,0 +1,122 @@
+//! Which elements of a rung are drawn, and what joins them.
+
+ghost use Rattle.std.specs.Prelude.{◌<◌, ◌≤◌};
+ghost use Rattle.ladder_page.specs.declared.geometry.TheConstants.{COLUMNS, ROWS};
+
+use crate::meaning::Meaning;
+use crate::sheet::{is_linked, meaning_at, passes, reached_in};
+use ladder_clp::Element;
+use ladder_page::geometry::{COLUMNS, PLACES, ROWS};
+
+/// The elements of a rung, and which of them are drawn: those that mean something, and that power can come to.
+#[derive(Clone, Copy)]
+pub(crate) struct Sheet<'a> {
+    pub(crate) elements: &'a [Element],
+    drawn: [bool; PLACES],
+}
+
+fn is_blank(meaning: Meaning) -> bool {
+    match meaning {
+        Meaning::Blank => true,
+        Meaning::Wire
+        | Meaning::Contact(_)
+        | Meaning::Coil(_)
+        | Meaning::Jump
+        | Meaning::Block(_)
+        | Meaning::Off
+        | Meaning::Other => false,
+    }
+}
+
+/// The elements with what is drawn of them.
+pub(crate) fn sheet_of(elements: &[Element]) -> Sheet<'_> {
+    let mut drawn = [false; PLACES];
+    for column in 0..COLUMNS {
+        let reached = reached_in(elements, column);
+        for row in 0..ROWS {
+            drawn[COLUMNS * row + column] = reached[row]
+                && !is_blank(meaning_at(elements, row, column));
+        }
+    }
+    Sheet { elements, drawn }
+}
+
+impl Sheet<'_> {
+    /// Whether the element is drawn.
+    pub(crate) fn is_drawn(&self, row: usize, column: usize) -> bool
+        requires { (row < ROWS) × (column < COLUMNS) }
+    {
+        self.drawn[COLUMNS * row + column]
+    }
+
+    /// Whether power can leave a drawn element on the left of the column.
+    pub(crate) fn is_left(&self, row: usize, column: usize) -> bool
+        requires { (row < ROWS) × (column < COLUMNS) }
+    {
+        column >= 1
+            && self.is_drawn(row, column - 1)
+            && passes(meaning_at(self.elements, row, column - 1))
+    }
+
+    fn is_used(&self, row: usize, column: usize) -> bool
+        requires { (row < ROWS) × (column < COLUMNS) }
+    {
+        self.is_drawn(row, column) || self.is_left(row, column)
+    }
+
+    /// Whether a row from this one down, which links join, uses the joint.
+    fn is_used_below(&self, row: usize, column: usize) -> bool
+        requires { (row < ROWS) × (column < COLUMNS) }
+    {
+        for lower in row..ROWS {
+            if self.is_used(lower, column) {
+                return true;
+            }
+            if !is_linked(self.elements, lower + 1, column) {
+                return false;
+            }
+        }
+        false
+    }
+
+    /// Whether a row above this one, which links join, uses the joint.
+    fn is_used_above(&self, row: usize, column: usize) -> bool
+        requires { (row < ROWS) × (column < COLUMNS) }
+    {
+        for up in 0..row {
+            let upper = row - up - 1;
+            if self.is_used(upper, column) {
+                return true;
+            }
+            if !is_linked(self.elements, upper, column) {
+                return false;
+            }
+        }
+        false
+    }
+
+    /// Whether a link is drawn from the row to the one above it.
+    pub(crate) fn has_link(&self, row: usize, column: usize) -> bool
+        requires { (row ≤ ROWS) × (column < COLUMNS) }
+    {
+        row >= 1
+            && row < ROWS
+            && column >= 1
+            && is_linked(self.elements, row, column)
+            && self.is_used_below(row, column)
+            && self.is_used_above(row, column)
+    }
+
+    /// How many rows are drawn, one at least.
+    pub(crate) fn rows(&self) -> usize {
+        let mut rows = 1;
+        for row in 0..ROWS {
+            for column in 0..COLUMNS {
+                if self.is_drawn(row, column) {
+                    rows = row + 1;
+                }
+            }
+        }
+        rows
+    }
+}

@@ -1,0 +1,125 @@
+//! The program text of a project.
+
+ghost use Rattle.std.specs.Prelude.{◌≡◌, All, IfErr, IfOk};
+ghost use Rattle.ladder_clp.specs.declared.project.Project.{Project};
+ghost use Rattle.ladder_import.specs.Import.{HasText, IsFault};
+ghost use Rattle.ladder_import.specs.Refusals.{IsThere};
+
+use crate::check::is_carried_over;
+use crate::draw::drawing;
+use crate::meaning::BlockRef;
+use crate::names::{blocks_in, drawn_blocks, names_of, used_in};
+use crate::refusal::{Refusal, refusals};
+use ladder_clp::Project;
+use ladder_grid::{GridFault, read_program};
+use ladder_page::geometry::RUNGS;
+use ladder_vars::VarRule;
+use ladder_vars::limits::{MOST_INSTANCES, MOST_VARS};
+use std::alloc::{AllocError, Global};
+use thiserror::Error;
+
+/// Why a project has no program text.
+#[derive(Clone, Copy, Debug, Drop, Error, PartialEq, Eq)]
+pub enum ImportFault {
+    #[error("out of memory")]
+    Memory,
+    /// Some elements can't be carried over.
+    #[error("there are elements that can't be carried over")]
+    Refused,
+    #[error("there are more than 100 rungs")]
+    TooManyRungs,
+    #[error("there are more than 256 variables")]
+    TooManyVars,
+    #[error("there are more than 64 blocks")]
+    TooManyBlocks,
+    /// The text that was written isn't the project.
+    #[error("the text that was written isn't the project")]
+    NotFaithful,
+}
+
+impl From<AllocError> for ImportFault {
+    ghost use Rattle.ladder_import.specs.declared.importing.ImportFault.TheVariants.{Memory};
+
+    ghost from_gives = { λ _ e. e ≡ Memory };
+
+    fn from(_error: AllocError) -> ImportFault {
+        ImportFault::Memory
+    }
+}
+
+fn fault_of(fault: GridFault) -> ImportFault
+    ensures { (p : Project) → IsFault p result }
+{
+    match fault {
+        GridFault::Vars(fault) if fault.rule == VarRule::Memory => ImportFault::Memory,
+        GridFault::Vars(_) | GridFault::Grid { .. } => ImportFault::NotFaithful,
+    }
+}
+
+/// The text, where it is a program that has what the project has.
+fn checked(
+    alloc: Global,
+    project: &Project<'_>,
+    blocks: &[BlockRef],
+    text: Vec<u8>,
+) -> Result<Vec<u8>, ImportFault>
+    ensures text { IfOk result (λ v. HasText project.now v.items) }
+    ensures fault { IfErr result (λ e. IsFault project.now e) }
+{
+    match read_program(alloc, &text) {
+        Ok(program) => {
+            if is_carried_over(project, blocks, &program) {
+                Ok(text)
+            } else {
+                Err(ImportFault::NotFaithful)
+            }
+        }
+        Err(fault) => Err(fault_of(fault)),
+    }
+}
+
+/// The text as it is drawn, and then checked.
+fn drawn(alloc: Global, project: &Project<'_>) -> Result<Vec<u8>, ImportFault>
+    ensures text { IfOk result (λ v. HasText project.now v.items) }
+    ensures fault { IfErr result (λ e. IsFault project.now e) }
+{
+    let used = used_in(alloc, project)?;
+    let blocks = blocks_in(alloc, &used, &drawn_blocks(alloc, project)?)?;
+    if blocks.len() > MOST_INSTANCES {
+        return Err(ImportFault::TooManyBlocks);
+    }
+    if used.len().saturating_sub(blocks.len()) > MOST_VARS {
+        return Err(ImportFault::TooManyVars);
+    }
+    let named = names_of(alloc, project, &used, &blocks)?;
+    let text = drawing(alloc, project, &named)?;
+    checked(alloc, project, &blocks, text)
+}
+
+fn none_refused(project: &Project<'_>, refused: &[Refusal]) -> Result<(), ImportFault>
+    requires { All (IsThere project.now.rungs.items) refused.now }
+    ensures { IfErr result (λ e. IsFault project.now e) }
+{
+    if refused.len() >= 1 {
+        return Err(ImportFault::Refused);
+    }
+    Ok(())
+}
+
+/// The program text of a project: it reads as a program, and that has what the project has.
+///
+/// # Errors
+///
+/// Why there is none. `Refused` where `refusals` names elements; `NotFaithful` never in practice: then the text that was written
+/// did not pass the check.
+pub fn import(alloc: Global, project: &Project<'_>) -> Result<Vec<u8>, ImportFault>
+    ensures carried { IfOk result (λ v. HasText project.now v.items) }
+    ensures fault { IfErr result (λ e. IsFault project.now e) }
+{
+    let refused = refusals(alloc, project)?;
+    none_refused(project, &refused)?;
+    if project.rungs.len() > RUNGS {
+        return Err(ImportFault::TooManyRungs);
+    }
+    drawn(alloc, project)
+}

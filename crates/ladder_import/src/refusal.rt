@@ -1,0 +1,446 @@
+//! The elements that can't be carried over.
+
+ghost use Rattle.std.specs.Prelude.{◌≡◌, ◌+◌, ◌-◌, ◌<◌, ◌≤◌, IfSome, All, IfOk, length};
+ghost use Rattle.ladder_page.specs.declared.geometry.TheConstants.{COLUMNS, ROWS};
+ghost use Rattle.ladder_import.specs.Reach.{AreReached};
+ghost use Rattle.ladder_import.specs.Refusals.{IsThere, holds, is_coil, is_no_source, is_other, is_run};
+ghost use Rattle.ladder_import.specs.Sheets.{some_below};
+
+use crate::check::entry_of;
+use crate::meaning::{BlockRef, BlockSort, Meaning, Source, meaning_of, source_of, timed_as};
+use crate::names::drawn_blocks;
+use crate::sheet::{
+    either, element_at, ends_rung, fed, has_places, is_block, is_contact, is_idle, is_running,
+    meaning_at, reached, reached_in, reads_late, stands,
+};
+use ladder_clp::{Element, Placed, Project};
+use ladder_page::geometry::{COLUMNS, ROWS};
+use std::alloc::{AllocError, Global};
+use thiserror::Error;
+
+/// Why an element can't be carried over.
+#[derive(Clone, Copy, Debug, PartialEq, Eq, Error)]
+pub enum Reason {
+    #[error("a counter: it counts up and down, round at 9999, and is done at its preset alone")]
+    Counter,
+    #[error("a compare block: there are no numbers in the language")]
+    Compare,
+    #[error("an operate block: there are no numbers in the language")]
+    Operate,
+    #[error("a call of a subroutine")]
+    Call,
+    #[error("this kind of element isn't known, or stands in a block")]
+    Unknown,
+    #[error("a contact on a step of a sequential chart")]
+    Step,
+    #[error("a contact on the running output of a timer")]
+    RunningContact,
+    #[error("a contact on a variable that a program can't have")]
+    OtherContact,
+    #[error("a coil writes an input")]
+    WritesInput,
+    #[error("a coil writes a variable that a program can't write")]
+    OtherCoil,
+    #[error("its number is larger than 99999")]
+    LargeNumber,
+    #[error("an output must be in the last column, and a contact before it")]
+    OutOfPlace,
+    #[error("something that writes or jumps is below this jump")]
+    BelowJump,
+    #[error("this block isn't drawn as a block")]
+    BlockPlaces,
+    #[error("the control input of this timer isn't joined with its input")]
+    Switched,
+    #[error("this block has no preset that a program can have")]
+    NoPreset,
+    #[error("this block is drawn twice")]
+    Twice,
+    #[error("a contact reads a block that comes before it in its rung")]
+    ReadsLate,
+    #[error("no power can come to this coil, and it writes nevertheless")]
+    NoPower,
+    #[error("the running output of a timer leads here")]
+    Running,
+    #[error("a jump to a rung that isn't a later one of its section")]
+    Elsewhere,
+}
+
+/// An element that can't be carried over. Rows and columns are counted from 1.
+#[derive(Clone, Copy, Debug, PartialEq, Eq, Error)]
+#[error("rung {rung}, row {row}, column {column}: {reason}")]
+pub struct Refusal {
+    pub rung: u32,
+    pub row: usize,
+    pub column: usize,
+    pub reason: Reason,
+}
+
+fn is_other(meaning: Meaning) -> bool
+    ensures { result ≡ is_other meaning }
+{
+    match meaning {
+        Meaning::Other => true,
+        Meaning::Blank
+        | Meaning::Wire
+        | Meaning::Contact(_)
+        | Meaning::Coil(_)
+        | Meaning::Jump
+        | Meaning::Block(_)
+        | Meaning::Off => false,
+    }
+}
+
+fn is_coil(meaning: Meaning) -> bool
+    ensures { result ≡ is_coil meaning }
+{
+    match meaning {
+        Meaning::Coil(_) => true,
+        Meaning::Blank
+        | Meaning::Wire
+        | Meaning::Contact(_)
+        | Meaning::Jump
+        | Meaning::Block(_)
+        | Meaning::Off
+        | Meaning::Other => false,
+    }
+}
+
+fn is_no_source(source: Source) -> bool
+    ensures { result ≡ is_no_source source }
+{
+    match source {
+        Source::Other => true,
+        Source::Input | Source::Output | Source::Memory | Source::Done(_) => false,
+    }
+}
+
+fn is_run(
+    elements: &[Element],
+    row: usize,
+    column: usize,
+    from: usize,
+    before: &[bool; ROWS],
+) -> bool
+    requires rows { (row < ROWS) × (from < ROWS) }
+    requires columns { column < COLUMNS }
+    requires before { AreReached elements.now (column - 1) before.now }
+    ensures { result ≡ is_run elements.now row column from }
+{
+    fed(elements, row, column, from, before) && is_running(elements, from, column.saturating_sub(1))
+}
+
+/// Whether power comes from the second output of an old timer.
+fn is_run_by_any(elements: &[Element], row: usize, column: usize) -> bool
+    requires { (row < ROWS) × (column < COLUMNS) }
+    ensures { result ≡ some_below (is_run elements.now row column) ROWS }
+{
+    let before = reached_in(elements, column.saturating_sub(1));
+    let mut found = false;
+    for from in 0..ROWS {
+        found = either(found, is_run(elements, row, column, from, &before));
+    }
+    found
+}
+
+/// Whether the reason holds of the element at a place.
+fn holds(reason: Reason, elements: &[Element], row: usize, column: usize) -> bool
+    requires { (row < ROWS) × (column < COLUMNS) }
+    ensures { result ≡ holds reason elements.now row column }
+{
+    let element = element_at(elements, row, column);
+    let meaning = meaning_at(elements, row, column);
+    let source = source_of(element.class);
+    match reason {
+        Reason::Counter => element.kind == 12,
+        Reason::Compare => element.kind == 20,
+        Reason::Operate => element.kind == 60,
+        Reason::Call => element.kind == 55,
+        Reason::Unknown => is_other(meaning),
+        Reason::Step => is_contact(meaning) && element.class == 30,
+        Reason::RunningContact => is_contact(meaning) && element.class == 11,
+        Reason::OtherContact => is_contact(meaning) && is_no_source(source),
+        Reason::WritesInput => is_coil(meaning) && element.class == 50,
+        Reason::OtherCoil => is_coil(meaning),
+        Reason::LargeNumber => element.number > 99999,
+        Reason::OutOfPlace => !stands(elements, row, column),
+        Reason::BelowJump => !ends_rung(elements, row, column),
+        Reason::BlockPlaces => is_block(meaning_of(element.kind))
+            && !has_places(elements, row, column),
+        Reason::Switched => element.kind == 10 && !stands(elements, row, column),
+        Reason::NoPreset | Reason::Twice => is_block(meaning_of(element.kind)),
+        Reason::ReadsLate => reads_late(elements, row, column),
+        Reason::NoPower => !reached(elements, row, column) && !is_idle(meaning),
+        Reason::Running => is_run_by_any(elements, row, column),
+        Reason::Elsewhere => element.kind == 54,
+    }
+}
+
+/// The reason as a refusal, where it holds.
+fn refused(
+    rungs: &[Placed<'_>],
+    rung: usize,
+    row: usize,
+    column: usize,
+    reason: Reason,
+) -> Option<Refusal>
+    requires rows { row < ROWS }
+    requires columns { column < COLUMNS }
+    ensures { IfSome result (λ f. IsThere rungs.now f) }
+{
+    let placed = rungs.get(rung)?;
+    if holds(reason, placed.rung.elements.as_slice(), row, column) {
+        Some(Refusal {
+            rung: placed.rung.number,
+            row: row + 1,
+            column: column + 1,
+            reason,
+        })
+    } else {
+        None
+    }
+}
+
+fn kind_reason(kind: u32) -> Option<Reason> {
+    if kind == 12 {
+        Some(Reason::Counter)
+    } else if kind == 20 {
+        Some(Reason::Compare)
+    } else if kind == 60 {
+        Some(Reason::Operate)
+    } else if kind == 55 {
+        Some(Reason::Call)
+    } else {
+        None
+    }
+}
+
+fn large_number(element: Element) -> Option<Reason> {
+    if element.number > 99999 {
+        Some(Reason::LargeNumber)
+    } else {
+        None
+    }
+}
+
+/// How often the block is drawn.
+fn count_of(blocks: &[BlockRef], sort: BlockSort, number: u32) -> usize {
+    let block = BlockRef { sort, number };
+    blocks.iter().filter(|other| **other == block).count()
+}
+
+/// What keeps a contact from being read.
+fn contact_reason(element: Element) -> Option<Reason> {
+    match source_of(element.class) {
+        Source::Input | Source::Output | Source::Memory => large_number(element),
+        Source::Done(_) => None,
+        Source::Other => {
+            if element.class == 30 {
+                Some(Reason::Step)
+            } else if element.class == 11 {
+                Some(Reason::RunningContact)
+            } else {
+                Some(Reason::OtherContact)
+            }
+        }
+    }
+}
+
+fn coil_reason(element: Element) -> Option<Reason> {
+    match source_of(element.class) {
+        Source::Output | Source::Memory => large_number(element),
+        Source::Input => Some(Reason::WritesInput),
+        Source::Done(_) | Source::Other => Some(Reason::OtherCoil),
+    }
+}
+
+/// Whether a later rung of the section has the number.
+fn is_later(rungs: &[Placed<'_>], rung: usize, number: u32) -> bool {
+    let Some(placed) = rungs.get(rung) else {
+        return false;
+    };
+    rungs.iter().skip(rung).skip(1).any(|other| {
+        other.rung.number == number && other.section == placed.section
+    })
+}
+
+fn jump_reason(project: &Project<'_>, rung: usize, element: Element) -> Option<Reason> {
+    if is_later(&project.rungs, rung, element.number) {
+        large_number(element)
+    } else {
+        Some(Reason::Elsewhere)
+    }
+}
+
+/// Whether the block has a kind and a preset that a program can have.
+fn has_preset(project: &Project<'_>, sort: BlockSort, number: u32) -> bool {
+    match timed_as(sort, entry_of(project, sort, number as usize)) {
+        Some(timed) => timed.preset <= u64::from(u32::MAX),
+        None => false,
+    }
+}
+
+fn block_reason(
+    project: &Project<'_>,
+    blocks: &[BlockRef],
+    sort: BlockSort,
+    element: Element,
+) -> Option<Reason> {
+    if !has_preset(project, sort, element.number) {
+        Some(Reason::NoPreset)
+    } else if count_of(blocks, sort, element.number) > 1 {
+        Some(Reason::Twice)
+    } else {
+        None
+    }
+}
+
+/// What keeps an element from standing where it is.
+fn place_reason(elements: &[Element], row: usize, column: usize, meaning: Meaning) -> Option<Reason>
+    requires { (row < ROWS) × (column < COLUMNS) }
+{
+    if stands(elements, row, column) {
+        if reads_late(elements, row, column) {
+            Some(Reason::ReadsLate)
+        } else if is_run_by_any(elements, row, column) {
+            Some(Reason::Running)
+        } else {
+            None
+        }
+    } else {
+        match meaning {
+            Meaning::Jump if column + 1 == COLUMNS => Some(Reason::BelowJump),
+            Meaning::Block(_) if has_places(elements, row, column) => Some(Reason::Switched),
+            Meaning::Block(_) => Some(Reason::BlockPlaces),
+            Meaning::Off if !has_places(elements, row, column) => Some(Reason::BlockPlaces),
+            _ => Some(Reason::OutOfPlace),
+        }
+    }
+}
+
+/// What keeps an element from being carried over, to which power can come.
+fn drawn_reason(
+    project: &Project<'_>,
+    blocks: &[BlockRef],
+    rung: usize,
+    element: Element,
+    meaning: Meaning,
+) -> Option<Reason> {
+    match meaning {
+        Meaning::Contact(_) => contact_reason(element),
+        Meaning::Coil(_) => coil_reason(element),
+        Meaning::Jump => jump_reason(project, rung, element),
+        Meaning::Block(sort) => block_reason(project, blocks, sort, element),
+        Meaning::Other => Some(Reason::Unknown),
+        Meaning::Off => {
+            if count_of(blocks, BlockSort::Timer, element.number) > 0 {
+                Some(Reason::Twice)
+            } else {
+                None
+            }
+        }
+        Meaning::Blank | Meaning::Wire => None,
+    }
+}
+
+fn is_blank(meaning: Meaning) -> bool {
+    match meaning {
+        Meaning::Blank => true,
+        Meaning::Wire
+        | Meaning::Contact(_)
+        | Meaning::Coil(_)
+        | Meaning::Jump
+        | Meaning::Block(_)
+        | Meaning::Off
+        | Meaning::Other => false,
+    }
+}
+
+/// Why the element at a place can't be carried over.
+fn reason_at(
+    project: &Project<'_>,
+    blocks: &[BlockRef],
+    rung: usize,
+    row: usize,
+    column: usize,
+) -> Option<Reason>
+    requires { (row < ROWS) × (column < COLUMNS) }
+{
+    let placed = project.rungs.get(rung)?;
+    let elements = placed.rung.elements.as_slice();
+    let element = element_at(elements, row, column);
+    let meaning = meaning_at(elements, row, column);
+    if let Some(reason) = kind_reason(element.kind) {
+        return Some(reason);
+    }
+    if is_other(meaning) {
+        return Some(Reason::Unknown);
+    }
+    if is_blank(meaning) {
+        return None;
+    }
+    if !reached(elements, row, column) {
+        return if is_idle(meaning) {
+            None
+        } else {
+            Some(Reason::NoPower)
+        };
+    }
+    match drawn_reason(project, blocks, rung, element, meaning) {
+        Some(reason) => Some(reason),
+        None => place_reason(elements, row, column, meaning),
+    }
+}
+
+/// Adds the refusals of a row.
+fn add_row(
+    project: &Project<'_>,
+    blocks: &[BlockRef],
+    rung: usize,
+    row: usize,
+    refusals: &mut Vec<Refusal>,
+) -> Result<(), AllocError>
+    requires rows { row < ROWS }
+    requires before { All (IsThere project.now.rungs.items) refusals.old.items }
+    ensures { IfOk result (λ _. All (IsThere project.now.rungs.items) refusals.new.items) }
+{
+    for column in 0..COLUMNS {
+        if let Some(reason) = reason_at(project, blocks, rung, row, column) {
+            if let Some(refusal) = refused(&project.rungs, rung, row, column, reason) {
+                refusals.push(refusal)?;
+            }
+        }
+    }
+    Ok(())
+}
+
+/// Adds the refusals of a rung.
+fn add_rung(
+    project: &Project<'_>,
+    blocks: &[BlockRef],
+    rung: usize,
+    refusals: &mut Vec<Refusal>,
+) -> Result<(), AllocError>
+    requires before { All (IsThere project.now.rungs.items) refusals.old.items }
+    ensures { IfOk result (λ _. All (IsThere project.now.rungs.items) refusals.new.items) }
+{
+    for row in 0..ROWS {
+        add_row(project, blocks, rung, row, refusals)?;
+    }
+    Ok(())
+}
+
+/// The elements of a project that can't be carried over, rung by rung and row by row.
+///
+/// # Errors
+///
+/// An error when out of memory.
+pub fn refusals(alloc: Global, project: &Project<'_>) -> Result<Vec<Refusal>, AllocError>
+    ensures { IfOk result (λ v. All (IsThere project.now.rungs.items) v.items) }
+{
+    let blocks = drawn_blocks(alloc, project)?;
+    let mut refusals = Vec::new(alloc);
+    for rung in 0..project.rungs.len() {
+        add_rung(project, &blocks, rung, &mut refusals)?;
+    }
+    Ok(refusals)
+}

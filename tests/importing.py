@@ -1,0 +1,339 @@
+#!/usr/bin/env python3
+"""Compares `ladder import` with an engine of its own: importing.py PROGRAM [NUMBER] [SEED].
+
+Each project is made at random, as the editor of ClassicLadder allows one: outputs in the last column, blocks of two rows and columns.
+It is refused by lines that name an element each, or it is written; then the text must be a program (`ladder check`), and each scan
+of a random stimulus must give the outputs that the elements give here, read straight from the project: column by column, and in a
+column from above. A few projects are made by hand first, one for each thing that is refused.
+"""
+import os
+import pathlib
+import random
+import re
+import subprocess
+import sys
+import tempfile
+from collections import Counter
+
+COLUMNS, ROWS = 10, 6
+NOTHING, PART, WIRE, TIMER, MONOSTABLE, IEC_TIMER, JUMP = 0, 99, 9, 10, 11, 13, 54
+CONTACTS, COILS = (1, 2, 3, 4), (50, 51, 52, 53)
+INPUT, OUTPUT, BIT = 50, 60, 0
+DONE = {10: TIMER, 20: MONOSTABLE, 15: IEC_TIMER}
+BASES = {0: 60000, 1: 1000, 2: 100}
+INPUTS, OUTPUTS, BITS, BLOCKS = 6, 8, 6, 8
+REFUSED = re.compile(r"rung \d+, row [1-6], column (?:[1-9]|10): \S.*")
+
+
+def element(kind, link=0, sort=0, number=0):
+    return kind, link, sort, number
+
+
+class Project:
+    """Rungs by number, each a grid of elements, and the tables of presets."""
+
+    def __init__(self, rungs, presets, sections=None):
+        self.rungs, self.presets = rungs, presets
+        self.sections = sections or [(0, 0, -1, min(rungs), max(rungs), 0)]
+
+    def text(self):
+        lines = ["_FILES_CLASSICLADDER"]
+
+        def part(name, content):
+            lines.extend([f"_FILE-{name}", *content, f"_/FILE-{name}"])
+
+        for name, kind in (("timers.csv", TIMER), ("monostables.csv", MONOSTABLE), ("timers_iec.csv", IEC_TIMER)):
+            part(name, ["; a preset in each line", *(",".join(map(str, preset)) for preset in self.presets[kind])])
+        numbers = sorted(self.rungs)
+        for number in numbers:
+            after = number + 1 if number + 1 in self.rungs else -1
+            rows = [" , ".join("%d-%d-%d/%d" % place for place in row) for row in self.rungs[number]]
+            part(f"rung_{number}.csv", ["#VER=2.0", f"#LABEL=L{number}", "#COMMENT=made *) by chance", f"#NEXTRUNG={after}", *rows])
+        part("sections.csv", ["#VER=1.0", "#NAME000=Main", *(",".join(map(str, section)) for section in self.sections)])
+        part("symbols.csv", ["%I0,E-STOP,first *) input", "%Q0,TON,", "%B1,much_too_long_a_name,"])
+        return "\n".join([*lines, "_/FILES_CLASSICLADDER", ""])
+
+
+# ---- the engine
+
+
+class Engine:
+    """What calc.c does with the elements that are carried over, scan by scan."""
+
+    def __init__(self, project):
+        self.project = project
+        self.values = Counter()
+        self.edges, self.blocks = {}, {}
+        self.now = 0
+
+    def scan(self, now, inputs):
+        self.now = now
+        for number, value in enumerate(inputs):
+            self.values[INPUT, number] = value
+        numbers = sorted(self.project.rungs)
+        at = 0
+        while at < len(numbers):
+            jump = self.rung(numbers[at])
+            at = numbers.index(jump) if jump is not None else at + 1
+        return [self.values[OUTPUT, number] for number in range(OUTPUTS)]
+
+    def left(self, grid, power, row, column):
+        """What comes to the left of a place, through the links of its column."""
+        if column == 0:
+            return True
+        top = bottom = row
+        while top and grid[top][column][1]:
+            top -= 1
+        while bottom + 1 < ROWS and grid[bottom + 1][column][1]:
+            bottom += 1
+        return any(power.get((q, column - 1)) for q in range(top, bottom + 1))
+
+    def value(self, sort, number):
+        if sort in DONE:
+            return self.blocks.get((DONE[sort], number), (False, None, False))[2]
+        return bool(self.values[sort, number])
+
+    def rung(self, number):
+        grid, power = self.project.rungs[number], {}
+        for column in range(COLUMNS):
+            for row in range(ROWS):
+                kind, _, sort, index = grid[row][column]
+                if kind in (TIMER, MONOSTABLE, IEC_TIMER):
+                    power.update(self.block(grid, power, row, column))
+                    continue
+                here = self.left(grid, power, row, column)
+                if kind in CONTACTS:
+                    closed = self.contact(number, row, column, kind, self.value(sort, index))
+                    power[row, column] = here and closed
+                elif kind == WIRE:
+                    power[row, column] = here
+                elif kind in COILS:
+                    self.coil(kind, sort, index, here)
+                elif kind == JUMP and here:
+                    return index
+        return None
+
+    def contact(self, rung, row, column, kind, value):
+        place = rung, row, column
+        before, self.edges[place] = self.edges.get(place, False), value
+        return {1: value, 2: not value, 3: value and not before, 4: before and not value}[kind]
+
+    def coil(self, kind, sort, index, here):
+        if kind in (50, 51):
+            self.values[sort, index] = bool(here) == (kind == 50)
+        elif here:
+            self.values[sort, index] = kind == 52
+
+    def block(self, grid, power, row, column):
+        kind, _, _, index = grid[row][column]
+        on = self.left(grid, power, row, column - 1)
+        base, count, mode = (*self.project.presets[kind][index], 0)[:3]
+        sort = {TIMER: 0, MONOSTABLE: 2, IEC_TIMER: mode}[kind]
+        last, start, done = self.blocks.get((kind, index), (False, None, False))
+        preset = BASES[base] * count
+        if kind == TIMER and not self.left(grid, power, row + 1, column - 1):
+            done = False
+            start = None
+        elif sort == 0:
+            start = None if not on else self.now if start is None else start
+            done = on and self.now - start >= preset
+        elif sort == 1:
+            start = None if on else self.now if last else start
+            done = on or start is not None and self.now - start < preset
+        else:
+            runs = start is not None and self.now - start < preset
+            start = start if runs else self.now if on and not last and preset else None
+            done = start is not None
+        self.blocks[kind, index] = on, start, done
+        return {(row, column): done, (row + 1, column): kind == TIMER and on and not done}
+
+
+# ---- projects
+
+
+def operand(chance):
+    sort = chance.choice([INPUT] * 5 + [OUTPUT] * 2 + [BIT] * 2 + list(DONE))
+    return sort, chance.randrange({INPUT: INPUTS, OUTPUT: OUTPUTS, BIT: BITS}.get(sort, BLOCKS))
+
+
+def place_block(chance, grid, busy, left, row, column):
+    """Draws a block whose element is at the place, where there is room."""
+    room = {(q, c) for q in (row, row + 1) for c in (column - 1, column)}
+    kinds = [kind for kind in left if left[kind]]
+    if row + 1 >= ROWS or column < 1 or room & busy or not kinds:
+        return False
+    busy |= room
+    if chance.random() < 0.8:
+        busy.add((row + 1, column + 1))
+    kind = chance.choice(kinds)
+    grid[row][column] = element(kind, 0, 0, left[kind].pop())
+    grid[row][column - 1] = element(PART, int(row > 0 and chance.random() < 0.2))
+    grid[row + 1][column - 1] = element(PART, int(kind == TIMER and chance.random() < 0.8))
+    grid[row + 1][column] = element(PART)
+    return True
+
+
+def draw(chance, number, rungs, left):
+    grid = [[element(NOTHING) for _ in range(COLUMNS)] for _ in range(ROWS)]
+    busy, rows = set(), chance.randint(1, ROWS)
+    for row in range(rows):
+        for column in range(COLUMNS - 1):
+            if (row, column) in busy:
+                continue
+            link, dice = int(row > 0 and chance.random() < 0.25), chance.random()
+            if dice < 0.04 and column + 2 < COLUMNS and place_block(chance, grid, busy, left, row, column + 1):
+                continue
+            if dice < 0.45:
+                grid[row][column] = element(chance.choice((1, 1, 1, 2, 2, 3, 4)), link, *operand(chance))
+            elif dice < (0.93 if column else 0.55):
+                grid[row][column] = element(WIRE, link)
+            else:
+                grid[row][column] = element(NOTHING, link)
+        if (row, COLUMNS - 1) not in busy:
+            link, dice = int(row > 0 and chance.random() < 0.15), chance.random()
+            fed = grid[row][COLUMNS - 2][0] in (*CONTACTS, WIRE)
+            sort = chance.choice((OUTPUT, OUTPUT, BIT))
+            if fed and dice < 0.85:
+                coil = element(chance.choice((50, 50, 51, 52, 53)), link, sort, chance.randrange(OUTPUTS if sort == OUTPUT else BITS))
+                grid[row][COLUMNS - 1] = coil
+            elif fed and row == rows - 1 and number + 1 < rungs:
+                grid[row][COLUMNS - 1] = element(JUMP, link, 0, chance.randrange(number + 1, rungs))
+            else:
+                grid[row][COLUMNS - 1] = element(NOTHING, link)
+    if chance.random() < 0.9:
+        for row in without_power(grid):
+            grid[row][COLUMNS - 1] = element(NOTHING, grid[row][COLUMNS - 1][1])
+    return grid
+
+
+def without_power(grid):
+    """The coils to which no power can come, whatever is closed."""
+    come = {(row, 0) for row in range(ROWS)}
+    for column in range(1, COLUMNS):
+        for row in range(ROWS):
+            top = bottom = row
+            while top and grid[top][column][1]:
+                top -= 1
+            while bottom + 1 < ROWS and grid[bottom + 1][column][1]:
+                bottom += 1
+            if any((q, column - 1) in come and grid[q][column - 1][0] not in (NOTHING, *COILS) for q in range(top, bottom + 1)):
+                come.add((row, column))
+    return [row for row in range(ROWS) if grid[row][COLUMNS - 1][0] in COILS and (row, COLUMNS - 1) not in come]
+
+
+def random_project(chance):
+    presets = {kind: [(2, chance.randint(0, 4)) for _ in range(BLOCKS)] for kind in (TIMER, MONOSTABLE)}
+    presets[IEC_TIMER] = [(2, chance.randint(0, 4), chance.randrange(3)) for _ in range(BLOCKS)]
+    left = {kind: chance.sample(range(BLOCKS), BLOCKS) for kind in presets}
+    rungs = chance.randint(1, 4)
+    return Project({number: draw(chance, number, rungs, left) for number in range(rungs)}, presets)
+
+
+def one_row(*elements):
+    """A rung of one row: elements from the left on, the last one in the last column, and wires between."""
+    row = [*elements[:-1], *[element(WIRE)] * (COLUMNS - len(elements)), elements[-1]]
+    return [row, *[[element(NOTHING)] * COLUMNS for _ in range(ROWS - 1)]]
+
+
+PRESETS = {TIMER: [(2, 5)], MONOSTABLE: [(2, 5)], IEC_TIMER: [(2, 5, 1)]}
+CLOSED, COIL = element(1, 0, INPUT, 0), element(50, 0, OUTPUT, 0)
+MADE = (
+    (one_row(CLOSED, COIL), None),
+    (one_row(element(1, 0, 30, 0), COIL), "a step"),
+    (one_row(element(1, 0, 11, 0), COIL), "the running output"),
+    (one_row(element(1, 0, 200, 0), COIL), "a variable"),
+    (one_row(CLOSED, element(50, 0, INPUT, 0)), "writes an input"),
+    (one_row(CLOSED, element(50, 0, 200, 0)), "can't write"),
+    (one_row(CLOSED, element(55)), "a call"),
+    (one_row(CLOSED, element(60)), "an operate"),
+    (one_row(CLOSED, element(PART), element(PART), element(20), COIL), "a compare"),
+    (one_row(CLOSED, element(PART), element(12), COIL), "a counter"),
+    (one_row(CLOSED, element(JUMP)), "a jump to a rung"),
+    (one_row(CLOSED, COIL, COIL), "in the last column"),
+    (one_row(CLOSED, element(NOTHING), COIL), "no power can come"),
+    (one_row(element(1, 0, INPUT, 100000), COIL), "larger than 99999"),
+    (one_row(CLOSED, element(PART), element(TIMER, 0, 0, 1), COIL), None),
+    (one_row(CLOSED, element(PART), element(MONOSTABLE, 0, 0, 1), COIL), "no preset"),
+)
+
+
+# ---- the comparison
+
+
+def call(program, *words):
+    done = subprocess.run([program, *words], capture_output=True, check=False, timeout=60)
+    return done.returncode, done.stdout.decode(errors="replace"), done.stderr.decode(errors="replace")
+
+
+def imported(program, folder, project):
+    """The text, or the lines that refuse it."""
+    path = folder / "project.clp"
+    path.write_text(project.text())
+    status, out, err = call(program, "import", str(path))
+    if status == 0:
+        return out, []
+    assert not out, f"text beside a refusal:\n{out}"
+    lines = err.splitlines()
+    assert lines and any(REFUSED.search(line) for line in lines), f"refused without a name:\n{err}"
+    return None, lines
+
+
+def has_same_scans(program, folder, project, text, chance):
+    """Whether each scan of a random stimulus gives the outputs that the elements give."""
+    (folder / "program.ld").write_text(text)
+    status, out, err = call(program, "check", str(folder / "program.ld"))
+    assert status == 0, f"no program: {err}\n{text}"
+    inputs = dict(re.findall(r"^  (\w+) AT %IX(\d+) ", text, re.M))
+    outputs = dict(re.findall(r"^  (\w+) AT %QX(\d+) ", text, re.M))
+    records, now, values = [], 0, [0] * INPUTS
+    for _ in range(60):
+        values = [value ^ int(chance.random() < 0.3) for value in values]
+        records.append((now, list(values)))
+        now += 100
+    head = "moment" + "".join(f",{name}" for name in inputs)
+    lines = [",".join(map(str, [moment, *(row[int(number)] for number in inputs.values())])) for moment, row in records]
+    (folder / "stimulus.csv").write_text("\n".join([head, *lines, ""]))
+    status, out, err = call(program, "sim", str(folder / "program.ld"), str(folder / "stimulus.csv"))
+    assert status == 0, f"no trace: {err}\n{text}"
+    engine = Engine(project)
+    rows = out.splitlines()
+    names = rows[0].split(",")[1:]
+    for (moment, row), line in zip(records, rows[1:]):
+        expected = engine.scan(moment, row)
+        wanted = [str(int(expected[int(outputs[name])])) for name in names]
+        if line.split(",")[1:] != wanted:
+            return f"at {moment}: {dict(zip(names, line.split(',')[1:]))}, not {dict(zip(names, wanted))}"
+    return None
+
+
+def main():
+    program = os.path.abspath(sys.argv[1])
+    count = int(sys.argv[2]) if len(sys.argv) > 2 else 300
+    seed = sys.argv[3] if len(sys.argv) > 3 else "1"
+    met = Counter()
+    with tempfile.TemporaryDirectory() as name:
+        folder = pathlib.Path(name)
+        for grid, refusal in MADE:
+            text, lines = imported(program, folder, Project({0: grid}, PRESETS))
+            if (text is None) != (refusal is not None) or refusal and not any(refusal in line for line in lines):
+                print(f"made by hand, {refusal}: {lines or text}")
+                return 1
+            met["made by hand"] += 1
+        for number in range(count):
+            chance = random.Random(f"{seed} {number}")
+            project = random_project(chance)
+            text, lines = imported(program, folder, project)
+            if text is None:
+                met["refused"] += 1
+                continue
+            difference = has_same_scans(program, folder, project, text, chance)
+            if difference:
+                print(f"project {seed} {number}: {difference}\n{project.text()}\n{text}")
+                return 1
+            met["carried over"] += 1
+    print(", ".join(f"{what}: {many}" for what, many in sorted(met.items())))
+    return 0
+
+
+if __name__ == "__main__":
+    sys.exit(main())
