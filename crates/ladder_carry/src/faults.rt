@@ -102,10 +102,10 @@ fn project_explanation(fault: ClpFault) -> &'static [u8]
 }
 
 /// Writes the line of a fault that ends with a number, and what explains it.
-fn put_numbered<W: Sink>(
-    line: &[u8],
+fn put_numbered<'a, W: Sink>(
+    line: &'a [u8],
     number: u64,
-    explained: &[u8],
+    explained: &'a [u8],
     writer: &mut W,
 ) -> Result<(), WriteFault>
     ensures { Puts (W.log writer.old) (W.log writer.new) result (numbered_text line.now number explained.now) }
@@ -129,8 +129,16 @@ pub(crate) fn write_project_fault<W: Sink>(
 {
     let said = explained(why, project_explanation(fault));
     match fault {
-        ClpFault::NoProject => put_pieces(writer, [Piece::Text(b"fault P1\n"), Piece::Text(said)].as_slice()),
-        ClpFault::BadRung { rung } => put_numbered(b"fault P2 rung ", u64::from(rung), said, writer),
+        ClpFault::NoProject => put_pieces(
+            writer,
+            [Piece::Text(b"fault P1\n"), Piece::Text(said)].as_slice(),
+        ),
+        ClpFault::BadRung { rung } => put_numbered(
+            b"fault P2 rung ",
+            u64::from(rung),
+            said,
+            writer,
+        ),
         ClpFault::BadTable { table } => {
             let pieces = [
                 Piece::Text(b"fault P3 "),
@@ -146,7 +154,10 @@ pub(crate) fn write_project_fault<W: Sink>(
         ClpFault::BrokenWay { section } => {
             put_numbered(b"fault P5 section ", u64::from(section), said, writer)
         }
-        ClpFault::Memory => put_pieces(writer, [Piece::Text(b"fault X7\n"), Piece::Text(said)].as_slice()),
+        ClpFault::Memory => put_pieces(
+            writer,
+            [Piece::Text(b"fault X7\n"), Piece::Text(said)].as_slice(),
+        ),
     }
 }
 

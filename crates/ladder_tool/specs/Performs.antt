@@ -5,10 +5,11 @@ use Rattle.ladder_uses.specs.Uses.{uses_text}
 use Rattle.ladder_setting.specs.declared.fault.ToolFault.{ToolFault}
 use Rattle.ladder_setting.specs.declared.fault.ToolFault.TheVariants as fault
 use Rattle.ladder_words.specs.declared.request.Request.{Request}
-use Rattle.ladder_words.specs.declared.request.Request.TheVariants.{Causes, Check, Groups, Held, Show, Sim, Uses}
+use Rattle.ladder_words.specs.declared.request.Request.TheVariants.{Causes, Check, Groups, Held, Import, Show, Sim, Uses}
 use Rattle.ladder_words.specs.declared.request.Request.TheVariants as request
 use Rattle.ladder_setting.specs.Setting.{Given, HasProgramFault, HasSettingFault}
 use Rattle.ladder_setting.specs.Reports.{IsReported, Logs, Refuses}
+use Rattle.ladder_carry.specs.Carrying.{BreaksCarrying, Carries}
 use Rattle.ladder_lists.specs.Lists.{BreaksGroups, BreaksHeldBy, BreaksList, BreaksNever, BreaksPossible, CountsGroups, CountsHeldBy, CountsList, CountsNever, CountsPossible, HasHeldFaultBy, HasListFault, HasNeverFault, HasPossibleFault, scans_of}
 use Rattle.ladder_views.specs.Views.{BreaksFilm, BreaksTrace, BreaksWaves, HasFilmFault, HasShowFault, IsFilmed, IsTraced, IsWaved, Prints, Shows, check_text}
 
@@ -25,6 +26,7 @@ IsDone (request.Film r) g old new = IsFilmed g r old.out new.out × (new.save �
 IsDone (Sim r) g old new = IsTraced g (is_some r.save) old new
 IsDone (request.Waves r) g old new = IsWaved g old.out new.out × (new.save ≡ old.save) × (new.err ≡ old.err)
 IsDone (Uses file) g old new = Prints uses_text g.program (PutsAll old.out new.out) × (new.save ≡ old.save) × (new.err ≡ old.err)
+IsDone (Import file) g old new = Carries g.program (PutsAll old.out new.out) × (new.save ≡ old.save) × (new.err ≡ old.err)
 
 -- the faults that the texts and arguments of a request can have
 abbrev pub HasFault : Request → Given → ToolFault → Type 0
@@ -39,6 +41,7 @@ HasFault (request.Film r) g = HasFilmFault g r
 HasFault (Sim r) g = HasSettingFault g
 HasFault (request.Waves r) g = HasSettingFault g
 HasFault (Uses file) g = HasProgramFault g.program
+HasFault (Import file) g = λ f. ⊥
 
 -- Status 1, by a fault while running.
 abbrev pub Breaks : Request → Given → Logs → Logs → Type 0
@@ -55,6 +58,7 @@ Breaks (Sim r) g old new = BreaksTrace g (is_some r.save) old new
 Breaks (request.Waves r) g old new = BreaksWaves g old new × (new.save ≡ old.save)
 Breaks (Uses file) g old new =
     Prints uses_text g.program (PutsPrefix old.out new.out) × (new.save ≡ old.save) × IsReported g old.err new.err fault.Write
+Breaks (Import file) g old new = BreaksCarrying g.why g.program old.out new.out old.err new.err × (new.save ≡ old.save)
 
 -- Status 1.
 abbrev pub IsFailed : Request → Given → Logs → Logs → Type 0

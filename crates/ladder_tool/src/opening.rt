@@ -60,7 +60,7 @@ pub(crate) fn readers_of<'a>(
     request: &'a Request,
 ) -> Readers<Reading<NamedFile<'a>>> {
     match request {
-        Request::Check { file, .. } | Request::Uses { file } => Readers {
+        Request::Check { file, .. } | Request::Uses { file } | Request::Import { file } => Readers {
             program: reading(rt, file.as_str()),
             state: None,
             stimulus: None,

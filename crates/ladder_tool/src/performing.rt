@@ -5,6 +5,7 @@ ghost use Rattle.ladder_setting.specs.Reports.{logs};
 ghost use Rattle.ladder_tool.specs.Performs.{IsDone, IsFailed};
 ghost use Rattle.ladder_setting.specs.Setting.{given_by};
 
+use ladder_carry::carry;
 use ladder_held::Scans;
 use ladder_lists::{list_causes, list_groups, list_held, list_never, list_possible};
 use ladder_setting::Texts;
@@ -52,6 +53,7 @@ pub fn perform<O: Sink, S: Sink, E: Sink>(
         Request::Show(scan) => show(alloc, scan, texts, out, err),
         Request::Film(stimulus) => film(alloc, stimulus, texts, out, err),
         Request::Waves(_) => wave(alloc, texts, out, err),
+        Request::Import { .. } => carry(alloc, texts.why, &texts.program, out, err),
         Request::Sim(stimulus) => trace(alloc, texts, stimulus.save.is_some(), out, save, err),
     }
 }

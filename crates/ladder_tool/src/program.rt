@@ -181,7 +181,8 @@ fn saving_of(request: &Request) -> Option<(&str, &SimRequest)> {
         | Request::Show(_)
         | Request::Film(_)
         | Request::Waves(_)
-        | Request::Uses { .. } => None,
+        | Request::Uses { .. }
+        | Request::Import { .. } => None,
     }
 }
 

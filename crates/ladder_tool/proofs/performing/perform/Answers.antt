@@ -1,4 +1,4 @@
-use Rattle.std.proofs.Common.{refl}
+use Rattle.std.proofs.Common.{inr, refl}
 use Rattle.ladder_tool.proofs.Endings.{with_second, with_third}
 use Rattle.ladder_tool.proofs.performing.perform.Goals as goal
 
@@ -30,3 +30,6 @@ returns-in-Held-clause-failed g c = λ status. rw c.in-Held.is (with_third refl 
 
 pub returns-in-Waves-clause-failed : goal.returns-in-Waves-clause-failed
 returns-in-Waves-clause-failed g c = λ status. rw c.in-Waves.is (with_third refl (c.wave.ensures.failed (g.S.Sink.log c.args.save.now) status))
+
+pub returns-in-Import-clause-failed : goal.returns-in-Import-clause-failed
+returns-in-Import-clause-failed g c = λ status. rw c.in-Import.is (inr (c.carry.ensures.failed status, refl))
