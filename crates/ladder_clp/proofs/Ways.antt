@@ -1,5 +1,5 @@
 -- The rungs of a section, one more at each step.
-use Rattle.std.proofs.Common.{◌≡◌, ◌∙◌, ◌==◌, ◌+◌, ◌-◌, ◌<◌, ◌++◌, ◌∷◌, [], ℕ, suc, Bool, true, false, List, Option, Some, None, find, ap, sym, refl, arith, append_assoc, append-nil}
+use Rattle.std.proofs.Common.{◌≡◌, ◌∙◌, ◌==◌, ◌+◌, ◌-◌, ◌<◌, ◌++◌, ◌∷◌, [], ℕ, suc, Bool, true, false, List, Option, Some, None, find, ap, sym, refl, arith, append_assoc}
 use Rattle.std.specs.Prelude.{option_map}
 use Rattle.ladder_clp.specs.declared.rung.Rung.{Rung}
 use Rattle.ladder_clp.specs.declared.order.Placed.{Placed}

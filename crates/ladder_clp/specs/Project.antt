@@ -10,7 +10,7 @@ use Rattle.ladder_clp.specs.declared.rung.Rung.{Rung}
 use Rattle.ladder_clp.specs.declared.table.Section.{Section}
 use Rattle.ladder_clp.specs.Format.{is_line, lines_of, part_of}
 use Rattle.ladder_clp.specs.Order.{arranged}
-use Rattle.ladder_clp.specs.Rungs.{RungRead, read_of, rungs_in}
+use Rattle.ladder_clp.specs.Rungs.{read_of, rungs_in}
 use Rattle.ladder_clp.specs.Tables.{presets_in, sections_in, symbol_of, symbols_in}
 
 -- the first line of a project

@@ -1,5 +1,5 @@
 -- The rungs of a project: 6 rows of 10 elements each.
-use Rattle.std.specs.Prelude.{ℕ, ◌==◌, ◌&&◌, nat_eq, Bool, true, false, List, [], ◌∷◌, ◌++◌, length, drop, map, codes, Option, Some, None, option_map, Result, Ok, Err, if◌then◌else◌}
+use Rattle.std.specs.Prelude.{ℕ, ◌==◌, ◌&&◌, nat_eq, List, [], ◌∷◌, ◌++◌, length, drop, codes, Option, Some, None, Result, Ok, Err, if◌then◌else◌}
 use Rattle.std.specs.List.{slice_split, starts_with}
 use Rattle.ladder_clp.specs.declared.element.Element.{Element}
 use Rattle.ladder_clp.specs.declared.rung.Rung.{Rung}

@@ -1,5 +1,5 @@
 -- Which element of ClassicLadder means what (its calc.c, and the kinds of elements in its classicladder.h).
-use Rattle.std.specs.Prelude.{ℕ, ◌*◌, ◌==◌, ◌||◌, nat_le, Bool, true, false, Option, Some, None, option_map, if◌then◌else◌}
+use Rattle.std.specs.Prelude.{ℕ, ◌*◌, ◌==◌, ◌||◌, nat_le, Bool, Option, Some, None, option_map, if◌then◌else◌}
 use Rattle.ladder_vars.specs.declared.kind.BlockKind.{BlockKind}
 use Rattle.ladder_vars.specs.declared.kind.BlockKind.TheVariants as kind
 use Rattle.ladder_page.specs.declared.mode.Mode.{Mode}

@@ -1,4 +1,4 @@
-use Rattle.std.proofs.Common.{◌≤◌, ◌∷◌, [], ℕ, List, All, arith, length}
+use Rattle.std.proofs.Common.{◌≤◌, ◌∷◌, [], List, All, arith, length}
 use Rattle.std.proofs.lemmas.List.Elements.{All-head}
 use Rattle.ladder_import.specs.Refusals.{IsThere}
 use Rattle.ladder_import.proofs.importing.none_refused.Goals as goal
