@@ -4,7 +4,7 @@ ghost use Rattle.std.specs.Prelude.{◌≡◌, ◌+◌, ◌<◌, ◌%◌, ◌^�
 ghost use Rattle.ladder_questions.specs.Listable.{IsListable};
 ghost use Rattle.ladder_never.specs.Never.{knowing};
 ghost use Rattle.ladder_glance.specs.Sizes.{AreAsLong};
-ghost use Rattle.ladder_possible.specs.Numbers.{IsBegun, IsGiven, MayKnowCoil, NoneLeaves};
+ghost use Rattle.ladder_possible.specs.Numbers.{IsBegun, MayKnowCoil, NoneLeaves};
 ghost use Rattle.ladder_possible.specs.Possible.{SomeLeaves};
 ghost use Rattle.ladder_possible.specs.Searching.{IsSpace};
 ghost use Rattle.ladder_possible.specs.declared.judging.Verdict.TheVariants.{Never, Found};
