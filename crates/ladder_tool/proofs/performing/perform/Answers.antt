@@ -32,4 +32,4 @@ pub returns-in-Waves-clause-failed : goal.returns-in-Waves-clause-failed
 returns-in-Waves-clause-failed g c = λ status. rw c.in-Waves.is (with_third refl (c.wave.ensures.failed (g.S.Sink.log c.args.save.now) status))
 
 pub returns-in-Import-clause-failed : goal.returns-in-Import-clause-failed
-returns-in-Import-clause-failed g c = λ status. rw c.in-Import.is (inr (c.carry.ensures.failed status, refl))
+returns-in-Import-clause-failed g c = λ status. rw c.in-Import.is (inr (rw c.deref.ensures.value at (c.carry.ensures.failed status), refl))
