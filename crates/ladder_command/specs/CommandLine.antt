@@ -1,6 +1,6 @@
 -- The command line, as clap's definitions of a simple command read it: `ladder check [--warn] FILE`,
 -- `ladder causes [--state STATE] [--at MS] [--after N] [--limit N] [--scans N] [--every MS] [--grouped] [--terms] [--st] [--order ORDER] [--all-inputs] [--quiet] FILE COIL [INPUT]...`,
--- `ladder causes --any [--off] [--must] [--limit N] [--grouped] [--all-inputs] [--quiet] FILE COIL [INPUT]...`,
+-- `ladder causes --any [--off] [--must] [--limit N] [--all-inputs] [--quiet] FILE COIL [INPUT]...`,
 -- `ladder show [--state STATE] [--at MS] [--number N] [--stimulus STIMULUS] [--html] [--coil COIL] [--all-inputs] FILE [INPUT]...`,
 -- `ladder sim [--state STATE] [--save STATE] [--vcd] FILE STIMULUS`, `ladder uses FILE`, `ladder import PROJECT` and `ladder never [--state STATE] [--quiet] FILE`, each with `[--why]`;
 -- and `ladder explain [CODE]...`.
