@@ -22,7 +22,7 @@ INPUT, OUTPUT, BIT = 50, 60, 0
 DONE = {10: TIMER, 20: MONOSTABLE, 15: IEC_TIMER}
 BASES = {0: 60000, 1: 1000, 2: 100}
 INPUTS, OUTPUTS, BITS, BLOCKS = 6, 8, 6, 8
-REFUSED = re.compile(r"rung \d+, row [1-6], column (?:[1-9]|10): \S.*")
+REFUSED = re.compile(r"fault P6 rung \d+ row [1-6] column (?:[1-9]|10) \w+")
 
 
 def element(kind, link=0, sort=0, number=0):

@@ -14,7 +14,8 @@ ROOT = pathlib.Path(__file__).resolve().parent.parent
 SOURCE = ROOT / "crates" / "ladder_pages" / "src"
 # the parts of the document that have codes, and the file of each
 FILES = {"Declarations": "declarations", "The drawing": "drawing", "Questions to `causes`": "questions",
-         "Files, arguments and writers": "files", "Words": "words"}
+         "Files, arguments and writers": "files", "Projects of ClassicLadder": "projects",
+         "Words": "words"}
 
 
 def sections(text):

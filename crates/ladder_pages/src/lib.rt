@@ -6,6 +6,7 @@ mod drawing;
 mod files;
 mod list;
 mod pages;
+mod projects;
 mod questions;
 mod words;
 

@@ -1,16 +1,17 @@
 //! The codes of docs/FAULTS.md, with their pages. `tests/pages.py --write` writes this file.
 
-use crate::{declarations, drawing, files, questions, words};
+use crate::{declarations, drawing, files, projects, questions, words};
 
 /// The codes, in the order of the document.
-pub(crate) const CODES: [&str; 41] = [
+pub(crate) const CODES: [&str; 49] = [
     "V1", "V2", "V3", "V4", "V5", "V6", "V7", "V8", "V9", "G1", "G2", "G3", "G4", "G5", "G6", "G7",
     "G8", "G9", "G10", "G11", "G12", "G13", "G14", "G15", "C1", "C2", "C3", "C4", "C5", "C6", "C7",
-    "C8", "S1", "X1", "X2", "X3", "X4", "X5", "X6", "X7", "usage",
+    "C8", "S1", "X1", "X2", "X3", "X4", "X5", "X6", "X7", "P1", "P2", "P3", "P4", "P5", "P6", "P7",
+    "P8", "usage",
 ];
 
 /// The page of each code.
-pub(crate) const PAGES: [&str; 41] = [
+pub(crate) const PAGES: [&str; 49] = [
     declarations::V1,
     declarations::V2,
     declarations::V3,
@@ -51,6 +52,14 @@ pub(crate) const PAGES: [&str; 41] = [
     files::X5,
     files::X6,
     files::X7,
+    projects::P1,
+    projects::P2,
+    projects::P3,
+    projects::P4,
+    projects::P5,
+    projects::P6,
+    projects::P7,
+    projects::P8,
     words::USAGE,
 ];
 
@@ -96,5 +105,13 @@ X4: a moment that goes back
 X5: a text is too long
 X6: a write failed
 X7: out of memory
+P1: this is no project
+P2: a rung that can't be read
+P3: a table that can't be read
+P4: a section that is no ladder diagram
+P5: a section whose rungs don't lead to its last
+P6: an element that can't be carried over
+P7: too many rungs, variables or blocks
+P8: the text isn't the project
 usage: the arguments are not those of a request
 ";

@@ -146,6 +146,7 @@ pub(crate) fn request(alloc: Global, asked: Asked) -> Result<Request, AllocError
             list: list(alloc)?,
             scans: 3,
             every: 10,
+            grouped: false,
         }),
         Asked::Groups => Ok(Request::Groups {
             list: list(alloc)?,

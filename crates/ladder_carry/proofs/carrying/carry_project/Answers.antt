@@ -6,20 +6,20 @@ use Rattle.ladder_carry.proofs.carrying.carry_project.Goals as goal
 
 pub returns-else-is_empty-clause-failed : goal.returns-else-is_empty-clause-failed
 returns-else-is_empty-clause-failed g c = λ status. inl (
-    refl,
-    record {
-      said = refusals_text c.args.why c.deref.result.now;
-      is = inr (inl (c.args.project.now, c.deref.result.now, c.requires, rw c.deref.ensures.value c.in-Ok.ensures, refl));
-      written = either _ _ _ _ c.write_refusals.ensures;
-    },
-  )
+  refl,
+  record {
+    said = refusals_text c.args.why c.deref.result.now;
+    is = inr (inl (c.args.project.now, c.deref.result.now, c.requires, rw c.deref.ensures.value c.in-Ok.ensures, refl));
+    written = either _ _ _ _ c.write_refusals.ensures;
+  },
+)
 
 pub returns-in-Err-clause-failed : goal.returns-in-Err-clause-failed
 returns-in-Err-clause-failed g c = λ status. inl (
-    refl,
-    record {
-      said = import_text c.args.why Memory;
-      is = inr (inr (c.args.project.now, Memory, c.requires, tt, refl));
-      written = either _ _ _ _ c.write_import_fault.ensures;
-    },
-  )
+  refl,
+  record {
+    said = import_text c.args.why Memory;
+    is = inr (inr (c.args.project.now, Memory, c.requires, tt, refl));
+    written = either _ _ _ _ c.write_import_fault.ensures;
+  },
+)
