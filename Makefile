@@ -27,6 +27,7 @@ test:
 	python3 tests/growth.py $(PROGRAM)
 	python3 tests/saving.py $(PROGRAM)
 	python3 tests/waves.py $(PROGRAM)
+	python3 tests/importing.py $(PROGRAM) 200
 	python3 tests/stress.py $(PROGRAM) --sample 1000
 
 # Some 56,000 broken texts and requests in less and less memory, each answered as it must be; and bodies that the prover can't refuse.

@@ -20,7 +20,7 @@ _ladder() {
     local options file='' coil='' place=0 number
     COMPREPLY=()
     if ((COMP_CWORD == 1)); then
-        mapfile -t COMPREPLY < <(compgen -W 'check causes show sim uses never explain help --help' -- "$word")
+        mapfile -t COMPREPLY < <(compgen -W 'check causes show sim uses never import explain help --help' -- "$word")
         return
     fi
     case $subcommand in
@@ -28,11 +28,11 @@ _ladder() {
         show) options='--state --at --number --html --stimulus --coil --all-inputs --why --help' ;;
         sim) options='--state --save --vcd --why --help' ;;
         check) options='--warn --why --help' ;;
-        uses) options='--why --help' ;;
+        uses | import) options='--why --help' ;;
         never) options='--state --quiet --why --help' ;;
         explain) options='--help' ;;
         help)
-            mapfile -t COMPREPLY < <(compgen -W 'check causes show sim uses never explain' -- "$word")
+            mapfile -t COMPREPLY < <(compgen -W 'check causes show sim uses never import explain' -- "$word")
             return
             ;;
     esac

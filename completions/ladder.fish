@@ -51,12 +51,13 @@ complete -c ladder -n 'test (count (__ladder_places)) = 0' -a causes -d 'List wh
 complete -c ladder -n 'test (count (__ladder_places)) = 0' -a show -d 'Print the drawing with its power flow'
 complete -c ladder -n 'test (count (__ladder_places)) = 0' -a sim -d 'Scan a stimulus record by record'
 complete -c ladder -n 'test (count (__ladder_places)) = 0' -a uses -d 'Print where each name is drawn'
+complete -c ladder -n 'test (count (__ladder_places)) = 0' -a import -d 'Write the program text of a ClassicLadder project'
 complete -c ladder -n 'test (count (__ladder_places)) = 0' -a never -d 'Print what can never come ON'
 complete -c ladder -n 'test (count (__ladder_places)) = 0' -a explain -d 'Say what a fault means'
 complete -c ladder -n 'test (count (__ladder_places)) = 0' -a help -d 'Print help'
-complete -c ladder -n '__ladder_at help 1' -a 'check causes show sim uses never explain'
+complete -c ladder -n '__ladder_at help 1' -a 'check causes show sim uses never import explain'
 
-complete -c ladder -n '__ladder_at check,causes,show,sim,uses,never more 0' -l why -d 'Faults are explained'
+complete -c ladder -n '__ladder_at check,causes,show,sim,uses,never,import more 0' -l why -d 'Faults are explained'
 complete -c ladder -n '__ladder_at check more 0' -l warn -d 'What is most likely not meant'
 complete -c ladder -n '__ladder_at causes,show more 0' -l all-inputs -d 'All inputs, in order of declaration'
 complete -c ladder -n '__ladder_at causes,never more 0' -l quiet -d 'No line of counts'
@@ -81,7 +82,7 @@ complete -c ladder -n '__ladder_at show more 0' -l coil -x -a '(__ladder_coils)'
 complete -c ladder -n '__ladder_at sim more 0' -l vcd -d 'A waveform in place of the trace'
 complete -c ladder -n '__ladder_at sim more 0' -l save -r -F -d 'The file that gets the state after the last scan'
 
-complete -c ladder -n '__ladder_at check,causes,show,sim,uses,never 1' -F
+complete -c ladder -n '__ladder_at check,causes,show,sim,uses,never,import 1' -F
 complete -c ladder -n '__ladder_at sim 2' -F
 complete -c ladder -n '__ladder_at explain more 0' -a '(__ladder_codes)'
 complete -c ladder -n '__ladder_at causes 2' -a '(__ladder_coils)'

@@ -257,6 +257,7 @@ def compare_held_from(trial, sort, every, scans):
     trial.tally["lists with rows and without some"] += 0 < len(table) < 2 ** len(listed)
     trial.tally["lists with a later scan than the first"] += any(count > 1 for count in first.values())
     asked = [*words, "--scans", str(scans), "--every", str(every), "program.ld", coil, *listed]
+    found += compare_held_groups(trial, first, asked)
     return found + differences(trial.ask("causes", *asked), (out.encode(), f"rows {len(table)}\n".encode(), 0))
 
 
@@ -370,4 +371,5 @@ def compare_off_must(trial):
 
 
 ALL = (compare_lists, compare_shown, compare_film, compare_held, compare_never, compare_random_states)
-ALONE = {"groups": compare_groups, "show": compare_shown, "held": compare_many_held, "never": compare_never, "possible": compare_possible}
+ALONE = {"groups": compare_groups, "show": compare_shown, "held": compare_many_held, "never": compare_never, "possible": compare_possible,
+         "off": compare_off, "must": compare_must, "off_must": compare_off_must}

@@ -13,7 +13,7 @@ import tempfile
 
 ROOT = pathlib.Path(__file__).resolve().parent.parent
 FOLDER = ROOT / "completions"
-SUBCOMMANDS = ["causes", "check", "explain", "never", "show", "sim", "uses"]
+SUBCOMMANDS = ["causes", "check", "explain", "import", "never", "show", "sim", "uses"]
 CIRCUIT = ROOT / "examples/emergency_stop/machine.ld"
 COILS, INPUTS = ["Enabled", "Motor"], ["EStop", "Reset", "Start", "Stop"]
 # a line, what its last word begins with, and what is to be offered

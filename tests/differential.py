@@ -43,7 +43,10 @@ class Size(NamedTuple):
 
 LARGE, SMALL = Size(5, ROWS, COLUMNS), Size(3, 4, 5)
 # How many inputs are listed at least and at most where one kind is compared alone.
-INPUTS_LISTED = {"groups": (1, 7), "held": (1, 6), "show": (1, 9), "never": (0, 0), "possible": (0, 4)}
+INPUTS_LISTED = {"groups": (1, 7), "held": (1, 6), "show": (1, 9), "never": (0, 0), "possible": (0, 4), "off": (0, 4),
+                 "must": (0, 4), "off_must": (0, 4)}
+# What goes through every state, so that a drawing has few bits.
+EVERY_STATE = ("never", "possible", "off", "must", "off_must")
 
 
 def names(letter, count):
@@ -198,7 +201,7 @@ def compare_next(words, chance, folder, tally):
     """Compares a drawing, unless it has no question, and prints it where there are differences."""
     least, most = words.inputs or INPUTS_LISTED.get(words.only, (None, None))
     forget()
-    text = drawing(chance, SMALL if words.only in ("never", "possible") and not words.large else LARGE)
+    text = drawing(chance, SMALL if words.only in EVERY_STATE and not words.large else LARGE)
     coil, listed = question(chance, text, least, most)
     if coil is None:
         return

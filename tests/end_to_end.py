@@ -284,6 +284,7 @@ SPECIAL = {
     "streams-help-on-a-full-device": on_a_stream(["--help"], "stdout", full_device, (None, b"fault X6\n", 1)),
     "check-on-a-full-device": on_a_stream(["check", "motor.ld"], "stdout", full_device, (None, b"fault X6\n", 1)),
     "check-help": help_is_printed("check", "--help"),
+    "import-help": help_is_printed("import", "--help"),
     "causes-parts-of-32-inputs-joined": parts_of_32_inputs,
     "streams-rows-on-a-full-device": on_a_stream(CAUSES, "stdout", full_device, (None, b"fault X6\n", 1)),
     "show-on-a-full-device": on_a_stream(["show", "motor.ld", "Start", "Stop"], "stdout", full_device, (None, b"fault X6\n", 1)),

@@ -239,21 +239,21 @@ PRESETS = {TIMER: [(2, 5)], MONOSTABLE: [(2, 5)], IEC_TIMER: [(2, 5, 1)]}
 CLOSED, COIL = element(1, 0, INPUT, 0), element(50, 0, OUTPUT, 0)
 MADE = (
     (one_row(CLOSED, COIL), None),
-    (one_row(element(1, 0, 30, 0), COIL), "a step"),
-    (one_row(element(1, 0, 11, 0), COIL), "the running output"),
-    (one_row(element(1, 0, 200, 0), COIL), "a variable"),
-    (one_row(CLOSED, element(50, 0, INPUT, 0)), "writes an input"),
-    (one_row(CLOSED, element(50, 0, 200, 0)), "can't write"),
-    (one_row(CLOSED, element(55)), "a call"),
-    (one_row(CLOSED, element(60)), "an operate"),
-    (one_row(CLOSED, element(PART), element(PART), element(20), COIL), "a compare"),
-    (one_row(CLOSED, element(PART), element(12), COIL), "a counter"),
-    (one_row(CLOSED, element(JUMP)), "a jump to a rung"),
-    (one_row(CLOSED, COIL, COIL), "in the last column"),
-    (one_row(CLOSED, element(NOTHING), COIL), "no power can come"),
-    (one_row(element(1, 0, INPUT, 100000), COIL), "larger than 99999"),
+    (one_row(element(1, 0, 30, 0), COIL), "step"),
+    (one_row(element(1, 0, 11, 0), COIL), "running_contact"),
+    (one_row(element(1, 0, 200, 0), COIL), "other_contact"),
+    (one_row(CLOSED, element(50, 0, INPUT, 0)), "writes_an_input"),
+    (one_row(CLOSED, element(50, 0, 200, 0)), "other_coil"),
+    (one_row(CLOSED, element(55)), "call"),
+    (one_row(CLOSED, element(60)), "operate"),
+    (one_row(CLOSED, element(PART), element(PART), element(20), COIL), "compare"),
+    (one_row(CLOSED, element(PART), element(12), COIL), "counter"),
+    (one_row(CLOSED, element(JUMP)), "jump_elsewhere"),
+    (one_row(CLOSED, COIL, COIL), "out_of_place"),
+    (one_row(CLOSED, element(NOTHING), COIL), "no_power"),
+    (one_row(element(1, 0, INPUT, 100000), COIL), "large_number"),
     (one_row(CLOSED, element(PART), element(TIMER, 0, 0, 1), COIL), None),
-    (one_row(CLOSED, element(PART), element(MONOSTABLE, 0, 0, 1), COIL), "no preset"),
+    (one_row(CLOSED, element(PART), element(MONOSTABLE, 0, 0, 1), COIL), "no_preset"),
 )
 
 
@@ -315,7 +315,7 @@ def main():
         folder = pathlib.Path(name)
         for grid, refusal in MADE:
             text, lines = imported(program, folder, Project({0: grid}, PRESETS))
-            if (text is None) != (refusal is not None) or refusal and not any(refusal in line for line in lines):
+            if (text is None) != (refusal is not None) or refusal and not any(line.endswith(f" {refusal}") for line in lines):
                 print(f"made by hand, {refusal}: {lines or text}")
                 return 1
             met["made by hand"] += 1

@@ -9,6 +9,7 @@ pub(crate) const FAULTS: &str =
   G1 to G15   the drawing breaks a rule in that rung, on that line
   C1 to C8    there is no list of causes, or no scan to show, for this question
   X1 to X7    a file can't be read, or a word or record of it is bad; X6: a write failed; X7: out of memory
+  P1 to P8    the file is no project of ClassicLadder, or has what can't be carried over
   usage       the words are not those of a request
 `ladder explain CODE` says more of each.
 Status: 0 all was written, 1 a fault stopped it, 2 wrong words.
