@@ -19,6 +19,7 @@ from concurrent.futures import ThreadPoolExecutor
 HERE = pathlib.Path(__file__).resolve().parent
 TEXTS = {
     "motor.ld": (HERE / "programs" / "motor.ld").read_bytes(),
+    "lamp.clp": (HERE / "cases" / "import-lamp" / "lamp.clp").read_bytes(),
     "running.csv": b"version,2\nmoment,0\nvar,Start,1\nvar,Stop,0\nvar,Motor,1\n",
     "back.csv": b"moment,Start,Stop\n0,1,0\n10,0,0\n5,0,0\n",
     "long.csv": b"moment,Start,Stop\n0,1,0\n5,0,0\n18446744073709551615,1,1\n",
@@ -33,14 +34,17 @@ REQUESTS = (
     (("causes", "--state", "running.csv", "motor.ld", "Motor", "Start", "Stop"), LINES),
     (("causes", "--scans", "3", "--state", "running.csv", "motor.ld", "Motor", "Start", "Stop"), LINES),
     (("causes", "--any", "motor.ld", "Motor", "Start", "Stop"), LINES),
+    (("causes", "--any", "--off", "--must", "motor.ld", "Motor", "Start", "Stop"), LINES),
     (("causes", "--grouped", "--state", "running.csv", "motor.ld", "Motor", "Start", "Stop"), LINES),
     (("causes", "--grouped", "--st", "--order", "auto", "motor.ld", "Motor", "Start", "Stop"), LINES),
+    (("causes", "--grouped", "--scans", "3", "--state", "running.csv", "motor.ld", "Motor", "Start", "Stop"), LINES),
     (("show", "--state", "running.csv", "--number", "2", "motor.ld", "Start", "Stop"), LINES),
     (("show", "--stimulus", "back.csv", "motor.ld"), ("fault V9\n", "fault X7\n")),
     (("show", "--html", "--coil", "Motor", "--stimulus", "back.csv", "motor.ld"), ("fault V9\n", "fault X7\n")),
     (("sim", "motor.ld", "back.csv"), ("fault V9\n", "fault X7\n")),
     (("sim", "--save", "saved.csv", "motor.ld", "long.csv"), ("fault V9\n", "fault X7\n")),
     (("sim", "--state", "running.csv", "--save", "saved.csv", "motor.ld", "long.csv"), ("fault V9\n", "fault X7\n")),
+    (("import", "lamp.clp"), ("fault X7\n",)),
     (("--help",), ("fault X7\n",)),
 )
 Ending = collections.namedtuple("Ending", "out err status saved")
