@@ -7,3 +7,4 @@ mod table;
 
 pub use fault::PossibleGroupFault;
 pub use groups::{PossibleGroups, is_settled};
+pub use table::SETTLED;
