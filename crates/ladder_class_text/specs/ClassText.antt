@@ -1,9 +1,8 @@
 -- The text of groups by class: a record with the names of the listed inputs, and one for each group.
-use Rattle.std.specs.Prelude.{◌==◌, if◌then◌else◌, ℕ, List, ◌∷◌, length, map, codes, decimal}
+use Rattle.std.specs.Prelude.{ℕ, List, ◌∷◌, length, map, codes, decimal}
 use Rattle.ladder_classes.specs.declared.walk.ClassGroup.{ClassGroup}
 use Rattle.ladder_grid.specs.Program.{Drawing}
 use Rattle.ladder_groups.specs.Groups.{Row, cells, size}
-use Rattle.ladder_possible_groups.specs.declared.table.TheConstants.{SETTLED}
 use Rattle.ladder_records.specs.Left.{Fields}
 use Rattle.ladder_records.specs.Text.{lines_text}
 use Rattle.ladder_sim.specs.CauseText.{name_of}
@@ -24,18 +23,3 @@ held_group_record k r = class_record (decimal r.class) (cells k r.group)
 
 abbrev pub held_group_text : Drawing → List ℕ → List ClassGroup → List ℕ
 held_group_text p listed groups = lines_text (held_group_header p listed ∷ map (held_group_record (length listed)) groups)
-
--- ---- of what is possible
-
-abbrev pub possible_group_header : Drawing → List ℕ → Fields
-possible_group_header p listed = codes "causes" ∷ codes "settled" ∷ map (name_of p) listed
-
--- whether it is settled of a class's numbers that they are possible
-abbrev pub judged : ℕ → List ℕ
-judged class = if class == SETTLED then codes "1" else codes "?"
-
-abbrev pub possible_group_record : ℕ → ClassGroup → Fields
-possible_group_record k r = class_record (judged r.class) (cells k r.group)
-
-abbrev pub possible_group_text : Drawing → List ℕ → List ClassGroup → List ℕ
-possible_group_text p listed groups = lines_text (possible_group_header p listed ∷ map (possible_group_record (length listed)) groups)

@@ -4,8 +4,6 @@
 mod cells;
 mod header;
 mod held_text;
-mod possible_text;
 mod row;
 
 pub use held_text::write_held_groups;
-pub use possible_text::write_possible_groups;

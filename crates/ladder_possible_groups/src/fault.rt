@@ -1,4 +1,4 @@
-//! The faults of a list of what is possible that is not grouped.
+//! Why what is possible, or forced, is not grouped.
 
 use thiserror::Error;
 
@@ -6,7 +6,7 @@ use thiserror::Error;
 #[derive(Clone, Copy, Debug, PartialEq, Eq, Error)]
 pub enum PossibleGroupFault {
     /// More inputs are listed than these groups can have: [`BITS_LIMIT`](ladder_classes::BITS_LIMIT).
-    #[error("too many inputs are listed for groups of what is possible")]
+    #[error("too many inputs are listed for groups of what is possible or forced")]
     TooManyInputs,
     /// Out of memory.
     #[error("out of memory")]

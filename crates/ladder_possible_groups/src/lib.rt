@@ -1,4 +1,4 @@
-//! Groups of what some state switches on: those of the numbers of which that is settled, and those of the others.
+//! Groups of what some state, or every one, switches on: those of the numbers of which that is settled, and those of the others.
 #![tactic(auto)]
 
 mod fault;
