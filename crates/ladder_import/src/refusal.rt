@@ -355,6 +355,14 @@ fn is_blank(meaning: Meaning) -> bool {
     }
 }
 
+/// Whether an element of the rung is of a kind that can't be carried over. Where power comes from there isn't known, so that others
+/// behind it may have it.
+fn has_refused_kind(elements: &[Element]) -> bool {
+    elements
+        .iter()
+        .any(|element| kind_reason(element.kind).is_some())
+}
+
 /// Why the element at a place can't be carried over.
 fn reason_at(
     project: &Project<'_>,
@@ -379,11 +387,12 @@ fn reason_at(
         return None;
     }
     if !reached(elements, row, column) {
-        return if is_idle(meaning) {
-            None
-        } else {
-            Some(Reason::NoPower)
-        };
+        if is_idle(meaning) {
+            return None;
+        }
+        if !has_refused_kind(elements) {
+            return Some(Reason::NoPower);
+        }
     }
     match drawn_reason(project, blocks, rung, element, meaning) {
         Some(reason) => Some(reason),
