@@ -3,7 +3,7 @@ PREFIX ?= /usr/local
 PROGRAM := crates/ladder/out/ladder
 SOURCES := crates.txt $(shell find crates -path '*/out' -prune -o -type f -print)
 
-.PHONY: all run test stress browser bench install clean
+.PHONY: all run test stress mutants browser bench install clean
 
 all: bin/ladder
 
@@ -23,6 +23,7 @@ test:
 	python3 tests/end_to_end.py $(PROGRAM)
 	python3 tests/documents.py $(PROGRAM)
 	python3 tests/pages.py
+	python3 tests/mutants.py --where
 	python3 tests/completions.py $(PROGRAM)
 	python3 tests/growth.py $(PROGRAM)
 	python3 tests/saving.py $(PROGRAM)
@@ -34,6 +35,10 @@ test:
 stress: bin/ladder
 	python3 tests/stress.py bin/ladder
 	python3 tests/wrong_bodies.py bin/ladder
+
+# The mutants that the gate leaves out, since another one, a law or a clause carries what they turn; an hour and more.
+mutants: bin/ladder
+	python3 tests/mutants.py
 
 # Pages of HTML in a real browser, in light and dark; passed over where there is none.
 browser: bin/ladder
