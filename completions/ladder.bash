@@ -24,7 +24,7 @@ _ladder() {
         return
     fi
     case $subcommand in
-        causes) options='--state --at --after --limit --scans --for --every --grouped --terms --st --order --any --off --must --all-inputs --quiet --why --help' ;;
+        causes) options='--state --at --after --limit --scans --for --every --grouped --terms --st --order --any --off --must --relevant --all-inputs --quiet --why --help' ;;
         show) options='--state --at --number --html --stimulus --coil --all-inputs --why --help' ;;
         sim) options='--state --save --vcd --why --help' ;;
         check) options='--warn --why --help' ;;

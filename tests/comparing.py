@@ -370,6 +370,30 @@ def compare_off_must(trial):
     return compare_with_each(trial, "--off", "--must")
 
 
+def compare_relevant(trial):
+    """A list over the inputs that matter tells of each assignment of all inputs whether it is a cause, and is the list over these."""
+    lanes, moment, words = begun(trial, trial.chance.choice(SORTS))
+    table = lanes.table(trial.coil, trial.listed, moment)
+    out, err, status = trial.ask("causes", "--relevant", *words, "program.ld", trial.coil)
+    relevant = out.decode().split("\n", 1)[0].split(",")[1:]
+    shifts = [len(trial.listed) - 1 - [name.upper() for name in trial.listed].index(name.upper()) for name in relevant]
+    told = {}
+    for number, is_on in enumerate(table):
+        told.setdefault(tuple(number >> shift & 1 for shift in shifts), set()).add(is_on)
+    found = [f"{bits} of {relevant} decide nothing" for bits, both in told.items() if len(both) > 1]
+    for form in ((), trial.chance.choice([*FORMS])):
+        asked = ["causes", *(["--grouped", *form] if form or trial.chance.random() < 0.5 else []), *words]
+        found += differences(trial.ask(*asked, "--relevant", "program.ld", trial.coil), trial.ask(*asked, "program.ld", trial.coil, *relevant))
+    causes = [row.split(",", 1)[1:] for row in out.decode().splitlines()[1:]]
+    wanted = [[",".join(map(str, bits))] if bits else [] for bits, both in sorted(told.items()) if True in both]
+    if (causes, status) != (wanted, 0):
+        found.append(f"{causes} in place of {wanted}, status {status}, {err}")
+    trial.tally["inputs that are listed"] += len(relevant)
+    makes = [any(both != told[*bits[:at], 1 - bits[at], *bits[at + 1:]] for bits, both in told.items()) for at in range(len(relevant))]
+    trial.tally["of these without a difference"] += makes.count(False)
+    return found
+
+
 ALL = (compare_lists, compare_shown, compare_film, compare_held, compare_never, compare_random_states)
 ALONE = {"groups": compare_groups, "show": compare_shown, "held": compare_many_held, "never": compare_never, "possible": compare_possible,
-         "off": compare_off, "must": compare_must, "off_must": compare_off_must}
+         "off": compare_off, "must": compare_must, "off_must": compare_off_must, "relevant": compare_relevant}

@@ -52,6 +52,9 @@ pub(crate) const EXPLAIN_HELP: &str =
 
 pub(crate) const ALL_HELP: &str = "Lists all inputs, in order of declaration; not with an INPUT";
 
+pub(crate) const RELEVANT_HELP: &str =
+    "Lists the inputs that matter to the coil in this scan, in order of declaration: no other makes a difference; not with an INPUT";
+
 pub(crate) const QUIET_HELP: &str = "Writes no line of counts on standard error; faults stay";
 
 pub(crate) const FILE_HELP: &str = "The program: declarations and rungs; at most 1048576 bytes";

@@ -1,5 +1,5 @@
 -- How a request for a list ends, from what each step of it ensures.
-use Rattle.std.proofs.Common.{◌≡◌, ◌⊎◌, ◌∙◌, ap, refl, ℕ, List, Option, Some, inl, inr, length}
+use Rattle.std.proofs.Common.{◌≡◌, ◌⊎◌, ◌∙◌, ap, refl, subst, ℕ, List, Option, Some, inl, inr, length}
 use Rattle.std.specs.Prelude.{None, map, string_bytes, unwrap_or}
 use Rattle.ladder_vars.specs.Decls.{Declared}
 use Rattle.ladder_grid.specs.Program.{Drawing}
@@ -47,6 +47,10 @@ pub asked_by : (g : Given) (r : ListRequest) (p : Drawing) (s : Standing) (decls
     → variable_of decls coil ≡ Some var → AreListed decls r.all_inputs inputs listed → IsAsked g r (question p s now var listed)
 asked_by g r p s decls now var coil inputs listed set same named all at on among =
     record { set = set; at = at; on = rw (same, named) at on; among = rw (same, all) at among }
+
+-- What holds of a question holds with the listed inputs by another name.
+pub of_listed : (P : Question → Type 0) (a : Asked) (listed : List ℕ) → listed ≡ a.inputs.items → P (question a.program a.state a.moment a.coil listed) → P (question_of a)
+of_listed P a listed same h = subst (λ (xs : List ℕ). P (question a.program a.state a.moment a.coil xs)) same h
 
 -- The listed inputs by another name.
 pub asked_of : (g : Given) (r : ListRequest) (a : Asked) (listed : List ℕ) → listed ≡ a.inputs.items → IsAsked g r (question_of a)

@@ -10,6 +10,7 @@ use Rattle.ladder_causes.specs.GroupCursor.{causes_in}
 use Rattle.ladder_causes.specs.Order.{in_order, sifted}
 use Rattle.ladder_causes.specs.Prefixes.{search_of}
 use Rattle.ladder_questions.specs.Refusal.{refusal}
+use Rattle.ladder_relevant.specs.Relevant.{AreInputs, Decide}
 use Rattle.ladder_groups.specs.Groups.{Row}
 use Rattle.ladder_groups.specs.Groups as groups
 use Rattle.ladder_held.specs.HeldRefusal.{held_refusal}
@@ -338,3 +339,70 @@ abbrev pub BreaksGroups : Given → ListRequest → Grouping → Logs → Logs �
 BreaksGroups g r how old new =
     (Grouped g r how (PutsPrefix old.out new.out) × IsReported g old.err new.err fault.Write)
     ⊎ CountsGroups g r how old.out new.out (PutsPrefix old.err new.err)
+
+-- ---- a list over the inputs that matter
+
+-- The texts describe the program and the state, and the name is that of the coil's variable. Without a moment the scan is at the stored one.
+pub record IsOnCoil (g : Given) (r : ListRequest) (q : Question) : Type 0 where
+  pub set : IsSet g q.program q.state
+  pub at : q.now ≡ unwrap_or r.moment q.state.moment
+  pub on : variable_of q.program.decls (string_bytes r.coil) ≡ Some q.coil
+
+-- The listed inputs decide what the scan leaves of the coil: no other input makes a difference.
+pub record IsDecided (g : Given) (r : ListRequest) (q : Question) : Type 0 where
+  pub coil : IsOnCoil g r q
+  pub inputs : AreInputs q.program q.listed
+  pub decide : Decide q
+
+-- The text of the causes of what is asked is written, whole or as far as `Written` says: all rows that are asked for, and no other.
+pub record ListsOf (q : Question) (r : ListRequest) (after : Option ℕ) (Written : List ℕ → Type 0) : Type 0 where
+  pub accepted : refusal q after ≡ None
+  pub rows : Written (cause_text q.program q.listed (limited r.limit (causes_after after q)))
+
+-- Then their number and that of the looks for them is written: whole, or as far as `Counted` says.
+pub record CountsOf (q : Question) (r : ListRequest) (after : Option ℕ) (out out' : WriteLog) (Counted : List ℕ → Type 0) : Type 0 where
+  pub list : ListsOf q r after (PutsAll out out')
+  pub count : Counted (rows_text r after q)
+
+-- Status 1: `out` failed at the rows, or `err` at their count.
+abbrev pub BreaksOf : Given → Question → ListRequest → Option ℕ → Logs → Logs → Type 0
+BreaksOf g q r after old new =
+    (ListsOf q r after (PutsPrefix old.out new.out) × IsReported g old.err new.err fault.Write)
+    ⊎ CountsOf q r after old.out new.out (PutsPrefix old.err new.err)
+
+-- The same in groups: the text of these in this form, and then their number and that of their causes.
+pub record GroupsOf (q : Question) (r : ListRequest) (how : Grouping) (Written : List ℕ → Type 0) : Type 0 where
+  pub accepted : refusal q None ≡ None
+  pub rows : Written (form_text (form_on how.form q.coil) q.program (ordered how.order q).listed (rows_for r (ordered how.order q)))
+
+pub record GroupCountsOf (q : Question) (r : ListRequest) (how : Grouping) (out out' : WriteLog) (Counted : List ℕ → Type 0) : Type 0 where
+  pub list : GroupsOf q r how (PutsAll out out')
+  pub count : Counted (counts_text r (ordered how.order q))
+
+abbrev pub BreaksGroupsOf : Given → Question → ListRequest → Grouping → Logs → Logs → Type 0
+BreaksGroupsOf g q r how old new =
+    (GroupsOf q r how (PutsPrefix old.out new.out) × IsReported g old.err new.err fault.Write)
+    ⊎ GroupCountsOf q r how old.out new.out (PutsPrefix old.err new.err)
+
+-- A list over inputs that decide, in groups where these are asked for.
+abbrev pub CountsRelevant : Given → ListRequest → Option ℕ → Option Grouping → WriteLog → WriteLog → (List ℕ → Type 0) → Type 0
+CountsRelevant g r after None out out' Counted = (q : Question) × IsDecided g r q × CountsOf q r after out out' Counted
+CountsRelevant g r after (Some how) out out' Counted = (q : Question) × IsDecided g r q × GroupCountsOf q r how out out' Counted
+
+abbrev pub BreaksRelevant : Given → ListRequest → Option ℕ → Option Grouping → Logs → Logs → Type 0
+BreaksRelevant g r after None old new = (q : Question) × IsDecided g r q × BreaksOf g q r after old new
+BreaksRelevant g r after (Some how) old new = (q : Question) × IsDecided g r q × BreaksGroupsOf g q r how old new
+
+-- Groups begin with the first.
+abbrev pub after_for : Option ℕ → Option Grouping → Option ℕ
+after_for after None = after
+after_for after (Some how) = None
+
+-- Faults are looked for in this order: in the program text, in the state text, in the name, in what is asked of the coil, in the list.
+abbrev pub HasCoilFault : Given → ListRequest → ToolFault → Type 0
+HasCoilFault g r f = HasSettingFault g f
+    ⊎ (((p : Drawing) × (s : Standing) × IsSet g p s × HasWordFault p.decls (string_bytes r.coil ∷ []) f)
+    ⊎ ((q : Question) × IsOnCoil g r q × (q.listed ≡ []) × HasCauseFault (refusal q None) f))
+
+abbrev pub HasRelevantFault : Given → ListRequest → Option ℕ → ToolFault → Type 0
+HasRelevantFault g r after f = HasCoilFault g r f ⊎ ((q : Question) × IsDecided g r q × HasCauseFault (refusal q after) f)

@@ -5,8 +5,8 @@ ghost use Rattle.ladder_scan.specs.Standing.{Fits};
 ghost use Rattle.ladder_questions.specs.Refusal.{reason, refusal};
 ghost use Rattle.ladder_text.specs.Log.{Puts, PutsAll, WriteLog};
 ghost use Rattle.ladder_lists.specs.Asked.{question_of};
-ghost use Rattle.ladder_setting.specs.Reports.{Refuses, logs};
-ghost use Rattle.ladder_lists.specs.Lists.{BreaksGroups, CountsGroups, HasListFault, IsAsked, form_on, groups_line, ordered, unless_quiet};
+ghost use Rattle.ladder_setting.specs.Reports.{HasCauseFault, Refuses, logs};
+ghost use Rattle.ladder_lists.specs.Lists.{BreaksGroups, BreaksGroupsOf, CountsGroups, GroupCountsOf, HasListFault, form_on, groups_line, ordered, unless_quiet};
 ghost use Rattle.ladder_setting.specs.Setting.{given_by};
 
 use crate::asking::{Asked, read_question};
@@ -71,7 +71,7 @@ fn put_in_order(alloc: Global, asked: &mut Asked, order: InputOrder) -> Result<(
 }
 
 /// Lists the causes of what is asked in groups.
-fn list_asked<O: Sink, E: Sink>(
+pub(crate) fn list_asked<O: Sink, E: Sink>(
     alloc: Global,
     request: &ListRequest,
     how: Grouping,
@@ -81,12 +81,11 @@ fn list_asked<O: Sink, E: Sink>(
     err: &mut E,
 ) -> u8
     requires fits { Fits asked.old.program asked.old.state }
-    requires asked { IsAsked (given_by texts.now) request.now (question_of asked.old) }
     ensures status { result ≤ 1 }
-    ensures done { result ≡ 0 → CountsGroups (given_by texts.now) request.now how (O.log out.old) (O.log out.new) (PutsAll (E.log err.old) (E.log err.new)) }
+    ensures done { result ≡ 0 → GroupCountsOf (question_of asked.old) request.now how (O.log out.old) (O.log out.new) (PutsAll (E.log err.old) (E.log err.new)) }
     ensures failed { (save : WriteLog) → result ≡ 1
-        → Refuses (given_by texts.now) (HasListFault (given_by texts.now) request.now None) (logs (O.log out.old) save (E.log err.old)) (logs (O.log out.new) save (E.log err.new))
-        ⊎ BreaksGroups (given_by texts.now) request.now how (logs (O.log out.old) save (E.log err.old)) (logs (O.log out.new) save (E.log err.new)) }
+        → Refuses (given_by texts.now) (HasCauseFault (refusal (question_of asked.old) None)) (logs (O.log out.old) save (E.log err.old)) (logs (O.log out.new) save (E.log err.new))
+        ⊎ BreaksGroupsOf (given_by texts.now) (question_of asked.old) request.now how (logs (O.log out.old) save (E.log err.old)) (logs (O.log out.new) save (E.log err.new)) }
 {
     match put_in_order(alloc, asked, how.order) {
         Ok(()) => (),

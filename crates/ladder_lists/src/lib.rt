@@ -8,9 +8,11 @@ mod holding;
 mod listing;
 mod never;
 mod possible;
+mod relevant;
 
 pub use grouping::list_groups;
 pub use holding::list_held;
 pub use listing::list_causes;
 pub use never::list_never;
 pub use possible::list_possible;
+pub use relevant::list_relevant;

@@ -4,8 +4,9 @@ ghost use Rattle.std.specs.Prelude.{◌≡◌, ◌≤◌, ◌⊎◌};
 ghost use Rattle.ladder_text.specs.Log.{Puts, PutsAll, WriteLog};
 ghost use Rattle.ladder_scan.specs.Standing.{Fits};
 ghost use Rattle.ladder_lists.specs.Asked.{question_of};
-ghost use Rattle.ladder_setting.specs.Reports.{Refuses, logs};
-ghost use Rattle.ladder_lists.specs.Lists.{BreaksList, CountsList, HasListFault, IsAsked, rows_line, unless_quiet};
+ghost use Rattle.ladder_questions.specs.Refusal.{refusal};
+ghost use Rattle.ladder_setting.specs.Reports.{HasCauseFault, Refuses, logs};
+ghost use Rattle.ladder_lists.specs.Lists.{BreaksList, BreaksOf, CountsList, CountsOf, HasListFault, rows_line, unless_quiet};
 ghost use Rattle.ladder_setting.specs.Setting.{given_by};
 
 use crate::asking::{Asked, read_question};
@@ -33,7 +34,7 @@ fn put_rows<E: Sink>(quiet: bool, summary: Summary, err: &mut E) -> Result<(), W
 }
 
 /// Lists the causes of what is asked, after a number where there is one.
-fn list_asked<O: Sink, E: Sink>(
+pub(crate) fn list_asked<O: Sink, E: Sink>(
     alloc: Global,
     request: &ListRequest,
     after: Option<u64>,
@@ -43,12 +44,11 @@ fn list_asked<O: Sink, E: Sink>(
     err: &mut E,
 ) -> u8
     requires fits { Fits asked.now.program asked.now.state }
-    requires asked { IsAsked (given_by texts.now) request.now (question_of asked.now) }
     ensures status { result ≤ 1 }
-    ensures done { result ≡ 0 → CountsList (given_by texts.now) request.now after (O.log out.old) (O.log out.new) (PutsAll (E.log err.old) (E.log err.new)) }
+    ensures done { result ≡ 0 → CountsOf (question_of asked.now) request.now after (O.log out.old) (O.log out.new) (PutsAll (E.log err.old) (E.log err.new)) }
     ensures failed { (save : WriteLog) → result ≡ 1
-        → Refuses (given_by texts.now) (HasListFault (given_by texts.now) request.now after) (logs (O.log out.old) save (E.log err.old)) (logs (O.log out.new) save (E.log err.new))
-        ⊎ BreaksList (given_by texts.now) request.now after (logs (O.log out.old) save (E.log err.old)) (logs (O.log out.new) save (E.log err.new)) }
+        → Refuses (given_by texts.now) (HasCauseFault (refusal (question_of asked.now) after)) (logs (O.log out.old) save (E.log err.old)) (logs (O.log out.new) save (E.log err.new))
+        ⊎ BreaksOf (given_by texts.now) (question_of asked.now) request.now after (logs (O.log out.old) save (E.log err.old)) (logs (O.log out.new) save (E.log err.new)) }
 {
     let mut cursor = match Causes::new(
         alloc,

@@ -10,7 +10,7 @@ use Rattle.ladder_words.specs.declared.request.Request.TheVariants as request
 use Rattle.ladder_setting.specs.Setting.{Given, HasProgramFault, HasSettingFault}
 use Rattle.ladder_setting.specs.Reports.{IsReported, Logs, Refuses}
 use Rattle.ladder_carry.specs.Carrying.{BreaksCarrying, Carries}
-use Rattle.ladder_lists.specs.Lists.{BreaksGroups, BreaksHeldBy, BreaksList, BreaksNever, BreaksPossible, CountsGroups, CountsHeldBy, CountsList, CountsNever, CountsPossible, HasHeldFaultBy, HasListFault, HasNeverFault, HasPossibleFault, scans_of}
+use Rattle.ladder_lists.specs.Lists.{BreaksGroups, BreaksHeldBy, BreaksList, BreaksNever, BreaksPossible, BreaksRelevant, CountsGroups, CountsHeldBy, CountsList, CountsNever, CountsPossible, CountsRelevant, HasHeldFaultBy, HasListFault, HasNeverFault, HasPossibleFault, HasRelevantFault, after_for, scans_of}
 use Rattle.ladder_views.specs.Views.{BreaksFilm, BreaksTrace, BreaksWaves, HasFilmFault, HasShowFault, IsFilmed, IsTraced, IsWaved, Prints, Shows, check_text}
 
 -- Status 0. Only a simulation writes on `save`, and only a list on `err`.
@@ -21,6 +21,7 @@ IsDone (Held list scans every grouped) g old new = CountsHeldBy grouped g list (
 IsDone (request.Never r) g old new = CountsNever g r old.out new.out (PutsAll old.err new.err) × (new.save ≡ old.save)
 IsDone (request.Possible r) g old new = CountsPossible g r old.out new.out (PutsAll old.err new.err) × (new.save ≡ old.save)
 IsDone (Groups list grouping) g old new = CountsGroups g list grouping old.out new.out (PutsAll old.err new.err) × (new.save ≡ old.save)
+IsDone (request.Relevant list after grouping) g old new = CountsRelevant g list after grouping old.out new.out (PutsAll old.err new.err) × (new.save ≡ old.save)
 IsDone (Show r) g old new = Shows g r (PutsAll old.out new.out) × (new.save ≡ old.save) × (new.err ≡ old.err)
 IsDone (request.Film r) g old new = IsFilmed g r old.out new.out × (new.save ≡ old.save) × (new.err ≡ old.err)
 IsDone (Sim r) g old new = IsTraced g (is_some r.save) old new
@@ -36,6 +37,7 @@ HasFault (Held list scans every grouped) g = HasHeldFaultBy grouped g list (scan
 HasFault (request.Never r) g = HasNeverFault g
 HasFault (request.Possible r) g = HasPossibleFault g r
 HasFault (Groups list grouping) g = HasListFault g list None
+HasFault (request.Relevant list after grouping) g = HasRelevantFault g list (after_for after grouping)
 HasFault (Show r) g = HasShowFault g r
 HasFault (request.Film r) g = HasFilmFault g r
 HasFault (Sim r) g = HasSettingFault g
@@ -52,6 +54,7 @@ Breaks (Held list scans every grouped) g old new = BreaksHeldBy grouped g list (
 Breaks (request.Never r) g old new = BreaksNever g r old new × (new.save ≡ old.save)
 Breaks (request.Possible r) g old new = BreaksPossible g r old new × (new.save ≡ old.save)
 Breaks (Groups list grouping) g old new = BreaksGroups g list grouping old new × (new.save ≡ old.save)
+Breaks (request.Relevant list after grouping) g old new = BreaksRelevant g list after grouping old new × (new.save ≡ old.save)
 Breaks (Show r) g old new = Shows g r (PutsPrefix old.out new.out) × (new.save ≡ old.save) × IsReported g old.err new.err fault.Write
 Breaks (request.Film r) g old new = BreaksFilm g r old new × (new.save ≡ old.save)
 Breaks (Sim r) g old new = BreaksTrace g (is_some r.save) old new

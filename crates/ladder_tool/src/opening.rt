@@ -65,12 +65,14 @@ pub(crate) fn readers_of<'a>(
             state: None,
             stimulus: None,
         },
-        Request::Causes { list, .. } | Request::Held { list, .. } | Request::Groups { list, .. } =>
-            Readers {
-                program: reading(rt, list.file.as_str()),
-                state: reading_named(rt, &list.state),
-                stimulus: None,
-            },
+        Request::Causes { list, .. }
+        | Request::Held { list, .. }
+        | Request::Groups { list, .. }
+        | Request::Relevant { list, .. } => Readers {
+            program: reading(rt, list.file.as_str()),
+            state: reading_named(rt, &list.state),
+            stimulus: None,
+        },
         Request::Possible(possible) => Readers {
             program: reading(rt, possible.file.as_str()),
             state: None,

@@ -7,7 +7,7 @@ ghost use Rattle.ladder_setting.specs.Setting.{given_by};
 
 use ladder_carry::carry;
 use ladder_held::Scans;
-use ladder_lists::{list_causes, list_groups, list_held, list_never, list_possible};
+use ladder_lists::{list_causes, list_groups, list_held, list_never, list_possible, list_relevant};
 use ladder_setting::Texts;
 use ladder_text::Sink;
 use ladder_views::{About, film, print, show, trace, wave};
@@ -50,6 +50,11 @@ pub fn perform<O: Sink, S: Sink, E: Sink>(
             list_held(alloc, list, scans, *grouped, texts, out, err)
         }
         Request::Groups { list, grouping } => list_groups(alloc, list, *grouping, texts, out, err),
+        Request::Relevant {
+            list,
+            after,
+            grouping,
+        } => list_relevant(alloc, list, *after, *grouping, texts, out, err),
         Request::Show(scan) => show(alloc, scan, texts, out, err),
         Request::Film(stimulus) => film(alloc, stimulus, texts, out, err),
         Request::Waves(_) => wave(alloc, texts, out, err),

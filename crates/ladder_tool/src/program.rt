@@ -176,6 +176,7 @@ fn saving_of(request: &Request) -> Option<(&str, &SimRequest)> {
         | Request::Causes { .. }
         | Request::Held { .. }
         | Request::Groups { .. }
+        | Request::Relevant { .. }
         | Request::Never(_)
         | Request::Possible(_)
         | Request::Show(_)

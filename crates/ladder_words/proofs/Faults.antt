@@ -1,9 +1,9 @@
 -- Why the arguments ask for no request.
-use Rattle.std.proofs.Common.{◌≡◌, ◌∙◌, ℕ, Bool, true, false, List, [], ◌∷◌, Option, None, Some, ap, arith, bytes_eq, codes, find, map, string_bytes, String, Global, ◌&&◌, get_or, inl, inr, option_and_then, option_map, refl, slice_get, sym, unwrap_or}
+use Rattle.std.proofs.Common.{◌≡◌, ◌∙◌, ℕ, Bool, true, false, List, [], ◌∷◌, Option, None, Some, ap, arith, bytes_eq, codes, find, map, string_bytes, String, Global, ◌&&◌, get_or, inl, inr, option_and_then, option_map, refl, slice_get, subst, sym, unwrap_or}
 use Rattle.std.specs.List.{list_all}
 use Rattle.clap.specs.Words.{Row, Text, all_of, first_of}
 use Rattle.ladder_pages.specs.Pages.{is_fault_code}
-use Rattle.ladder_words.specs.Asking.{Asks, AsksNone, HasEvery, HasNoTask, HasFlag, HasForm, HasInputs, HasLasting, HasNumber, HasOption, HasScans, HasSwitch, HasOrder, IsNamed, IsOfOneState, MayHaveLimit, NamesList}
+use Rattle.ladder_words.specs.Asking.{Asks, AsksNone, HasEvery, HasNoTask, HasFlag, HasForm, HasInputs, HasLasting, HasNumber, HasOption, HasScans, HasSwitch, HasOrder, IsNamed, IsOfOneState, IsSingle, IsTable, MayGroup, MayHaveLimit, NamesList}
 use Rattle.ladder_words.specs.Parts.{HasGrouping, IsOfAnyState, IsOfOneScan, IsOfRecords, IsWhole, MayLast, NamesNoStates, NamesScan, Plays}
 use Rattle.ladder_words.specs.Faults.{UsageWhere}
 use Rattle.ladder_words.specs.declared.request.Form.{Form}
@@ -21,7 +21,7 @@ use Rattle.ladder_words.specs.declared.request.WavesRequest.{WavesRequest}
 use Rattle.ladder_words.specs.declared.request.PossibleRequest.{PossibleRequest}
 use Rattle.ladder_words.specs.declared.request.NeverRequest.{NeverRequest}
 use Rattle.ladder_words.specs.declared.words.Lasting.TheVariants.{Count, Until}
-use Rattle.ladder_words.specs.declared.request.Request.TheVariants.{Causes, Check, Film, Groups, Held, Import, Never, Possible, Show, Sim, Uses, Waves}
+use Rattle.ladder_words.specs.declared.request.Request.TheVariants.{Causes, Check, Film, Groups, Held, Import, Never, Possible, Relevant, Show, Sim, Uses, Waves}
 use Rattle.ladder_words.specs.declared.request.WordFault.{WordFault}
 use Rattle.ladder_words.specs.declared.request.WordFault.TheVariants.{Help, Memory, Mistake, Usage}
 use Rattle.ladder_words.specs.declared.request.Task.TheVariants.{Explain, Perform}
@@ -53,6 +53,7 @@ explains_alone rows (Causes list after) h = let other : 101 ≡ 99 = name_differ
 explains_alone rows (Held list scans every grouped) h = let other : 101 ≡ 99 = name_differs h.0 in absurd (omega (arith, other))
 explains_alone rows (Groups list grouping) h = let other : 101 ≡ 99 = name_differs h.0 in absurd (omega (arith, other))
 explains_alone rows (Possible r) h = let other : 101 ≡ 99 = name_differs h.0 in absurd (omega (arith, other))
+explains_alone rows (Relevant list after grouping) h = let other : 101 ≡ 99 = name_differs h.0 in absurd (omega (arith, other))
 explains_alone rows (Show r) h = let other : 101 ≡ 115 = name_differs h.0 in absurd (omega (arith, other))
 explains_alone rows (Film r) h = let other : 101 ≡ 115 = name_differs h.0 in absurd (omega (arith, other))
 explains_alone rows (Sim r) h = let other : 101 ≡ 115 = name_differs h.0 in absurd (omega (arith, other))
@@ -88,6 +89,7 @@ no_check rows none (Causes list after) h = let other = h.0 in cc
 no_check rows none (Held list scans every grouped) h = let other = h.0 in cc
 no_check rows none (Groups list grouping) h = let other = h.0 in cc
 no_check rows none (Possible r) h = let other = h.0 in cc
+no_check rows none (Relevant list after grouping) h = let other = h.0 in cc
 no_check rows none (Show r) h = let other = h.0 in cc
 no_check rows none (Film r) h = let other = h.0 in cc
 no_check rows none (Sim r) h = let other = h.0 in cc
@@ -101,36 +103,39 @@ pub only_causes : (rows : List Row)
     → ((list : ListRequest) (scans every : ℕ) (grouped : Bool) → Asks (codes "causes") rows (Held list scans every grouped) → ⊥)
     → ((list : ListRequest) (grouping : Grouping) → Asks (codes "causes") rows (Groups list grouping) → ⊥)
     → ((r : PossibleRequest) → Asks (codes "causes") rows (Possible r) → ⊥)
+    → ((list : ListRequest) (after : Option ℕ) (grouping : Option Grouping) → Asks (codes "causes") rows (Relevant list after grouping) → ⊥)
     → AsksNone (codes "causes") rows
-only_causes rows causes held groups possible (Check file warns) h = let other = h.0 in cc
-only_causes rows causes held groups possible (Causes list after) h = causes list after h
-only_causes rows causes held groups possible (Held list scans every grouped) h = held list scans every grouped h
-only_causes rows causes held groups possible (Groups list grouping) h = groups list grouping h
-only_causes rows causes held groups possible (Possible r) h = possible r h
-only_causes rows causes held groups possible (Show r) h = let other = h.0 in cc
-only_causes rows causes held groups possible (Film r) h = let other = h.0 in cc
-only_causes rows causes held groups possible (Sim r) h = let other = h.0 in cc
-only_causes rows causes held groups possible (Waves r) h = let other = h.0 in cc
-only_causes rows causes held groups possible (Uses file) h = let other = h.0 in cc
-only_causes rows causes held groups possible (Never r) h = let other : 99 ≡ 110 = ap (λ (name : List ℕ). get_or name 0 0) h.0 in absurd (omega (arith, other))
-only_causes rows causes held groups possible (Import file) h = let other : 99 ≡ 105 = ap (λ (name : List ℕ). get_or name 0 0) h.0 in absurd (omega (arith, other))
+only_causes rows causes held groups possible relevant (Check file warns) h = let other = h.0 in cc
+only_causes rows causes held groups possible relevant (Causes list after) h = causes list after h
+only_causes rows causes held groups possible relevant (Held list scans every grouped) h = held list scans every grouped h
+only_causes rows causes held groups possible relevant (Groups list grouping) h = groups list grouping h
+only_causes rows causes held groups possible relevant (Possible r) h = possible r h
+only_causes rows causes held groups possible relevant (Relevant list after grouping) h = relevant list after grouping h
+only_causes rows causes held groups possible relevant (Show r) h = let other = h.0 in cc
+only_causes rows causes held groups possible relevant (Film r) h = let other = h.0 in cc
+only_causes rows causes held groups possible relevant (Sim r) h = let other = h.0 in cc
+only_causes rows causes held groups possible relevant (Waves r) h = let other = h.0 in cc
+only_causes rows causes held groups possible relevant (Uses file) h = let other = h.0 in cc
+only_causes rows causes held groups possible relevant (Never r) h = let other : 99 ≡ 110 = ap (λ (name : List ℕ). get_or name 0 0) h.0 in absurd (omega (arith, other))
+only_causes rows causes held groups possible relevant (Import file) h = let other : 99 ≡ 105 = ap (λ (name : List ℕ). get_or name 0 0) h.0 in absurd (omega (arith, other))
 
 -- What some state switches on is asked for by a flag, and the other lists without it.
 only_possible : (rows : List Row) → HasFlag (codes "any") rows → ((r : PossibleRequest) → Asks (codes "causes") rows (Possible r) → ⊥)
     → AsksNone (codes "causes") rows
-only_possible rows any none = only_causes rows (λ list after h. h.7.0 any) (λ list scans every grouped h. h.8.0 any) (λ list grouping h. h.10.0 any) none
+only_possible rows any none = only_causes rows (λ list after h. h.7.0 any) (λ list scans every grouped h. h.8.0 any) (λ list grouping h. h.10.0 any) none (λ list after grouping h. h.6.0 any)
 
-only_of_one_state : (rows : List Row) → IsOfOneState rows
+only_of_one_state : (rows : List Row) → IsOfOneState rows → (HasFlag (codes "relevant") rows → ⊥)
     → ((list : ListRequest) (after : Option ℕ) → Asks (codes "causes") rows (Causes list after) → ⊥)
     → ((list : ListRequest) (scans every : ℕ) (grouped : Bool) → Asks (codes "causes") rows (Held list scans every grouped) → ⊥)
     → ((list : ListRequest) (grouping : Grouping) → Asks (codes "causes") rows (Groups list grouping) → ⊥)
     → AsksNone (codes "causes") rows
-only_of_one_state rows one_state causes held groups = only_causes rows causes held groups (λ r h. one_state.0 h.1)
+only_of_one_state rows one_state named causes held groups = only_causes rows causes held groups (λ r h. one_state.0 h.1) (λ list after grouping h. named h.1)
 
 -- Which states are meant is said of any state alone.
 pub no_one_state : (rows : List Row) → (HasFlag (codes "any") rows → ⊥) → (NamesNoStates rows → ⊥) → AsksNone (codes "causes") rows
 no_one_state rows not_any none =
     only_causes rows (λ list after h. none (h.7.1, h.7.2)) (λ list scans every grouped h. none (h.8.1, h.8.2)) (λ list grouping h. none (h.10.1, h.10.2)) (λ r h. not_any h.1)
+    (λ list after grouping h. none (h.6.1, h.6.2))
 
 pub only_show : (rows : List Row)
     → ((r : ShowRequest) → Asks (codes "show") rows (Show r) → ⊥)
@@ -141,6 +146,7 @@ only_show rows show film (Causes list after) h = let other = h.0 in cc
 only_show rows show film (Held list scans every grouped) h = let other = h.0 in cc
 only_show rows show film (Groups list grouping) h = let other = h.0 in cc
 only_show rows show film (Possible r) h = let other = h.0 in cc
+only_show rows show film (Relevant list after grouping) h = let other = h.0 in cc
 only_show rows show film (Show r) h = show r h
 only_show rows show film (Film r) h = film r h
 only_show rows show film (Sim r) h = let other = h.0 in cc
@@ -158,6 +164,7 @@ only_sim rows sim waves (Causes list after) h = let other = h.0 in cc
 only_sim rows sim waves (Held list scans every grouped) h = let other = h.0 in cc
 only_sim rows sim waves (Groups list grouping) h = let other = h.0 in cc
 only_sim rows sim waves (Possible r) h = let other = h.0 in cc
+only_sim rows sim waves (Relevant list after grouping) h = let other = h.0 in cc
 only_sim rows sim waves (Show r) h = let other = h.0 in cc
 only_sim rows sim waves (Film r) h = let other = h.0 in cc
 only_sim rows sim waves (Sim r) h = sim r h
@@ -172,6 +179,7 @@ no_uses rows none (Causes list after) h = let other = h.0 in cc
 no_uses rows none (Held list scans every grouped) h = let other = h.0 in cc
 no_uses rows none (Groups list grouping) h = let other = h.0 in cc
 no_uses rows none (Possible r) h = let other = h.0 in cc
+no_uses rows none (Relevant list after grouping) h = let other = h.0 in cc
 no_uses rows none (Show r) h = let other : 117 ≡ 115 = ap (λ (name : List ℕ). get_or name 0 0) h.0 in absurd (omega (arith, other))
 no_uses rows none (Film r) h = let other : 117 ≡ 115 = ap (λ (name : List ℕ). get_or name 0 0) h.0 in absurd (omega (arith, other))
 no_uses rows none (Sim r) h = let other : 117 ≡ 115 = ap (λ (name : List ℕ). get_or name 0 0) h.0 in absurd (omega (arith, other))
@@ -186,6 +194,7 @@ no_import rows none (Causes list after) h = let other : 105 ≡ 99 = name_differ
 no_import rows none (Held list scans every grouped) h = let other : 105 ≡ 99 = name_differs h.0 in absurd (omega (arith, other))
 no_import rows none (Groups list grouping) h = let other : 105 ≡ 99 = name_differs h.0 in absurd (omega (arith, other))
 no_import rows none (Possible r) h = let other : 105 ≡ 99 = name_differs h.0 in absurd (omega (arith, other))
+no_import rows none (Relevant list after grouping) h = let other : 105 ≡ 99 = name_differs h.0 in absurd (omega (arith, other))
 no_import rows none (Show r) h = let other : 105 ≡ 115 = name_differs h.0 in absurd (omega (arith, other))
 no_import rows none (Film r) h = let other : 105 ≡ 115 = name_differs h.0 in absurd (omega (arith, other))
 no_import rows none (Sim r) h = let other : 105 ≡ 115 = name_differs h.0 in absurd (omega (arith, other))
@@ -202,6 +211,7 @@ only_never rows never (Causes list after) h = let other : 110 ≡ 99 = ap (λ (n
 only_never rows never (Held list scans every grouped) h = let other : 110 ≡ 99 = ap (λ (name : List ℕ). get_or name 0 0) h.0 in absurd (omega (arith, other))
 only_never rows never (Groups list grouping) h = let other : 110 ≡ 99 = ap (λ (name : List ℕ). get_or name 0 0) h.0 in absurd (omega (arith, other))
 only_never rows never (Possible r) h = let other : 110 ≡ 99 = ap (λ (name : List ℕ). get_or name 0 0) h.0 in absurd (omega (arith, other))
+only_never rows never (Relevant list after grouping) h = let other : 110 ≡ 99 = ap (λ (name : List ℕ). get_or name 0 0) h.0 in absurd (omega (arith, other))
 only_never rows never (Show r) h = let other : 110 ≡ 115 = ap (λ (name : List ℕ). get_or name 0 0) h.0 in absurd (omega (arith, other))
 only_never rows never (Film r) h = let other : 110 ≡ 115 = ap (λ (name : List ℕ). get_or name 0 0) h.0 in absurd (omega (arith, other))
 only_never rows never (Sim r) h = let other : 110 ≡ 115 = ap (λ (name : List ℕ). get_or name 0 0) h.0 in absurd (omega (arith, other))
@@ -215,9 +225,9 @@ lasts rows scans every (inl h) = (Some (Count scans), h)
 lasts rows scans every (inr h) = (Some (Until h.1.0), (h.0, h.1.1))
 
 -- one scan, or several
-pub no_lasting : (rows : List Row) → IsOfOneState rows → ((o : Option Lasting) → MayLast o rows → ⊥) → AsksNone (codes "causes") rows
-no_lasting rows one_state none =
-    only_of_one_state rows one_state (λ list after h. none None (h.2, h.3)) (λ list scans every grouped h. let l = lasts rows scans every h.4 in none l.0 l.1)
+pub no_lasting : (rows : List Row) → IsOfOneState rows → (HasFlag (codes "relevant") rows → ⊥) → ((o : Option Lasting) → MayLast o rows → ⊥) → AsksNone (codes "causes") rows
+no_lasting rows one_state named none =
+    only_of_one_state rows one_state named (λ list after h. none None (h.2, h.3)) (λ list scans every grouped h. let l = lasts rows scans every h.4 in none l.0 l.1)
     (λ list grouping h. none None (h.4, h.5))
 
 not_several : (rows : List Row) (scans every : ℕ) → MayLast None rows → HasScans scans every rows → ⊥
@@ -225,38 +235,38 @@ not_several rows scans every none (inl h) = let some = h.0.1 in let no = none.0 
 not_several rows scans every none (inr h) = let some = h.1.1.1 in let no = none.1 in cc
 
 -- Without groups a list of one scan has a row for each cause, and no form and order of groups.
-pub no_list_of_grouping : (rows : List Row) → IsOfOneState rows → (HasFlag (codes "grouped") rows → ⊥) → MayLast None rows
+pub no_list_of_grouping : (rows : List Row) → IsOfOneState rows → (HasFlag (codes "relevant") rows → ⊥) → (HasFlag (codes "grouped") rows → ⊥) → MayLast None rows
     → (HasForm Table rows → HasOrder Given rows → ⊥) → AsksNone (codes "causes") rows
-no_list_of_grouping rows one_state single one none =
-    only_of_one_state rows one_state (λ list after h. none h.1.1 h.1.2) (λ list scans every grouped h. not_several rows scans every one h.4) (λ list grouping h. single h.1)
+no_list_of_grouping rows one_state named single one none =
+    only_of_one_state rows one_state named (λ list after h. none h.1.1 h.1.2) (λ list scans every grouped h. not_several rows scans every one h.4) (λ list grouping h. single h.1)
 
 -- One scan has none that follows.
-pub no_list_of_every : (rows : List Row) → IsOfOneState rows → (HasFlag (codes "grouped") rows → ⊥) → MayLast None rows → (HasNumber (codes "every") rows None → ⊥)
+pub no_list_of_every : (rows : List Row) → IsOfOneState rows → (HasFlag (codes "relevant") rows → ⊥) → (HasFlag (codes "grouped") rows → ⊥) → MayLast None rows → (HasNumber (codes "every") rows None → ⊥)
     → AsksNone (codes "causes") rows
-no_list_of_every rows one_state single one none =
-    only_of_one_state rows one_state (λ list after h. none h.4) (λ list scans every grouped h. not_several rows scans every one h.4) (λ list grouping h. single h.1)
+no_list_of_every rows one_state named single one none =
+    only_of_one_state rows one_state named (λ list after h. none h.4) (λ list scans every grouped h. not_several rows scans every one h.4) (λ list grouping h. single h.1)
 
-pub no_list_of_start : (rows : List Row) → IsOfOneState rows → ((o : Option ℕ) → HasNumber (codes "after") rows o → ⊥) → AsksNone (codes "causes") rows
-no_list_of_start rows one_state none =
-    only_of_one_state rows one_state (λ list after h. none after h.5) (λ list scans every grouped h. none None h.6) (λ list grouping h. none None h.7)
+pub no_list_of_start : (rows : List Row) → IsOfOneState rows → (HasFlag (codes "relevant") rows → ⊥) → ((o : Option ℕ) → HasNumber (codes "after") rows o → ⊥) → AsksNone (codes "causes") rows
+no_list_of_start rows one_state named none =
+    only_of_one_state rows one_state named (λ list after h. none after h.5) (λ list scans every grouped h. none None h.6) (λ list grouping h. none None h.7)
 
-pub no_causes_of_list : (rows : List Row) → IsOfOneState rows → ((l : ListRequest) → NamesList rows l → ⊥) → AsksNone (codes "causes") rows
-no_causes_of_list rows one_state none =
-    only_of_one_state rows one_state (λ list after h. none list h.6) (λ list scans every grouped h. none list h.7) (λ list grouping h. none list h.9)
+pub no_causes_of_list : (rows : List Row) → IsOfOneState rows → (HasFlag (codes "relevant") rows → ⊥) → ((l : ListRequest) → NamesList rows l → ⊥) → AsksNone (codes "causes") rows
+no_causes_of_list rows one_state named none =
+    only_of_one_state rows one_state named (λ list after h. none list h.6) (λ list scans every grouped h. none list h.7) (λ list grouping h. none list h.9)
 
 given_at_all : (rows : List Row) (l : Lasting) → HasLasting l rows → HasNumber (codes "scans") rows None → HasNumber (codes "for") rows None → ⊥
 given_at_all rows (Count n) h none no_time = let given = h.0.1 in cc
 given_at_all rows (Until time) h none no_time = let given = h.1.1 in cc
 
 -- several scans, whose list begins after no number
-pub no_held_of_start : (rows : List Row) → IsOfOneState rows → (l : Lasting) → HasLasting l rows → (HasNumber (codes "after") rows None → ⊥) → AsksNone (codes "causes") rows
-no_held_of_start rows one_state l some none =
-    only_of_one_state rows one_state (λ list after h. given_at_all rows l some h.2 h.3) (λ list scans every grouped h. none h.6) (λ list grouping h. none h.7)
+pub no_held_of_start : (rows : List Row) → IsOfOneState rows → (HasFlag (codes "relevant") rows → ⊥) → (l : Lasting) → HasLasting l rows → (HasNumber (codes "after") rows None → ⊥) → AsksNone (codes "causes") rows
+no_held_of_start rows one_state named l some none =
+    only_of_one_state rows one_state named (λ list after h. given_at_all rows l some h.2 h.3) (λ list scans every grouped h. none h.6) (λ list grouping h. none h.7)
 
 -- Their groups have one form, and the inputs the order in which they are listed.
-pub no_held_of_grouping : (rows : List Row) → IsOfOneState rows → (l : Lasting) → HasLasting l rows → (HasForm Table rows → HasOrder Given rows → ⊥) → AsksNone (codes "causes") rows
-no_held_of_grouping rows one_state l some none =
-    only_of_one_state rows one_state (λ list after h. given_at_all rows l some h.2 h.3) (λ list scans every grouped h. none h.2 h.3)
+pub no_held_of_grouping : (rows : List Row) → IsOfOneState rows → (HasFlag (codes "relevant") rows → ⊥) → (l : Lasting) → HasLasting l rows → (HasForm Table rows → HasOrder Given rows → ⊥) → AsksNone (codes "causes") rows
+no_held_of_grouping rows one_state named l some none =
+    only_of_one_state rows one_state named (λ list after h. given_at_all rows l some h.2 h.3) (λ list scans every grouped h. none h.2 h.3)
     (λ list grouping h. given_at_all rows l some h.4 h.5)
 
 pub no_every : (rows : List Row) → ((o : Option ℕ) → HasNumber (codes "every") rows o → ⊥) → (every : ℕ) → HasEvery every rows → ⊥
@@ -264,14 +274,14 @@ no_every rows none every (inl h) = none (Some every) h
 no_every rows none every (inr h) = none None h.0
 
 -- The period is asked for beside several scans alone.
-pub no_held_of_every : (rows : List Row) → IsOfOneState rows → (l : Lasting) → HasLasting l rows → ((every : ℕ) → HasEvery every rows → ⊥) → AsksNone (codes "causes") rows
-no_held_of_every rows one_state l some none =
-    only_of_one_state rows one_state (λ list after h. given_at_all rows l some h.2 h.3) (λ list scans every grouped h. none every h.5)
+pub no_held_of_every : (rows : List Row) → IsOfOneState rows → (HasFlag (codes "relevant") rows → ⊥) → (l : Lasting) → HasLasting l rows → ((every : ℕ) → HasEvery every rows → ⊥) → AsksNone (codes "causes") rows
+no_held_of_every rows one_state named l some none =
+    only_of_one_state rows one_state named (λ list after h. given_at_all rows l some h.2 h.3) (λ list scans every grouped h. none every h.5)
     (λ list grouping h. given_at_all rows l some h.4 h.5)
 
-pub no_groups_of_scan : (rows : List Row) → IsOfOneState rows → HasFlag (codes "grouped") rows → MayLast None rows → (IsOfOneScan rows → ⊥) → AsksNone (codes "causes") rows
-no_groups_of_scan rows one_state grouped one none =
-    only_of_one_state rows one_state (λ list after h. h.1.0 grouped) (λ list scans every held h. not_several rows scans every one h.4)
+pub no_groups_of_scan : (rows : List Row) → IsOfOneState rows → (HasFlag (codes "relevant") rows → ⊥) → HasFlag (codes "grouped") rows → MayLast None rows → (IsOfOneScan rows → ⊥) → AsksNone (codes "causes") rows
+no_groups_of_scan rows one_state named grouped one none =
+    only_of_one_state rows one_state named (λ list after h. h.1.0 grouped) (λ list scans every held h. not_several rows scans every one h.4)
     (λ list grouping h. none (h.4, h.5, h.6, h.7))
 
 -- A statement has no limit, so a list of its groups has none.
@@ -287,18 +297,18 @@ is_whole rows Terms limit may h = tt
 is_whole rows Statement None may h = h
 is_whole rows Statement (Some n) may h = cc
 
-pub no_groups_of_grouping : (rows : List Row) → IsOfOneState rows → HasFlag (codes "grouped") rows → MayLast None rows → ((g : Grouping) → HasGrouping rows g → ⊥)
+pub no_groups_of_grouping : (rows : List Row) → IsOfOneState rows → (HasFlag (codes "relevant") rows → ⊥) → HasFlag (codes "grouped") rows → MayLast None rows → ((g : Grouping) → HasGrouping rows g → ⊥)
     → AsksNone (codes "causes") rows
-no_groups_of_grouping rows one_state grouped one none =
-    only_of_one_state rows one_state (λ list after h. h.1.0 grouped) (λ list scans every held h. not_several rows scans every one h.4)
+no_groups_of_grouping rows one_state named grouped one none =
+    only_of_one_state rows one_state named (λ list after h. h.1.0 grouped) (λ list scans every held h. not_several rows scans every one h.4)
     (λ list grouping h. none grouping (h.2, h.3, is_whole rows grouping.form list.limit h.8 h.9.2))
 
 -- what some state switches on
 pub no_possible_of_bound : (rows : List Row) → HasFlag (codes "any") rows → (IsOfAnyState rows → ⊥) → AsksNone (codes "causes") rows
-no_possible_of_bound rows any none = only_possible rows any (λ r h. none (h.4, h.5, h.6.0, (h.7, h.8, h.9, h.10)))
+no_possible_of_bound rows any none = only_possible rows any (λ r h. none (h.4, h.5, (h.9, h.10, h.11, h.12), h.18))
 
 pub no_possible_of_grouping : (rows : List Row) → HasFlag (codes "any") rows → (HasForm Table rows → HasOrder Given rows → ⊥) → AsksNone (codes "causes") rows
-no_possible_of_grouping rows any none = only_possible rows any (λ r h. none h.6.1 h.6.2)
+no_possible_of_grouping rows any none = only_possible rows any (λ r h. none h.7 h.8)
 
 pub no_possible_of_list : (rows : List Row) → HasFlag (codes "any") rows → ((l : ListRequest) → NamesList rows l → ⊥) → AsksNone (codes "causes") rows
 no_possible_of_list rows any none =
@@ -306,7 +316,54 @@ no_possible_of_list rows any none =
     (λ r h.
     none
     (record { state = None; moment = None; limit = r.limit; quiet = r.quiet; file = r.file; coil = r.coil; all_inputs = r.all_inputs; inputs = r.inputs })
-    (h.4, h.5, h.11, h.12, h.13, h.14, h.15))
+    (h.4, h.5, h.13, h.14, h.15, h.16, h.17))
+
+-- the inputs that matter
+only_relevant : (rows : List Row) → HasFlag (codes "relevant") rows
+    → ((list : ListRequest) (after : Option ℕ) (grouping : Option Grouping) → Asks (codes "causes") rows (Relevant list after grouping) → ⊥)
+    → AsksNone (codes "causes") rows
+only_relevant rows flag none = only_causes rows (λ list after h. h.8 flag) (λ list scans every grouped h. h.9 flag) (λ list grouping h. h.11 flag) (λ r h. h.18 flag) none
+
+pub no_relevant_of_inputs : (rows : List Row) → HasFlag (codes "relevant") rows → (HasInputs rows false [] → ⊥) → AsksNone (codes "causes") rows
+no_relevant_of_inputs rows flag none = only_relevant rows flag (λ list after grouping h. none h.2)
+
+pub no_relevant_of_scans : (rows : List Row) → HasFlag (codes "relevant") rows → (IsSingle rows → ⊥) → AsksNone (codes "causes") rows
+no_relevant_of_scans rows flag none = only_relevant rows flag (λ list after grouping h. none h.3)
+
+pub no_relevant_of_list : (rows : List Row) → HasFlag (codes "relevant") rows → ((l : ListRequest) → NamesList rows l → ⊥) → AsksNone (codes "causes") rows
+no_relevant_of_list rows flag none = only_relevant rows flag (λ list after grouping h. none list h.5)
+
+without_groups : (rows : List Row) → (HasFlag (codes "grouped") rows → ⊥) → (P : Type 0) → (limit after : Option ℕ) (grouping : Option Grouping) → MayGroup rows limit after grouping
+    → (IsTable rows → HasNumber (codes "after") rows after → P) → P
+without_groups rows single P limit after None h k = k h.0 h.1
+without_groups rows single P limit after (Some g) h k = absurd (single h.0)
+
+with_groups : (rows : List Row) → HasFlag (codes "grouped") rows → (P : Type 0) → (limit after : Option ℕ) (grouping : Option Grouping) → MayGroup rows limit after grouping
+    → ((g : Grouping) → HasForm g.form rows → HasOrder g.order rows → HasNumber (codes "after") rows None → MayHaveLimit g.form limit → P) → P
+with_groups rows grouped P limit after None h k = absurd (h.0.0 grouped)
+with_groups rows grouped P limit after (Some g) h k = k g h.1 h.2 (subst (λ (o : Option ℕ). HasNumber (codes "after") rows o) h.3 h.4) h.5
+
+pub no_relevant_of_grouping : (rows : List Row) → HasFlag (codes "relevant") rows → (HasFlag (codes "grouped") rows → ⊥) → (HasForm Table rows → HasOrder Given rows → ⊥)
+    → AsksNone (codes "causes") rows
+no_relevant_of_grouping rows flag single none =
+    only_relevant rows flag (λ list after grouping h. without_groups rows single ⊥ list.limit after grouping h.4 (λ table start. none table.1 table.2))
+
+pub no_relevant_of_start : (rows : List Row) → HasFlag (codes "relevant") rows → (HasFlag (codes "grouped") rows → ⊥) → ((o : Option ℕ) → HasNumber (codes "after") rows o → ⊥)
+    → AsksNone (codes "causes") rows
+no_relevant_of_start rows flag single none =
+    only_relevant rows flag (λ list after grouping h. without_groups rows single ⊥ list.limit after grouping h.4 (λ table start. none after start))
+
+pub no_relevant_groups_of_start : (rows : List Row) → HasFlag (codes "relevant") rows → HasFlag (codes "grouped") rows → (HasNumber (codes "after") rows None → ⊥)
+    → AsksNone (codes "causes") rows
+no_relevant_groups_of_start rows flag grouped none =
+    only_relevant rows flag (λ list after grouping h. with_groups rows grouped ⊥ list.limit after grouping h.4 (λ g form order start limit. none start))
+
+pub no_relevant_groups_of_grouping : (rows : List Row) → HasFlag (codes "relevant") rows → HasFlag (codes "grouped") rows → ((g : Grouping) → HasGrouping rows g → ⊥)
+    → AsksNone (codes "causes") rows
+no_relevant_groups_of_grouping rows flag grouped none =
+    only_relevant rows flag
+    (λ list after grouping h.
+    with_groups rows grouped ⊥ list.limit after grouping h.4 (λ g form order start limit. none g (form, order, is_whole rows g.form list.limit limit h.5.2)))
 
 -- One form is asked for.
 one_form : (rows : List Row) (a b : Form) → HasForm a rows → HasForm b rows → a ≡ b

@@ -10,6 +10,7 @@ use Rattle.ladder_words.specs.declared.words.Lasting.{Lasting}
 use Rattle.ladder_words.specs.declared.words.Lasting.TheVariants.{Count, Until}
 use Rattle.ladder_words.specs.declared.request.Form.{Form}
 use Rattle.ladder_words.specs.declared.request.Form.TheVariants.{Statement, Table, Terms}
+use Rattle.ladder_words.specs.declared.request.Grouping.{Grouping}
 use Rattle.ladder_words.specs.declared.request.InputOrder.{InputOrder}
 use Rattle.ladder_words.specs.declared.request.InputOrder.TheVariants.{Given, Sifted}
 use Rattle.ladder_words.specs.declared.request.Medium.{Medium}
@@ -17,7 +18,7 @@ use Rattle.ladder_words.specs.declared.request.Medium.TheVariants as medium
 use Rattle.ladder_words.specs.declared.request.CommandLine.{CommandLine}
 use Rattle.ladder_words.specs.declared.request.ListRequest.{ListRequest}
 use Rattle.ladder_words.specs.declared.request.Request.{Request}
-use Rattle.ladder_words.specs.declared.request.Request.TheVariants.{Causes, Check, Film, Groups, Held, Import, Never, Possible, Show, Sim, Uses, Waves}
+use Rattle.ladder_words.specs.declared.request.Request.TheVariants.{Causes, Check, Film, Groups, Held, Import, Never, Possible, Relevant, Show, Sim, Uses, Waves}
 use Rattle.ladder_words.specs.declared.request.Task.{Task}
 use Rattle.ladder_words.specs.declared.request.Task.TheVariants.{Explain, Perform}
 
@@ -112,6 +113,20 @@ NamesList rows l = HasOption (codes "state") rows (option_map string_bytes l.sta
     × HasText (codes "coil") rows (string_bytes l.coil)
     × HasInputs rows l.all_inputs (map string_bytes l.inputs.items)
 
+-- No scan follows the first one.
+abbrev pub IsSingle : List Row → Type 0
+IsSingle rows = HasNumber (codes "scans") rows None × HasNumber (codes "for") rows None × HasNumber (codes "every") rows None
+
+-- Each cause has a row of its own, after a number where there is one, or they are in groups.
+abbrev pub MayGroup : List Row → Option ℕ → Option ℕ → Option Grouping → Type 0
+MayGroup rows limit after None = IsTable rows × HasNumber (codes "after") rows after
+MayGroup rows limit after (Some g) = HasFlag (codes "grouped") rows
+    × HasForm g.form rows
+    × HasOrder g.order rows
+    × (after ≡ None)
+    × HasNumber (codes "after") rows after
+    × MayHaveLimit g.form limit
+
 -- the request is what the subcommand's name and values say
 abbrev pub Asks : Text → List Row → Request → Type 0
 Asks name rows (Check file warns) = (name ≡ codes "check") × HasText (codes "file") rows (string_bytes file) × HasSwitch (codes "warn") rows warns
@@ -123,6 +138,7 @@ Asks name rows (Causes list after) = (name ≡ codes "causes")
     × HasNumber (codes "after") rows after
     × NamesList rows list
     × IsOfOneState rows
+    × (HasFlag (codes "relevant") rows → ⊥)
 Asks name rows (Held list scans every grouped) = (name ≡ codes "causes")
     × HasSwitch (codes "grouped") rows grouped
     × HasForm Table rows
@@ -132,6 +148,7 @@ Asks name rows (Held list scans every grouped) = (name ≡ codes "causes")
     × HasNumber (codes "after") rows None
     × NamesList rows list
     × IsOfOneState rows
+    × (HasFlag (codes "relevant") rows → ⊥)
 Asks name rows (Groups list grouping) = (name ≡ codes "causes")
     × HasFlag (codes "grouped") rows
     × HasForm grouping.form rows
@@ -143,13 +160,16 @@ Asks name rows (Groups list grouping) = (name ≡ codes "causes")
     × MayHaveLimit grouping.form list.limit
     × NamesList rows list
     × IsOfOneState rows
+    × (HasFlag (codes "relevant") rows → ⊥)
 Asks name rows (Possible r) = (name ≡ codes "causes")
     × HasFlag (codes "any") rows
     × HasSwitch (codes "off") rows r.off
     × HasSwitch (codes "must") rows r.must
     × HasOption (codes "state") rows None
     × HasNumber (codes "at") rows None
-    × IsTable rows
+    × HasSwitch (codes "grouped") rows r.grouped
+    × HasForm Table rows
+    × HasOrder Given rows
     × HasNumber (codes "scans") rows None
     × HasNumber (codes "for") rows None
     × HasNumber (codes "every") rows None
@@ -159,6 +179,14 @@ Asks name rows (Possible r) = (name ≡ codes "causes")
     × HasText (codes "file") rows (string_bytes r.file)
     × HasText (codes "coil") rows (string_bytes r.coil)
     × HasInputs rows r.all_inputs (map string_bytes r.inputs.items)
+    × (HasFlag (codes "relevant") rows → ⊥)
+Asks name rows (Relevant list after grouping) = (name ≡ codes "causes")
+    × HasFlag (codes "relevant") rows
+    × HasInputs rows false []
+    × IsSingle rows
+    × MayGroup rows list.limit after grouping
+    × NamesList rows list
+    × IsOfOneState rows
 Asks name rows (Never r) = (name ≡ codes "never")
     × HasOption (codes "state") rows (option_map string_bytes r.state)
     × HasSwitch (codes "quiet") rows r.quiet

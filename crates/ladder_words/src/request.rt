@@ -68,6 +68,8 @@ pub struct PossibleRequest {
     pub off: bool,
     /// Whether every state that counts is to leave the coil ON, in place of some one.
     pub must: bool,
+    /// Whether rows are those of groups, with the inputs that don't matter in each.
+    pub grouped: bool,
     /// How many rows are written at most.
     pub limit: Option<u64>,
     /// Whether the line of counts is left out.
@@ -184,6 +186,14 @@ pub enum Request {
         list: ListRequest,
         /// Which groups, and how they are written.
         grouping: Grouping,
+    },
+    /// The causes of a coil over the inputs that matter to it, in groups where these are asked for; no input is named.
+    Relevant {
+        list: ListRequest,
+        /// The number to begin after, where there are no groups.
+        after: Option<u64>,
+        /// Which groups, and how they are written.
+        grouping: Option<Grouping>,
     },
     /// What happens from any state: the assignments of the listed inputs with which some state, or every one, leaves a coil ON, at any moment.
     Possible(PossibleRequest),

@@ -6,7 +6,7 @@ ghost use Rattle.clap.specs.Words.{Row, Text, all_of, first_of, found_of, kind_o
 ghost use Rattle.clap.specs.Words.{fault_of as clap_fault};
 ghost use Rattle.ladder_command.specs.CommandLine.{ladder_app};
 ghost use Rattle.ladder_pages.specs.Pages.{is_fault_code};
-ghost use Rattle.ladder_words.specs.Asking.{Asks, AsksBy, AsksNone, HasNoTask, HasTask, HasEvery, HasFlag, HasForm, HasInputs, HasLasting, HasMedium, HasNumber, HasOrder, HasOption, HasSwitch, IsNamed, IsOfOneState, IsTable, MayHaveLimit, NamesList, HasScans, Says, scans_until};
+ghost use Rattle.ladder_words.specs.Asking.{Asks, AsksBy, AsksNone, HasNoTask, HasTask, HasEvery, HasFlag, HasForm, HasInputs, HasLasting, HasMedium, HasNumber, HasOrder, HasOption, HasSwitch, IsNamed, IsOfOneState, IsSingle, IsTable, MayHaveLimit, NamesList, HasScans, Says, scans_until};
 ghost use Rattle.ladder_words.specs.Parts.{HasGrouping, HasSources, IsOfAnyState, IsOfOneScan, IsOfRecords, IsWhole, MayLast, NamesNoStates, NamesScan, Plays};
 ghost use Rattle.ladder_words.specs.Faults.{IsFaultOf, SaysOf, UsageWhere};
 
@@ -29,7 +29,7 @@ const EVERY: u64 = 10;
 ///
 /// `Mistake` where `clap` finds a fault other than that help is asked for, with what it says of it, or `Usage` when there is no memory for that; `Usage` where a fault has none of the named codes, where groups of one scan or a list over several scans are to begin after a
 /// number, where a time between scans is asked for without several scans, several scans by their number and by a time, where a form or the order `auto` is asked for without groups of one scan in one state, or both forms, or a statement with a limit, or an order that has another name, where
-/// inputs are named beside all of them, where any state is asked of and a state, a moment, a number to begin after, several scans, a time between scans, groups, a form or the order `auto` is named as well, where it is said which states count and any state isn't asked of, where a stimulus is to be shown with a moment, a number or listed inputs, or a waveform to be written with a saved state, and nowhere else; `Help` with its text where help is asked for; `Memory` when out of memory.
+/// inputs are named beside all of them, where those that matter are asked for and others are listed, or several scans or any state are asked of, where any state is asked of and a state, a moment, a number to begin after, several scans, a time between scans, a form or the order `auto` is named as well, where it is said which states count and any state isn't asked of, where a stimulus is to be shown with a moment, a number or listed inputs, or a waveform to be written with a saved state, and nowhere else; `Help` with its text where help is asked for; `Memory` when out of memory.
 pub fn read_words(alloc: Global, words: Vec<String>) -> Result<Task, WordFault>
     ensures asks { IfOk result (AsksBy ladder_app (map string_bytes words.items)) }
 
@@ -176,6 +176,9 @@ fn causes_request(alloc: Global, found: &ArgMatches<'_>) -> Result<Request, Word
     if names_states(found) {
         return Err(WordFault::Usage);
     }
+    if is_set(found, "relevant") {
+        return relevant_request(alloc, found);
+    }
     one_state_request(alloc, found)
 }
 
@@ -189,6 +192,7 @@ fn names_states(found: &ArgMatches<'_>) -> bool
 
 fn one_state_request(alloc: Global, found: &ArgMatches<'_>) -> Result<Request, WordFault>
     requires one_state { IsOfOneState (rows_of (found_of found.now)) }
+    requires named { HasFlag (codes "relevant") (rows_of (found_of found.now)) → ⊥ }
     ensures ok { IfOk result (Asks (codes "causes") (rows_of (found_of found.now))) }
     ensures err { IfErr result (UsageWhere (AsksNone (codes "causes") (rows_of (found_of found.now)))) }
 {
@@ -200,6 +204,7 @@ fn one_state_request(alloc: Global, found: &ArgMatches<'_>) -> Result<Request, W
 
 fn one_scan_request(alloc: Global, found: &ArgMatches<'_>) -> Result<Request, WordFault>
     requires one_state { IsOfOneState (rows_of (found_of found.now)) }
+    requires named { HasFlag (codes "relevant") (rows_of (found_of found.now)) → ⊥ }
     requires lasting { MayLast None (rows_of (found_of found.now)) }
     ensures ok { IfOk result (Asks (codes "causes") (rows_of (found_of found.now))) }
     ensures err { IfErr result (UsageWhere (AsksNone (codes "causes") (rows_of (found_of found.now)))) }
@@ -222,6 +227,7 @@ fn possible_request(alloc: Global, found: &ArgMatches<'_>) -> Result<Request, Wo
     refuse_grouping(found)?;
     let off = is_set(found, "off");
     let must = is_set(found, "must");
+    let grouped = is_set(found, "grouped");
     let ListRequest {
         limit,
         quiet,
@@ -234,6 +240,7 @@ fn possible_request(alloc: Global, found: &ArgMatches<'_>) -> Result<Request, Wo
     Ok(Request::Possible(PossibleRequest {
         off,
         must,
+        grouped,
         limit,
         quiet,
         file,
@@ -243,15 +250,15 @@ fn possible_request(alloc: Global, found: &ArgMatches<'_>) -> Result<Request, Wo
     }))
 }
 
-/// Whether a state, a moment, groups, several scans or a number to begin after are asked for.
+/// Whether a state, a moment, several scans, a number to begin after or the inputs that matter in one state are asked for.
 fn is_bound(found: &ArgMatches<'_>) -> bool
     ensures none { result ≡ false → IsOfAnyState (rows_of (found_of found.now)) }
     ensures some { result ≡ true → IsOfAnyState (rows_of (found_of found.now)) → ⊥ }
 {
     is_given(found, "state")
         || is_given(found, "at")
-        || is_set(found, "grouped")
         || is_counted(found)
+        || is_set(found, "relevant")
 }
 
 /// A form and an order are those of the groups of one scan in one state.
@@ -311,6 +318,7 @@ fn count(lasting: Lasting, every: u64) -> u64
 
 fn list_request(alloc: Global, found: &ArgMatches<'_>) -> Result<Request, WordFault>
     requires one_state { IsOfOneState (rows_of (found_of found.now)) }
+    requires named { HasFlag (codes "relevant") (rows_of (found_of found.now)) → ⊥ }
     requires single { HasFlag (codes "grouped") (rows_of (found_of found.now)) → ⊥ }
     requires lasting { MayLast None (rows_of (found_of found.now)) }
     ensures ok { IfOk result (Asks (codes "causes") (rows_of (found_of found.now))) }
@@ -332,6 +340,7 @@ fn held_request(
     lasting: Lasting,
 ) -> Result<Request, WordFault>
     requires one_state { IsOfOneState (rows_of (found_of found.now)) }
+    requires named { HasFlag (codes "relevant") (rows_of (found_of found.now)) → ⊥ }
     requires lasting { HasLasting lasting (rows_of (found_of found.now)) }
     ensures ok { IfOk result (Asks (codes "causes") (rows_of (found_of found.now))) }
     ensures err { IfErr result (UsageWhere (AsksNone (codes "causes") (rows_of (found_of found.now)))) }
@@ -363,6 +372,7 @@ fn every_of(found: &ArgMatches<'_>) -> Result<u64, WordFault>
 
 fn groups_request(alloc: Global, found: &ArgMatches<'_>) -> Result<Request, WordFault>
     requires one_state { IsOfOneState (rows_of (found_of found.now)) }
+    requires named { HasFlag (codes "relevant") (rows_of (found_of found.now)) → ⊥ }
     requires grouped { HasFlag (codes "grouped") (rows_of (found_of found.now)) }
     requires lasting { MayLast None (rows_of (found_of found.now)) }
     ensures ok { IfOk result (Asks (codes "causes") (rows_of (found_of found.now))) }
@@ -375,6 +385,63 @@ fn groups_request(alloc: Global, found: &ArgMatches<'_>) -> Result<Request, Word
     let grouping = grouping_of(found)?;
     let list = list_of(alloc, found)?;
     Ok(Request::Groups { list, grouping })
+}
+
+fn relevant_request(alloc: Global, found: &ArgMatches<'_>) -> Result<Request, WordFault>
+    requires one_state { IsOfOneState (rows_of (found_of found.now)) }
+    requires relevant { HasFlag (codes "relevant") (rows_of (found_of found.now)) }
+    ensures ok { IfOk result (Asks (codes "causes") (rows_of (found_of found.now))) }
+    ensures err { IfErr result (UsageWhere (AsksNone (codes "causes") (rows_of (found_of found.now)))) }
+{
+    // The inputs are found.
+    if lists_inputs(found) {
+        return Err(WordFault::Usage);
+    }
+    // They are those that matter in one scan.
+    if is_repeated(found) {
+        return Err(WordFault::Usage);
+    }
+    if is_set(found, "grouped") {
+        return relevant_groups(alloc, found);
+    }
+    refuse_grouping(found)?;
+    let start = number(found, "after")?;
+    let list = list_of(alloc, found)?;
+    Ok(Request::Relevant {
+        list,
+        after: start,
+        grouping: None,
+    })
+}
+
+fn relevant_groups(alloc: Global, found: &ArgMatches<'_>) -> Result<Request, WordFault>
+    requires one_state { IsOfOneState (rows_of (found_of found.now)) }
+    requires relevant { HasFlag (codes "relevant") (rows_of (found_of found.now)) }
+    requires inputs { HasInputs (rows_of (found_of found.now)) false [] }
+    requires single { IsSingle (rows_of (found_of found.now)) }
+    requires grouped { HasFlag (codes "grouped") (rows_of (found_of found.now)) }
+    ensures ok { IfOk result (Asks (codes "causes") (rows_of (found_of found.now))) }
+    ensures err { IfErr result (UsageWhere (AsksNone (codes "causes") (rows_of (found_of found.now)))) }
+{
+    // A group has no number, so there is none to begin after.
+    if is_given(found, "after") {
+        return Err(WordFault::Usage);
+    }
+    let grouping = grouping_of(found)?;
+    let list = list_of(alloc, found)?;
+    Ok(Request::Relevant {
+        list,
+        after: None,
+        grouping: Some(grouping),
+    })
+}
+
+/// Whether several scans are asked for.
+fn is_repeated(found: &ArgMatches<'_>) -> bool
+    ensures one { result ≡ false → IsSingle (rows_of (found_of found.now)) }
+    ensures several { result ≡ true → IsSingle (rows_of (found_of found.now)) → ⊥ }
+{
+    is_given(found, "scans") || is_given(found, "for") || is_given(found, "every")
 }
 
 /// Whether several scans are asked for, or a number to begin after.

@@ -14,7 +14,7 @@ returns-in-Err-clause-failed g c = λ save status.
     let asked = question_of c.args.asked.now in
     inl (record {
       reason = fault.Cause c.in-Err.fault;
-      has = inr (inr (asked, c.requires.asked, cause_fault (refusal asked None) c.in-Err.fault c.in-Err.ensures.refused));
+      has = cause_fault (refusal asked None) c.in-Err.fault c.in-Err.ensures.refused;
       unwritten = refl {a = g.O.Sink.log c.args.out.now};
       unsaved = refl {a = save};
       reported = c.report.ensures.line;
@@ -30,7 +30,7 @@ returns-in-Err-new-clause-failed g c = λ save status.
     let refused = sym (ordered_refusal c.orders.ensures.permutation c.orders.ensures.refused c.args.how.order asked) ∙ ap (λ (x : Question). refusal x None) (sym order) in
     inl (record {
       reason = fault.Cause c.in-Err-new.fault;
-      has = inr (inr (asked, c.requires.asked, cause_fault (refusal asked None) c.in-Err-new.fault (refused ∙ c.in-Err-new.ensures.refused)));
+      has = cause_fault (refusal asked None) c.in-Err-new.fault (refused ∙ c.in-Err-new.ensures.refused);
       unwritten = refl {a = g.O.Sink.log c.args.out.now};
       unsaved = refl {a = save};
       reported = c.report-in-Err-new.ensures.line;
@@ -47,8 +47,6 @@ returns-in_default-clause-failed g c = λ save status.
     let made = c.in-Ok-new.ensures in
     inr (inl ((
       record {
-        question = asked;
-        asked = c.requires.asked;
         accepted = refused ∙ made.accepted;
         rows = prefix_same _ _ _ _ (ordered_groups c.args.request.now c.args.how.order q asked order c.in-Ok-new.cursor made.rows c.form_of-form.result c.args.how.form c.form_of-form.ensures made.program made.listed) c.in_default.ensures.bytes;
       },
@@ -67,8 +65,6 @@ returns-in_default-put_counts-clause-failed g c = λ save status.
     let w = c.in-Ok-written in
     inr (inr (record {
       list = record {
-        question = asked;
-        asked = c.requires.asked;
         accepted = refused ∙ made.accepted;
         rows = all_same _ _ _ _ (ordered_groups c.args.request.now c.args.how.order q asked order c.in-Ok-new.cursor made.rows c.form_of-form.result c.args.how.form c.form_of-form.ensures made.program made.listed) w.ensures.bytes;
       };
@@ -87,8 +83,6 @@ returns-clause-done g c = λ status.
     let w = c.in-Ok-written in
     record {
       list = record {
-        question = asked;
-        asked = c.requires.asked;
         accepted = refused ∙ made.accepted;
         rows = all_same _ _ _ _ (ordered_groups c.args.request.now c.args.how.order q asked order c.in-Ok-new.cursor made.rows c.form_of-form.result c.args.how.form c.form_of-form.ensures made.program made.listed) w.ensures.bytes;
       };

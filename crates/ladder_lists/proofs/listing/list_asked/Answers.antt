@@ -2,9 +2,10 @@ use Rattle.std.proofs.Common.{◌∙◌, refl, inl, inr}
 use Rattle.ladder_questions.specs.Causes.{question}
 use Rattle.ladder_questions.specs.Refusal.{refusal}
 use Rattle.ladder_setting.specs.declared.fault.ToolFault.TheVariants as fault
-use Rattle.ladder_setting.specs.Setting.{given_by}
+use Rattle.ladder_setting.specs.Reports.{HasCauseFault}
 use Rattle.ladder_setting.proofs.Ends.{all_same, cause_fault, prefix_same}
-use Rattle.ladder_lists.proofs.Endings.{asked_of, line_is, text_is}
+use Rattle.ladder_lists.specs.Lists.{CountsOf, ListsOf}
+use Rattle.ladder_lists.proofs.Endings.{line_is, of_listed, text_is}
 use Rattle.ladder_lists.proofs.listing.list_asked.Goals as goal
 
 pub returns-in-Err-clause-failed : goal.returns-in-Err-clause-failed
@@ -13,11 +14,8 @@ returns-in-Err-clause-failed g c = λ save status.
     let q = question a.program a.state a.moment a.coil c.deref.result.now in
     inl (record {
       reason = fault.Cause c.in-Err.fault;
-      has = inr (inr (
-        q,
-        asked_of (given_by c.args.texts.now) c.args.request.now a c.deref.result.now c.deref.ensures.value c.requires.asked,
-        cause_fault (refusal q c.args.after) c.in-Err.fault c.in-Err.ensures.refused,
-      ));
+      has = of_listed (λ x. HasCauseFault (refusal x c.args.after) (fault.Cause c.in-Err.fault)) a c.deref.result.now c.deref.ensures.value
+          (cause_fault (refusal q c.args.after) c.in-Err.fault c.in-Err.ensures.refused);
       unwritten = refl {a = g.O.Sink.log c.args.out.now};
       unsaved = refl {a = save};
       reported = c.report.ensures.line;
@@ -30,12 +28,10 @@ returns-in_default-clause-failed g c = λ save status.
     let q = question a.program a.state a.moment a.coil c.deref.result.now in
     let made = c.in-Ok.ensures in
     inr (inl ((
-      record {
-        question = q;
-        asked = asked_of (given_by c.args.texts.now) r a c.deref.result.now c.deref.ensures.value c.requires.asked;
+      of_listed (λ x. ListsOf x r c.args.after _) a c.deref.result.now c.deref.ensures.value (record {
         accepted = made.accepted;
         rows = prefix_same _ _ _ _ (text_is r c.args.after q c.in-Ok.cursor made.program made.listed made.rest) c.in_default.ensures.bytes;
-      },
+      }),
       c.report-in_default.ensures.line,
     )))
 
@@ -46,15 +42,13 @@ returns-in_default-put_rows-clause-failed g c = λ save status.
     let q = question a.program a.state a.moment a.coil c.deref.result.now in
     let made = c.in-Ok.ensures in
     let w = c.in-Ok-written in
-    inr (inr (record {
+    inr (inr (of_listed (λ x. CountsOf x r c.args.after _ _ _) a c.deref.result.now c.deref.ensures.value (record {
       list = record {
-        question = q;
-        asked = asked_of (given_by c.args.texts.now) r a c.deref.result.now c.deref.ensures.value c.requires.asked;
         accepted = made.accepted;
         rows = all_same _ _ _ _ (text_is r c.args.after q c.in-Ok.cursor made.program made.listed made.rest) w.ensures.bytes;
       };
       count = prefix_same _ _ _ _ (line_is r c.args.after q c.in-Ok.cursor made.program made.listed made.rest w.summary.rows w.summary.looks made.search made.looks w.ensures.rows (w.ensures.looks ∙ w.ensures.counted)) c.in_default-put_rows.ensures;
-    }))
+    })))
 
 pub returns-clause-done : goal.returns-clause-done
 returns-clause-done g c = λ status.
@@ -63,12 +57,10 @@ returns-clause-done g c = λ status.
     let q = question a.program a.state a.moment a.coil c.deref.result.now in
     let made = c.in-Ok.ensures in
     let w = c.in-Ok-written in
-    record {
+    of_listed (λ x. CountsOf x r c.args.after _ _ _) a c.deref.result.now c.deref.ensures.value (record {
       list = record {
-        question = q;
-        asked = asked_of (given_by c.args.texts.now) r a c.deref.result.now c.deref.ensures.value c.requires.asked;
         accepted = made.accepted;
         rows = all_same _ _ _ _ (text_is r c.args.after q c.in-Ok.cursor made.program made.listed made.rest) w.ensures.bytes;
       };
       count = all_same _ _ _ _ (line_is r c.args.after q c.in-Ok.cursor made.program made.listed made.rest w.summary.rows w.summary.looks made.search made.looks w.ensures.rows (w.ensures.looks ∙ w.ensures.counted)) c.in-Ok-put_rows.ensures;
-    }
+    })

@@ -1,0 +1,47 @@
+-- From what is asked to how the request ends that asks it.
+use Rattle.std.proofs.Common.{◌≡◌, ◌⊎◌, List, ℕ, Option, inl, inr, refl}
+use Rattle.std.specs.Prelude.{None}
+use Rattle.ladder_questions.specs.Causes.{Question}
+use Rattle.ladder_questions.specs.Refusal.{refusal}
+use Rattle.ladder_text.specs.Log.{WriteLog}
+use Rattle.ladder_setting.specs.declared.fault.ToolFault.{ToolFault}
+use Rattle.ladder_setting.specs.Reports.{HasCauseFault, Logs, Refuses}
+use Rattle.ladder_setting.specs.Setting.{Given}
+use Rattle.ladder_words.specs.declared.request.Grouping.{Grouping}
+use Rattle.ladder_words.specs.declared.request.ListRequest.{ListRequest}
+use Rattle.ladder_lists.specs.Lists.{BreaksGroups, BreaksGroupsOf, BreaksList, BreaksOf, CountsGroups, CountsList, CountsOf, GroupCountsOf, GroupsOf, HasListFault, IsAsked, ListsOf}
+
+-- a refusal for another way to say the same
+pub refuses_as : (g : Given) (P Q : ToolFault → Type 0) (old new : Logs) → ((f : ToolFault) → P f → Q f) → Refuses g P old new → Refuses g Q old new
+refuses_as g P Q old new f h =
+    record { reason = h.reason; has = f h.reason h.has; unwritten = h.unwritten; unsaved = h.unsaved; reported = h.reported }
+
+pub counts_list : (g : Given) (r : ListRequest) (after : Option ℕ) (q : Question) (out out' : WriteLog) (C : List ℕ → Type 0) → IsAsked g r q
+    → CountsOf q r after out out' C → CountsList g r after out out' C
+counts_list g r after q out out' C asked h =
+    record { list = record { question = q; asked = asked; accepted = h.list.accepted; rows = h.list.rows }; count = h.count }
+
+pub breaks_list : (g : Given) (r : ListRequest) (after : Option ℕ) (q : Question) (old new : Logs) → IsAsked g r q → BreaksOf g q r after old new
+    → BreaksList g r after old new
+breaks_list g r after q old new asked (inl h) = inl (record { question = q; asked = asked; accepted = h.0.accepted; rows = h.0.rows }, h.1)
+breaks_list g r after q old new asked (inr h) = inr (counts_list g r after q _ _ _ asked h)
+
+pub list_failed : (g : Given) (r : ListRequest) (after : Option ℕ) (q : Question) (old new : Logs) → IsAsked g r q
+    → Refuses g (HasCauseFault (refusal q after)) old new ⊎ BreaksOf g q r after old new → Refuses g (HasListFault g r after) old new ⊎ BreaksList g r after old new
+list_failed g r after q old new asked (inl h) = inl (refuses_as g _ _ old new (λ f has. inr (inr (q, asked, has))) h)
+list_failed g r after q old new asked (inr h) = inr (breaks_list g r after q old new asked h)
+
+pub counts_groups : (g : Given) (r : ListRequest) (how : Grouping) (q : Question) (out out' : WriteLog) (C : List ℕ → Type 0) → IsAsked g r q
+    → GroupCountsOf q r how out out' C → CountsGroups g r how out out' C
+counts_groups g r how q out out' C asked h =
+    record { list = record { question = q; asked = asked; accepted = h.list.accepted; rows = h.list.rows }; count = h.count }
+
+pub breaks_groups : (g : Given) (r : ListRequest) (how : Grouping) (q : Question) (old new : Logs) → IsAsked g r q → BreaksGroupsOf g q r how old new
+    → BreaksGroups g r how old new
+breaks_groups g r how q old new asked (inl h) = inl (record { question = q; asked = asked; accepted = h.0.accepted; rows = h.0.rows }, h.1)
+breaks_groups g r how q old new asked (inr h) = inr (counts_groups g r how q _ _ _ asked h)
+
+pub groups_failed : (g : Given) (r : ListRequest) (how : Grouping) (q : Question) (old new : Logs) → IsAsked g r q
+    → Refuses g (HasCauseFault (refusal q None)) old new ⊎ BreaksGroupsOf g q r how old new → Refuses g (HasListFault g r None) old new ⊎ BreaksGroups g r how old new
+groups_failed g r how q old new asked (inl h) = inl (refuses_as g _ _ old new (λ f has. inr (inr (q, asked, has))) h)
+groups_failed g r how q old new asked (inr h) = inr (breaks_groups g r how q old new asked h)

@@ -1,0 +1,2 @@
+pub mod Relevant
+pub mod Looking

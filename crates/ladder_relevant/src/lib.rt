@@ -1,0 +1,6 @@
+//! Which inputs matter to a coil in one scan.
+#![tactic(auto)]
+
+mod relevant;
+
+pub use relevant::relevant_inputs;
