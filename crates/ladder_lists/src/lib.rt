@@ -8,6 +8,7 @@ mod holding;
 mod listing;
 mod never;
 mod possible;
+mod possible_grouping;
 
 pub use grouping::list_groups;
 pub use holding::list_held;

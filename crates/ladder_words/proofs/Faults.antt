@@ -295,10 +295,10 @@ no_groups_of_grouping rows one_state grouped one none =
 
 -- what some state switches on
 pub no_possible_of_bound : (rows : List Row) → HasFlag (codes "any") rows → (IsOfAnyState rows → ⊥) → AsksNone (codes "causes") rows
-no_possible_of_bound rows any none = only_possible rows any (λ r h. none (h.4, h.5, h.6.0, (h.7, h.8, h.9, h.10)))
+no_possible_of_bound rows any none = only_possible rows any (λ r h. none (h.4, h.5, (h.9, h.10, h.11, h.12)))
 
 pub no_possible_of_grouping : (rows : List Row) → HasFlag (codes "any") rows → (HasForm Table rows → HasOrder Given rows → ⊥) → AsksNone (codes "causes") rows
-no_possible_of_grouping rows any none = only_possible rows any (λ r h. none h.6.1 h.6.2)
+no_possible_of_grouping rows any none = only_possible rows any (λ r h. none h.7 h.8)
 
 pub no_possible_of_list : (rows : List Row) → HasFlag (codes "any") rows → ((l : ListRequest) → NamesList rows l → ⊥) → AsksNone (codes "causes") rows
 no_possible_of_list rows any none =
@@ -306,7 +306,7 @@ no_possible_of_list rows any none =
     (λ r h.
     none
     (record { state = None; moment = None; limit = r.limit; quiet = r.quiet; file = r.file; coil = r.coil; all_inputs = r.all_inputs; inputs = r.inputs })
-    (h.4, h.5, h.11, h.12, h.13, h.14, h.15))
+    (h.4, h.5, h.13, h.14, h.15, h.16, h.17))
 
 -- One form is asked for.
 one_form : (rows : List Row) (a b : Form) → HasForm a rows → HasForm b rows → a ≡ b

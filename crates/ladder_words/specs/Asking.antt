@@ -149,7 +149,9 @@ Asks name rows (Possible r) = (name ≡ codes "causes")
     × HasSwitch (codes "must") rows r.must
     × HasOption (codes "state") rows None
     × HasNumber (codes "at") rows None
-    × IsTable rows
+    × HasSwitch (codes "grouped") rows r.grouped
+    × HasForm Table rows
+    × HasOrder Given rows
     × HasNumber (codes "scans") rows None
     × HasNumber (codes "for") rows None
     × HasNumber (codes "every") rows None

@@ -38,11 +38,10 @@ IsOfOneScan rows = HasNumber (codes "scans") rows None
     × HasNumber (codes "every") rows None
     × HasNumber (codes "after") rows None
 
--- One scan of any state, at any moment, is asked for, and no groups: no state and no moment are given.
+-- One scan of any state, at any moment, is asked for: no state and no moment are given.
 abbrev pub IsOfAnyState : List Row → Type 0
 IsOfAnyState rows = HasOption (codes "state") rows None
     × HasNumber (codes "at") rows None
-    × (HasFlag (codes "grouped") rows → ⊥)
     × IsOfOneScan rows
 
 -- No flag says which states count, or whether every one is meant.

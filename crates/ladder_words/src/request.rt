@@ -68,6 +68,8 @@ pub struct PossibleRequest {
     pub off: bool,
     /// Whether every state that counts is to leave the coil ON, in place of some one.
     pub must: bool,
+    /// Whether rows are those of groups, with the inputs that don't matter in each.
+    pub grouped: bool,
     /// How many rows are written at most.
     pub limit: Option<u64>,
     /// Whether the line of counts is left out.

@@ -29,7 +29,7 @@ const EVERY: u64 = 10;
 ///
 /// `Mistake` where `clap` finds a fault other than that help is asked for, with what it says of it, or `Usage` when there is no memory for that; `Usage` where a fault has none of the named codes, where groups of one scan or a list over several scans are to begin after a
 /// number, where a time between scans is asked for without several scans, several scans by their number and by a time, where a form or the order `auto` is asked for without groups of one scan in one state, or both forms, or a statement with a limit, or an order that has another name, where
-/// inputs are named beside all of them, where any state is asked of and a state, a moment, a number to begin after, several scans, a time between scans, groups, a form or the order `auto` is named as well, where it is said which states count and any state isn't asked of, where a stimulus is to be shown with a moment, a number or listed inputs, or a waveform to be written with a saved state, and nowhere else; `Help` with its text where help is asked for; `Memory` when out of memory.
+/// inputs are named beside all of them, where any state is asked of and a state, a moment, a number to begin after, several scans, a time between scans, a form or the order `auto` is named as well, where it is said which states count and any state isn't asked of, where a stimulus is to be shown with a moment, a number or listed inputs, or a waveform to be written with a saved state, and nowhere else; `Help` with its text where help is asked for; `Memory` when out of memory.
 pub fn read_words(alloc: Global, words: Vec<String>) -> Result<Task, WordFault>
     ensures asks { IfOk result (AsksBy ladder_app (map string_bytes words.items)) }
 
@@ -222,6 +222,7 @@ fn possible_request(alloc: Global, found: &ArgMatches<'_>) -> Result<Request, Wo
     refuse_grouping(found)?;
     let off = is_set(found, "off");
     let must = is_set(found, "must");
+    let grouped = is_set(found, "grouped");
     let ListRequest {
         limit,
         quiet,
@@ -234,6 +235,7 @@ fn possible_request(alloc: Global, found: &ArgMatches<'_>) -> Result<Request, Wo
     Ok(Request::Possible(PossibleRequest {
         off,
         must,
+        grouped,
         limit,
         quiet,
         file,
@@ -243,15 +245,12 @@ fn possible_request(alloc: Global, found: &ArgMatches<'_>) -> Result<Request, Wo
     }))
 }
 
-/// Whether a state, a moment, groups, several scans or a number to begin after are asked for.
+/// Whether a state, a moment, several scans or a number to begin after are asked for.
 fn is_bound(found: &ArgMatches<'_>) -> bool
     ensures none { result ≡ false → IsOfAnyState (rows_of (found_of found.now)) }
     ensures some { result ≡ true → IsOfAnyState (rows_of (found_of found.now)) → ⊥ }
 {
-    is_given(found, "state")
-        || is_given(found, "at")
-        || is_set(found, "grouped")
-        || is_counted(found)
+    is_given(found, "state") || is_given(found, "at") || is_counted(found)
 }
 
 /// A form and an order are those of the groups of one scan in one state.
