@@ -15,12 +15,12 @@ pub record Counted (k : ℕ) (limit : Option ℕ) (all left : List ClassGroup) (
   pub summed : unsettled + unsettled_in k (limited (limit_left limit rows) left) ≡ unsettled_in k (limited limit all)
 
 pub counted_none : (k : ℕ) (limit : Option ℕ) (all : List ClassGroup) → Counted k limit all all 0 0
-counted_none k limit all = record { summed = ap (unsettled_in k) (limited_first limit all) }
+counted_none k limit all = record { summed = omega (arith, ap (unsettled_in k) (limited_first limit all)) }
 
 -- a group is counted where it isn't settled
 chosen : (k : ℕ) (r : ClassGroup) (rest : List ClassGroup) (settled : Bool)
     → numbers_in k (if not settled then r ∷ rest else rest) ≡ (if settled then 0 else size (cells k r.group)) + numbers_in k rest
-chosen k r rest true = refl
+chosen k r rest true = omega arith
 chosen k r rest false = sum_by-cons (λ (r : ClassGroup). size (cells k r.group)) r rest
 
 pub counted_more : (k : ℕ) (limit : Option ℕ) (all left : List ClassGroup) (rows unsettled : ℕ) (r : ClassGroup) (rest : List ClassGroup) → Counted k limit all left rows unsettled
