@@ -28,9 +28,9 @@ module _ (r : PossibleRequest) (q : Question) (c : PossibleGroupCursor) (of_list
   pub line_is : (rows causes unsettled : ℕ) → rows ≡ length (limited r.limit c.rest) → causes ≡ numbers_in (length c.listed) (limited r.limit c.rest)
       → unsettled ≡ unsettled_in (length c.listed) (limited r.limit c.rest)
       → unless_quiet r.quiet (possible_groups_line rows causes unsettled) ≡ possible_counts_text r (length q.listed) (limited r.limit c.rest)
-  line_is rows causes unsettled many all open =
+  line_is rows causes unsettled many all unsure =
       let groups = limited r.limit c.rest in
       ap (λ n. unless_quiet r.quiet (possible_groups_line n causes unsettled)) many
       ∙ ap (λ n. unless_quiet r.quiet (possible_groups_line (length groups) n unsettled)) all
-      ∙ ap (λ n. unless_quiet r.quiet (possible_groups_line (length groups) (numbers_in (length c.listed) groups) n)) open
+      ∙ ap (λ n. unless_quiet r.quiet (possible_groups_line (length groups) (numbers_in (length c.listed) groups) n)) unsure
       ∙ ap (λ (xs : List ℕ). possible_counts_text r (length xs) groups) of_listed
