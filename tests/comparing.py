@@ -12,7 +12,7 @@ from typing import NamedTuple
 
 from end_to_end import differences, run
 from lanes import MOMENT, Everywhere, Lanes, do_suffice, never, open_bits
-from model import FORMS, Program, classes_answer, text_of
+from model import FORMS, Program, classes_answer, judged_answer, text_of
 from running import Running, bits_of
 
 FRAME = re.compile(r'<input type=radio name=record title="(.*?)">\n<pre>\n(.*?)</pre>', re.DOTALL)
@@ -303,6 +303,16 @@ def rows_of_any(trial, *options):
     return {int(row[0]) for row in rows[1:] if row[1] == "1"}, {int(row[0]) for row in rows[1:] if row[1] == "?"}, found
 
 
+def compare_judged(trial, settled, others, *options):
+    """The groups of a list of what some state switches on: those of its settled rows, and those of the others, all or the first ones."""
+    limit = trial.chance.choice([None, None, None, 0, 1, 2])
+    words = [*options, *([] if limit is None else ["--limit", str(limit)])]
+    out, said, status = trial.ask("causes", "--any", "--grouped", *words, "program.ld", trial.coil, *trial.listed)
+    wanted, counts = judged_answer(trial.listed, settled, others, limit)
+    trial.tally["groups of these rows"] += wanted.count("\n") - 1
+    return differences((out, said, status), (wanted.encode(), counts.encode(), 0))
+
+
 def scan_at_random(trial, numbers, times):
     """From so many random states, what comes ON without a row among these numbers."""
     trial.save([(0, 0)])
@@ -320,7 +330,7 @@ def compare_random_states(trial):
     """What some state switches on: what a random state does has a row."""
     trial = trial._replace(listed=trial.listed[:4])
     settled, others, found = rows_of_any(trial)
-    return found + scan_at_random(trial, settled | others, 6)
+    return found + compare_judged(trial, settled, others) + scan_at_random(trial, settled | others, 6)
 
 
 def compare_with_each(trial, *options):
@@ -330,6 +340,7 @@ def compare_with_each(trial, *options):
     if every.bits > MOST_BITS:
         return None
     settled, others, found = rows_of_any(trial, *options)
+    found += compare_judged(trial, settled, others, *options)
     one = every.fill().lane(number := trial.chance.randrange(2 ** every.bits))
     wanted = set(every.forced(trial.coil) if "--must" in options else every.possible(trial.coil))
     one.scan({}, MOMENT)

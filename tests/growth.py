@@ -35,6 +35,7 @@ REQUESTS = (
     (("causes", "--scans", "3", "--state", "running.csv", "motor.ld", "Motor", "Start", "Stop"), LINES),
     (("causes", "--any", "motor.ld", "Motor", "Start", "Stop"), LINES),
     (("causes", "--any", "--off", "--must", "motor.ld", "Motor", "Start", "Stop"), LINES),
+    (("causes", "--any", "--grouped", "motor.ld", "Motor", "Start", "Stop"), LINES),
     (("causes", "--grouped", "--state", "running.csv", "motor.ld", "Motor", "Start", "Stop"), LINES),
     (("causes", "--grouped", "--st", "--order", "auto", "motor.ld", "Motor", "Start", "Stop"), LINES),
     (("causes", "--grouped", "--scans", "3", "--state", "running.csv", "motor.ld", "Motor", "Start", "Stop"), LINES),

@@ -20,7 +20,7 @@ pub record Written (a b : WriteLog) (waited waits : List ℕ) (f : ClassGroup �
   pub summed : numbers + numbers_in k (limited (limit_left limit rows) left) ≡ numbers_in k (limited limit all)
   pub taken : left ≡ drop rows all
 
-limited_first : (limit : Option ℕ) (xs : List ClassGroup) → limited (limit_left limit 0) xs ≡ limited limit xs
+pub limited_first : (limit : Option ℕ) (xs : List ClassGroup) → limited (limit_left limit 0) xs ≡ limited limit xs
 limited_first None xs = refl
 limited_first (Some n) xs = let e : n - 0 ≡ n = omega arith in ap (λ m. take m xs) e
 
@@ -48,6 +48,11 @@ written_more a b c w0 w1 w2 f k limit all left rows numbers r rest so_far first 
       summed = omega (arith, so_far.summed, more);
       taken = dropped_one all rest r rows (sym so_far.taken ∙ first) ∙ ap (λ m. drop m all) (sym (add-one rows));
     }
+
+-- what one row more is of the rows that are left
+pub row_next : (a b : WriteLog) (w0 w1 : List ℕ) (f : ClassGroup → Fields) (k : ℕ) (limit : Option ℕ) (all left : List ClassGroup) (rows numbers : ℕ) (r : ClassGroup) (rest : List ClassGroup)
+    → Written a b w0 w1 f k limit all left rows numbers → left ≡ r ∷ rest → limit ≢ Some rows → limited (limit_left limit rows) left ≡ r ∷ limited (limit_left limit (rows + 1)) rest
+row_next a b w0 w1 f k limit all left rows numbers r rest so_far first short = limited_next limit rows left r rest first short so_far.added.within
 
 limited_few : (k : ℕ) (limit : Option ℕ) (rs : List ClassGroup) → numbers_in k (limited limit rs) ≤ numbers_in k rs
 limited_few k None rs = omega arith

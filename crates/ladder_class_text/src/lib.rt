@@ -4,6 +4,8 @@
 mod cells;
 mod header;
 mod held_text;
+mod possible_text;
 mod row;
 
 pub use held_text::write_held_groups;
+pub use possible_text::{PossibleGroupSummary, write_possible_groups};

@@ -122,7 +122,7 @@ pub(crate) const ORDER_HELP: &str =
     "With --grouped: `auto` looks for an order of the inputs with fewer groups, `given` keeps that of the list (as without it)";
 
 pub(crate) const ANY_HELP: &str =
-    "Lists what some state, at some moment, switches on: a row for each such assignment, marked ? where that isn't settled; not with --state, --at, --after, --scans, --for, --every or --grouped";
+    "Lists what some state, at some moment, switches on: a row for each such assignment, marked ? where that isn't settled; not with --state, --at, --after, --scans, --for or --every";
 
 pub(crate) const OFF_HELP: &str =
     "With --any: counts only states in which the coil is OFF, so lists what can switch it ON";

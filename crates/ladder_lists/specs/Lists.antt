@@ -1,8 +1,9 @@
 -- How a request for a list ends: all its rows are written, or a fault stops it.
-use Rattle.std.specs.Prelude.{◌≡◌, ◌⊎◌, ◌++◌, ◌^◌, ◌∷◌, ℕ, List, Bool, true, false, Option, None, Some, codes, count_by, decimal, [], length, map, not, string_bytes, unwrap_or}
+use Rattle.std.specs.Prelude.{◌≡◌, ◌⊎◌, ◌++◌, ◌^◌, ◌∷◌, if◌then◌else◌, ℕ, List, Bool, true, false, Option, None, Some, codes, count_by, decimal, [], length, map, nat_lt, not, string_bytes, unwrap_or}
 use Rattle.ladder_grid.specs.Program.{Drawing}
 use Rattle.ladder_scan.specs.Programs.{diagram_of}
 use Rattle.ladder_scan.specs.Standing.{Standing}
+use Rattle.ladder_questions.specs.declared.fault.CauseFault.{CauseFault}
 use Rattle.ladder_questions.specs.declared.fault.CauseFault.TheVariants as cause
 use Rattle.ladder_questions.specs.Causes.{Question, causes_after, is_cause}
 use Rattle.ladder_causes.specs.Cursor.{first_number, looks_given}
@@ -20,8 +21,9 @@ use Rattle.ladder_held_groups.specs.GroupRefusal.{held_group_refusal}
 use Rattle.ladder_held_groups.specs.declared.fault.HeldGroupFault.{HeldGroupFault}
 use Rattle.ladder_held_groups.specs.declared.fault.HeldGroupFault.TheVariants as held_group
 use Rattle.ladder_classes.specs.Classes.{numbers_in}
+use Rattle.ladder_classes.specs.declared.table.TheConstants.{BITS_LIMIT}
 use Rattle.ladder_classes.specs.declared.walk.ClassGroup.{ClassGroup}
-use Rattle.ladder_class_text.specs.ClassText.{held_group_text}
+use Rattle.ladder_class_text.specs.ClassText.{held_group_text, possible_group_text, unsettled_in}
 use Rattle.ladder_held.specs.declared.fault.HeldFault.{HeldFault}
 use Rattle.ladder_held.specs.declared.fault.HeldFault.TheVariants as held
 use Rattle.ladder_held.specs.declared.scans.Scans.{Scans}
@@ -36,6 +38,7 @@ use Rattle.ladder_possible.specs.declared.before.Before.TheVariants as before
 use Rattle.ladder_possible.specs.declared.claim.Claim.{Claim}
 use Rattle.ladder_possible.specs.declared.claim.Claim.TheVariants as claim
 use Rattle.ladder_possible.specs.declared.possible.PossibleCause.{PossibleCause}
+use Rattle.ladder_possible_groups.specs.Cursor.{ArePossibleGroups}
 use Rattle.ladder_sim.specs.HeldText.{held_text}
 use Rattle.ladder_sim.specs.PossibleText.{possible_text}
 use Rattle.ladder_sim.specs.TermText.{form_text}
@@ -297,6 +300,61 @@ abbrev pub BreaksPossible : Given → PossibleRequest → Logs → Logs → Type
 BreaksPossible g r old new =
     (ListsPossible g r (PutsPrefix old.out new.out) × IsReported g old.err new.err fault.Write)
     ⊎ CountsPossible g r old.out new.out (PutsPrefix old.err new.err)
+
+-- ---- what some state switches on, in groups
+
+-- the first rule that is broken: groups are of fewer inputs than other lists, and too many are told in the same way
+abbrev pub possible_group_refusal : Question → Option CauseFault
+possible_group_refusal q = if nat_lt BITS_LIMIT (length q.listed) then Some cause.TooManyFree else refusal q None
+
+-- The text of the groups is written, or of the first of them where there is a limit, whole or as far as `Written` says. They are of numbers
+-- that are judged: the claim holds of each number of a settled group, and each number that is in no group is denied.
+pub record GroupsPossible (g : Given) (r : PossibleRequest) (Written : List ℕ → Type 0) : Type 0 where
+  pub question : Question
+  pub asked : IsAskedOfAll g r question
+  pub accepted : possible_group_refusal question ≡ None
+  pub groups : List ClassGroup
+  pub are : ArePossibleGroups question.program question.coil question.listed (counted r.off) (claimed r.must) groups
+  pub written : Written (possible_group_text question.program question.listed (limited r.limit groups))
+
+-- Faults are looked for in the order of those of a list.
+abbrev pub HasPossibleGroupsFault : Given → PossibleRequest → ToolFault → Type 0
+HasPossibleGroupsFault g r f =
+    HasSettingFault g f ⊎ (HasNamesFault g r f ⊎ ((q : Question) × IsAskedOfAll g r q × HasCauseFault (possible_group_refusal q) f))
+
+-- `rows R causes C unsettled U`
+abbrev pub possible_groups_line : ℕ → ℕ → ℕ → List ℕ
+possible_groups_line rows causes unsettled =
+    codes "rows " ++ (decimal rows ++ (codes " causes " ++ (decimal causes ++ (codes " unsettled " ++ (decimal unsettled ++ codes "\n")))))
+
+-- how many rows are listed, how many numbers of k bits they stand for, and how many of these aren't settled
+abbrev pub possible_counts_text : PossibleRequest → ℕ → List ClassGroup → List ℕ
+possible_counts_text r k groups = unless_quiet r.quiet (possible_groups_line (length groups) (numbers_in k groups) (unsettled_in k groups))
+
+-- The rows were listed, and then these counts are written: whole, or as far as `Counted` says.
+pub record CountsPossibleGroups (g : Given) (r : PossibleRequest) (out out' : WriteLog) (Counted : List ℕ → Type 0) : Type 0 where
+  pub list : GroupsPossible g r (PutsAll out out')
+  pub count : Counted (possible_counts_text r (length list.question.listed) (limited r.limit list.groups))
+
+-- Status 1: `out` failed at the rows, or `err` at their count.
+abbrev pub BreaksPossibleGroups : Given → PossibleRequest → Logs → Logs → Type 0
+BreaksPossibleGroups g r old new =
+    (GroupsPossible g r (PutsPrefix old.out new.out) × IsReported g old.err new.err fault.Write)
+    ⊎ CountsPossibleGroups g r old.out new.out (PutsPrefix old.err new.err)
+
+-- ---- what some state switches on, in groups or not
+
+abbrev pub CountsPossibleBy : Bool → Given → PossibleRequest → WriteLog → WriteLog → (List ℕ → Type 0) → Type 0
+CountsPossibleBy true = CountsPossibleGroups
+CountsPossibleBy false = CountsPossible
+
+abbrev pub HasPossibleFaultBy : Bool → Given → PossibleRequest → ToolFault → Type 0
+HasPossibleFaultBy true = HasPossibleGroupsFault
+HasPossibleFaultBy false = HasPossibleFault
+
+abbrev pub BreaksPossibleBy : Bool → Given → PossibleRequest → Logs → Logs → Type 0
+BreaksPossibleBy true = BreaksPossibleGroups
+BreaksPossibleBy false = BreaksPossible
 
 -- ---- a list of causes in groups
 

@@ -8,6 +8,7 @@ mod holding;
 mod listing;
 mod never;
 mod possible;
+mod possible_grouping;
 mod relevant;
 
 pub use grouping::list_groups;

@@ -4,10 +4,11 @@ ghost use Rattle.std.specs.Prelude.{◌≡◌, ◌≤◌, ◌⊎◌, IfErr, IfOk
 ghost use Rattle.ladder_text.specs.Log.{Puts, PutsAll, WriteLog};
 ghost use Rattle.ladder_lists.specs.Asked.{stored_question};
 ghost use Rattle.ladder_setting.specs.Reports.{Refuses, logs};
-ghost use Rattle.ladder_lists.specs.Lists.{BreaksPossible, CountsPossible, HasNamesFault, HasPossibleFault, IsAskedOfAll, claimed, counted, possible_line, unless_quiet};
+ghost use Rattle.ladder_lists.specs.Lists.{BreaksPossible, BreaksPossibleBy, CountsPossible, CountsPossibleBy, HasNamesFault, HasPossibleFault, HasPossibleFaultBy, IsAskedOfAll, claimed, counted, possible_line, unless_quiet};
 ghost use Rattle.ladder_setting.specs.Setting.{HasSettingFault, given_by};
 
 use crate::asking::Asked;
+use crate::possible_grouping::list_possible_groups;
 use ladder_possible::{Before, Claim, PossibleCauses};
 use ladder_setting::{Setting, Texts, ToolFault, asked_variables, read_setting, report};
 use ladder_sim::{PossibleSummary, write_possible_causes};
@@ -33,7 +34,11 @@ fn put_counts<E: Sink>(quiet: bool, summary: PossibleSummary, err: &mut E) -> Re
 }
 
 /// Reads the program text and the names.
-fn read_asked(alloc: Global, request: &PossibleRequest, texts: &Texts) -> Result<Asked, ToolFault>
+pub(crate) fn read_asked(
+    alloc: Global,
+    request: &PossibleRequest,
+    texts: &Texts,
+) -> Result<Asked, ToolFault>
     ensures asked { IfOk result (λ a. IsAskedOfAll (given_by texts.now) request.now (stored_question a)) }
     ensures fault { IfErr result (λ f. HasSettingFault (given_by texts.now) f ⊎ HasNamesFault (given_by texts.now) request.now f) }
 {
@@ -64,14 +69,14 @@ fn read_asked(alloc: Global, request: &PossibleRequest, texts: &Texts) -> Result
 }
 
 /// Which states count.
-fn before_of(off: bool) -> Before
+pub(crate) fn before_of(off: bool) -> Before
     ensures { result ≡ counted off }
 {
     if off { Before::Off } else { Before::Any }
 }
 
 /// What a row claims of its number.
-fn claim_of(must: bool) -> Claim
+pub(crate) fn claim_of(must: bool) -> Claim
     ensures { result ≡ claimed must }
 {
     if must { Claim::Forced } else { Claim::Possible }
@@ -118,8 +123,8 @@ fn list_asked<O: Sink, E: Sink>(
     0
 }
 
-/// Lists what some state, or every one, switches on, of the coil of the texts.
-pub fn list_possible<O: Sink, E: Sink>(
+/// Lists what some state, or every one, switches on, of the coil of the texts, with a row for each number.
+fn list_rows<O: Sink, E: Sink>(
     alloc: Global,
     request: &PossibleRequest,
     texts: &Texts,
@@ -136,4 +141,24 @@ pub fn list_possible<O: Sink, E: Sink>(
         Ok(asked) => list_asked(alloc, request, &asked, texts, out, err),
         Err(fault) => report(texts, &fault, err),
     }
+}
+
+/// Lists what some state, or every one, switches on, of the coil of the texts, in groups where these are asked for.
+pub fn list_possible<O: Sink, E: Sink>(
+    alloc: Global,
+    request: &PossibleRequest,
+    texts: &Texts,
+    out: &mut O,
+    err: &mut E,
+) -> u8
+    ensures status { result ≤ 1 }
+    ensures done { result ≡ 0 → CountsPossibleBy request.now.grouped (given_by texts.now) request.now (O.log out.old) (O.log out.new) (PutsAll (E.log err.old) (E.log err.new)) }
+    ensures failed { (save : WriteLog) → result ≡ 1
+        → Refuses (given_by texts.now) (HasPossibleFaultBy request.now.grouped (given_by texts.now) request.now) (logs (O.log out.old) save (E.log err.old)) (logs (O.log out.new) save (E.log err.new))
+        ⊎ BreaksPossibleBy request.now.grouped (given_by texts.now) request.now (logs (O.log out.old) save (E.log err.old)) (logs (O.log out.new) save (E.log err.new)) }
+{
+    if request.grouped {
+        return list_possible_groups(alloc, request, texts, out, err);
+    }
+    list_rows(alloc, request, texts, out, err)
 }

@@ -51,7 +51,7 @@ rows 1 looks 1
 pub(crate) const C3: &str = "\
 C3: too many inputs are listed
 
-A list has at most 32 inputs, and so has `show`; groups over several scans have at most 20. Leave out those that can't matter, or fix some in state texts (`docs/TUTORIAL.md`).
+A list has at most 32 inputs, and so has `show`; groups over several scans and those of `--any` have at most 20. Leave out those that can't matter, or fix some in state texts (`docs/TUTORIAL.md`).
 
 ```console
 $ { echo VAR; seq 33 | sed 's/.*/  I& AT %IX& : BOOL;/'; echo '  Y AT %QX0 : BOOL;'; echo END_VAR; echo; echo '|     I1          Y'; echo '|----| |---------( )----'; } > c3.ld

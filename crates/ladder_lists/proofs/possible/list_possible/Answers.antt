@@ -1,19 +1,13 @@
-use Rattle.std.proofs.Common.{◌⊎◌, inl, inr, refl}
-use Rattle.ladder_lists.specs.Lists.{HasNamesFault, HasPossibleFault}
-use Rattle.ladder_setting.specs.Setting.{Given, HasSettingFault, given_by}
-use Rattle.ladder_setting.specs.declared.fault.ToolFault.{ToolFault}
-use Rattle.ladder_words.specs.declared.request.PossibleRequest.{PossibleRequest}
 use Rattle.ladder_lists.proofs.possible.list_possible.Goals as goal
 
-before_asking : (g : Given) (r : PossibleRequest) (f : ToolFault) → HasSettingFault g f ⊎ HasNamesFault g r f → HasPossibleFault g r f
-before_asking g r f (inl setting) = inl setting
-before_asking g r f (inr name) = inr (inl name)
+pub returns-then-grouped-clause-done : goal.returns-then-grouped-clause-done
+returns-then-grouped-clause-done g c = λ status. rw c.if-grouped.true (c.list_possible_groups.ensures.done status)
 
-pub returns-in-Err-clause-failed : goal.returns-in-Err-clause-failed
-returns-in-Err-clause-failed g c = λ save status. inl (record {
-  reason = c.in-Err.fault;
-  has = before_asking (given_by c.args.texts.now) c.args.request.now c.in-Err.fault c.in-Err.ensures.fault;
-  unwritten = refl {a = g.O.Sink.log c.args.out.now};
-  unsaved = refl {a = save};
-  reported = c.report.ensures.line;
-})
+pub returns-then-grouped-clause-failed : goal.returns-then-grouped-clause-failed
+returns-then-grouped-clause-failed g c = λ save status. rw c.if-grouped.true (c.list_possible_groups.ensures.failed save status)
+
+pub returns-clause-done : goal.returns-clause-done
+returns-clause-done g c = λ status. rw c.if-grouped.false (c.list_rows.ensures.done status)
+
+pub returns-clause-failed : goal.returns-clause-failed
+returns-clause-failed g c = λ save status. rw c.if-grouped.false (c.list_rows.ensures.failed save status)

@@ -1,0 +1,36 @@
+-- How a list of what some state, or every one, switches on ends, in groups.
+use Rattle.std.proofs.Common.{◌≡◌, ◌∙◌, ◌⊎◌, ℕ, List, ap, inl, inr, length}
+use Rattle.ladder_grid.specs.Program.{Drawing}
+use Rattle.ladder_questions.specs.Causes.{Question}
+use Rattle.ladder_classes.specs.Classes.{numbers_in}
+use Rattle.ladder_classes.specs.declared.walk.ClassGroup.{ClassGroup}
+use Rattle.ladder_class_text.specs.ClassText.{possible_group_text, unsettled_in}
+use Rattle.ladder_possible_groups.specs.Cursor.{PossibleGroupCursor}
+use Rattle.ladder_sim.specs.CauseText.{limited}
+use Rattle.ladder_words.specs.declared.request.PossibleRequest.{PossibleRequest}
+use Rattle.ladder_lists.specs.Lists.{HasNamesFault, HasPossibleGroupsFault, possible_counts_text, possible_groups_line, unless_quiet}
+use Rattle.ladder_setting.specs.Setting.{Given, HasSettingFault}
+use Rattle.ladder_setting.specs.declared.fault.ToolFault.{ToolFault}
+
+-- A fault before anything is asked.
+pub before_groups : (g : Given) (r : PossibleRequest) (f : ToolFault) → HasSettingFault g f ⊎ HasNamesFault g r f → HasPossibleGroupsFault g r f
+before_groups g r f (inl setting) = inl setting
+before_groups g r f (inr name) = inr (inl name)
+
+-- What the cursor that was made for a question has to give is what is asked.
+module _ (r : PossibleRequest) (q : Question) (c : PossibleGroupCursor) (of_listed : c.listed ≡ q.listed) where
+  pub text_is : c.program ≡ q.program → possible_group_text c.program c.listed (limited r.limit c.rest) ≡ possible_group_text q.program q.listed (limited r.limit c.rest)
+  text_is of_program =
+      ap (λ (d : Drawing). possible_group_text d c.listed (limited r.limit c.rest)) of_program
+      ∙ ap (λ (xs : List ℕ). possible_group_text q.program xs (limited r.limit c.rest)) of_listed
+
+  -- the line of rows, causes and what isn't settled
+  pub line_is : (rows causes unsettled : ℕ) → rows ≡ length (limited r.limit c.rest) → causes ≡ numbers_in (length c.listed) (limited r.limit c.rest)
+      → unsettled ≡ unsettled_in (length c.listed) (limited r.limit c.rest)
+      → unless_quiet r.quiet (possible_groups_line rows causes unsettled) ≡ possible_counts_text r (length q.listed) (limited r.limit c.rest)
+  line_is rows causes unsettled many all unsure =
+      let groups = limited r.limit c.rest in
+      ap (λ n. unless_quiet r.quiet (possible_groups_line n causes unsettled)) many
+      ∙ ap (λ n. unless_quiet r.quiet (possible_groups_line (length groups) n unsettled)) all
+      ∙ ap (λ n. unless_quiet r.quiet (possible_groups_line (length groups) (numbers_in (length c.listed) groups) n)) unsure
+      ∙ ap (λ (xs : List ℕ). possible_counts_text r (length xs) groups) of_listed

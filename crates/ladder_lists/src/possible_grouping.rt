@@ -1,0 +1,130 @@
+//! A request for what some state, or every one, switches on, in groups.
+
+ghost use Rattle.std.specs.Prelude.{◌≡◌, ◌≤◌, ◌⊎◌, IfErr, IfOk, None};
+ghost use Rattle.ladder_possible_groups.specs.Cursor.{ArePossibleGroups};
+ghost use Rattle.ladder_questions.specs.Refusal.{reason};
+ghost use Rattle.ladder_text.specs.Log.{Puts, PutsAll, WriteLog};
+ghost use Rattle.ladder_lists.specs.Asked.{stored_question};
+ghost use Rattle.ladder_setting.specs.Reports.{Refuses, logs};
+ghost use Rattle.ladder_lists.specs.Lists.{BreaksPossibleGroups, CountsPossibleGroups, HasPossibleGroupsFault, IsAskedOfAll, possible_group_refusal, possible_groups_line, unless_quiet};
+ghost use Rattle.ladder_setting.specs.Setting.{given_by};
+
+use crate::asking::Asked;
+use crate::possible::{before_of, claim_of, read_asked};
+use ladder_class_text::{PossibleGroupSummary, write_possible_groups};
+use ladder_classes::BITS_LIMIT;
+use ladder_possible::{Before, Claim, PossibleCauses};
+use ladder_possible_groups::{PossibleGroupFault, PossibleGroups};
+use ladder_questions::CauseFault;
+use ladder_setting::{Texts, ToolFault, report};
+use ladder_text::{Piece, Sink, WriteFault, put_pieces};
+use ladder_words::PossibleRequest;
+use std::alloc::Global;
+
+/// Writes how many rows there are, how many numbers they stand for, and how many of these aren't settled, where that is asked for.
+fn put_counts<E: Sink>(
+    quiet: bool,
+    summary: PossibleGroupSummary,
+    err: &mut E,
+) -> Result<(), WriteFault>
+    ensures { Puts (E.log err.old) (E.log err.new) result (unless_quiet quiet (possible_groups_line summary.rows summary.causes summary.unsettled)) }
+{
+    if quiet {
+        return Ok(());
+    }
+    let pieces = [
+        Piece::Text(b"rows "),
+        Piece::Number(summary.rows),
+        Piece::Text(b" causes "),
+        Piece::Number(summary.causes),
+        Piece::Text(b" unsettled "),
+        Piece::Number(summary.unsettled),
+        Piece::Text(b"\n"),
+    ];
+    put_pieces(err, pieces.as_slice())
+}
+
+/// The groups of what is asked.
+fn groups_of<'a>(
+    alloc: Global,
+    asked: &'a Asked,
+    before: Before,
+    claim: Claim,
+) -> Result<PossibleGroups<'a>, CauseFault>
+    ensures program { IfOk result (λ c. c.program ≡ asked.now.program) }
+    ensures listed { IfOk result (λ c. c.listed ≡ asked.now.inputs.items) }
+    ensures rest { IfOk result (λ c. ArePossibleGroups asked.now.program asked.now.coil asked.now.inputs.items before claim c.rest) }
+    ensures accepted { IfOk result (λ _. possible_group_refusal (stored_question asked.now) ≡ None) }
+    ensures refused { IfErr result (λ e. possible_group_refusal (stored_question asked.now) ≡ reason e) }
+{
+    if asked.inputs.len() > BITS_LIMIT as usize {
+        return Err(CauseFault::TooManyFree);
+    }
+    let causes = PossibleCauses::new(
+        alloc,
+        &asked.program,
+        &asked.state,
+        asked.coil,
+        &asked.inputs,
+        before,
+        claim,
+    )?;
+    match PossibleGroups::new(alloc, causes) {
+        Ok(groups) => Ok(groups),
+        Err(PossibleGroupFault::TooManyInputs) => Err(CauseFault::TooManyFree),
+        Err(PossibleGroupFault::Memory) => Err(CauseFault::Memory),
+    }
+}
+
+/// Lists what some state, or every one, switches on, of what is asked, in groups.
+fn list_asked<O: Sink, E: Sink>(
+    alloc: Global,
+    request: &PossibleRequest,
+    asked: &Asked,
+    texts: &Texts,
+    out: &mut O,
+    err: &mut E,
+) -> u8
+    requires asked { IsAskedOfAll (given_by texts.now) request.now (stored_question asked.now) }
+    ensures status { result ≤ 1 }
+    ensures done { result ≡ 0 → CountsPossibleGroups (given_by texts.now) request.now (O.log out.old) (O.log out.new) (PutsAll (E.log err.old) (E.log err.new)) }
+    ensures failed { (save : WriteLog) → result ≡ 1
+        → Refuses (given_by texts.now) (HasPossibleGroupsFault (given_by texts.now) request.now) (logs (O.log out.old) save (E.log err.old)) (logs (O.log out.new) save (E.log err.new))
+        ⊎ BreaksPossibleGroups (given_by texts.now) request.now (logs (O.log out.old) save (E.log err.old)) (logs (O.log out.new) save (E.log err.new)) }
+{
+    let before = before_of(request.off);
+    let claim = claim_of(request.must);
+    let mut cursor = match groups_of(alloc, asked, before, claim) {
+        Ok(cursor) => cursor,
+        Err(fault) => return report(texts, &ToolFault::Cause(fault), err),
+    };
+    let written = write_possible_groups(&mut cursor, request.limit, out);
+    drop(cursor);
+    let Ok(summary) = written else {
+        return report(texts, &ToolFault::Write, err);
+    };
+    let Ok(()) = put_counts(request.quiet, summary, err) else {
+        return 1;
+    };
+    0
+}
+
+/// Lists what some state, or every one, switches on, of the coil of the texts, in groups.
+pub(crate) fn list_possible_groups<O: Sink, E: Sink>(
+    alloc: Global,
+    request: &PossibleRequest,
+    texts: &Texts,
+    out: &mut O,
+    err: &mut E,
+) -> u8
+    ensures status { result ≤ 1 }
+    ensures done { result ≡ 0 → CountsPossibleGroups (given_by texts.now) request.now (O.log out.old) (O.log out.new) (PutsAll (E.log err.old) (E.log err.new)) }
+    ensures failed { (save : WriteLog) → result ≡ 1
+        → Refuses (given_by texts.now) (HasPossibleGroupsFault (given_by texts.now) request.now) (logs (O.log out.old) save (E.log err.old)) (logs (O.log out.new) save (E.log err.new))
+        ⊎ BreaksPossibleGroups (given_by texts.now) request.now (logs (O.log out.old) save (E.log err.old)) (logs (O.log out.new) save (E.log err.new)) }
+{
+    match read_asked(alloc, request, texts) {
+        Ok(asked) => list_asked(alloc, request, &asked, texts, out, err),
+        Err(fault) => report(texts, &fault, err),
+    }
+}
