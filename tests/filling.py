@@ -59,9 +59,10 @@ def random_lines(random_from, inputs, every, start):
     if len(lines) > 1 and random_from.random() < 0.3:
         place = random_from.randrange(1, len(lines))
         fields = lines[place].split(",")
-        wrong = [["0" + fields[0], *fields[1:]], [*fields, "1"], fields[:-1] or ["x"], [str(LAST + 1), *fields[1:]], ["", *fields[1:]], [fields[0], *["2" for _ in named]]]
+        wrong = [["0" + fields[0], *fields[1:]], [*fields, "1"], fields[:-1], [str(LAST + 1), *fields[1:]], ["", *fields[1:]], [fields[0], *["2" for _ in named]]]
         back = [str(max(0, int(fields[0]) - random_from.randint(1, 2 * every + 1))), *fields[1:]]
-        lines[place] = ",".join(random_from.choice([*wrong, back, back, back, back]))
+        # A line without a character is no record.
+        lines[place] = ",".join(random_from.choice([*wrong, back, back, back, back])) or "x"
     return lines
 
 
@@ -80,8 +81,8 @@ def both(program, words, folder, lines, every, state):
         end = run(program, asked, folder)
         saved = folder / f"{name}.state.csv"
         ends.append([end.returncode, end.stdout, end.stderr, saved.read_bytes() if saved.exists() else None])
-        if saved.exists():
-            saved.rename(folder / "begin.csv")
+    if ends[0][3] is not None:
+        (folder / "begin.csv").write_bytes(ends[0][3])
     ends[1][2] = in_file(ends[1][2], numbers)
     return ends, len(whole) - len(lines)
 

@@ -26,7 +26,7 @@ $ ladder sim --save motor.ld motor.ld stimulus.csv
 fault usage
 $ ladder sim --why --every 0 motor.ld stimulus.csv
 fault usage
-error: invalid value '0' for '--every <MS>': 0 is not in 1..=18446744073709551615
+error: invalid value '0' for '--every <MS>': 0 is not in 1..18446744073709551615
 
 For more information, try '--help'.
 $ ladder causes --why --limit ten motor.ld Motor

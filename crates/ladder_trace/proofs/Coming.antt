@@ -129,15 +129,18 @@ held_is every bits None to moment left e f = rw f refl
 pub some_come : (every width number moment left : ℕ) (from to : Option ℕ) (last fields : Fields) (rows : List Fields) (found : Bool) (new : Reader (Bor (List ℕ))) → found ≡ true
     → TakesFirst rows found fields new → from ≡ moment_in width last → to ≡ moment_in width fields → moment ≡ unwrap_or from 0 → left ≡ count_in every from to
     → (rest : List Fields) × Left new rest × (filled_after every width number last rows
-        ≡ map (numbered number) (repeated every (drop 1 last) moment left) ++ (numbered number fields ∷ filled_after every width (number + 1) fields rest))
+    ≡ map (numbered number) (repeated every (drop 1 last) moment left) ++ (numbered number fields ∷ filled_after every width (number + 1) fields rest))
 some_come every width number moment left from to last fields [] found new e h a b f g = let bad : true ≡ false = sym e ∙ h in cc
 some_come every width number moment left from to last fields (r ∷ rows) found new e h a b f g =
     let held : between every width last fields ≡ repeated every (drop 1 last) moment left =
     ap (λ x. held_between every (drop 1 last) x (moment_in width fields)) (sym a)
     ∙ ap (λ x. held_between every (drop 1 last) from x) (sym b)
-    ∙ held_is every (drop 1 last) from to moment left f g in
-    (rows, h.2, ap (λ x. map (numbered number) (between every width last x) ++ (numbered number x ∷ filled_after every width (number + 1) x rows)) (sym h.1)
-    ∙ ap (λ l. map (numbered number) l ++ (numbered number fields ∷ filled_after every width (number + 1) fields rows)) held)
+    ∙ held_is every (drop 1 last) from to moment left f g in (
+      rows,
+      h.2,
+      ap (λ x. map (numbered number) (between every width last x) ++ (numbered number x ∷ filled_after every width (number + 1) x rows)) (sym h.1)
+          ∙ ap (λ l. map (numbered number) l ++ (numbered number fields ∷ filled_after every width (number + 1) fields rows)) held,
+    )
 
 pub next_held : (every number moment left : ℕ) (bits : List (List ℕ)) (rest : List Numbered) → 0 < left
     → map (numbered number) (repeated every bits moment left) ++ rest

@@ -112,10 +112,13 @@ pub header_comes : (d : Declared) (columns : List ℕ) (f : Filling) (every : �
 header_comes d columns f every [] fields e header left unread number time last = cc
 header_comes d columns f every (r ∷ rows) fields e header left unread number time last =
     let same = some_same e in
-    let width = header_width d r columns (subst (λ x. IsHeader d x columns) (sym same) header) in
-    (rows, left, ap (λ w. filled_after every w 2 r rows) width ∙ ap (λ n. filled_after every (length columns) n r rows) (sym number)
-    ∙ ap (λ x. filled_after x (length columns) f.number r rows) (sym time) ∙ ap (λ x. filled_after f.every (length columns) f.number x rows) (same ∙ sym last)
-    ∙ ap (λ b. coming b columns f rows) (sym unread))
+    let width = header_width d r columns (subst (λ x. IsHeader d x columns) (sym same) header) in (
+      rows,
+      left,
+      ap (λ w. filled_after every w 2 r rows) width ∙ ap (λ n. filled_after every (length columns) n r rows) (sym number)
+          ∙ ap (λ x. filled_after x (length columns) f.number r rows) (sym time) ∙ ap (λ x. filled_after f.every (length columns) f.number x rows) (same ∙ sym last)
+          ∙ ap (λ b. coming b columns f rows) (sym unread),
+    )
 
 -- Only the header was read.
 pub fresh_sound : (d : Declared) (columns : List ℕ) (f : Filling) → IsPlain f.records → f.from ≡ None → f.is_ahead ≡ false → IsHeader d (fields_of f.last) columns → IsSound columns f

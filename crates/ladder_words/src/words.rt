@@ -654,7 +654,7 @@ fn waves_request(alloc: Global, found: &ArgMatches<'_>) -> Result<Request, WordF
     if is_given(found, "save") {
         return Err(WordFault::Usage);
     }
-    let every = number(found, "every")?;
+    let pause = number(found, "every")?;
     let Played {
         state,
         file,
@@ -662,7 +662,7 @@ fn waves_request(alloc: Global, found: &ArgMatches<'_>) -> Result<Request, WordF
     } = played_of(alloc, found)?;
     Ok(Request::Waves(WavesRequest {
         state,
-        every,
+        every: pause,
         file,
         stimulus,
     }))
@@ -694,7 +694,7 @@ fn trace_request(alloc: Global, found: &ArgMatches<'_>) -> Result<Request, WordF
     ensures ok { IfOk result (Asks (codes "sim") (rows_of (found_of found.now))) }
     ensures err { IfErr result (UsageWhere (AsksNone (codes "sim") (rows_of (found_of found.now)))) }
 {
-    let every = number(found, "every")?;
+    let pause = number(found, "every")?;
     let save = optional(alloc, found, "save")?;
     let Played {
         state,
@@ -704,7 +704,7 @@ fn trace_request(alloc: Global, found: &ArgMatches<'_>) -> Result<Request, WordF
     Ok(Request::Sim(SimRequest {
         state,
         save,
-        every,
+        every: pause,
         file,
         stimulus,
     }))

@@ -28,7 +28,7 @@ returns-clause-comes c = λ all comes.
     let f = c.args.filling.now in
     let columns = c.args.columns.now in
     let next = some_come f.every (length columns) f.number c.unwrap_or-filling.result c.count_between-filling.result f.from c.read_row-filling.result (fields_of f.last)
-        (fields_of c.next.new.row) comes.0 c.in_ok-found.found c.next.new.records c.if-not-found.false (c.in_ok-found.ensures.takes comes.0 comes.1) c.requires.sound.last
-        (read_moment c.read_row-filling.result columns (fields_of c.next.new.row) c.read_row-filling.ensures.some c.read_row-filling.ensures.none) c.unwrap_or-filling.ensures
-        c.count_between-filling.ensures.count in
+    (fields_of c.next.new.row) comes.0 c.in_ok-found.found c.next.new.records c.if-not-found.false (c.in_ok-found.ensures.takes comes.0 comes.1) c.requires.sound.last
+    (read_moment c.read_row-filling.result columns (fields_of c.next.new.row) c.read_row-filling.ensures.some c.read_row-filling.ensures.none) c.unwrap_or-filling.ensures
+    c.count_between-filling.ensures.count in
     (next.0, next.1, comes.2 ∙ ap (λ b. coming b columns f comes.0) c.requires.unread ∙ next.2)

@@ -19,6 +19,6 @@ returns-clause-takes c = λ all comes.
     takes_some columns _ _ all (numbered f.number (decimal later ∷ bits)) rest same (
       refl,
       gives_held f.from columns (fields_of f.last) later (c.requires.sound.good c.requires.read c.requires.some) c.requires.sound.last
-      (omega (arith, c.requires.sound.small c.requires.read, one_step f.every f.left c.requires.some)),
+          (omega (arith, c.requires.sound.small c.requires.read, one_step f.every f.left c.requires.some)),
       (rows, comes.1, ap (λ b. coming b columns (record f { moment = later; left = f.left - 1 }) rows) (sym c.requires.read)),
     )
