@@ -26,7 +26,7 @@ _ladder() {
     case $subcommand in
         causes) options='--state --at --after --limit --scans --for --every --grouped --terms --st --order --any --off --must --relevant --all-inputs --quiet --why --help' ;;
         show) options='--state --at --number --html --stimulus --coil --all-inputs --why --help' ;;
-        sim) options='--state --save --vcd --why --help' ;;
+        sim) options='--state --save --every --vcd --why --help' ;;
         check) options='--warn --why --help' ;;
         uses | import) options='--why --help' ;;
         never) options='--state --quiet --why --help' ;;

@@ -80,6 +80,7 @@ complete -c ladder -n '__ladder_at show more 0' -l number -x -d 'The number of t
 complete -c ladder -n '__ladder_at show more 0' -l html -d 'One page of HTML'
 complete -c ladder -n '__ladder_at show more 0' -l stimulus -r -F -d 'One scan for each record'
 complete -c ladder -n '__ladder_at show more 0' -l coil -x -a '(__ladder_coils)' -d 'Why this coil has power, or none'
+complete -c ladder -n '__ladder_at sim more 0' -l every -x -d 'Also scans between the records, so many ms apart'
 complete -c ladder -n '__ladder_at sim more 0' -l vcd -d 'A waveform in place of the trace'
 complete -c ladder -n '__ladder_at sim more 0' -l save -r -F -d 'The file that gets the state after the last scan'
 

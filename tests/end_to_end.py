@@ -252,11 +252,14 @@ STATE = ["causes", "--state", "state.csv", "motor.ld", "Motor"]
 SAVED = b"version,2\nmoment,0\nvar,Start,1\nvar,Stop,0\nvar,Motor,1\n"
 TRACE = b"moment,Motor\n0,1\n"
 ONE = b"moment,Start,Stop\n0,1,0\n"
+EVERY = ["sim", "--every", "1", "motor.ld", "stimulus.csv"]
 FILM = ["show", "--stimulus", "stimulus.csv", "motor.ld"]
 DRAWN = content(HERE / "cases" / "show-motor-off-without-inputs" / "stdout") + b"\n"
 SPECIAL = {
     "sim-most-records": long_texts(SIM, "stimulus.csv", b"moment\n" + b"0\n" * 1000000, (b"moment,Motor\n" + b"0,0\n" * 1000000, b"", 0)),
     "sim-a-record-too-many": long_texts(SIM, "stimulus.csv", b"moment\n" + b"0\n" * 1000001, (b"moment,Motor\n" + b"0,0\n" * 1000000, b"fault X5 row 1000002\n", 1)),
+    "sim-every-most-records": long_texts(EVERY, "stimulus.csv", b"moment\n0\n999999\n", (b"moment,Motor\n" + b"".join(b"%d,0\n" % moment for moment in range(1000000)), b"", 0)),
+    "sim-every-a-record-too-many": long_texts(EVERY, "stimulus.csv", b"moment\n0\n5\n1000005\n", (b"moment,Motor\n" + b"".join(b"%d,0\n" % moment for moment in range(1000000)), b"fault X5 row 4\n", 1)),
     "show-film-of-the-most-records": long_texts(FILM, "stimulus.csv", b"moment\n" + b"0\n" * 1000, (DRAWN * 1000, b"", 0)),
     "show-film-a-record-too-many": long_texts(FILM, "stimulus.csv", b"moment\n" + b"0\n" * 1001, (DRAWN * 1000, b"fault X5 row 1002\n", 1)),
     "sim-longest-stimulus": long_texts(SIM, "stimulus.csv", b"moment\n".ljust(16777216, b"\n"), (b"moment,Motor\n", b"", 0)),

@@ -8,10 +8,10 @@ ghost use Rattle.ladder_command.specs.Table.{ladder_by, word_rule};
 use crate::help::{
     AFTER_HELP, ALL_HELP, ANY_HELP, AT_HELP, CAUSES_ABOUT, CHECK_ABOUT, CODES_HELP, COIL_HELP,
     EVERY_HELP, EXPLAIN_ABOUT, EXPLAIN_HELP, FAULTS, FILE_HELP, FILM_HELP, FOR_HELP, GROUPED_HELP,
-    HTML_HELP, IMPORT_ABOUT, INPUTS_HELP, LADDER_ABOUT, LIMIT_HELP, MUST_HELP, NEVER_ABOUT,
-    NUMBER_HELP, OFF_HELP, ORDER_HELP, PROJECT_HELP, QUIET_HELP, RELEVANT_HELP, SAVE_HELP,
-    SCANS_HELP, SHOW_ABOUT, SHOWN_HELP, SIM_ABOUT, STATE_HELP, STATEMENT_HELP, STIMULUS_HELP,
-    TERMS_HELP, USES_ABOUT, WARN_HELP, WAVES_HELP, WHY_HELP,
+    HOLD_HELP, HTML_HELP, IMPORT_ABOUT, INPUTS_HELP, LADDER_ABOUT, LIMIT_HELP, MUST_HELP,
+    NEVER_ABOUT, NUMBER_HELP, OFF_HELP, ORDER_HELP, PROJECT_HELP, QUIET_HELP, RELEVANT_HELP,
+    SAVE_HELP, SCANS_HELP, SHOW_ABOUT, SHOWN_HELP, SIM_ABOUT, STATE_HELP, STATEMENT_HELP,
+    STIMULUS_HELP, TERMS_HELP, USES_ABOUT, WARN_HELP, WAVES_HELP, WHY_HELP,
 };
 use clap::{Arg, ArgAction, Command, value_parser};
 use std::alloc::{AllocError, Global};
@@ -24,6 +24,8 @@ enum Word {
     Text(&'static str, &'static str, &'static str),
     /// An option with a number.
     Number(&'static str, &'static str, &'static str),
+    /// An option with a number that isn't 0.
+    Positive(&'static str, &'static str, &'static str),
     /// An option without a value.
     Flag(&'static str, &'static str),
     /// The arguments that are left.
@@ -95,6 +97,7 @@ const SHOW: &[Word] = &[
 const SIM: &[Word] = &[
     Word::Text("state", "STATE", STATE_HELP),
     Word::Text("save", "STATE", SAVE_HELP),
+    Word::Positive("every", "MS", HOLD_HELP),
     Word::Flag("vcd", WAVES_HELP),
     Word::Flag("why", EXPLAIN_HELP),
     Word::Place("file", "FILE", FILE_HELP),
@@ -165,6 +168,11 @@ fn arg_of<'a>(alloc: Global, word: &'a Word) -> Arg<'a>
         Word::Number(id, value, help) => Arg::new(alloc, id)
             .long(id)
             .value_parser(value_parser!(u64))
+            .value_name(value)
+            .help(help),
+        Word::Positive(id, value, help) => Arg::new(alloc, id)
+            .long(id)
+            .value_parser(value_parser!(u64).range(1..))
             .value_name(value)
             .help(help),
         Word::Flag(id, help) => Arg::new(alloc, id)

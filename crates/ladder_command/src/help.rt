@@ -78,6 +78,9 @@ pub(crate) const WAVES_HELP: &str =
 
 pub(crate) const SAVE_HELP: &str = "The file that gets the state after the last scan";
 
+pub(crate) const HOLD_HELP: &str =
+    "Also scans between the records, with their inputs held, as a controller does: MS, 2 MS, .. after a record, before the next one; from 1 on";
+
 pub(crate) const AT_HELP: &str =
     "The moment of the scan in ms, not before the stored one; without it the stored one";
 

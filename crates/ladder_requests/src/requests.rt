@@ -126,6 +126,7 @@ fn sim(alloc: Global) -> Result<SimRequest, AllocError> {
     Ok(SimRequest {
         state: None,
         save: Some(String::from_str(alloc, "state.csv")?),
+        every: None,
         file: file(alloc)?,
         stimulus: String::from_str(alloc, "stimulus.csv")?,
     })

@@ -24,8 +24,8 @@ IsDone (Groups list grouping) g old new = CountsGroups g list grouping old.out n
 IsDone (request.Relevant list after grouping) g old new = CountsRelevant g list after grouping old.out new.out (PutsAll old.err new.err) × (new.save ≡ old.save)
 IsDone (Show r) g old new = Shows g r (PutsAll old.out new.out) × (new.save ≡ old.save) × (new.err ≡ old.err)
 IsDone (request.Film r) g old new = IsFilmed g r old.out new.out × (new.save ≡ old.save) × (new.err ≡ old.err)
-IsDone (Sim r) g old new = IsTraced g (is_some r.save) old new
-IsDone (request.Waves r) g old new = IsWaved g old.out new.out × (new.save ≡ old.save) × (new.err ≡ old.err)
+IsDone (Sim r) g old new = IsTraced g r.every (is_some r.save) old new
+IsDone (request.Waves r) g old new = IsWaved g r.every old.out new.out × (new.save ≡ old.save) × (new.err ≡ old.err)
 IsDone (Uses file) g old new = Prints uses_text g.program (PutsAll old.out new.out) × (new.save ≡ old.save) × (new.err ≡ old.err)
 IsDone (Import file) g old new = Carries g.program (PutsAll old.out new.out) × (new.save ≡ old.save) × (new.err ≡ old.err)
 
@@ -57,8 +57,8 @@ Breaks (Groups list grouping) g old new = BreaksGroups g list grouping old new �
 Breaks (request.Relevant list after grouping) g old new = BreaksRelevant g list after grouping old new × (new.save ≡ old.save)
 Breaks (Show r) g old new = Shows g r (PutsPrefix old.out new.out) × (new.save ≡ old.save) × IsReported g old.err new.err fault.Write
 Breaks (request.Film r) g old new = BreaksFilm g r old new × (new.save ≡ old.save)
-Breaks (Sim r) g old new = BreaksTrace g (is_some r.save) old new
-Breaks (request.Waves r) g old new = BreaksWaves g old new × (new.save ≡ old.save)
+Breaks (Sim r) g old new = BreaksTrace g r.every (is_some r.save) old new
+Breaks (request.Waves r) g old new = BreaksWaves g r.every old new × (new.save ≡ old.save)
 Breaks (Uses file) g old new =
     Prints uses_text g.program (PutsPrefix old.out new.out) × (new.save ≡ old.save) × IsReported g old.err new.err fault.Write
 Breaks (Import file) g old new = BreaksCarrying g.why g.program old.out new.out old.err new.err × (new.save ≡ old.save)

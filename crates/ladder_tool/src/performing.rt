@@ -57,8 +57,8 @@ pub fn perform<O: Sink, S: Sink, E: Sink>(
         } => list_relevant(alloc, list, *after, *grouping, texts, out, err),
         Request::Show(scan) => show(alloc, scan, texts, out, err),
         Request::Film(stimulus) => film(alloc, stimulus, texts, out, err),
-        Request::Waves(_) => wave(alloc, texts, out, err),
+        Request::Waves(waves) => wave(alloc, texts, waves.every, out, err),
         Request::Import { .. } => carry(alloc, texts.why, &texts.program, out, err),
-        Request::Sim(stimulus) => trace(alloc, texts, stimulus.save.is_some(), out, save, err),
+        Request::Sim(sim) => { trace(alloc, texts, sim.every, sim.save.is_some(), out, save, err) }
     }
 }

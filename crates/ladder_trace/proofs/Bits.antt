@@ -6,15 +6,15 @@ use Rattle.std.proofs.lemmas.List.{length-map}
 use Rattle.csv.specs.Records.{field_at}
 use Rattle.ladder_records.specs.Left.{Fields}
 use Rattle.ladder_records.specs.Text.{bit_text}
-use Rattle.ladder_trace.specs.Room.{are_bits, bits_of, is_bit, is_on}
-use Rattle.ladder_trace.specs.Stimulus.{IsRow}
+use Rattle.ladder_trace.specs.Room.{bits_of, is_on}
+use Rattle.ladder_trace.specs.Stimulus.{IsRow, are_bits, is_bit}
 use Rattle.ladder_trace.proofs.Lists.{all_first, some_same}
 
 bit_is_bit : (b : Bool) → is_bit (Some (bit_text b)) ≡ true
 bit_is_bit true = refl
 bit_is_bit false = refl
 
-texts_are_bits : (bits : List Bool) → are_bits (map bit_text bits) ≡ true
+pub texts_are_bits : (bits : List Bool) → are_bits (map bit_text bits) ≡ true
 texts_are_bits [] = refl
 texts_are_bits (b ∷ bits) = rw (bit_is_bit b) (texts_are_bits bits)
 
@@ -24,7 +24,7 @@ on_text f false true e g h = sym (same_text f (codes "0") (sym g))
 on_text f false false e g h = let bad : false ≡ true = h in cc
 
 -- a list of bits is the text of its bits
-bits_same : (fs : Fields) → are_bits fs ≡ true → map bit_text (map (λ f. is_on (Some f)) fs) ≡ fs
+pub bits_same : (fs : Fields) → are_bits fs ≡ true → map bit_text (map (λ f. is_on (Some f)) fs) ≡ fs
 bits_same [] h = refl
 bits_same (f ∷ fs) h =
     let parts = all_first (is_bit (Some f)) (are_bits fs) h in

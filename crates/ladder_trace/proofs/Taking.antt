@@ -1,7 +1,9 @@
 -- The steps of the loop over the records.
-use Rattle.std.proofs.Common.{◌≡◌, ◌+◌, ◌<◌, ◌≤◌, ◌∙◌, ◌++◌, ◌∷◌, [], ℕ, suc, zero, List, Bool, true, false, Some, Ok, Err, refl, sym, ap, subst, arith, add-one, append_assoc, inl, drop, length, length-append, slice_get}
-use Rattle.std.specs.Prelude.{⊤}
+use Rattle.std.proofs.Common.{◌≡◌, ◌+◌, ◌-◌, ◌<◌, ◌≤◌, ◌∙◌, ◌++◌, ◌∷◌, [], ℕ, suc, zero, List, Some, None, Ok, Err, refl, sym, ap, subst, arith, add-one, append_assoc, get_or, inl, drop, length, length-append, map, slice_get}
+use Rattle.std.specs.Prelude.{⊤, Bool, true, false}
 use Rattle.std.specs.Borrow.{Bor}
+use Rattle.std.proofs.lemmas.List.{length-map}
+use Rattle.csv.specs.Records.{fields_of}
 use Rattle.csv.specs.declared.reader.Reader.{Reader}
 use Rattle.ladder_grid.specs.Program.{Drawing}
 use Rattle.ladder_records.specs.Left.{Fields, Left, TakesFirst}
@@ -11,12 +13,16 @@ use Rattle.ladder_text.proofs.Bytes.{appends_more}
 use Rattle.ladder_text.proofs.Puts.{fails_after, puts_more}
 use Rattle.ladder_trace.specs.declared.fault.SimFault.{SimFault}
 use Rattle.ladder_trace.specs.declared.fault.SimFault.TheVariants as fault
+use Rattle.ladder_trace.specs.declared.filling.Filling.{Filling}
+use Rattle.ladder_trace.specs.declared.filling.Taken.{Taken}
 use Rattle.ladder_trace.specs.declared.recording.Recording.{Recording}
-use Rattle.ladder_trace.specs.Simulation.{Follows, IsTaken, Runs, most}
-use Rattle.ladder_trace.specs.Steps.{IsGoing, StepsTo}
+use Rattle.ladder_trace.specs.Coming.{Comes, Gives, Takes}
+use Rattle.ladder_trace.specs.Filled.{Numbered, all_fields, in_file}
+use Rattle.ladder_trace.specs.Simulation.{IsTaken, Runs, most}
+use Rattle.ladder_trace.specs.Steps.{Ends, IsGoing, StepsTo}
 use Rattle.ladder_trace.specs.Stimulus.{IsHeader}
 use Rattle.ladder_trace.specs.Trace.{IsStep, head_text}
-use Rattle.ladder_trace.proofs.Lists.{within}
+use Rattle.ladder_trace.proofs.Lists.{some_same, within}
 
 -- ---- the records that a reader has left
 
@@ -38,6 +44,43 @@ one_left rows k found fields new e h =
     let first = first_left rows k found fields new e h in
     (first.0, subst (λ n. Left new (drop n rows)) (sym (add-one k)) first.1)
 
+-- ---- the records that come
+
+none_taken : (columns : List ℕ) (all : List Numbered) (k : ℕ) (f : Filling) → Takes columns (drop k all) None f → length all ≤ k
+none_taken columns [] k f h = omega arith
+none_taken columns (r ∷ all) zero f h = absurd h
+none_taken columns (r ∷ all) (suc k) f h = let rest = none_taken columns all k f h in omega (arith, rest)
+
+first_taken : (columns : List ℕ) (all : List Numbered) (k : ℕ) (taken : Taken) (f : Filling) → Takes columns (drop k all) (Some taken) f
+    → (r : Numbered) × (slice_get all k ≡ Some r) × (taken.number ≡ r.number) × Gives columns taken.moment (fields_of f.last) r.fields × Comes columns f (drop (suc k) all)
+first_taken columns [] zero taken f h = cc
+first_taken columns [] (suc k) taken f h = cc
+first_taken columns (r ∷ all) zero taken f h = (r, refl, h.0, h.1, h.2)
+first_taken columns (r ∷ all) (suc k) taken f h = first_taken columns all k taken f h
+
+one_taken : (columns : List ℕ) (all : List Numbered) (k : ℕ) (taken : Taken) (f : Filling) → Takes columns (drop k all) (Some taken) f
+    → (r : Numbered) × (slice_get all k ≡ Some r) × (taken.number ≡ r.number) × Gives columns taken.moment (fields_of f.last) r.fields × Comes columns f (drop (k + 1) all)
+one_taken columns all k taken f h =
+    let first = first_taken columns all k taken f h in
+    (first.0, first.1, first.2, first.3, subst (λ n. Comes columns f (drop n all)) (sym (add-one k)) first.4)
+
+-- ---- its fields, and its number in the file
+
+fields_at : (all : List Numbered) (i : ℕ) (r : Numbered) → slice_get all i ≡ Some r → slice_get (all_fields all) i ≡ Some r.fields
+fields_at [] i r e = cc
+fields_at (a ∷ all) zero r e = ap (λ (x : Numbered). Some x.fields) (some_same e)
+fields_at (a ∷ all) (suc i) r e = fields_at all i r e
+
+number_at : (all : List Numbered) (i : ℕ) (r : Numbered) → slice_get all i ≡ Some r → get_or (map (λ (r : Numbered). r.number) all) i 1 ≡ r.number
+number_at [] i r e = cc
+number_at (a ∷ all) zero r e = ap (λ (x : Numbered). x.number) (some_same e)
+number_at (a ∷ all) (suc i) r e = number_at all i r e
+
+in_file_at : (all : List Numbered) (k : ℕ) (r : Numbered) → slice_get all (k + 1) ≡ Some r → in_file all (k + 2) ≡ r.number
+in_file_at all k r e =
+    let place : k + 2 - 1 ≡ k + 1 = omega arith in
+    ap (λ i. get_or (map (λ (r : Numbered). r.number) all) i 1) place ∙ number_at all (k + 1) r e
+
 -- ---- the records that are taken
 
 runs_within : (recording : Recording) (p : Drawing) (columns : List ℕ) (s : Standing) (rows : List Fields) (k : ℕ) (text piece : List ℕ) (t : Standing)
@@ -52,80 +95,122 @@ runs_more : (recording : Recording) (p : Drawing) (columns : List ℕ) (s : Stan
 unfolding Runs
 runs_more recording p columns s rows k text piece more t u r h here step = rw add-one (text, piece, t, h, refl, (r, rw (← add-one) here, step))
 
-pub going_none : (recording : Recording) (p : Drawing) (columns : List ℕ) (s : Standing) (rows : List Fields) (fields : Fields) (a b : WriteLog) (new : Reader (Bor (List ℕ)))
-    → slice_get rows 0 ≡ Some fields → IsHeader p.decls fields columns → PutsAll a b (head_text recording p s) → Left new (drop 1 rows)
-    → IsGoing recording p columns s rows 0 s a b new
+pub going_none : (recording : Recording) (p : Drawing) (columns : List ℕ) (s : Standing) (all : List Numbered) (r : Numbered) (a b : WriteLog) (f : Filling)
+    → slice_get all 0 ≡ Some r → IsHeader p.decls r.fields columns → PutsAll a b (head_text recording p s) → Comes columns f (drop 1 all)
+    → IsGoing recording p columns s all 0 s a b f
 unfolding Runs
-going_none recording p columns s rows fields a b new here header wrote left =
-    record { text = []; piece = head_text recording p s; runs = ((fields, here, header), refl, refl, refl); wrote = wrote; left = left }
+going_none recording p columns s all r a b f here header wrote left =
+    record { text = []; piece = head_text recording p s; runs = ((r.fields, fields_at all 0 r here, header), refl, refl, refl); wrote = wrote; left = left }
 
-pub going_more : (recording : Recording) (p : Drawing) (columns : List ℕ) (s t u : Standing) (rows : List Fields) (found : Bool) (fields : Fields) (a b c : WriteLog) (number : ℕ) (old new : Reader (Bor (List ℕ)))
-    → IsGoing recording p columns s rows number t a b old → found ≡ true → TakesFirst (drop (number + 1) rows) found fields new
-    → (piece : List ℕ) × IsStep recording p columns t fields u piece × PutsAll b c piece → IsGoing recording p columns s rows (number + 1) u a c new
-going_more recording p columns s t u rows found fields a b c number old new h f first (piece, step, wrote) =
-    let next = one_left rows (number + 1) found fields new f first in
+pub going_more : (recording : Recording) (p : Drawing) (columns : List ℕ) (s t u : Standing) (all : List Numbered) (taken : Taken) (a b c : WriteLog) (number : ℕ) (f g : Filling)
+    → IsGoing recording p columns s all number t a b f → Takes columns (drop (number + 1) all) (Some taken) g
+    → ((fields : Fields) → Gives columns taken.moment (fields_of g.last) fields → (piece : List ℕ) × IsStep recording p columns t fields u piece × PutsAll b c piece)
+    → IsGoing recording p columns s all (number + 1) u a c g
+going_more recording p columns s t u all taken a b c number f g h takes steps =
+    let (r, at, same, gives, comes) = one_taken columns all (number + 1) taken g takes in
+    let (piece, step, wrote) = steps r.fields gives in
     record {
       text = h.text ++ h.piece;
       piece = piece;
-      runs = runs_more recording p columns s rows number h.text h.piece piece t u fields h.runs next.0 step;
+      runs = runs_more recording p columns s (all_fields all) number h.text h.piece piece t u r.fields h.runs (fields_at all (number + 1) r at) step;
       wrote = puts_more a b c (h.text ++ h.piece) piece h.wrote wrote;
-      left = next.1;
+      left = comes;
     }
 
 -- ---- how it ends
 
-taken : (recording : Recording) (p : Drawing) (columns : List ℕ) (s t u : Standing) (rows : List Fields) (a b c : WriteLog) (number : ℕ) (old : Reader (Bor (List ℕ)))
-    → IsGoing recording p columns s rows number t a b old → number ≤ most recording → u ≡ t → c ≡ b → IsTaken recording p s rows number u a c
-taken recording p columns s t u rows a b c number old h few e f = record {
-  course = record { columns = columns; text = h.text; piece = h.piece; runs = subst (Runs recording p columns s rows number h.text h.piece) (sym e) h.runs; few = few };
-  wrote = subst (λ x. PutsAll a x (h.text ++ h.piece)) (sym f) h.wrote;
+was_taken : (recording : Recording) (p : Drawing) (columns : List ℕ) (s t u : Standing) (all : List Numbered) (a b c : WriteLog) (number : ℕ) (f : Filling)
+    → IsGoing recording p columns s all number t a b f → number ≤ most recording → u ≡ t → c ≡ b → IsTaken recording p s (all_fields all) number u a c
+was_taken recording p columns s t u all a b c number f h few e g = record {
+  course = record { columns = columns; text = h.text; piece = h.piece; runs = subst (Runs recording p columns s (all_fields all) number h.text h.piece) (sym e) h.runs; few = few };
+  wrote = subst (λ x. PutsAll a x (h.text ++ h.piece)) (sym g) h.wrote;
 }
 
-pub going_done : (recording : Recording) (p : Drawing) (columns : List ℕ) (s t : Standing) (rows : List Fields) (found : Bool) (fields : Fields) (a b : WriteLog) (number : ℕ) (old new : Reader (Bor (List ℕ)))
-    → IsGoing recording p columns s rows number t a b old → found ≡ false → TakesFirst (drop (number + 1) rows) found fields new → number ≤ most recording
-    → Follows recording p s rows t a b (Ok number)
-going_done recording p columns s t rows found fields a b number old new h f first few =
-    let all = none_left rows (number + 1) found fields new f first in
-    let some = runs_within recording p columns s rows number h.text h.piece t h.runs in
-    (taken recording p columns s t t rows a b b number old h few refl refl, omega (arith, all, some))
+pub going_done : (recording : Recording) (p : Drawing) (columns : List ℕ) (s t : Standing) (all : List Numbered) (a b : WriteLog) (number : ℕ) (f g : Filling)
+    → IsGoing recording p columns s all number t a b f → Takes columns (drop (number + 1) all) None g → number ≤ most recording
+    → Ends recording p s all t a b (Ok number)
+going_done recording p columns s t all a b number f g h takes few =
+    let none = none_taken columns all (number + 1) g takes in
+    let some = runs_within recording p columns s (all_fields all) number h.text h.piece t h.runs in
+    let size : length (all_fields all) ≡ length all = length-map all (λ (r : Numbered). r.fields) in
+    (Ok number, (was_taken recording p columns s t t all a b b number f h few refl refl, omega (arith, none, some, size)), refl)
 
-pub going_stops : (recording : Recording) (p : Drawing) (columns : List ℕ) (s t u : Standing) (rows : List Fields) (found : Bool) (fields : Fields) (f : SimFault) (a b c : WriteLog) (number : ℕ) (old new : Reader (Bor (List ℕ)))
-    → IsGoing recording p columns s rows number t a b old → number < most recording → found ≡ true → TakesFirst (drop (number + 1) rows) found fields new
-    → StepsTo {T = ⊤} recording p columns (number + 2) t fields u b c (Err f) → Follows recording p s rows u a c (Err f)
-unfolding taken
-going_stops recording p columns s t u rows found fields (fault.BadRow n) a b c number old new h few e first (same, bad, (ks, kl)) =
-    let next = one_left rows (number + 1) found fields new e first in
-    inl (number, taken recording p columns s t u rows a b c number old h (omega (arith, few)) ks kl, (fields, next.0, bad), few, same)
-going_stops recording p columns s t u rows found fields (fault.UnknownName n) a b c number old new h few e first k = absurd k
-going_stops recording p columns s t u rows found fields (fault.MomentBack n) a b c number old new h few e first (same, (m, bits, row, less), (ks, kl)) =
-    let next = one_left rows (number + 1) found fields new e first in
-    (number, taken recording p columns s t u rows a b c number old h (omega (arith, few)) ks kl, (fields, next.0, (m, bits, row, subst (λ (x : Standing). m < x.moment) (sym ks) less)), few, same)
-going_stops recording p columns s t u rows found fields (fault.TooLong n) a b c number old new h few e first k = absurd k
-going_stops recording p columns s t u rows found fields fault.Write a b c number old new h few e first (piece, step, cut) =
-    let next = one_left rows (number + 1) found fields new e first in
+pub going_stops : (recording : Recording) (p : Drawing) (columns : List ℕ) (s t u : Standing) (all : List Numbered) (taken : Taken) (stop : SimFault) (a b c : WriteLog) (number : ℕ) (f g : Filling)
+    → IsGoing recording p columns s all number t a b f → number < most recording → Takes columns (drop (number + 1) all) (Some taken) g
+    → ((fields : Fields) → Gives columns taken.moment (fields_of g.last) fields → StepsTo {T = ⊤} recording p columns taken.number t fields u b c (Err stop))
+    → Ends recording p s all u a c (Err stop)
+unfolding was_taken
+going_stops recording p columns s t u all taken (fault.BadRow n) a b c number f g h few takes steps =
+    let (r, at, told, gives, comes) = one_taken columns all (number + 1) taken g takes in
+    let (same, bad, (ks, kl)) = steps r.fields gives in (
+      Err (fault.BadRow (number + 2)),
+      inl (number, was_taken recording p columns s t u all a b c number f h (omega (arith, few)) ks kl, (r.fields, fields_at all (number + 1) r at, bad), few, refl),
+      ap (λ x. Err (fault.BadRow x)) (same ∙ told ∙ sym (in_file_at all number r at)),
+    )
+going_stops recording p columns s t u all taken (fault.UnknownName n) a b c number f g h few takes steps =
+    let (r, at, told, gives, comes) = one_taken columns all (number + 1) taken g takes in absurd (steps r.fields gives)
+going_stops recording p columns s t u all taken (fault.MomentBack n) a b c number f g h few takes steps =
+    let (r, at, told, gives, comes) = one_taken columns all (number + 1) taken g takes in
+    let (same, (m, bits, row, less), (ks, kl)) = steps r.fields gives in (
+      Err (fault.MomentBack (number + 2)),
+      (
+        number,
+        was_taken recording p columns s t u all a b c number f h (omega (arith, few)) ks kl,
+        (r.fields, fields_at all (number + 1) r at, (m, bits, row, subst (λ (x : Standing). m < x.moment) (sym ks) less)),
+        few,
+        refl,
+      ),
+      ap (λ x. Err (fault.MomentBack x)) (same ∙ told ∙ sym (in_file_at all number r at)),
+    )
+going_stops recording p columns s t u all taken (fault.TooLong n) a b c number f g h few takes steps =
+    let (r, at, told, gives, comes) = one_taken columns all (number + 1) taken g takes in absurd (steps r.fields gives)
+going_stops recording p columns s t u all taken fault.Write a b c number f g h few takes steps =
+    let (r, at, told, gives, comes) = one_taken columns all (number + 1) taken g takes in
+    let (piece, step, cut) = steps r.fields gives in
     let front = cut.bytes.0 in
     let back = cut.bytes.1 in
     let text = h.text ++ h.piece in
     let same : text ++ piece ≡ (text ++ front) ++ back = ap (λ x. text ++ x) cut.bytes.2 ∙ sym (append_assoc text front back) in (
-      number + 1,
-      record { columns = columns; text = text; piece = piece; runs = runs_more recording p columns s rows number h.text h.piece piece t u fields h.runs next.0 step; few = omega (arith, few) },
-      record {
-        bytes = (text ++ front, back, same, appends_more a.contents b.contents c.contents text front h.wrote.bytes cut.bytes.3);
-        calls = fails_after a.tally b.tally c.tally h.wrote.calls cut.calls;
-      },
-      omega (arith, length-append text front),
+      Err fault.Write,
+      (
+        number + 1,
+        record {
+          columns = columns;
+          text = text;
+          piece = piece;
+          runs = runs_more recording p columns s (all_fields all) number h.text h.piece piece t u r.fields h.runs (fields_at all (number + 1) r at) step;
+          few = omega (arith, few);
+        },
+        record {
+          bytes = (text ++ front, back, same, appends_more a.contents b.contents c.contents text front h.wrote.bytes cut.bytes.3);
+          calls = fails_after a.tally b.tally c.tally h.wrote.calls cut.calls;
+        },
+        omega (arith, length-append text front),
+      ),
+      refl,
     )
-going_stops recording p columns s t u rows found fields fault.Memory a b c number old new h few e first (ks, kl) =
-    inl (number, taken recording p columns s t u rows a b c number old h (omega (arith, few)) ks kl)
+going_stops recording p columns s t u all taken fault.Memory a b c number f g h few takes steps =
+    let (r, at, told, gives, comes) = one_taken columns all (number + 1) taken g takes in
+    let (ks, kl) = steps r.fields gives in
+    (Err fault.Memory, inl (number, was_taken recording p columns s t u all a b c number f h (omega (arith, few)) ks kl), refl)
 
-pub going_many : (recording : Recording) (p : Drawing) (columns : List ℕ) (s t : Standing) (rows : List Fields) (found : Bool) (fields : Fields) (a b : WriteLog) (number row : ℕ) (old new : Reader (Bor (List ℕ)))
-    → IsGoing recording p columns s rows number t a b old → found ≡ true → TakesFirst (drop (number + 1) rows) found fields new → number ≡ most recording
-    → row ≡ most recording + 2 → Follows recording p s rows t a b (Err (fault.TooLong row))
-going_many recording p columns s t rows found fields a b number row old new h e first count at =
-    let next = one_left rows (number + 1) found fields new e first in
-    let more = within rows (number + 1) fields next.0 in
-    (subst (λ k. IsTaken recording p s rows k t a b) count (taken recording p columns s t t rows a b b number old h (omega (arith, count)) refl refl), omega (arith, more, count), at)
+pub going_many : (recording : Recording) (p : Drawing) (columns : List ℕ) (s t : Standing) (all : List Numbered) (taken : Taken) (a b : WriteLog) (number row : ℕ) (f g : Filling)
+    → IsGoing recording p columns s all number t a b f → Takes columns (drop (number + 1) all) (Some taken) g → number ≡ most recording
+    → row ≡ taken.number → Ends recording p s all t a b (Err (fault.TooLong row))
+going_many recording p columns s t all taken a b number row f g h takes count same =
+    let (r, at, told, gives, comes) = one_taken columns all (number + 1) taken g takes in
+    let more = within (all_fields all) (number + 1) r.fields (fields_at all (number + 1) r at) in
+    let place : in_file all (most recording + 2) ≡ r.number = subst (λ k. in_file all (k + 2) ≡ r.number) count (in_file_at all number r at) in (
+      Err (fault.TooLong (most recording + 2)),
+      (
+        subst (λ k. IsTaken recording p s (all_fields all) k t a b) count (was_taken recording p columns s t t all a b b number f h (omega (arith, count)) refl refl),
+        omega (arith, more, count),
+        refl,
+      ),
+      ap (λ x. Err (fault.TooLong x)) (same ∙ told ∙ sym place),
+    )
 
-pub going_starved : (recording : Recording) (p : Drawing) (columns : List ℕ) (s t : Standing) (rows : List Fields) (a b : WriteLog) (number : ℕ) (old : Reader (Bor (List ℕ)))
-    → IsGoing recording p columns s rows number t a b old → number ≤ most recording → Follows recording p s rows t a b (Err fault.Memory)
-going_starved recording p columns s t rows a b number old h few = inl (number, taken recording p columns s t t rows a b b number old h few refl refl)
+pub going_starved : (recording : Recording) (p : Drawing) (columns : List ℕ) (s t : Standing) (all : List Numbered) (a b : WriteLog) (number : ℕ) (f : Filling)
+    → IsGoing recording p columns s all number t a b f → number ≤ most recording → Ends recording p s all t a b (Err fault.Memory)
+going_starved recording p columns s t all a b number f h few =
+    (Err fault.Memory, inl (number, was_taken recording p columns s t t all a b b number f h few refl refl), refl)

@@ -1,3 +1,5 @@
+pub mod Coming
+pub mod Filled
 pub mod Room
 pub mod Simulation
 pub mod Steps

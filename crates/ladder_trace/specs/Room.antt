@@ -1,6 +1,6 @@
 -- Private to the simulation: what its inner functions allocate before a first write, how they read a field, and choose variables.
-use Rattle.std.specs.Prelude.{◌≡◌, ◌∷◌, ℕ, List, [], Bool, true, false, ◌||◌, Option, Some, None, codes, bytes_eq, drop, length, map}
-use Rattle.std.specs.List.{count_by, list_all}
+use Rattle.std.specs.Prelude.{◌≡◌, ◌∷◌, ℕ, List, [], Bool, true, false, Option, Some, None, codes, bytes_eq, drop, length, map}
+use Rattle.std.specs.List.{count_by}
 use Rattle.ladder_vars.specs.Decls.{is_input}
 use Rattle.ladder_grid.specs.Program.{Drawing}
 use Rattle.ladder_records.specs.Left.{Fields}
@@ -21,15 +21,6 @@ is_moment None = false
 abbrev pub is_on : Option (List ℕ) → Bool
 is_on (Some field) = bytes_eq field (codes "1")
 is_on None = false
-
--- The field is a bit.
-abbrev pub is_bit : Option (List ℕ) → Bool
-is_bit (Some field) = bytes_eq field (codes "1") || bytes_eq field (codes "0")
-is_bit None = false
-
--- All fields are bits.
-abbrev pub are_bits : Fields → Bool
-are_bits fields = list_all (λ f. is_bit (Some f)) fields
 
 -- These are the bits of a record, after its moment.
 abbrev pub bits_of : Fields → List Bool

@@ -12,6 +12,7 @@ use Rattle.ladder_trace.specs.declared.fault.SimFault.TheVariants as fault
 use Rattle.ladder_trace.specs.declared.recording.Film.{Film}
 use Rattle.ladder_trace.specs.declared.recording.Recording.{Recording}
 use Rattle.ladder_trace.specs.declared.recording.Recording.TheVariants as recordings
+use Rattle.ladder_trace.specs.Filled.{all_fields, filled, told_of}
 use Rattle.ladder_trace.specs.Stimulus.{IsHeader, IsRow, input_named}
 use Rattle.ladder_trace.specs.Trace.{IsStep, head_text}
 
@@ -112,3 +113,20 @@ Films film = Follows (recordings.Film film)
 -- And with a waveform.
 abbrev pub Waves : Drawing → Standing → List Fields → Standing → WriteLog → WriteLog → Result ℕ SimFault → Type 0
 Waves = Follows recordings.Waves
+
+-- ---- with scans between the records
+
+-- The same with scans between the records, so many ms apart: it is the simulation of the stimulus that has records for these as well, and a
+-- fault tells the number of the record in the file. Without such a time there are none.
+abbrev pub FollowsEvery : Recording → ℕ → Drawing → Standing → List Fields → Standing → WriteLog → WriteLog → Result ℕ SimFault → Type 0
+FollowsEvery recording zero p s rows t old new end = Follows recording p s rows t old new end
+FollowsEvery recording (suc n) p s rows t old new end =
+    (r : Result ℕ SimFault) × Follows recording p s (all_fields (filled (suc n) rows)) t old new r × (end ≡ told_of (filled (suc n) rows) r)
+
+-- So with the trace.
+abbrev pub SimulatesEvery : ℕ → Drawing → Standing → List Fields → Standing → WriteLog → WriteLog → Result ℕ SimFault → Type 0
+SimulatesEvery = FollowsEvery recordings.Trace
+
+-- And with a waveform.
+abbrev pub WavesEvery : ℕ → Drawing → Standing → List Fields → Standing → WriteLog → WriteLog → Result ℕ SimFault → Type 0
+WavesEvery = FollowsEvery recordings.Waves

@@ -1,18 +1,19 @@
 -- Private to the simulation: what its inner functions do with the header and with one record.
 use Rattle.std.specs.Prelude.{◌≡◌, ◌<◌, ◌≤◌, ◌++◌, ◌∷◌, ◌+◌, ℕ, Bool, List, Result, Ok, Err, drop}
-use Rattle.std.specs.Borrow.{Bor}
-use Rattle.csv.specs.declared.reader.Reader.{Reader}
 use Rattle.ladder_vars.specs.Decls.{Declared}
 use Rattle.ladder_grid.specs.Program.{Drawing}
 use Rattle.ladder_grid.specs.Reading.{IsProgram}
-use Rattle.ladder_records.specs.Left.{Fields, Left}
+use Rattle.ladder_records.specs.Left.{Fields}
 use Rattle.ladder_scan.specs.Standing.{Standing}
 use Rattle.ladder_text.specs.Log.{PutsAll, PutsPrefix, WriteLog}
 use Rattle.ladder_trace.specs.declared.fault.SimFault.{SimFault}
 use Rattle.ladder_trace.specs.declared.fault.SimFault.TheVariants as fault
 use Rattle.ladder_trace.specs.declared.recording.Recording.{Recording}
 use Rattle.ladder_trace.specs.declared.recording.Recording.TheVariants as recordings
-use Rattle.ladder_trace.specs.Simulation.{GoesBack, HasUnknownName, IsBadHeader, IsNoRow, IsUntouched, Runs}
+use Rattle.ladder_trace.specs.declared.filling.Filling.{Filling}
+use Rattle.ladder_trace.specs.Coming.{Comes}
+use Rattle.ladder_trace.specs.Filled.{Numbered, all_fields, told_of}
+use Rattle.ladder_trace.specs.Simulation.{Follows, GoesBack, HasUnknownName, IsBadHeader, IsNoRow, IsUntouched, Runs}
 use Rattle.ladder_trace.specs.Trace.{IsStep, Tells, scanned}
 
 -- A film needs the text of the program.
@@ -56,10 +57,14 @@ NoColumns d fields rows (fault.UnknownName n) = (n ≡ 1) × HasUnknownName d fi
 NoColumns d fields rows (fault.MomentBack n) = ⊥
 NoColumns d fields rows (fault.TooLong n) = ⊥
 
--- The first k records led from s to t, what is recorded of them was written, and the reader has left the records after them.
-pub record IsGoing (recording : Recording) (p : Drawing) (columns : List ℕ) (s : Standing) (rows : List Fields) (k : ℕ) (t : Standing) (old new : WriteLog) (r : Reader (Bor (List ℕ))) : Type 0 where
+-- The first k records led from s to t, what is recorded of them was written, and the records after them come.
+pub record IsGoing (recording : Recording) (p : Drawing) (columns : List ℕ) (s : Standing) (all : List Numbered) (k : ℕ) (t : Standing) (old new : WriteLog) (f : Filling) : Type 0 where
   pub text : List ℕ
   pub piece : List ℕ
-  pub runs : Runs recording p columns s rows k text piece t
+  pub runs : Runs recording p columns s (all_fields all) k text piece t
   pub wrote : PutsAll old new (text ++ piece)
-  pub left : Left r (drop (k + 1) rows)
+  pub left : Comes columns f (drop (k + 1) all)
+
+-- The simulation of these records ends so, and a fault tells the number of the record in the file.
+abbrev pub Ends : Recording → Drawing → Standing → List Numbered → Standing → WriteLog → WriteLog → Result ℕ SimFault → Type 0
+Ends recording p s all t old new end = (r : Result ℕ SimFault) × Follows recording p s (all_fields all) t old new r × (end ≡ told_of all r)

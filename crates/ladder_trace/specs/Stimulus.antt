@@ -1,6 +1,6 @@
 -- A stimulus (the profile): a header that names inputs, and then a moment and a bit for each of them.
-use Rattle.std.specs.Prelude.{◌≡◌, ◌∷◌, ◌<◌, ◌==◌, ◌^◌, if◌then◌else◌, ℕ, List, [], Bool, Option, Some, None, codes, decimal, length, map, set, slice_get, take}
-use Rattle.std.specs.List.{IsDistinct, count_by}
+use Rattle.std.specs.Prelude.{◌≡◌, ◌∷◌, ◌<◌, ◌==◌, ◌^◌, ◌||◌, if◌then◌else◌, ℕ, List, [], Bool, false, Option, Some, None, bytes_eq, codes, decimal, length, map, set, slice_get, take}
+use Rattle.std.specs.List.{IsDistinct, count_by, list_all}
 use Rattle.ladder_vars.specs.declared.decls.Symbol.{Symbol}
 use Rattle.ladder_vars.specs.declared.decls.Symbol.TheVariants as symbol
 use Rattle.ladder_vars.specs.declared.decls.Var.{Var}
@@ -32,6 +32,15 @@ pub record IsHeader (d : Declared) (fields : Fields) (columns : List ℕ) : Type
   pub distinct : IsDistinct (λ (a b : ℕ). a == b) columns
 
 -- ---- the records after it
+
+-- The field is a bit.
+abbrev pub is_bit : Option (List ℕ) → Bool
+is_bit (Some field) = bytes_eq field (codes "1") || bytes_eq field (codes "0")
+is_bit None = false
+
+-- All fields are bits.
+abbrev pub are_bits : Fields → Bool
+are_bits fields = list_all (λ f. is_bit (Some f)) fields
 
 -- The record is a moment, and a bit for each column.
 pub record IsRow (columns : List ℕ) (fields : Fields) (moment : ℕ) (bits : List Bool) : Type 0 where

@@ -2,6 +2,7 @@
 #![tactic(auto)]
 
 mod fault;
+mod filling;
 mod header;
 mod recording;
 mod row;

@@ -3,9 +3,9 @@
 ghost use Rattle.std.specs.Prelude.{◌≡◌, ◌<◌, ◌+◌, All, IfSome, None, count_by, drop, length, map};
 ghost use Rattle.csv.specs.Records.{field_at, fields_of};
 ghost use Rattle.ladder_vars.specs.Decls.{is_input};
-ghost use Rattle.ladder_trace.specs.Room.{are_bits, bits_of, is_bit, is_on};
+ghost use Rattle.ladder_trace.specs.Room.{bits_of, is_on};
 ghost use Rattle.ladder_trace.specs.Simulation.{IsNoRow};
-ghost use Rattle.ladder_trace.specs.Stimulus.{given_by, IsRow};
+ghost use Rattle.ladder_trace.specs.Stimulus.{are_bits, given_by, is_bit, IsRow};
 ghost use Rattle.ladder_trace.specs.Trace.{values_of};
 
 use csv::ByteRecord;

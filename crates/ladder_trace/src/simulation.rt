@@ -1,26 +1,29 @@
 //! The simulation of a stimulus, record by record.
 
-ghost use Rattle.std.specs.Prelude.{◌≡◌, ◌<◌, ◌≤◌, [], All, List, OnOk, count_by};
+ghost use Rattle.std.specs.Prelude.{◌≡◌, ◌<◌, ◌≤◌, ◌+◌, [], All, IfSome, List, OnOk, count_by, length};
 ghost use Rattle.csv.specs.Records.{fields_of};
 ghost use Rattle.ladder_grid.specs.Reading.{IsProgram};
-ghost use Rattle.ladder_records.specs.Left.{Fields, IsPlain, Left};
+ghost use Rattle.ladder_records.specs.Left.{Fields, Left};
 ghost use Rattle.ladder_records.specs.Text.{records_of};
 ghost use Rattle.ladder_scan.specs.Standing.{Fits};
 ghost use Rattle.ladder_text.specs.Log.{Puts, WriteLog};
 ghost use Rattle.ladder_vars.specs.Decls.{is_input};
+ghost use Rattle.ladder_trace.specs.Coming.{Gives, IsFresh, IsSound};
+ghost use Rattle.ladder_trace.specs.Filled.{Numbered, filled};
 ghost use Rattle.ladder_trace.specs.Room.{IsReady};
-ghost use Rattle.ladder_trace.specs.Simulation.{Films, Follows, Simulates, Waves, most};
-ghost use Rattle.ladder_trace.specs.Steps.{CanRecord, IsGoing, ScansTo, StepsTo};
+ghost use Rattle.ladder_trace.specs.Simulation.{Films, FollowsEvery, SimulatesEvery, WavesEvery, most};
+ghost use Rattle.ladder_trace.specs.Steps.{CanRecord, Ends, IsGoing, ScansTo, StepsTo};
 ghost use Rattle.ladder_trace.specs.Trace.{head_text};
 
 use crate::fault::SimFault;
+use crate::filling::{Filling, Taken, filling_from, take};
 use crate::header::columns;
 use crate::recording::{Film, Recording};
-use crate::row::{fill_inputs, give_columns, read_row};
+use crate::row::{fill_inputs, give_columns};
 use crate::trace::{write_header, write_row};
 use csv::ByteRecord;
 use ladder_grid::Program;
-use ladder_records::{Records, next, read_from};
+use ladder_records::next;
 use ladder_scan::{State, scan};
 use ladder_show::{Scan, ShowFault, write_drawing, write_film_start};
 use ladder_text::{Block, Sink, WriteFault};
@@ -33,11 +36,10 @@ const MOST: u64 = 1_000_000;
 /// The most of a film.
 const MOST_DRAWN: u64 = 1_000;
 
-/// What a simulation allocates before its first write: a record, the input image, the buffer for a row of the trace, and a state for
-/// what a waveform compares with.
+/// What a simulation allocates before its first write, beside its records: the input image, the buffer for a row of the trace, and a
+/// state for what a waveform compares with.
 #[derive(Drop)]
 struct Room {
-    row: ByteRecord,
     image: Vec<bool>,
     block: Block,
     before: State,
@@ -49,6 +51,8 @@ struct Run<'a> {
     alloc: Global,
     program: &'a Program,
     recording: Recording<'a>,
+    /// The time between two scans where a record is held, in ms; 0 where each record has one scan.
+    every: u64,
 }
 
 fn most(recording: Recording<'_>) -> u64
@@ -172,11 +176,12 @@ fn wave_scan<W: Sink>(
     Ok(())
 }
 
-/// One record: its scan, and the writing of what is recorded of it.
+/// One record, with the bits of a row: its scan, and the writing of what is recorded of it.
 fn step<W: Sink>(
     run: Run<'_>,
     columns: &[usize],
-    number: u64,
+    taken: Taken,
+    row: &ByteRecord,
     room: &mut Room,
     state: &mut State,
     writer: &mut W,
@@ -185,16 +190,19 @@ fn step<W: Sink>(
     requires fits { Fits run.program.now state.old }
     requires ready { IsReady run.program.now room.old.image.items room.old.block room.old.before }
     requires below { All (λ c. c < count_by is_input run.program.now.decls.vars) columns.now }
+    requires wide { IfSome taken.moment (λ m. length (fields_of row.now) ≡ length columns.now + 1) }
     ensures fits { Fits run.entry.program.now state.new }
     ensures ready { OnOk result (IsReady run.entry.program.now room.new.image.items room.new.block room.new.before) }
-    ensures steps { StepsTo run.entry.recording run.entry.program.now columns.now number state.old (fields_of room.old.row) state.new (W.log writer.old) (W.log writer.new) result }
+    ensures steps { (fields : Fields) → Gives columns.now taken.moment (fields_of row.now) fields
+        → StepsTo run.entry.recording run.entry.program.now columns.now taken.number state.old fields state.new (W.log writer.old) (W.log writer.new) result }
 {
-    let Some(moment) = read_row(columns, &room.row) else {
+    let number = taken.number;
+    let Some(moment) = taken.moment else {
         return Err(SimFault::BadRow { row: number });
     };
     let program = run.program;
     fill_inputs(program.decls().vars(), state, &mut room.image);
-    give_columns(columns, &room.row, &mut room.image);
+    give_columns(columns, row, &mut room.image);
     match run.recording {
         Recording::Trace => trace_scan(program, moment, number, room, state, writer),
         Recording::Film(film) => draw_scan(run, film, moment, number, &room.image, state, writer),
@@ -206,33 +214,34 @@ fn step<W: Sink>(
 fn follow_rows<W: Sink>(
     run: Run<'_>,
     columns: &[usize],
-    records: &mut Records<'_>,
+    filling: &mut Filling<'_>,
     room: &mut Room,
     state: &mut State,
     writer: &mut W,
 ) -> Result<u64, SimFault>
     requires recorded { CanRecord run.recording run.program.now }
-    requires plain { IsPlain records.old }
+    requires sound { IsSound columns.now filling.old }
+    requires first { filling.old.number ≡ 2 }
     requires fits { Fits run.program.now state.old }
     requires ready { IsReady run.program.now room.old.image.items room.old.block room.old.before }
     requires below { All (λ c. c < count_by is_input run.program.now.decls.vars) columns.now }
     ensures fits { Fits run.entry.program.now state.new }
-    ensures ends { (rows : List Fields) (log : WriteLog)
-        → IsGoing run.entry.recording run.entry.program.now columns.now state.old rows 0 state.old log (W.log writer.old) records.old
-        → Follows run.entry.recording run.entry.program.now state.old rows state.new log (W.log writer.new) result }
+    ensures ends { (all : List Numbered) (log : WriteLog)
+        → IsGoing run.entry.recording run.entry.program.now columns.now state.old all 0 state.old log (W.log writer.old) filling.old
+        → Ends run.entry.recording run.entry.program.now state.old all state.new log (W.log writer.new) result }
 {
     let most = most(run.recording);
-    for number in 0..u64::MAX {
-        let Ok(found) = next(records, &mut room.row) else {
+    for done in 0..u64::MAX {
+        let Ok(found) = take(columns, filling) else {
             return Err(SimFault::Memory);
         };
-        if !found {
-            return Ok(number);
+        let Some(taken) = found else {
+            return Ok(done);
+        };
+        if done == most {
+            return Err(SimFault::TooLong { row: taken.number });
         }
-        if number == most {
-            return Err(SimFault::TooLong { row: most + 2 });
-        }
-        if let Err(fault) = step(run, columns, number + 2, room, state, writer) {
+        if let Err(fault) = step(run, columns, taken, &filling.last, room, state, writer) {
             return Err(fault);
         }
     }
@@ -242,33 +251,33 @@ fn follow_rows<W: Sink>(
 /// Takes the records of a stimulus one after the other, and writes what is recorded of them.
 fn follow_records<W: Sink>(
     run: Run<'_>,
-    records: &mut Records<'_>,
+    filling: &mut Filling<'_>,
     room: &mut Room,
     state: &mut State,
     writer: &mut W,
 ) -> Result<u64, SimFault>
     requires recorded { CanRecord run.recording run.program.now }
-    requires plain { IsPlain records.old }
+    requires fresh { IsFresh filling.old }
     requires fits { Fits run.program.now state.old }
     requires ready { IsReady run.program.now room.old.image.items room.old.block room.old.before }
     ensures fits { Fits run.entry.program.now state.new }
-    ensures ends { (rows : List Fields) → Left records.old rows
-        → Follows run.entry.recording run.entry.program.now state.old rows state.new (W.log writer.old) (W.log writer.new) result }
+    ensures ends { (rows : List Fields) → Left filling.old.records rows
+        → Ends run.entry.recording run.entry.program.now state.old (filled filling.old.every rows) state.new (W.log writer.old) (W.log writer.new) result }
 {
-    let Ok(found) = next(records, &mut room.row) else {
+    let Ok(found) = next(&mut filling.records, &mut filling.last) else {
         return Err(SimFault::Memory);
     };
     if !found {
         return Err(SimFault::BadRow { row: 1 });
     }
-    let columns = match columns(run.alloc, run.program.decls(), &room.row) {
+    let columns = match columns(run.alloc, run.program.decls(), &filling.last) {
         Ok(columns) => columns,
         Err(fault) => return Err(fault),
     };
     let Ok(()) = write_head(run.recording, run.program, state, &mut room.block, writer) else {
         return Err(SimFault::Write);
     };
-    follow_rows(run, &columns, records, room, state, writer)
+    follow_rows(run, &columns, filling, room, state, writer)
 }
 
 /// Reads a stimulus, and writes what is recorded of its records.
@@ -281,10 +290,10 @@ fn follow<W: Sink>(
     requires recorded { CanRecord run.recording run.program.now }
     requires fits { Fits run.program.now state.old }
     ensures fits { Fits run.entry.program.now state.new }
-    ensures ends { Follows run.entry.recording run.entry.program.now state.old (records_of stimulus.now) state.new (W.log writer.old) (W.log writer.new) result }
+    ensures ends { FollowsEvery run.entry.recording run.entry.every run.entry.program.now state.old (records_of stimulus.now) state.new (W.log writer.old) (W.log writer.new) result }
 {
     let (alloc, program) = (run.alloc, run.program);
-    let mut records = read_from(alloc, stimulus);
+    let mut filling = filling_from(alloc, stimulus, run.every);
     let Ok(image) = vec![in alloc; false; program.decls().inputs()] else {
         return Err(SimFault::Memory);
     };
@@ -292,16 +301,15 @@ fn follow<W: Sink>(
         return Err(SimFault::Memory);
     };
     let mut room = Room {
-        row: ByteRecord::new(alloc),
         image,
         block: Block::new(),
         before,
     };
-    follow_records(run, &mut records, &mut room, state, writer)
+    follow_records(run, &mut filling, &mut room, state, writer)
 }
 
-/// Scans a stimulus record by record from a state, and writes the trace: each row as one piece, before the next record is read.
-/// Returns how many scans there were.
+/// Scans a stimulus record by record from a state, and writes the trace: each row as one piece, before the next record is read. Where
+/// `every` isn't 0, the inputs of a record are held until the next one, with a scan every so many ms. Returns how many scans there were.
 ///
 /// # Errors
 ///
@@ -312,16 +320,18 @@ pub fn simulate<W: Sink>(
     program: &Program,
     state: &mut State,
     stimulus: &[u8],
+    every: u64,
     writer: &mut W,
 ) -> Result<u64, SimFault>
     requires { Fits program.now state.old }
     ensures fits { Fits program.now state.new }
-    ensures ends { Simulates program.now state.old (records_of stimulus.now) state.new (W.log writer.old) (W.log writer.new) result }
+    ensures ends { SimulatesEvery every program.now state.old (records_of stimulus.now) state.new (W.log writer.old) (W.log writer.new) result }
 {
     let run = Run {
         alloc,
         program,
         recording: Recording::Trace,
+        every,
     };
     follow(run, state, stimulus, writer)
 }
@@ -348,6 +358,7 @@ pub fn write_film<W: Sink>(
         alloc,
         program,
         recording: Recording::Film(film),
+        every: 0,
     };
     follow(run, state, stimulus, writer)
 }
@@ -363,16 +374,18 @@ pub fn write_waves<W: Sink>(
     program: &Program,
     state: &mut State,
     stimulus: &[u8],
+    every: u64,
     writer: &mut W,
 ) -> Result<u64, SimFault>
     requires { Fits program.now state.old }
     ensures fits { Fits program.now state.new }
-    ensures ends { Waves program.now state.old (records_of stimulus.now) state.new (W.log writer.old) (W.log writer.new) result }
+    ensures ends { WavesEvery every program.now state.old (records_of stimulus.now) state.new (W.log writer.old) (W.log writer.new) result }
 {
     let run = Run {
         alloc,
         program,
         recording: Recording::Waves,
+        every,
     };
     follow(run, state, stimulus, writer)
 }

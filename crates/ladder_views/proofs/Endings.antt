@@ -18,7 +18,7 @@ use Rattle.ladder_words.specs.declared.request.ShowRequest.{ShowRequest}
 use Rattle.ladder_records.specs.Text.{records_of}
 use Rattle.ladder_trace.specs.declared.fault.SimFault.{SimFault}
 use Rattle.ladder_trace.specs.declared.recording.Film.{Film}
-use Rattle.ladder_trace.specs.Simulation.{Films, Simulates, Waves}
+use Rattle.ladder_trace.specs.Simulation.{Films, SimulatesEvery, WavesEvery}
 
 -- The coil's rule comes first.
 pub coil_first : (v : ShowRequest) (p : Drawing) (s : Standing) (coil : Option ℕ) (listed : List ℕ) (f : CauseFault) → coil_refusal p coil ≡ Some f
@@ -48,14 +48,14 @@ same_drawing g v p s now n coil listed given text inputs image style shown as_gi
     ∙ ap (λ t. one_scan g.program p s (assignment flags listed (unwrap_or v.number 0) s.held.values) t coil) at in
     subst (λ (x : OneScan). IsDrawn (style_for v.medium) x shown) scan (subst (λ (x : Style). IsDrawn x (one_scan text p s image now coil) shown) by drawn)
 
-pub same_stimulus : (p : Drawing) (s t : Standing) (a b : List ℕ) (old new : WriteLog) (r : Result ℕ SimFault) → a ≡ b
-    → Simulates p s (records_of a) t old new r → Simulates p s (records_of b) t old new r
-same_stimulus p s t a b old new r e h = rw e at h
+pub same_stimulus : (every other : ℕ) (p : Drawing) (s t : Standing) (a b : List ℕ) (old new : WriteLog) (r : Result ℕ SimFault) → a ≡ b → every ≡ other
+    → SimulatesEvery every p s (records_of a) t old new r → SimulatesEvery other p s (records_of b) t old new r
+same_stimulus every other p s t a b old new r e f h = rw (← f) (rw e at h)
 
 pub same_film : (film : Film) (p : Drawing) (s t : Standing) (a b : List ℕ) (old new : WriteLog) (r : Result ℕ SimFault) → a ≡ b
     → Films film p s (records_of a) t old new r → Films film p s (records_of b) t old new r
 same_film film p s t a b old new r e h = rw e at h
 
-pub same_waves : (p : Drawing) (s t : Standing) (a b : List ℕ) (old new : WriteLog) (r : Result ℕ SimFault) → a ≡ b
-    → Waves p s (records_of a) t old new r → Waves p s (records_of b) t old new r
-same_waves p s t a b old new r e h = rw e at h
+pub same_waves : (every other : ℕ) (p : Drawing) (s t : Standing) (a b : List ℕ) (old new : WriteLog) (r : Result ℕ SimFault) → a ≡ b → every ≡ other
+    → WavesEvery every p s (records_of a) t old new r → WavesEvery other p s (records_of b) t old new r
+same_waves every other p s t a b old new r e f h = rw (← f) (rw e at h)

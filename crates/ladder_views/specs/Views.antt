@@ -18,7 +18,7 @@ use Rattle.ladder_state.specs.StateText.{state_text}
 use Rattle.ladder_text.specs.Log.{PutsAll, PutsPrefix, WriteLog}
 use Rattle.ladder_trace.specs.declared.fault.SimFault.{SimFault}
 use Rattle.ladder_trace.specs.declared.recording.Film.{Film}
-use Rattle.ladder_trace.specs.Simulation.{Films, Simulates, Waves}
+use Rattle.ladder_trace.specs.Simulation.{Films, SimulatesEvery, WavesEvery}
 use Rattle.ladder_records.specs.Text.{lines_text}
 use Rattle.ladder_warnings.specs.Warnings.{warning_rows}
 use Rattle.ladder_setting.specs.declared.fault.ToolFault.{ToolFault}
@@ -107,13 +107,14 @@ HasShowFault g r f =
 
 -- ---- a simulation
 
--- The stimulus was simulated from the state that is given, with this result, and this holds of the state after its last scan.
-pub record Traces (g : Given) (out out' : WriteLog) (r : Result ℕ SimFault) (Saved : Drawing → Standing → Type 0) : Type 0 where
+-- The stimulus was simulated from the state that is given, with scans between its records where a time between two is given, with this
+-- result, and this holds of the state after the last scan.
+pub record Traces (g : Given) (every : Option ℕ) (out out' : WriteLog) (r : Result ℕ SimFault) (Saved : Drawing → Standing → Type 0) : Type 0 where
   pub program : Drawing
   pub before : Standing
   pub after : Standing
   pub set : IsSet g program before
-  pub trace : Simulates program before (stimulus_records g) after out out' r
+  pub trace : SimulatesEvery (unwrap_or every 0) program before (stimulus_records g) after out out' r
   pub saved : Saved program after
 
 -- The state is written where it is to be saved.
@@ -122,33 +123,33 @@ IsSaved true save save' p s = PutsAll save save' (state_text p s)
 IsSaved false save save' p s = save' ≡ save
 
 -- Status 0: the trace of the whole stimulus was written.
-abbrev pub IsTraced : Given → Bool → Logs → Logs → Type 0
-IsTraced g saves old new = (scans : ℕ) × Traces g old.out new.out (Ok scans) (IsSaved saves old.save new.save) × (new.err ≡ old.err)
+abbrev pub IsTraced : Given → Option ℕ → Bool → Logs → Logs → Type 0
+IsTraced g every saves old new = (scans : ℕ) × Traces g every old.out new.out (Ok scans) (IsSaved saves old.save new.save) × (new.err ≡ old.err)
 
 -- Status 1: a fault stopped the simulation, and no state was saved; or the state was to be saved, and `save` failed.
-abbrev pub BreaksTrace : Given → Bool → Logs → Logs → Type 0
-BreaksTrace g saves old new =
-    ((f : SimFault) × Traces g old.out new.out (Err f) (λ p s. new.save ≡ old.save) × IsReported g old.err new.err (fault.Sim f))
-    ⊎ ((scans : ℕ) × (saves ≡ true) × Traces g old.out new.out (Ok scans) (λ p s. PutsPrefix old.save new.save (state_text p s))
+abbrev pub BreaksTrace : Given → Option ℕ → Bool → Logs → Logs → Type 0
+BreaksTrace g every saves old new =
+    ((f : SimFault) × Traces g every old.out new.out (Err f) (λ p s. new.save ≡ old.save) × IsReported g old.err new.err (fault.Sim f))
+    ⊎ ((scans : ℕ) × (saves ≡ true) × Traces g every old.out new.out (Ok scans) (λ p s. PutsPrefix old.save new.save (state_text p s))
     × IsReported g old.err new.err fault.Write)
 
 -- ---- the waveform of a stimulus
 
--- The stimulus was simulated from the state that is given, and what its scans change was written, with this result.
-pub record WritesWaves (g : Given) (out out' : WriteLog) (end : Result ℕ SimFault) : Type 0 where
+-- The stimulus was simulated so, and what its scans change was written, with this result.
+pub record WritesWaves (g : Given) (every : Option ℕ) (out out' : WriteLog) (end : Result ℕ SimFault) : Type 0 where
   pub program : Drawing
   pub before : Standing
   pub after : Standing
   pub set : IsSet g program before
-  pub waves : Waves program before (stimulus_records g) after out out' end
+  pub waves : WavesEvery (unwrap_or every 0) program before (stimulus_records g) after out out' end
 
 -- Status 0: the waveform of the whole stimulus was written.
-abbrev pub IsWaved : Given → WriteLog → WriteLog → Type 0
-IsWaved g out out' = (scans : ℕ) × WritesWaves g out out' (Ok scans)
+abbrev pub IsWaved : Given → Option ℕ → WriteLog → WriteLog → Type 0
+IsWaved g every out out' = (scans : ℕ) × WritesWaves g every out out' (Ok scans)
 
 -- Status 1: a fault stopped the waveform.
-abbrev pub BreaksWaves : Given → Logs → Logs → Type 0
-BreaksWaves g old new = (reason : SimFault) × WritesWaves g old.out new.out (Err reason) × IsReported g old.err new.err (fault.Sim reason)
+abbrev pub BreaksWaves : Given → Option ℕ → Logs → Logs → Type 0
+BreaksWaves g every old new = (reason : SimFault) × WritesWaves g every old.out new.out (Err reason) × IsReported g old.err new.err (fault.Sim reason)
 
 -- ---- the film of a stimulus
 

@@ -44,20 +44,22 @@ pub(crate) fn stimulus(texts: &Texts) -> &[u8]
     }
 }
 
-/// Simulates the stimulus from the state of the texts, and saves the state after its last scan where that is asked for.
+/// Simulates the stimulus from the state of the texts, with scans between its records where a time between two is given, and saves the
+/// state after the last scan where that is asked for.
 pub fn trace<O: Sink, S: Sink, E: Sink>(
     alloc: Global,
     texts: &Texts,
+    every: Option<u64>,
     saves: bool,
     out: &mut O,
     save: &mut S,
     err: &mut E,
 ) -> u8
     ensures status { result ≤ 1 }
-    ensures done { result ≡ 0 → IsTraced (given_by texts.now) saves (logs (O.log out.old) (S.log save.old) (E.log err.old)) (logs (O.log out.new) (S.log save.new) (E.log err.new)) }
+    ensures done { result ≡ 0 → IsTraced (given_by texts.now) every saves (logs (O.log out.old) (S.log save.old) (E.log err.old)) (logs (O.log out.new) (S.log save.new) (E.log err.new)) }
     ensures failed { result ≡ 1
         → Refuses (given_by texts.now) (HasSettingFault (given_by texts.now)) (logs (O.log out.old) (S.log save.old) (E.log err.old)) (logs (O.log out.new) (S.log save.new) (E.log err.new))
-        ⊎ BreaksTrace (given_by texts.now) saves (logs (O.log out.old) (S.log save.old) (E.log err.old)) (logs (O.log out.new) (S.log save.new) (E.log err.new)) }
+        ⊎ BreaksTrace (given_by texts.now) every saves (logs (O.log out.old) (S.log save.old) (E.log err.old)) (logs (O.log out.new) (S.log save.new) (E.log err.new)) }
 {
     let mut setting = match read_setting(alloc, texts) {
         Ok(setting) => setting,
@@ -68,6 +70,7 @@ pub fn trace<O: Sink, S: Sink, E: Sink>(
         &setting.program,
         &mut setting.state,
         stimulus(texts),
+        every.unwrap_or(0),
         out,
     );
     if let Err(fault) = run {

@@ -12,13 +12,20 @@ use ladder_text::Sink;
 use ladder_trace::write_waves;
 use std::alloc::Global;
 
-/// Simulates the stimulus from the state of the texts, and writes what its scans change.
-pub fn wave<O: Sink, E: Sink>(alloc: Global, texts: &Texts, out: &mut O, err: &mut E) -> u8
+/// Simulates the stimulus from the state of the texts, with scans between its records where a time between two is given, and writes what
+/// its scans change.
+pub fn wave<O: Sink, E: Sink>(
+    alloc: Global,
+    texts: &Texts,
+    every: Option<u64>,
+    out: &mut O,
+    err: &mut E,
+) -> u8
     ensures status { result ≤ 1 }
-    ensures done { result ≡ 0 → IsWaved (given_by texts.now) (O.log out.old) (O.log out.new) × (E.log err.new ≡ E.log err.old) }
+    ensures done { result ≡ 0 → IsWaved (given_by texts.now) every (O.log out.old) (O.log out.new) × (E.log err.new ≡ E.log err.old) }
     ensures failed { (save : WriteLog) → result ≡ 1
         → Refuses (given_by texts.now) (HasSettingFault (given_by texts.now)) (logs (O.log out.old) save (E.log err.old)) (logs (O.log out.new) save (E.log err.new))
-        ⊎ BreaksWaves (given_by texts.now) (logs (O.log out.old) save (E.log err.old)) (logs (O.log out.new) save (E.log err.new)) }
+        ⊎ BreaksWaves (given_by texts.now) every (logs (O.log out.old) save (E.log err.old)) (logs (O.log out.new) save (E.log err.new)) }
 {
     let mut setting = match read_setting(alloc, texts) {
         Ok(setting) => setting,
@@ -29,6 +36,7 @@ pub fn wave<O: Sink, E: Sink>(alloc: Global, texts: &Texts, out: &mut O, err: &m
         &setting.program,
         &mut setting.state,
         stimulus(texts),
+        every.unwrap_or(0),
         out,
     ) {
         Ok(_) => 0,

@@ -13,6 +13,7 @@ use Rattle.ladder_words.specs.declared.request.InputOrder.TheVariants.{Given, Si
 use Rattle.ladder_words.specs.declared.request.ListRequest.{ListRequest}
 use Rattle.ladder_words.specs.declared.words.Lasting.{Lasting}
 use Rattle.ladder_words.specs.declared.words.NamedScan.{NamedScan}
+use Rattle.ladder_words.specs.declared.words.Played.{Played}
 use Rattle.ladder_words.specs.declared.request.Grouping.{Grouping}
 use Rattle.ladder_words.specs.declared.request.ShowRequest.{ShowRequest}
 use Rattle.ladder_words.specs.declared.request.FilmRequest.{FilmRequest}
@@ -431,14 +432,18 @@ no_scan_of_scan rows one none =
 pub no_film_of_scan : (rows : List Row) → (HasOption (codes "stimulus") rows None → ⊥) → (IsOfRecords rows → ⊥) → AsksNone (codes "show") rows
 no_film_of_scan rows some none = only_show rows (λ r h. some h.1) (λ r h. none (h.2, h.3, h.4))
 
-pub no_film_of_waves : (rows : List Row) → (HasOption (codes "stimulus") rows None → ⊥) → ((w : WavesRequest) → Plays rows w → ⊥) → AsksNone (codes "show") rows
+pub no_film_of_waves : (rows : List Row) → (HasOption (codes "stimulus") rows None → ⊥) → ((w : Played) → Plays rows w → ⊥) → AsksNone (codes "show") rows
 no_film_of_waves rows some none =
     only_show rows (λ r h. some h.1) (λ r h. none (record { state = r.state; file = r.file; stimulus = r.stimulus }) (h.5, h.8, h.1))
 
-pub no_sim_of_waves : (rows : List Row) → ((w : WavesRequest) → Plays rows w → ⊥) → AsksNone (codes "sim") rows
+pub no_sim_of_waves : (rows : List Row) → ((w : Played) → Plays rows w → ⊥) → AsksNone (codes "sim") rows
 no_sim_of_waves rows none =
-    only_sim rows (λ r h. none (record { state = r.state; file = r.file; stimulus = r.stimulus }) (h.2, h.4, h.5))
-    (λ r h. none r (h.3, h.4, h.5))
+    only_sim rows (λ r h. none (record { state = r.state; file = r.file; stimulus = r.stimulus }) (h.2, h.5, h.6))
+    (λ r h. none (record { state = r.state; file = r.file; stimulus = r.stimulus }) (h.3, h.5, h.6))
+
+-- The time between two scans is a number.
+pub no_sim_of_every : (rows : List Row) → ((o : Option ℕ) → HasNumber (codes "every") rows o → ⊥) → AsksNone (codes "sim") rows
+no_sim_of_every rows none = only_sim rows (λ r h. none r.every h.4) (λ r h. none r.every h.4)
 
 -- A state is saved beside a trace.
 pub no_waves_of_save : (rows : List Row) → HasFlag (codes "vcd") rows → (HasOption (codes "save") rows None → ⊥) → AsksNone (codes "sim") rows

@@ -213,12 +213,14 @@ Asks name rows (Sim r) = (name ≡ codes "sim")
     × (HasFlag (codes "vcd") rows → ⊥)
     × HasOption (codes "state") rows (option_map string_bytes r.state)
     × HasOption (codes "save") rows (option_map string_bytes r.save)
+    × HasNumber (codes "every") rows r.every
     × HasText (codes "file") rows (string_bytes r.file)
     × HasText (codes "stimulus") rows (string_bytes r.stimulus)
 Asks name rows (Waves r) = (name ≡ codes "sim")
     × HasFlag (codes "vcd") rows
     × HasOption (codes "save") rows None
     × HasOption (codes "state") rows (option_map string_bytes r.state)
+    × HasNumber (codes "every") rows r.every
     × HasText (codes "file") rows (string_bytes r.file)
     × HasText (codes "stimulus") rows (string_bytes r.stimulus)
 Asks name rows (Uses file) = (name ≡ codes "uses") × HasText (codes "file") rows (string_bytes file)

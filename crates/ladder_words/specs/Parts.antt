@@ -4,11 +4,11 @@ use Rattle.clap.specs.Words.{Row}
 use Rattle.ladder_words.specs.Asking.{HasFlag, HasForm, HasInputs, HasLasting, HasNumber, HasOption, HasOrder, HasText}
 use Rattle.ladder_words.specs.declared.words.Lasting.{Lasting}
 use Rattle.ladder_words.specs.declared.words.NamedScan.{NamedScan}
+use Rattle.ladder_words.specs.declared.words.Played.{Played}
 use Rattle.ladder_words.specs.declared.words.Sources.{Sources}
 use Rattle.ladder_words.specs.declared.request.Form.{Form}
 use Rattle.ladder_words.specs.declared.request.Form.TheVariants.{Statement}
 use Rattle.ladder_words.specs.declared.request.Grouping.{Grouping}
-use Rattle.ladder_words.specs.declared.request.WavesRequest.{WavesRequest}
 
 -- the state and the program text
 abbrev pub HasSources : List Row → Sources → Type 0
@@ -22,7 +22,7 @@ NamesScan rows s = HasOption (codes "state") rows (option_map string_bytes s.sta
     × HasInputs rows s.all_inputs (map string_bytes s.inputs.items)
 
 -- a stimulus, with the state in which its first scan begins
-abbrev pub Plays : List Row → WavesRequest → Type 0
+abbrev pub Plays : List Row → Played → Type 0
 Plays rows w = HasOption (codes "state") rows (option_map string_bytes w.state)
     × HasText (codes "file") rows (string_bytes w.file)
     × HasText (codes "stimulus") rows (string_bytes w.stimulus)

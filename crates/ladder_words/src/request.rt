@@ -138,6 +138,8 @@ pub struct SimRequest {
     pub state: Option<String>,
     /// The file that the state after the last scan is written to.
     pub save: Option<String>,
+    /// The time between two scans while a record is held, in ms; where there is none each record has one scan.
+    pub every: Option<u64>,
     /// The file of the program text.
     pub file: String,
     /// The file of the stimulus.
@@ -149,6 +151,8 @@ pub struct SimRequest {
 pub struct WavesRequest {
     /// The file of the state in which the first scan begins; the fresh one where there is none.
     pub state: Option<String>,
+    /// The time between two scans while a record is held, in ms; where there is none each record has one scan.
+    pub every: Option<u64>,
     /// The file of the program text.
     pub file: String,
     /// The file of the stimulus.
@@ -201,7 +205,7 @@ pub enum Request {
     Show(ShowRequest),
     /// The drawings of a stimulus: one scan, with its power flow, for each of its records.
     Film(FilmRequest),
-    /// The trace of a stimulus: one scan for each of its records.
+    /// The trace of a stimulus: one scan for each of its records, and those between them.
     Sim(SimRequest),
     /// The waveform of a stimulus: what each of its scans changes.
     Waves(WavesRequest),

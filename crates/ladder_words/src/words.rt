@@ -661,11 +661,11 @@ fn film_request(alloc: Global, found: &ArgMatches<'_>) -> Result<Request, WordFa
     }
     let medium = medium_of(found);
     let explained = optional(alloc, found, "coil")?;
-    let WavesRequest {
+    let Played {
         state,
         file,
         stimulus,
-    } = waves_of(alloc, found)?;
+    } = played_of(alloc, found)?;
     Ok(Request::Film(FilmRequest {
         state,
         medium,
@@ -721,18 +721,35 @@ fn waves_request(alloc: Global, found: &ArgMatches<'_>) -> Result<Request, WordF
     if is_given(found, "save") {
         return Err(WordFault::Usage);
     }
-    let waves = waves_of(alloc, found)?;
-    Ok(Request::Waves(waves))
+    let pause = number(found, "every")?;
+    let Played {
+        state,
+        file,
+        stimulus,
+    } = played_of(alloc, found)?;
+    Ok(Request::Waves(WavesRequest {
+        state,
+        every: pause,
+        file,
+        stimulus,
+    }))
 }
 
 /// What is asked of a stimulus: the state in which the first scan begins, the program text and the stimulus itself.
-fn waves_of(alloc: Global, found: &ArgMatches<'_>) -> Result<WavesRequest, WordFault>
+#[derive(Drop)]
+struct Played {
+    state: Option<String>,
+    file: String,
+    stimulus: String,
+}
+
+fn played_of(alloc: Global, found: &ArgMatches<'_>) -> Result<Played, WordFault>
     ensures ok { IfOk result (Plays (rows_of (found_of found.now))) }
-    ensures err { IfErr result (UsageWhere ((w : WavesRequest) → Plays (rows_of (found_of found.now)) w → ⊥)) }
+    ensures err { IfErr result (UsageWhere ((w : Played) → Plays (rows_of (found_of found.now)) w → ⊥)) }
 {
     let stimulus = text(alloc, found, "stimulus")?;
     let Sources { state, file } = sources_of(alloc, found)?;
-    Ok(WavesRequest {
+    Ok(Played {
         state,
         file,
         stimulus,
@@ -744,15 +761,17 @@ fn trace_request(alloc: Global, found: &ArgMatches<'_>) -> Result<Request, WordF
     ensures ok { IfOk result (Asks (codes "sim") (rows_of (found_of found.now))) }
     ensures err { IfErr result (UsageWhere (AsksNone (codes "sim") (rows_of (found_of found.now)))) }
 {
+    let pause = number(found, "every")?;
     let save = optional(alloc, found, "save")?;
-    let WavesRequest {
+    let Played {
         state,
         file,
         stimulus,
-    } = waves_of(alloc, found)?;
+    } = played_of(alloc, found)?;
     Ok(Request::Sim(SimRequest {
         state,
         save,
+        every: pause,
         file,
         stimulus,
     }))

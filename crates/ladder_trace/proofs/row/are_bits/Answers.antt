@@ -1,6 +1,6 @@
 use Rattle.std.proofs.Common.{◌≡◌, ◌∙◌, ◌+◌, ◌-◌, suc, Some, ap, arith, drop, length-drop, refl, sym, take, take_all}
 use Rattle.csv.specs.Records.{field_at, fields_of}
-use Rattle.ladder_trace.specs.Room.{are_bits, is_bit}
+use Rattle.ladder_trace.specs.Stimulus.{are_bits, is_bit}
 use Rattle.ladder_trace.proofs.Bits.{field_behind}
 use Rattle.ladder_trace.proofs.Lists.{all_more, all_not}
 use Rattle.ladder_trace.proofs.row.are_bits.Goals as goal

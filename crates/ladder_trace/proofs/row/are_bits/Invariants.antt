@@ -1,6 +1,6 @@
 use Rattle.std.specs.Prelude.{◌≡◌, ◌-◌, ◌≤◌, drop, take, true}
 use Rattle.csv.specs.Records.{fields_of}
-use Rattle.ladder_trace.specs.Room.{are_bits}
+use Rattle.ladder_trace.specs.Stimulus.{are_bits}
 use Rattle.ladder_trace.proofs.row.are_bits.Given as goal
 
 abbrev pub invariant-loop-number : goal.invariant-loop-number

@@ -10,7 +10,7 @@ returns-in-Err-run-clause-failed g c = λ status. inr (inl (
     before = c.in-Ok.setting.state;
     after = c.simulate-run.new.state;
     set = c.in-Ok.ensures.set;
-    trace = same_stimulus c.in-Ok.setting.program c.in-Ok.setting.state c.simulate-run.new.state _ _ (g.O.Sink.log c.args.out.now) (g.O.Sink.log c.simulate-run.new.writer) (Err c.in-Err-run.fault) c.stimulus.ensures c.in-Err-run.ensures.ends;
+    trace = same_stimulus _ _ c.in-Ok.setting.program c.in-Ok.setting.state c.simulate-run.new.state _ _ (g.O.Sink.log c.args.out.now) (g.O.Sink.log c.simulate-run.new.writer) (Err c.in-Err-run.fault) c.stimulus.ensures c.unwrap_or.ensures c.in-Err-run.ensures.ends;
     saved = refl;
   },
   c.report-in-Err-run.ensures.line,
@@ -25,7 +25,7 @@ returns-in_default-save_state-clause-failed g c = λ status. inr (inr (
     before = c.in-Ok.setting.state;
     after = c.simulate-run.new.state;
     set = c.in-Ok.ensures.set;
-    trace = same_stimulus c.in-Ok.setting.program c.in-Ok.setting.state c.simulate-run.new.state _ _ (g.O.Sink.log c.args.out.now) (g.O.Sink.log c.simulate-run.new.writer) (Ok c.in_default.field-0) c.stimulus.ensures c.in_default.ensures.ends;
+    trace = same_stimulus _ _ c.in-Ok.setting.program c.in-Ok.setting.state c.simulate-run.new.state _ _ (g.O.Sink.log c.args.out.now) (g.O.Sink.log c.simulate-run.new.writer) (Ok c.in_default.field-0) c.stimulus.ensures c.unwrap_or.ensures c.in_default.ensures.ends;
     saved = c.in_default-save_state.ensures.broken;
   },
   c.report-in_default-save_state.ensures.line,
@@ -39,7 +39,7 @@ returns-clause-done g c = λ status. (
     before = c.in-Ok.setting.state;
     after = c.simulate-run.new.state;
     set = c.in-Ok.ensures.set;
-    trace = same_stimulus c.in-Ok.setting.program c.in-Ok.setting.state c.simulate-run.new.state _ _ (g.O.Sink.log c.args.out.now) (g.O.Sink.log c.simulate-run.new.writer) (Ok c.in_default.field-0) c.stimulus.ensures c.in_default.ensures.ends;
+    trace = same_stimulus _ _ c.in-Ok.setting.program c.in-Ok.setting.state c.simulate-run.new.state _ _ (g.O.Sink.log c.args.out.now) (g.O.Sink.log c.simulate-run.new.writer) (Ok c.in_default.field-0) c.stimulus.ensures c.unwrap_or.ensures c.in_default.ensures.ends;
     saved = c.in-Ok-save_state.ensures.saved;
   },
   refl,

@@ -11,7 +11,7 @@ returns-in-Ok-write_waves-clause-done g c = λ status. (
       before = c.in-Ok.setting.state;
       after = c.write_waves.new.state;
       set = c.in-Ok.ensures.set;
-      waves = same_waves c.in-Ok.setting.program c.in-Ok.setting.state c.write_waves.new.state _ _ (g.O.Sink.log c.args.out.now) (g.O.Sink.log c.write_waves.new.writer) (Ok c.in-Ok-write_waves.field-0) c.stimulus.ensures
+      waves = same_waves _ _ c.in-Ok.setting.program c.in-Ok.setting.state c.write_waves.new.state _ _ (g.O.Sink.log c.args.out.now) (g.O.Sink.log c.write_waves.new.writer) (Ok c.in-Ok-write_waves.field-0) c.stimulus.ensures c.unwrap_or.ensures
           c.in-Ok-write_waves.ensures.ends;
     },
   ),
@@ -26,7 +26,7 @@ returns-clause-failed g c = λ save status. inr (
     before = c.in-Ok.setting.state;
     after = c.write_waves.new.state;
     set = c.in-Ok.ensures.set;
-    waves = same_waves c.in-Ok.setting.program c.in-Ok.setting.state c.write_waves.new.state _ _ (g.O.Sink.log c.args.out.now) (g.O.Sink.log c.write_waves.new.writer) (Err c.in-Err-write_waves.fault) c.stimulus.ensures
+    waves = same_waves _ _ c.in-Ok.setting.program c.in-Ok.setting.state c.write_waves.new.state _ _ (g.O.Sink.log c.args.out.now) (g.O.Sink.log c.write_waves.new.writer) (Err c.in-Err-write_waves.fault) c.stimulus.ensures c.unwrap_or.ensures
         c.in-Err-write_waves.ensures.ends;
   },
   c.report-in-Err-write_waves.ensures.line,
