@@ -33,6 +33,8 @@ REQUESTS = (
     (("causes", "motor.ld", "Motor", "Start", "Stop"), LINES),
     (("causes", "--state", "running.csv", "motor.ld", "Motor", "Start", "Stop"), LINES),
     (("causes", "--scans", "3", "--state", "running.csv", "motor.ld", "Motor", "Start", "Stop"), LINES),
+    (("causes", "--relevant", "--state", "running.csv", "motor.ld", "Motor"), LINES),
+    (("causes", "--relevant", "--grouped", "motor.ld", "Motor"), LINES),
     (("causes", "--any", "motor.ld", "Motor", "Start", "Stop"), LINES),
     (("causes", "--any", "--off", "--must", "motor.ld", "Motor", "Start", "Stop"), LINES),
     (("causes", "--any", "--grouped", "motor.ld", "Motor", "Start", "Stop"), LINES),
