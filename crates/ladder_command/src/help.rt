@@ -52,6 +52,9 @@ pub(crate) const EXPLAIN_HELP: &str =
 
 pub(crate) const ALL_HELP: &str = "Lists all inputs, in order of declaration; not with an INPUT";
 
+pub(crate) const PAIRS_HELP: &str =
+    "Lists pairs of variables and outputs of blocks of which never both are ON, in place of what can never come ON itself";
+
 pub(crate) const RELEVANT_HELP: &str =
     "Lists the inputs that matter to the coil in this scan, in order of declaration: no other makes a difference; not with an INPUT";
 

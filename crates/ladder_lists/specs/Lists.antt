@@ -31,6 +31,9 @@ use Rattle.ladder_dead.specs.Dead.{dead_rows, dead_text}
 use Rattle.ladder_never.specs.Cases.{IsNever}
 use Rattle.ladder_never.specs.Never.{Bits, IsOff, after_each}
 use Rattle.ladder_never.specs.Never as never
+use Rattle.ladder_pair_text.specs.PairText.{pairs_text}
+use Rattle.ladder_pairs.specs.Pairs.{AreApart, ArePairs}
+use Rattle.ladder_pairs.specs.declared.pair.Pair.{Pair}
 use Rattle.ladder_sim.specs.CauseText.{cause_text, limited}
 use Rattle.ladder_possible.specs.Possible.{AreRows}
 use Rattle.ladder_possible.specs.declared.before.Before.{Before}
@@ -244,6 +247,41 @@ abbrev pub BreaksNever : Given → NeverRequest → Logs → Logs → Type 0
 BreaksNever g r old new =
     (ListsNever g (PutsPrefix old.out new.out) × IsReported g old.err new.err fault.Write)
     ⊎ CountsNever g r old.out new.out (PutsPrefix old.err new.err)
+
+-- ---- what is never ON together
+
+-- Pairs of variables and outputs of blocks are written, whole or as far as `Written` says. None is an input or can never come ON, of no pair
+-- both are ON in the state, and so it is after any scans from there, with any inputs and at any moments.
+pub record ListsPairs (g : Given) (Written : List ℕ → Type 0) : Type 0 where
+  pub program : Drawing
+  pub state : Standing
+  pub set : IsSet g program state
+  pub dead : Bits
+  pub settled : IsNever program state dead
+  pub pairs : List Pair
+  pub are : ArePairs program state dead pairs
+  pub apart : (scans : List never.OneScan) → AreApart pairs (after_each (diagram_of program) scans state.held)
+  pub rows : Written (pairs_text program pairs)
+
+-- The rows were listed, and then their number is written: whole, or as far as `Counted` says.
+pub record CountsPairs (g : Given) (r : NeverRequest) (out out' : WriteLog) (Counted : List ℕ → Type 0) : Type 0 where
+  pub list : ListsPairs g (PutsAll out out')
+  pub count : Counted (unless_quiet r.quiet (held_line (length list.pairs)))
+
+-- Status 1: `out` failed at the rows, or `err` at their count.
+abbrev pub BreaksPairs : Given → NeverRequest → Logs → Logs → Type 0
+BreaksPairs g r old new =
+    (ListsPairs g (PutsPrefix old.out new.out) × IsReported g old.err new.err fault.Write)
+    ⊎ CountsPairs g r old.out new.out (PutsPrefix old.err new.err)
+
+-- names, or pairs of them
+abbrev pub CountsNeverBy : Bool → Given → NeverRequest → WriteLog → WriteLog → (List ℕ → Type 0) → Type 0
+CountsNeverBy true = CountsPairs
+CountsNeverBy false = CountsNever
+
+abbrev pub BreaksNeverBy : Bool → Given → NeverRequest → Logs → Logs → Type 0
+BreaksNeverBy true = BreaksPairs
+BreaksNeverBy false = BreaksNever
 
 -- ---- what some state switches on
 

@@ -7,6 +7,7 @@ mod held_grouping;
 mod holding;
 mod listing;
 mod never;
+mod pairing;
 mod possible;
 mod possible_grouping;
 mod relevant;

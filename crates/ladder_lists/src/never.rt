@@ -4,10 +4,11 @@ ghost use Rattle.std.specs.Prelude.{◌≡◌, ◌≤◌, ◌⊎◌};
 ghost use Rattle.ladder_scan.specs.Standing.{Fits};
 ghost use Rattle.ladder_text.specs.Log.{PutsAll, WriteLog};
 ghost use Rattle.ladder_setting.specs.Reports.{Refuses, logs};
-ghost use Rattle.ladder_lists.specs.Lists.{BreaksNever, CountsNever, HasNeverFault};
+ghost use Rattle.ladder_lists.specs.Lists.{BreaksNever, BreaksNeverBy, CountsNever, CountsNeverBy, HasNeverFault};
 ghost use Rattle.ladder_setting.specs.Setting.{IsSet, given_by};
 
 use crate::holding::put_count;
+use crate::pairing::list_pairs;
 use ladder_dead::write_dead;
 use ladder_grid::Program;
 use ladder_never::never_on;
@@ -18,7 +19,7 @@ use ladder_words::NeverRequest;
 use std::alloc::Global;
 
 /// How many scans may settle one variable or output of a block, in each round of the search.
-const SCANS: u32 = 1_000;
+pub(crate) const SCANS: u32 = 1_000;
 
 /// Lists the names that can never come ON from a state on.
 fn list_from<O: Sink, E: Sink>(
@@ -51,7 +52,7 @@ fn list_from<O: Sink, E: Sink>(
 }
 
 /// Lists the names that can never come ON from the state of the texts on.
-pub fn list_never<O: Sink, E: Sink>(
+fn list_names<O: Sink, E: Sink>(
     alloc: Global,
     request: &NeverRequest,
     texts: &Texts,
@@ -71,4 +72,25 @@ pub fn list_never<O: Sink, E: Sink>(
         }
         Err(fault) => report(texts, &fault, err),
     }
+}
+
+/// Lists what can never come ON from the state of the texts on: names, or pairs of names of which never both are ON, where these are asked
+/// for.
+pub fn list_never<O: Sink, E: Sink>(
+    alloc: Global,
+    request: &NeverRequest,
+    texts: &Texts,
+    out: &mut O,
+    err: &mut E,
+) -> u8
+    ensures status { result ≤ 1 }
+    ensures done { result ≡ 0 → CountsNeverBy request.now.pairs (given_by texts.now) request.now (O.log out.old) (O.log out.new) (PutsAll (E.log err.old) (E.log err.new)) }
+    ensures failed { (save : WriteLog) → result ≡ 1
+        → Refuses (given_by texts.now) (HasNeverFault (given_by texts.now)) (logs (O.log out.old) save (E.log err.old)) (logs (O.log out.new) save (E.log err.new))
+        ⊎ BreaksNeverBy request.now.pairs (given_by texts.now) request.now (logs (O.log out.old) save (E.log err.old)) (logs (O.log out.new) save (E.log err.new)) }
+{
+    if request.pairs {
+        return list_pairs(alloc, request, texts, out, err);
+    }
+    list_names(alloc, request, texts, out, err)
 }

@@ -10,7 +10,7 @@ use Rattle.ladder_words.specs.declared.request.Request.TheVariants as request
 use Rattle.ladder_setting.specs.Setting.{Given, HasProgramFault, HasSettingFault}
 use Rattle.ladder_setting.specs.Reports.{IsReported, Logs, Refuses}
 use Rattle.ladder_carry.specs.Carrying.{BreaksCarrying, Carries}
-use Rattle.ladder_lists.specs.Lists.{BreaksGroups, BreaksHeldBy, BreaksList, BreaksNever, BreaksPossibleBy, BreaksRelevant, CountsGroups, CountsHeldBy, CountsList, CountsNever, CountsPossibleBy, CountsRelevant, HasHeldFaultBy, HasListFault, HasNeverFault, HasPossibleFaultBy, HasRelevantFault, after_for, scans_of}
+use Rattle.ladder_lists.specs.Lists.{BreaksGroups, BreaksHeldBy, BreaksList, BreaksNeverBy, BreaksPossibleBy, BreaksRelevant, CountsGroups, CountsHeldBy, CountsList, CountsNeverBy, CountsPossibleBy, CountsRelevant, HasHeldFaultBy, HasListFault, HasNeverFault, HasPossibleFaultBy, HasRelevantFault, after_for, scans_of}
 use Rattle.ladder_views.specs.Views.{BreaksFilm, BreaksTrace, BreaksWaves, HasFilmFault, HasShowFault, IsFilmed, IsTraced, IsWaved, Prints, Shows, check_text}
 
 -- Status 0. Only a simulation writes on `save`, and only a list on `err`.
@@ -18,7 +18,7 @@ abbrev pub IsDone : Request → Given → Logs → Logs → Type 0
 IsDone (Check file warns) g old new = Prints (check_text warns) g.program (PutsAll old.out new.out) × (new.save ≡ old.save) × (new.err ≡ old.err)
 IsDone (Causes list after) g old new = CountsList g list after old.out new.out (PutsAll old.err new.err) × (new.save ≡ old.save)
 IsDone (Held list scans every grouped) g old new = CountsHeldBy grouped g list (scans_of scans every) old.out new.out (PutsAll old.err new.err) × (new.save ≡ old.save)
-IsDone (request.Never r) g old new = CountsNever g r old.out new.out (PutsAll old.err new.err) × (new.save ≡ old.save)
+IsDone (request.Never r) g old new = CountsNeverBy r.pairs g r old.out new.out (PutsAll old.err new.err) × (new.save ≡ old.save)
 IsDone (request.Possible r) g old new = CountsPossibleBy r.grouped g r old.out new.out (PutsAll old.err new.err) × (new.save ≡ old.save)
 IsDone (Groups list grouping) g old new = CountsGroups g list grouping old.out new.out (PutsAll old.err new.err) × (new.save ≡ old.save)
 IsDone (request.Relevant list after grouping) g old new = CountsRelevant g list after grouping old.out new.out (PutsAll old.err new.err) × (new.save ≡ old.save)
@@ -51,7 +51,7 @@ Breaks (Check file warns) g old new =
     Prints (check_text warns) g.program (PutsPrefix old.out new.out) × (new.save ≡ old.save) × IsReported g old.err new.err fault.Write
 Breaks (Causes list after) g old new = BreaksList g list after old new × (new.save ≡ old.save)
 Breaks (Held list scans every grouped) g old new = BreaksHeldBy grouped g list (scans_of scans every) old new × (new.save ≡ old.save)
-Breaks (request.Never r) g old new = BreaksNever g r old new × (new.save ≡ old.save)
+Breaks (request.Never r) g old new = BreaksNeverBy r.pairs g r old new × (new.save ≡ old.save)
 Breaks (request.Possible r) g old new = BreaksPossibleBy r.grouped g r old new × (new.save ≡ old.save)
 Breaks (Groups list grouping) g old new = BreaksGroups g list grouping old new × (new.save ≡ old.save)
 Breaks (request.Relevant list after grouping) g old new = BreaksRelevant g list after grouping old new × (new.save ≡ old.save)

@@ -189,6 +189,7 @@ Asks name rows (Relevant list after grouping) = (name ≡ codes "causes")
     × IsOfOneState rows
 Asks name rows (Never r) = (name ≡ codes "never")
     × HasOption (codes "state") rows (option_map string_bytes r.state)
+    × HasSwitch (codes "pairs") rows r.pairs
     × HasSwitch (codes "quiet") rows r.quiet
     × HasText (codes "file") rows (string_bytes r.file)
 Asks name rows (Show r) = (name ≡ codes "show")

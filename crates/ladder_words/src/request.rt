@@ -89,6 +89,8 @@ pub struct PossibleRequest {
 pub struct NeverRequest {
     /// The file of the state from which on it is asked; the fresh one where there is none.
     pub state: Option<String>,
+    /// Whether pairs are asked for of which never both are ON, in place of what can never come ON itself.
+    pub pairs: bool,
     /// Whether the number of rows isn't told.
     pub quiet: bool,
     /// The file of the program text.

@@ -608,9 +608,15 @@ fn never_request(alloc: Global, found: &ArgMatches<'_>) -> Result<Request, WordF
     ensures ok { IfOk result (Asks (codes "never") (rows_of (found_of found.now))) }
     ensures err { IfErr result (UsageWhere (AsksNone (codes "never") (rows_of (found_of found.now)))) }
 {
+    let pairs = is_set(found, "pairs");
     let quiet = is_set(found, "quiet");
     let Sources { state, file } = sources_of(alloc, found)?;
-    Ok(Request::Never(NeverRequest { state, quiet, file }))
+    Ok(Request::Never(NeverRequest {
+        state,
+        pairs,
+        quiet,
+        file,
+    }))
 }
 
 fn show_request(alloc: Global, found: &ArgMatches<'_>) -> Result<Request, WordFault>
