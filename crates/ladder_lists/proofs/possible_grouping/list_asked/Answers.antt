@@ -11,7 +11,7 @@ returns-in-Err-clause-failed g c = λ save status.
     let q = stored_question c.args.asked.now in
     inl (record {
       reason = fault.Cause c.in-Err.fault;
-      has = inr (inr (q, c.requires, cause_fault (possible_group_refusal q) c.in-Err.fault c.in-Err.ensures.refused));
+      has = inr (inr (q, c.requires.asked, cause_fault (possible_group_refusal q) c.in-Err.fault c.in-Err.ensures.refused));
       unwritten = refl {a = g.O.Sink.log c.args.out.now};
       unsaved = refl {a = save};
       reported = c.report.ensures.line;
@@ -24,7 +24,7 @@ returns-in_default-clause-failed g c = λ save status.
     inr (inl ((
       record {
         question = q;
-        asked = c.requires;
+        asked = c.requires.asked;
         accepted = made.accepted;
         groups = c.in-Ok.cursor.rest;
         are = rw (c.before_of-before.ensures, c.claim_of-claim.ensures) at made.rest;
@@ -42,7 +42,7 @@ returns-in_default-put_counts-clause-failed g c = λ save status.
     inr (inr (record {
       list = record {
         question = q;
-        asked = c.requires;
+        asked = c.requires.asked;
         accepted = made.accepted;
         groups = c.in-Ok.cursor.rest;
         are = rw (c.before_of-before.ensures, c.claim_of-claim.ensures) at made.rest;
@@ -61,7 +61,7 @@ returns-clause-done g c = λ status.
     record {
       list = record {
         question = q;
-        asked = c.requires;
+        asked = c.requires.asked;
         accepted = made.accepted;
         groups = c.in-Ok.cursor.rest;
         are = rw (c.before_of-before.ensures, c.claim_of-claim.ensures) at made.rest;
