@@ -1,0 +1,207 @@
+-- Pairs that are settled to stay apart are never both ON.
+use Rattle.std.proofs.Common.{◌≡◌, ◌∙◌, ◌&&◌, ◌⊎◌, inl, inr, ℕ, Bool, true, false, List, [], ◌∷◌, map, get_or, refl, sym, ap, subst}
+use Rattle.std.specs.Prelude.{All}
+use Rattle.std.proofs.lemmas.List.Elements.{All-contains, All-nil}
+use Rattle.ladder_vars.specs.declared.kind.BlockKind.TheVariants.{Ton}
+use Rattle.ladder_vars.specs.declared.decls.Symbol.{Symbol}
+use Rattle.ladder_vars.specs.declared.decls.Symbol.TheVariants as symbol
+use Rattle.ladder_vars.specs.Decls.{is_input}
+use Rattle.ladder_grid.specs.Program.{Drawing}
+use Rattle.ladder_elements.specs.declared.block.Stored.{Stored}
+use Rattle.ladder_elements.specs.Blocks.{q_of, new_block}
+use Rattle.ladder_elements.specs.Truth.{plain}
+use Rattle.ladder_scan.specs.Programs.{diagram_of, IsSound}
+use Rattle.ladder_scan.specs.Rung.{Held}
+use Rattle.ladder_scan.specs.RungByRung.{scanned, shape}
+use Rattle.ladder_scan.specs.Scan.{after_scan, given}
+use Rattle.ladder_scan.proofs.ByList.{scanned_is}
+use Rattle.ladder_scan.proofs.Possible.{scanned_shapes}
+use Rattle.ladder_scan.proofs.Sizes.{scan_lengths}
+use Rattle.ladder_known.specs.KnownScan.{Known, after_known, all_known, kept_at, plainly}
+use Rattle.ladder_known.specs.KnownLaws.{BothKnown, KnownIsScan, ScanKeeps}
+use Rattle.ladder_known.proofs.Lists.{get_both, map_same}
+use Rattle.ladder_signals.specs.Three.{three, three_allows, three_known, three_meet}
+use Rattle.ladder_signals.specs.declared.tri.Tri.{Tri}
+use Rattle.ladder_signals.specs.declared.tri.Tri.TheVariants.{Off, On, Unsure}
+use Rattle.ladder_never.specs.Never.{Bits, IsOff, IsSetOf, OneScan, after_each, knowing}
+use Rattle.ladder_never.specs.Allowing.{Allows, AllowsState, is_on_in}
+use Rattle.ladder_never.specs.Cases.{IsSettled, IsSettledOff, answering, by_answers, by_cases, by_scan, pinned, told}
+use Rattle.ladder_never.specs.OutcomeLaws.{q_sound}
+use Rattle.ladder_never.specs.Outcomes.{MayStore, outcomes, q_known}
+use Rattle.ladder_never.specs.declared.answer.Answer.TheVariants.{Off as AnswersOff, On as AnswersOn, Input}
+use Rattle.ladder_never.specs.declared.outcome.Outcome.{Outcome}
+use Rattle.ladder_never.specs.declared.outcome.Outcome.TheVariants.{Anything}
+use Rattle.ladder_never.specs.declared.point.Point.{Point}
+use Rattle.ladder_never.proofs.Listed.{both_at, given_same}
+use Rattle.ladder_never.proofs.OffForEver.{Holds, answer_allows, begun, holds_begun, knowing_holds, pin_allows, scan_begun, standing_holds}
+use Rattle.ladder_pairs.specs.Pairs.{AreApart, AreExcluded, AreNeverBoth, ArePairs, IsExcluded, IsForcedOff, IsOutside, IsPairOutside, are_both_on, point_of}
+use Rattle.ladder_pairs.specs.Pairs as pairs_of
+use Rattle.ladder_pairs.specs.declared.pair.Pair.{Pair}
+
+-- ---- what is known of one of a pair
+
+is_known : (x : Tri) (b value : Bool) → three_allows x 0 b → x ≡ three_known value → b ≡ value
+is_known x b true h e = subst (λ (y : Tri). three_allows y 0 b) e h
+is_known x b false h e = subst (λ (y : Tri). three_allows y 0 b) e h
+
+told_is : (p : Drawing) (now : ℕ) (k : Known Tri Outcome) (h : Held) → AllowsState p now k h → (s : Symbol) (value : Bool) → told (point_of s) k ≡ three_known value
+    → is_on_in (point_of s) h ≡ value
+unfolding told
+told_is p now k h both (symbol.Var var) value e =
+    subst (λ (vs : List Bool). get_or vs var false ≡ value) (map_same h.values)
+    (is_known _ _ value ((both_at Allows k.values (map (λ v. v) h.values) both.values Off false (tt, λ _. refl) var).1 refl) e)
+told_is p now k h both (symbol.Instance inst) value e =
+    let d = diagram_of p in
+    subst (λ (ss : List Stored). q_of (get_or ss inst (new_block Ton)) ≡ value) (map_same h.kept.blocks)
+    (is_known (q_known (kept_at outcomes k inst)) _ value
+    (q_sound (d.kind inst) (d.preset inst) now (kept_at outcomes k inst) (get_or (map (λ s. s) h.kept.blocks) inst (new_block Ton))
+    (get_both (λ i. MayStore (d.kind i) (d.preset i) now) k.blocks (map (λ s. s) h.kept.blocks) both.blocks Anything (new_block Ton) (λ i. tt) inst)) e)
+
+either_off : (x y : Tri) → three_meet x y ≡ Off → (x ≡ Off) ⊎ (y ≡ Off)
+either_off Off y e = inl refl
+either_off On y e = inr e
+either_off Unsure Off e = inr refl
+either_off Unsure On e = cc
+either_off Unsure Unsure e = cc
+
+first_not : (a b : Bool) → a ≡ false → (a && b) ≡ false
+first_not a b e = ap (λ x. x && b) e
+
+second_not : (a b : Bool) → b ≡ false → (a && b) ≡ false
+second_not true b e = e
+second_not false b e = refl
+
+then_second : (a b : Bool) → (a && b) ≡ false → a ≡ true → b ≡ false
+then_second true b e f = e
+then_second false b e f = cc
+
+then_first : (a b : Bool) → (a && b) ≡ false → b ≡ true → a ≡ false
+then_first true b e f = cc
+then_first false b e f = refl
+
+either_case : {A : Type 0} (b : Bool) → (b ≡ true → A) → (b ≡ false → A) → A
+either_case true f g = f refl
+either_case false f g = g refl
+
+forced_off : (p : Drawing) (now : ℕ) (k : Known Tri Outcome) (h : Held) → AllowsState p now k h → (pairs : List Pair) → AreApart pairs h → (point : Point)
+    → IsForcedOff pairs k point → is_on_in point h ≡ false
+forced_off p now k h both pairs apart point (pairs_of.by_first pair among on e) =
+    ap (λ x. is_on_in x h) e
+    ∙ then_second _ _ (All-contains (λ x. are_both_on h x ≡ false) pairs pair apart among) (told_is p now k h both pair.first true on)
+forced_off p now k h both pairs apart point (pairs_of.by_second pair among on e) =
+    ap (λ x. is_on_in x h) e
+    ∙ then_first _ _ (All-contains (λ x. are_both_on h x ≡ false) pairs pair apart among) (told_is p now k h both pair.second true on)
+
+module _ (p : Drawing)
+    (keeps : (now : ℕ) → ScanKeeps (diagram_of p) three plain outcomes plainly Allows (λ inst. MayStore ((diagram_of p).kind inst) ((diagram_of p).preset inst) now) 0 now)
+    (known : KnownIsScan (diagram_of p)) where
+  -- ---- one scan
+
+  scan_allows : (now : ℕ) (k : Known Tri Outcome) (h : Held) → AllowsState p now k h → AllowsState p now (after_known three outcomes (diagram_of p) 0 [] k) (after_scan (diagram_of p) now [] h)
+  scan_allows now k h both =
+      let d = diagram_of p in
+      subst (λ (l : Known Bool Stored). BothKnown Allows (λ inst. MayStore (d.kind inst) (d.preset inst) now) (after_known three outcomes d 0 [] k) l)
+      (known h now []) (keeps now [] [] tt k (all_known plain plainly h) both)
+
+  -- After it not both of the target are ON.
+  excluded : (pairs : List Pair) (target : Pair) (k : Known Tri Outcome) → IsExcluded p pairs target k → (now : ℕ) (h : Held) → AllowsState p now k h → AreApart pairs h
+      → are_both_on (after_scan (diagram_of p) now [] h) target ≡ false
+  excluded pairs target _ (pairs_of.by_scan k e) now h both apart =
+      let then = told_is p now _ _ (scan_allows now k h both) in
+      elim (either_off _ _ e) [
+        | inl f ↦ first_not _ _ (then target.first false f)
+        | inr f ↦ second_not _ _ (then target.second false f)
+      ]
+  excluded pairs target _ (pairs_of.by_partner k point forced more) now h both apart =
+      excluded pairs target (pinned k point (three_known false)) more now h
+      (subst (λ (b : Bool). AllowsState p now (pinned k point (three_known b)) h) (forced_off p now k h both pairs apart point forced) (pin_allows p now k h both point)) apart
+  excluded pairs target _ (pairs_of.by_cases k point off on) now h both apart =
+      let here = pin_allows p now k h both point in
+      let Allowed = λ (b : Bool). AllowsState p now (pinned k point (three_known b)) h in
+      either_case (is_on_in point h)
+      (λ e. excluded pairs target (pinned k point (three_known true)) on now h (subst Allowed e here) apart)
+      (λ e. excluded pairs target (pinned k point (three_known false)) off now h (subst Allowed e here) apart)
+  excluded pairs target _ (pairs_of.by_answers k inst off on input) now h both apart = elim (answer_allows p now k h both inst) [
+    | inl m ↦ excluded pairs target (answering k inst AnswersOff) off now h m apart
+    | inr (inl m) ↦ excluded pairs target (answering k inst AnswersOn) on now h m apart
+    | inr (inr m) ↦ excluded pairs target (answering k inst Input) input now h m apart
+  ]
+
+-- What is settled to be OFF, in a pair with itself.
+abbrev twice : Symbol → Pair
+twice s = record { first = s; second = s }
+
+alone : (p : Drawing) (pairs : List Pair) (s : Symbol) (k : Known Tri Outcome) → IsSettled p (point_of s) false k → IsExcluded p pairs (twice s) k
+alone p pairs s _ (by_scan k e) = pairs_of.by_scan k (ap (λ (x : Tri). three_meet x x) e)
+alone p pairs s _ (by_cases k point off on) = pairs_of.by_cases k point (alone p pairs s (pinned k point (three_known false)) off) (alone p pairs s (pinned k point (three_known true)) on)
+alone p pairs s _ (by_answers k inst off on input) =
+    pairs_of.by_answers k inst (alone p pairs s (answering k inst AnswersOff) off) (alone p pairs s (answering k inst AnswersOn) on) (alone p pairs s (answering k inst Input) input)
+
+both_itself : (a : Bool) → (a && a) ≡ false → a ≡ false
+both_itself true e = e
+both_itself false e = refl
+
+both_same : (a b c d : Bool) → a ≡ c → b ≡ d → (a && b) ≡ (c && d)
+both_same a b c d e f = ap (λ x. x && b) e ∙ ap (λ x. c && x) f
+
+begun_same : (p : Drawing) (z : Bits) (s : Symbol) → IsOutside p z s → (inputs : List Bool) (h : Held) → is_on_in (point_of s) (begun p inputs h) ≡ is_on_in (point_of s) h
+unfolding diagram_of
+begun_same p z (symbol.Var var) o inputs h = given_same (map is_input p.decls.vars) inputs h.values var o.1
+begun_same p z (symbol.Instance inst) o inputs h = refl
+
+module _ (p : Drawing) (sound : IsSound (diagram_of p))
+    (keeps : (now : ℕ) → ScanKeeps (diagram_of p) three plain outcomes plainly Allows (λ inst. MayStore ((diagram_of p).kind inst) ((diagram_of p).preset inst) now) 0 now)
+    (known : KnownIsScan (diagram_of p)) (z : Bits) (set : IsSetOf p z) (settled : IsSettledOff p z) where
+  -- ---- the set stays OFF
+
+  off_then : (s : Symbol) → IsSettled p (point_of s) false (knowing p z) → (h : Held) → Holds p z h → (now : ℕ) (inputs : List Bool)
+      → is_on_in (point_of s) (after_scan (diagram_of p) now inputs h) ≡ false
+  off_then s is h holds now inputs =
+      subst (λ (next : Held). is_on_in (point_of s) next ≡ false) (scan_begun p now inputs h)
+      (both_itself _ (excluded p keeps known [] (twice s) (knowing p z) (alone p [] s (knowing p z) is) now (begun p inputs h)
+      (knowing_holds p z set now (begun p inputs h) (holds_begun p z set inputs h holds)) (All-nil (λ pair. are_both_on (begun p inputs h) pair ≡ false))))
+
+  still_off : (h : Held) → Holds p z h → (now : ℕ) (inputs : List Bool) → IsOff z (after_scan (diagram_of p) now inputs h)
+  still_off h holds now inputs = record {
+    variables = λ var m. off_then (symbol.Var var) (settled.variables var m) h holds now inputs;
+    instances = λ inst m. off_then (symbol.Instance inst) (settled.instances inst m) h holds now inputs;
+  }
+
+  holds_on : (h : Held) → Holds p z h → (now : ℕ) (inputs : List Bool) → Holds p z (after_scan (diagram_of p) now inputs h)
+  holds_on h holds now inputs =
+      let d = diagram_of p in
+      let start : Held = record { values = given d.inputs inputs h.values; kept = h.kept } in
+      let by_rungs : after_scan d now inputs h ≡ (scanned d now start d.rungs).held = sym (scanned_is d sound.forward now start) in
+      let lengths = scan_lengths d now d.inputs inputs h start (after_scan d now inputs h) d.rungs refl by_rungs in
+      record {
+        values = lengths.values ∙ holds.values;
+        memories = lengths.memories ∙ holds.memories;
+        shapes = ap (λ (x : Held). map shape x.kept.blocks) by_rungs ∙ scanned_shapes d now start d.rungs ∙ holds.shapes;
+        off = still_off h holds now inputs;
+      }
+
+  -- ---- and so the pairs stay apart
+
+  module _ (pairs : List Pair) (outside : All (IsPairOutside p z) pairs) (are : AreExcluded p z pairs) where
+    apart_begun : (h : Held) → AreApart pairs h → (inputs : List Bool) → AreApart pairs (begun p inputs h)
+    apart_begun h apart inputs = λ k d l.
+        both_same _ _ _ _ (begun_same p z (get_or pairs k d).first (outside k d l).first inputs h) (begun_same p z (get_or pairs k d).second (outside k d l).second inputs h)
+        ∙ apart k d l
+
+    apart_then : (h : Held) → Holds p z h → AreApart pairs h → (now : ℕ) (inputs : List Bool) → AreApart pairs (after_scan (diagram_of p) now inputs h)
+    apart_then h holds apart now inputs = λ k d l.
+        subst (λ (next : Held). are_both_on next (get_or pairs k d) ≡ false) (scan_begun p now inputs h)
+        (excluded p keeps known pairs (get_or pairs k d) (knowing p z) (are k d l) now (begun p inputs h)
+        (knowing_holds p z set now (begun p inputs h) (holds_begun p z set inputs h holds)) (apart_begun h apart inputs))
+
+    apart_after : (scans : List OneScan) (h : Held) → Holds p z h → AreApart pairs h → AreApart pairs (after_each (diagram_of p) scans h)
+    unfolding after_each
+    apart_after [] h holds apart = apart
+    apart_after (scan ∷ more) h holds apart =
+        apart_after more (after_scan (diagram_of p) scan.moment scan.inputs h) (holds_on h holds scan.moment scan.inputs) (apart_then h holds apart scan.moment scan.inputs)
+
+pub never_both : (p : Drawing) → IsSound (diagram_of p)
+    → ((now : ℕ) → ScanKeeps (diagram_of p) three plain outcomes plainly Allows (λ inst. MayStore ((diagram_of p).kind inst) ((diagram_of p).preset inst) now) 0 now)
+    → KnownIsScan (diagram_of p) → AreNeverBoth p
+never_both p sound keeps known s fits standing z set settled off pairs are scans =
+    apart_after p sound keeps known z set settled pairs are.outside are.excluded scans s.held (standing_holds p s fits standing z off) are.apart

@@ -1,0 +1,19 @@
+use Rattle.std.proofs.Common.{◌≡◌, ◌≤◌, ◌+◌, ◌-◌, length, take}
+use Rattle.std.specs.Prelude.{All, Contains}
+use Rattle.ladder_glance.specs.Sizes.{HasSizes}
+use Rattle.ladder_pairs.specs.Pairs.{IsExcluded}
+use Rattle.ladder_pairs.proofs.removing.remove.Given as goal
+
+abbrev pub invariant-loop-number : goal.invariant-loop-number
+invariant-loop-number l = record {
+  few : l.number ≤ length l.pairs.items;
+  within : All (Contains l.fn.pairs.items) l.pairs.items;
+  count : length l.pairs.items + l.removed ≡ length l.fn.pairs.items;
+  excluded : l.removed ≡ 0 → All (λ pair. IsExcluded l.program l.pairs.items pair l.fn.space.case) (take l.number l.pairs.items);
+  case : l.space.case ≡ l.fn.space.case;
+  trial : HasSizes l.program l.space.trial;
+  room : l.space.room ≡ l.fn.space.room;
+}
+
+abbrev pub decreases-loop-number : goal.decreases-loop-number
+decreases-loop-number l = length l.pairs.items - l.number

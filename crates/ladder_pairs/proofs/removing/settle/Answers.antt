@@ -1,0 +1,23 @@
+use Rattle.std.proofs.Common.{◌∙◌, arith, refl}
+use Rattle.std.proofs.lemmas.List.Elements.{All-contains_itself}
+use Rattle.ladder_pairs.proofs.Kept.{excluded_from, within_both}
+use Rattle.ladder_pairs.proofs.removing.settle.Goals as goal
+
+pub loop-removed-init : goal.loop-removed-init
+loop-removed-init c = record {
+  within = All-contains_itself c.args.pairs.now.items;
+  excluded = λ e. absurd (omega (arith, e));
+  case = refl;
+  trial = c.requires.trial;
+  room = refl;
+}
+
+pub loop-removed-preserved : goal.loop-removed-preserved
+loop-removed-preserved c =
+    let inv = c.loop-removed.invariant in record {
+      within = within_both c.args.pairs.now.items c.loop-removed.pairs.items _ inv.within c.remove-removed.ensures.within;
+      excluded = λ none. excluded_from c.args.program.now _ _ c.args.space.now.case inv.case (c.remove-removed.ensures.excluded none);
+      case = c.remove-removed.ensures.case ∙ inv.case;
+      trial = c.remove-removed.ensures.trial;
+      room = c.remove-removed.ensures.room ∙ inv.room;
+    }

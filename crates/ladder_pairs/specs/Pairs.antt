@@ -1,0 +1,82 @@
+-- What is never ON together: pairs of variables and outputs of blocks of which not both are ON, whatever the inputs do.
+use Rattle.std.specs.Prelude.{◌≡◌, ◌<◌, ◌&&◌, ℕ, Bool, true, false, List, [], All, Contains, length, map, slice_index_or}
+use Rattle.ladder_vars.specs.Decls.{is_input}
+use Rattle.ladder_vars.specs.declared.decls.Symbol.{Symbol}
+use Rattle.ladder_vars.specs.declared.decls.Symbol.TheVariants as symbol
+use Rattle.ladder_grid.specs.Program.{Drawing}
+use Rattle.ladder_scan.specs.Programs.{diagram_of}
+use Rattle.ladder_scan.specs.Rung.{Held}
+use Rattle.ladder_scan.specs.Standing.{Standing, Fits, IsStanding}
+use Rattle.ladder_known.specs.KnownScan.{Known, after_known}
+use Rattle.ladder_signals.specs.Three.{three, three_known, three_meet}
+use Rattle.ladder_signals.specs.declared.tri.Tri.{Tri}
+use Rattle.ladder_signals.specs.declared.tri.Tri.TheVariants.{Off, On}
+use Rattle.ladder_never.specs.Allowing.{is_on_in}
+use Rattle.ladder_never.specs.Cases.{IsSettledOff, answering, pinned, told}
+use Rattle.ladder_never.specs.Never.{Bits, IsOff, IsSetOf, OneScan, after_each, is_in, knowing}
+use Rattle.ladder_never.specs.Outcomes.{outcomes}
+use Rattle.ladder_never.specs.declared.answer.Answer.TheVariants.{Off as AnswersOff, On as AnswersOn, Input}
+use Rattle.ladder_never.specs.declared.outcome.Outcome.{Outcome}
+use Rattle.ladder_never.specs.declared.point.Point.{Point}
+use Rattle.ladder_never.specs.declared.point.Point.TheVariants.{Variable, Output}
+use Rattle.ladder_pairs.specs.declared.pair.Pair.{Pair}
+
+-- The value of a variable, or the output of an instance.
+abbrev pub point_of : Symbol → Point
+point_of (symbol.Var var) = Variable var
+point_of (symbol.Instance inst) = Output inst
+
+-- Both of a pair are ON in a state.
+abbrev pub are_both_on : Held → Pair → Bool
+are_both_on h pair = is_on_in (point_of pair.first) h && is_on_in (point_of pair.second) h
+
+-- In a state of no pair both are ON.
+abbrev pub AreApart : List Pair → Held → Type 0
+AreApart pairs h = All (λ pair. are_both_on h pair ≡ false) pairs
+
+-- A variable of the program that is no input, or an instance of it, and none of what is in the set.
+abbrev pub IsOutside : Drawing → Bits → Symbol → Type 0
+IsOutside p z (symbol.Var var) = (var < length p.decls.vars) × (slice_index_or (map is_input p.decls.vars) var false ≡ false) × (is_in z.variables var ≡ false)
+IsOutside p z (symbol.Instance inst) = (inst < length p.decls.instances) × (is_in z.instances inst ≡ false)
+
+-- Both of a pair are.
+pub record IsPairOutside (p : Drawing) (z : Bits) (pair : Pair) : Type 0 where
+  pub first : IsOutside p z pair.first
+  pub second : IsOutside p z pair.second
+
+-- What is known tells that a point is OFF: it is in a pair with what is known to be ON.
+pub data IsForcedOff (pairs : List Pair) (k : Known Tri Outcome) (point : Point) : Type 0 where
+  by_first : (pair : Pair) → Contains pairs pair → told (point_of pair.first) k ≡ On → point ≡ point_of pair.second → IsForcedOff pairs k point
+  by_second : (pair : Pair) → Contains pairs pair → told (point_of pair.second) k ≡ On → point ≡ point_of pair.first → IsForcedOff pairs k point
+
+-- What is known of whether both of a pair are ON.
+abbrev pub both_told : Pair → Known Tri Outcome → Tri
+both_told pair k = three_meet (told (point_of pair.first) k) (told (point_of pair.second) k)
+
+-- Not both of the target are ON after a scan from what is known, where of no pair both were ON: over three values the scan tells it; or it is
+-- so from there with a point OFF that a pair forces to be, or both from there with some point OFF and from there with that point ON, or from
+-- there with each of the three answers of some instance.
+pub data IsExcluded (p : Drawing) (pairs : List Pair) (target : Pair) : Known Tri Outcome → Type 0 where
+  by_scan : (k : Known Tri Outcome) → both_told target (after_known three outcomes (diagram_of p) 0 [] k) ≡ Off → IsExcluded p pairs target k
+  by_partner : (k : Known Tri Outcome) (point : Point) → IsForcedOff pairs k point → IsExcluded p pairs target (pinned k point (three_known false))
+      → IsExcluded p pairs target k
+  by_cases : (k : Known Tri Outcome) (point : Point) → IsExcluded p pairs target (pinned k point (three_known false))
+      → IsExcluded p pairs target (pinned k point (three_known true)) → IsExcluded p pairs target k
+  by_answers : (k : Known Tri Outcome) (inst : ℕ) → IsExcluded p pairs target (answering k inst AnswersOff)
+      → IsExcluded p pairs target (answering k inst AnswersOn) → IsExcluded p pairs target (answering k inst Input) → IsExcluded p pairs target k
+
+-- Of each pair not both are ON after a scan from all that is known where the set is OFF and of no pair both are ON.
+abbrev pub AreExcluded : Drawing → Bits → List Pair → Type 0
+AreExcluded p z pairs = All (λ pair. IsExcluded p pairs pair (knowing p z)) pairs
+
+-- Pairs of what is outside the set, not both ON in a state, and settled to stay so.
+pub record ArePairs (p : Drawing) (s : Standing) (z : Bits) (pairs : List Pair) : Type 0 where
+  pub outside : All (IsPairOutside p z) pairs
+  pub apart : AreApart pairs s.held
+  pub excluded : AreExcluded p z pairs
+
+-- Such pairs exclude each other for ever: where the set is OFF in a state, and of no pair both are ON, of no pair both are ON after any scans
+-- from there, with any inputs and at any moments.
+abbrev pub AreNeverBoth : Drawing → Type 0
+AreNeverBoth p = (s : Standing) → Fits p s → IsStanding s → (z : Bits) → IsSetOf p z → IsSettledOff p z → IsOff z s.held
+    → (pairs : List Pair) → ArePairs p s z pairs → (scans : List OneScan) → AreApart pairs (after_each (diagram_of p) scans s.held)

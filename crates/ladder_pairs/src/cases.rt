@@ -1,0 +1,214 @@
+//! Settling, by cases, that not both of a pair are ON after a scan.
+
+ghost use Rattle.std.specs.Prelude.{◌≡◌, ◌≤◌, [], length, IsTrue};
+ghost use Rattle.ladder_scan.specs.Programs.{diagram_of};
+ghost use Rattle.ladder_known.specs.KnownScan.{after_known};
+ghost use Rattle.ladder_glance.specs.Sizes.{HasSizes, IsSpareFor};
+ghost use Rattle.ladder_never.specs.Outcomes.{outcomes};
+ghost use Rattle.ladder_pairs.specs.Pairs.{IsExcluded, both_told};
+ghost use Rattle.ladder_signals.specs.Three.{three};
+
+use crate::choosing::{Sight, choose};
+use crate::pair::Pair;
+use crate::partners::next_forced;
+use crate::points::point_of;
+use crate::writers::Writers;
+use ladder_elements::Operations;
+use ladder_glance::{Knowledge, Room, scan_known};
+use ladder_grid::Program;
+use ladder_never::cases::Search;
+use ladder_never::pinning::{answer, pin, pin_answer, told};
+use ladder_never::{Answer, Outcome, Point};
+use ladder_signals::Tri;
+
+/// What is known, after a scan from what is known in the case, of whether both of a pair are ON. The case is the same afterwards.
+fn look(
+    program: &Program,
+    target: Pair,
+    case: &Knowledge<Tri, Outcome>,
+    trial: &mut Knowledge<Tri, Outcome>,
+    room: &mut Room<Tri>,
+) -> Tri
+    requires case { HasSizes program.now case.now }
+    requires trial { HasSizes program.now trial.old }
+    requires room { IsSpareFor program.now room.old }
+    ensures told { result ≡ both_told target (after_known three outcomes (diagram_of program.now) 0 [] case.now) }
+    ensures trial { HasSizes program.now trial.new }
+    ensures room { room.new ≡ room.old }
+{
+    trial.copy_from(case);
+    scan_known(program, trial, &[], 0, room);
+    told(point_of(target.first), trial).and(told(point_of(target.second), trial))
+}
+
+/// Whether it is settled that not both of the target are ON after a scan from what is known in the case, by at most so many scans, with
+/// further cases by these points. The case is the same afterwards.
+#[cycle(excluding)]
+pub(crate) fn exclude(
+    program: &Program,
+    writers: &Writers,
+    pairs: &[Pair],
+    target: Pair,
+    case: &mut Knowledge<Tri, Outcome>,
+    trial: &mut Knowledge<Tri, Outcome>,
+    room: &mut Room<Tri>,
+    scans: u32,
+) -> Search
+    requires case { HasSizes program.now case.old }
+    requires trial { HasSizes program.now trial.old }
+    requires room { IsSpareFor program.now room.old }
+    ensures excluded { IsTrue result.is_settled → IsExcluded program.now pairs.now target case.old }
+    ensures scans { result.scans ≤ scans }
+    ensures case { case.new ≡ case.old }
+    ensures trial { HasSizes program.now trial.new }
+    ensures room { room.new ≡ room.old }
+{
+    if scans == 0 {
+        return Search {
+            is_settled: false,
+            scans: 0,
+        };
+    }
+    let left = scans - 1;
+    let both = look(program, target, case, trial, room);
+    let sight = Sight {
+        program,
+        writers,
+        before: case,
+        after: trial,
+    };
+    match (both, choose(sight, target)) {
+        (Tri::Unsure, Some(Point::Answer(inst))) => {
+            by_answers(
+                program, writers, pairs, target, inst, case, trial, room, left,
+            )
+        }
+        (Tri::Unsure, Some(point)) => {
+            by_values(
+                program, writers, pairs, target, point, case, trial, room, left,
+            )
+        }
+        (Tri::Off, _) => Search {
+            is_settled: true,
+            scans: left,
+        },
+        (Tri::Unsure | Tri::On, _) => Search {
+            is_settled: false,
+            scans: left,
+        },
+    }
+}
+
+/// The same with all OFF that the pairs from a number on force to be.
+#[cycle(excluding)]
+fn by_partners(
+    program: &Program,
+    writers: &Writers,
+    pairs: &[Pair],
+    number: usize,
+    target: Pair,
+    case: &mut Knowledge<Tri, Outcome>,
+    trial: &mut Knowledge<Tri, Outcome>,
+    room: &mut Room<Tri>,
+    scans: u32,
+) -> Search
+    requires number { number ≤ length pairs.now }
+    requires case { HasSizes program.now case.old }
+    requires trial { HasSizes program.now trial.old }
+    requires room { IsSpareFor program.now room.old }
+    ensures excluded { IsTrue result.is_settled → IsExcluded program.now pairs.now target case.old }
+    ensures scans { result.scans ≤ scans }
+    ensures case { case.new ≡ case.old }
+    ensures trial { HasSizes program.now trial.new }
+    ensures room { room.new ≡ room.old }
+{
+    let Some(forced) = next_forced(pairs, number, case) else {
+        return exclude(program, writers, pairs, target, case, trial, room, scans);
+    };
+    let before = told(forced.point, case);
+    pin(forced.point, Tri::Off, case);
+    let more = forced.number + 1;
+    let search = by_partners(
+        program, writers, pairs, more, target, case, trial, room, scans,
+    );
+    pin(forced.point, before, case);
+    search
+}
+
+/// The same where the point is ON, and where it is OFF.
+#[cycle(excluding)]
+fn by_values(
+    program: &Program,
+    writers: &Writers,
+    pairs: &[Pair],
+    target: Pair,
+    point: Point,
+    case: &mut Knowledge<Tri, Outcome>,
+    trial: &mut Knowledge<Tri, Outcome>,
+    room: &mut Room<Tri>,
+    scans: u32,
+) -> Search
+    requires case { HasSizes program.now case.old }
+    requires trial { HasSizes program.now trial.old }
+    requires room { IsSpareFor program.now room.old }
+    ensures excluded { IsTrue result.is_settled → IsExcluded program.now pairs.now target case.old }
+    ensures scans { result.scans ≤ scans }
+    ensures case { case.new ≡ case.old }
+    ensures trial { HasSizes program.now trial.new }
+    ensures room { room.new ≡ room.old }
+{
+    let before = told(point, case);
+    pin(point, Tri::On, case);
+    let on = by_partners(program, writers, pairs, 0, target, case, trial, room, scans);
+    if !on.is_settled {
+        pin(point, before, case);
+        return on;
+    }
+    pin(point, Tri::Off, case);
+    let off = exclude(program, writers, pairs, target, case, trial, room, on.scans);
+    pin(point, before, case);
+    off
+}
+
+/// The same with each of the three answers of an instance.
+#[cycle(excluding)]
+fn by_answers(
+    program: &Program,
+    writers: &Writers,
+    pairs: &[Pair],
+    target: Pair,
+    inst: usize,
+    case: &mut Knowledge<Tri, Outcome>,
+    trial: &mut Knowledge<Tri, Outcome>,
+    room: &mut Room<Tri>,
+    scans: u32,
+) -> Search
+    requires case { HasSizes program.now case.old }
+    requires trial { HasSizes program.now trial.old }
+    requires room { IsSpareFor program.now room.old }
+    ensures excluded { IsTrue result.is_settled → IsExcluded program.now pairs.now target case.old }
+    ensures scans { result.scans ≤ scans }
+    ensures case { case.new ≡ case.old }
+    ensures trial { HasSizes program.now trial.new }
+    ensures room { room.new ≡ room.old }
+{
+    let before = answer(inst, case);
+    pin_answer(inst, Answer::On, case);
+    let on = exclude(program, writers, pairs, target, case, trial, room, scans);
+    if !on.is_settled {
+        pin_answer(inst, before, case);
+        return on;
+    }
+    pin_answer(inst, Answer::Off, case);
+    let off = exclude(program, writers, pairs, target, case, trial, room, on.scans);
+    if !off.is_settled {
+        pin_answer(inst, before, case);
+        return off;
+    }
+    pin_answer(inst, Answer::Input, case);
+    let input = exclude(
+        program, writers, pairs, target, case, trial, room, off.scans,
+    );
+    pin_answer(inst, before, case);
+    input
+}

@@ -1,0 +1,80 @@
+//! Pairs that aren't both ON in a state, and never will be.
+
+ghost use Rattle.std.specs.Prelude.{◌≡◌, IfOk, List};
+ghost use Rattle.ladder_scan.specs.Programs.{diagram_of};
+ghost use Rattle.ladder_scan.specs.Standing.{Fits};
+ghost use Rattle.ladder_never.specs.Cases.{IsNever};
+ghost use Rattle.ladder_never.specs.Never.{OneScan, after_each};
+ghost use Rattle.ladder_pairs.specs.Pairs.{AreApart, ArePairs};
+
+use crate::begin::begin;
+use crate::laws;
+use crate::pair::Pair;
+use crate::removing::{Space, settle};
+use crate::writers::Writers;
+use ladder_glance::{Knowledge, Room};
+use ladder_grid::Program;
+use ladder_never::Set;
+use ladder_never::knowing::know;
+use ladder_scan::{Memory, State};
+use std::alloc::Global;
+use std::marker::Model;
+
+/// Pairs, in order of declaration of their first ones.
+#[derive(Drop)]
+pub struct Pairs {
+    pairs: Vec<Pair>,
+}
+
+impl Model for Pairs {
+    ghost use Rattle.std.specs.Prelude.{List};
+    ghost use Rattle.ladder_pairs.specs.declared.pair.Pair.{Pair};
+
+    ghost Value = { List Pair };
+
+    ghost view = { λ s. s.pairs.items };
+}
+
+impl Pairs {
+    /// The pairs.
+    pub fn list(&self) -> &[Pair]
+        ensures { result.now ≡ self.now }
+    {
+        self.pairs.as_slice()
+    }
+}
+
+/// Pairs of which from the state on never both are ON: of no pair both are ON after any scans from there, with any inputs and at any moments.
+///
+/// They are of what is outside the set, which is never ON, and no input. Of no pair both are ON in the state, and from any state in which that
+/// is so, and the set is OFF, a scan leaves it so, as scans over three values settle by cases, in each round at most so many `scans` for one
+/// pair. A pair that isn't among them may exclude each other all the same: more scans may settle it.
+///
+/// # Errors
+///
+/// `Memory` when out of memory.
+pub fn never_both(
+    alloc: Global,
+    program: &Program,
+    state: &State,
+    set: &Set,
+    scans: u32,
+) -> Result<Pairs, Memory>
+    requires fits { Fits program.now state.now }
+    requires set { IsNever program.now state.now set.now }
+    ensures are { IfOk result (λ pairs. ArePairs program.now state.now set.now pairs) }
+    ensures apart { IfOk result (λ pairs. (scans : List OneScan) → AreApart pairs (after_each (diagram_of program.now) scans state.now.held)) }
+{
+    laws::never_both(program);
+    state.checked();
+    let mut pairs = begin(alloc, program, state, set)?;
+    let mut space = Space {
+        case: Knowledge::new(alloc, program)?,
+        trial: Knowledge::new(alloc, program)?,
+        room: Room::new(alloc, program)?,
+        writers: Writers::new(alloc, program)?,
+    };
+    know(program, set, &mut space.case);
+    settle(program, &mut pairs, &mut space, scans);
+    Ok(Pairs { pairs })
+}

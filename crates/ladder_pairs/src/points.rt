@@ -1,0 +1,36 @@
+//! What can be ON, as a point of a case and in a state.
+
+ghost use Rattle.std.specs.Prelude.{◌≡◌};
+ghost use Rattle.ladder_never.specs.Allowing.{is_on_in};
+ghost use Rattle.ladder_pairs.specs.Pairs.{are_both_on, point_of};
+
+use crate::pair::Pair;
+use ladder_never::Point;
+use ladder_scan::State;
+use ladder_vars::Symbol;
+
+/// As a point of a case.
+pub(crate) fn point_of(symbol: Symbol) -> Point
+    ensures { result ≡ point_of symbol }
+{
+    match symbol {
+        Symbol::Var(var) => Point::Variable(var),
+        Symbol::Instance(inst) => Point::Output(inst),
+    }
+}
+
+fn is_on(state: &State, symbol: Symbol) -> bool
+    ensures { result ≡ is_on_in (point_of symbol) state.now.held }
+{
+    match symbol {
+        Symbol::Var(var) => state.value_or_off(var),
+        Symbol::Instance(inst) => state.stored(inst).q(),
+    }
+}
+
+/// Whether both of a pair are ON in the state.
+pub(crate) fn are_both_on(state: &State, pair: Pair) -> bool
+    ensures { result ≡ are_both_on state.now.held pair }
+{
+    is_on(state, pair.first) && is_on(state, pair.second)
+}

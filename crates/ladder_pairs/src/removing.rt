@@ -1,0 +1,90 @@
+//! Removing the pairs that aren't settled to stay apart.
+
+ghost use Rattle.std.specs.Prelude.{◌≡◌, ◌+◌, All, Contains, IsTrue, length};
+ghost use Rattle.ladder_glance.specs.Sizes.{HasSizes, IsSpareFor};
+ghost use Rattle.ladder_pairs.specs.Pairs.{IsExcluded};
+
+use crate::cases::exclude;
+use crate::pair::Pair;
+use crate::writers::Writers;
+use ladder_glance::{Knowledge, Room};
+use ladder_grid::Program;
+use ladder_never::Outcome;
+use ladder_signals::Tri;
+
+/// The buffers of a search: what is known before a scan, and after it.
+#[derive(Drop)]
+pub(crate) struct Space {
+    pub(crate) case: Knowledge<Tri, Outcome>,
+    pub(crate) trial: Knowledge<Tri, Outcome>,
+    pub(crate) room: Room<Tri>,
+    pub(crate) writers: Writers,
+}
+
+/// Whether a pair is settled to stay apart where of no pair both are ON.
+fn stays_apart(
+    program: &Program,
+    pairs: &[Pair],
+    target: Pair,
+    space: &mut Space,
+    scans: u32,
+) -> bool
+    requires case { HasSizes program.now space.old.case }
+    requires trial { HasSizes program.now space.old.trial }
+    requires room { IsSpareFor program.now space.old.room }
+    ensures excluded { IsTrue result → IsExcluded program.now pairs.now target space.old.case }
+    ensures case { space.new.case ≡ space.old.case }
+    ensures trial { HasSizes program.now space.new.trial }
+    ensures room { space.new.room ≡ space.old.room }
+{
+    let search = exclude(
+        program,
+        &space.writers,
+        pairs,
+        target,
+        &mut space.case,
+        &mut space.trial,
+        &mut space.room,
+        scans,
+    );
+    search.is_settled
+}
+
+/// Goes through all pairs once, removes each that isn't settled to stay apart, and returns how many were removed.
+fn remove(program: &Program, pairs: &mut Vec<Pair>, space: &mut Space, scans: u32) -> usize
+    requires case { HasSizes program.now space.old.case }
+    requires trial { HasSizes program.now space.old.trial }
+    requires room { IsSpareFor program.now space.old.room }
+    ensures within { All (Contains pairs.old.items) pairs.new.items }
+    ensures count { length pairs.new.items + result ≡ length pairs.old.items }
+    ensures excluded { result ≡ 0 → All (λ pair. IsExcluded program.now pairs.new.items pair space.old.case) pairs.new.items }
+    ensures case { space.new.case ≡ space.old.case }
+    ensures trial { HasSizes program.now space.new.trial }
+    ensures room { space.new.room ≡ space.old.room }
+{
+    let mut removed = 0;
+    let mut number = 0;
+    while number < pairs.len() {
+        if stays_apart(program, pairs, pairs[number], space, scans) {
+            number += 1;
+        } else {
+            pairs.remove(number);
+            removed += 1;
+        }
+    }
+    removed
+}
+
+/// Removes, again and again, what isn't settled to stay apart, until all that is left is.
+pub(crate) fn settle(program: &Program, pairs: &mut Vec<Pair>, space: &mut Space, scans: u32)
+    requires case { HasSizes program.now space.old.case }
+    requires trial { HasSizes program.now space.old.trial }
+    requires room { IsSpareFor program.now space.old.room }
+    ensures within { All (Contains pairs.old.items) pairs.new.items }
+    ensures excluded { All (λ pair. IsExcluded program.now pairs.new.items pair space.old.case) pairs.new.items }
+{
+    let mut removed = 1;
+    while 0 < removed {
+        removed = remove(program, pairs, space, scans);
+    }
+}
