@@ -30,7 +30,7 @@ same_bytes (x ∷ xs) = grind (arith, same_bytes xs)
 less : (a b : ℕ) → a < b → nat_lt a b ≡ true
 less a b h = grind arith
 
-is_less : (a b : ℕ) → nat_lt a b ≡ true → a < b
+pub is_less : (a b : ℕ) → nat_lt a b ≡ true → a < b
 is_less a b h = grind arith
 
 same_number : (a b : ℕ) → a ≡ b → (a == b) ≡ true

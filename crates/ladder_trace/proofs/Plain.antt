@@ -1,8 +1,10 @@
 -- Without a time between two scans there are no records in between.
-use Rattle.std.proofs.Common.{◌≡◌, ◌∙◌, ◌+◌, ◌-◌, ◌<◌, ◌≤◌, ◌++◌, ◌∷◌, [], ℕ, suc, zero, List, Option, Some, None, Result, Ok, Err, refl, sym, ap, subst, arith, codes, drop, get_or, inl, inr, length, map, slice_get}
-use Rattle.std.specs.Prelude.{if◌then◌else◌, false, true, Bool, ◌&&◌, ◌==◌}
+use Rattle.std.proofs.Common.{◌≡◌, ◌∙◌, ◌+◌, ◌-◌, ◌<◌, ◌≤◌, ◌++◌, ◌∷◌, [], ℕ, suc, zero, List, Option, Some, None, Result, Ok, Err, refl, sym, ap, subst, arith, codes, drop, get_or, inl, inr, length, map, slice_get, ◌^◌, bytes_eq, decimal}
+use Rattle.std.specs.Prelude.{if◌then◌else◌, false, true, Bool, ◌&&◌, ◌==◌, nat_lt}
 use Rattle.std.proofs.lemmas.List.{length-map}
-use Rattle.std.specs.Str.Parse.{digits_value}
+use Rattle.std.specs.Cmp.Lexicographic.{same_text}
+use Rattle.std.specs.Str.Parse.{AllDigits, digits_value}
+use Rattle.std.proofs.lemmas.Fmt.{decimal_is_IsNumeral}
 use Rattle.ladder_vars.specs.Decls.{Declared}
 use Rattle.ladder_grid.specs.Program.{Drawing}
 use Rattle.csv.specs.Records.{fields_of}
@@ -18,7 +20,8 @@ use Rattle.ladder_trace.specs.Filled.{Numbered, all_fields, between, filled, fil
 use Rattle.ladder_trace.specs.Simulation.{Follows, FollowsEvery, most}
 use Rattle.ladder_trace.specs.Steps.{Ends}
 use Rattle.ladder_trace.specs.Stimulus.{IsHeader, are_bits, input_named}
-use Rattle.ladder_trace.proofs.Lists.{some_same, within}
+use Rattle.ladder_trace.proofs.Coming.{is_less}
+use Rattle.ladder_trace.proofs.Lists.{all_first, some_same, within}
 
 held_none : (bits : List (List ℕ)) (from to : Option ℕ) → held_between 0 bits from to ≡ []
 held_none bits None to = refl
@@ -28,7 +31,7 @@ held_none bits (Some m) (Some n) = refl
 after_none : (width number : ℕ) (last next : Fields) (rows : List Fields)
     → filled_after 0 width number last (next ∷ rows) ≡ numbered number next ∷ filled_after 0 width (number + 1) next rows
 after_none width number last next rows =
-    ap (λ l. map (numbered number) l ++ (numbered number next ∷ filled_after 0 width (number + 1) next rows)) (held_none _ (moment_in width last) (moment_in width next))
+    ap (λ l. map (numbered number) l ++ (numbered number next ∷ filled_after 0 width (number + 1) next rows)) (held_none (drop 1 last) (moment_in width last) (moment_in width next))
 
 after_fields : (width number : ℕ) (last : Fields) (rows : List Fields) → all_fields (filled_after 0 width number last rows) ≡ rows
 after_fields width number last [] = refl
@@ -74,17 +77,33 @@ told_plain recording p s rows t old new (Err (fault.TooLong n)) (taken, more, sa
 told_plain recording p s rows t old new (Err fault.Write) h = refl
 told_plain recording p s rows t old new (Err fault.Memory) h = refl
 
-pub ends_every : (recording : Recording) (every : ℕ) (p : Drawing) (s : Standing) (rows : List Fields) (t : Standing) (old new : WriteLog) (end : Result ℕ SimFault)
+ends_every : (recording : Recording) (every : ℕ) (p : Drawing) (s : Standing) (rows : List Fields) (t : Standing) (old new : WriteLog) (end : Result ℕ SimFault)
     → Ends recording p s (filled every rows) t old new end → FollowsEvery recording every p s rows t old new end
 ends_every recording (suc n) p s rows t old new end h = h
 ends_every recording zero p s rows t old new end (r, follows, same) =
     let plain : Follows recording p s rows t old new r = subst (λ l. Follows recording p s l t old new r) (plain_fields rows) follows in
     subst (Follows recording p s rows t old new) (sym (same ∙ told_plain recording p s rows t old new r plain)) plain
 
+pub ends_by : (recording : Recording) (every held : ℕ) (p : Drawing) (s : Standing) (rows : List Fields) (t : Standing) (old new : WriteLog) (end : Result ℕ SimFault) → held ≡ every
+    → Ends recording p s (filled held rows) t old new end → FollowsEvery recording every p s rows t old new end
+ends_by recording every held p s rows t old new end e h = ends_every recording every p s rows t old new end (subst (λ x. Ends recording p s (filled x rows) t old new end) e h)
+
+pub every_starved : (recording : Recording) (every : ℕ) (p : Drawing) (s : Standing) (rows : List Fields) (old : WriteLog) → FollowsEvery recording every p s rows s old old (Err fault.Memory)
+every_starved recording every p s rows old = ends_every recording every p s rows s old old (Err fault.Memory) (Err fault.Memory, inr (refl, refl), refl)
+
 -- ---- the header
 
+no_number_if : (b : Bool) → is_number (codes "moment") ≡ b → b ≡ false
+no_number_if false e = refl
+no_number_if true e =
+    let n = digits_value 10 (codes "moment") in
+    let parts = all_first (bytes_eq (codes "moment") (decimal n)) (nat_lt n (2 ^ 64)) e in
+    let text : codes "moment" ≡ decimal n = same_text (codes "moment") (decimal n) (sym parts.0) in
+    let digits : AllDigits 10 (codes "moment") = subst (AllDigits 10) (sym text) (decimal_is_IsNumeral n (is_less n (2 ^ 64) parts.1)).0.1 in
+    absurd (omega (arith, digits.0))
+
 no_number : is_number (codes "moment") ≡ false
-no_number = refl
+no_number = no_number_if (is_number (codes "moment")) refl
 
 last_false : (a b c : Bool) (n : ℕ) → c ≡ false → (if a && b && c then Some n else None) ≡ None
 last_false true true c n e = rw e refl

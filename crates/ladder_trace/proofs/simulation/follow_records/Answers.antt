@@ -1,11 +1,15 @@
-use Rattle.std.proofs.Common.{length, refl, subst, sym}
+use Rattle.std.proofs.Common.{Err, inr, refl, subst, sym}
 use Rattle.csv.specs.Records.{fields_of}
+use Rattle.ladder_trace.specs.declared.fault.SimFault.TheVariants as fault
 use Rattle.ladder_trace.specs.Filled.{filled, numbered}
 use Rattle.ladder_trace.specs.Stimulus.{IsHeader}
 use Rattle.ladder_trace.proofs.Plain.{fresh_sound, header_at, header_comes}
 use Rattle.ladder_trace.proofs.Taking.{going_none, none_left, one_left}
 use Rattle.ladder_trace.proofs.Whole.{bad_header, cut_header, no_header}
 use Rattle.ladder_trace.proofs.simulation.follow_records.Goals as goal
+
+pub returns-in_default-clause-ends : goal.returns-in_default-clause-ends
+returns-in_default-clause-ends g c = λ rows left. (Err fault.Memory, inr (refl, refl), refl)
 
 pub returns-then-not-found-clause-ends : goal.returns-then-not-found-clause-ends
 returns-then-not-found-clause-ends g c = λ rows left.
