@@ -1,5 +1,5 @@
 -- How a list of what some state, or every one, switches on ends, in groups.
-use Rattle.std.proofs.Common.{◌≡◌, ◌∙◌, ◌⊎◌, ℕ, List, ap, inl, inr, length}
+use Rattle.std.proofs.Common.{◌≡◌, ◌∙◌, ◌⊎◌, Bool, true, false, ℕ, List, ap, inl, inr, length}
 use Rattle.ladder_grid.specs.Program.{Drawing}
 use Rattle.ladder_questions.specs.Causes.{Question}
 use Rattle.ladder_classes.specs.Classes.{numbers_in}
@@ -8,7 +8,9 @@ use Rattle.ladder_class_text.specs.ClassText.{possible_group_text, unsettled_in}
 use Rattle.ladder_possible_groups.specs.Cursor.{PossibleGroupCursor}
 use Rattle.ladder_sim.specs.CauseText.{limited}
 use Rattle.ladder_words.specs.declared.request.PossibleRequest.{PossibleRequest}
-use Rattle.ladder_lists.specs.Lists.{HasNamesFault, HasPossibleGroupsFault, possible_counts_text, possible_groups_line, unless_quiet}
+use Rattle.ladder_text.specs.Log.{WriteLog}
+use Rattle.ladder_lists.specs.Lists.{BreaksPossible, BreaksPossibleBy, BreaksPossibleGroups, CountsPossible, CountsPossibleBy, CountsPossibleGroups, HasNamesFault, HasPossibleFault, HasPossibleFaultBy, HasPossibleGroupsFault, possible_counts_text, possible_groups_line, unless_quiet}
+use Rattle.ladder_setting.specs.Reports.{Logs, Refuses}
 use Rattle.ladder_setting.specs.Setting.{Given, HasSettingFault}
 use Rattle.ladder_setting.specs.declared.fault.ToolFault.{ToolFault}
 
@@ -34,3 +36,21 @@ module _ (r : PossibleRequest) (q : Question) (c : PossibleGroupCursor) (of_list
       ∙ ap (λ n. unless_quiet r.quiet (possible_groups_line (length groups) n unsettled)) all
       ∙ ap (λ n. unless_quiet r.quiet (possible_groups_line (length groups) (numbers_in (length c.listed) groups) n)) unsure
       ∙ ap (λ (xs : List ℕ). possible_counts_text r (length xs) groups) of_listed
+
+-- ---- in groups or not
+
+pub done_grouped : (b : Bool) (g : Given) (r : PossibleRequest) (out out' : WriteLog) (Counted : List ℕ → Type 0) → b ≡ true → CountsPossibleGroups g r out out' Counted
+    → CountsPossibleBy b g r out out' Counted
+done_grouped b g r out out' Counted is done = rw is done
+
+pub done_single : (b : Bool) (g : Given) (r : PossibleRequest) (out out' : WriteLog) (Counted : List ℕ → Type 0) → b ≡ false → CountsPossible g r out out' Counted
+    → CountsPossibleBy b g r out out' Counted
+done_single b g r out out' Counted is done = rw is done
+
+pub failed_grouped : (b : Bool) (g : Given) (r : PossibleRequest) (old new : Logs) → b ≡ true → Refuses g (HasPossibleGroupsFault g r) old new ⊎ BreaksPossibleGroups g r old new
+    → Refuses g (HasPossibleFaultBy b g r) old new ⊎ BreaksPossibleBy b g r old new
+failed_grouped b g r old new is failed = rw is failed
+
+pub failed_single : (b : Bool) (g : Given) (r : PossibleRequest) (old new : Logs) → b ≡ false → Refuses g (HasPossibleFault g r) old new ⊎ BreaksPossible g r old new
+    → Refuses g (HasPossibleFaultBy b g r) old new ⊎ BreaksPossibleBy b g r old new
+failed_single b g r old new is failed = rw is failed
