@@ -11,8 +11,13 @@ from collections import Counter
 from typing import NamedTuple
 
 from end_to_end import differences, run
+<<<<<<< HEAD
 from lanes import MOMENT, Everywhere, Lanes, do_suffice, never, open_bits
 from model import FORMS, Program, classes_answer, judged_answer, text_of
+=======
+from lanes import MOMENT, Everywhere, Lanes, do_suffice, never, never_both, open_bits
+from model import FORMS, Program, classes_answer, text_of
+>>>>>>> h2
 from running import Running, bits_of
 
 FRAME = re.compile(r'<input type=radio name=record title="(.*?)">\n<pre>\n(.*?)</pre>', re.DOTALL)
@@ -291,6 +296,44 @@ def compare_never(trial):
     return found + ([f"{wrong} can come ON, and `never` names them"] if wrong else [])
 
 
+def is_on(lanes, name):
+    """The lanes in which a variable, or the output of an instance, is ON."""
+    return lanes.values.get(name, 0) | lanes.values.get(name + ".Q", 0)
+
+
+def run_pairs_at_random(trial, pairs):
+    """Pairs that are never both ON, of which one is in some of 64 random runs."""
+    lanes, moment, found = Lanes(Program(trial.text), 64), 0, []
+    for _ in range(40):
+        moment += trial.chance.choice([0, 1, 10, 700, 5000])
+        lanes.scan({name: trial.chance.getrandbits(64) for name in lanes.program.inputs}, moment)
+        for first, second in pairs:
+            if is_on(lanes, first) & is_on(lanes, second):
+                found.append(f"{first} and {second} were ON at {moment}, and `never --pairs` names them")
+    return found
+
+
+def compare_pairs(trial):
+    """Pairs that are never both ON: each of two names, apart in random runs, and apart after a scan from every state that has them all apart
+    and has OFF what can never come ON."""
+    out, said, status = trial.ask("never", "--pairs", "program.ld")
+    rows = [line.split(",") for line in out.decode().splitlines()]
+    pairs = {tuple(sorted(name.upper() for name in row)) for row in rows[1:]}
+    wanted = text_of([["first", "second"], *rows[1:]])
+    found = differences((out, said, status), (wanted.encode(), f"rows {len(rows) - 1}\n".encode(), 0))
+    found += [] if len(pairs) == len(rows) - 1 else ["a pair is named twice"]
+    program = Program(trial.text)
+    found += run_pairs_at_random(trial, pairs)
+    if len(open_bits(program)) > MOST_BITS:
+        return found
+    dead = never(program)
+    most = never_both(program, dead)
+    trial.tally["pairs that are never both ON"] += len(most)
+    trial.tally["of these pairs named"] += len(pairs & most)
+    wrong = sorted(pair for pair in pairs - most if not dead.intersection(pair))
+    return found + ([f"{wrong} can be ON together, and `never --pairs` names them"] if wrong else [])
+
+
 def rows_of_any(trial, *options):
     """The settled numbers and the others of a list of what some state switches on, and what is wrong with its text."""
     out, said, status = trial.ask("causes", "--any", *options, "program.ld", trial.coil, *trial.listed)
@@ -406,5 +449,10 @@ def compare_relevant(trial):
 
 
 ALL = (compare_lists, compare_shown, compare_film, compare_held, compare_never, compare_random_states)
+<<<<<<< HEAD
 ALONE = {"groups": compare_groups, "show": compare_shown, "held": compare_many_held, "never": compare_never, "possible": compare_possible,
          "off": compare_off, "must": compare_must, "off_must": compare_off_must, "relevant": compare_relevant}
+=======
+ALONE = {"groups": compare_groups, "show": compare_shown, "held": compare_many_held, "never": compare_never, "pairs": compare_pairs,
+         "possible": compare_possible, "off": compare_off, "must": compare_must, "off_must": compare_off_must}
+>>>>>>> h2

@@ -1,5 +1,5 @@
 -- From what is asked to how the request ends that asks it.
-use Rattle.std.proofs.Common.{◌≡◌, ◌⊎◌, List, ℕ, Option, inl, inr, refl}
+use Rattle.std.proofs.Common.{◌≡◌, ◌⊎◌, Bool, true, false, List, ℕ, Option, inl, inr, refl}
 use Rattle.std.specs.Prelude.{None}
 use Rattle.ladder_questions.specs.Causes.{Question}
 use Rattle.ladder_questions.specs.Refusal.{refusal}
@@ -10,6 +10,8 @@ use Rattle.ladder_setting.specs.Setting.{Given}
 use Rattle.ladder_words.specs.declared.request.Grouping.{Grouping}
 use Rattle.ladder_words.specs.declared.request.ListRequest.{ListRequest}
 use Rattle.ladder_lists.specs.Lists.{BreaksGroups, BreaksGroupsOf, BreaksList, BreaksOf, CountsGroups, CountsList, CountsOf, GroupCountsOf, GroupsOf, HasListFault, IsAsked, ListsOf}
+use Rattle.ladder_lists.specs.Lists.{BreaksNever, BreaksNeverBy, BreaksPairs, CountsNever, CountsNeverBy, CountsPairs, HasNeverFault}
+use Rattle.ladder_words.specs.declared.request.NeverRequest.{NeverRequest}
 
 -- a refusal for another way to say the same
 pub refuses_as : (g : Given) (P Q : ToolFault → Type 0) (old new : Logs) → ((f : ToolFault) → P f → Q f) → Refuses g P old new → Refuses g Q old new
@@ -45,3 +47,19 @@ pub groups_failed : (g : Given) (r : ListRequest) (how : Grouping) (q : Question
     → Refuses g (HasCauseFault (refusal q None)) old new ⊎ BreaksGroupsOf g q r how old new → Refuses g (HasListFault g r None) old new ⊎ BreaksGroups g r how old new
 groups_failed g r how q old new asked (inl h) = inl (refuses_as g _ _ old new (λ f has. inr (inr (q, asked, has))) h)
 groups_failed g r how q old new asked (inr h) = inr (breaks_groups g r how q old new asked h)
+
+-- ---- names that can never come ON, or pairs of names
+
+pub done_pairs : (b : Bool) (g : Given) (r : NeverRequest) (out out' : WriteLog) (C : List ℕ → Type 0) → b ≡ true → CountsPairs g r out out' C → CountsNeverBy b g r out out' C
+done_pairs b g r out out' C is done = rw is done
+
+pub done_names : (b : Bool) (g : Given) (r : NeverRequest) (out out' : WriteLog) (C : List ℕ → Type 0) → b ≡ false → CountsNever g r out out' C → CountsNeverBy b g r out out' C
+done_names b g r out out' C is done = rw is done
+
+pub failed_pairs : (b : Bool) (g : Given) (r : NeverRequest) (old new : Logs) → b ≡ true → Refuses g (HasNeverFault g) old new ⊎ BreaksPairs g r old new
+    → Refuses g (HasNeverFault g) old new ⊎ BreaksNeverBy b g r old new
+failed_pairs b g r old new is failed = rw is failed
+
+pub failed_names : (b : Bool) (g : Given) (r : NeverRequest) (old new : Logs) → b ≡ false → Refuses g (HasNeverFault g) old new ⊎ BreaksNever g r old new
+    → Refuses g (HasNeverFault g) old new ⊎ BreaksNeverBy b g r old new
+failed_names b g r old new is failed = rw is failed

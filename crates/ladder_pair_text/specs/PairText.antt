@@ -1,0 +1,15 @@
+-- The text of pairs of which never both are ON: the names of each pair.
+use Rattle.std.specs.Prelude.{◌∷◌, ℕ, List, [], codes, map}
+use Rattle.ladder_grid.specs.Program.{Drawing}
+use Rattle.ladder_pairs.specs.declared.pair.Pair.{Pair}
+use Rattle.ladder_records.specs.Left.{Fields}
+use Rattle.ladder_records.specs.Text.{lines_text}
+use Rattle.ladder_uses.specs.Uses.{name_of}
+
+-- the row of a pair: both names, as they are declared
+abbrev pub pair_row : Drawing → Pair → Fields
+pair_row p pair = name_of p.decls pair.first ∷ name_of p.decls pair.second ∷ []
+
+-- the text that is written: a header, and a row for each pair
+abbrev pub pairs_text : Drawing → List Pair → List ℕ
+pairs_text p pairs = lines_text ((codes "first" ∷ codes "second" ∷ []) ∷ map (pair_row p) pairs)

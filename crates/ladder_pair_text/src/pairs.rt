@@ -1,0 +1,105 @@
+//! The writing of pairs of which never both are ON.
+
+ghost use Rattle.std.specs.Prelude.{◌≡◌, ◌∷◌, [], IfOk, codes, length, map};
+ghost use Rattle.ladder_pair_text.specs.PairText.{pair_row, pairs_text};
+ghost use Rattle.ladder_records.specs.Text.{line_text, lines_text};
+ghost use Rattle.ladder_text.specs.Block.{Sends};
+ghost use Rattle.ladder_text.specs.Log.{Puts};
+ghost use Rattle.ladder_uses.specs.Uses.{name_of};
+
+use ladder_grid::Program;
+use ladder_pairs::{Pair, Pairs};
+use ladder_records::add_line;
+use ladder_text::{Block, Sink, WriteFault};
+use ladder_vars::{Decls, Symbol};
+
+/// How it is spelled where it is declared.
+fn name_of(decls: &Decls, symbol: Symbol) -> &[u8]
+    ensures { result.now ≡ name_of decls.now symbol }
+{
+    match symbol {
+        Symbol::Var(var) => match decls.vars().get(var) {
+            Some(var) => var.name.bytes(),
+            None => b"",
+        },
+        Symbol::Instance(inst) => match decls.instances().get(inst) {
+            Some(instance) => instance.name.bytes(),
+            None => b"",
+        },
+    }
+}
+
+/// Adds the line of a record with two fields.
+fn add_two<W: Sink>(
+    block: &mut Block,
+    first: &[u8],
+    second: &[u8],
+    writer: &mut W,
+) -> Result<(), WriteFault>
+    ensures { Sends (W.log writer.old) (W.log writer.new) block.old block.new result (line_text (first.now ∷ second.now ∷ [])) }
+{
+    add_line(block, first, [second].as_slice(), writer)
+}
+
+/// Adds the row of a pair.
+fn add_pair<W: Sink>(
+    block: &mut Block,
+    program: &Program,
+    pair: Pair,
+    writer: &mut W,
+) -> Result<(), WriteFault>
+    ensures { Sends (W.log writer.old) (W.log writer.new) block.old block.new result (line_text (pair_row program.now pair)) }
+{
+    let decls = program.decls();
+    let first = name_of(decls, pair.first);
+    let second = name_of(decls, pair.second);
+    add_two(block, first, second, writer)
+}
+
+/// Adds a row for each pair.
+fn add_pairs<W: Sink>(
+    block: &mut Block,
+    program: &Program,
+    pairs: &[Pair],
+    writer: &mut W,
+) -> Result<(), WriteFault>
+    ensures { Sends (W.log writer.old) (W.log writer.new) block.old block.new result (lines_text (map (pair_row program.now) pairs.now)) }
+{
+    for pair in pairs {
+        add_pair(block, program, *pair, writer)?;
+    }
+    Ok(())
+}
+
+/// Adds the header and all rows.
+fn add_all<W: Sink>(
+    block: &mut Block,
+    program: &Program,
+    pairs: &[Pair],
+    writer: &mut W,
+) -> Result<(), WriteFault>
+    ensures { Sends (W.log writer.old) (W.log writer.new) block.old block.new result (pairs_text program.now pairs.now) }
+{
+    add_two(block, b"first", b"second", writer)?;
+    add_pairs(block, program, pairs, writer)
+}
+
+/// Writes pairs: a header, and for each pair a row with both names. Returns the number of rows after the header. It needs no memory.
+///
+/// # Errors
+///
+/// X6: the writer failed. What was written is a prefix of the text.
+pub fn write_pairs<W: Sink>(
+    program: &Program,
+    pairs: &Pairs,
+    writer: &mut W,
+) -> Result<u64, WriteFault>
+    ensures wrote { Puts (W.log writer.old) (W.log writer.new) result (pairs_text program.now pairs.now) }
+    ensures rows { IfOk result (λ n. n ≡ length pairs.now) }
+{
+    let list = pairs.list();
+    let mut block = Block::new();
+    add_all(&mut block, program, list, writer)?;
+    block.flush(writer)?;
+    Ok(list.len() as u64)
+}
