@@ -11,13 +11,8 @@ from collections import Counter
 from typing import NamedTuple
 
 from end_to_end import differences, run
-<<<<<<< HEAD
-from lanes import MOMENT, Everywhere, Lanes, do_suffice, never, open_bits
-from model import FORMS, Program, classes_answer, judged_answer, text_of
-=======
 from lanes import MOMENT, Everywhere, Lanes, do_suffice, never, never_both, open_bits
-from model import FORMS, Program, classes_answer, text_of
->>>>>>> h2
+from model import FORMS, Program, classes_answer, judged_answer, text_of
 from running import Running, bits_of
 
 FRAME = re.compile(r'<input type=radio name=record title="(.*?)">\n<pre>\n(.*?)</pre>', re.DOTALL)
@@ -449,10 +444,6 @@ def compare_relevant(trial):
 
 
 ALL = (compare_lists, compare_shown, compare_film, compare_held, compare_never, compare_random_states)
-<<<<<<< HEAD
-ALONE = {"groups": compare_groups, "show": compare_shown, "held": compare_many_held, "never": compare_never, "possible": compare_possible,
-         "off": compare_off, "must": compare_must, "off_must": compare_off_must, "relevant": compare_relevant}
-=======
 ALONE = {"groups": compare_groups, "show": compare_shown, "held": compare_many_held, "never": compare_never, "pairs": compare_pairs,
-         "possible": compare_possible, "off": compare_off, "must": compare_must, "off_must": compare_off_must}
->>>>>>> h2
+         "possible": compare_possible, "off": compare_off, "must": compare_must, "off_must": compare_off_must,
+         "relevant": compare_relevant}

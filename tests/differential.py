@@ -8,11 +8,8 @@ each shown by itself from the state that `sim --save` has left. A list over seve
 the fresh state or from one that `sim --save` has left. What `never` names stays OFF in random runs, and what switches a coil on from
 some random state has a row in the list of `causes --any`. A drawing with a difference is printed whole.
 
-<<<<<<< HEAD
-With --only one kind is compared alone: `groups`, `held` and `relevant` from random states too, `show`, and `never` and `possible` on small
-=======
-With --only one kind is compared alone: `groups` and `held` from random states too, `show`, and `never`, `pairs` and `possible` on small
->>>>>>> h2
+With --only one kind is compared alone: `groups`, `held` and `relevant` from random states too, `show`, and `never`, `pairs` and
+`possible` on small
 drawings, against a scan from every state (`lanes.py`).
 """
 import argparse
@@ -47,13 +44,8 @@ class Size(NamedTuple):
 
 LARGE, SMALL = Size(5, ROWS, COLUMNS), Size(3, 4, 5)
 # How many inputs are listed at least and at most where one kind is compared alone.
-<<<<<<< HEAD
 INPUTS_LISTED = {"groups": (1, 7), "held": (1, 6), "show": (1, 9), "never": (0, 0), "possible": (0, 4), "off": (0, 4),
-                 "must": (0, 4), "off_must": (0, 4), "relevant": (INPUTS, INPUTS)}
-=======
-INPUTS_LISTED = {"groups": (1, 7), "held": (1, 6), "show": (1, 9), "never": (0, 0), "pairs": (0, 0), "possible": (0, 4), "off": (0, 4),
-                 "must": (0, 4), "off_must": (0, 4)}
->>>>>>> h2
+                 "must": (0, 4), "off_must": (0, 4), "relevant": (INPUTS, INPUTS), "pairs": (0, 0)}
 # What goes through every state, so that a drawing has few bits.
 EVERY_STATE = ("never", "pairs", "possible", "off", "must", "off_must")
 
