@@ -61,6 +61,7 @@ complete -c ladder -n '__ladder_at check,causes,show,sim,uses,never,import more 
 complete -c ladder -n '__ladder_at check more 0' -l warn -d 'What is most likely not meant'
 complete -c ladder -n '__ladder_at causes,show more 0' -l all-inputs -d 'All inputs, in order of declaration'
 complete -c ladder -n '__ladder_at causes,never more 0' -l quiet -d 'No line of counts'
+complete -c ladder -n '__ladder_at never more 0' -l pairs -d 'Pairs that are never both ON'
 complete -c ladder -n '__ladder_at causes,show,sim,never more 0' -l state -r -F -d 'The state to begin in'
 complete -c ladder -n '__ladder_at causes,show more 0' -l at -x -d 'The moment of the scan in ms'
 complete -c ladder -n '__ladder_at causes more 0' -l after -x -d 'Causes with a greater number only'
