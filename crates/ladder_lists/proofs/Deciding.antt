@@ -1,15 +1,20 @@
 -- From what is asked to how the request ends that asks it.
-use Rattle.std.proofs.Common.{◌≡◌, ◌⊎◌, Bool, true, false, List, ℕ, Option, inl, inr, refl}
-use Rattle.std.specs.Prelude.{None}
-use Rattle.ladder_questions.specs.Causes.{Question}
+use Rattle.std.proofs.Common.{◌≡◌, ◌⊎◌, Bool, true, false, List, ℕ, Option, inl, inr}
+use Rattle.std.specs.Prelude.{None, Some, string_bytes, unwrap_or}
+use Rattle.ladder_vars.specs.Decls.{Declared}
+use Rattle.ladder_grid.specs.Program.{Drawing}
+use Rattle.ladder_scan.specs.Standing.{Standing}
+use Rattle.ladder_setting.specs.Variables.{variable_of}
+use Rattle.ladder_questions.specs.Causes.{Question, question}
 use Rattle.ladder_questions.specs.Refusal.{refusal}
 use Rattle.ladder_text.specs.Log.{WriteLog}
 use Rattle.ladder_setting.specs.declared.fault.ToolFault.{ToolFault}
 use Rattle.ladder_setting.specs.Reports.{HasCauseFault, Logs, Refuses}
-use Rattle.ladder_setting.specs.Setting.{Given}
+use Rattle.ladder_setting.specs.Setting.{Given, IsSet}
 use Rattle.ladder_words.specs.declared.request.Grouping.{Grouping}
 use Rattle.ladder_words.specs.declared.request.ListRequest.{ListRequest}
-use Rattle.ladder_lists.specs.Lists.{BreaksGroups, BreaksGroupsOf, BreaksList, BreaksOf, CountsGroups, CountsList, CountsOf, GroupCountsOf, GroupsOf, HasListFault, IsAsked, ListsOf}
+use Rattle.ladder_lists.specs.Lists.{BreaksGroups, BreaksGroupsOf, BreaksList, BreaksOf, CountsGroups, CountsList, CountsOf, GroupCountsOf, HasListFault, IsAsked}
+use Rattle.ladder_lists.specs.Lists.{BreaksRelevant, HasRelevantFault, IsDecided, IsOnCoil, after_for}
 use Rattle.ladder_lists.specs.Lists.{BreaksNever, BreaksNeverBy, BreaksPairs, CountsNever, CountsNeverBy, CountsPairs, HasNeverFault}
 use Rattle.ladder_words.specs.declared.request.NeverRequest.{NeverRequest}
 
@@ -47,6 +52,24 @@ pub groups_failed : (g : Given) (r : ListRequest) (how : Grouping) (q : Question
     → Refuses g (HasCauseFault (refusal q None)) old new ⊎ BreaksGroupsOf g q r how old new → Refuses g (HasListFault g r None) old new ⊎ BreaksGroups g r how old new
 groups_failed g r how q old new asked (inl h) = inl (refuses_as g _ _ old new (λ f has. inr (inr (q, asked, has))) h)
 groups_failed g r how q old new asked (inr h) = inr (breaks_groups g r how q old new asked h)
+
+-- ---- inputs that matter
+
+pub on_coil : (g : Given) (r : ListRequest) (p : Drawing) (s : Standing) (decls : Declared) (now var : ℕ) (coil : List ℕ) (listed : List ℕ) → IsSet g p s → decls ≡ p.decls
+    → coil ≡ string_bytes r.coil → now ≡ unwrap_or r.moment s.moment → variable_of decls coil ≡ Some var → IsOnCoil g r (question p s now var listed)
+on_coil g r p s decls now var coil listed set same named at on = record { set = set; at = at; on = rw (same, named) at on }
+
+pub relevant_groups_failed : (g : Given) (r : ListRequest) (after : Option ℕ) (grouping : Option Grouping) (how : Grouping) (q : Question) (old new : Logs) → grouping ≡ Some how
+    → IsDecided g r q → Refuses g (HasCauseFault (refusal q None)) old new ⊎ BreaksGroupsOf g q r how old new
+    → Refuses g (HasRelevantFault g r (after_for after grouping)) old new ⊎ BreaksRelevant g r after grouping old new
+relevant_groups_failed g r after grouping how q old new is decided (inl h) = rw is (inl (refuses_as g _ _ old new (λ f has. inr (q, decided, has)) h))
+relevant_groups_failed g r after grouping how q old new is decided (inr h) = rw is (inr (q, decided, h))
+
+pub relevant_list_failed : (g : Given) (r : ListRequest) (after : Option ℕ) (grouping : Option Grouping) (q : Question) (old new : Logs) → grouping ≡ None
+    → IsDecided g r q → Refuses g (HasCauseFault (refusal q after)) old new ⊎ BreaksOf g q r after old new
+    → Refuses g (HasRelevantFault g r (after_for after grouping)) old new ⊎ BreaksRelevant g r after grouping old new
+relevant_list_failed g r after grouping q old new is decided (inl h) = rw is (inl (refuses_as g _ _ old new (λ f has. inr (q, decided, has)) h))
+relevant_list_failed g r after grouping q old new is decided (inr h) = rw is (inr (q, decided, h))
 
 -- ---- names that can never come ON, or pairs of names
 

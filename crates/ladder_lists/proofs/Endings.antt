@@ -32,7 +32,8 @@ use Rattle.ladder_held.specs.declared.fault.HeldFault.{HeldFault}
 use Rattle.ladder_held.specs.declared.fault.HeldFault.TheVariants as held
 use Rattle.ladder_held.specs.declared.scans.Scans.{Scans}
 use Rattle.ladder_sim.specs.HeldText.{held_text}
-use Rattle.ladder_lists.specs.Lists.{HasHeldFault, HasHeldGroupFault, HasHeldGroupsFault, HasListFault, HasNameFault, HasScansFault, IsAsked, causes_for, counts_text, form_on, groups_line, held_counts_text, held_groups_for, held_line, looks_for, ordered, rows_for, rows_line, rows_text, unless_quiet}
+use Rattle.ladder_text.specs.Log.{WriteLog}
+use Rattle.ladder_lists.specs.Lists.{CountsOf, HasHeldFault, HasHeldGroupFault, HasHeldGroupsFault, HasListFault, HasNameFault, HasScansFault, IsAsked, ListsOf, causes_for, counts_text, form_on, groups_line, held_counts_text, held_groups_for, held_line, looks_for, ordered, rows_for, rows_line, rows_text, unless_quiet}
 use Rattle.ladder_setting.specs.Setting.{Given, HasSettingFault, IsSet}
 use Rattle.ladder_setting.specs.declared.fault.ToolFault.{ToolFault}
 use Rattle.ladder_causes.specs.Order.{RefusedInAnyOrder, SiftedIsPermutation, sifted}
@@ -51,6 +52,14 @@ asked_by g r p s decls now var coil inputs listed set same named all at on among
 -- What holds of a question holds with the listed inputs by another name.
 pub of_listed : (P : Question → Type 0) (a : Asked) (listed : List ℕ) → listed ≡ a.inputs.items → P (question a.program a.state a.moment a.coil listed) → P (question_of a)
 of_listed P a listed same h = subst (λ (xs : List ℕ). P (question a.program a.state a.moment a.coil xs)) same h
+
+pub lists_of : (a : Asked) (listed : List ℕ) → listed ≡ a.inputs.items → (r : ListRequest) (after : Option ℕ) (Written : List ℕ → Type 0)
+    → ListsOf (question a.program a.state a.moment a.coil listed) r after Written → ListsOf (question_of a) r after Written
+lists_of a listed same r after Written h = of_listed (λ x. ListsOf x r after Written) a listed same h
+
+pub counts_of : (a : Asked) (listed : List ℕ) → listed ≡ a.inputs.items → (r : ListRequest) (after : Option ℕ) (out out' : WriteLog) (Counted : List ℕ → Type 0)
+    → CountsOf (question a.program a.state a.moment a.coil listed) r after out out' Counted → CountsOf (question_of a) r after out out' Counted
+counts_of a listed same r after out out' Counted h = of_listed (λ x. CountsOf x r after out out' Counted) a listed same h
 
 -- The listed inputs by another name.
 pub asked_of : (g : Given) (r : ListRequest) (a : Asked) (listed : List ℕ) → listed ≡ a.inputs.items → IsAsked g r (question_of a)

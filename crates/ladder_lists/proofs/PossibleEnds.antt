@@ -1,6 +1,5 @@
 -- How a list of what some state, or every one, switches on ends.
-use Rattle.std.proofs.Common.{◌≡◌, ◌∙◌, ◌⊎◌, ◌^◌, ℕ, List, None, Option, Some, ap, inl, inr, length, refl, subst}
-use Rattle.ladder_grid.specs.Program.{Drawing}
+use Rattle.std.proofs.Common.{◌≡◌, ◌∙◌, ◌⊎◌, ◌^◌, ℕ, List, None, Option, Some, ap, inl, inr, length, subst}
 use Rattle.ladder_questions.specs.Causes.{Question, question}
 use Rattle.ladder_questions.specs.Refusal.{refusal}
 use Rattle.ladder_possible.specs.Possible.{AreRows, PossibleCursor}

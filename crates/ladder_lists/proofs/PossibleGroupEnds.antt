@@ -3,7 +3,6 @@ use Rattle.std.proofs.Common.{◌≡◌, ◌∙◌, ◌⊎◌, Bool, true, false
 use Rattle.ladder_grid.specs.Program.{Drawing}
 use Rattle.ladder_questions.specs.Causes.{Question}
 use Rattle.ladder_classes.specs.Classes.{numbers_in}
-use Rattle.ladder_classes.specs.declared.walk.ClassGroup.{ClassGroup}
 use Rattle.ladder_class_text.specs.ClassText.{possible_group_text, unsettled_in}
 use Rattle.ladder_possible_groups.specs.Cursor.{PossibleGroupCursor}
 use Rattle.ladder_sim.specs.CauseText.{limited}

@@ -4,8 +4,7 @@ use Rattle.ladder_questions.specs.Refusal.{refusal}
 use Rattle.ladder_setting.specs.declared.fault.ToolFault.TheVariants as fault
 use Rattle.ladder_setting.specs.Reports.{HasCauseFault}
 use Rattle.ladder_setting.proofs.Ends.{all_same, cause_fault, prefix_same}
-use Rattle.ladder_lists.specs.Lists.{CountsOf, ListsOf}
-use Rattle.ladder_lists.proofs.Endings.{line_is, of_listed, text_is}
+use Rattle.ladder_lists.proofs.Endings.{counts_of, line_is, lists_of, of_listed, text_is}
 use Rattle.ladder_lists.proofs.listing.list_asked.Goals as goal
 
 pub returns-in-Err-clause-failed : goal.returns-in-Err-clause-failed
@@ -28,7 +27,7 @@ returns-in_default-clause-failed g c = λ save status.
     let q = question a.program a.state a.moment a.coil c.deref.result.now in
     let made = c.in-Ok.ensures in
     inr (inl ((
-      of_listed (λ x. ListsOf x r c.args.after _) a c.deref.result.now c.deref.ensures.value (record {
+      lists_of a c.deref.result.now c.deref.ensures.value r c.args.after _ (record {
         accepted = made.accepted;
         rows = prefix_same _ _ _ _ (text_is r c.args.after q c.in-Ok.cursor made.program made.listed made.rest) c.in_default.ensures.bytes;
       }),
@@ -42,7 +41,7 @@ returns-in_default-put_rows-clause-failed g c = λ save status.
     let q = question a.program a.state a.moment a.coil c.deref.result.now in
     let made = c.in-Ok.ensures in
     let w = c.in-Ok-written in
-    inr (inr (of_listed (λ x. CountsOf x r c.args.after _ _ _) a c.deref.result.now c.deref.ensures.value (record {
+    inr (inr (counts_of a c.deref.result.now c.deref.ensures.value r c.args.after _ _ _ (record {
       list = record {
         accepted = made.accepted;
         rows = all_same _ _ _ _ (text_is r c.args.after q c.in-Ok.cursor made.program made.listed made.rest) w.ensures.bytes;
@@ -57,7 +56,7 @@ returns-clause-done g c = λ status.
     let q = question a.program a.state a.moment a.coil c.deref.result.now in
     let made = c.in-Ok.ensures in
     let w = c.in-Ok-written in
-    of_listed (λ x. CountsOf x r c.args.after _ _ _) a c.deref.result.now c.deref.ensures.value (record {
+    counts_of a c.deref.result.now c.deref.ensures.value r c.args.after _ _ _ (record {
       list = record {
         accepted = made.accepted;
         rows = all_same _ _ _ _ (text_is r c.args.after q c.in-Ok.cursor made.program made.listed made.rest) w.ensures.bytes;

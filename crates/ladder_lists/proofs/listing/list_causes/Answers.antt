@@ -1,5 +1,7 @@
 use Rattle.std.proofs.Common.{refl, inl}
 use Rattle.ladder_setting.specs.Setting.{given_by}
+use Rattle.ladder_lists.specs.Asked.{question_of}
+use Rattle.ladder_lists.proofs.Deciding.{counts_list, list_failed}
 use Rattle.ladder_lists.proofs.Endings.{before_asking}
 use Rattle.ladder_lists.proofs.listing.list_causes.Goals as goal
 
@@ -11,3 +13,11 @@ returns-in-Err-clause-failed g c = λ save status. inl (record {
   unsaved = refl {a = save};
   reported = c.report.ensures.line;
 })
+
+pub returns-in-Ok-clause-done : goal.returns-in-Ok-clause-done
+returns-in-Ok-clause-done g c = λ status.
+    counts_list (given_by c.args.texts.now) c.args.request.now c.args.after (question_of c.in-Ok.asked) _ _ _ c.in-Ok.ensures.asked (c.list_asked.ensures.done status)
+
+pub returns-in-Ok-clause-failed : goal.returns-in-Ok-clause-failed
+returns-in-Ok-clause-failed g c = λ save status.
+    list_failed (given_by c.args.texts.now) c.args.request.now c.args.after (question_of c.in-Ok.asked) _ _ c.in-Ok.ensures.asked (c.list_asked.ensures.failed save status)
