@@ -141,13 +141,15 @@ def coils(program, circuit):
 
 def possible(program, runs):
     """What some state switches on: each coil without listed inputs, the slowest of a circuit told; and with all inputs."""
-    print(f"{'from any state':34}{'ms':>10}{'rows':>12}{'unsettled':>10}{'ms of never':>12}")
+    print(f"{'from any state':34}{'ms':>10}{'rows':>12}{'unsettled':>10}{'ms of never':>12}{'of pairs':>10}{'pairs':>7}")
     for circuit in sorted([*(HERE.parent / "examples").glob("*/*.ld"), HERE / "circuits" / "three_stations.ld"]):
         tried = [(least([program, "causes", "--any", str(circuit), coil], runs), coil) for coil in coils(program, circuit)]
         (seconds, _, _), coil = max(tried)
         unsettled = sum(counts(said, "unsettled")[1] for (_, _, said), _ in tried)
         never, _, _ = least([program, "never", str(circuit)], runs)
-        print(f"{f'{circuit.parent.name}/{circuit.stem} {coil}':34}{seconds * 1e3:10.2f}{'':12}{unsettled:10}{never * 1e3:12.2f}")
+        pairs, _, said = least([program, "never", "--pairs", str(circuit)], runs)
+        print(f"{f'{circuit.parent.name}/{circuit.stem} {coil}':34}{seconds * 1e3:10.2f}{'':12}{unsettled:10}{never * 1e3:12.2f}"
+              f"{pairs * 1e3:10.2f}{said.split()[1]:>7}")
     for coil, rows, unsettled in POSSIBLE:
         words = [str(HERE / "circuits" / "three_stations.ld"), coil, *STATIONS]
         seconds, _, said = least([program, "causes", "--any", *words], runs)
