@@ -22,3 +22,4 @@ pub mod Checks
 pub mod ReadLines
 pub mod Stops
 pub mod Outline
+pub mod Columns

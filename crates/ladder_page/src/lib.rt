@@ -1,6 +1,7 @@
 //! Reads the page of a ladder drawing: its lines, rungs and cells, and the rules that they must meet.
 #![tactic(auto)]
 
+mod columns;
 mod fault;
 pub mod feeding;
 pub mod firsts;
@@ -19,6 +20,7 @@ mod rules;
 mod rung;
 mod view;
 
+pub use columns::column_of;
 pub use fault::{GridRule, Rule, Stop};
 pub use form::Form;
 pub use lines::Part;

@@ -462,6 +462,29 @@ fn breaks(
         }
 }
 
+/// The first column in which the rule is broken on this line of a row.
+pub(crate) fn broken_column(
+    rule: GridRule,
+    page: PageView<'_, '_>,
+    rung: usize,
+    row: usize,
+    half: Half,
+) -> Option<usize>
+    requires rungs { rung < length page.parts.now }
+    requires rows { row < ROWS }
+    requires few { rung < RUNGS }
+    ensures some { IfSome result (λ c. BreaksAt rule (seen page.entry) rung row half c) }
+    ensures near { IfSome result (λ c. c ≤ COLUMNS) }
+    ensures none { IfNone result (IsBrokenAlong rule (seen page.entry) rung row half → ⊥) }
+{
+    for column in 0..COLUMNS + 1 {
+        if breaks(rule, page, rung, row, half, column) {
+            return Some(column);
+        }
+    }
+    None
+}
+
 /// Whether the rule is broken on this line of a row.
 fn is_broken_along(
     rule: GridRule,
@@ -475,12 +498,7 @@ fn is_broken_along(
     requires few { rung < RUNGS }
     ensures { IsTrue result ↔ IsBrokenAlong rule (seen page.entry) rung row half }
 {
-    for column in 0..COLUMNS + 1 {
-        if breaks(rule, page, rung, row, half, column) {
-            return true;
-        }
-    }
-    false
+    broken_column(rule, page, rung, row, half).is_some()
 }
 
 /// The first line of the rung on which the rule is broken.

@@ -43,7 +43,8 @@ none_past text line h =
     rw (one, none) refl
 
 -- Each line but 0 is one of a text.
-pub near_some : (text : List ℕ) (line : ℕ) → (line ≡ 0 → ⊥) → near text line ≡ quote text false (line - 1) ++ (quote text true line ++ quote text false (line + 1))
-near_some text line h =
+pub near_some : (text : List ℕ) (line : ℕ) (under : List ℕ) → (line ≡ 0 → ⊥)
+    → near text line under ≡ quote text false (line - 1) ++ (quote text true line ++ (under ++ quote text false (line + 1)))
+near_some text line under h =
     let other : (line == 0) ≡ false = ne_eqb line 0 h in
     rw other refl

@@ -1,13 +1,15 @@
 //! The lines of a text near a fault, with their numbers.
 
-ghost use Rattle.std.specs.Prelude.{◌≡◌, ◌+◌, ◌++◌, ◌-◌, ◌==◌, ◌<◌, ◌≤◌, ◌^◌, codes, decimal, false, length, map, option_map, replicate, slice_get, take, true};
+ghost use Rattle.std.specs.Prelude.{◌≡◌, ◌+◌, ◌++◌, ◌-◌, ◌==◌, ◌<◌, ◌≤◌, ◌^◌, codes, decimal, false, length, map, IfSome, option_map, replicate, slice_get, take, true};
 ghost use Rattle.std.specs.List.{slice_split};
 ghost use Rattle.ladder_page.specs.Bytes.{line_feed, space};
-ghost use Rattle.ladder_reasons.specs.declared.quote.TheConstants.{DIGITS, WIDTH};
+ghost use Rattle.ladder_reasons.specs.declared.quote.TheConstants.{DIGITS, WIDEST, WIDTH};
+ghost use Rattle.ladder_page.specs.declared.geometry.TheConstants.{CELL};
 ghost use Rattle.ladder_text.specs.Block.{Sends};
-ghost use Rattle.ladder_reasons.specs.Reasons.{mark, near, numbered, quote, quoted, quoted_byte};
+ghost use Rattle.ladder_reasons.specs.Reasons.{MayStand, caret, mark, marks_text, near, numbered, quote, quoted, quoted_byte};
 
 use itoa::Buffer;
+use ladder_page::geometry::{CELL, RAIL};
 use ladder_text::{Block, Piece, Sink, WriteFault, add_pieces};
 
 /// How wide the number of a line is, where it has no more digits.
@@ -16,8 +18,24 @@ const DIGITS: usize = 5;
 /// How many bytes of a line are quoted at most.
 const WIDTH: usize = 160;
 
-/// As many spaces as a number is wide.
-const SPACES: &[u8; DIGITS] = &[b' '; DIGITS];
+/// How many spaces there are in a row at most.
+const WIDEST: usize = RAIL + 1;
+
+const SPACES: &[u8; WIDEST] = &[b' '; WIDEST];
+
+/// What stands before a line that has no number.
+const MARGIN: &[u8] = b"        | ";
+
+const CARETS: &[u8; CELL] = &[b'^'; CELL];
+
+/// What stands under a line of a drawing.
+#[derive(Clone, Copy)]
+pub(crate) struct Marks {
+    /// How many spaces come first.
+    pub(crate) indent: usize,
+    /// How many marks there are.
+    pub(crate) count: usize,
+}
 
 fn quoted_byte(byte: u8) -> u8
     ensures { result ≡ quoted_byte byte }
@@ -40,10 +58,40 @@ fn add_bytes<W: Sink>(block: &mut Block, bytes: &[u8], writer: &mut W) -> Result
 }
 
 fn spaces(count: usize) -> &'static [u8]
-    requires { count ≤ DIGITS }
+    requires { count ≤ WIDEST }
     ensures { result.now ≡ replicate count space }
 {
     &SPACES[..count]
+}
+
+fn carets(count: usize) -> &'static [u8]
+    requires { count ≤ CELL }
+    ensures { result.now ≡ replicate count caret }
+{
+    &CARETS[..count]
+}
+
+/// Adds a line with marks, where there are any.
+fn add_marks<W: Sink>(
+    block: &mut Block,
+    marks: Option<Marks>,
+    writer: &mut W,
+) -> Result<(), WriteFault>
+    requires { IfSome marks MayStand }
+    ensures { Sends (W.log writer.old) (W.log writer.new) block.old block.new result (marks_text marks) }
+{
+    match marks {
+        Some(Marks { indent, count }) => {
+            let pieces = [
+                Piece::Text(MARGIN),
+                Piece::Text(spaces(indent)),
+                Piece::Text(carets(count)),
+                Piece::Text(b"\n"),
+            ];
+            add_pieces(block, pieces.as_slice(), writer)
+        }
+        None => Ok(()),
+    }
 }
 
 /// How many spaces make the number of a line as wide as the others.
@@ -133,16 +181,18 @@ fn add_quote<W: Sink>(
     }
 }
 
-/// Adds the line where a fault shows, and the one behind it; both are counted from 1.
-fn add_from<W: Sink>(
+/// Adds what stands under the line where a fault shows, and the next line.
+fn add_below<W: Sink>(
     block: &mut Block,
     text: &[u8],
     line: usize,
+    marks: Option<Marks>,
     writer: &mut W,
 ) -> Result<(), WriteFault>
-    ensures { Sends (W.log writer.old) (W.log writer.new) block.old block.new result (quote text.now true line ++ quote text.now false (line + 1)) }
+    requires { IfSome marks MayStand }
+    ensures { Sends (W.log writer.old) (W.log writer.new) block.old block.new result (marks_text marks ++ quote text.now false (line + 1)) }
 {
-    add_quote(block, text, true, line, writer)?;
+    add_marks(block, marks, writer)?;
     // A text has at most one line more than it has bytes.
     if text.len() < line {
         return Ok(());
@@ -150,19 +200,36 @@ fn add_from<W: Sink>(
     add_quote(block, text, false, line + 1, writer)
 }
 
-/// Adds the line where a fault shows, between the one before it and the one behind it.
+/// Adds the line where a fault shows, what stands under it, and the next line.
+fn add_from<W: Sink>(
+    block: &mut Block,
+    text: &[u8],
+    line: usize,
+    marks: Option<Marks>,
+    writer: &mut W,
+) -> Result<(), WriteFault>
+    requires { IfSome marks MayStand }
+    ensures { Sends (W.log writer.old) (W.log writer.new) block.old block.new result (quote text.now true line ++ (marks_text marks ++ quote text.now false (line + 1))) }
+{
+    add_quote(block, text, true, line, writer)?;
+    add_below(block, text, line, marks, writer)
+}
+
+/// Adds the line where a fault shows, with what stands under it, between the line before it and the one after it.
 pub(crate) fn add_near<W: Sink>(
     block: &mut Block,
     text: &[u8],
     line: usize,
+    marks: Option<Marks>,
     writer: &mut W,
 ) -> Result<(), WriteFault>
-    ensures { Sends (W.log writer.old) (W.log writer.new) block.old block.new result (near text.now line) }
+    requires { IfSome marks MayStand }
+    ensures { Sends (W.log writer.old) (W.log writer.new) block.old block.new result (near text.now line (marks_text marks)) }
 {
     // Out of memory shows on no line.
     if line == 0 {
         return Ok(());
     }
     add_quote(block, text, false, line - 1, writer)?;
-    add_from(block, text, line, writer)
+    add_from(block, text, line, marks, writer)
 }

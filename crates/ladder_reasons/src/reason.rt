@@ -1,13 +1,16 @@
 //! Why a text is no program.
 
-ghost use Rattle.std.specs.Prelude.{◌≡◌, ◌++◌, codes};
+ghost use Rattle.std.specs.Prelude.{◌≡◌, ◌≤◌, ◌++◌, codes, option_map, IfSome};
+ghost use Rattle.ladder_page.specs.declared.geometry.TheConstants.{COLUMNS};
 ghost use Rattle.ladder_text.specs.Block.{Sends};
 ghost use Rattle.ladder_text.specs.Log.{Puts};
-ghost use Rattle.ladder_reasons.specs.Reasons.{near, reason_text, ruler};
+ghost use Rattle.ladder_reasons.specs.Reasons.{MayStand, is_of_joints, marks_in, marks_text, near, reason_text, ruler};
 
-use crate::quote::add_near;
+use crate::quote::{Marks, add_near};
 use crate::sentence::{grid_sentence, var_sentence};
 use ladder_grid::GridFault;
+use ladder_page::GridRule;
+use ladder_page::geometry::{CELL, PITCH};
 use ladder_text::{Block, Sink, WriteFault};
 
 /// The columns of a drawing.
@@ -26,41 +29,97 @@ fn add_sentence<W: Sink>(
     block.add(b"\n", writer)
 }
 
-/// Adds the columns of a drawing, and under them the line where a fault shows, between its neighbours.
+/// Whether the rule is one of what stands between two cells.
+fn is_of_joints(rule: GridRule) -> bool
+    ensures { result ≡ is_of_joints rule }
+{
+    match rule {
+        GridRule::BadJoint | GridRule::BrokenVertical => true,
+        GridRule::TooWide
+        | GridRule::TooTall
+        | GridRule::BadCell
+        | GridRule::Unfed
+        | GridRule::NameMissing
+        | GridRule::NameWithoutSymbol
+        | GridRule::Undeclared
+        | GridRule::WrongKind
+        | GridRule::BlockShape
+        | GridRule::DrawnTwice
+        | GridRule::LabelFault
+        | GridRule::TwoJumps
+        | GridRule::TooManyRungs => false,
+    }
+}
+
+/// The marks under what breaks a rule in a column.
+fn marks_in(rule: GridRule, column: usize) -> Marks
+    requires { column ≤ COLUMNS }
+    ensures value { result ≡ marks_in rule column }
+    ensures stand { MayStand result }
+{
+    if is_of_joints(rule) {
+        Marks {
+            indent: PITCH * column,
+            count: 1,
+        }
+    } else {
+        Marks {
+            indent: PITCH * column + 1,
+            count: CELL,
+        }
+    }
+}
+
+fn marks(rule: GridRule, column: Option<usize>) -> Option<Marks>
+    requires { IfSome column (λ c. c ≤ COLUMNS) }
+    ensures value { result ≡ option_map (marks_in rule) column }
+    ensures stand { IfSome result MayStand }
+{
+    match column {
+        Some(column) => Some(marks_in(rule, column)),
+        None => None,
+    }
+}
+
+/// Adds the columns of a drawing, and under them the line where a fault shows, with marks, between its neighbours.
 fn add_place<W: Sink>(
     block: &mut Block,
     text: &[u8],
     line: usize,
+    marks: Option<Marks>,
     writer: &mut W,
 ) -> Result<(), WriteFault>
-    ensures { Sends (W.log writer.old) (W.log writer.new) block.old block.new result (ruler ++ near text.now line) }
+    requires { IfSome marks MayStand }
+    ensures { Sends (W.log writer.old) (W.log writer.new) block.old block.new result (ruler ++ near text.now line (marks_text marks)) }
 {
     block.add(RULER, writer)?;
-    add_near(block, text, line, writer)
+    add_near(block, text, line, marks, writer)
 }
 
 fn add_reason<W: Sink>(
     block: &mut Block,
     text: &[u8],
     fault: &GridFault,
+    column: Option<usize>,
     writer: &mut W,
 ) -> Result<(), WriteFault>
-    ensures { Sends (W.log writer.old) (W.log writer.new) block.old block.new result (reason_text text.now fault.now) }
+    requires { IfSome column (λ c. c ≤ COLUMNS) }
+    ensures { Sends (W.log writer.old) (W.log writer.new) block.old block.new result (reason_text text.now fault.now column) }
 {
     match *fault {
         GridFault::Vars(fault) => {
             add_sentence(block, var_sentence(fault.rule), writer)?;
-            add_near(block, text, fault.line, writer)
+            add_near(block, text, fault.line, None, writer)
         }
         GridFault::Grid { rule, line, .. } => {
             add_sentence(block, grid_sentence(rule), writer)?;
-            add_place(block, text, line, writer)
+            add_place(block, text, line, marks(rule, column), writer)
         }
     }
 }
 
 /// Writes why a text is no program: the sentence of the rule that it breaks, for a rule of the drawing the numbers of the columns, and
-/// the line where the fault shows between its neighbours. It needs no memory.
+/// the line where the fault shows between its neighbours, with marks under the column where it is known. It needs no memory.
 ///
 /// # Errors
 ///
@@ -68,11 +127,13 @@ fn add_reason<W: Sink>(
 pub fn write_reason<W: Sink>(
     text: &[u8],
     fault: &GridFault,
+    column: Option<usize>,
     writer: &mut W,
 ) -> Result<(), WriteFault>
-    ensures { Puts (W.log writer.old) (W.log writer.new) result (reason_text text.now fault.now) }
+    requires { IfSome column (λ c. c ≤ COLUMNS) }
+    ensures { Puts (W.log writer.old) (W.log writer.new) result (reason_text text.now fault.now column) }
 {
     let mut block = Block::new();
-    add_reason(&mut block, text, fault, writer)?;
+    add_reason(&mut block, text, fault, column, writer)?;
     block.flush(writer)
 }

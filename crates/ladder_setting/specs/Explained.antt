@@ -1,7 +1,9 @@
 -- What is said of a fault: its line, and where it is explained its rule in words and, for a program text, the lines where it shows.
-use Rattle.std.specs.Prelude.{◌++◌, ℕ, Bool, true, false, List, codes}
+use Rattle.std.specs.Prelude.{◌++◌, ℕ, Bool, true, false, List, Option, Some, None, codes}
 use Rattle.ladder_questions.specs.declared.fault.CauseFault.{CauseFault}
 use Rattle.ladder_questions.specs.declared.fault.CauseFault.TheVariants as cause
+use Rattle.ladder_grid.specs.declared.fault.GridFault.TheVariants.{Grid}
+use Rattle.ladder_page.specs.Columns.{IsColumnOf}
 use Rattle.ladder_reasons.specs.Reasons.{reason_text}
 use Rattle.ladder_state.specs.declared.fault.StateFault.{StateFault}
 use Rattle.ladder_state.specs.declared.fault.StateFault.TheVariants as state
@@ -56,12 +58,18 @@ sentence fault.Write = codes "X6: a write failed"
 sentence fault.Memory = memory_sentence
 sentence other = codes "usage: the words are not those of a request"
 
--- A fault of the program text shows there; of the others the sentence is all.
-abbrev pub explained : List ℕ → ToolFault → List ℕ
-explained text (fault.Grid f) = reason_text text f
-explained text other = sentence other ++ codes "\n"
+-- The column, where one is marked, is one in which the program text breaks the rule of the fault.
+abbrev pub IsMarked : List ℕ → ToolFault → Option ℕ → Type 0
+IsMarked text f None = Unit {0}
+IsMarked text (fault.Grid (Grid r rung line)) (Some column) = IsColumnOf text r rung line column
+IsMarked text other (Some column) = ⊥
+
+-- A fault of the program text shows there, with marks under the column; of the others the sentence is all.
+abbrev pub explained : List ℕ → ToolFault → Option ℕ → List ℕ
+explained text (fault.Grid f) column = reason_text text f column
+explained text other column = sentence other ++ codes "\n"
 
 -- The line of the fault, and its explanation where that is asked for.
-abbrev pub report_of : Bool → List ℕ → ToolFault → List ℕ
-report_of true text f = fault_line f ++ explained text f
-report_of false text f = fault_line f
+abbrev pub report_of : Bool → List ℕ → ToolFault → Option ℕ → List ℕ
+report_of true text f column = fault_line f ++ explained text f column
+report_of false text f column = fault_line f

@@ -6,7 +6,7 @@ use Rattle.ladder_questions.specs.declared.fault.CauseFault.TheVariants as cause
 use Rattle.ladder_text.specs.Log.{PutsAll, PutsPrefix, WriteLog}
 use Rattle.ladder_setting.specs.declared.fault.ToolFault.{ToolFault}
 use Rattle.ladder_setting.specs.declared.fault.ToolFault.TheVariants as fault
-use Rattle.ladder_setting.specs.Explained.{report_of}
+use Rattle.ladder_setting.specs.Explained.{IsMarked, report_of}
 use Rattle.ladder_setting.specs.Setting.{Given}
 use Rattle.ladder_setting.specs.Variables.{IsUnknownWord}
 
@@ -19,9 +19,11 @@ pub record Logs : Type 0 where
 abbrev pub logs : WriteLog → WriteLog → WriteLog → Logs
 logs out save err = record { out = out; save = save; err = err }
 
--- What is said of a fault was written, or a prefix of it before the writer failed.
+-- What is said of a fault was written, or a prefix of it before the writer failed. A column that is marked is one of the fault's.
 abbrev pub IsReported : Given → WriteLog → WriteLog → ToolFault → Type 0
-IsReported g old new f = PutsAll old new (report_of g.why g.program f) ⊎ PutsPrefix old new (report_of g.why g.program f)
+IsReported g old new f =
+    (column : Option ℕ) × IsMarked g.program f column
+    × (PutsAll old new (report_of g.why g.program f column) ⊎ PutsPrefix old new (report_of g.why g.program f column))
 
 -- no text was read
 abbrev pub unread : Bool → Given

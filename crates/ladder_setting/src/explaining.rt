@@ -1,6 +1,7 @@
 //! What is said of a fault after its line.
 
-ghost use Rattle.std.specs.Prelude.{◌≡◌, ◌++◌, codes};
+ghost use Rattle.std.specs.Prelude.{◌≡◌, ◌≤◌, ◌++◌, codes, IfSome};
+ghost use Rattle.ladder_page.specs.declared.geometry.TheConstants.{COLUMNS};
 ghost use Rattle.ladder_text.specs.Log.{Puts};
 ghost use Rattle.ladder_setting.specs.Explained.{cause_sentence, explained, read_sentence, report_of, sentence, sim_sentence, state_sentence};
 
@@ -86,11 +87,17 @@ fn sentence(fault: ToolFault) -> &'static [u8]
     }
 }
 
-fn explain<W: Sink>(text: &[u8], fault: &ToolFault, writer: &mut W) -> Result<(), WriteFault>
-    ensures { Puts (W.log writer.old) (W.log writer.new) result (explained text.now fault.now) }
+fn explain<W: Sink>(
+    text: &[u8],
+    fault: &ToolFault,
+    column: Option<usize>,
+    writer: &mut W,
+) -> Result<(), WriteFault>
+    requires { IfSome column (λ c. c ≤ COLUMNS) }
+    ensures { Puts (W.log writer.old) (W.log writer.new) result (explained text.now fault.now column) }
 {
     match *fault {
-        ToolFault::Grid(fault) => write_reason(text, &fault, writer),
+        ToolFault::Grid(fault) => write_reason(text, &fault, column, writer),
         other => {
             let pieces = [Piece::Text(sentence(other)), Piece::Text(b"\n")];
             put_pieces(writer, pieces.as_slice())
@@ -98,7 +105,8 @@ fn explain<W: Sink>(text: &[u8], fault: &ToolFault, writer: &mut W) -> Result<()
     }
 }
 
-/// Writes the line of a fault, and after it, where that is asked for, its explanation by the program text. It needs no memory.
+/// Writes the line of a fault, and after it, where that is asked for, its explanation by the program text, with marks under the column where one
+/// is given. It needs no memory.
 ///
 /// # Errors
 ///
@@ -107,13 +115,15 @@ pub fn write_report<W: Sink>(
     why: bool,
     text: &[u8],
     fault: &ToolFault,
+    column: Option<usize>,
     writer: &mut W,
 ) -> Result<(), WriteFault>
-    ensures { Puts (W.log writer.old) (W.log writer.new) result (report_of why text.now fault.now) }
+    requires { IfSome column (λ c. c ≤ COLUMNS) }
+    ensures { Puts (W.log writer.old) (W.log writer.new) result (report_of why text.now fault.now column) }
 {
     write_fault(fault, writer)?;
     if why {
-        return explain(text, fault, writer);
+        return explain(text, fault, column, writer);
     }
     Ok(())
 }

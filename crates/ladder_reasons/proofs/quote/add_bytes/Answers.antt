@@ -1,4 +1,4 @@
-use Rattle.std.proofs.Common.{◌+◌, ◌++◌, ◌∷◌, [], drop, get_or, map, sym, take}
+use Rattle.std.proofs.Common.{◌+◌, drop, map, sym, take}
 use Rattle.ladder_text.proofs.Sending.{sends_err, sends_more, sends_prefix, sends_same}
 use Rattle.ladder_reasons.specs.Reasons.{quoted_byte}
 use Rattle.ladder_reasons.proofs.Quoting.{map_cut, map_more}

@@ -1,4 +1,4 @@
-use Rattle.std.proofs.Common.{◌++◌, ◌∷◌, [], ap, codes, map, sym}
+use Rattle.std.proofs.Common.{◌++◌, ap, codes, map, sym}
 use Rattle.ladder_text.proofs.Sending.{sends_last}
 use Rattle.ladder_reasons.specs.Reasons.{quoted_byte}
 use Rattle.ladder_reasons.proofs.Quoting.{first_failed}

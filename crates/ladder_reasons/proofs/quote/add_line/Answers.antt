@@ -1,4 +1,4 @@
-use Rattle.std.proofs.Common.{◌++◌, ◌∷◌, [], codes, map, refl, take}
+use Rattle.std.proofs.Common.{◌++◌, codes, map, refl, take}
 use Rattle.ladder_text.proofs.Sending.{sends_last}
 use Rattle.ladder_reasons.specs.Reasons.{numbered, quoted, quoted_byte}
 use Rattle.ladder_reasons.specs.declared.quote.TheConstants.{WIDTH}

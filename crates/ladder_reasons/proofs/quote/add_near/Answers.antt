@@ -1,6 +1,6 @@
-use Rattle.std.proofs.Common.{◌≡◌, ◌+◌, ◌-◌, ◌++◌, ◌==◌, Bool, List, ℕ, [], true, false, refl, ap, sym, cond}
+use Rattle.std.proofs.Common.{◌+◌, ◌-◌, ◌++◌, false, true}
 use Rattle.ladder_text.proofs.Sending.{sends_last}
-use Rattle.ladder_reasons.specs.Reasons.{near, quote}
+use Rattle.ladder_reasons.specs.Reasons.{marks_text, near, quote}
 use Rattle.ladder_reasons.proofs.Quoting.{first_failed, near_some}
 use Rattle.ladder_reasons.proofs.quote.add_near.Goals as goal
 
@@ -8,12 +8,14 @@ pub returns-in_err-add_quote : goal.returns-in_err-add_quote
 returns-in_err-add_quote g c =
     let text = c.args.text.now in
     let line = c.args.line in
-    first_failed _ _ _ _ (near text line) (quote text false (line - 1)) (quote text true line ++ quote text false (line + 1)) _ c.from_residual.ensures.0
-    (near_some text line c.if-line-eq0.false) c.in_err-add_quote.ensures
+    let under = marks_text c.args.marks in
+    first_failed _ _ _ _ (near text line under) (quote text false (line - 1)) (quote text true line ++ (under ++ quote text false (line + 1))) _
+    c.from_residual.ensures.0 (near_some text line under c.if-line-eq0.false) c.in_err-add_quote.ensures
 
 pub returns : goal.returns
 returns g c =
     let text = c.args.text.now in
     let line = c.args.line in
-    sends_last _ _ _ _ _ _ (near text line) (quote text false (line - 1)) (quote text true line ++ quote text false (line + 1)) _
-    (near_some text line c.if-line-eq0.false) c.in_ok-add_quote.ensures c.add_from.ensures
+    let under = marks_text c.args.marks in
+    sends_last _ _ _ _ _ _ (near text line under) (quote text false (line - 1)) (quote text true line ++ (under ++ quote text false (line + 1))) _
+    (near_some text line under c.if-line-eq0.false) c.in_ok-add_quote.ensures c.add_from.ensures

@@ -1,4 +1,4 @@
-use Rattle.std.proofs.Common.{◌++◌, ◌∷◌, [], codes, refl}
+use Rattle.std.proofs.Common.{◌++◌, codes, refl}
 use Rattle.ladder_text.proofs.Sending.{sends_last}
 use Rattle.ladder_reasons.proofs.Quoting.{first_failed}
 use Rattle.ladder_reasons.proofs.reason.add_sentence.Goals as goal

@@ -3,4 +3,4 @@ use Rattle.ladder_reasons.specs.Reasons.{reason_text}
 use Rattle.ladder_reasons.proofs.reason.write_reason.Goals as goal
 
 pub returns : goal.returns
-returns g c = flush_last _ _ _ _ (reason_text c.args.text.now c.args.fault.now) _ (rw c.new-block.ensures at c.in_ok-add_reason.ensures) c.flush.ensures.wrote
+returns g c = flush_last _ _ _ _ (reason_text c.args.text.now c.args.fault.now c.args.column) _ (rw c.new-block.ensures at c.in_ok-add_reason.ensures) c.flush.ensures.wrote

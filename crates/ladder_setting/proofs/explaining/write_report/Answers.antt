@@ -1,4 +1,4 @@
-use Rattle.std.proofs.Common.{ℕ, Bool, true, false, List}
+use Rattle.std.proofs.Common.{ℕ, Bool, true, false, List, Option}
 use Rattle.ladder_text.specs.Log.{PutsPrefix, WriteLog}
 use Rattle.ladder_text.proofs.Sending.{puts_err}
 use Rattle.ladder_setting.specs.Explained.{explained, report_of}
@@ -8,12 +8,13 @@ use Rattle.ladder_setting.proofs.Ends.{puts_cut, puts_next}
 use Rattle.ladder_setting.proofs.explaining.write_report.Goals as goal
 
 -- A line that is cut off, whether or not it is explained.
-line_cut : (a b : WriteLog) (why : Bool) (text : List ℕ) (f : ToolFault) → PutsPrefix a b (fault_line f) → PutsPrefix a b (report_of why text f)
-line_cut a b true text f h = puts_cut a b (fault_line f) (explained text f) h
-line_cut a b false text f h = h
+line_cut : (a b : WriteLog) (why : Bool) (text : List ℕ) (f : ToolFault) (column : Option ℕ) → PutsPrefix a b (fault_line f)
+    → PutsPrefix a b (report_of why text f column)
+line_cut a b true text f column h = puts_cut a b (fault_line f) (explained text f column) h
+line_cut a b false text f column h = h
 
 pub returns-in_err-write_fault : goal.returns-in_err-write_fault
-returns-in_err-write_fault g c = puts_err _ _ _ _ c.from_residual.ensures.0 (line_cut _ _ c.args.why c.args.text.now c.args.fault.now c.in_err-write_fault.ensures)
+returns-in_err-write_fault g c = puts_err _ _ _ _ c.from_residual.ensures.0 (line_cut _ _ c.args.why c.args.text.now c.args.fault.now c.args.column c.in_err-write_fault.ensures)
 
 pub returns-then-why : goal.returns-then-why
-returns-then-why g c = rw c.if-why.true (puts_next _ _ _ (fault_line c.args.fault.now) (explained c.args.text.now c.args.fault.now) c.explain.result c.in_ok-write_fault.ensures c.explain.ensures)
+returns-then-why g c = rw c.if-why.true (puts_next _ _ _ (fault_line c.args.fault.now) (explained c.args.text.now c.args.fault.now c.args.column) c.explain.result c.in_ok-write_fault.ensures c.explain.ensures)
