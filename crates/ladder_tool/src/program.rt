@@ -16,7 +16,7 @@ use std::{fs, io};
 
 /// What is said of words that `clap` takes and that ask for nothing.
 const CLASH: &str =
-    "usage: options that exclude one another, or an INPUT beside --all-inputs, or no such order or code; \
+    "usage: options that exclude one another, or an INPUT beside --all-inputs or --relevant, or no such order or code; \
     `ladder help` with the name of the subcommand says which there are\n";
 
 /// Reads the arguments and the files that they name, and performs the request over the standard streams. Returns
