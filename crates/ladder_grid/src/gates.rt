@@ -31,7 +31,7 @@ pub const LINKS: usize = OWN + PLACES;
 pub const VARIABLES: usize = 65_536;
 
 /// What a gate lets through.
-#[derive(Clone, Copy, Debug, PartialEq, Eq)]
+#[derive(Clone, Copy)]
 pub enum Literal {
     /// The value of a variable.
     Is(u16),
@@ -44,7 +44,7 @@ pub enum Literal {
 /// A gate gives, at `place`, the link at `left` AND the literal, OR the link at `other`.
 ///
 /// `below` is where the second input of a block is.
-#[derive(Clone, Copy, Debug, PartialEq, Eq)]
+#[derive(Clone, Copy)]
 pub struct Gate {
     pub place: u8,
     pub left: u8,
@@ -54,7 +54,7 @@ pub struct Gate {
 }
 
 /// A cell that writes a variable, a memory or an instance, and where its left link and its second input are.
-#[derive(Clone, Copy, Debug, PartialEq, Eq)]
+#[derive(Clone, Copy)]
 pub struct Action {
     pub cell: Cell,
     pub place: u8,
@@ -63,14 +63,14 @@ pub struct Action {
 }
 
 /// A jump or return: where its left link is, and the rung that it goes to, past the last one by a return.
-#[derive(Clone, Copy, Debug, PartialEq, Eq)]
+#[derive(Clone, Copy)]
 pub struct Exit {
     pub left: u8,
     pub target: usize,
 }
 
 /// A rung that has a jump or return, and the rung that this goes to.
-#[derive(Clone, Copy, Debug, PartialEq, Eq)]
+#[derive(Clone, Copy)]
 pub struct Leap {
     pub rung: usize,
     pub target: usize,

@@ -18,7 +18,7 @@ use ladder_vars::{Name, Symbol};
 
 /// What is at a place of a rung: a cell, whether power can leave it on its right, the joint on its left, and whether a
 /// vertical link goes from that joint to the row below.
-#[derive(Clone, Copy, Debug, PartialEq, Eq)]
+#[derive(Clone, Copy)]
 pub struct Site {
     pub cell: Cell,
     pub right_link: bool,
