@@ -2,7 +2,7 @@
 -- `ladder causes [--state STATE] [--at MS] [--after N] [--limit N] [--scans N] [--every MS] [--grouped] [--terms] [--st] [--order ORDER] [--relevant] [--all-inputs] [--quiet] FILE COIL [INPUT]...`,
 -- `ladder causes --any [--off] [--must] [--limit N] [--all-inputs] [--quiet] FILE COIL [INPUT]...`,
 -- `ladder show [--state STATE] [--at MS] [--number N] [--stimulus STIMULUS] [--html] [--coil COIL] [--all-inputs] FILE [INPUT]...`,
--- `ladder sim [--state STATE] [--save STATE] [--every MS] [--vcd] FILE STIMULUS`, `ladder uses FILE`, `ladder import PROJECT` and `ladder never [--state STATE] [--pairs] [--quiet] FILE`, each with `[--why]`;
+-- `ladder sim [--state STATE] [--save STATE] [--every MS] [--watch NAME]... [--watch-all] [--vcd] FILE STIMULUS`, `ladder uses FILE`, `ladder import PROJECT` and `ladder never [--state STATE] [--pairs] [--quiet] FILE`, each with `[--why]`;
 -- and `ladder explain [CODE]...`.
 use Rattle.std.specs.Prelude.{◌≡◌, List, Some, [], ◌∷◌, codes, true, false}
 use Rattle.clap.specs.Simple.{new_shape}
@@ -27,6 +27,10 @@ number_rule id = record (new_rule id) { long = Some id; value_names = 1; parser 
 -- an option with a number of 64 bits that isn't 0
 abbrev pub positive_rule : Text → Rule
 positive_rule id = record (new_rule id) { long = Some id; value_names = 1; parser = Some (Unsigned 1 18446744073709551615) }
+
+-- an option with a text that may be given several times
+abbrev pub texts_rule : Text → Rule
+texts_rule id = record (new_rule id) { long = Some id; action = Some Append; value_names = 1 }
 
 -- an option without a value
 abbrev pub flag_rule : Text → Rule
@@ -64,7 +68,7 @@ show_app = taking (codes "show") (
 
 abbrev pub sim_app : App
 sim_app = taking (codes "sim") (
-    text_rule (codes "state") ∷ text_rule (codes "save") ∷ positive_rule (codes "every") ∷ flag_rule (codes "vcd") ∷ flag_rule (codes "why") ∷ place_rule (codes "file") ∷ place_rule (codes "stimulus") ∷ []
+    text_rule (codes "state") ∷ text_rule (codes "save") ∷ positive_rule (codes "every") ∷ texts_rule (codes "watch") ∷ flag_rule (codes "watch-all") ∷ flag_rule (codes "vcd") ∷ flag_rule (codes "why") ∷ place_rule (codes "file") ∷ place_rule (codes "stimulus") ∷ []
     )
 
 abbrev pub import_app : App

@@ -11,7 +11,8 @@ use crate::help::{
     HOLD_HELP, HTML_HELP, IMPORT_ABOUT, INPUTS_HELP, LADDER_ABOUT, LIMIT_HELP, MUST_HELP,
     NEVER_ABOUT, NUMBER_HELP, OFF_HELP, ORDER_HELP, PAIRS_HELP, PROJECT_HELP, QUIET_HELP,
     RELEVANT_HELP, SAVE_HELP, SCANS_HELP, SHOW_ABOUT, SHOWN_HELP, SIM_ABOUT, STATE_HELP,
-    STATEMENT_HELP, STIMULUS_HELP, TERMS_HELP, USES_ABOUT, WARN_HELP, WAVES_HELP, WHY_HELP,
+    STATEMENT_HELP, STIMULUS_HELP, TERMS_HELP, USES_ABOUT, WARN_HELP, WATCH_ALL_HELP, WATCH_HELP,
+    WAVES_HELP, WHY_HELP,
 };
 use clap::{Arg, ArgAction, Command, value_parser};
 use std::alloc::{AllocError, Global};
@@ -26,6 +27,8 @@ enum Word {
     Number(&'static str, &'static str, &'static str),
     /// An option with a number that isn't 0.
     Positive(&'static str, &'static str, &'static str),
+    /// An option with a text that may be given several times.
+    Texts(&'static str, &'static str, &'static str),
     /// An option without a value.
     Flag(&'static str, &'static str),
     /// The arguments that are left.
@@ -99,6 +102,8 @@ const SIM: &[Word] = &[
     Word::Text("state", "STATE", STATE_HELP),
     Word::Text("save", "STATE", SAVE_HELP),
     Word::Positive("every", "MS", HOLD_HELP),
+    Word::Texts("watch", "NAME", WATCH_HELP),
+    Word::Flag("watch-all", WATCH_ALL_HELP),
     Word::Flag("vcd", WAVES_HELP),
     Word::Flag("why", EXPLAIN_HELP),
     Word::Place("file", "FILE", FILE_HELP),
@@ -174,6 +179,11 @@ fn arg_of<'a>(alloc: Global, word: &'a Word) -> Arg<'a>
         Word::Positive(id, value, help) => Arg::new(alloc, id)
             .long(id)
             .value_parser(value_parser!(u64).range(1..))
+            .value_name(value)
+            .help(help),
+        Word::Texts(id, value, help) => Arg::new(alloc, id)
+            .long(id)
+            .action(ArgAction::Append)
             .value_name(value)
             .help(help),
         Word::Flag(id, help) => Arg::new(alloc, id)

@@ -79,6 +79,12 @@ pub(crate) const STATE_HELP: &str =
 pub(crate) const WAVES_HELP: &str =
     "Writes a waveform in place of the trace, a value change dump (IEEE 1364) of all variables and outputs of blocks, for GTKWave and the like; not with --save";
 
+pub(crate) const WATCH_HELP: &str =
+    "Also prints a variable, or of a block its output and its elapsed time in ms (NAME.ET) or its count (NAME.CV); may be given several times; not with --vcd";
+
+pub(crate) const WATCH_ALL_HELP: &str =
+    "Also prints all memory variables and then all blocks so, in order of declaration; not with --watch or --vcd";
+
 pub(crate) const SAVE_HELP: &str = "The file that gets the state after the last scan";
 
 pub(crate) const HOLD_HELP: &str =

@@ -1,8 +1,10 @@
 pub mod Bits
+pub mod Columns
 pub mod Coming
 pub mod Fields
 pub mod HeaderWords
 pub mod Lists
 pub mod Plain
+pub mod Scanned
 pub mod Taking
 pub mod Whole

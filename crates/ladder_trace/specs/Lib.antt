@@ -5,3 +5,4 @@ pub mod Simulation
 pub mod Steps
 pub mod Stimulus
 pub mod Trace
+pub mod Watching

@@ -1,12 +1,14 @@
 -- How a simulation ends (the profile): with the course of the first records of a stimulus, and with what comes after them. It writes a
--- trace, a film or a waveform.
+-- trace, also with what is watched, a film or a waveform.
 -- Records are counted from 1 in a fault, the header included; a place in a list is counted from 0.
 use Rattle.std.specs.Prelude.{◌≡◌, ◌⊎◌, ◌++◌, ◌+◌, ◌<◌, ◌≤◌, ℕ, zero, suc, Bool, List, [], Contains, Option, None, Some, Result, Ok, Err, codes, length, slice_get, take}
+use Rattle.std.specs.Borrow.{Bor}
 use Rattle.ladder_vars.specs.Decls.{Declared}
 use Rattle.ladder_grid.specs.Program.{Drawing}
 use Rattle.ladder_records.specs.Left.{Fields}
 use Rattle.ladder_scan.specs.Standing.{Standing}
 use Rattle.ladder_text.specs.Log.{PutsAll, PutsPrefix, WriteLog}
+use Rattle.ladder_trace.specs.declared.column.Column.{Column}
 use Rattle.ladder_trace.specs.declared.fault.SimFault.{SimFault}
 use Rattle.ladder_trace.specs.declared.fault.SimFault.TheVariants as fault
 use Rattle.ladder_trace.specs.declared.recording.Film.{Film}
@@ -34,6 +36,7 @@ Runs recording p columns s rows (suc k) text piece t =
 -- This is how many records after the header are taken at most.
 abbrev pub most : Recording → ℕ
 most recordings.Trace = 1000000
+most (recordings.Watched columns) = 1000000
 most (recordings.Film film) = 1000
 most recordings.Waves = 1000000
 
@@ -126,6 +129,11 @@ FollowsEvery recording (suc n) p s rows t old new end =
 -- So with the trace.
 abbrev pub SimulatesEvery : ℕ → Drawing → Standing → List Fields → Standing → WriteLog → WriteLog → Result ℕ SimFault → Type 0
 SimulatesEvery = FollowsEvery recordings.Trace
+
+-- With the trace that has these columns behind the outputs.
+abbrev pub WatchesEvery : List Column → ℕ → Drawing → Standing → List Fields → Standing → WriteLog → WriteLog → Result ℕ SimFault → Type 0
+WatchesEvery columns every p s rows t old new end =
+    (w : Bor (List Column)) × (w.now ≡ columns) × FollowsEvery (recordings.Watched w) every p s rows t old new end
 
 -- And with a waveform.
 abbrev pub WavesEvery : ℕ → Drawing → Standing → List Fields → Standing → WriteLog → WriteLog → Result ℕ SimFault → Type 0

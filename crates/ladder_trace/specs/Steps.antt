@@ -19,6 +19,7 @@ use Rattle.ladder_trace.specs.Trace.{IsStep, Tells, scanned}
 -- A film needs the text of the program.
 abbrev pub CanRecord : Recording → Drawing → Type 0
 CanRecord recordings.Trace p = Unit {0}
+CanRecord (recordings.Watched columns) p = Unit {0}
 CanRecord (recordings.Film film) p = IsProgram film.text.now p
 CanRecord recordings.Waves p = Unit {0}
 

@@ -1,5 +1,6 @@
 //! What is written of a simulation.
 
+use crate::column::Column;
 use ladder_show::Style;
 
 /// How a film is drawn.
@@ -17,6 +18,8 @@ pub struct Film<'a> {
 pub(crate) enum Recording<'a> {
     /// A row of the trace.
     Trace,
+    /// A row of the trace that has these columns behind the outputs.
+    Watched(&'a [Column]),
     /// A drawing.
     Film(Film<'a>),
     /// What it has changed.

@@ -11,16 +11,18 @@ ghost use Rattle.ladder_vars.specs.Decls.{is_input};
 ghost use Rattle.ladder_trace.specs.Coming.{Gives, IsFresh, IsSound};
 ghost use Rattle.ladder_trace.specs.Filled.{Numbered, filled};
 ghost use Rattle.ladder_trace.specs.Room.{IsReady};
-ghost use Rattle.ladder_trace.specs.Simulation.{Films, FollowsEvery, SimulatesEvery, WavesEvery, most};
+ghost use Rattle.ladder_trace.specs.Simulation.{Films, FollowsEvery, SimulatesEvery, WatchesEvery, WavesEvery, most};
 ghost use Rattle.ladder_trace.specs.Steps.{CanRecord, Ends, IsGoing, ScansTo, StepsTo};
 ghost use Rattle.ladder_trace.specs.Trace.{head_text};
 
+use crate::column::Column;
 use crate::fault::SimFault;
 use crate::filling::{Filling, Taken, filling_from, take};
 use crate::header::columns;
 use crate::recording::{Film, Recording};
 use crate::row::{fill_inputs, give_columns};
 use crate::trace::{write_header, write_row};
+use crate::watching::{write_watched_header, write_watched_row};
 use csv::ByteRecord;
 use ladder_grid::Program;
 use ladder_records::next;
@@ -60,7 +62,7 @@ fn most(recording: Recording<'_>) -> u64
     ensures small { result ≤ 1000000 }
 {
     match recording {
-        Recording::Trace | Recording::Waves => MOST,
+        Recording::Trace | Recording::Watched(_) | Recording::Waves => MOST,
         Recording::Film(_) => MOST_DRAWN,
     }
 }
@@ -79,6 +81,7 @@ fn write_head<W: Sink>(
 {
     match recording {
         Recording::Trace => write_header(program, block, writer),
+        Recording::Watched(columns) => write_watched_header(program, columns, block, writer),
         Recording::Film(film) => write_film_start(film.style, writer),
         Recording::Waves => write_start(program, state, block, writer),
     }
@@ -103,6 +106,32 @@ fn trace_scan<W: Sink>(
         return Err(SimFault::MomentBack { row: number });
     };
     let Ok(()) = write_row(program, state, &mut room.block, writer) else {
+        return Err(SimFault::Write);
+    };
+    Ok(())
+}
+
+/// A scan with the input image, and then the writing of its row with these columns.
+fn watch_scan<W: Sink>(
+    program: &Program,
+    watched: &[Column],
+    moment: u64,
+    number: u64,
+    room: &mut Room,
+    state: &mut State,
+    writer: &mut W,
+) -> Result<(), SimFault>
+    requires fits { Fits program.now state.old }
+    requires ready { IsReady program.now room.old.image.items room.old.block room.old.before }
+    ensures fits { Fits program.now state.new }
+    ensures ready { OnOk result (IsReady program.now room.new.image.items room.new.block room.new.before) }
+    ensures scans { ScansTo (Recording.Watched watched.entry) program.now number state.old moment room.old.image.items state.new (W.log writer.old) (W.log writer.new) result }
+{
+    match scan(program, state, &room.image, moment) {
+        Ok(()) => (),
+        Err(_) => return Err(SimFault::MomentBack { row: number }),
+    }
+    let Ok(()) = write_watched_row(program, state, watched, &mut room.block, writer) else {
         return Err(SimFault::Write);
     };
     Ok(())
@@ -205,6 +234,9 @@ fn step<W: Sink>(
     give_columns(columns, row, &mut room.image);
     match run.recording {
         Recording::Trace => trace_scan(program, moment, number, room, state, writer),
+        Recording::Watched(watched) => {
+            watch_scan(program, watched, moment, number, room, state, writer)
+        }
         Recording::Film(film) => draw_scan(run, film, moment, number, &room.image, state, writer),
         Recording::Waves => wave_scan(run, moment, number, room, state, writer),
     }
@@ -331,6 +363,33 @@ pub fn simulate<W: Sink>(
         alloc,
         program,
         recording: Recording::Trace,
+        every,
+    };
+    follow(run, state, stimulus, writer)
+}
+
+/// Scans a stimulus as `simulate` does, and writes the trace with these columns behind the outputs. Returns how many scans there were.
+///
+/// # Errors
+///
+/// As those of `simulate`.
+pub fn watch<W: Sink>(
+    alloc: Global,
+    program: &Program,
+    watched: &[Column],
+    state: &mut State,
+    stimulus: &[u8],
+    every: u64,
+    writer: &mut W,
+) -> Result<u64, SimFault>
+    requires { Fits program.now state.old }
+    ensures fits { Fits program.now state.new }
+    ensures ends { WatchesEvery watched.now every program.now state.old (records_of stimulus.now) state.new (W.log writer.old) (W.log writer.new) result }
+{
+    let run = Run {
+        alloc,
+        program,
+        recording: Recording::Watched(watched),
         every,
     };
     follow(run, state, stimulus, writer)

@@ -24,7 +24,11 @@ fn is_output(var: &Var) -> bool
 }
 
 /// Adds the names of the outputs, each after a comma.
-fn add_names<W: Sink>(block: &mut Block, vars: &[Var], writer: &mut W) -> Result<(), WriteFault>
+pub(crate) fn add_names<W: Sink>(
+    block: &mut Block,
+    vars: &[Var],
+    writer: &mut W,
+) -> Result<(), WriteFault>
     ensures { Sends (W.log writer.old) (W.log writer.new) block.old block.new result (after_commas (map (λ v. v.name) (filter is_output vars.now))) }
 {
     for number in 0..vars.len() {
@@ -65,7 +69,7 @@ pub(crate) fn write_header<W: Sink>(
 }
 
 /// Adds the values of the outputs, each after a comma.
-fn add_bits<W: Sink>(
+pub(crate) fn add_bits<W: Sink>(
     block: &mut Block,
     vars: &[Var],
     state: &State,
@@ -83,7 +87,11 @@ fn add_bits<W: Sink>(
     Ok(())
 }
 
-fn add_moment<W: Sink>(block: &mut Block, moment: u64, writer: &mut W) -> Result<(), WriteFault>
+pub(crate) fn add_moment<W: Sink>(
+    block: &mut Block,
+    moment: u64,
+    writer: &mut W,
+) -> Result<(), WriteFault>
     ensures { Sends (W.log writer.old) (W.log writer.new) block.old block.new result (decimal moment) }
 {
     let mut buffer = Buffer::new();

@@ -3,7 +3,7 @@ use Rattle.std.proofs.Common.{◌≡◌, ◌∙◌, ℕ, Bool, true, false, List
 use Rattle.std.specs.List.{list_all}
 use Rattle.clap.specs.Words.{Row, Text, all_of, first_of}
 use Rattle.ladder_pages.specs.Pages.{is_fault_code}
-use Rattle.ladder_words.specs.Asking.{Asks, AsksNone, HasEvery, HasNoTask, HasFlag, HasForm, HasInputs, HasLasting, HasNumber, HasOption, HasScans, HasSwitch, HasOrder, IsNamed, IsOfOneState, IsSingle, IsTable, MayGroup, MayHaveLimit, NamesList}
+use Rattle.ladder_words.specs.Asking.{Asks, AsksNone, HasEvery, HasNoTask, HasFlag, HasForm, HasInputs, HasLasting, HasNumber, HasOption, HasScans, HasSwitch, HasWatched, HasOrder, IsNamed, IsOfOneState, IsSingle, IsTable, MayGroup, MayHaveLimit, NamesList, NamesTrace}
 use Rattle.ladder_words.specs.Parts.{HasGrouping, IsOfAnyState, IsOfOneScan, IsOfRecords, IsWhole, MayLast, NamesNoStates, NamesScan, Plays}
 use Rattle.ladder_words.specs.Faults.{UsageWhere}
 use Rattle.ladder_words.specs.declared.request.Form.{Form}
@@ -18,11 +18,12 @@ use Rattle.ladder_words.specs.declared.request.Grouping.{Grouping}
 use Rattle.ladder_words.specs.declared.request.ShowRequest.{ShowRequest}
 use Rattle.ladder_words.specs.declared.request.FilmRequest.{FilmRequest}
 use Rattle.ladder_words.specs.declared.request.SimRequest.{SimRequest}
+use Rattle.ladder_words.specs.declared.request.WatchRequest.{WatchRequest}
 use Rattle.ladder_words.specs.declared.request.WavesRequest.{WavesRequest}
 use Rattle.ladder_words.specs.declared.request.PossibleRequest.{PossibleRequest}
 use Rattle.ladder_words.specs.declared.request.NeverRequest.{NeverRequest}
 use Rattle.ladder_words.specs.declared.words.Lasting.TheVariants.{Count, Until}
-use Rattle.ladder_words.specs.declared.request.Request.TheVariants.{Causes, Check, Film, Groups, Held, Import, Never, Possible, Relevant, Show, Sim, Uses, Waves}
+use Rattle.ladder_words.specs.declared.request.Request.TheVariants.{Causes, Check, Film, Groups, Held, Import, Never, Possible, Relevant, Show, Sim, Uses, Watch, Waves}
 use Rattle.ladder_words.specs.declared.request.WordFault.{WordFault}
 use Rattle.ladder_words.specs.declared.request.WordFault.TheVariants.{Help, Memory, Mistake, Usage}
 use Rattle.ladder_words.specs.declared.request.Task.TheVariants.{Explain, Perform}
@@ -58,6 +59,7 @@ explains_alone rows (Relevant list after grouping) h = let other : 101 ≡ 99 = 
 explains_alone rows (Show r) h = let other : 101 ≡ 115 = name_differs h.0 in absurd (omega (arith, other))
 explains_alone rows (Film r) h = let other : 101 ≡ 115 = name_differs h.0 in absurd (omega (arith, other))
 explains_alone rows (Sim r) h = let other : 101 ≡ 115 = name_differs h.0 in absurd (omega (arith, other))
+explains_alone rows (Watch r) h = let other : 101 ≡ 115 = name_differs h.0 in absurd (omega (arith, other))
 explains_alone rows (Waves r) h = let other : 101 ≡ 115 = name_differs h.0 in absurd (omega (arith, other))
 explains_alone rows (Uses file) h = let other : 101 ≡ 117 = name_differs h.0 in absurd (omega (arith, other))
 explains_alone rows (Never r) h = let other : 101 ≡ 110 = name_differs h.0 in absurd (omega (arith, other))
@@ -94,6 +96,7 @@ no_check rows none (Relevant list after grouping) h = let other = h.0 in cc
 no_check rows none (Show r) h = let other = h.0 in cc
 no_check rows none (Film r) h = let other = h.0 in cc
 no_check rows none (Sim r) h = let other = h.0 in cc
+no_check rows none (Watch r) h = let other = h.0 in cc
 no_check rows none (Waves r) h = let other = h.0 in cc
 no_check rows none (Uses file) h = let other = h.0 in cc
 no_check rows none (Never r) h = let other : 99 ≡ 110 = ap (λ (name : List ℕ). get_or name 0 0) h.0 in absurd (omega (arith, other))
@@ -115,6 +118,7 @@ only_causes rows causes held groups possible relevant (Relevant list after group
 only_causes rows causes held groups possible relevant (Show r) h = let other = h.0 in cc
 only_causes rows causes held groups possible relevant (Film r) h = let other = h.0 in cc
 only_causes rows causes held groups possible relevant (Sim r) h = let other = h.0 in cc
+only_causes rows causes held groups possible relevant (Watch r) h = let other = h.0 in cc
 only_causes rows causes held groups possible relevant (Waves r) h = let other = h.0 in cc
 only_causes rows causes held groups possible relevant (Uses file) h = let other = h.0 in cc
 only_causes rows causes held groups possible relevant (Never r) h = let other : 99 ≡ 110 = ap (λ (name : List ℕ). get_or name 0 0) h.0 in absurd (omega (arith, other))
@@ -151,6 +155,7 @@ only_show rows show film (Relevant list after grouping) h = let other = h.0 in c
 only_show rows show film (Show r) h = show r h
 only_show rows show film (Film r) h = film r h
 only_show rows show film (Sim r) h = let other = h.0 in cc
+only_show rows show film (Watch r) h = let other = h.0 in cc
 only_show rows show film (Waves r) h = let other = h.0 in cc
 only_show rows show film (Uses file) h = let other : 115 ≡ 117 = ap (λ (name : List ℕ). get_or name 0 0) h.0 in absurd (omega (arith, other))
 only_show rows show film (Never r) h = let other : 115 ≡ 110 = ap (λ (name : List ℕ). get_or name 0 0) h.0 in absurd (omega (arith, other))
@@ -158,21 +163,23 @@ only_show rows show film (Import file) h = let other : 115 ≡ 105 = ap (λ (nam
 
 pub only_sim : (rows : List Row)
     → ((r : SimRequest) → Asks (codes "sim") rows (Sim r) → ⊥)
+    → ((r : WatchRequest) → Asks (codes "sim") rows (Watch r) → ⊥)
     → ((r : WavesRequest) → Asks (codes "sim") rows (Waves r) → ⊥)
     → AsksNone (codes "sim") rows
-only_sim rows sim waves (Check file warns) h = let other = h.0 in cc
-only_sim rows sim waves (Causes list after) h = let other = h.0 in cc
-only_sim rows sim waves (Held list scans every grouped) h = let other = h.0 in cc
-only_sim rows sim waves (Groups list grouping) h = let other = h.0 in cc
-only_sim rows sim waves (Possible r) h = let other = h.0 in cc
-only_sim rows sim waves (Relevant list after grouping) h = let other = h.0 in cc
-only_sim rows sim waves (Show r) h = let other = h.0 in cc
-only_sim rows sim waves (Film r) h = let other = h.0 in cc
-only_sim rows sim waves (Sim r) h = sim r h
-only_sim rows sim waves (Waves r) h = waves r h
-only_sim rows sim waves (Uses file) h = let other : 115 ≡ 117 = ap (λ (name : List ℕ). get_or name 0 0) h.0 in absurd (omega (arith, other))
-only_sim rows sim waves (Never r) h = let other : 115 ≡ 110 = ap (λ (name : List ℕ). get_or name 0 0) h.0 in absurd (omega (arith, other))
-only_sim rows sim waves (Import file) h = let other : 115 ≡ 105 = ap (λ (name : List ℕ). get_or name 0 0) h.0 in absurd (omega (arith, other))
+only_sim rows sim watch waves (Check file warns) h = let other = h.0 in cc
+only_sim rows sim watch waves (Causes list after) h = let other = h.0 in cc
+only_sim rows sim watch waves (Held list scans every grouped) h = let other = h.0 in cc
+only_sim rows sim watch waves (Groups list grouping) h = let other = h.0 in cc
+only_sim rows sim watch waves (Possible r) h = let other = h.0 in cc
+only_sim rows sim watch waves (Relevant list after grouping) h = let other = h.0 in cc
+only_sim rows sim watch waves (Show r) h = let other = h.0 in cc
+only_sim rows sim watch waves (Film r) h = let other = h.0 in cc
+only_sim rows sim watch waves (Sim r) h = sim r h
+only_sim rows sim watch waves (Watch r) h = watch r h
+only_sim rows sim watch waves (Waves r) h = waves r h
+only_sim rows sim watch waves (Uses file) h = let other : 115 ≡ 117 = ap (λ (name : List ℕ). get_or name 0 0) h.0 in absurd (omega (arith, other))
+only_sim rows sim watch waves (Never r) h = let other : 115 ≡ 110 = ap (λ (name : List ℕ). get_or name 0 0) h.0 in absurd (omega (arith, other))
+only_sim rows sim watch waves (Import file) h = let other : 115 ≡ 105 = ap (λ (name : List ℕ). get_or name 0 0) h.0 in absurd (omega (arith, other))
 
 pub no_uses : (rows : List Row) → first_of (codes "file") rows ≡ None → AsksNone (codes "uses") rows
 no_uses rows none (Check file warns) h = let other = h.0 in cc
@@ -184,6 +191,7 @@ no_uses rows none (Relevant list after grouping) h = let other = h.0 in cc
 no_uses rows none (Show r) h = let other : 117 ≡ 115 = ap (λ (name : List ℕ). get_or name 0 0) h.0 in absurd (omega (arith, other))
 no_uses rows none (Film r) h = let other : 117 ≡ 115 = ap (λ (name : List ℕ). get_or name 0 0) h.0 in absurd (omega (arith, other))
 no_uses rows none (Sim r) h = let other : 117 ≡ 115 = ap (λ (name : List ℕ). get_or name 0 0) h.0 in absurd (omega (arith, other))
+no_uses rows none (Watch r) h = let other : 117 ≡ 115 = ap (λ (name : List ℕ). get_or name 0 0) h.0 in absurd (omega (arith, other))
 no_uses rows none (Waves r) h = let other : 117 ≡ 115 = ap (λ (name : List ℕ). get_or name 0 0) h.0 in absurd (omega (arith, other))
 no_uses rows none (Uses file) h = let some = h.1 in cc
 no_uses rows none (Never r) h = let other : 117 ≡ 110 = ap (λ (name : List ℕ). get_or name 0 0) h.0 in absurd (omega (arith, other))
@@ -199,6 +207,7 @@ no_import rows none (Relevant list after grouping) h = let other : 105 ≡ 99 = 
 no_import rows none (Show r) h = let other : 105 ≡ 115 = name_differs h.0 in absurd (omega (arith, other))
 no_import rows none (Film r) h = let other : 105 ≡ 115 = name_differs h.0 in absurd (omega (arith, other))
 no_import rows none (Sim r) h = let other : 105 ≡ 115 = name_differs h.0 in absurd (omega (arith, other))
+no_import rows none (Watch r) h = let other : 105 ≡ 115 = name_differs h.0 in absurd (omega (arith, other))
 no_import rows none (Waves r) h = let other : 105 ≡ 115 = name_differs h.0 in absurd (omega (arith, other))
 no_import rows none (Uses file) h = let other : 105 ≡ 117 = name_differs h.0 in absurd (omega (arith, other))
 no_import rows none (Never r) h = let other : 105 ≡ 110 = name_differs h.0 in absurd (omega (arith, other))
@@ -216,6 +225,7 @@ only_never rows never (Relevant list after grouping) h = let other : 110 ≡ 99 
 only_never rows never (Show r) h = let other : 110 ≡ 115 = ap (λ (name : List ℕ). get_or name 0 0) h.0 in absurd (omega (arith, other))
 only_never rows never (Film r) h = let other : 110 ≡ 115 = ap (λ (name : List ℕ). get_or name 0 0) h.0 in absurd (omega (arith, other))
 only_never rows never (Sim r) h = let other : 110 ≡ 115 = ap (λ (name : List ℕ). get_or name 0 0) h.0 in absurd (omega (arith, other))
+only_never rows never (Watch r) h = let other : 110 ≡ 115 = ap (λ (name : List ℕ). get_or name 0 0) h.0 in absurd (omega (arith, other))
 only_never rows never (Waves r) h = let other : 110 ≡ 115 = ap (λ (name : List ℕ). get_or name 0 0) h.0 in absurd (omega (arith, other))
 only_never rows never (Uses file) h = let other : 110 ≡ 117 = ap (λ (name : List ℕ). get_or name 0 0) h.0 in absurd (omega (arith, other))
 only_never rows never (Never r) h = never r h
@@ -436,18 +446,39 @@ pub no_film_of_waves : (rows : List Row) → (HasOption (codes "stimulus") rows 
 no_film_of_waves rows some none =
     only_show rows (λ r h. some h.1) (λ r h. none (record { state = r.state; file = r.file; stimulus = r.stimulus }) (h.5, h.8, h.1))
 
-pub no_sim_of_waves : (rows : List Row) → ((w : Played) → Plays rows w → ⊥) → AsksNone (codes "sim") rows
-no_sim_of_waves rows none =
-    only_sim rows (λ r h. none (record { state = r.state; file = r.file; stimulus = r.stimulus }) (h.2, h.5, h.6))
-    (λ r h. none (record { state = r.state; file = r.file; stimulus = r.stimulus }) (h.3, h.5, h.6))
+-- the trace of a stimulus, and what is watched besides
+pub no_trace : (rows : List Row) → (HasFlag (codes "vcd") rows → ⊥) → HasWatched rows false [] → ((r : SimRequest) → NamesTrace rows r → ⊥) → AsksNone (codes "sim") rows
+no_trace rows vcd nothing none = only_sim rows (λ r h. none r h.3) (λ r h. h.2 nothing) (λ r h. vcd h.1)
+
+pub no_watch : (rows : List Row) → (HasFlag (codes "vcd") rows → ⊥) → (HasWatched rows false [] → ⊥) → ((r : SimRequest) → NamesTrace rows r → ⊥) → AsksNone (codes "sim") rows
+no_watch rows vcd some none = only_sim rows (λ r h. some h.2) (λ r h. none r.sim h.4) (λ r h. vcd h.1)
+
+pub no_watch_of_names : (rows : List Row) → (HasFlag (codes "vcd") rows → ⊥) → (HasWatched rows false [] → ⊥) → ((all : Bool) (names : List Text) → HasWatched rows all names → ⊥)
+    → AsksNone (codes "sim") rows
+no_watch_of_names rows vcd some none = only_sim rows (λ r h. some h.2) (λ r h. none r.all (map string_bytes r.names.items) h.3) (λ r h. vcd h.1)
 
 -- The time between two scans is a number.
-pub no_sim_of_every : (rows : List Row) → ((o : Option ℕ) → HasNumber (codes "every") rows o → ⊥) → AsksNone (codes "sim") rows
-no_sim_of_every rows none = only_sim rows (λ r h. none r.every h.4) (λ r h. none r.every h.4)
+pub no_trace_of_every : (rows : List Row) → ((o : Option ℕ) → HasNumber (codes "every") rows o → ⊥) → (r : SimRequest) → NamesTrace rows r → ⊥
+no_trace_of_every rows none r h = none r.every h.2
+
+pub no_trace_of_played : (rows : List Row) → ((w : Played) → Plays rows w → ⊥) → (r : SimRequest) → NamesTrace rows r → ⊥
+no_trace_of_played rows none r h = none (record { state = r.state; file = r.file; stimulus = r.stimulus }) (h.0, h.3, h.4)
+
+-- the waveform of a stimulus
+pub no_waves_of_played : (rows : List Row) → HasFlag (codes "vcd") rows → ((w : Played) → Plays rows w → ⊥) → AsksNone (codes "sim") rows
+no_waves_of_played rows vcd none =
+    only_sim rows (λ r h. h.1 vcd) (λ r h. h.1 vcd) (λ r h. none (record { state = r.state; file = r.file; stimulus = r.stimulus }) (h.3, h.5, h.6))
+
+pub no_waves_of_every : (rows : List Row) → HasFlag (codes "vcd") rows → ((o : Option ℕ) → HasNumber (codes "every") rows o → ⊥) → AsksNone (codes "sim") rows
+no_waves_of_every rows vcd none = only_sim rows (λ r h. h.1 vcd) (λ r h. h.1 vcd) (λ r h. none r.every h.4)
 
 -- A state is saved beside a trace.
 pub no_waves_of_save : (rows : List Row) → HasFlag (codes "vcd") rows → (HasOption (codes "save") rows None → ⊥) → AsksNone (codes "sim") rows
-no_waves_of_save rows vcd none = only_sim rows (λ r h. h.1 vcd) (λ r h. none h.2)
+no_waves_of_save rows vcd none = only_sim rows (λ r h. h.1 vcd) (λ r h. h.1 vcd) (λ r h. none h.2)
+
+-- So is what is watched.
+pub no_waves_of_watched : (rows : List Row) → HasFlag (codes "vcd") rows → (HasWatched rows false [] → ⊥) → AsksNone (codes "sim") rows
+no_waves_of_watched rows vcd none = only_sim rows (λ r h. h.1 vcd) (λ r h. h.1 vcd) (λ r h. none h.7)
 
 -- what is read of a file that is not named
 pub no_never : (rows : List Row) → first_of (codes "file") rows ≡ None → AsksNone (codes "never") rows
@@ -493,4 +524,20 @@ pub no_inputs : (rows : List Row) (names : List Text) → HasSwitch (codes "all-
     → (names ≡ [] → ⊥) → (all : Bool) (other : List Text) → HasInputs rows all other → ⊥
 no_inputs rows names flag named some all other h =
     let same = one_switch (codes "all-inputs") rows true all flag h.flag in
+    some (sym named ∙ h.named ∙ h.either (sym same))
+
+-- Nothing is watched.
+pub watches_none : (rows : List Row) (all : Bool) → HasSwitch (codes "watch-all") rows all → all ≡ false → first_of (codes "watch") rows ≡ None → HasWatched rows false []
+watches_none rows true flag named none = cc
+watches_none rows false flag named none = record { flag = flag; named = no_values (codes "watch") rows none; either = λ (same : false ≡ true). refl }
+
+pub watches_all : (rows : List Row) (all : Bool) → HasSwitch (codes "watch-all") rows all → all ≡ true → HasWatched rows false [] → ⊥
+watches_all rows true flag set h = h.flag flag
+watches_all rows false flag set h = cc
+
+-- All, and names besides, are watched by no request.
+pub no_watched : (rows : List Row) (names : List Text) → HasSwitch (codes "watch-all") rows true → unwrap_or (all_of (codes "watch") rows) [] ≡ names
+    → (names ≡ [] → ⊥) → (all : Bool) (other : List Text) → HasWatched rows all other → ⊥
+no_watched rows names flag named some all other h =
+    let same = one_switch (codes "watch-all") rows true all flag h.flag in
     some (sym named ∙ h.named ∙ h.either (sym same))

@@ -18,7 +18,8 @@ use Rattle.ladder_words.specs.declared.request.Medium.TheVariants as medium
 use Rattle.ladder_words.specs.declared.request.CommandLine.{CommandLine}
 use Rattle.ladder_words.specs.declared.request.ListRequest.{ListRequest}
 use Rattle.ladder_words.specs.declared.request.Request.{Request}
-use Rattle.ladder_words.specs.declared.request.Request.TheVariants.{Causes, Check, Film, Groups, Held, Import, Never, Possible, Relevant, Show, Sim, Uses, Waves}
+use Rattle.ladder_words.specs.declared.request.Request.TheVariants.{Causes, Check, Film, Groups, Held, Import, Never, Possible, Relevant, Show, Sim, Uses, Watch, Waves}
+use Rattle.ladder_words.specs.declared.request.SimRequest.{SimRequest}
 use Rattle.ladder_words.specs.declared.request.Task.{Task}
 use Rattle.ladder_words.specs.declared.request.Task.TheVariants.{Explain, Perform}
 
@@ -102,6 +103,20 @@ pub record HasInputs (rows : List Row) (all : Bool) (names : List Text) : Type 0
   pub flag : HasSwitch (codes "all-inputs") rows all
   pub named : unwrap_or (all_of (codes "inputs") rows) [] ≡ names
   pub either : all ≡ true → names ≡ []
+
+-- What is watched is named, or all is watched and nothing is named.
+pub record HasWatched (rows : List Row) (all : Bool) (names : List Text) : Type 0 where
+  pub flag : HasSwitch (codes "watch-all") rows all
+  pub named : unwrap_or (all_of (codes "watch") rows) [] ≡ names
+  pub either : all ≡ true → names ≡ []
+
+-- what a request for the trace of a stimulus names, but for what is watched
+abbrev pub NamesTrace : List Row → SimRequest → Type 0
+NamesTrace rows r = HasOption (codes "state") rows (option_map string_bytes r.state)
+    × HasOption (codes "save") rows (option_map string_bytes r.save)
+    × HasNumber (codes "every") rows r.every
+    × HasText (codes "file") rows (string_bytes r.file)
+    × HasText (codes "stimulus") rows (string_bytes r.stimulus)
 
 -- what a request for a list of causes names
 abbrev pub NamesList : List Row → ListRequest → Type 0
@@ -212,11 +227,13 @@ Asks name rows (Film r) = (name ≡ codes "show")
     × HasText (codes "file") rows (string_bytes r.file)
 Asks name rows (Sim r) = (name ≡ codes "sim")
     × (HasFlag (codes "vcd") rows → ⊥)
-    × HasOption (codes "state") rows (option_map string_bytes r.state)
-    × HasOption (codes "save") rows (option_map string_bytes r.save)
-    × HasNumber (codes "every") rows r.every
-    × HasText (codes "file") rows (string_bytes r.file)
-    × HasText (codes "stimulus") rows (string_bytes r.stimulus)
+    × HasWatched rows false []
+    × NamesTrace rows r
+Asks name rows (Watch r) = (name ≡ codes "sim")
+    × (HasFlag (codes "vcd") rows → ⊥)
+    × (HasWatched rows false [] → ⊥)
+    × HasWatched rows r.all (map string_bytes r.names.items)
+    × NamesTrace rows r.sim
 Asks name rows (Waves r) = (name ≡ codes "sim")
     × HasFlag (codes "vcd") rows
     × HasOption (codes "save") rows None
@@ -224,6 +241,7 @@ Asks name rows (Waves r) = (name ≡ codes "sim")
     × HasNumber (codes "every") rows r.every
     × HasText (codes "file") rows (string_bytes r.file)
     × HasText (codes "stimulus") rows (string_bytes r.stimulus)
+    × HasWatched rows false []
 Asks name rows (Uses file) = (name ≡ codes "uses") × HasText (codes "file") rows (string_bytes file)
 Asks name rows (Import file) = (name ≡ codes "import") × HasText (codes "file") rows (string_bytes file)
 

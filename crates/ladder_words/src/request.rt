@@ -148,6 +148,17 @@ pub struct SimRequest {
     pub stimulus: String,
 }
 
+/// What a request for the trace of a stimulus names where something is watched.
+#[derive(Drop)]
+pub struct WatchRequest {
+    /// What it names besides.
+    pub sim: SimRequest,
+    /// Whether all memory variables and all instances are watched; otherwise they are named.
+    pub all: bool,
+    /// The names of the variables and instances that are watched.
+    pub names: Vec<String>,
+}
+
 /// What a request for the waveform of a stimulus names.
 #[derive(Drop)]
 pub struct WavesRequest {
@@ -209,6 +220,8 @@ pub enum Request {
     Film(FilmRequest),
     /// The trace of a stimulus: one scan for each of its records, and those between them.
     Sim(SimRequest),
+    /// The trace of a stimulus, with the variables and instances that are watched beside its outputs.
+    Watch(WatchRequest),
     /// The waveform of a stimulus: what each of its scans changes.
     Waves(WavesRequest),
     /// The cross-reference: where each variable and each instance is drawn.

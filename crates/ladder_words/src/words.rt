@@ -6,13 +6,13 @@ ghost use Rattle.clap.specs.Words.{Row, Text, all_of, first_of, found_of, kind_o
 ghost use Rattle.clap.specs.Words.{fault_of as clap_fault};
 ghost use Rattle.ladder_command.specs.CommandLine.{ladder_app};
 ghost use Rattle.ladder_pages.specs.Pages.{is_fault_code};
-ghost use Rattle.ladder_words.specs.Asking.{Asks, AsksBy, AsksNone, HasNoTask, HasTask, HasEvery, HasFlag, HasForm, HasInputs, HasLasting, HasMedium, HasNumber, HasOrder, HasOption, HasSwitch, IsNamed, IsOfOneState, IsSingle, IsTable, MayHaveLimit, NamesList, HasScans, Says, scans_until};
+ghost use Rattle.ladder_words.specs.Asking.{Asks, AsksBy, AsksNone, HasNoTask, HasTask, HasEvery, HasFlag, HasForm, HasInputs, HasLasting, HasMedium, HasNumber, HasOrder, HasOption, HasSwitch, HasWatched, IsNamed, IsOfOneState, IsSingle, IsTable, MayHaveLimit, NamesList, NamesTrace, HasScans, Says, scans_until};
 ghost use Rattle.ladder_words.specs.Parts.{HasGrouping, HasSources, IsOfAnyState, IsOfOneScan, IsOfRecords, IsWhole, MayLast, NamesNoStates, NamesScan, Plays};
 ghost use Rattle.ladder_words.specs.Faults.{IsFaultOf, SaysOf, UsageWhere};
 
 use crate::request::{
     CommandLine, FilmRequest, Form, Grouping, InputOrder, ListRequest, Medium, NeverRequest,
-    PossibleRequest, Request, ShowRequest, SimRequest, Task, WavesRequest, WordFault,
+    PossibleRequest, Request, ShowRequest, SimRequest, Task, WatchRequest, WavesRequest, WordFault,
 };
 use clap::ArgMatches;
 use clap::error::ErrorKind;
@@ -29,7 +29,7 @@ const EVERY: u64 = 10;
 ///
 /// `Mistake` where `clap` finds a fault other than that help is asked for, with what it says of it, or `Usage` when there is no memory for that; `Usage` where a fault has none of the named codes, where groups of one scan or a list over several scans are to begin after a
 /// number, where a time between scans is asked for without several scans, several scans by their number and by a time, where a form or the order `auto` is asked for without groups of one scan in one state, or both forms, or a statement with a limit, or an order that has another name, where
-/// inputs are named beside all of them, where those that matter are asked for and others are listed, or several scans or any state are asked of, where any state is asked of and a state, a moment, a number to begin after, several scans, a time between scans, a form or the order `auto` is named as well, where it is said which states count and any state isn't asked of, where a stimulus is to be shown with a moment, a number or listed inputs, or a waveform to be written with a saved state, and nowhere else; `Help` with its text where help is asked for; `Memory` when out of memory.
+/// inputs are named beside all of them, where those that matter are asked for and others are listed, or several scans or any state are asked of, where any state is asked of and a state, a moment, a number to begin after, several scans, a time between scans, a form or the order `auto` is named as well, where it is said which states count and any state isn't asked of, where a stimulus is to be shown with a moment, a number or listed inputs, or a waveform to be written with a saved state or with what is watched, where names are watched beside all of them, and nowhere else; `Help` with its text where help is asked for; `Memory` when out of memory.
 pub fn read_words(alloc: Global, words: Vec<String>) -> Result<Task, WordFault>
     ensures asks { IfOk result (AsksBy ladder_app (map string_bytes words.items)) }
 
@@ -715,7 +715,18 @@ fn sim_request(alloc: Global, found: &ArgMatches<'_>) -> Result<Request, WordFau
     if is_set(found, "vcd") {
         return waves_request(alloc, found);
     }
+    if is_watched(found) {
+        return watch_request(alloc, found);
+    }
     trace_request(alloc, found)
+}
+
+/// Whether something is watched.
+fn is_watched(found: &ArgMatches<'_>) -> bool
+    ensures none { result ≡ false → HasWatched (rows_of (found_of found.now)) false [] }
+    ensures some { result ≡ true → HasWatched (rows_of (found_of found.now)) false [] → ⊥ }
+{
+    is_set(found, "watch-all") || is_given(found, "watch")
 }
 
 fn waves_request(alloc: Global, found: &ArgMatches<'_>) -> Result<Request, WordFault>
@@ -725,6 +736,10 @@ fn waves_request(alloc: Global, found: &ArgMatches<'_>) -> Result<Request, WordF
 {
     // A state is saved beside a trace.
     if is_given(found, "save") {
+        return Err(WordFault::Usage);
+    }
+    // A waveform has all that can be watched.
+    if is_watched(found) {
         return Err(WordFault::Usage);
     }
     let pause = number(found, "every")?;
@@ -763,9 +778,51 @@ fn played_of(alloc: Global, found: &ArgMatches<'_>) -> Result<Played, WordFault>
 }
 
 fn trace_request(alloc: Global, found: &ArgMatches<'_>) -> Result<Request, WordFault>
-    requires { HasFlag (codes "vcd") (rows_of (found_of found.now)) → ⊥ }
+    requires vcd { HasFlag (codes "vcd") (rows_of (found_of found.now)) → ⊥ }
+    requires watched { HasWatched (rows_of (found_of found.now)) false [] }
     ensures ok { IfOk result (Asks (codes "sim") (rows_of (found_of found.now))) }
     ensures err { IfErr result (UsageWhere (AsksNone (codes "sim") (rows_of (found_of found.now)))) }
+{
+    match traced_of(alloc, found) {
+        Ok(sim) => Ok(Request::Sim(sim)),
+        Err(fault) => Err(fault),
+    }
+}
+
+fn watch_request(alloc: Global, found: &ArgMatches<'_>) -> Result<Request, WordFault>
+    requires vcd { HasFlag (codes "vcd") (rows_of (found_of found.now)) → ⊥ }
+    requires watched { HasWatched (rows_of (found_of found.now)) false [] → ⊥ }
+    ensures ok { IfOk result (Asks (codes "sim") (rows_of (found_of found.now))) }
+    ensures err { IfErr result (UsageWhere (AsksNone (codes "sim") (rows_of (found_of found.now)))) }
+{
+    let WatchedNames { all, names } = watched_of(alloc, found)?;
+    let sim = traced_of(alloc, found)?;
+    Ok(Request::Watch(WatchRequest { sim, all, names }))
+}
+
+/// What is watched: all, or what has these names.
+#[derive(Drop)]
+struct WatchedNames {
+    all: bool,
+    names: Vec<String>,
+}
+
+fn watched_of(alloc: Global, found: &ArgMatches<'_>) -> Result<WatchedNames, WordFault>
+    ensures ok { IfOk result (λ w. HasWatched (rows_of (found_of found.now)) w.all (map string_bytes w.names.items)) }
+    ensures err { IfErr result (UsageWhere ((all : Bool) (names : List Text) → HasWatched (rows_of (found_of found.now)) all names → ⊥)) }
+{
+    let all = is_set(found, "watch-all");
+    let names = texts(alloc, found, "watch")?;
+    if all && !names.is_empty() {
+        return Err(WordFault::Usage);
+    }
+    Ok(WatchedNames { all, names })
+}
+
+/// What a trace is made of.
+fn traced_of(alloc: Global, found: &ArgMatches<'_>) -> Result<SimRequest, WordFault>
+    ensures ok { IfOk result (NamesTrace (rows_of (found_of found.now))) }
+    ensures err { IfErr result (UsageWhere ((r : SimRequest) → NamesTrace (rows_of (found_of found.now)) r → ⊥)) }
 {
     let pause = number(found, "every")?;
     let save = optional(alloc, found, "save")?;
@@ -774,13 +831,13 @@ fn trace_request(alloc: Global, found: &ArgMatches<'_>) -> Result<Request, WordF
         file,
         stimulus,
     } = played_of(alloc, found)?;
-    Ok(Request::Sim(SimRequest {
+    Ok(SimRequest {
         state,
         save,
         every: pause,
         file,
         stimulus,
-    }))
+    })
 }
 
 /// Whether a flag was given.

@@ -1,0 +1,254 @@
+//! The writing of a trace with columns beside its outputs.
+
+ghost use Rattle.std.specs.Prelude.{◌≡◌, ◌++◌, [], OnOk, codes, map};
+ghost use Rattle.ladder_elements.specs.Histories.{cv_of};
+ghost use Rattle.ladder_records.specs.Text.{after_commas, bit_text};
+ghost use Rattle.ladder_scan.specs.Standing.{Fits};
+ghost use Rattle.ladder_show.specs.Why.{instance_name, output_of, output_word, var_name};
+ghost use Rattle.ladder_text.specs.Block.{Sends};
+ghost use Rattle.ladder_text.specs.Log.{Puts};
+ghost use Rattle.ladder_text.specs.Pieces.{piece_text};
+ghost use Rattle.ladder_trace.specs.Trace.{watched_header, watched_row};
+ghost use Rattle.ladder_trace.specs.Watching.{column_name, column_text, elapsed, preset_of};
+
+use crate::column::Column;
+use crate::trace::{add_bits, add_moment, add_names};
+use ladder_elements::Stored;
+use ladder_grid::Program;
+use ladder_records::{add_field, bit_field};
+use ladder_scan::State;
+use ladder_text::{Block, Piece, Sink, WriteFault, add_pieces};
+use ladder_vars::{Decls, Output};
+
+fn var_name(decls: &Decls, var: usize) -> &[u8]
+    ensures { result.now ≡ var_name decls.now var }
+{
+    match decls.vars().get(var) {
+        Some(var) => var.name.bytes(),
+        None => b"",
+    }
+}
+
+fn instance_name(decls: &Decls, inst: usize) -> &[u8]
+    ensures { result.now ≡ instance_name decls.now inst }
+{
+    match decls.instances().get(inst) {
+        Some(instance) => instance.name.bytes(),
+        None => b"",
+    }
+}
+
+fn output_word(output: Output) -> &'static [u8]
+    ensures { result.now ≡ output_word output }
+{
+    match output {
+        Output::Q => b".Q",
+        Output::Q1 => b".Q1",
+    }
+}
+
+/// How the output of an instance is written behind its name.
+fn output_of(decls: &Decls, inst: usize) -> &'static [u8]
+    ensures { result.now ≡ output_of decls.now inst }
+{
+    match decls.instances().get(inst) {
+        Some(instance) => output_word(instance.kind.traits().output),
+        None => b"",
+    }
+}
+
+fn preset_of(decls: &Decls, inst: usize) -> u64
+    ensures { result ≡ preset_of decls.now inst }
+{
+    match decls.instances().get(inst) {
+        Some(instance) => instance.preset as u64,
+        None => 0,
+    }
+}
+
+/// Adds a name of two parts, after a comma.
+fn add_name<'a, W: Sink>(
+    block: &mut Block,
+    name: &'a [u8],
+    end: &'a [u8],
+    writer: &mut W,
+) -> Result<(), WriteFault>
+    ensures { Sends (W.log writer.old) (W.log writer.new) block.old block.new result (codes "," ++ (name.now ++ end.now)) }
+{
+    let pieces = [Piece::Text(b","), Piece::Text(name), Piece::Text(end)];
+    add_pieces(block, pieces.as_slice(), writer)
+}
+
+/// Adds the name of a column, after a comma.
+fn add_column_name<W: Sink>(
+    block: &mut Block,
+    decls: &Decls,
+    column: Column,
+    writer: &mut W,
+) -> Result<(), WriteFault>
+    ensures { Sends (W.log writer.old) (W.log writer.new) block.old block.new result (codes "," ++ column_name decls.now column) }
+{
+    match column {
+        Column::Value(var) => add_field(block, var_name(decls, var), writer),
+        Column::Output(inst) => {
+            let name = instance_name(decls, inst);
+            add_name(block, name, output_of(decls, inst), writer)
+        }
+        Column::Elapsed(inst) => add_name(block, instance_name(decls, inst), b".ET", writer),
+        Column::Count(inst) => add_name(block, instance_name(decls, inst), b".CV", writer),
+    }
+}
+
+fn add_column_names<W: Sink>(
+    block: &mut Block,
+    decls: &Decls,
+    watched: &[Column],
+    writer: &mut W,
+) -> Result<(), WriteFault>
+    ensures { Sends (W.log writer.old) (W.log writer.new) block.old block.new result (after_commas (map (column_name decls.now) watched.now)) }
+{
+    for column in watched {
+        add_column_name(block, decls, *column, writer)?;
+    }
+    Ok(())
+}
+
+fn add_watched_header<W: Sink>(
+    block: &mut Block,
+    program: &Program,
+    watched: &[Column],
+    writer: &mut W,
+) -> Result<(), WriteFault>
+    ensures { Sends (W.log writer.old) (W.log writer.new) block.old block.new result (watched_header program.now watched.now) }
+{
+    block.add(b"moment", writer)?;
+    add_names(block, program.decls().vars(), writer)?;
+    add_column_names(block, program.decls(), watched, writer)?;
+    block.add(b"\n", writer)
+}
+
+/// Writes the header of the trace with these columns, as one piece.
+pub(crate) fn write_watched_header<W: Sink>(
+    program: &Program,
+    watched: &[Column],
+    block: &mut Block,
+    writer: &mut W,
+) -> Result<(), WriteFault>
+    requires { block.old ≡ [] }
+    ensures wrote { Puts (W.log writer.old) (W.log writer.new) result (watched_header program.now watched.now) }
+    ensures empty { OnOk result (block.new ≡ []) }
+{
+    add_watched_header(block, program, watched, writer)?;
+    block.flush(writer)?;
+    Ok(())
+}
+
+/// How long a timer has run at a moment, at most its preset; 0 where it doesn't run.
+fn elapsed(preset: u64, now: u64, stored: Stored) -> u64
+    ensures { result ≡ elapsed preset now stored }
+{
+    match stored {
+        Stored::Timer {
+            running: true,
+            start,
+            ..
+        } => now.saturating_sub(start).min(preset),
+        Stored::Timer { running: false, .. } | Stored::Counter { .. } | Stored::Bistable { .. } =>
+            0,
+    }
+}
+
+/// What a counter has counted.
+fn count_of(stored: Stored) -> i16
+    ensures { result ≡ cv_of stored }
+{
+    match stored {
+        Stored::Counter { cv, .. } => cv,
+        Stored::Timer { .. } | Stored::Bistable { .. } => 0,
+    }
+}
+
+/// Adds a number, after a comma.
+fn add_number<'a, W: Sink>(
+    block: &mut Block,
+    number: Piece<'a>,
+    writer: &mut W,
+) -> Result<(), WriteFault>
+    ensures { Sends (W.log writer.old) (W.log writer.new) block.old block.new result (codes "," ++ piece_text number.entry) }
+{
+    let pieces = [Piece::Text(b","), number];
+    add_pieces(block, pieces.as_slice(), writer)
+}
+
+/// Adds the value of a column, after a comma.
+fn add_column_value<W: Sink>(
+    block: &mut Block,
+    decls: &Decls,
+    state: &State,
+    column: Column,
+    writer: &mut W,
+) -> Result<(), WriteFault>
+    ensures { Sends (W.log writer.old) (W.log writer.new) block.old block.new result (codes "," ++ column_text decls.now state.now column) }
+{
+    match column {
+        Column::Value(var) => add_field(block, bit_field(state.value_or_off(var)), writer),
+        Column::Output(inst) => add_field(block, bit_field(state.stored(inst).q()), writer),
+        Column::Elapsed(inst) => {
+            let time = elapsed(preset_of(decls, inst), state.moment(), state.stored(inst));
+            add_number(block, Piece::Number(time), writer)
+        }
+        Column::Count(inst) => {
+            let count = count_of(state.stored(inst));
+            add_number(block, Piece::Signed(count), writer)
+        }
+    }
+}
+
+fn add_column_values<W: Sink>(
+    block: &mut Block,
+    decls: &Decls,
+    state: &State,
+    watched: &[Column],
+    writer: &mut W,
+) -> Result<(), WriteFault>
+    ensures { Sends (W.log writer.old) (W.log writer.new) block.old block.new result (after_commas (map (column_text decls.now state.now) watched.now)) }
+{
+    for column in watched {
+        add_column_value(block, decls, state, *column, writer)?;
+    }
+    Ok(())
+}
+
+fn add_watched_row<W: Sink>(
+    block: &mut Block,
+    program: &Program,
+    state: &State,
+    watched: &[Column],
+    writer: &mut W,
+) -> Result<(), WriteFault>
+    requires { Fits program.now state.now }
+    ensures { Sends (W.log writer.old) (W.log writer.new) block.old block.new result (watched_row program.now watched.now state.now) }
+{
+    add_moment(block, state.moment(), writer)?;
+    add_bits(block, program.decls().vars(), state, writer)?;
+    add_column_values(block, program.decls(), state, watched, writer)?;
+    block.add(b"\n", writer)
+}
+
+/// Writes the row of a state that a scan has left, with these columns, as one piece.
+pub(crate) fn write_watched_row<W: Sink>(
+    program: &Program,
+    state: &State,
+    watched: &[Column],
+    block: &mut Block,
+    writer: &mut W,
+) -> Result<(), WriteFault>
+    requires fits { Fits program.now state.now }
+    requires empty { block.old ≡ [] }
+    ensures wrote { Puts (W.log writer.old) (W.log writer.new) result (watched_row program.now watched.now state.now) }
+    ensures empty { OnOk result (block.new ≡ []) }
+{
+    add_watched_row(block, program, state, watched, writer)?;
+    block.flush(writer)?;
+    Ok(())
+}
