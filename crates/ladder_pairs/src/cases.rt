@@ -8,7 +8,8 @@ ghost use Rattle.ladder_never.specs.Outcomes.{outcomes};
 ghost use Rattle.ladder_pairs.specs.Pairs.{IsExcluded, both_told};
 ghost use Rattle.ladder_signals.specs.Three.{three};
 
-use crate::choosing::{Sight, choose};
+use crate::choosing::choose;
+use crate::flow::Sight;
 use crate::pair::Pair;
 use crate::partners::next_forced;
 use crate::points::point_of;

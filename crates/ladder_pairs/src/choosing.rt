@@ -2,29 +2,22 @@
 
 ghost use Rattle.std.specs.Prelude.{◌<◌, ◌≤◌};
 
+use crate::flow::{NO_LINKS, Sight, find_links, own, symbol_of};
 use crate::pair::Pair;
 use crate::points::point_of;
-use crate::writers::{Writers, writes};
-use ladder_glance::Knowledge;
-use ladder_grid::{Cell, Operand, Program};
+use crate::writers::written;
+use ladder_elements::Operations;
+use ladder_grid::gates::{Action, Gate, LINKS};
+use ladder_grid::{Cell, Program};
+use ladder_never::Point;
 use ladder_never::pinning::told;
-use ladder_never::{Outcome, Point};
-use ladder_page::geometry::PLACES;
-use ladder_scan::scene::{cell, instance};
+use ladder_scan::gates::link_at;
+use ladder_scan::scene::instance;
 use ladder_signals::Tri;
 use ladder_vars::{BlockKind, Symbol};
 
 /// How often something that is written is looked into.
 const VISITS: u32 = 256;
-
-/// What is known before a scan and after it, and where what is written in it is.
-#[derive(Clone, Copy)]
-pub(crate) struct Sight<'a> {
-    pub(crate) program: &'a Program,
-    pub(crate) writers: &'a Writers,
-    pub(crate) before: &'a Knowledge<Tri, Outcome>,
-    pub(crate) after: &'a Knowledge<Tri, Outcome>,
-}
 
 /// A point that is open before the scan.
 fn open_before(sight: Sight<'_>, point: Point) -> Option<Point> {
@@ -75,7 +68,7 @@ fn open_read(sight: Sight<'_>, rung: usize, symbol: Symbol, visits: &mut u32) ->
     open_written(sight, symbol, rung, visits)
 }
 
-/// A point that leaves open what is at a cell of a rung.
+/// A point that leaves open what a cell of a rung lets through by itself.
 #[cycle(tracing)]
 fn open_cell(sight: Sight<'_>, rung: usize, cell: Cell, visits: &mut u32) -> Option<Point>
     requires { rung < sight.program.now.rungs }
@@ -85,43 +78,90 @@ fn open_cell(sight: Sight<'_>, rung: usize, cell: Cell, visits: &mut u32) -> Opt
             operand,
             memory,
             ..
-        } => {
-            let symbol = match operand {
-                Operand::Var(var) => Symbol::Var(var),
-                Operand::Output(inst) => Symbol::Instance(inst),
-            };
-            match open_read(sight, rung, symbol, visits) {
-                Some(point) => Some(point),
-                None => open_memory(sight, memory),
-            }
-        }
-        Cell::Coil { memory, .. } => open_memory(sight, memory),
+        } => match open_read(sight, rung, symbol_of(operand), visits) {
+            Some(point) => Some(point),
+            None => open_memory(sight, memory),
+        },
         Cell::Block { inst } => open_block(sight, inst),
-        Cell::Empty | Cell::Wire | Cell::Lower { .. } | Cell::Jump { .. } | Cell::Return => None,
+        Cell::Coil { .. }
+        | Cell::Empty
+        | Cell::Wire
+        | Cell::Lower { .. }
+        | Cell::Jump { .. }
+        | Cell::Return => None,
     }
 }
 
-/// A point that leaves something open in a rung.
+/// Marks a link, where it is open.
+fn mark(links: &[Tri], at: u8, marked: &mut [bool]) {
+    let at = at as usize;
+    if at < marked.len() && link_at(links, at) == Tri::Unsure {
+        marked[at] = true;
+    }
+}
+
+fn is_marked(marked: &[bool], at: u8) -> bool {
+    match marked.get(at as usize) {
+        Some(is_marked) => *is_marked,
+        None => false,
+    }
+}
+
+/// Marks what a gate is open by.
+fn mark_before(gate: &Gate, links: &[Tri], marked: &mut [bool]) {
+    mark(links, gate.left, marked);
+    mark(links, gate.other, marked);
+    mark(links, gate.below, marked);
+}
+
+/// A point that leaves open what a gate lets through, unless no power reaches it.
 #[cycle(tracing)]
-fn open_in(sight: Sight<'_>, rung: usize, visits: &mut u32) -> Option<Point>
+fn open_gate(
+    sight: Sight<'_>,
+    rung: usize,
+    gate: &Gate,
+    links: &[Tri],
+    visits: &mut u32,
+) -> Option<Point>
     requires { rung < sight.program.now.rungs }
 {
-    for place in 0..PLACES {
-        let cell = cell(sight.program, rung, place);
-        if let Some(point) = open_cell(sight, rung, cell, visits) {
-            return Some(point);
+    let (cell, own) = own(sight, rung, gate);
+    match (cell, own, link_at(links, gate.left as usize)) {
+        (_, Tri::Off | Tri::On, _) | (Cell::Contact { .. }, _, Tri::Off) => None,
+        (_, Tri::Unsure, _) => open_cell(sight, rung, cell, visits),
+    }
+}
+
+/// A point that leaves a link of a rung open: the nearest to it on the ways that lead there.
+#[cycle(tracing)]
+fn open_in(sight: Sight<'_>, rung: usize, at: u8, visits: &mut u32) -> Option<Point>
+    requires { rung < sight.program.now.rungs }
+{
+    let mut links = NO_LINKS;
+    find_links(sight, rung, &mut links);
+    let mut marked = [false; LINKS];
+    mark(&links, at, &mut marked);
+    let gates = sight.program.gates(rung);
+    for number in 0..gates.len() {
+        let gate = &gates[gates.len() - 1 - number];
+        if is_marked(&marked, gate.place) {
+            if let Some(point) = open_gate(sight, rung, gate, &links, visits) {
+                return Some(point);
+            }
+            mark_before(gate, &links, &mut marked);
         }
     }
     None
 }
 
-/// Whether a jump or a return of the one rung may pass over the other.
-fn may_pass(program: &Program, rung: usize, other: usize) -> bool
-    requires { rung < program.now.rungs }
+/// A point that leaves it open whether the jump or return of a rung leads past another one.
+#[cycle(tracing)]
+fn open_exit(sight: Sight<'_>, rung: usize, other: usize, visits: &mut u32) -> Option<Point>
+    requires { rung < sight.program.now.rungs }
 {
-    match program.exit(rung) {
-        Some(exit) => other < exit.target,
-        None => false,
+    match sight.program.exit(rung) {
+        Some(exit) if other < exit.target => open_in(sight, rung, exit.left, visits),
+        Some(_) | None => None,
     }
 }
 
@@ -131,8 +171,42 @@ fn open_way(sight: Sight<'_>, rung: usize, visits: &mut u32) -> Option<Point>
     requires { rung < sight.program.now.rungs }
 {
     for other in 0..rung {
-        if may_pass(sight.program, other, rung) {
-            if let Some(point) = open_in(sight, other, visits) {
+        if let Some(point) = open_exit(sight, other, rung, visits) {
+            return Some(point);
+        }
+    }
+    None
+}
+
+/// A point that leaves it open what a cell of a rung writes.
+#[cycle(tracing)]
+fn open_action(sight: Sight<'_>, rung: usize, action: &Action, visits: &mut u32) -> Option<Point>
+    requires { rung < sight.program.now.rungs }
+{
+    let own = match action.cell {
+        Cell::Coil { memory, .. } => open_memory(sight, memory),
+        cell => open_cell(sight, rung, cell, visits),
+    };
+    if own.is_some() {
+        return own;
+    }
+    match open_in(sight, rung, action.left, visits) {
+        Some(point) => Some(point),
+        None => open_in(sight, rung, action.below, visits),
+    }
+}
+
+/// A point that leaves it open what a rung makes of it.
+#[cycle(tracing)]
+fn open_writer(sight: Sight<'_>, symbol: Symbol, rung: usize, visits: &mut u32) -> Option<Point>
+    requires { rung < sight.program.now.rungs }
+{
+    for action in sight.program.actions(rung) {
+        if written(action.cell) == Some(symbol) {
+            if let Some(point) = open_way(sight, rung, visits) {
+                return Some(point);
+            }
+            if let Some(point) = open_action(sight, rung, action, visits) {
                 return Some(point);
             }
         }
@@ -140,7 +214,7 @@ fn open_way(sight: Sight<'_>, rung: usize, visits: &mut u32) -> Option<Point>
     None
 }
 
-/// A point that leaves it open what the rungs before this one make of it.
+/// A point that leaves it open what the rungs before this one make of it, of which the last one matters most.
 #[cycle(tracing)]
 fn open_written(sight: Sight<'_>, symbol: Symbol, end: usize, visits: &mut u32) -> Option<Point>
     requires { end ≤ sight.program.now.rungs }
@@ -150,12 +224,10 @@ fn open_written(sight: Sight<'_>, symbol: Symbol, end: usize, visits: &mut u32) 
     }
     *visits -= 1;
     let span = sight.writers.span(symbol);
-    for rung in 0..end {
-        if span.first <= rung && rung <= span.last && writes(sight.program, rung, symbol) {
-            if let Some(point) = open_way(sight, rung, visits) {
-                return Some(point);
-            }
-            if let Some(point) = open_in(sight, rung, visits) {
+    for number in 0..end {
+        let rung = end - 1 - number;
+        if span.first <= rung && rung <= span.last {
+            if let Some(point) = open_writer(sight, symbol, rung, visits) {
                 return Some(point);
             }
         }

@@ -4,6 +4,7 @@
 mod begin;
 mod cases;
 mod choosing;
+mod flow;
 mod history;
 pub mod laws;
 mod pair;

@@ -42,18 +42,6 @@ pub(crate) fn written(cell: Cell) -> Option<Symbol> {
     }
 }
 
-/// Whether a rung writes it.
-pub(crate) fn writes(program: &Program, rung: usize, symbol: Symbol) -> bool
-    requires { rung < program.now.rungs }
-{
-    for place in 0..PLACES {
-        if written(cell(program, rung, place)) == Some(symbol) {
-            return true;
-        }
-    }
-    false
-}
-
 fn note(spans: &mut [Span], number: usize, rung: usize) {
     if number < spans.len() {
         let first = spans[number].first;
