@@ -1,10 +1,10 @@
 #!/usr/bin/env python3
 """Breaks texts in many ways and asks the built program: stress.py PROGRAM [--sample N].
 
-Each program text of tests/programs, and two chains of bench/circuits, is cut at each byte, has each byte replaced, and each rung line widened; so are state texts and
-stimuli, but for the widening. What must come out isn't a table: a second reading says which programs are accepted and which rules
-the others break (picture.py), and which record of a state or a stimulus is the first bad one. A digest of all outcomes guards
-against silent change. Then requests are run in less and less memory: each is answered whole or refused by name, with nothing written.
+Each program text of tests/programs, and two chains of bench/circuits, is cut at each byte, has each byte replaced, and each rung line widened; so are state texts,
+stimuli and a project of ClassicLadder, but for the widening. What must come out isn't a table: a second reading says which programs are accepted and which rules
+the others break (picture.py), and which record of a state or a stimulus is the first bad one; of a project the program text that is written
+must be a program, or a fault names what can't be carried over, and nothing is written. A digest of all outcomes guards against silent change. Then requests are run in less and less memory: each is answered whole or refused by name, with nothing written.
 With --sample N only that many broken texts are tried, chosen by a fixed seed.
 """
 import collections
@@ -154,6 +154,24 @@ def check_stimulus(run, variant, inputs):
     return "" if right else f"status {status}, {out!r}, {err!r}; wanted {wanted!r} and {lines} lines"
 
 
+# ---- projects
+
+PROJECT_FAULT = re.compile(
+    r"fault (?:P1|P2 rung \d+|P3 [a-z_]+|P[45] section \d+|P6 rung \d+ row [1-6] column (?:[1-9]|10) \w+|P7 (?:rungs|variables|blocks))")
+
+
+def check_project(run, variant):
+    out, err, status = run("import", variant.text)
+    if status:
+        lines = err.splitlines()
+        is_named = status == 1 and not out and lines and all(PROJECT_FAULT.fullmatch(line) for line in lines)
+        return "" if is_named else f"status {status}, {out[:80]!r}, {err[:80]!r}"
+    if err:
+        return f"accepted, with {err[:80]!r}"
+    report, fault, status = run("check", out.encode("latin-1"))
+    return "" if not status and CHECKED.fullmatch(report) else f"the text that is written is no program: {fault!r}"
+
+
 # ---- running
 
 class Runner:
@@ -229,6 +247,14 @@ def text_jobs(program, folder):
             yield run, lambda run, variant, inputs=inputs: check_stimulus(run, variant, inputs), "sim", Variant(f"stimulus of {name} {change}", "stimulus", text)
 
 
+def project_jobs(program, folder):
+    run = Runner(program, folder).runner([None])
+    for path in sorted((HERE.parent / "examples" / "classicladder").glob("*.clp")):
+        text = path.read_bytes()
+        for name, changed in cut(text) + replaced(text):
+            yield run, check_project, "import", Variant(f"{path.name} {name}", "project", changed)
+
+
 # ---- less and less memory
 
 STATIONS = HERE.parent / "bench" / "circuits" / "three_stations"
@@ -281,11 +307,11 @@ def memory(program):
 
 
 def tried(jobs):
-    """The lines of the digest in order, how often each outcome came, and what is wrong."""
-    lines, counts, wrong = [], collections.Counter(), []
+    """The lines of each digest in order, how often each outcome came, and what is wrong."""
+    lines, counts, wrong = {"texts": [], "projects": []}, collections.Counter(), []
     with ThreadPoolExecutor(os.cpu_count()) as pool:
         for job, (line, kind, fault) in zip(jobs, pool.map(lambda job: outcome(*job), jobs)):
-            lines.append(line)
+            lines["projects" if job[3].kind == "project" else "texts"].append(line)
             counts[job[3].kind, kind] += 1
             if fault:
                 wrong.append(f"{job[3].name}: {fault}")
@@ -295,16 +321,17 @@ def tried(jobs):
 def main():
     program, sample = os.path.abspath(sys.argv[1]), int((sys.argv[3:] or ["0"])[0])
     with tempfile.TemporaryDirectory() as folder:
-        jobs = [*program_jobs(program, folder), *text_jobs(program, folder)]
+        jobs = [*program_jobs(program, folder), *text_jobs(program, folder), *project_jobs(program, folder)]
         jobs = random.Random(1).sample(jobs, sample) if sample else jobs
         lines, counts, wrong = tried(jobs)
     print(*wrong[:20], sep="\n", end="\n" if wrong else "")
     if not sample:
         for (kind, fault), count in sorted(counts.items()):
             print(f"{kind:10}{fault:24}{count:8}")
-        digest = hashlib.sha256("\n".join(lines).encode()).hexdigest()
-        kept = DIGEST.read_text("ascii").strip() if DIGEST.exists() else "none"
-        wrong += [] if digest == kept else [f"the digest of all outcomes is {digest}, and {kept} is kept in {DIGEST.name}"]
+        kept = dict(line.split() for line in DIGEST.read_text("ascii").splitlines())
+        for name, outcomes in lines.items():
+            digest = hashlib.sha256("\n".join(outcomes).encode()).hexdigest()
+            wrong += [] if digest == kept.get(name) else [f"the digest of all {name} is {digest}, and {kept.get(name)} is kept in {DIGEST.name}"]
         wrong += memory(program)
         print(*wrong[-5:], sep="\n", end="\n" if wrong else "")
     print(f"{len(jobs) - len(wrong)} of {len(jobs)} broken texts are answered as they must be")
