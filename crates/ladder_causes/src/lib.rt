@@ -15,5 +15,6 @@ mod tree;
 pub use causes::Causes;
 pub use groups::Groups;
 pub use ladder_questions::{CauseFault, LISTED_LIMIT, assignment};
+pub use ladder_search::Marked;
 pub use ladder_signals::{Tri, Word64};
 pub use order::sifted;

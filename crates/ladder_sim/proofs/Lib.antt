@@ -1,5 +1,6 @@
 pub mod Limits
 pub mod NearLaws
+pub mod RunLaws
 pub mod RowLaws
 pub mod Taking
 pub mod GroupRows

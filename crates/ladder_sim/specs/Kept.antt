@@ -1,5 +1,5 @@
 -- Private to the writer of rows: a row that is kept, and the numbers whose rows differ from it in two digits and six bits alone.
-use Rattle.std.specs.Prelude.{◌≡◌, ◌+◌, ◌*◌, ◌/◌, ◌%◌, ◌<◌, ◌≤◌, ◌++◌, ◌∷◌, [], ℕ, List, codes, decimal, length, take, drop}
+use Rattle.std.specs.Prelude.{◌≡◌, ◌+◌, ◌-◌, ◌*◌, ◌/◌, ◌%◌, ◌<◌, ◌≤◌, ◌++◌, ◌∷◌, [], ℕ, List, codes, decimal, length, take, drop}
 use Rattle.std.specs.List.{slice_range}
 use Rattle.ladder_records.specs.Text.{after_commas}
 use Rattle.ladder_sim.specs.Rows.{bits, row}
@@ -20,18 +20,26 @@ pair_text i = (48 + i / 10) ∷ (48 + i % 10) ∷ []
 abbrev pub ArePairs : List ℕ → ℕ → Type 0
 ArePairs text count = (i : ℕ) → i < count → take 2 (drop (2 * i) text) ≡ pair_text i
 
--- Where a row begins at a place of a text, the row of n is the same but for its last two digits and its last six bits.
-pub record IsNear (k start first n : ℕ) : Type 0 where
-  pub hundreds : n / 100 ≡ first / 100
-  pub sixties : n / 64 ≡ first / 64
-  pub large : 100 ≤ n
+-- what follows the digits in a row: the bits of a number, as the k listed inputs have them
+abbrev pub ends : ℕ → ℕ → List ℕ
+ends k n = after_commas (bits k n k) ++ codes "\n"
+
+-- The row of n is the kept one but for its last two digits and its last six bits.
+pub record IsNear (kept : Kept) (n : ℕ) : Type 0 where
+  pub hundreds : n / 100 ≡ kept.hundreds / 100
+  pub sixties : n / 64 ≡ kept.sixties / 64
+
+-- Rows can be made from it: it has three digits or more and six bits or more, and is no longer than what is copied and a tail.
+pub record Serves (k : ℕ) (kept : Kept) : Type 0 where
+  pub large : 100 ≤ kept.hundreds
   pub wide : 6 ≤ k
-  pub short : 21 + 2 * k ≤ 80 + start
+  pub short : 21 + 2 * k ≤ 77 + kept.start
 
 pub record IsKept (k : ℕ) (kept : Kept) : Type 0 where
   pub tails : AreTails kept.tails 64
   pub pairs : ArePairs kept.pairs 100
-  pub hundreds : kept.hundreds + kept.first % 100 ≡ kept.first
-  pub begins : kept.start + length (decimal kept.first) ≡ 20
-  pub row : slice_range kept.text kept.start (21 + 2 * k) ≡ row k kept.first
-  pub near : (n : ℕ) → kept.first ≤ n → n < kept.end → IsNear k kept.start kept.first n
+  pub whole : kept.hundreds % 100 ≡ 0
+  pub even : kept.sixties % 64 ≡ 0
+  pub begins : kept.start + length (decimal kept.hundreds) ≡ 20
+  pub digits : take (20 - kept.start) (drop kept.start kept.text) ≡ decimal kept.hundreds
+  pub ends : take (2 * k + 1) (drop 20 kept.text) ≡ ends k kept.sixties

@@ -1,6 +1,6 @@
 //! The text of a list of causes.
 
-ghost use Rattle.std.specs.Prelude.{◌≡◌, ◌≢◌, ◌+◌, ◌*◌, ◌<◌, ◌≤◌, ◌++◌, ◌∷◌, ◌^◌, [], IfOk, MatchResult, Some, codes, decimal, false, length, map, slice_get, take, true};
+ghost use Rattle.std.specs.Prelude.{◌≡◌, ◌≢◌, ◌+◌, ◌-◌, ◌*◌, ◌<◌, ◌≤◌, ◌++◌, ◌∷◌, ◌^◌, [], IfOk, MatchResult, Some, None, IfSome, codes, decimal, false, length, map, slice_get, take, true};
 ghost use Rattle.ladder_questions.specs.Assignment.{bit_of};
 ghost use Rattle.ladder_causes.specs.Cursor.{Takes, looks_given, looks_of, searched};
 ghost use Rattle.std.specs.List.{slice_range};
@@ -13,7 +13,8 @@ ghost use Rattle.ladder_text.specs.Log.{Puts};
 ghost use Rattle.ladder_sim.specs.declared.cause_text.TheConstants.{DIGITS, ROW};
 
 use crate::kept::Kept;
-use crate::near::Near;
+use crate::rows::RowBuffer;
+use crate::runs::add_marked;
 use itoa::write_digits;
 use ladder_causes::Causes;
 use ladder_grid::Program;
@@ -116,26 +117,6 @@ pub(crate) fn write_row(text: &mut [u8], listed: usize, number: u64) -> usize
     write_digits(number, text, DIGITS)
 }
 
-/// Adds the row of a number. One row is kept: that of the last number that was not near it.
-fn add_row<W: Sink>(
-    block: &mut Block,
-    kept: &mut Kept,
-    listed: usize,
-    number: u64,
-    writer: &mut W,
-) -> Result<(), WriteFault>
-    requires few { listed ≤ 64 }
-    requires kept { IsKept listed kept.old }
-    ensures sends { Sends (W.log writer.old) (W.log writer.new) block.old block.new result (row listed number) }
-    ensures kept { IsKept listed kept.new }
-{
-    if kept.first <= number && number < kept.end {
-        return block.add_short(&Near::new(kept, listed, number), writer);
-    }
-    kept.keep(listed, number);
-    block.add(kept.row(listed), writer)
-}
-
 /// How much of a list was written, and how many looks it took.
 #[derive(Clone, Copy, Debug, PartialEq, Eq)]
 pub struct Summary {
@@ -155,6 +136,18 @@ pub(crate) fn is_reached(limit: Option<u64>, rows: u64) -> bool
     }
 }
 
+/// How many rows a limit leaves.
+fn rows_left(limit: Option<u64>, rows: u64) -> u64
+    requires within { IfSome limit (λ most. rows ≤ most) }
+    ensures limited { IfSome limit (λ most. result ≡ most - rows) }
+    ensures whole { limit ≡ None → result ≡ 2 ^ 64 - 1 }
+{
+    match limit {
+        Some(most) => most - rows,
+        None => u64::MAX,
+    }
+}
+
 /// Adds the rows that are left, or the first of them where there is a limit, and returns how many.
 fn add_rows<W: Sink>(
     block: &mut Block,
@@ -170,17 +163,41 @@ fn add_rows<W: Sink>(
     ensures taken { MatchResult result (λ n. Takes causes.old causes.new n) (λ _. TakesAtMost causes.old causes.new (length (limited limit causes.old.rest))) }
     ensures looks { IfOk result (λ _. looks_of causes.new ≡ looks_given (searched causes.old) (looks_of causes.old) limit causes.old.rest) }
 {
+    let mut buffer = RowBuffer::new();
     let mut kept = Kept::new(listed);
+    let count = buffer_rows(&mut buffer, block, &mut kept, causes, listed, limit, writer)?;
+    buffer.hand_over(block, writer)?;
+    Ok(count)
+}
+
+/// Adds the rows that are left, or the first of them where there is a limit, to a buffer, and returns how many.
+fn buffer_rows<W: Sink>(
+    buffer: &mut RowBuffer,
+    block: &mut Block,
+    kept: &mut Kept,
+    causes: &mut Causes<'_>,
+    listed: usize,
+    limit: Option<u64>,
+    writer: &mut W,
+) -> Result<u64, WriteFault>
+    requires listed { listed ≤ 64 }
+    requires kept { IsKept listed kept.old }
+    requires finite { length causes.old.rest < 2 ^ 64 }
+    ensures sends { Sends (W.log writer.old) (W.log writer.new) (block.old ++ buffer.old) (block.new ++ buffer.new) result (rows listed (limited limit causes.old.rest)) }
+    ensures count { IfOk result (λ n. n ≡ length (limited limit causes.old.rest)) }
+    ensures taken { MatchResult result (λ n. Takes causes.old causes.new n) (λ _. TakesAtMost causes.old causes.new (length (limited limit causes.old.rest))) }
+    ensures looks { IfOk result (λ _. looks_of causes.new ≡ looks_given (searched causes.old) (looks_of causes.old) limit causes.old.rest) }
+{
     let mut count = 0u64;
     loop {
         if is_reached(limit, count) {
             return Ok(count);
         }
-        let Some(number) = causes.next() else {
+        let Some(numbers) = causes.next_many(rows_left(limit, count)) else {
             return Ok(count);
         };
-        add_row(block, &mut kept, listed, number, writer)?;
-        count += 1;
+        add_marked(buffer, block, kept, listed, numbers, writer)?;
+        count += u64::from(numbers.mask.count_ones());
     }
 }
 

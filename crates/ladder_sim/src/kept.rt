@@ -1,30 +1,63 @@
 //! A row that is kept: the rows of the next numbers mostly differ from it in the last digits and bits alone.
 
-ghost use Rattle.std.specs.Prelude.{◌≡◌, ◌+◌, ◌*◌, ◌<◌, ◌≤◌, ℕ, length, take};
-ghost use Rattle.ladder_sim.specs.Rows.{row};
-ghost use Rattle.ladder_sim.specs.Kept.{ArePairs, AreTails, IsKept, IsNear};
+ghost use Rattle.std.specs.Prelude.{◌≡◌, ◌+◌, ◌-◌, ◌*◌, ◌<◌, ◌≤◌, ◌^◌, ◌%◌, ℕ, IsTrue, drop, length, take};
+ghost use lib.Lanes.{put_chunk};
+ghost use Rattle.std.specs.Int.{bit_at};
+ghost use Rattle.ladder_search.specs.Marked.{marked};
+ghost use Rattle.ladder_sim.specs.Rows.{row, rows};
+ghost use Rattle.ladder_sim.specs.Kept.{ArePairs, AreTails, IsKept, IsNear, Serves};
 ghost use Rattle.ladder_sim.specs.declared.cause_text.TheConstants.{DIGITS, ROW};
 
 use crate::cause_text::{DIGITS, ROW, fill_end, write_row};
+use itoa::write_digits;
+use ladder_causes::Marked;
+use std::simd::Simd;
 
-/// How many bytes of a row are copied, whatever its length: a copy of a fixed length needs no test. A longer row is near no other.
-const COPIED: usize = 80;
+/// How many bytes of a row are copied, whatever its length: a copy of a fixed length needs no test.
+const COPIED: usize = 64;
 
-/// The row of `first`. The numbers from `first` up to `end` share its hundreds and its sixty-fours, so their rows differ from it in
-/// the last two digits and the last six bits alone.
+/// How many bytes the longest row has that is made from a kept one: what is copied, and the last six bits with the line feed.
+const LONGEST: usize = COPIED + 13;
+
+/// How many bytes a row is made in: the longest one, and three that are written past its end.
+const MADE: usize = LONGEST + 3;
+
+/// The room for the rows of a mask, in bytes.
+pub(crate) const RUN: usize = 64 * MADE;
+
+/// A row whose number has 0 for its last two digits and whose bits are those of a number with 0 for the last six: the rows of all
+/// numbers with the same hundreds and the same sixty-fours differ from it in these alone.
 #[derive(Drop)]
 pub(crate) struct Kept {
     text: [u8; ROW],
     /// Where the row begins.
     start: usize,
-    pub first: u64,
-    pub end: u64,
-    /// `first` with 0 for its last two digits.
-    hundreds: u64,
+    /// The number whose digits the row has.
+    pub hundreds: u64,
+    /// The number whose bits it has.
+    pub sixties: u64,
     /// The numbers below 100, in two digits each.
     pairs: [u8; 200],
     /// The end of a row for each value of the last six bits, in 16 bytes each.
     tails: [u8; 1024],
+}
+
+/// Some bytes of a text, from a place on.
+#[inline(always)]
+fn load<const N: usize>(text: &[u8], at: usize) -> Simd<u8, N>
+    requires { at + N ≤ length text.now }
+    ensures { result ≡ take N (drop at text.now) }
+{
+    Simd::<u8, N>::from_slice(&text[at..])
+}
+
+/// Writes bytes into a text from a place on, in one piece.
+#[inline(always)]
+fn store<const N: usize>(text: &mut [u8], at: usize, bytes: Simd<u8, N>)
+    requires { at + N ≤ length text.old }
+    ensures { text.new ≡ put_chunk at text.old bytes.entry }
+{
+    bytes.copy_to_slice(&mut text[at..]);
 }
 
 fn fill_tails(tails: &mut [u8])
@@ -46,19 +79,6 @@ fn fill_pairs(pairs: &mut [u8])
     }
 }
 
-/// Up to where the numbers from `number` on have rows near its own, if its row begins at `start`: nowhere, where a row has fewer than
-/// three digits or six bits, or is too long.
-fn near_end(listed: usize, start: usize, number: u64) -> u64
-    requires { (start ≤ DIGITS) × (listed ≤ 64) }
-    ensures { (n : ℕ) → number ≤ n → n < result → IsNear listed start number n }
-{
-    if number < 100 || listed < 6 || COPIED + start < DIGITS + 2 * listed + 1 {
-        return 0;
-    }
-    let count = (100 - number % 100).min(64 - number % 64);
-    number.saturating_add(count)
-}
-
 impl Kept {
     /// The row of 0.
     pub(crate) fn new(listed: usize) -> Kept
@@ -74,61 +94,106 @@ impl Kept {
         Kept {
             text,
             start,
-            first: 0,
-            end: 0,
             hundreds: 0,
+            sixties: 0,
             pairs,
             tails,
         }
     }
 
-    /// Keeps the row of a number.
+    /// Keeps the row that the rows of a number and of its neighbours are made from.
     pub(crate) fn keep(&mut self, listed: usize, number: u64)
         requires few { listed ≤ 64 }
         requires kept { IsKept listed self.old }
         ensures kept { IsKept listed self.new }
-        ensures first { self.new.first ≡ number }
+        ensures near { IsNear self.new number }
     {
-        self.start = write_row(&mut self.text, listed, number);
-        self.first = number;
-        self.hundreds = number - number % 100;
-        self.end = near_end(listed, self.start, number);
+        self.keep_digits(number - number % 100);
+        self.keep_bits(listed, number - number % 64);
     }
 
-    /// The row that is kept.
-    pub(crate) fn row(&self, listed: usize) -> &[u8]
+    /// Keeps the digits of a number whose last two are 0.
+    fn keep_digits(&mut self, hundreds: u64)
+        requires whole { hundreds % 100 ≡ 0 }
+        ensures kept { (k : ℕ) → k ≤ 64 → IsKept k self.old → IsKept k self.new }
+        ensures hundreds { self.new.hundreds ≡ hundreds }
+        ensures sixties { self.new.sixties ≡ self.old.sixties }
+    {
+        if self.hundreds != hundreds {
+            self.start = write_digits(hundreds, &mut self.text, DIGITS);
+            self.hundreds = hundreds;
+        }
+    }
+
+    /// Keeps the bits of a number whose last six are 0.
+    fn keep_bits(&mut self, listed: usize, sixties: u64)
+        requires few { listed ≤ 64 }
+        requires kept { IsKept listed self.old }
+        requires whole { sixties % 64 ≡ 0 }
+        ensures kept { IsKept listed self.new }
+        ensures hundreds { self.new.hundreds ≡ self.old.hundreds }
+        ensures sixties { self.new.sixties ≡ sixties }
+    {
+        if self.sixties != sixties {
+            fill_end(&mut self.text[DIGITS..], listed, sixties);
+            self.sixties = sixties;
+        }
+    }
+
+    /// Whether rows can be made from this one: not where they have fewer than three digits or six bits, or are too long.
+    pub(crate) fn serves(&self, listed: usize) -> bool
         requires few { listed ≤ 64 }
         requires kept { IsKept listed self.now }
-        ensures { result.now ≡ row listed self.now.first }
+        ensures { IsTrue result → Serves listed self.now }
     {
-        &self.text[self.start..DIGITS + 2 * listed + 1]
+        100 <= self.hundreds && 6 <= listed && DIGITS + 2 * listed + 1 - self.start <= LONGEST
     }
 
-    /// Writes the row of a number near the kept one over the first bytes of a text, and returns how long it is.
+    /// Writes the row of a number near the kept one over the first bytes of a text: `front` are the first bytes of the kept row.
     ///
     /// The copy is patched and never the kept row: a byte that was just written is slow to read again among its neighbours, and each
     /// row would wait for the one before it.
     #[inline(always)]
-    pub(crate) fn write_near(&self, text: &mut [u8], listed: usize, number: u64) -> usize
+    fn write_near(&self, text: &mut [u8], front: Simd<u8, COPIED>, listed: usize, number: u64)
         requires few { listed ≤ 64 }
-        requires room { length text.old ≡ 96 }
+        requires room { length text.old ≡ 80 }
         requires kept { IsKept listed self.now }
-        requires near { (self.now.first ≤ number) × (number < self.now.end) }
-        ensures short { result ≤ 80 }
-        ensures row { take result text.new ≡ row listed number }
+        requires serves { Serves listed self.now }
+        requires near { IsNear self.now number }
+        requires front { front ≡ take 64 (drop self.now.start self.now.text) }
+        ensures { take (DIGITS + 2 * listed + 1 - self.now.start) text.new ≡ row listed number }
     {
         let long = DIGITS + 2 * listed + 1 - self.start;
         let pair = 2 * (number - self.hundreds) as usize;
-        let tail = 16 * (number % 64) as usize;
-        let digits = 18 - self.start;
-        text[0..COPIED].copy_from_slice(&self.text[self.start..self.start + COPIED]);
-
-        // byte by byte: two bytes as one piece would be tested for an overlap first
-        text[digits] = self.pairs[pair];
-        text[digits + 1] = self.pairs[pair + 1];
+        let tail = 16 * (number - self.sixties) as usize;
+        store(text, 0, front);
+        store(text, 18 - self.start, load::<2>(&self.pairs, pair));
 
         // of the 16 bytes, 13 are the row's: the buffer and the tails have three more
-        text[long - 13..long + 3].copy_from_slice(&self.tails[tail..tail + 16]);
-        long
+        store(text, long - 13, load::<16>(&self.tails, tail));
+    }
+
+    /// Writes the rows of numbers near the kept one over the first bytes of a text, and returns how many bytes they have.
+    pub(crate) fn write_run(&self, text: &mut [u8], listed: usize, run: Marked) -> usize
+        requires few { listed ≤ 64 }
+        requires room { length text.old ≡ RUN }
+        requires kept { IsKept listed self.now }
+        requires serves { Serves listed self.now }
+        requires near { (j : ℕ) → bit_at run.mask j ≡ 1 → IsNear self.now (run.number + j) }
+        requires range { run.number < 2 ^ 64 - 64 }
+        ensures short { result ≤ RUN }
+        ensures rows { take result text.new ≡ rows listed (marked run.number run.mask) }
+    {
+        let front = load::<COPIED>(&self.text, self.start);
+        let long = DIGITS + 2 * listed + 1 - self.start;
+        let mut left = run.mask;
+        let mut used = 0;
+        while left != 0 {
+            let number = run.number + u64::from(left.trailing_zeros());
+            self.write_near(&mut text[used..used + MADE], front, listed, number);
+            used += long;
+            left &= left - 1;
+        }
+        used
     }
 }

@@ -5,8 +5,9 @@ mod cause_text;
 mod group_text;
 mod held_text;
 mod kept;
-mod near;
 mod possible_text;
+mod rows;
+mod runs;
 mod table;
 mod term_text;
 
