@@ -55,7 +55,7 @@ rows 2 looks 1
 pub(crate) const X3: &str = "\
 X3: an argument is no name of a variable, or no input in a stimulus
 
-On the command line COIL is word 1, the first INPUT word 2, also for `show --coil COIL`, with `--stimulus` too; in `show` without it the first INPUT is word 1. In the header of a stimulus (row 1) each name must be an input.
+On the command line COIL is word 1, the first INPUT word 2, also for `show --coil COIL`, with `--stimulus` too; in `show` without it the first INPUT is word 1. In the header of a stimulus (row 1) each name must be an input. A name of `sim --watch` must be that of a variable or of a block, without `.Q`; the first one is watch 1.
 
 ```console
 $ ladder causes motor.ld Moter Start Stop
@@ -67,6 +67,8 @@ moment,Lamp
 0,1
 $ ladder sim motor.ld lamp.csv
 fault X3 row 1
+$ ladder sim --watch Motor --watch Mottor motor.ld lamp.csv
+fault X3 watch 2
 ```
 
 Corrected:

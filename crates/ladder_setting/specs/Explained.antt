@@ -53,6 +53,7 @@ sentence fault.NoScans = codes "C8: there are no such scans: none, too many, or 
 sentence (fault.Read kind f) = read_sentence f
 sentence (fault.State f) = state_sentence f
 sentence (fault.Word number) = codes "X3: the word names no variable; COIL is word 1, and the first INPUT the next one"
+sentence (fault.Watched number) = codes "X3: the name is that of no variable and no instance; names that are watched are counted from 1"
 sentence (fault.Sim f) = sim_sentence f
 sentence fault.Write = codes "X6: a write failed"
 sentence fault.Memory = memory_sentence

@@ -80,6 +80,9 @@ fn sentence(fault: ToolFault) -> &'static [u8]
         ToolFault::Word { .. } => {
             b"X3: the word names no variable; COIL is word 1, and the first INPUT the next one"
         }
+        ToolFault::Watched { .. } => {
+            b"X3: the name is that of no variable and no instance; names that are watched are counted from 1"
+        }
         ToolFault::Sim(fault) => sim_sentence(fault),
         ToolFault::Write => b"X6: a write failed",
         ToolFault::Memory => MEMORY,

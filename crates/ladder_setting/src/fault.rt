@@ -43,6 +43,9 @@ pub enum ToolFault {
     /// An argument names no variable; COIL is word 1, the first INPUT word 2.
     #[error("word {number} names no variable")]
     Word { number: usize },
+    /// What is watched isn't declared; the names that are watched are counted from 1.
+    #[error("name {number} of what is watched is not declared")]
+    Watched { number: usize },
     /// A simulation ended before the end of its stimulus.
     #[error("{0}")]
     Sim(SimFault),
@@ -84,6 +87,7 @@ pub fn write_fault<W: Sink>(fault: &ToolFault, writer: &mut W) -> Result<(), Wri
         }
         ToolFault::State(StateFault::Memory) => put(writer, b"fault X7\n"),
         ToolFault::Word { number } => write_numbered(b"fault X3 word ", number as u64, writer),
+        ToolFault::Watched { number } => write_numbered(b"fault X3 watch ", number as u64, writer),
         ToolFault::Sim(fault) => write_sim_fault(fault, writer),
         ToolFault::Write => put(writer, b"fault X6\n"),
         ToolFault::Memory => put(writer, b"fault X7\n"),

@@ -16,9 +16,10 @@ use Rattle.ladder_views.specs.Views.{broken_first, coil_refusal, shown_scan, sty
 use Rattle.ladder_setting.specs.Setting.{Given}
 use Rattle.ladder_words.specs.declared.request.ShowRequest.{ShowRequest}
 use Rattle.ladder_records.specs.Text.{records_of}
+use Rattle.ladder_trace.specs.declared.column.Column.{Column}
 use Rattle.ladder_trace.specs.declared.fault.SimFault.{SimFault}
 use Rattle.ladder_trace.specs.declared.recording.Film.{Film}
-use Rattle.ladder_trace.specs.Simulation.{Films, SimulatesEvery, WavesEvery}
+use Rattle.ladder_trace.specs.Simulation.{Films, SimulatesEvery, WatchesEvery, WavesEvery}
 
 -- The coil's rule comes first.
 pub coil_first : (v : ShowRequest) (p : Drawing) (s : Standing) (coil : Option ℕ) (listed : List ℕ) (f : CauseFault) → coil_refusal p coil ≡ Some f
@@ -59,3 +60,7 @@ same_film film p s t a b old new r e h = rw e at h
 pub same_waves : (every other : ℕ) (p : Drawing) (s t : Standing) (a b : List ℕ) (old new : WriteLog) (r : Result ℕ SimFault) → a ≡ b → every ≡ other
     → WavesEvery every p s (records_of a) t old new r → WavesEvery other p s (records_of b) t old new r
 same_waves every other p s t a b old new r e f h = rw (← f) (rw e at h)
+
+pub same_watched : (columns others : List Column) (every other : ℕ) (p : Drawing) (s t : Standing) (a b : List ℕ) (old new : WriteLog) (r : Result ℕ SimFault) → columns ≡ others → a ≡ b
+    → every ≡ other → WatchesEvery columns every p s (records_of a) t old new r → WatchesEvery others other p s (records_of b) t old new r
+same_watched columns others every other p s t a b old new r c e f h = rw (← c, ← f) (rw e at h)

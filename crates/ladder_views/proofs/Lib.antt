@@ -1,1 +1,3 @@
 pub mod Endings
+pub mod Growing
+pub mod Names

@@ -1,5 +1,5 @@
 -- How a request ends for a text about the program, the drawing of a scan, or what is written of a simulation: all is written, or a fault stops it.
-use Rattle.std.specs.Prelude.{◌≡◌, ◌⊎◌, ◌++◌, if◌then◌else◌, ℕ, List, Bool, true, false, Option, None, Some, Result, Ok, Err, codes, decimal, [], length, map, option_map, string_bytes, unwrap_or}
+use Rattle.std.specs.Prelude.{◌≡◌, ◌⊎◌, ◌++◌, if◌then◌else◌, ℕ, List, Bool, true, false, Option, None, Some, Result, Ok, Err, codes, decimal, [], is_some, length, map, option_map, string_bytes, unwrap_or}
 use Rattle.std.specs.Option.{option_or}
 use Rattle.ladder_vars.specs.Decls.{Declared}
 use Rattle.ladder_grid.specs.Program.{Drawing, has_coil}
@@ -16,9 +16,10 @@ use Rattle.ladder_show.specs.declared.picture.Style.{Style}
 use Rattle.ladder_show.specs.declared.picture.Style.TheVariants as style
 use Rattle.ladder_state.specs.StateText.{state_text}
 use Rattle.ladder_text.specs.Log.{PutsAll, PutsPrefix, WriteLog}
+use Rattle.ladder_trace.specs.declared.column.Column.{Column}
 use Rattle.ladder_trace.specs.declared.fault.SimFault.{SimFault}
 use Rattle.ladder_trace.specs.declared.recording.Film.{Film}
-use Rattle.ladder_trace.specs.Simulation.{Films, SimulatesEvery, WavesEvery}
+use Rattle.ladder_trace.specs.Simulation.{Films, SimulatesEvery, WatchesEvery, WavesEvery}
 use Rattle.ladder_records.specs.Text.{lines_text}
 use Rattle.ladder_warnings.specs.Warnings.{warning_rows}
 use Rattle.ladder_setting.specs.declared.fault.ToolFault.{ToolFault}
@@ -27,6 +28,8 @@ use Rattle.ladder_words.specs.declared.request.FilmRequest.{FilmRequest}
 use Rattle.ladder_words.specs.declared.request.Medium.{Medium}
 use Rattle.ladder_words.specs.declared.request.Medium.TheVariants as medium
 use Rattle.ladder_words.specs.declared.request.ShowRequest.{ShowRequest}
+use Rattle.ladder_words.specs.declared.request.WatchRequest.{WatchRequest}
+use Rattle.ladder_views.specs.Watched.{AreColumns, IsUnknownName}
 use Rattle.ladder_setting.specs.Setting.{Given, HasSettingFault, IsSet, stimulus_records}
 use Rattle.ladder_setting.specs.Variables.{AreListed, variable_of}
 use Rattle.ladder_setting.specs.Reports.{HasCauseFault, HasWordFault, IsReported, Logs, names_in}
@@ -131,6 +134,42 @@ abbrev pub BreaksTrace : Given → Option ℕ → Bool → Logs → Logs → Typ
 BreaksTrace g every saves old new =
     ((f : SimFault) × Traces g every old.out new.out (Err f) (λ p s. new.save ≡ old.save) × IsReported g old.err new.err (fault.Sim f))
     ⊎ ((scans : ℕ) × (saves ≡ true) × Traces g every old.out new.out (Ok scans) (λ p s. PutsPrefix old.save new.save (state_text p s))
+    × IsReported g old.err new.err fault.Write)
+
+-- ---- a simulation with what is watched
+
+-- The stimulus was simulated so, with what is watched beside the outputs.
+pub record Watches (g : Given) (r : WatchRequest) (out out' : WriteLog) (end : Result ℕ SimFault) (Saved : Drawing → Standing → Type 0) : Type 0 where
+  pub program : Drawing
+  pub before : Standing
+  pub after : Standing
+  pub columns : List Column
+  pub set : IsSet g program before
+  pub watched : AreColumns program.decls r.all (map string_bytes r.names.items) columns
+  pub trace : WatchesEvery columns (unwrap_or r.sim.every 0) program before (stimulus_records g) after out out' end
+  pub saved : Saved program after
+
+-- Status 0: the trace of the whole stimulus was written.
+abbrev pub IsWatched : Given → WatchRequest → Logs → Logs → Type 0
+IsWatched g r old new =
+    (scans : ℕ) × Watches g r old.out new.out (Ok scans) (IsSaved (is_some r.sim.save) old.save new.save) × (new.err ≡ old.err)
+
+-- The first name that isn't declared, or being out of memory.
+abbrev pub HasNameFault : Declared → List (List ℕ) → ToolFault → Type 0
+HasNameFault decls words (fault.Watched number) = IsUnknownName decls words number
+HasNameFault decls words fault.Memory = Unit {0}
+HasNameFault decls words other = ⊥
+
+-- Faults are looked for in this order: in the program text, in the state text, in the names, in the stimulus.
+abbrev pub HasWatchFault : Given → WatchRequest → ToolFault → Type 0
+HasWatchFault g r f =
+    HasSettingFault g f ⊎ ((p : Drawing) × (s : Standing) × IsSet g p s × HasNameFault p.decls (map string_bytes r.names.items) f)
+
+-- Status 1: a fault stopped the simulation, and no state was saved; or the state was to be saved, and `save` failed.
+abbrev pub BreaksWatch : Given → WatchRequest → Logs → Logs → Type 0
+BreaksWatch g r old new =
+    ((f : SimFault) × Watches g r old.out new.out (Err f) (λ p s. new.save ≡ old.save) × IsReported g old.err new.err (fault.Sim f))
+    ⊎ ((scans : ℕ) × (is_some r.sim.save ≡ true) × Watches g r old.out new.out (Ok scans) (λ p s. PutsPrefix old.save new.save (state_text p s))
     × IsReported g old.err new.err fault.Write)
 
 -- ---- the waveform of a stimulus

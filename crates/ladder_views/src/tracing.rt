@@ -17,7 +17,7 @@ use ladder_trace::simulate;
 use std::alloc::Global;
 
 /// Writes the state where it is to be saved.
-fn save_state<S: Sink>(
+pub(crate) fn save_state<S: Sink>(
     saves: bool,
     program: &Program,
     state: &State,

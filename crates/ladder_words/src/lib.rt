@@ -6,6 +6,6 @@ mod words;
 
 pub use request::{
     CommandLine, FilmRequest, Form, Grouping, InputOrder, ListRequest, Medium, NeverRequest,
-    PossibleRequest, Request, ShowRequest, SimRequest, Task, WavesRequest, WordFault,
+    PossibleRequest, Request, ShowRequest, SimRequest, Task, WatchRequest, WavesRequest, WordFault,
 };
 pub use words::read_words;
