@@ -101,12 +101,12 @@ pub(crate) fn judge(asked: Asked<'_>, space: &mut Space) -> Verdict
     ensures found { result ≡ Found → SomeLeaves asked.entry.program.now asked.entry.coil asked.entry.listed.now asked.entry.before asked.entry.sought asked.entry.number }
     ensures space { IsSpace asked.entry.program.now space.new }
 {
+    if is_never(asked, 0, space, SCANS) {
+        return Verdict::Never;
+    }
     begin(asked, 0, space);
     if seek(asked, space, SCANS).is_found {
-        return Verdict::Found;
-    }
-    if is_never(asked, 0, space, SCANS) {
-        Verdict::Never
+        Verdict::Found
     } else {
         Verdict::Open
     }
