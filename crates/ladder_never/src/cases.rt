@@ -9,9 +9,12 @@ ghost use Rattle.ladder_never.specs.Outcomes.{outcomes};
 ghost use Rattle.ladder_signals.specs.Three.{three};
 
 use crate::answer::Answer;
+use crate::choosing::open_point;
+use crate::flow::Sight;
 use crate::outcome::Outcome;
 use crate::pinning::{answer, is_known, pin, pin_answer, told};
 use crate::point::Point;
+use crate::writers::Writers;
 use ladder_glance::{Knowledge, Room, scan_known};
 use ladder_grid::Program;
 use ladder_signals::Tri;
@@ -43,26 +46,14 @@ pub fn look(
     told(target, trial)
 }
 
-/// The first of the points that is open, or else their number.
-pub fn first_open(points: &[Point], case: &Knowledge<Tri, Outcome>) -> usize
-    ensures { result ≤ length points.now }
-{
-    for number in 0..points.len() {
-        if told(points[number], case) == Tri::Unsure {
-            return number;
-        }
-    }
-    points.len()
-}
-
 /// Whether the target is settled to have the wanted value after a scan from what is known in the case, by at most so many scans, with
-/// further cases by these points. The case is the same afterwards.
+/// further cases. The case is the same afterwards.
 #[cycle(settling)]
 pub fn settle_value(
     program: &Program,
+    writers: &Writers,
     target: Point,
     wanted: bool,
-    points: &[Point],
     case: &mut Knowledge<Tri, Outcome>,
     trial: &mut Knowledge<Tri, Outcome>,
     room: &mut Room<Tri>,
@@ -86,21 +77,27 @@ pub fn settle_value(
     }
     let left = scans - 1;
     let value = look(program, target, case, trial, room);
-    let next = first_open(points, case);
-    if value != Tri::Unsure || next == points.len() {
-        return Search {
+    let sight = Sight {
+        program,
+        writers,
+        before: case,
+        after: trial,
+    };
+    match open_point(sight, target) {
+        Some(Point::Answer(inst)) => {
+            by_answers(
+                program, writers, target, wanted, inst, case, trial, room, left,
+            )
+        }
+        Some(point) => {
+            by_values(
+                program, writers, target, wanted, point, case, trial, room, left,
+            )
+        }
+        None => Search {
             is_settled: is_known(value, wanted),
             scans: left,
-        };
-    }
-    let rest = &points[next + 1..];
-    match points[next] {
-        Point::Answer(inst) => by_answers(
-            program, target, wanted, inst, rest, case, trial, room, left,
-        ),
-        point => by_values(
-            program, target, wanted, point, rest, case, trial, room, left,
-        ),
+        },
     }
 }
 
@@ -108,10 +105,10 @@ pub fn settle_value(
 #[cycle(settling)]
 fn by_values(
     program: &Program,
+    writers: &Writers,
     target: Point,
     wanted: bool,
     point: Point,
-    rest: &[Point],
     case: &mut Knowledge<Tri, Outcome>,
     trial: &mut Knowledge<Tri, Outcome>,
     room: &mut Room<Tri>,
@@ -129,13 +126,15 @@ fn by_values(
 {
     let before = told(point, case);
     pin(point, Tri::On, case);
-    let on = settle_value(program, target, wanted, rest, case, trial, room, scans);
+    let on = settle_value(program, writers, target, wanted, case, trial, room, scans);
     if !on.is_settled {
         pin(point, before, case);
         return on;
     }
     pin(point, Tri::Off, case);
-    let off = settle_value(program, target, wanted, rest, case, trial, room, on.scans);
+    let off = settle_value(
+        program, writers, target, wanted, case, trial, room, on.scans,
+    );
     pin(point, before, case);
     off
 }
@@ -144,10 +143,10 @@ fn by_values(
 #[cycle(settling)]
 fn by_answers(
     program: &Program,
+    writers: &Writers,
     target: Point,
     wanted: bool,
     inst: usize,
-    rest: &[Point],
     case: &mut Knowledge<Tri, Outcome>,
     trial: &mut Knowledge<Tri, Outcome>,
     room: &mut Room<Tri>,
@@ -165,19 +164,23 @@ fn by_answers(
 {
     let before = answer(inst, case);
     pin_answer(inst, Answer::On, case);
-    let on = settle_value(program, target, wanted, rest, case, trial, room, scans);
+    let on = settle_value(program, writers, target, wanted, case, trial, room, scans);
     if !on.is_settled {
         pin_answer(inst, before, case);
         return on;
     }
     pin_answer(inst, Answer::Off, case);
-    let off = settle_value(program, target, wanted, rest, case, trial, room, on.scans);
+    let off = settle_value(
+        program, writers, target, wanted, case, trial, room, on.scans,
+    );
     if !off.is_settled {
         pin_answer(inst, before, case);
         return off;
     }
     pin_answer(inst, Answer::Input, case);
-    let input = settle_value(program, target, wanted, rest, case, trial, room, off.scans);
+    let input = settle_value(
+        program, writers, target, wanted, case, trial, room, off.scans,
+    );
     pin_answer(inst, before, case);
     input
 }

@@ -10,6 +10,7 @@ use crate::begin::begin;
 use crate::laws;
 use crate::removing::{Space, settle};
 use crate::set::Set;
+use crate::writers::Writers;
 use ladder_glance::{Knowledge, Room};
 use ladder_grid::Program;
 use ladder_scan::{Memory, State};
@@ -34,11 +35,12 @@ pub fn never_on(alloc: Global, program: &Program, state: &State, scans: u32) -> 
     state.checked();
     let mut set = begin(alloc, program, state)?;
     let mut after = Knowledge::new(alloc, program)?;
+    let writers = Writers::new(alloc, program)?;
     let mut space = Space {
         case: Knowledge::new(alloc, program)?,
         trial: Knowledge::new(alloc, program)?,
         room: Room::new(alloc, program)?,
     };
-    settle(program, &mut set, &mut after, &mut space, scans);
+    settle(program, &writers, &mut set, &mut after, &mut space, scans);
     Ok(set)
 }

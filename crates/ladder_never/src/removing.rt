@@ -18,14 +18,11 @@ use crate::laws::leaves_off;
 use crate::outcome::Outcome;
 use crate::pinning::told;
 use crate::point::Point;
-use crate::reach::reach;
 use crate::set::Set;
+use crate::writers::Writers;
 use ladder_glance::{Knowledge, Room, scan_known};
 use ladder_grid::Program;
 use ladder_signals::Tri;
-
-/// How deep cases lie in one another.
-const MOST_POINTS: usize = 64;
 
 /// The buffers of a search: what is known before a scan, and after it.
 #[derive(Drop)]
@@ -39,6 +36,7 @@ pub(crate) struct Space {
 /// at most so many scans.
 fn stays(
     program: &Program,
+    writers: &Writers,
     target: Point,
     after: &Knowledge<Tri, Outcome>,
     space: &mut Space,
@@ -58,13 +56,11 @@ fn stays(
         Tri::Off => true,
         Tri::On => false,
         Tri::Unsure => {
-            let mut points = [target; MOST_POINTS];
-            let count = reach(program, target, &mut points);
             let search = settle_value(
                 program,
+                writers,
                 target,
                 false,
-                &points[..count],
                 &mut space.case,
                 &mut space.trial,
                 &mut space.room,
@@ -78,6 +74,7 @@ fn stays(
 /// Leaves the variables that are settled to be OFF, and returns how many were removed.
 fn leave_variables(
     program: &Program,
+    writers: &Writers,
     after: &Knowledge<Tri, Outcome>,
     space: &mut Space,
     scans: u32,
@@ -95,7 +92,7 @@ fn leave_variables(
 {
     let mut removed = 0;
     for var in 0..variables.len() {
-        if variables[var] && !stays(program, Point::Variable(var), after, space, scans) {
+        if variables[var] && !stays(program, writers, Point::Variable(var), after, space, scans) {
             variables[var] = false;
             removed += 1;
         }
@@ -106,6 +103,7 @@ fn leave_variables(
 /// Leaves the instances whose Q is settled to be OFF, and returns how many were removed.
 fn leave_instances(
     program: &Program,
+    writers: &Writers,
     after: &Knowledge<Tri, Outcome>,
     space: &mut Space,
     scans: u32,
@@ -123,7 +121,7 @@ fn leave_instances(
 {
     let mut removed = 0;
     for inst in 0..instances.len() {
-        if instances[inst] && !stays(program, Point::Output(inst), after, space, scans) {
+        if instances[inst] && !stays(program, writers, Point::Output(inst), after, space, scans) {
             instances[inst] = false;
             removed += 1;
         }
@@ -134,6 +132,7 @@ fn leave_instances(
 /// Leaves what is settled to be OFF after a scan from the set, and returns how many were removed.
 fn remove(
     program: &Program,
+    writers: &Writers,
     set: &mut Set,
     after: &mut Knowledge<Tri, Outcome>,
     space: &mut Space,
@@ -159,14 +158,15 @@ fn remove(
     know(program, set, &mut space.case);
     after.copy_from(&space.case);
     scan_known(program, after, &[], 0, &mut space.room);
-    let variables = leave_variables(program, after, space, scans, &mut set.variables);
-    let instances = leave_instances(program, after, space, scans, &mut set.instances);
+    let variables = leave_variables(program, writers, after, space, scans, &mut set.variables);
+    let instances = leave_instances(program, writers, after, space, scans, &mut set.instances);
     variables + instances
 }
 
 /// Removes, again and again, what isn't settled to be OFF after a scan, until all that is left is.
 pub(crate) fn settle(
     program: &Program,
+    writers: &Writers,
     set: &mut Set,
     after: &mut Knowledge<Tri, Outcome>,
     space: &mut Space,
@@ -185,6 +185,6 @@ pub(crate) fn settle(
 {
     let mut removed = 1;
     while 0 < removed {
-        removed = remove(program, set, after, space, scans);
+        removed = remove(program, writers, set, after, space, scans);
     }
 }

@@ -9,17 +9,15 @@ ghost use Rattle.ladder_pairs.specs.Pairs.{IsExcluded, both_told};
 ghost use Rattle.ladder_signals.specs.Three.{three};
 
 use crate::choosing::choose;
-use crate::flow::Sight;
 use crate::pair::Pair;
 use crate::partners::next_forced;
 use crate::points::point_of;
-use crate::writers::Writers;
 use ladder_elements::Operations;
 use ladder_glance::{Knowledge, Room, scan_known};
 use ladder_grid::Program;
 use ladder_never::cases::Search;
 use ladder_never::pinning::{answer, pin, pin_answer, told};
-use ladder_never::{Answer, Outcome, Point};
+use ladder_never::{Answer, Outcome, Point, Sight, Writers};
 use ladder_signals::Tri;
 
 /// What is known, after a scan from what is known in the case, of whether both of a pair are ON. The case is the same afterwards.

@@ -4,7 +4,6 @@
 mod begin;
 mod cases;
 mod choosing;
-mod flow;
 mod history;
 pub mod laws;
 mod pair;
@@ -12,7 +11,6 @@ mod pairs;
 mod partners;
 mod points;
 mod removing;
-mod writers;
 
 pub use pair::Pair;
 pub use pairs::{Pairs, never_both};

@@ -6,10 +6,9 @@ ghost use Rattle.ladder_pairs.specs.Pairs.{IsExcluded};
 
 use crate::cases::exclude;
 use crate::pair::Pair;
-use crate::writers::Writers;
 use ladder_glance::{Knowledge, Room};
 use ladder_grid::Program;
-use ladder_never::Outcome;
+use ladder_never::{Outcome, Writers};
 use ladder_signals::Tri;
 
 /// The buffers of a search: what is known before a scan, and after it.

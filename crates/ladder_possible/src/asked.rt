@@ -8,7 +8,7 @@ use crate::content::MOMENT;
 use crate::sight::{Sight, new_sight};
 use ladder_glance::{Knowledge, Room};
 use ladder_grid::Program;
-use ladder_never::{Outcome, Set};
+use ladder_never::{Outcome, Set, Writers};
 use ladder_scan::{Memory, State};
 use ladder_signals::Tri;
 use std::alloc::Global;
@@ -43,6 +43,8 @@ pub(crate) struct Knowing {
     /// What is known after it.
     pub trial: Knowledge<Tri, Outcome>,
     pub room: Room<Tri>,
+    /// Where the program writes what.
+    pub writers: Writers,
 }
 
 /// What is tried in a search.
@@ -62,6 +64,7 @@ fn new_knowing(alloc: Global, program: &Program) -> Result<Knowing, Memory>
         case: Knowledge::new(alloc, program)?,
         trial: Knowledge::new(alloc, program)?,
         room: Room::new(alloc, program)?,
+        writers: Writers::new(alloc, program)?,
     })
 }
 

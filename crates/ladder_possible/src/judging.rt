@@ -69,13 +69,7 @@ fn begin(asked: Asked<'_>, open_bits: u32, space: &mut Space)
 
 /// Whether at most so many scans settle that no state leaves the coil at the sought value with the number, whatever its last bits are, which
 /// are open.
-pub(crate) fn is_never(
-    asked: Asked<'_>,
-    open_bits: u32,
-    points: &[Point],
-    space: &mut Space,
-    scans: u32,
-) -> bool
+pub(crate) fn is_never(asked: Asked<'_>, open_bits: u32, space: &mut Space, scans: u32) -> bool
     requires listable { IsListable asked.program.now asked.coil asked.listed.now }
     requires aligned { asked.number % 2 ^ open_bits ≡ 0 }
     requires space { IsSpace asked.program.now space.old }
@@ -88,9 +82,9 @@ pub(crate) fn is_never(
     let coil = Point::Variable(asked.coil);
     let search = settle_value(
         asked.program,
+        &space.knowing.writers,
         coil,
         !asked.sought,
-        points,
         &mut space.knowing.case,
         &mut space.knowing.trial,
         &mut space.knowing.room,
@@ -99,20 +93,20 @@ pub(crate) fn is_never(
     search.is_settled
 }
 
-/// What is settled of the number, with cases of these points.
-pub(crate) fn judge(asked: Asked<'_>, points: &[Point], space: &mut Space) -> Verdict
+/// What is settled of the number.
+pub(crate) fn judge(asked: Asked<'_>, space: &mut Space) -> Verdict
     requires listable { IsListable asked.program.now asked.coil asked.listed.now }
     requires space { IsSpace asked.program.now space.old }
     ensures never { result ≡ Never → SomeLeaves asked.entry.program.now asked.entry.coil asked.entry.listed.now asked.entry.before asked.entry.sought asked.entry.number → ⊥ }
     ensures found { result ≡ Found → SomeLeaves asked.entry.program.now asked.entry.coil asked.entry.listed.now asked.entry.before asked.entry.sought asked.entry.number }
     ensures space { IsSpace asked.entry.program.now space.new }
 {
-    begin(asked, 0, space);
-    if seek(asked, points, space, SCANS).is_found {
-        return Verdict::Found;
+    if is_never(asked, 0, space, SCANS) {
+        return Verdict::Never;
     }
-    if is_never(asked, 0, points, space, SCANS) {
-        Verdict::Never
+    begin(asked, 0, space);
+    if seek(asked, space, SCANS).is_found {
+        Verdict::Found
     } else {
         Verdict::Open
     }

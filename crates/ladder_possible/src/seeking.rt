@@ -5,12 +5,13 @@ ghost use Rattle.ladder_glance.specs.Sizes.{AreAsLong};
 ghost use Rattle.ladder_possible.specs.Possible.{SomeLeaves};
 ghost use Rattle.ladder_possible.specs.Searching.{IsSpace};
 
-use crate::asked::{Asked, Space};
+use crate::asked::{Asked, Knowing, Space};
 use crate::candidate::is_found;
 use ladder_glance::Knowledge;
-use ladder_never::cases::{first_open, look};
+use ladder_never::cases::look;
+use ladder_never::choosing::open_point;
 use ladder_never::pinning::{is_known, pin, pin_answer};
-use ladder_never::{Answer, Outcome, Point};
+use ladder_never::{Answer, Outcome, Point, Sight};
 use ladder_signals::Tri;
 
 /// Whether a state was found, and how many scans are left.
@@ -46,10 +47,21 @@ fn leave(point: Point, case: &mut Knowledge<Tri, Outcome>)
     }
 }
 
-/// Tries to find a state that leaves the coil at the sought value, among those that the case allows: by further cases of the points, and by
-/// at most so many scans over three values. What is found is scanned as it stands.
+/// A point that leaves the coil open after the scan of the case.
+fn next_point(asked: Asked<'_>, known: &Knowing) -> Option<Point> {
+    let sight = Sight {
+        program: asked.program,
+        writers: &known.writers,
+        before: &known.case,
+        after: &known.trial,
+    };
+    open_point(sight, Point::Variable(asked.coil))
+}
+
+/// Tries to find a state that leaves the coil at the sought value, among those that the case allows: by further cases, and by at most
+/// so many scans over three values. What is found is scanned as it stands.
 #[cycle(seeking)]
-pub(crate) fn seek(asked: Asked<'_>, points: &[Point], space: &mut Space, scans: u32) -> Attempt
+pub(crate) fn seek(asked: Asked<'_>, space: &mut Space, scans: u32) -> Attempt
     requires few { length asked.listed.now ≤ 64 }
     requires coil { asked.coil < length asked.program.now.decls.vars }
     requires space { IsSpace asked.program.now space.old }
@@ -73,9 +85,8 @@ pub(crate) fn seek(asked: Asked<'_>, points: &[Point], space: &mut Space, scans:
         &mut known.trial,
         &mut known.room,
     );
-    let next = first_open(points, &known.case);
-    if value == Tri::Unsure && next < points.len() {
-        return by_cases(asked, points[next], &points[next + 1..], space, left);
+    if let Some(point) = next_point(asked, &space.knowing) {
+        return by_cases(asked, point, space, left);
     }
     let is_found = !is_known(value, !asked.sought)
         && is_found(asked, &space.knowing.case, &mut space.tried);
@@ -87,13 +98,7 @@ pub(crate) fn seek(asked: Asked<'_>, points: &[Point], space: &mut Space, scans:
 
 /// The same in each case of a point.
 #[cycle(seeking)]
-fn by_cases(
-    asked: Asked<'_>,
-    point: Point,
-    rest: &[Point],
-    space: &mut Space,
-    scans: u32,
-) -> Attempt
+fn by_cases(asked: Asked<'_>, point: Point, space: &mut Space, scans: u32) -> Attempt
     requires few { length asked.listed.now ≤ 64 }
     requires coil { asked.coil < length asked.program.now.decls.vars }
     requires space { IsSpace asked.program.now space.old }
@@ -104,7 +109,7 @@ fn by_cases(
     let mut left = scans;
     for case in 0..CASES.len() {
         if choose(point, CASES[case], &mut space.knowing.case) {
-            let attempt = seek(asked, rest, space, left);
+            let attempt = seek(asked, space, left);
             if attempt.is_found {
                 return attempt;
             }

@@ -3,8 +3,8 @@ use Rattle.ladder_never.specs.Cases.{IsSettled, by_answers, by_cases, by_scan}
 use Rattle.ladder_never.proofs.PinnedTwice.{answer_over, case_over, not_not, other_answer, other_case}
 use Rattle.ladder_never.proofs.cases.+settling.Goals as goal
 
-pub settle_value-returns-then-ne-clause-settled : goal.settle_value-returns-then-ne-clause-settled
-settle_value-returns-then-ne-clause-settled t c = λ known. by_scan c.args.case.now (sym c.look-value.ensures.told ∙ c.is_known.ensures known)
+pub settle_value-returns-in-None-clause-settled : goal.settle_value-returns-in-None-clause-settled
+settle_value-returns-in-None-clause-settled t c = λ known. by_scan c.args.case.now (sym c.look-value.ensures.told ∙ c.is_known.ensures known)
 
 pub by_values-returns-then-not-on-clause-case : goal.by_values-returns-then-not-on-clause-case
 by_values-returns-then-not-on-clause-case t c =

@@ -1,12 +1,12 @@
-//! In which rungs what can be ON is written.
+//! In which rungs variables and outputs of instances are written.
 
 ghost use Rattle.std.specs.Prelude.{◌<◌};
 
+use crate::point::Point;
 use ladder_grid::{Cell, Program};
 use ladder_page::geometry::PLACES;
 use ladder_scan::Memory;
 use ladder_scan::scene::cell;
-use ladder_vars::Symbol;
 use std::alloc::Global;
 
 /// The first rung and the last one in which it is written. Where it is in none, the first is past the last.
@@ -23,16 +23,16 @@ const NOWHERE: Span = Span {
 
 /// These rungs for each variable, and for the output of each instance.
 #[derive(Drop)]
-pub(crate) struct Writers {
+pub struct Writers {
     variables: Vec<Span>,
     instances: Vec<Span>,
 }
 
 /// What a cell writes.
-pub(crate) fn written(cell: Cell) -> Option<Symbol> {
+pub(crate) fn written(cell: Cell) -> Option<Point> {
     match cell {
-        Cell::Coil { var, .. } => Some(Symbol::Var(var)),
-        Cell::Block { inst } => Some(Symbol::Instance(inst)),
+        Cell::Coil { var, .. } => Some(Point::Variable(var)),
+        Cell::Block { inst } => Some(Point::Output(inst)),
         Cell::Empty
         | Cell::Wire
         | Cell::Contact { .. }
@@ -54,7 +54,11 @@ fn note(spans: &mut [Span], number: usize, rung: usize) {
 
 impl Writers {
     /// Those of the program.
-    pub(crate) fn new(alloc: Global, program: &Program) -> Result<Writers, Memory> {
+    ///
+    /// # Errors
+    ///
+    /// `Memory` when out of memory.
+    pub fn new(alloc: Global, program: &Program) -> Result<Writers, Memory> {
         let decls = program.decls();
         let mut writers = Writers {
             variables: vec![in alloc; NOWHERE; decls.vars().len()]?,
@@ -71,18 +75,19 @@ impl Writers {
     {
         for place in 0..PLACES {
             match written(cell(program, rung, place)) {
-                Some(Symbol::Var(var)) => note(&mut self.variables, var, rung),
-                Some(Symbol::Instance(inst)) => note(&mut self.instances, inst, rung),
-                None => {}
+                Some(Point::Variable(var)) => note(&mut self.variables, var, rung),
+                Some(Point::Output(inst)) => note(&mut self.instances, inst, rung),
+                Some(Point::Memory(_) | Point::Answer(_)) | None => {}
             }
         }
     }
 
     /// Where it is written.
-    pub(crate) fn span(&self, symbol: Symbol) -> Span {
-        let span = match symbol {
-            Symbol::Var(var) => self.variables.get(var),
-            Symbol::Instance(inst) => self.instances.get(inst),
+    pub(crate) fn span(&self, point: Point) -> Span {
+        let span = match point {
+            Point::Variable(var) => self.variables.get(var),
+            Point::Output(inst) => self.instances.get(inst),
+            Point::Memory(_) | Point::Answer(_) => None,
         };
         span.copied().unwrap_or(NOWHERE)
     }

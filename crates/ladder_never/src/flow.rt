@@ -2,49 +2,48 @@
 
 ghost use Rattle.std.specs.Prelude.{◌<◌};
 
-use crate::points::point_of;
+use crate::outcome::Outcome;
+use crate::pinning::told;
+use crate::point::Point;
 use crate::writers::Writers;
 use ladder_elements::Operations;
 use ladder_glance::Knowledge;
 use ladder_grid::gates::{Gate, LINKS, ON};
 use ladder_grid::{Cell, Operand, Program};
-use ladder_never::pinning::told;
-use ladder_never::{Outcome, Point};
 use ladder_page::Mode;
 use ladder_page::geometry::PLACES;
 use ladder_scan::gates::link_at;
 use ladder_scan::scene::cell;
 use ladder_signals::Tri;
-use ladder_vars::Symbol;
 
 /// What is known before a scan and after it, and where what is written in it is.
 #[derive(Clone, Copy)]
-pub(crate) struct Sight<'a> {
-    pub(crate) program: &'a Program,
-    pub(crate) writers: &'a Writers,
-    pub(crate) before: &'a Knowledge<Tri, Outcome>,
-    pub(crate) after: &'a Knowledge<Tri, Outcome>,
+pub struct Sight<'a> {
+    pub program: &'a Program,
+    pub writers: &'a Writers,
+    pub before: &'a Knowledge<Tri, Outcome>,
+    pub after: &'a Knowledge<Tri, Outcome>,
 }
 
 /// The links of a rung before its gates.
 pub(crate) const NO_LINKS: [Tri; LINKS] = [Tri::Off; LINKS];
 
 /// What a contact reads.
-pub(crate) fn symbol_of(operand: Operand) -> Symbol {
+pub(crate) fn point_of(operand: Operand) -> Point {
     match operand {
-        Operand::Var(var) => Symbol::Var(var),
-        Operand::Output(inst) => Symbol::Instance(inst),
+        Operand::Var(var) => Point::Variable(var),
+        Operand::Output(inst) => Point::Output(inst),
     }
 }
 
 /// What is known of what a rung reads: nothing where both rungs before and after it write that.
-fn read(sight: Sight<'_>, rung: usize, symbol: Symbol) -> Tri {
-    let span = sight.writers.span(symbol);
+fn read(sight: Sight<'_>, rung: usize, point: Point) -> Tri {
+    let span = sight.writers.span(point);
     if rung <= span.first {
-        return told(point_of(symbol), sight.before);
+        return told(point, sight.before);
     }
     if span.last < rung {
-        return told(point_of(symbol), sight.after);
+        return told(point, sight.after);
     }
     Tri::Unsure
 }
@@ -73,7 +72,7 @@ pub(crate) fn own(sight: Sight<'_>, rung: usize, gate: &Gate) -> (Cell, Tri)
             operand,
             memory,
         } => {
-            let operand = read(sight, rung, symbol_of(operand));
+            let operand = read(sight, rung, point_of(operand));
             contact(mode, operand, sight.before.memory(memory))
         }
         Cell::Wire | Cell::Coil { .. } => Tri::On,

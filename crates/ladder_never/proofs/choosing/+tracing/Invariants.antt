@@ -1,5 +1,5 @@
 use Rattle.std.proofs.Common.{◌+◌, ◌*◌}
-use Rattle.ladder_pairs.proofs.choosing.+tracing.Given as goal
+use Rattle.ladder_never.proofs.choosing.+tracing.Given as goal
 
 abbrev pub decreases-open_read : goal.decreases-open_read
 decreases-open_read l = 9 * l.rung + 1
