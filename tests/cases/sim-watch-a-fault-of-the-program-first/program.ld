@@ -1,0 +1,3 @@
+VAR
+  A AT %IX0 : BOOL
+END_VAR
