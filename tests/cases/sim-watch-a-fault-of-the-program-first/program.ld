@@ -1,3 +1,1 @@
 VAR
-  A AT %IX0 : BOOL
-END_VAR
