@@ -5,6 +5,11 @@ _ladder_coils() {
     ladder uses "$1" 2> /dev/null | awk -F, '$2 ~ /coil/ && !seen[$1]++ { print $1 }'
 }
 
+# All variables and instances of the program.
+_ladder_names() {
+    ladder uses "$1" 2> /dev/null | awk -F, '!seen[$1]++ { print $1 }'
+}
+
 # The inputs that the program declares, where each declaration has its line.
 _ladder_inputs() {
     sed -n 's/^[[:space:]]*\([A-Za-z_][A-Za-z0-9_]*\)[[:space:]]\{1,\}[Aa][Tt][[:space:]]\{1,\}%[Ii].*/\1/p' "$1" 2> /dev/null
@@ -26,7 +31,7 @@ _ladder() {
     case $subcommand in
         causes) options='--state --at --after --limit --scans --for --every --grouped --terms --st --order --any --off --must --relevant --all-inputs --quiet --why --help' ;;
         show) options='--state --at --number --html --stimulus --coil --all-inputs --why --help' ;;
-        sim) options='--state --save --every --vcd --why --help' ;;
+        sim) options='--state --save --every --watch --watch-all --vcd --why --help' ;;
         check) options='--warn --why --help' ;;
         uses | import) options='--why --help' ;;
         never) options='--state --pairs --quiet --why --help' ;;
@@ -39,7 +44,7 @@ _ladder() {
     # What stands at the places of the line before this word.
     for ((number = 2; number < COMP_CWORD; number++)); do
         case ${COMP_WORDS[number]} in
-            --state | --at | --after | --limit | --scans | --for | --every | --order | --number | --stimulus | --coil | --save) ((number++)) ;;
+            --state | --at | --after | --limit | --scans | --for | --every | --order | --number | --stimulus | --coil | --save | --watch) ((number++)) ;;
             -*) ;;
             *)
                 ((place++))
@@ -53,6 +58,7 @@ _ladder() {
         --at | --after | --limit | --scans | --for | --every | --number) ;;
         --order) mapfile -t COMPREPLY < <(compgen -W 'auto given' -- "$word") ;;
         --coil) mapfile -t COMPREPLY < <(compgen -W "$(_ladder_coils "$file")" -- "$word") ;;
+        --watch) mapfile -t COMPREPLY < <(compgen -W "$(_ladder_names "$file")" -- "$word") ;;
         *)
             if [[ $word == -* ]]; then
                 mapfile -t COMPREPLY < <(compgen -W "$options" -- "$word")

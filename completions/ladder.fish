@@ -7,7 +7,7 @@ function __ladder_places
     for word in $words
         if test $due = 1
             set due 0
-        else if contains -- $word --state --at --after --limit --scans --for --every --order --number --stimulus --coil --save
+        else if contains -- $word --state --at --after --limit --scans --for --every --order --number --stimulus --coil --save --watch
             set due 1
         else if not string match -q -- '-*' $word
             echo $word
@@ -31,6 +31,12 @@ end
 function __ladder_coils
     set -l places (__ladder_places)
     ladder uses $places[2] 2> /dev/null | awk -F, '$2 ~ /coil/ && !seen[$1]++ { print $1 }'
+end
+
+# All variables and instances of the program.
+function __ladder_names
+    set -l places (__ladder_places)
+    ladder uses $places[2] 2> /dev/null | awk -F, '!seen[$1]++ { print $1 }'
 end
 
 # The inputs that the program declares, where each declaration has its line.
@@ -82,6 +88,8 @@ complete -c ladder -n '__ladder_at show more 0' -l html -d 'One page of HTML'
 complete -c ladder -n '__ladder_at show more 0' -l stimulus -r -F -d 'One scan for each record'
 complete -c ladder -n '__ladder_at show more 0' -l coil -x -a '(__ladder_coils)' -d 'Why this coil has power, or none'
 complete -c ladder -n '__ladder_at sim more 0' -l every -x -d 'Also scans between the records, so many ms apart'
+complete -c ladder -n '__ladder_at sim more 0' -l watch -x -a '(__ladder_names)' -d 'A variable or a block beside the outputs'
+complete -c ladder -n '__ladder_at sim more 0' -l watch-all -d 'All memory variables and blocks beside the outputs'
 complete -c ladder -n '__ladder_at sim more 0' -l vcd -d 'A waveform in place of the trace'
 complete -c ladder -n '__ladder_at sim more 0' -l save -r -F -d 'The file that gets the state after the last scan'
 

@@ -16,6 +16,7 @@ FOLDER = ROOT / "completions"
 SUBCOMMANDS = ["causes", "check", "explain", "import", "never", "show", "sim", "uses"]
 CIRCUIT = ROOT / "examples/emergency_stop/machine.ld"
 COILS, INPUTS = ["Enabled", "Motor"], ["EStop", "Reset", "Start", "Stop"]
+NAMES = sorted([*COILS, *INPUTS])
 # a line, what its last word begins with, and what is to be offered
 LINES = [
     (["causes", "machine.ld"], "", COILS),
@@ -29,6 +30,8 @@ LINES = [
     (["show", "machine.ld", "--coil"], "", COILS),
     (["show", "--state"], "mach", ["machine.ld"]),
     (["sim", "machine.ld"], "mach", ["machine.ld"]),
+    (["sim", "machine.ld", "--watch"], "", NAMES),
+    (["sim", "machine.ld", "--watch"], "E", ["EStop", "Enabled"]),
     (["help"], "s", ["show", "sim"]),
     (["explain"], "X", [f"X{number}" for number in range(1, 8)]),
     (["explain", "G4"], "us", ["usage"]),
@@ -61,7 +64,7 @@ def zsh_options(subcommand):
     """The long options that the file of zsh has for a subcommand."""
     text = (FOLDER / "_ladder").read_text("ascii")
     part = re.search(rf"^ +(?:[a-z]+ \| )*{subcommand}(?: \| [a-z]+)*\)(.*?);;", text, re.M | re.S)[1]
-    return sorted(set(re.findall(r"'(--[a-z-]+)\[", part)) | ({"--help"} if "$help" in part else set()))
+    return sorted(set(re.findall(r"'\*?(--[a-z-]+)\[", part)) | ({"--help"} if "$help" in part else set()))
 
 
 class Tally:

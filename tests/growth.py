@@ -19,9 +19,11 @@ from concurrent.futures import ThreadPoolExecutor
 HERE = pathlib.Path(__file__).resolve().parent
 TEXTS = {
     "motor.ld": (HERE / "programs" / "motor.ld").read_bytes(),
+    "counter.ld": (HERE / "programs" / "counter.ld").read_bytes(),
     "lamp.clp": (HERE / "cases" / "import-lamp" / "lamp.clp").read_bytes(),
     "running.csv": b"version,2\nmoment,0\nvar,Start,1\nvar,Stop,0\nvar,Motor,1\n",
     "back.csv": b"moment,Start,Stop\n0,1,0\n10,0,0\n5,0,0\n",
+    "count.csv": b"moment,Count\n0,1\n5,0\n",
     "long.csv": b"moment,Start,Stop\n0,1,0\n5,0,0\n18446744073709551615,1,1\n",
 }
 LINES = ("fault V9\n", "fault C7\n", "fault X7\n")
@@ -45,6 +47,8 @@ REQUESTS = (
     (("show", "--stimulus", "back.csv", "motor.ld"), ("fault V9\n", "fault X7\n")),
     (("show", "--html", "--coil", "Motor", "--stimulus", "back.csv", "motor.ld"), ("fault V9\n", "fault X7\n")),
     (("sim", "motor.ld", "back.csv"), ("fault V9\n", "fault X7\n")),
+    (("sim", "--watch", "Motor", "--watch", "Start", "motor.ld", "back.csv"), ("fault V9\n", "fault X7\n")),
+    (("sim", "--watch-all", "--save", "saved.csv", "counter.ld", "count.csv"), ("fault V9\n", "fault X7\n")),
     (("sim", "--save", "saved.csv", "motor.ld", "long.csv"), ("fault V9\n", "fault X7\n")),
     (("sim", "--state", "running.csv", "--save", "saved.csv", "motor.ld", "long.csv"), ("fault V9\n", "fault X7\n")),
     (("import", "lamp.clp"), ("fault X7\n",)),

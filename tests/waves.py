@@ -2,7 +2,8 @@
 """Compares waveforms with traces and saved states on all examples: waves.py PROGRAM.
 
 Each stimulus of an example is simulated for its trace and its state, and once more for its waveform, which a reader of its own reads:
-at each moment of the trace the outputs must have its values, and at the end all variables those of the state. Where GTKWave's
+at each moment of the trace the outputs must have its values, and at the end all variables those of the state. A third time all is watched:
+variables and outputs of blocks must have the waveform's values at each moment, and times and counts at the end those of the state. Where GTKWave's
 converters are installed, what they make of the waveform must have the same values.
 """
 import pathlib
@@ -59,6 +60,37 @@ def read_variables(text):
     return {row[1]: row[2] for row in rows if row[0] == "var"}
 
 
+def read_blocks(text):
+    """The records of the timers and counters of a saved state by name, and its moment."""
+    rows = [line.split(",") for line in text.splitlines()]
+    return {row[1]: row for row in rows if row[0] in ("timer", "counter")}, int(rows[1][1])
+
+
+def is_told(name, value, blocks, moment):
+    """Whether the last time or count of a watched trace is that of the state; a time ends at a preset, which the state doesn't have."""
+    row = blocks[name.rsplit(".", 1)[0]]
+    if name.endswith(".CV"):
+        return value == row[3]
+    since = moment - int(row[4]) if row[3] == "1" else 0
+    return value == str(since) or row[5] == "1" and int(value) < since
+
+
+def watched(program, drawing, stimulus, waves, state):
+    """What differs of a trace in which all is watched."""
+    done = run([program, "sim", "--watch-all", drawing, stimulus])
+    if done.returncode != 0 or done.stderr:
+        return [f"watched: status {done.returncode}, {done.stderr!r}"]
+    trace, found = read_trace(done.stdout.decode("ascii")), []
+    counted = {name for row in trace.values() for name in row if name.endswith((".ET", ".CV"))}
+    for moment, row in trace.items():
+        found += [f"watched, at {moment}: {name} is {value}" for name, value in row.items()
+                  if name not in counted and waves.get(moment, {}).get(name) != value]
+    blocks, last = read_blocks(state)
+    if trace:
+        found += [f"watched, at the end: {name}" for name in counted if not is_told(name, trace[max(trace)][name], blocks, last)]
+    return found
+
+
 def converted(text, folder):
     """What GTKWave's converters make of a waveform."""
     (folder / "waves.vcd").write_text(text, "ascii")
@@ -81,6 +113,7 @@ def differences(program, drawing, stimulus, folder, converts):
         found += [] if have == outputs else [f"at {moment}: {have}, and not {outputs}"]
     last, state = waves[max(waves)], read_variables((folder / "state.csv").read_text("ascii"))
     found += [f"at the end: {name} is {last.get(name)}" for name, value in state.items() if last.get(name) != value]
+    found += watched(program, drawing, stimulus, waves, (folder / "state.csv").read_text("ascii"))
     if converts:
         other = read_waves(converted(text, folder))
         found += [f"converted, at {moment}" for moment, values in waves.items() if other.get(moment, values) != values]

@@ -26,7 +26,7 @@ const LABEL: GridFault = GridFault::Grid {
     line: 14,
 };
 
-const LINES: [(ToolFault, &[u8]); 17] = [
+const LINES: [(ToolFault, &[u8]); 18] = [
     (
         ToolFault::Grid(GridFault::Vars(DUPLICATE)),
         b"fault V4 line 7\n",
@@ -68,6 +68,7 @@ const LINES: [(ToolFault, &[u8]); 17] = [
         b"fault X5 row 1000002\n",
     ),
     (ToolFault::Word { number: 10 }, b"fault X3 word 10\n"),
+    (ToolFault::Watched { number: 10 }, b"fault X3 watch 10\n"),
     (ToolFault::Write, b"fault X6\n"),
     (ToolFault::Memory, b"fault X7\n"),
     (ToolFault::Usage, b"fault usage\n"),

@@ -11,7 +11,7 @@ use Rattle.ladder_setting.specs.Setting.{Given, HasProgramFault, HasSettingFault
 use Rattle.ladder_setting.specs.Reports.{IsReported, Logs, Refuses}
 use Rattle.ladder_carry.specs.Carrying.{BreaksCarrying, Carries}
 use Rattle.ladder_lists.specs.Lists.{BreaksGroups, BreaksHeldBy, BreaksList, BreaksNeverBy, BreaksPossibleBy, BreaksRelevant, CountsGroups, CountsHeldBy, CountsList, CountsNeverBy, CountsPossibleBy, CountsRelevant, HasHeldFaultBy, HasListFault, HasNeverFault, HasPossibleFaultBy, HasRelevantFault, after_for, scans_of}
-use Rattle.ladder_views.specs.Views.{BreaksFilm, BreaksTrace, BreaksWaves, HasFilmFault, HasShowFault, IsFilmed, IsTraced, IsWaved, Prints, Shows, check_text}
+use Rattle.ladder_views.specs.Views.{BreaksFilm, BreaksTrace, BreaksWatch, BreaksWaves, HasFilmFault, HasShowFault, HasWatchFault, IsFilmed, IsTraced, IsWatched, IsWaved, Prints, Shows, check_text}
 
 -- Status 0. Only a simulation writes on `save`, and only a list on `err`.
 abbrev pub IsDone : Request → Given → Logs → Logs → Type 0
@@ -25,6 +25,7 @@ IsDone (request.Relevant list after grouping) g old new = CountsRelevant g list 
 IsDone (Show r) g old new = Shows g r (PutsAll old.out new.out) × (new.save ≡ old.save) × (new.err ≡ old.err)
 IsDone (request.Film r) g old new = IsFilmed g r old.out new.out × (new.save ≡ old.save) × (new.err ≡ old.err)
 IsDone (Sim r) g old new = IsTraced g r.every (is_some r.save) old new
+IsDone (request.Watch r) g old new = IsWatched g r old new
 IsDone (request.Waves r) g old new = IsWaved g r.every old.out new.out × (new.save ≡ old.save) × (new.err ≡ old.err)
 IsDone (Uses file) g old new = Prints uses_text g.program (PutsAll old.out new.out) × (new.save ≡ old.save) × (new.err ≡ old.err)
 IsDone (Import file) g old new = Carries g.program (PutsAll old.out new.out) × (new.save ≡ old.save) × (new.err ≡ old.err)
@@ -41,6 +42,7 @@ HasFault (request.Relevant list after grouping) g = HasRelevantFault g list (aft
 HasFault (Show r) g = HasShowFault g r
 HasFault (request.Film r) g = HasFilmFault g r
 HasFault (Sim r) g = HasSettingFault g
+HasFault (request.Watch r) g = HasWatchFault g r
 HasFault (request.Waves r) g = HasSettingFault g
 HasFault (Uses file) g = HasProgramFault g.program
 HasFault (Import file) g = λ f. ⊥
@@ -58,6 +60,7 @@ Breaks (request.Relevant list after grouping) g old new = BreaksRelevant g list 
 Breaks (Show r) g old new = Shows g r (PutsPrefix old.out new.out) × (new.save ≡ old.save) × IsReported g old.err new.err fault.Write
 Breaks (request.Film r) g old new = BreaksFilm g r old new × (new.save ≡ old.save)
 Breaks (Sim r) g old new = BreaksTrace g r.every (is_some r.save) old new
+Breaks (request.Watch r) g old new = BreaksWatch g r old new
 Breaks (request.Waves r) g old new = BreaksWaves g r.every old new × (new.save ≡ old.save)
 Breaks (Uses file) g old new =
     Prints uses_text g.program (PutsPrefix old.out new.out) × (new.save ≡ old.save) × IsReported g old.err new.err fault.Write

@@ -2,7 +2,7 @@
 
 use crate::files::Readers;
 use ladder_text::Reading;
-use ladder_words::Request;
+use ladder_words::{Request, SimRequest};
 use std::fs::File;
 use std::io::Read;
 use std::{fs, io};
@@ -98,10 +98,16 @@ pub(crate) fn readers_of<'a>(
             state: reading_named(rt, &waves.state),
             stimulus: Some(reading(rt, waves.stimulus.as_str())),
         },
-        Request::Sim(sim) => Readers {
-            program: reading(rt, sim.file.as_str()),
-            state: reading_named(rt, &sim.state),
-            stimulus: Some(reading(rt, sim.stimulus.as_str())),
-        },
+        Request::Sim(sim) => trace_readers(rt, sim),
+        Request::Watch(watched) => trace_readers(rt, &watched.sim),
+    }
+}
+
+/// The readers of the files that a trace is made from.
+fn trace_readers<'a>(rt: &'a HostRuntime, sim: &'a SimRequest) -> Readers<Reading<NamedFile<'a>>> {
+    Readers {
+        program: reading(rt, sim.file.as_str()),
+        state: reading_named(rt, &sim.state),
+        stimulus: Some(reading(rt, sim.stimulus.as_str())),
     }
 }

@@ -10,7 +10,7 @@ use ladder_held::Scans;
 use ladder_lists::{list_causes, list_groups, list_held, list_never, list_possible, list_relevant};
 use ladder_setting::Texts;
 use ladder_text::Sink;
-use ladder_views::{About, film, print, show, trace, wave};
+use ladder_views::{About, film, print, show, trace, watch, wave};
 use ladder_words::Request;
 use std::alloc::Global;
 
@@ -57,6 +57,7 @@ pub fn perform<O: Sink, S: Sink, E: Sink>(
         } => list_relevant(alloc, list, *after, *grouping, texts, out, err),
         Request::Show(scan) => show(alloc, scan, texts, out, err),
         Request::Film(stimulus) => film(alloc, stimulus, texts, out, err),
+        Request::Watch(watched) => watch(alloc, watched, texts, out, save, err),
         Request::Waves(waves) => wave(alloc, texts, waves.every, out, err),
         Request::Import { .. } => carry(alloc, texts.why, &texts.program, out, err),
         Request::Sim(sim) => { trace(alloc, texts, sim.every, sim.save.is_some(), out, save, err) }

@@ -168,10 +168,8 @@ fn end_saving(rt: &HostRuntime, saved: &SavedFile<'_>, status: u8) -> u8
 /// The file that a state is to be saved to, and the simulation.
 fn saving_of(request: &Request) -> Option<(&str, &SimRequest)> {
     match request {
-        Request::Sim(sim) => match &sim.save {
-            Some(path) => Some((path.as_str(), sim)),
-            None => None,
-        },
+        Request::Sim(sim) => saving_in(sim),
+        Request::Watch(watched) => saving_in(&watched.sim),
         Request::Check { .. }
         | Request::Causes { .. }
         | Request::Held { .. }
@@ -184,6 +182,13 @@ fn saving_of(request: &Request) -> Option<(&str, &SimRequest)> {
         | Request::Waves(_)
         | Request::Uses { .. }
         | Request::Import { .. } => None,
+    }
+}
+
+fn saving_in(sim: &SimRequest) -> Option<(&str, &SimRequest)> {
+    match &sim.save {
+        Some(path) => Some((path.as_str(), sim)),
+        None => None,
     }
 }
 
