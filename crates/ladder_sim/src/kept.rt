@@ -149,23 +149,35 @@ impl Kept {
         100 <= self.hundreds && 6 <= listed && DIGITS + 2 * listed + 1 - self.start <= LONGEST
     }
 
-    /// Writes the row of a number near the kept one over the first bytes of a text: `front` are the first bytes of the kept row.
+    /// Writes the row of a number near the kept one over the first bytes of a text: the number is so many places behind the first of
+    /// its run, and `front` are the first bytes of the kept row.
     ///
     /// The copy is patched and never the kept row: a byte that was just written is slow to read again among its neighbours, and each
     /// row would wait for the one before it.
     #[inline(always)]
-    fn write_near(&self, text: &mut [u8], front: Simd<u8, COPIED>, listed: usize, number: u64)
+    fn write_near(
+        &self,
+        text: &mut [u8],
+        front: Simd<u8, COPIED>,
+        listed: usize,
+        first: u64,
+        place: usize,
+    )
         requires few { listed ≤ 64 }
         requires room { length text.old ≡ 80 }
+        requires place { place < 64 }
+        requires range { first < 2 ^ 64 - 64 }
+        requires first { IsNear self.now first }
         requires kept { IsKept listed self.now }
         requires serves { Serves listed self.now }
-        requires near { IsNear self.now number }
+        requires near { IsNear self.now (first + place) }
         requires front { front ≡ take 64 (drop self.now.start self.now.text) }
-        ensures { take (DIGITS + 2 * listed + 1 - self.now.start) text.new ≡ row listed number }
+        ensures { take (DIGITS + 2 * listed + 1 - self.now.start) text.new ≡ row listed (first + place) }
     {
         let long = DIGITS + 2 * listed + 1 - self.start;
-        let pair = 2 * (number - self.hundreds) as usize;
-        let tail = 16 * (number - self.sixties) as usize;
+        // as small numbers, so that these two differences are made once for a run
+        let pair = 2 * ((first - self.hundreds) as u8 as usize + place);
+        let tail = 16 * ((first - self.sixties) as u8 as usize + place);
         store(text, 0, front);
         store(text, 18 - self.start, load::<2>(&self.pairs, pair));
 
@@ -179,6 +191,7 @@ impl Kept {
         requires room { length text.old ≡ RUN }
         requires kept { IsKept listed self.now }
         requires serves { Serves listed self.now }
+        requires first { IsNear self.now run.number }
         requires near { (j : ℕ) → bit_at run.mask j ≡ 1 → IsNear self.now (run.number + j) }
         requires range { run.number < 2 ^ 64 - 64 }
         ensures short { result ≤ RUN }
@@ -189,8 +202,14 @@ impl Kept {
         let mut left = run.mask;
         let mut used = 0;
         while left != 0 {
-            let number = run.number + u64::from(left.trailing_zeros());
-            self.write_near(&mut text[used..used + MADE], front, listed, number);
+            let place = left.trailing_zeros() as usize;
+            self.write_near(
+                &mut text[used..used + MADE],
+                front,
+                listed,
+                run.number,
+                place,
+            );
             used += long;
             left &= left - 1;
         }

@@ -98,6 +98,7 @@ impl RowBuffer {
         requires room { length self.old ≤ FULL }
         requires kept { IsKept listed kept.now }
         requires serves { Serves listed kept.now }
+        requires first { IsNear kept.now run.number }
         requires near { (j : ℕ) → bit_at run.mask j ≡ 1 → IsNear kept.now (run.number + j) }
         requires range { run.number < 2 ^ 64 - 64 }
         ensures { self.new ≡ self.old ++ rows listed (marked run.number run.mask) }

@@ -1,4 +1,5 @@
-use Rattle.std.proofs.Common.{◌≡◌, ◌∙◌, ◌+◌, ◌-◌, ◌*◌, ◌<◌, ◌≤◌, ◌^◌, ◌++◌, append-nil, ap, arith, bit_and, length, rules, sym, take}
+use Rattle.std.proofs.Common.{◌≡◌, ◌∙◌, ◌+◌, ◌-◌, ◌*◌, ◌<◌, ◌≤◌, ◌^◌, ◌++◌, append-nil, ap, arith, bit_and, length, refl, rules, sym, take}
+use Rattle.std.specs.Int.{trailing_zeros, w64}
 use Rattle.ladder_search.proofs.Marks.{none_marked}
 use Rattle.ladder_search.specs.Marked.{marked}
 use Rattle.ladder_sim.specs.Rows.{row, rows}
@@ -9,8 +10,9 @@ pub write_near-requires-clause-near : goal.write_near-requires-clause-near
 write_near-requires-clause-near c =
     let left = c.loop-left.left in
     let fits : left < 2 ^ 64 = search rules in
-    let l = lowest_of c.args.run.number left c.from.result (omega (arith, c.loop-left-test.true)) fits c.from.ensures in
-    c.requires.near c.from.result (c.loop-left.invariant.within c.from.result l.one)
+    let t = trailing_zeros w64 left in
+    let l = lowest_of c.args.run.number left t (omega (arith, c.loop-left-test.true)) fits refl in
+    c.requires.near t (c.loop-left.invariant.within t l.one)
 
 pub loop-left-preserved : goal.loop-left-preserved
 loop-left-preserved c =
@@ -18,10 +20,10 @@ loop-left-preserved c =
     let used = c.loop-left.used in
     let k = c.args.listed in
     let number = c.args.run.number in
-    let t = c.from.result in
+    let t = trailing_zeros w64 left in
     let long = 20 + 2 * k + 1 - c.args.self.now.start in
     let fits : left < 2 ^ 64 = search rules in
-    let l = lowest_of number left t (omega (arith, c.loop-left-test.true)) fits c.from.ensures in
+    let l = lowest_of number left t (omega (arith, c.loop-left-test.true)) fits refl in
     let so_far = c.loop-left.invariant in
     let here = so_far.low t l.one in
     let short : long ≤ 77 = omega (arith, c.requires.serves.short, c.requires.kept.begins) in
