@@ -130,7 +130,8 @@ def held(program, runs):
 
 
 # from any state, with all inputs of the stations: coil, rows, and how many of them aren't settled
-POSSIBLE = [("Safe", 65_536, 0), ("Feed", 166_144, 0), ("X4", 173_752, 0), ("Run2", 1_021_952, 0), ("Horn", 1_048_576, 0)]
+POSSIBLE = [("Safe", 65_536, 0), ("Ready", 60_864, 0), ("Feed", 166_144, 0), ("X4", 173_752, 0), ("X3", 208_020, 0), ("X0", 409_600, 0),
+            ("Run2", 1_021_952, 0), ("Horn", 1_048_576, 0)]
 
 
 def coils(program, circuit):
