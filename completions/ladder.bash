@@ -7,7 +7,7 @@ _ladder_coils() {
 
 # All variables and instances of the program.
 _ladder_names() {
-    ladder uses "$1" 2> /dev/null | awk -F, '!seen[$1]++ { print $1 }'
+    ladder uses "$1" 2> /dev/null | awk -F, 'NR > 1 && !seen[$1]++ { print $1 }'
 }
 
 # The inputs that the program declares, where each declaration has its line.

@@ -36,7 +36,7 @@ end
 # All variables and instances of the program.
 function __ladder_names
     set -l places (__ladder_places)
-    ladder uses $places[2] 2> /dev/null | awk -F, '!seen[$1]++ { print $1 }'
+    ladder uses $places[2] 2> /dev/null | awk -F, 'NR > 1 && !seen[$1]++ { print $1 }'
 end
 
 # The inputs that the program declares, where each declaration has its line.
