@@ -282,7 +282,7 @@ def with_less_memory(program, words):
     refused = 0
     with tempfile.TemporaryDirectory() as folder:
         whole = starved(program, words, folder, 1 << 20)
-        for size in range(1024, 1 << 16, 4):
+        for size in range(2048, 1 << 16, 4):
             (pathlib.Path(folder) / "saved.csv").unlink(missing_ok=True)
             out, err, status, saved = starved(program, words, folder, size)
             if status == 127:
