@@ -37,9 +37,9 @@ stress: bin/ladder
 	python3 tests/stress.py bin/ladder
 	python3 tests/wrong_bodies.py bin/ladder
 
-# The mutants that the gate leaves out, since another one, a law or a clause carries what they turn; an hour and more.
+# The mutants that the gate leaves out, of all crates (hours) or of those that are named: make mutants CRATES="ladder_sim ladder_words".
 mutants: bin/ladder
-	python3 tests/mutants.py
+	python3 tests/mutants.py $(CRATES)
 
 # Pages of HTML in a real browser, in light and dark; passed over where there is none.
 browser: bin/ladder

@@ -1,9 +1,9 @@
 #!/usr/bin/env python3
 """Tries the mutants that the gate leaves out: mutants.py [--where] [CRATE]...
 
-The gate has the ten or so of a crate that tell most (crates/*/must-fail); those of tests/mutants turn what another mutant, a law or
-a clause of a public call carries too. Each must be refused as well. Needs the toolchain; half a minute each over a crate that
-`rt check` has proved, and all crates where none is named. With `--where` only that the text that each turns stands in its file once.
+The gate has those of the calls that the definitions speak of (crates/*/must-fail); those of tests/mutants turn what another mutant,
+or a crate above, carries too. Each must be refused as well. Needs the toolchain; half a minute each over a crate that `rt check`
+has proved, and all crates where none is named. With `--where` only that the text that each turns stands in its file once.
 """
 import pathlib
 import shutil
