@@ -1,7 +1,8 @@
 #!/usr/bin/env python3
 """Times the built program on the circuits beside this file: bench.py PROGRAM [RUNS].
 
-Each time is the least of several runs, of the whole process, with the rows on /dev/null.
+Each time is the least of several runs, of the whole process, with the rows on /dev/null. Where valgrind is installed, instructions are
+counted too: those of a run less those of the same run with `--limit 0`, which makes no look.
 Counts and texts that aren't those that must come out are said loudly, and the status is then 1; no time fails anything.
 """
 import collections
@@ -9,6 +10,8 @@ import itertools
 import os
 import pathlib
 import random
+import re
+import shutil
 import subprocess
 import sys
 import tempfile
@@ -101,6 +104,31 @@ def grouped(program, runs):
         print(f"{case.name:26}{seconds * 1e3:10.2f}{rows or 0:12}{causes or 0:10}{full * 1e3:12.2f}")
         if (rows, causes) != (case.groups, case.rows):
             wrong(f"{case.name}: {said.strip()!r}, and rows {case.groups} causes {case.rows} must come out")
+
+
+def counted(command):
+    """The instructions of one run; callgrind makes it some fifty times slower."""
+    words = ["valgrind", "--tool=callgrind", "--callgrind-out-file=/dev/null", *command]
+    done = subprocess.run(words, stdin=subprocess.DEVNULL, stdout=subprocess.DEVNULL, stderr=subprocess.PIPE, check=True)
+    return int(re.search(r"Collected : (\d+)", done.stderr.decode())[1])
+
+
+def instructions(program):
+    """What the lists take in full and in groups, but for those that take long."""
+    if not shutil.which("valgrind"):
+        print("instructions are not counted: valgrind isn't installed")
+        return
+    print(f"{'millions of instructions':26}{'full':>10}{'a look':>12}{'a row':>12}{'in groups':>12}{'a row':>12}")
+    for case in CASES:
+        if run(causes_of(program, case, "--grouped"))[0] > 0.3:
+            continue
+        start = counted(causes_of(program, case, "--limit", "0"))
+        full, groups = (counted(causes_of(program, case, *options)) - start for options in ([], ["--grouped"]))
+        print(f"{case.name:26}{full / 1e6:10.2f}{full / case.looks:12,.0f}{per(full, case.rows)}{groups / 1e6:12.2f}{per(groups, case.groups)}")
+
+
+def per(number, rows):
+    return f"{number / rows:12,.0f}" if rows else f"{'-':>12}"
 
 
 # over several scans: circuit, coil, listed inputs, scans, the time between them, options, and the rows that must come out
@@ -265,6 +293,7 @@ def main():
         seconds, _, said = least(causes_of(program, case), runs)
         report(case.name, seconds, said, (case.rows, case.looks))
     grouped(program, runs)
+    instructions(program)
     held(program, runs)
     possible(program, runs)
     for name, text in TEXTS:
