@@ -1,5 +1,6 @@
 pub mod Finding
 pub mod Numbers
+pub mod Parting
 pub mod Pruning
 pub mod Telling
 pub mod Knowledge

@@ -7,5 +7,6 @@ pub mod Knowing
 pub mod Likening
 pub mod LookLaws
 pub mod Order
+pub mod Parts
 pub mod Prefixes
 pub mod Sifting
