@@ -22,14 +22,14 @@ _ladder_codes() {
 
 _ladder() {
     local word=${COMP_WORDS[COMP_CWORD]} before=${COMP_WORDS[COMP_CWORD - 1]} subcommand=${COMP_WORDS[1]}
-    local options file='' coil='' place=0 number
+    local options file='' coil='' every='' place=0 number
     COMPREPLY=()
     if ((COMP_CWORD == 1)); then
         mapfile -t COMPREPLY < <(compgen -W 'check causes show sim uses never import explain help --help' -- "$word")
         return
     fi
     case $subcommand in
-        causes) options='--state --at --after --limit --scans --for --every --grouped --terms --st --order --any --off --must --relevant --all-inputs --quiet --why --help' ;;
+        causes) options='--state --at --after --limit --scans --for --every --grouped --terms --st --order --any --off --must --relevant --all-inputs --all-coils --quiet --why --help' ;;
         show) options='--state --at --number --html --stimulus --coil --all-inputs --why --help' ;;
         sim) options='--state --save --every --watch --watch-all --vcd --why --help' ;;
         check) options='--warn --why --help' ;;
@@ -44,6 +44,10 @@ _ladder() {
     # What stands at the places of the line before this word.
     for ((number = 2; number < COMP_CWORD; number++)); do
         case ${COMP_WORDS[number]} in
+            --all-coils)
+                ((number++))
+                every=1
+                ;;
             --state | --at | --after | --limit | --scans | --for | --every | --order | --number | --stimulus | --coil | --save | --watch) ((number++)) ;;
             -*) ;;
             *)
@@ -56,6 +60,7 @@ _ladder() {
     case $before in
         --state | --save | --stimulus) mapfile -t COMPREPLY < <(compgen -f -- "$word") ;;
         --at | --after | --limit | --scans | --for | --every | --number) ;;
+        --all-coils) mapfile -t COMPREPLY < <(compgen -d -- "$word") ;;
         --order) mapfile -t COMPREPLY < <(compgen -W 'auto given' -- "$word") ;;
         --coil) mapfile -t COMPREPLY < <(compgen -W "$(_ladder_coils "$file")" -- "$word") ;;
         --watch) mapfile -t COMPREPLY < <(compgen -W "$(_ladder_names "$file")" -- "$word") ;;
@@ -66,7 +71,7 @@ _ladder() {
                 mapfile -t COMPREPLY < <(compgen -W "$(_ladder_codes)" -- "$word")
             elif ((place == 0)) || [[ $subcommand == sim && $place == 1 ]]; then
                 mapfile -t COMPREPLY < <(compgen -f -- "$word")
-            elif [[ $subcommand == causes && -z $coil ]]; then
+            elif [[ $subcommand == causes && -z $coil && -z $every ]]; then
                 mapfile -t COMPREPLY < <(compgen -W "$(_ladder_coils "$file")" -- "$word")
             elif [[ $subcommand == causes || $subcommand == show ]]; then
                 mapfile -t COMPREPLY < <(compgen -W "$(_ladder_inputs "$file")" -- "$word")

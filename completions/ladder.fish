@@ -7,7 +7,7 @@ function __ladder_places
     for word in $words
         if test $due = 1
             set due 0
-        else if contains -- $word --state --at --after --limit --scans --for --every --order --number --stimulus --coil --save --watch
+        else if contains -- $word --state --at --after --limit --scans --for --every --order --number --stimulus --coil --all-coils --save --watch
             set due 1
         else if not string match -q -- '-*' $word
             echo $word
@@ -25,6 +25,11 @@ function __ladder_at
         case '*'
             test (count $places) = $argv[2]
     end
+end
+
+# Whether each coil is meant, so that none is named.
+function __ladder_each
+    contains -- --all-coils (commandline -opc)
 end
 
 # The variables that a coil of the program writes.
@@ -66,6 +71,7 @@ complete -c ladder -n '__ladder_at help 1' -a 'check causes show sim uses never 
 complete -c ladder -n '__ladder_at check,causes,show,sim,uses,never,import more 0' -l why -d 'Faults are explained'
 complete -c ladder -n '__ladder_at check more 0' -l warn -d 'What is most likely not meant'
 complete -c ladder -n '__ladder_at causes,show more 0' -l all-inputs -d 'All inputs, in order of declaration'
+complete -c ladder -n '__ladder_at causes more 0' -l all-coils -x -a '(__fish_complete_directories)' -d 'Each coil, a file for each in this folder'
 complete -c ladder -n '__ladder_at causes,never more 0' -l quiet -d 'No line of counts'
 complete -c ladder -n '__ladder_at never more 0' -l pairs -d 'Pairs that are never both ON'
 complete -c ladder -n '__ladder_at causes,show,sim,never more 0' -l state -r -F -d 'The state to begin in'
@@ -96,6 +102,7 @@ complete -c ladder -n '__ladder_at sim more 0' -l save -r -F -d 'The file that g
 complete -c ladder -n '__ladder_at check,causes,show,sim,uses,never,import 1' -F
 complete -c ladder -n '__ladder_at sim 2' -F
 complete -c ladder -n '__ladder_at explain more 0' -a '(__ladder_codes)'
-complete -c ladder -n '__ladder_at causes 2' -a '(__ladder_coils)'
+complete -c ladder -n '__ladder_at causes 2; and not __ladder_each' -a '(__ladder_coils)'
+complete -c ladder -n '__ladder_at causes 2; and __ladder_each' -a '(__ladder_inputs)'
 complete -c ladder -n '__ladder_at causes more 2' -a '(__ladder_inputs)'
 complete -c ladder -n '__ladder_at show more 1' -a '(__ladder_inputs)'

@@ -6,12 +6,12 @@ Each folder of tests/cases is a case, run in a temporary folder of its own:
     words           the words behind the program's name, one a line
     stdout, stderr  the exact bytes that are expected (absent: none)
     status          the expected status (absent: 0)
-    after           a folder: the files that must be there afterwards, with their exact bytes
+    after           a folder: the files that must be there afterwards, also in folders, with their exact bytes
     absent          the names of files that must not be there afterwards, one a line
     files           lines `NAME FROM`: a copy of a file, named from the root of the repository
     made            lines `NAME GENERATOR [WORDS]`: a text that a generator below makes, several lines of one name one behind the other
 
-Every other file of the folder is copied. PATTERN, as 'causes-*', chooses cases by name.
+Every other file or folder of the folder is copied. PATTERN, as 'causes-*', chooses cases by name.
 """
 import fnmatch
 import os
@@ -80,7 +80,9 @@ def content(path):
 def fill(case, folder):
     """Puts the files of a case into a folder."""
     for path in case.iterdir():
-        if path.name not in NO_INPUT:
+        if path.is_dir() and path.name not in NO_INPUT:
+            shutil.copytree(path, folder / path.name)
+        elif path.name not in NO_INPUT:
             shutil.copy(path, folder)
     for words in lines(case / "files"):
         name, source = words.split()
@@ -123,9 +125,9 @@ def run_case(program, case, folder):
 
 def left(case, folder):
     """A line for each file that should have been left otherwise."""
-    files = sorted((case / "after").iterdir()) if (case / "after").exists() else []
-    found = [f"  {path.name}: want {shown(content(path))}\n  {' ' * len(path.name)}  have {shown(content(folder / path.name))}"
-             for path in files if content(path) != content(folder / path.name)]
+    files = sorted(path.relative_to(case / "after") for path in (case / "after").rglob("*") if path.is_file())
+    found = [f"  {name}: want {shown(content(case / 'after' / name))}\n  {' ' * len(str(name))}  have {shown(content(folder / name))}"
+             for name in files if content(case / "after" / name) != content(folder / name)]
     return found + [f"  {name}: want no such file" for name in lines(case / "absent") if (folder / name).exists()]
 
 

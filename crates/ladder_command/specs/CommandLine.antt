@@ -1,6 +1,7 @@
 -- The command line, as clap's definitions of a simple command read it: `ladder check [--warn] FILE`,
 -- `ladder causes [--state STATE] [--at MS] [--after N] [--limit N] [--scans N] [--every MS] [--grouped] [--terms] [--st] [--order ORDER] [--relevant] [--all-inputs] [--quiet] FILE COIL [INPUT]...`,
 -- `ladder causes --any [--off] [--must] [--limit N] [--all-inputs] [--quiet] FILE COIL [INPUT]...`,
+-- each with `--all-coils FOLDER` in place of COIL,
 -- `ladder show [--state STATE] [--at MS] [--number N] [--stimulus STIMULUS] [--html] [--coil COIL] [--all-inputs] FILE [INPUT]...`,
 -- `ladder sim [--state STATE] [--save STATE] [--every MS] [--watch NAME]... [--watch-all] [--vcd] FILE STIMULUS`, `ladder uses FILE`, `ladder import PROJECT` and `ladder never [--state STATE] [--pairs] [--quiet] FILE`, each with `[--why]`;
 -- and `ladder explain [CODE]...`.
@@ -15,6 +16,10 @@ use Rattle.clap.specs.declared.builder.value_parser.ValueParser.TheVariants.{Uns
 -- a word that must be there
 abbrev pub place_rule : Text → Rule
 place_rule id = record (new_rule id) { required = true; value_names = 1 }
+
+-- a word that may be left out
+abbrev pub free_place_rule : Text → Rule
+free_place_rule id = record (new_rule id) { value_names = 1 }
 
 -- an option with a text
 abbrev pub text_rule : Text → Rule
@@ -57,7 +62,7 @@ abbrev pub causes_app : App
 causes_app = taking (codes "causes") (
     text_rule (codes "state") ∷ number_rule (codes "at") ∷ number_rule (codes "after") ∷ number_rule (codes "limit")
     ∷ number_rule (codes "scans") ∷ number_rule (codes "for") ∷ number_rule (codes "every") ∷ flag_rule (codes "grouped") ∷ flag_rule (codes "terms") ∷ flag_rule (codes "st") ∷ text_rule (codes "order")
-    ∷ flag_rule (codes "any") ∷ flag_rule (codes "off") ∷ flag_rule (codes "must") ∷ flag_rule (codes "relevant") ∷ flag_rule (codes "all-inputs") ∷ flag_rule (codes "quiet") ∷ flag_rule (codes "why") ∷ place_rule (codes "file") ∷ place_rule (codes "coil") ∷ list_rule (codes "inputs") ∷ []
+    ∷ flag_rule (codes "any") ∷ flag_rule (codes "off") ∷ flag_rule (codes "must") ∷ flag_rule (codes "relevant") ∷ flag_rule (codes "all-inputs") ∷ text_rule (codes "all-coils") ∷ flag_rule (codes "quiet") ∷ flag_rule (codes "why") ∷ place_rule (codes "file") ∷ free_place_rule (codes "coil") ∷ list_rule (codes "inputs") ∷ []
     )
 
 abbrev pub show_app : App

@@ -2,7 +2,7 @@
 use Rattle.std.specs.Prelude.{◌∷◌, [], Bool, List, codes, false, map, true}
 use Rattle.clap.specs.Simple.{new_shape}
 use Rattle.clap.specs.Words.{App, Rule, Shape}
-use Rattle.ladder_command.specs.CommandLine.{flag_rule, list_rule, number_rule, place_rule, positive_rule, taking, text_rule, texts_rule}
+use Rattle.ladder_command.specs.CommandLine.{flag_rule, free_place_rule, list_rule, number_rule, place_rule, positive_rule, taking, text_rule, texts_rule}
 use Rattle.ladder_command.specs.declared.command.Subcommand.{Subcommand}
 use Rattle.ladder_command.specs.declared.command.Word.{Word}
 use Rattle.ladder_command.specs.declared.command.Word.TheVariants as word
@@ -10,6 +10,7 @@ use Rattle.ladder_command.specs.declared.command.Word.TheVariants as word
 -- the rule that `clap` is to have of a word: its name alone counts, and not what the help says
 abbrev pub word_rule : Word → Rule
 word_rule (word.Place id value help) = place_rule id.now
+word_rule (word.FreePlace id value help) = free_place_rule id.now
 word_rule (word.Text id value help) = text_rule id.now
 word_rule (word.Number id value help) = number_rule id.now
 word_rule (word.Positive id value help) = positive_rule id.now

@@ -6,13 +6,13 @@ ghost use Rattle.ladder_command.specs.CommandLine.{IsApp, ladder_app, taking};
 ghost use Rattle.ladder_command.specs.Table.{ladder_by, word_rule};
 
 use crate::help::{
-    AFTER_HELP, ALL_HELP, ANY_HELP, AT_HELP, CAUSES_ABOUT, CHECK_ABOUT, CODES_HELP, COIL_HELP,
-    EVERY_HELP, EXPLAIN_ABOUT, EXPLAIN_HELP, FAULTS, FILE_HELP, FILM_HELP, FOR_HELP, GROUPED_HELP,
-    HOLD_HELP, HTML_HELP, IMPORT_ABOUT, INPUTS_HELP, LADDER_ABOUT, LIMIT_HELP, MUST_HELP,
-    NEVER_ABOUT, NUMBER_HELP, OFF_HELP, ORDER_HELP, PAIRS_HELP, PROJECT_HELP, QUIET_HELP,
-    RELEVANT_HELP, SAVE_HELP, SCANS_HELP, SHOW_ABOUT, SHOWN_HELP, SIM_ABOUT, STATE_HELP,
-    STATEMENT_HELP, STIMULUS_HELP, TERMS_HELP, USES_ABOUT, WARN_HELP, WATCH_ALL_HELP, WATCH_HELP,
-    WAVES_HELP, WHY_HELP,
+    AFTER_HELP, ALL_COILS_HELP, ALL_HELP, ANY_HELP, AT_HELP, CAUSES_ABOUT, CHECK_ABOUT, CODES_HELP,
+    COIL_HELP, EVERY_HELP, EXPLAIN_ABOUT, EXPLAIN_HELP, FAULTS, FILE_HELP, FILM_HELP, FOR_HELP,
+    GROUPED_HELP, HOLD_HELP, HTML_HELP, IMPORT_ABOUT, INPUTS_HELP, LADDER_ABOUT, LIMIT_HELP,
+    MUST_HELP, NEVER_ABOUT, NUMBER_HELP, OFF_HELP, ORDER_HELP, PAIRS_HELP, PROJECT_HELP,
+    QUIET_HELP, RELEVANT_HELP, SAVE_HELP, SCANS_HELP, SHOW_ABOUT, SHOWN_HELP, SIM_ABOUT,
+    STATE_HELP, STATEMENT_HELP, STIMULUS_HELP, TERMS_HELP, USES_ABOUT, WARN_HELP, WATCH_ALL_HELP,
+    WATCH_HELP, WAVES_HELP, WHY_HELP,
 };
 use clap::{Arg, ArgAction, Command, value_parser};
 use std::alloc::{AllocError, Global};
@@ -21,6 +21,8 @@ use std::alloc::{AllocError, Global};
 enum Word {
     /// It must be there, and is known by its place.
     Place(&'static str, &'static str, &'static str),
+    /// It may be left out, and is known by its place.
+    FreePlace(&'static str, &'static str, &'static str),
     /// An option with a text.
     Text(&'static str, &'static str, &'static str),
     /// An option with a number.
@@ -78,10 +80,11 @@ const CAUSES: &[Word] = &[
     Word::Flag("must", MUST_HELP),
     Word::Flag("relevant", RELEVANT_HELP),
     Word::Flag("all-inputs", ALL_HELP),
+    Word::Text("all-coils", "FOLDER", ALL_COILS_HELP),
     Word::Flag("quiet", QUIET_HELP),
     Word::Flag("why", EXPLAIN_HELP),
     Word::Place("file", "FILE", FILE_HELP),
-    Word::Place("coil", "COIL", COIL_HELP),
+    Word::FreePlace("coil", "COIL", COIL_HELP),
     Word::List("inputs", "INPUT", INPUTS_HELP),
 ];
 
@@ -170,6 +173,7 @@ fn arg_of<'a>(alloc: Global, word: &'a Word) -> Arg<'a>
             .required(true)
             .value_name(value)
             .help(help),
+        Word::FreePlace(id, value, help) => Arg::new(alloc, id).value_name(value).help(help),
         Word::Text(id, value, help) => Arg::new(alloc, id).long(id).value_name(value).help(help),
         Word::Number(id, value, help) => Arg::new(alloc, id)
             .long(id)

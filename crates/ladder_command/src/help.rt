@@ -52,6 +52,9 @@ pub(crate) const EXPLAIN_HELP: &str =
 
 pub(crate) const ALL_HELP: &str = "Lists all inputs, in order of declaration; not with an INPUT";
 
+pub(crate) const ALL_COILS_HELP: &str =
+    "Lists each coil of the program, in a file of its own: FOLDER/NAME.csv, .txt with --terms, .st with --st; COIL is then left out";
+
 pub(crate) const PAIRS_HELP: &str =
     "Lists pairs of variables and outputs of blocks of which never both are ON, in place of what can never come ON itself";
 
@@ -65,7 +68,8 @@ pub(crate) const FILE_HELP: &str = "The program: declarations and rungs; at most
 pub(crate) const PROJECT_HELP: &str =
     "The ClassicLadder project, a .clp file; at most 1048576 bytes";
 
-pub(crate) const COIL_HELP: &str = "The variable of a coil, in any letter case";
+pub(crate) const COIL_HELP: &str =
+    "The variable of a coil, in any letter case; left out with --all-coils alone";
 
 pub(crate) const INPUTS_HELP: &str =
     "Inputs to list, at most 32; the others keep what the state stores";

@@ -140,7 +140,7 @@ rungs 1 variables 4 instances 0
 pub(crate) const X6: &str = "\
 X6: a write failed
 
-Standard output or the file of `--save` can't be written: the disk is full, a pipe is closed, a folder isn't there. What was written before is a prefix of the right text. A list goes on after its last whole row with `--after`. A state is written to a new file, named as that of `--save` with `.ladder-new` behind it, which takes its place at the end; so where writing it fails, the file has the state that it had.
+Standard output or the file of `--save` can't be written, or the folder of `--all-coils` or a file in it: the disk is full, a pipe is closed, a folder isn't there. What was written before is a prefix of the right text. A list goes on after its last whole row with `--after`. A state is written to a new file, named as that of `--save` with `.ladder-new` behind it, which takes its place at the end; so where writing it fails, the file has the state that it had.
 
 ```console
 $ ladder causes motor.ld Motor Start Stop > /dev/full

@@ -67,7 +67,7 @@ fn read_named<R: Source>(
 }
 
 /// Reads the texts of a request, up to the first that can't be read: the program, then the state, then the stimulus.
-fn read_texts<R: Source>(
+pub(crate) fn read_texts<R: Source>(
     alloc: Global,
     why: bool,
     readers: &mut Readers<R>,

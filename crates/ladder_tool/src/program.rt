@@ -3,12 +3,13 @@
 ghost use Rattle.std.specs.Prelude.{◌≤◌};
 
 use crate::files::perform_files;
+use crate::folder::run_coils;
 use crate::opening::readers_of;
 use crate::saving::{SavedFile, followed};
 use ladder_pages::{codes, page_of};
 use ladder_setting::{ToolFault, write_fault};
 use ladder_text::{Sink, WriteFault, Writing, put};
-use ladder_words::{CommandLine, Request, SimRequest, Task, WordFault, read_words};
+use ladder_words::{AllCoils, CommandLine, Request, SimRequest, Task, WordFault, read_words};
 use std::alloc::{AllocError, Global};
 use std::fs::File;
 use std::io::Write;
@@ -16,7 +17,7 @@ use std::{fs, io};
 
 /// What is said of words that `clap` takes and that ask for nothing.
 const CLASH: &str =
-    "usage: options that exclude one another, or an INPUT beside --all-inputs or --relevant, or no such order or code; \
+    "usage: no COIL and no --all-coils, options that exclude one another, an INPUT beside --all-inputs or --relevant, or no such order or code; \
     `ladder help` with the name of the subcommand says which there are\n";
 
 /// Reads the arguments and the files that they name, and performs the request over the standard streams. Returns
@@ -28,6 +29,7 @@ pub fn run(rt: &HostRuntime, alloc: Global, words: Vec<String>) -> u8
     let why = words.iter().any(|word| word.as_str() == "--why");
     match read_words(alloc, words) {
         Ok(Task::Perform(line)) => run_line(rt, alloc, &line),
+        Ok(Task::PerformAll(mut all)) => run_all(rt, alloc, &mut all),
         Ok(Task::Explain(names)) => explain(rt, &names),
         Err(fault) => refuse(rt, why, &fault),
     }
@@ -102,6 +104,15 @@ fn run_line(rt: &HostRuntime, alloc: Global, line: &CommandLine) -> u8
         Some((path, sim)) => run_saving(rt, alloc, line, sim, path),
         None => run_with(rt, alloc, line, &mut Writing::new(io::sink())),
     }
+}
+
+/// Performs a request for each coil of its program, over its files, a folder and standard error.
+fn run_all(rt: &HostRuntime, alloc: Global, all: &mut AllCoils) -> u8
+    ensures { result ≤ 2 }
+{
+    // As for one request.
+    let _places = (no_file(rt), no_file(rt), no_file(rt));
+    run_coils(rt, alloc, all)
 }
 
 /// Performs a simulation whose state is saved. A file that the request reads but for the state, or standard output, is no place for it.

@@ -1,9 +1,9 @@
 -- Why the arguments ask for no request.
-use Rattle.std.proofs.Common.{◌≡◌, ◌∙◌, ℕ, Bool, true, false, List, [], ◌∷◌, Option, None, Some, ap, arith, bytes_eq, codes, find, map, string_bytes, String, Global, ◌&&◌, get_or, inl, inr, option_and_then, option_map, refl, slice_get, subst, sym, unwrap_or}
+use Rattle.std.proofs.Common.{◌≡◌, ◌∙◌, ◌++◌, ℕ, Bool, true, false, List, [], ◌∷◌, Option, None, Some, ap, ap₂, arith, bytes_eq, codes, find, map, string_bytes, String, Global, ◌&&◌, get_or, inl, inr, is_some, option_and_then, option_map, refl, slice_get, subst, sym, unwrap_or}
 use Rattle.std.specs.List.{list_all}
 use Rattle.clap.specs.Words.{Row, Text, all_of, first_of}
 use Rattle.ladder_pages.specs.Pages.{is_fault_code}
-use Rattle.ladder_words.specs.Asking.{Asks, AsksNone, HasEvery, HasNoTask, HasFlag, HasForm, HasInputs, HasLasting, HasNumber, HasOption, HasScans, HasSwitch, HasWatched, HasOrder, IsNamed, IsOfOneState, IsSingle, IsTable, MayGroup, MayHaveLimit, NamesList, NamesTrace}
+use Rattle.ladder_words.specs.Asking.{Asks, AsksNone, HasCoil, HasEvery, HasNoTask, HasFlag, HasForm, HasInputs, HasLasting, HasNumber, HasOption, HasScans, HasSwitch, HasWatched, HasOrder, IsNamed, IsOfOneState, IsSingle, IsTable, MayGroup, MayHaveLimit, NamesList, NamesTrace, input_texts, inputs_for}
 use Rattle.ladder_words.specs.Parts.{HasGrouping, IsOfAnyState, IsOfOneScan, IsOfRecords, IsWhole, MayLast, NamesNoStates, NamesScan, Plays}
 use Rattle.ladder_words.specs.Faults.{UsageWhere}
 use Rattle.ladder_words.specs.declared.request.Form.{Form}
@@ -26,7 +26,7 @@ use Rattle.ladder_words.specs.declared.words.Lasting.TheVariants.{Count, Until}
 use Rattle.ladder_words.specs.declared.request.Request.TheVariants.{Causes, Check, Film, Groups, Held, Import, Never, Possible, Relevant, Show, Sim, Uses, Watch, Waves}
 use Rattle.ladder_words.specs.declared.request.WordFault.{WordFault}
 use Rattle.ladder_words.specs.declared.request.WordFault.TheVariants.{Help, Memory, Mistake, Usage}
-use Rattle.ladder_words.specs.declared.request.Task.TheVariants.{Explain, Perform}
+use Rattle.ladder_words.specs.declared.request.Task.TheVariants.{Explain, Perform, PerformAll}
 
 pub usage_weaker : {P Q : Type 0} (e : WordFault) → (P → Q) → UsageWhere P e → UsageWhere Q e
 usage_weaker Usage f p = f p
@@ -75,14 +75,16 @@ all_codes_of (name ∷ names) = ap (λ b. is_fault_code (string_bytes name) && b
 -- A name is no code.
 pub no_pages : (rows : List Row) (names : List (String Global)) → unwrap_or (all_of (codes "codes") rows) [] ≡ map string_bytes names → all_codes names ≡ false
     → HasNoTask (codes "explain") rows
-no_pages rows names given none (Perform line) h = explains_alone rows line.request h.0
+no_pages rows names given none (Perform line) h = explains_alone rows line.request h.0.0
+no_pages rows names given none (PerformAll all) h = explains_alone rows all.line.request h.0.0
 no_pages rows names given none (Explain other) h =
     let same = all_codes_of names ∙ ap (λ texts. list_all is_fault_code texts) (sym given ∙ h.1.0) ∙ sym (all_codes_of other.items) in
     let bad = sym none ∙ same ∙ h.1.1 in
     cc
 
 pub no_line : (name : Text) (rows : List Row) → (name ≡ codes "explain" → ⊥) → AsksNone name rows → HasNoTask name rows
-no_line name rows differs none (Perform line) h = none line.request h.0
+no_line name rows differs none (Perform line) h = none line.request h.0.0
+no_line name rows differs none (PerformAll all) h = none all.line.request h.0.0
 no_line name rows differs none (Explain other) h = differs h.0
 
 -- A subcommand asks for the requests of its name alone.
@@ -421,8 +423,13 @@ no_lasting_of_both rows n time some until (Some (Until m)) h = let none = h.0 in
 pub no_list_of_limit : (rows : List Row) → ((o : Option ℕ) → HasNumber (codes "limit") rows o → ⊥) → (l : ListRequest) → NamesList rows l → ⊥
 no_list_of_limit rows none l h = none l.limit h.2
 
-pub no_list_of_coil : (rows : List Row) → first_of (codes "coil") rows ≡ None → (l : ListRequest) → NamesList rows l → ⊥
-no_list_of_coil rows none l h = let some = h.5 in cc
+pub no_list_of_coil : (rows : List Row) → ((name : Text) → HasCoil rows name → ⊥) → (l : ListRequest) → NamesList rows l → ⊥
+no_list_of_coil rows none l h = none (string_bytes l.coil) h.5
+
+-- One coil is meant, and none is named.
+pub no_coil : (rows : List Row) → HasOption (codes "all-coils") rows None → first_of (codes "coil") rows ≡ None → (name : Text) → HasCoil rows name → ⊥
+no_coil rows one none name (inl h) = let some = h.1 in cc
+no_coil rows one none name (inr h) = h.0 one
 
 pub no_list_of_scan : (rows : List Row) → ((s : NamedScan) → NamesScan rows s → ⊥) → (l : ListRequest) → NamesList rows l → ⊥
 no_list_of_scan rows none l h =
@@ -510,17 +517,59 @@ one_switch id rows true false h k = absurd (k h)
 one_switch id rows false true h k = absurd (h k)
 one_switch id rows false false h k = refl
 
+-- The names of the inputs, where one coil is meant and where each is.
+pub inputs_of_one : (rows : List Row) → first_of (codes "all-coils") rows ≡ None → input_texts rows ≡ unwrap_or (all_of (codes "inputs") rows) []
+inputs_of_one rows one = ap (λ (o : Option Text). inputs_for (is_some o) rows) one
+
+pub inputs_of_all : (rows : List Row) → (first_of (codes "all-coils") rows ≡ None → ⊥)
+    → input_texts rows ≡ unwrap_or (all_of (codes "coil") rows) [] ++ unwrap_or (all_of (codes "inputs") rows) []
+inputs_of_all rows each = go (first_of (codes "all-coils") rows) each
+  where
+    go : (o : Option Text) → (o ≡ None → ⊥) → inputs_for (is_some o) rows ≡ unwrap_or (all_of (codes "coil") rows) [] ++ unwrap_or (all_of (codes "inputs") rows) []
+    go None some = absurd (some refl)
+    go (Some folder) some = refl
+
+no_left : (xs ys : List Text) → xs ++ ys ≡ [] → xs ≡ []
+no_left [] ys none = refl
+no_left (x ∷ xs) ys none = cc
+
+no_right : (xs ys : List Text) → xs ++ ys ≡ [] → ys ≡ []
+no_right [] ys none = none
+no_right (x ∷ xs) ys none = cc
+
+-- No input is named.
+pub none_named : (rows : List Row) → first_of (codes "inputs") rows ≡ None → first_of (codes "all-coils") rows ≡ None → input_texts rows ≡ []
+none_named rows none one = inputs_of_one rows one ∙ no_values (codes "inputs") rows none
+
+pub none_named_first : (rows : List Row) → first_of (codes "inputs") rows ≡ None → first_of (codes "coil") rows ≡ None → input_texts rows ≡ []
+none_named_first rows none first = go (is_some (first_of (codes "all-coils") rows))
+  where
+    go : (b : Bool) → inputs_for b rows ≡ []
+    go true = ap₂ (λ (xs ys : List Text). xs ++ ys) (no_values (codes "coil") rows first) (no_values (codes "inputs") rows none)
+    go false = no_values (codes "inputs") rows none
+
+-- An input is named.
+pub some_named : (rows : List Row) → (first_of (codes "inputs") rows ≡ None → ⊥) → input_texts rows ≡ [] → ⊥
+some_named rows some = go (is_some (first_of (codes "all-coils") rows))
+  where
+    go : (b : Bool) → inputs_for b rows ≡ [] → ⊥
+    go true none = some (no_value (codes "inputs") rows (no_right _ _ none))
+    go false none = some (no_value (codes "inputs") rows none)
+
+pub some_named_first : (rows : List Row) → (first_of (codes "all-coils") rows ≡ None → ⊥) → (first_of (codes "coil") rows ≡ None → ⊥) → input_texts rows ≡ [] → ⊥
+some_named_first rows each some none = some (no_value (codes "coil") rows (no_left _ _ (sym (inputs_of_all rows each) ∙ none)))
+
 -- No inputs are listed.
-pub lists_none : (rows : List Row) (all : Bool) → HasSwitch (codes "all-inputs") rows all → all ≡ false → first_of (codes "inputs") rows ≡ None → HasInputs rows false []
+pub lists_none : (rows : List Row) (all : Bool) → HasSwitch (codes "all-inputs") rows all → all ≡ false → input_texts rows ≡ [] → HasInputs rows false []
 lists_none rows true flag named none = cc
-lists_none rows false flag named none = record { flag = flag; named = no_values (codes "inputs") rows none; either = λ (same : false ≡ true). refl }
+lists_none rows false flag named none = record { flag = flag; named = none; either = λ (same : false ≡ true). refl }
 
 pub lists_all : (rows : List Row) (all : Bool) → HasSwitch (codes "all-inputs") rows all → all ≡ true → HasInputs rows false [] → ⊥
 lists_all rows true flag set h = h.flag flag
 lists_all rows false flag set h = cc
 
 -- All inputs, and names besides, are listed by no request.
-pub no_inputs : (rows : List Row) (names : List Text) → HasSwitch (codes "all-inputs") rows true → unwrap_or (all_of (codes "inputs") rows) [] ≡ names
+pub no_inputs : (rows : List Row) (names : List Text) → HasSwitch (codes "all-inputs") rows true → input_texts rows ≡ names
     → (names ≡ [] → ⊥) → (all : Bool) (other : List Text) → HasInputs rows all other → ⊥
 no_inputs rows names flag named some all other h =
     let same = one_switch (codes "all-inputs") rows true all flag h.flag in

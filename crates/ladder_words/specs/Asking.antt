@@ -1,5 +1,5 @@
 -- What the arguments ask for, by the subcommand and the values of its arguments.
-use Rattle.std.specs.Prelude.{◌≡◌, ◌⊎◌, ◌<◌, ◌+◌, ◌-◌, ◌/◌, ◌^◌, ⊤, ℕ, zero, suc, min, Bool, true, false, List, Option, None, Some, map, codes, string_bytes, unwrap_or, option_map, [], String}
+use Rattle.std.specs.Prelude.{◌≡◌, ◌⊎◌, ◌<◌, ◌+◌, ◌++◌, ◌-◌, ◌/◌, ◌^◌, ⊤, ℕ, zero, suc, min, Bool, true, false, List, Option, None, Some, map, codes, string_bytes, unwrap_or, option_map, [], String, is_some}
 use Rattle.std.specs.Global.{Global}
 use Rattle.std.specs.List.{list_all}
 use Rattle.std.specs.Str.Parse.{IsNumeral, digits_value, without_leading_plus}
@@ -21,7 +21,7 @@ use Rattle.ladder_words.specs.declared.request.Request.{Request}
 use Rattle.ladder_words.specs.declared.request.Request.TheVariants.{Causes, Check, Film, Groups, Held, Import, Never, Possible, Relevant, Show, Sim, Uses, Watch, Waves}
 use Rattle.ladder_words.specs.declared.request.SimRequest.{SimRequest}
 use Rattle.ladder_words.specs.declared.request.Task.{Task}
-use Rattle.ladder_words.specs.declared.request.Task.TheVariants.{Explain, Perform}
+use Rattle.ladder_words.specs.declared.request.Task.TheVariants.{Explain, Perform, PerformAll}
 
 abbrev pub HasText : Text → List Row → List ℕ → Type 0
 HasText id rows text = first_of id rows ≡ Some text
@@ -98,10 +98,26 @@ abbrev pub HasScans : ℕ → ℕ → List Row → Type 0
 HasScans scans every rows = (HasNumber (codes "scans") rows (Some scans) × HasNumber (codes "for") rows None)
     ⊎ (HasNumber (codes "scans") rows None × ((time : ℕ) × HasNumber (codes "for") rows (Some time) × (scans ≡ scans_until time every)))
 
+-- Each coil is meant.
+abbrev pub IsOfAllCoils : List Row → Type 0
+IsOfAllCoils rows = HasOption (codes "all-coils") rows None → ⊥
+
+-- the name of the coil, which is empty where each is meant
+abbrev pub HasCoil : List Row → List ℕ → Type 0
+HasCoil rows name = (HasOption (codes "all-coils") rows None × HasText (codes "coil") rows name) ⊎ (IsOfAllCoils rows × (name ≡ []))
+
+-- the names of the inputs, where each coil is meant or not: there none is named, so what stands in its place is the first input
+abbrev pub inputs_for : Bool → List Row → List Text
+inputs_for true rows = unwrap_or (all_of (codes "coil") rows) [] ++ unwrap_or (all_of (codes "inputs") rows) []
+inputs_for false rows = unwrap_or (all_of (codes "inputs") rows) []
+
+abbrev pub input_texts : List Row → List Text
+input_texts rows = inputs_for (is_some (first_of (codes "all-coils") rows)) rows
+
 -- The listed inputs are named, or all are listed and none is named.
 pub record HasInputs (rows : List Row) (all : Bool) (names : List Text) : Type 0 where
   pub flag : HasSwitch (codes "all-inputs") rows all
-  pub named : unwrap_or (all_of (codes "inputs") rows) [] ≡ names
+  pub named : input_texts rows ≡ names
   pub either : all ≡ true → names ≡ []
 
 -- What is watched is named, or all is watched and nothing is named.
@@ -125,7 +141,7 @@ NamesList rows l = HasOption (codes "state") rows (option_map string_bytes l.sta
     × HasNumber (codes "limit") rows l.limit
     × HasSwitch (codes "quiet") rows l.quiet
     × HasText (codes "file") rows (string_bytes l.file)
-    × HasText (codes "coil") rows (string_bytes l.coil)
+    × HasCoil rows (string_bytes l.coil)
     × HasInputs rows l.all_inputs (map string_bytes l.inputs.items)
 
 -- No scan follows the first one.
@@ -192,7 +208,7 @@ Asks name rows (Possible r) = (name ≡ codes "causes")
     × HasNumber (codes "limit") rows r.limit
     × HasSwitch (codes "quiet") rows r.quiet
     × HasText (codes "file") rows (string_bytes r.file)
-    × HasText (codes "coil") rows (string_bytes r.coil)
+    × HasCoil rows (string_bytes r.coil)
     × HasInputs rows r.all_inputs (map string_bytes r.inputs.items)
     × (HasFlag (codes "relevant") rows → ⊥)
 Asks name rows (Relevant list after grouping) = (name ≡ codes "causes")
@@ -257,9 +273,10 @@ Says name rows line = Asks name rows line.request × HasSwitch (codes "why") row
 abbrev pub NamesCodes : List Row → List (String Global) → Type 0
 NamesCodes rows names = (unwrap_or (all_of (codes "codes") rows) [] ≡ map string_bytes names) × (list_all (λ name. is_fault_code (string_bytes name)) names ≡ true)
 
--- what is to be done: a request, or what `ladder explain` says of faults
+-- what is to be done: a request, a request for each coil, or what `ladder explain` says of faults
 abbrev pub HasTask : Text → List Row → Task → Type 0
-HasTask name rows (Perform line) = Says name rows line
+HasTask name rows (Perform line) = Says name rows line × HasOption (codes "all-coils") rows None
+HasTask name rows (PerformAll all) = Says name rows all.line × HasOption (codes "all-coils") rows (Some (string_bytes all.folder))
 HasTask name rows (Explain names) = (name ≡ codes "explain") × NamesCodes rows names.items
 
 -- the subcommand's name and values ask for nothing

@@ -5,7 +5,8 @@ mod request;
 mod words;
 
 pub use request::{
-    CommandLine, FilmRequest, Form, Grouping, InputOrder, ListRequest, Medium, NeverRequest,
-    PossibleRequest, Request, ShowRequest, SimRequest, Task, WatchRequest, WavesRequest, WordFault,
+    AllCoils, CommandLine, FilmRequest, Form, Grouping, InputOrder, ListRequest, Medium,
+    NeverRequest, PossibleRequest, Request, ShowRequest, SimRequest, Task, WatchRequest,
+    WavesRequest, WordFault,
 };
 pub use words::read_words;

@@ -243,6 +243,8 @@ pub enum Request {
 pub enum Task {
     /// To perform a request.
     Perform(CommandLine),
+    /// To perform a request for each coil of its program.
+    PerformAll(AllCoils),
     /// To say what the faults with these codes mean, or to list all faults where none is named.
     Explain(Vec<String>),
 }
@@ -253,6 +255,15 @@ pub struct CommandLine {
     pub request: Request,
     /// Whether a fault is explained, after its line.
     pub why: bool,
+}
+
+/// A request for a list of causes that is made of each coil of a program.
+#[derive(Drop)]
+pub struct AllCoils {
+    /// The folder in which each coil has a file.
+    pub folder: String,
+    /// The request, in which the name of the coil is empty.
+    pub line: CommandLine,
 }
 
 /// Why the arguments are no request.

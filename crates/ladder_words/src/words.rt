@@ -1,18 +1,19 @@
 //! From the arguments of a command line to a request.
 
-ghost use Rattle.std.specs.Prelude.{◌≡◌, ℕ, Bool, List, [], true, false, codes, IfSome, IsSome, OnOk, IfOk, IfErr, map, option_map, string_bytes, unwrap_or, None, Option, Some};
+ghost use Rattle.std.specs.Prelude.{◌≡◌, ◌++◌, ℕ, Bool, List, [], true, false, codes, IfSome, IsSome, OnOk, IfOk, IfErr, map, option_map, string_bytes, unwrap_or, None, Option, Some};
 ghost use Rattle.std.specs.List.{list_all};
 ghost use Rattle.clap.specs.Words.{Row, Text, all_of, first_of, found_of, kind_of, rows_of, subcommand_rows_of};
 ghost use Rattle.clap.specs.Words.{fault_of as clap_fault};
 ghost use Rattle.ladder_command.specs.CommandLine.{ladder_app};
 ghost use Rattle.ladder_pages.specs.Pages.{is_fault_code};
-ghost use Rattle.ladder_words.specs.Asking.{Asks, AsksBy, AsksNone, HasNoTask, HasTask, HasEvery, HasFlag, HasForm, HasInputs, HasLasting, HasMedium, HasNumber, HasOrder, HasOption, HasSwitch, HasWatched, IsNamed, IsOfOneState, IsSingle, IsTable, MayHaveLimit, NamesList, NamesTrace, HasScans, Says, scans_until};
+ghost use Rattle.ladder_words.specs.Asking.{Asks, AsksBy, AsksNone, HasCoil, HasNoTask, HasTask, HasEvery, HasFlag, HasForm, HasInputs, HasLasting, HasMedium, HasNumber, HasOrder, HasOption, HasSwitch, HasWatched, IsNamed, IsOfOneState, IsSingle, IsTable, MayHaveLimit, NamesList, NamesTrace, HasScans, Says, input_texts, scans_until};
 ghost use Rattle.ladder_words.specs.Parts.{HasGrouping, HasSources, IsOfAnyState, IsOfOneScan, IsOfRecords, IsWhole, MayLast, NamesNoStates, NamesScan, Plays};
 ghost use Rattle.ladder_words.specs.Faults.{IsFaultOf, SaysOf, UsageWhere};
 
 use crate::request::{
-    CommandLine, FilmRequest, Form, Grouping, InputOrder, ListRequest, Medium, NeverRequest,
-    PossibleRequest, Request, ShowRequest, SimRequest, Task, WatchRequest, WavesRequest, WordFault,
+    AllCoils, CommandLine, FilmRequest, Form, Grouping, InputOrder, ListRequest, Medium,
+    NeverRequest, PossibleRequest, Request, ShowRequest, SimRequest, Task, WatchRequest,
+    WavesRequest, WordFault,
 };
 use clap::ArgMatches;
 use clap::error::ErrorKind;
@@ -82,8 +83,19 @@ fn task_of(alloc: Global, name: &str, found: &ArgMatches<'_>) -> Result<Task, Wo
         return explain_task(alloc, found);
     }
     match line_of(alloc, name, found) {
-        Ok(line) => Ok(Task::Perform(line)),
+        Ok(line) => task_for(alloc, found, line),
         Err(fault) => Err(fault),
+    }
+}
+
+/// A request is performed as it is, or for each coil.
+fn task_for(alloc: Global, found: &ArgMatches<'_>, line: CommandLine) -> Result<Task, WordFault>
+    ensures ok { IfOk result (λ t. (name : Text) → Says name (rows_of (found_of found.now)) line → HasTask name (rows_of (found_of found.now)) t) }
+    ensures err { IfErr result (λ e. e ≡ WordFault.Memory) }
+{
+    match optional(alloc, found, "all-coils")? {
+        Some(folder) => Ok(Task::PerformAll(AllCoils { folder, line })),
+        None => Ok(Task::Perform(line)),
     }
 }
 
@@ -476,7 +488,7 @@ fn list_of(alloc: Global, found: &ArgMatches<'_>) -> Result<ListRequest, WordFau
 {
     let limit = number(found, "limit")?;
     let quiet = is_set(found, "quiet");
-    let coil = text(alloc, found, "coil")?;
+    let coil = coil_of(alloc, found)?;
     let NamedScan {
         state,
         moment,
@@ -494,6 +506,17 @@ fn list_of(alloc: Global, found: &ArgMatches<'_>) -> Result<ListRequest, WordFau
         all_inputs,
         inputs,
     })
+}
+
+/// The name of the coil, which is empty where each coil is meant.
+fn coil_of(alloc: Global, found: &ArgMatches<'_>) -> Result<String, WordFault>
+    ensures ok { IfOk result (λ s. HasCoil (rows_of (found_of found.now)) (string_bytes s)) }
+    ensures err { IfErr result (UsageWhere ((name : Text) → HasCoil (rows_of (found_of found.now)) name → ⊥)) }
+{
+    if is_given(found, "all-coils") {
+        return Ok(String::new(alloc));
+    }
+    text(alloc, found, "coil")
 }
 
 /// The scan that is asked of: the state in which it begins, its moment, the program text and the inputs that are listed.
@@ -550,11 +573,41 @@ fn inputs_of(alloc: Global, found: &ArgMatches<'_>) -> Result<InputNames, WordFa
     ensures err { IfErr result (UsageWhere ((all : Bool) (names : List Text) → HasInputs (rows_of (found_of found.now)) all names → ⊥)) }
 {
     let all = is_set(found, "all-inputs");
-    let names = texts(alloc, found, "inputs")?;
+    let names = input_names(alloc, found)?;
     if all && !names.is_empty() {
         return Err(WordFault::Usage);
     }
     Ok(InputNames { all, names })
+}
+
+/// The names of the inputs. Where each coil is meant none is named, so what stands in its place is the first input.
+fn input_names(alloc: Global, found: &ArgMatches<'_>) -> Result<Vec<String>, WordFault>
+    ensures ok { IfOk result (λ v. input_texts (rows_of (found_of found.now)) ≡ map string_bytes v.items) }
+    ensures err { IfErr result (λ e. e ≡ WordFault.Memory) }
+{
+    if !is_given(found, "all-coils") {
+        return texts(alloc, found, "inputs");
+    }
+    let first = texts(alloc, found, "coil")?;
+    match found.get_strs("inputs") {
+        Some(others) => with_copies(alloc, first, others),
+        None => Ok(first),
+    }
+}
+
+/// These texts, and then copies of others.
+fn with_copies(alloc: Global, texts: Vec<String>, others: &[&str]) -> Result<Vec<String>, WordFault>
+    ensures ok { IfOk result (λ v. map string_bytes v.items ≡ map string_bytes texts.items ++ map (λ s. s.now) others.now) }
+    ensures err { IfErr result (λ e. e ≡ WordFault.Memory) }
+{
+    let mut all = texts;
+    for text in others {
+        let copy = copied(alloc, text)?;
+        if all.push(copy).is_err() {
+            return Err(WordFault::Memory);
+        }
+    }
+    Ok(all)
 }
 
 /// Whether a statement is to end after so many groups.
@@ -694,7 +747,18 @@ fn lists_inputs(found: &ArgMatches<'_>) -> bool
     ensures none { result ≡ false → HasInputs (rows_of (found_of found.now)) false [] }
     ensures some { result ≡ true → HasInputs (rows_of (found_of found.now)) false [] → ⊥ }
 {
-    is_set(found, "all-inputs") || is_given(found, "inputs")
+    is_set(found, "all-inputs") || names_inputs(found)
+}
+
+/// Whether inputs are named, also in the place of the coil where each is meant.
+fn names_inputs(found: &ArgMatches<'_>) -> bool
+    ensures none { result ≡ false → input_texts (rows_of (found_of found.now)) ≡ [] }
+    ensures some { result ≡ true → input_texts (rows_of (found_of found.now)) ≡ [] → ⊥ }
+{
+    if is_given(found, "inputs") {
+        return true;
+    }
+    is_given(found, "all-coils") && is_given(found, "coil")
 }
 
 /// How the flag wants a drawing to be written.
