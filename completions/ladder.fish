@@ -88,6 +88,8 @@ complete -c ladder -n '__ladder_at causes more 0' -l order -x -a 'auto given' -d
 complete -c ladder -n '__ladder_at causes more 0' -l any -d 'What some state switches on'
 complete -c ladder -n '__ladder_at causes more 0' -l off -d 'With --any, states in which the coil is OFF alone'
 complete -c ladder -n '__ladder_at causes more 0' -l must -d 'With --any, what leaves it ON from every state'
+complete -c ladder -n '__ladder_at causes more 0' -l reachable -d 'With --any, states with what never says alone'
+complete -c ladder -n '__ladder_at causes more 0' -l looks -x -d 'With --any, at most so many looks for a row'
 complete -c ladder -n '__ladder_at causes more 0' -l relevant -d 'The inputs that matter to the coil in this scan'
 complete -c ladder -n '__ladder_at show more 0' -l number -x -d 'The number of the row'
 complete -c ladder -n '__ladder_at show more 0' -l html -d 'One page of HTML'

@@ -371,10 +371,37 @@ def compare_random_states(trial):
     return found + compare_judged(trial, settled, others) + scan_at_random(trial, settled | others, 6)
 
 
+def stays_so(trial):
+    """What the program says of each state that a run reaches: the names that are OFF, and the pairs of which not both are ON."""
+    dead, pairs = (trial.ask("never", *words, "program.ld")[0].decode().upper().splitlines()[1:] for words in ((), ("--pairs",)))
+    return {line.split(",")[0] for line in dead}, [line.split(",") for line in pairs]
+
+
+def run_with_rows(trial, settled, others, options):
+    """What 64 random runs from the fresh state leave ON without a row, and with `--must` what they leave OFF with a settled one."""
+    lanes, moment, found = Lanes(Program(trial.text), 64), 0, []
+    coil, listed = trial.coil.upper(), [name.upper() for name in trial.listed]
+    for _ in range(40):
+        moment += trial.chance.choice([0, 1, 10, 700, 5000])
+        before, inputs = lanes.values[coil], {name: trial.chance.getrandbits(64) for name in lanes.program.inputs}
+        lanes.scan(inputs, moment)
+        for lane in range(64):
+            if "--off" in options and before >> lane & 1:
+                continue
+            number = int("".join(str(inputs[name] >> lane & 1) for name in listed) or "0", 2)
+            is_on = bool(lanes.values[coil] >> lane & 1)
+            if is_on and "--must" not in options and number not in settled | others:
+                found.append(f"a run leaves {coil} ON with {number} at {moment}, which has no row")
+            if not is_on and "--must" in options and number in settled:
+                found.append(f"a run leaves {coil} OFF with {number} at {moment}, which has a settled row")
+    return found
+
+
 def compare_with_each(trial, *options):
-    """What some state leaves ON, or with `--must` every one, of all states or with `--off` of those in which the coil is OFF, against a scan
-    from each; None where these are too many."""
-    every = Everywhere(Program(trial.text), trial.listed, {trial.coil.upper()} if "--off" in options else ())
+    """What some state leaves ON, or with `--must` every one, of all states or with `--off` of those in which the coil is OFF, and with
+    `--reachable` of those in which it is so what stays so, against a scan from each; None where these are too many."""
+    dead, pairs = stays_so(trial) if "--reachable" in options else (set(), [])
+    every = Everywhere(Program(trial.text), trial.listed, dead | ({trial.coil.upper()} if "--off" in options else set()), pairs)
     if every.bits > MOST_BITS:
         return None
     settled, others, found = rows_of_any(trial, *options)
@@ -396,6 +423,8 @@ def compare_with_each(trial, *options):
     trial.tally["of these right"] += len(others & wanted)
     trial.tally["questions with a number that is in no row"] += len(wanted) < 2 ** len(trial.listed)
     trial.tally["states"] += 2 ** every.bits
+    if "--reachable" in options:
+        return found + run_with_rows(trial, settled, others, options)
     return found if options else found + scan_at_random(trial, settled | others, 1)
 
 
@@ -417,6 +446,17 @@ def compare_must(trial):
 def compare_off_must(trial):
     """What every state in which the coil is OFF switches on."""
     return compare_with_each(trial, "--off", "--must")
+
+
+def compare_reachable(trial):
+    """The same of the states in which it is so what stays so from the fresh state on, now and then with a search that is short."""
+    options = [word for word in ("--off", "--must") if trial.chance.random() < 0.3]
+    looks = trial.chance.choice([None, None, None, 1, 2, 5, 100])
+    found = compare_with_each(trial, *options, "--reachable", *([] if looks is None else ["--looks", str(looks)]))
+    if found is not None and looks is None and "--must" not in options:
+        anywhere, reached = (rows_of_any(trial, *options, *words)[:2] for words in ((), ("--reachable",)))
+        trial.tally["rows of any state that go away"] += len(anywhere[0] | anywhere[1]) - len(reached[0] | reached[1])
+    return found
 
 
 def compare_relevant(trial):
@@ -446,4 +486,4 @@ def compare_relevant(trial):
 ALL = (compare_lists, compare_shown, compare_film, compare_held, compare_never, compare_random_states)
 ALONE = {"groups": compare_groups, "show": compare_shown, "held": compare_many_held, "never": compare_never, "pairs": compare_pairs,
          "possible": compare_possible, "off": compare_off, "must": compare_must, "off_must": compare_off_must,
-         "relevant": compare_relevant}
+         "reachable": compare_reachable, "relevant": compare_relevant}

@@ -1,6 +1,6 @@
 -- The command line, as clap's definitions of a simple command read it: `ladder check [--warn] FILE`,
 -- `ladder causes [--state STATE] [--at MS] [--after N] [--limit N] [--scans N] [--every MS] [--grouped] [--terms] [--st] [--order ORDER] [--relevant] [--all-inputs] [--quiet] FILE COIL [INPUT]...`,
--- `ladder causes --any [--off] [--must] [--limit N] [--all-inputs] [--quiet] FILE COIL [INPUT]...`,
+-- `ladder causes --any [--off] [--must] [--reachable] [--looks N] [--limit N] [--all-inputs] [--quiet] FILE COIL [INPUT]...`,
 -- each with `--all-coils FOLDER` in place of COIL,
 -- `ladder show [--state STATE] [--at MS] [--number N] [--stimulus STIMULUS] [--html] [--coil COIL] [--all-inputs] FILE [INPUT]...`,
 -- `ladder sim [--state STATE] [--save STATE] [--every MS] [--watch NAME]... [--watch-all] [--vcd] FILE STIMULUS`, `ladder uses FILE`, `ladder import PROJECT` and `ladder never [--state STATE] [--pairs] [--quiet] FILE`, each with `[--why]`;
@@ -33,6 +33,10 @@ number_rule id = record (new_rule id) { long = Some id; value_names = 1; parser 
 abbrev pub positive_rule : Text → Rule
 positive_rule id = record (new_rule id) { long = Some id; value_names = 1; parser = Some (Unsigned 1 18446744073709551615) }
 
+-- an option with a number of 32 bits that isn't 0
+abbrev pub small_rule : Text → Rule
+small_rule id = record (new_rule id) { long = Some id; value_names = 1; parser = Some (Unsigned 1 4294967295) }
+
 -- an option with a text that may be given several times
 abbrev pub texts_rule : Text → Rule
 texts_rule id = record (new_rule id) { long = Some id; action = Some Append; value_names = 1 }
@@ -62,7 +66,9 @@ abbrev pub causes_app : App
 causes_app = taking (codes "causes") (
     text_rule (codes "state") ∷ number_rule (codes "at") ∷ number_rule (codes "after") ∷ number_rule (codes "limit")
     ∷ number_rule (codes "scans") ∷ number_rule (codes "for") ∷ number_rule (codes "every") ∷ flag_rule (codes "grouped") ∷ flag_rule (codes "terms") ∷ flag_rule (codes "st") ∷ text_rule (codes "order")
-    ∷ flag_rule (codes "any") ∷ flag_rule (codes "off") ∷ flag_rule (codes "must") ∷ flag_rule (codes "relevant") ∷ flag_rule (codes "all-inputs") ∷ text_rule (codes "all-coils") ∷ flag_rule (codes "quiet") ∷ flag_rule (codes "why") ∷ place_rule (codes "file") ∷ free_place_rule (codes "coil") ∷ list_rule (codes "inputs") ∷ []
+    ∷ flag_rule (codes "any") ∷ flag_rule (codes "off") ∷ flag_rule (codes "must")
+    ∷ flag_rule (codes "reachable") ∷ small_rule (codes "looks")
+    ∷ flag_rule (codes "relevant") ∷ flag_rule (codes "all-inputs") ∷ text_rule (codes "all-coils") ∷ flag_rule (codes "quiet") ∷ flag_rule (codes "why") ∷ place_rule (codes "file") ∷ free_place_rule (codes "coil") ∷ list_rule (codes "inputs") ∷ []
     )
 
 abbrev pub show_app : App

@@ -2,7 +2,7 @@
 use Rattle.std.specs.Prelude.{◌∷◌, [], Bool, List, codes, false, map, true}
 use Rattle.clap.specs.Simple.{new_shape}
 use Rattle.clap.specs.Words.{App, Rule, Shape}
-use Rattle.ladder_command.specs.CommandLine.{flag_rule, free_place_rule, list_rule, number_rule, place_rule, positive_rule, taking, text_rule, texts_rule}
+use Rattle.ladder_command.specs.CommandLine.{flag_rule, free_place_rule, list_rule, number_rule, place_rule, positive_rule, small_rule, taking, text_rule, texts_rule}
 use Rattle.ladder_command.specs.declared.command.Subcommand.{Subcommand}
 use Rattle.ladder_command.specs.declared.command.Word.{Word}
 use Rattle.ladder_command.specs.declared.command.Word.TheVariants as word
@@ -14,6 +14,7 @@ word_rule (word.FreePlace id value help) = free_place_rule id.now
 word_rule (word.Text id value help) = text_rule id.now
 word_rule (word.Number id value help) = number_rule id.now
 word_rule (word.Positive id value help) = positive_rule id.now
+word_rule (word.Small id value help) = small_rule id.now
 word_rule (word.Texts id value help) = texts_rule id.now
 word_rule (word.Flag id help) = flag_rule id.now
 word_rule (word.List id value help) = list_rule id.now

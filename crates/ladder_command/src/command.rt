@@ -9,10 +9,10 @@ use crate::help::{
     AFTER_HELP, ALL_COILS_HELP, ALL_HELP, ANY_HELP, AT_HELP, CAUSES_ABOUT, CHECK_ABOUT, CODES_HELP,
     COIL_HELP, EVERY_HELP, EXPLAIN_ABOUT, EXPLAIN_HELP, FAULTS, FILE_HELP, FILM_HELP, FOR_HELP,
     GROUPED_HELP, HOLD_HELP, HTML_HELP, IMPORT_ABOUT, INPUTS_HELP, LADDER_ABOUT, LIMIT_HELP,
-    MUST_HELP, NEVER_ABOUT, NUMBER_HELP, OFF_HELP, ORDER_HELP, PAIRS_HELP, PROJECT_HELP,
-    QUIET_HELP, RELEVANT_HELP, SAVE_HELP, SCANS_HELP, SHOW_ABOUT, SHOWN_HELP, SIM_ABOUT,
-    STATE_HELP, STATEMENT_HELP, STIMULUS_HELP, TERMS_HELP, USES_ABOUT, WARN_HELP, WATCH_ALL_HELP,
-    WATCH_HELP, WAVES_HELP, WHY_HELP,
+    LOOKS_HELP, MUST_HELP, NEVER_ABOUT, NUMBER_HELP, OFF_HELP, ORDER_HELP, PAIRS_HELP,
+    PROJECT_HELP, QUIET_HELP, REACHABLE_HELP, RELEVANT_HELP, SAVE_HELP, SCANS_HELP, SHOW_ABOUT,
+    SHOWN_HELP, SIM_ABOUT, STATE_HELP, STATEMENT_HELP, STIMULUS_HELP, TERMS_HELP, USES_ABOUT,
+    WARN_HELP, WATCH_ALL_HELP, WATCH_HELP, WAVES_HELP, WHY_HELP,
 };
 use clap::{Arg, ArgAction, Command, value_parser};
 use std::alloc::{AllocError, Global};
@@ -29,6 +29,8 @@ enum Word {
     Number(&'static str, &'static str, &'static str),
     /// An option with a number that isn't 0.
     Positive(&'static str, &'static str, &'static str),
+    /// The same, of 32 bits.
+    Small(&'static str, &'static str, &'static str),
     /// An option with a text that may be given several times.
     Texts(&'static str, &'static str, &'static str),
     /// An option without a value.
@@ -78,6 +80,8 @@ const CAUSES: &[Word] = &[
     Word::Flag("any", ANY_HELP),
     Word::Flag("off", OFF_HELP),
     Word::Flag("must", MUST_HELP),
+    Word::Flag("reachable", REACHABLE_HELP),
+    Word::Small("looks", "N", LOOKS_HELP),
     Word::Flag("relevant", RELEVANT_HELP),
     Word::Flag("all-inputs", ALL_HELP),
     Word::Text("all-coils", "FOLDER", ALL_COILS_HELP),
@@ -183,6 +187,11 @@ fn arg_of<'a>(alloc: Global, word: &'a Word) -> Arg<'a>
         Word::Positive(id, value, help) => Arg::new(alloc, id)
             .long(id)
             .value_parser(value_parser!(u64).range(1..))
+            .value_name(value)
+            .help(help),
+        Word::Small(id, value, help) => Arg::new(alloc, id)
+            .long(id)
+            .value_parser(value_parser!(u64).range(1..=4_294_967_295))
             .value_name(value)
             .help(help),
         Word::Texts(id, value, help) => Arg::new(alloc, id)

@@ -145,3 +145,9 @@ pub(crate) const OFF_HELP: &str =
 
 pub(crate) const MUST_HELP: &str =
     "With --any: lists what leaves the coil ON from every state, at every moment, in place of from some one";
+
+pub(crate) const REACHABLE_HELP: &str =
+    "With --any: counts only states in which all is OFF that `ladder never` lists, and of no pair of `ladder never --pairs` both are ON, as in each state that the machine reaches";
+
+pub(crate) const LOOKS_HELP: &str =
+    "With --any: how many scans a search for one row makes at most, up to 4294967295; without it 4096";

@@ -1,6 +1,6 @@
 -- How a list of what some state, or every one, switches on ends.
 use Rattle.std.proofs.Common.{◌≡◌, ◌∙◌, ◌⊎◌, ◌^◌, ℕ, List, None, Option, Some, ap, inl, inr, length, subst}
-use Rattle.ladder_questions.specs.Causes.{Question, question}
+use Rattle.ladder_questions.specs.Causes.{Question}
 use Rattle.ladder_questions.specs.Refusal.{refusal}
 use Rattle.ladder_possible.specs.Possible.{AreRows, PossibleCursor}
 use Rattle.ladder_possible.specs.declared.possible.PossibleCause.{PossibleCause}
@@ -8,40 +8,32 @@ use Rattle.ladder_sim.specs.PossibleText.{AreAll, Gave, IsCount, possible_text}
 use Rattle.ladder_sim.specs.declared.possible_text.PossibleSummary.{PossibleSummary}
 use Rattle.ladder_text.specs.Log.{PutsAll, WriteLog}
 use Rattle.ladder_words.specs.declared.request.PossibleRequest.{PossibleRequest}
-use Rattle.ladder_lists.specs.Asked.{stored_question}
-use Rattle.ladder_lists.specs.Lists.{CountsPossible, IsAskedOfAll, ListsPossible, claimed, counted, possible_line, unless_quiet}
+use Rattle.ladder_lists.specs.Asked.{AsksFor}
+use Rattle.ladder_lists.specs.Lists.{CountsPossible, IsAskedOfAll, ListsPossible, possible_line, unless_quiet}
 use Rattle.ladder_setting.specs.Setting.{Given}
-use Rattle.ladder_lists.specs.declared.asking.Asked.{Asked}
-
--- where the listed inputs are these
-pub asked_all : (g : Given) (r : PossibleRequest) (a : Asked) (listed : List ℕ) → listed ≡ a.inputs.items → IsAskedOfAll g r (stored_question a)
-    → IsAskedOfAll g r (question a.program a.state a.state.moment a.coil listed)
-asked_all g r a listed same asked = rw same asked
-
-abbrev pub IsMadeFor : PossibleRequest → PossibleCursor → Question → Type 0
-IsMadeFor r c q =
-    c ≡ record { program = q.program; coil = q.coil; listed = q.listed; before = counted r.off; claim = claimed r.must; from = 0 }
 
 pub lists : (g : Given) (r : PossibleRequest) (q : Question) (c d : PossibleCursor) (rows : List PossibleCause) (Written : List ℕ → Type 0) → IsAskedOfAll g r q
-    → refusal q None ≡ None → IsMadeFor r c q → Gave c rows d → Written (possible_text c.program c.listed rows) → ListsPossible g r Written
+    → refusal q None ≡ None → AsksFor r q c → Gave c rows d → Written (possible_text c.program c.listed rows) → ListsPossible g r Written
 lists g r q c d rows Written asked accepted made gave written = record {
   question = q;
   asked = asked;
   accepted = accepted;
+  staying = made.staying;
+  stays = made.stays;
   rows = rows;
   to = d.from;
-  are = subst (λ (x : PossibleCursor). AreRows x.program x.coil x.listed x.before x.claim x.from d.from rows) made gave.rows_are;
-  written = subst (λ (x : PossibleCursor). Written (possible_text x.program x.listed rows)) made written;
+  are = subst (λ (x : PossibleCursor). AreRows x.program x.coil x.listed x.states x.claim x.from d.from rows) made.same gave.rows_are;
+  written = subst (λ (x : PossibleCursor). Written (possible_text x.program x.listed rows)) made.same written;
 }
 
-all_of : (r : PossibleRequest) (q : Question) (c d : PossibleCursor) (rows : List PossibleCause) (limit : Option ℕ) → IsMadeFor r c q → Gave c rows d → AreAll d rows limit
+all_of : (r : PossibleRequest) (q : Question) (c d : PossibleCursor) (rows : List PossibleCause) (limit : Option ℕ) → AsksFor r q c → Gave c rows d → AreAll d rows limit
     → (d.from ≡ 2 ^ length q.listed) ⊎ (limit ≡ Some (length rows))
 all_of r q c d rows limit made gave (inl e) =
-    inl (e ∙ ap (λ (xs : List ℕ). 2 ^ length xs) (ap (λ (x : PossibleCursor). x.listed) gave.same ∙ ap (λ (x : PossibleCursor). x.listed) made))
+    inl (e ∙ ap (λ (xs : List ℕ). 2 ^ length xs) (ap (λ (x : PossibleCursor). x.listed) gave.same ∙ ap (λ (x : PossibleCursor). x.listed) made.same))
 all_of r q c d rows limit made gave (inr e) = inr e
 
 pub counts : (g : Given) (r : PossibleRequest) (q : Question) (c d : PossibleCursor) (rows : List PossibleCause) (out out' : WriteLog) (Counted : List ℕ → Type 0)
-    → (s : PossibleSummary) → IsAskedOfAll g r q → refusal q None ≡ None → IsMadeFor r c q → Gave c rows d → PutsAll out out' (possible_text c.program c.listed rows)
+    → (s : PossibleSummary) → IsAskedOfAll g r q → refusal q None ≡ None → AsksFor r q c → Gave c rows d → PutsAll out out' (possible_text c.program c.listed rows)
     → IsCount s rows → AreAll d rows r.limit → Counted (unless_quiet r.quiet (possible_line s.rows s.unsettled)) → CountsPossible g r out out' Counted
 unfolding lists
 counts g r q c d rows out out' Counted s asked accepted made gave written counted all said = record {

@@ -36,7 +36,9 @@ use Rattle.ladder_pairs.specs.Pairs.{AreApart, ArePairs}
 use Rattle.ladder_pairs.specs.declared.pair.Pair.{Pair}
 use Rattle.ladder_sim.specs.CauseText.{cause_text, limited}
 use Rattle.ladder_possible.specs.Possible.{AreRows}
-use Rattle.ladder_possible.specs.declared.before.Before.{Before}
+use Rattle.ladder_possible.specs.Reached.{AreReached, IsStaying}
+use Rattle.ladder_possible.specs.declared.states.States.{States}
+use Rattle.ladder_possible.specs.declared.states.Staying.{Staying}
 use Rattle.ladder_possible.specs.declared.before.Before.TheVariants as before
 use Rattle.ladder_possible.specs.declared.claim.Claim.{Claim}
 use Rattle.ladder_possible.specs.declared.claim.Claim.TheVariants as claim
@@ -292,10 +294,15 @@ pub record IsAskedOfAll (g : Given) (r : PossibleRequest) (q : Question) : Type 
   pub on : variable_of q.program.decls (string_bytes r.coil) ≡ Some q.coil
   pub among : AreListed q.program.decls r.all_inputs (map string_bytes r.inputs.items) q.listed
 
--- which states count: all, or those in which the coil is OFF
-abbrev pub counted : Bool → Before
-counted true = before.Off
-counted false = before.Any
+-- which states count: all, or those in which the coil is OFF, and in which it is so what stays so
+abbrev pub counted : Bool → Option Staying → States
+counted true staying = record { before = before.Off; staying = staying }
+counted false staying = record { before = before.Any; staying = staying }
+
+-- What stays so from the state on: nothing is asked for, or it is settled, and it is so in each state that a run reaches.
+abbrev pub IsStayingBy : Bool → Drawing → Standing → Option Staying → Type 0
+IsStayingBy false p s staying = staying ≡ None
+IsStayingBy true p s staying = (known : Staying) × (staying ≡ Some known) × IsStaying p s known × AreReached p s known
 
 -- what a row claims of its number: that every state that counts leaves the coil ON, or that some one does
 abbrev pub claimed : Bool → Claim
@@ -303,14 +310,16 @@ claimed true = claim.Forced
 claimed false = claim.Possible
 
 -- The text of some rows is written, whole or as far as `Written` says: below a number each one of which the claim holds has a row, and the
--- claim holds of each row that is settled.
+-- claim holds of each row that is settled. It is of each state, or of those in which it is so what stays so.
 pub record ListsPossible (g : Given) (r : PossibleRequest) (Written : List ℕ → Type 0) : Type 0 where
   pub question : Question
   pub asked : IsAskedOfAll g r question
   pub accepted : refusal question None ≡ None
+  pub staying : Option Staying
+  pub stays : IsStayingBy r.reachable question.program question.state staying
   pub rows : List PossibleCause
   pub to : ℕ
-  pub are : AreRows question.program question.coil question.listed (counted r.off) (claimed r.must) 0 to rows
+  pub are : AreRows question.program question.coil question.listed (counted r.off staying) (claimed r.must) 0 to rows
   pub written : Written (possible_text question.program question.listed rows)
 
 -- A fault of the names: COIL is word 1, the first INPUT word 2.
@@ -351,8 +360,10 @@ pub record GroupsPossible (g : Given) (r : PossibleRequest) (Written : List ℕ 
   pub question : Question
   pub asked : IsAskedOfAll g r question
   pub accepted : possible_group_refusal question ≡ None
+  pub staying : Option Staying
+  pub stays : IsStayingBy r.reachable question.program question.state staying
   pub groups : List ClassGroup
-  pub are : ArePossibleGroups question.program question.coil question.listed (counted r.off) (claimed r.must) groups
+  pub are : ArePossibleGroups question.program question.coil question.listed (counted r.off staying) (claimed r.must) groups
   pub written : Written (possible_group_text question.program question.listed (limited r.limit groups))
 
 -- Faults are looked for in the order of those of a list.

@@ -9,6 +9,7 @@ mod listing;
 mod never;
 mod pairing;
 mod possible;
+mod possible_asking;
 mod possible_grouping;
 mod relevant;
 

@@ -20,7 +20,7 @@ use ladder_words::NeverRequest;
 use std::alloc::Global;
 
 /// How many scans may settle one pair, in each round of the search.
-const PAIR_SCANS: u32 = 256;
+pub(crate) const PAIR_SCANS: u32 = 256;
 
 /// Lists the pairs of which never both are ON from a state on.
 fn list_from<O: Sink, E: Sink>(

@@ -1,15 +1,16 @@
 //! A request for what some state, or every one, switches on.
 
 ghost use Rattle.std.specs.Prelude.{◌≡◌, ◌≤◌, ◌⊎◌, IfErr, IfOk};
+ghost use Rattle.ladder_scan.specs.Standing.{Fits};
 ghost use Rattle.ladder_text.specs.Log.{Puts, PutsAll, WriteLog};
 ghost use Rattle.ladder_lists.specs.Asked.{stored_question};
 ghost use Rattle.ladder_setting.specs.Reports.{Refuses, logs};
-ghost use Rattle.ladder_lists.specs.Lists.{BreaksPossible, BreaksPossibleBy, CountsPossible, CountsPossibleBy, HasNamesFault, HasPossibleFault, HasPossibleFaultBy, IsAskedOfAll, claimed, counted, possible_line, unless_quiet};
+ghost use Rattle.ladder_lists.specs.Lists.{BreaksPossible, BreaksPossibleBy, CountsPossible, CountsPossibleBy, HasNamesFault, HasPossibleFault, HasPossibleFaultBy, IsAskedOfAll, possible_line, unless_quiet};
 ghost use Rattle.ladder_setting.specs.Setting.{HasSettingFault, given_by};
 
 use crate::asking::Asked;
+use crate::possible_asking::causes_of;
 use crate::possible_grouping::list_possible_groups;
-use ladder_possible::{Before, Claim, PossibleCauses};
 use ladder_setting::{Setting, Texts, ToolFault, asked_variables, read_setting, report};
 use ladder_sim::{PossibleSummary, write_possible_causes};
 use ladder_text::{Piece, Sink, WriteFault, put_pieces};
@@ -39,6 +40,7 @@ pub(crate) fn read_asked(
     request: &PossibleRequest,
     texts: &Texts,
 ) -> Result<Asked, ToolFault>
+    ensures fits { IfOk result (λ a. Fits a.program a.state) }
     ensures asked { IfOk result (λ a. IsAskedOfAll (given_by texts.now) request.now (stored_question a)) }
     ensures fault { IfErr result (λ f. HasSettingFault (given_by texts.now) f ⊎ HasNamesFault (given_by texts.now) request.now f) }
 {
@@ -68,20 +70,6 @@ pub(crate) fn read_asked(
     }
 }
 
-/// Which states count.
-pub(crate) fn before_of(off: bool) -> Before
-    ensures { result ≡ counted off }
-{
-    if off { Before::Off } else { Before::Any }
-}
-
-/// What a row claims of its number.
-pub(crate) fn claim_of(must: bool) -> Claim
-    ensures { result ≡ claimed must }
-{
-    if must { Claim::Forced } else { Claim::Possible }
-}
-
 /// Lists what some state, or every one, switches on, of what is asked.
 fn list_asked<O: Sink, E: Sink>(
     alloc: Global,
@@ -91,6 +79,7 @@ fn list_asked<O: Sink, E: Sink>(
     out: &mut O,
     err: &mut E,
 ) -> u8
+    requires fits { Fits asked.now.program asked.now.state }
     requires asked { IsAskedOfAll (given_by texts.now) request.now (stored_question asked.now) }
     ensures status { result ≤ 1 }
     ensures done { result ≡ 0 → CountsPossible (given_by texts.now) request.now (O.log out.old) (O.log out.new) (PutsAll (E.log err.old) (E.log err.new)) }
@@ -98,17 +87,7 @@ fn list_asked<O: Sink, E: Sink>(
         → Refuses (given_by texts.now) (HasPossibleFault (given_by texts.now) request.now) (logs (O.log out.old) save (E.log err.old)) (logs (O.log out.new) save (E.log err.new))
         ⊎ BreaksPossible (given_by texts.now) request.now (logs (O.log out.old) save (E.log err.old)) (logs (O.log out.new) save (E.log err.new)) }
 {
-    let before = before_of(request.off);
-    let claim = claim_of(request.must);
-    let mut cursor = match PossibleCauses::new(
-        alloc,
-        &asked.program,
-        &asked.state,
-        asked.coil,
-        &asked.inputs,
-        before,
-        claim,
-    ) {
+    let mut cursor = match causes_of(alloc, request, asked) {
         Ok(cursor) => cursor,
         Err(fault) => return report(texts, &ToolFault::Cause(fault), err),
     };

@@ -1,19 +1,19 @@
 //! A request for what some state, or every one, switches on, in groups.
 
 ghost use Rattle.std.specs.Prelude.{◌≡◌, ◌≤◌, ◌⊎◌, IfErr, IfOk, None};
-ghost use Rattle.ladder_possible_groups.specs.Cursor.{ArePossibleGroups};
 ghost use Rattle.ladder_questions.specs.Refusal.{reason};
+ghost use Rattle.ladder_scan.specs.Standing.{Fits};
 ghost use Rattle.ladder_text.specs.Log.{Puts, PutsAll, WriteLog};
-ghost use Rattle.ladder_lists.specs.Asked.{stored_question};
+ghost use Rattle.ladder_lists.specs.Asked.{AreAskedGroups, stored_question};
 ghost use Rattle.ladder_setting.specs.Reports.{Refuses, logs};
 ghost use Rattle.ladder_lists.specs.Lists.{BreaksPossibleGroups, CountsPossibleGroups, HasPossibleGroupsFault, IsAskedOfAll, possible_group_refusal, possible_groups_line, unless_quiet};
 ghost use Rattle.ladder_setting.specs.Setting.{given_by};
 
 use crate::asking::Asked;
-use crate::possible::{before_of, claim_of, read_asked};
+use crate::possible::read_asked;
+use crate::possible_asking::causes_of;
 use ladder_class_text::{PossibleGroupSummary, write_possible_groups};
 use ladder_classes::BITS_LIMIT;
-use ladder_possible::{Before, Claim, PossibleCauses};
 use ladder_possible_groups::{PossibleGroupFault, PossibleGroups};
 use ladder_questions::CauseFault;
 use ladder_setting::{Texts, ToolFault, report};
@@ -47,28 +47,20 @@ fn put_counts<E: Sink>(
 /// The groups of what is asked.
 fn groups_of<'a>(
     alloc: Global,
+    request: &PossibleRequest,
     asked: &'a Asked,
-    before: Before,
-    claim: Claim,
 ) -> Result<PossibleGroups<'a>, CauseFault>
+    requires fits { Fits asked.now.program asked.now.state }
     ensures program { IfOk result (λ c. c.program ≡ asked.now.program) }
     ensures listed { IfOk result (λ c. c.listed ≡ asked.now.inputs.items) }
-    ensures rest { IfOk result (λ c. ArePossibleGroups asked.now.program asked.now.coil asked.now.inputs.items before claim c.rest) }
+    ensures rest { IfOk result (λ c. AreAskedGroups request.now (stored_question asked.now) c.rest) }
     ensures accepted { IfOk result (λ _. possible_group_refusal (stored_question asked.now) ≡ None) }
     ensures refused { IfErr result (λ e. possible_group_refusal (stored_question asked.now) ≡ reason e) }
 {
     if asked.inputs.len() > BITS_LIMIT as usize {
         return Err(CauseFault::TooManyFree);
     }
-    let causes = PossibleCauses::new(
-        alloc,
-        &asked.program,
-        &asked.state,
-        asked.coil,
-        &asked.inputs,
-        before,
-        claim,
-    )?;
+    let causes = causes_of(alloc, request, asked)?;
     match PossibleGroups::new(alloc, causes) {
         Ok(groups) => Ok(groups),
         Err(PossibleGroupFault::TooManyInputs) => Err(CauseFault::TooManyFree),
@@ -85,6 +77,7 @@ fn list_asked<O: Sink, E: Sink>(
     out: &mut O,
     err: &mut E,
 ) -> u8
+    requires fits { Fits asked.now.program asked.now.state }
     requires asked { IsAskedOfAll (given_by texts.now) request.now (stored_question asked.now) }
     ensures status { result ≤ 1 }
     ensures done { result ≡ 0 → CountsPossibleGroups (given_by texts.now) request.now (O.log out.old) (O.log out.new) (PutsAll (E.log err.old) (E.log err.new)) }
@@ -92,9 +85,7 @@ fn list_asked<O: Sink, E: Sink>(
         → Refuses (given_by texts.now) (HasPossibleGroupsFault (given_by texts.now) request.now) (logs (O.log out.old) save (E.log err.old)) (logs (O.log out.new) save (E.log err.new))
         ⊎ BreaksPossibleGroups (given_by texts.now) request.now (logs (O.log out.old) save (E.log err.old)) (logs (O.log out.new) save (E.log err.new)) }
 {
-    let before = before_of(request.off);
-    let claim = claim_of(request.must);
-    let mut cursor = match groups_of(alloc, asked, before, claim) {
+    let mut cursor = match groups_of(alloc, request, asked) {
         Ok(cursor) => cursor,
         Err(fault) => return report(texts, &ToolFault::Cause(fault), err),
     };

@@ -34,7 +34,7 @@ use Rattle.ladder_never.specs.declared.outcome.Outcome.TheVariants.{Anything}
 use Rattle.ladder_never.specs.declared.point.Point.{Point}
 use Rattle.ladder_never.proofs.Listed.{both_at, given_same}
 use Rattle.ladder_never.proofs.OffForEver.{Holds, answer_allows, begun, holds_begun, knowing_holds, pin_allows, scan_begun, standing_holds}
-use Rattle.ladder_pairs.specs.Pairs.{AreApart, AreExcluded, AreNeverBoth, ArePairs, IsExcluded, IsForcedOff, IsOutside, IsPairOutside, are_both_on, point_of}
+use Rattle.ladder_pairs.specs.Pairs.{AreApart, AreExcluded, AreNeverBoth, ArePairs, IsExcluded, IsForcedOff, IsOutside, IsPairOutside, IsSettledBoth, are_both_on, point_of}
 use Rattle.ladder_pairs.specs.Pairs as pairs_of
 use Rattle.ladder_pairs.specs.declared.pair.Pair.{Pair}
 
@@ -71,6 +71,19 @@ second_not : (a b : Bool) → b ≡ false → (a && b) ≡ false
 second_not true b e = e
 second_not false b e = refl
 
+-- Both are ON, or not, as three values tell it of each.
+both_by : (x y : Tri) (value a b : Bool) → three_meet x y ≡ three_known value → ((v : Bool) → x ≡ three_known v → a ≡ v) → ((v : Bool) → y ≡ three_known v → b ≡ v)
+    → (a && b) ≡ value
+both_by x y false a b e first second = elim (either_off x y e) [
+  | inl f ↦ first_not a b (first false f)
+  | inr f ↦ second_not a b (second false f)
+]
+both_by On y true a b e first second = ap (λ c. c && b) (first true refl) ∙ second true e
+both_by Off y true a b e first second = cc
+both_by Unsure Off true a b e first second = cc
+both_by Unsure On true a b e first second = cc
+both_by Unsure Unsure true a b e first second = cc
+
 then_second : (a b : Bool) → (a && b) ≡ false → a ≡ true → b ≡ false
 then_second true b e f = e
 then_second false b e f = cc
@@ -103,28 +116,26 @@ module _ (p : Drawing)
       subst (λ (l : Known Bool Stored). BothKnown Allows (λ inst. MayStore (d.kind inst) (d.preset inst) now) (after_known three outcomes d 0 [] k) l)
       (known h now []) (keeps now [] [] tt k (all_known plain plainly h) both)
 
-  -- After it not both of the target are ON.
-  excluded : (pairs : List Pair) (target : Pair) (k : Known Tri Outcome) → IsExcluded p pairs target k → (now : ℕ) (h : Held) → AllowsState p now k h → AreApart pairs h
-      → are_both_on (after_scan (diagram_of p) now [] h) target ≡ false
-  excluded pairs target _ (pairs_of.by_scan k e) now h both apart =
+  -- After it both of the target are ON, or not, as it is settled.
+  pub settled_both : (pairs : List Pair) (target : Pair) (value : Bool) (k : Known Tri Outcome) → IsSettledBoth p pairs target value k → (now : ℕ) (h : Held) → AllowsState p now k h
+      → AreApart pairs h → are_both_on (after_scan (diagram_of p) now [] h) target ≡ value
+  settled_both pairs target value _ (pairs_of.by_scan k e) now h both apart =
       let then = told_is p now _ _ (scan_allows now k h both) in
-      elim (either_off _ _ e) [
-        | inl f ↦ first_not _ _ (then target.first false f)
-        | inr f ↦ second_not _ _ (then target.second false f)
-      ]
-  excluded pairs target _ (pairs_of.by_partner k point forced more) now h both apart =
-      excluded pairs target (pinned k point (three_known false)) more now h
+      both_by (told (point_of target.first) (after_known three outcomes (diagram_of p) 0 [] k)) (told (point_of target.second) (after_known three outcomes (diagram_of p) 0 [] k))
+      value _ _ e (λ v. then target.first v) (λ v. then target.second v)
+  settled_both pairs target value _ (pairs_of.by_partner k point forced more) now h both apart =
+      settled_both pairs target value (pinned k point (three_known false)) more now h
       (subst (λ (b : Bool). AllowsState p now (pinned k point (three_known b)) h) (forced_off p now k h both pairs apart point forced) (pin_allows p now k h both point)) apart
-  excluded pairs target _ (pairs_of.by_cases k point off on) now h both apart =
+  settled_both pairs target value _ (pairs_of.by_cases k point off on) now h both apart =
       let here = pin_allows p now k h both point in
       let Allowed = λ (b : Bool). AllowsState p now (pinned k point (three_known b)) h in
       either_case (is_on_in point h)
-      (λ e. excluded pairs target (pinned k point (three_known true)) on now h (subst Allowed e here) apart)
-      (λ e. excluded pairs target (pinned k point (three_known false)) off now h (subst Allowed e here) apart)
-  excluded pairs target _ (pairs_of.by_answers k inst off on input) now h both apart = elim (answer_allows p now k h both inst) [
-    | inl m ↦ excluded pairs target (answering k inst AnswersOff) off now h m apart
-    | inr (inl m) ↦ excluded pairs target (answering k inst AnswersOn) on now h m apart
-    | inr (inr m) ↦ excluded pairs target (answering k inst Input) input now h m apart
+      (λ e. settled_both pairs target value (pinned k point (three_known true)) on now h (subst Allowed e here) apart)
+      (λ e. settled_both pairs target value (pinned k point (three_known false)) off now h (subst Allowed e here) apart)
+  settled_both pairs target value _ (pairs_of.by_answers k inst off on input) now h both apart = elim (answer_allows p now k h both inst) [
+    | inl m ↦ settled_both pairs target value (answering k inst AnswersOff) off now h m apart
+    | inr (inl m) ↦ settled_both pairs target value (answering k inst AnswersOn) on now h m apart
+    | inr (inr m) ↦ settled_both pairs target value (answering k inst Input) input now h m apart
   ]
 
 -- What is settled to be OFF, in a pair with itself.
@@ -144,10 +155,16 @@ both_itself false e = refl
 both_same : (a b c d : Bool) → a ≡ c → b ≡ d → (a && b) ≡ (c && d)
 both_same a b c d e f = ap (λ x. x && b) e ∙ ap (λ x. c && x) f
 
+-- Inputs that are given leave apart what is none of them.
 begun_same : (p : Drawing) (z : Bits) (s : Symbol) → IsOutside p z s → (inputs : List Bool) (h : Held) → is_on_in (point_of s) (begun p inputs h) ≡ is_on_in (point_of s) h
 unfolding diagram_of
 begun_same p z (symbol.Var var) o inputs h = given_same (map is_input p.decls.vars) inputs h.values var o.1
 begun_same p z (symbol.Instance inst) o inputs h = refl
+
+pub begun_apart : (p : Drawing) (z : Bits) (pairs : List Pair) → All (IsPairOutside p z) pairs → (h : Held) → AreApart pairs h → (inputs : List Bool) → AreApart pairs (begun p inputs h)
+begun_apart p z pairs outside h apart inputs = λ k d l.
+    both_same _ _ _ _ (begun_same p z (get_or pairs k d).first (outside k d l).first inputs h) (begun_same p z (get_or pairs k d).second (outside k d l).second inputs h)
+    ∙ apart k d l
 
 module _ (p : Drawing) (sound : IsSound (diagram_of p))
     (keeps : (now : ℕ) → ScanKeeps (diagram_of p) three plain outcomes plainly Allows (λ inst. MayStore ((diagram_of p).kind inst) ((diagram_of p).preset inst) now) 0 now)
@@ -158,7 +175,7 @@ module _ (p : Drawing) (sound : IsSound (diagram_of p))
       → is_on_in (point_of s) (after_scan (diagram_of p) now inputs h) ≡ false
   off_then s is h holds now inputs =
       subst (λ (next : Held). is_on_in (point_of s) next ≡ false) (scan_begun p now inputs h)
-      (both_itself _ (excluded p keeps known [] (twice s) (knowing p z) (alone p [] s (knowing p z) is) now (begun p inputs h)
+      (both_itself _ (settled_both p keeps known [] (twice s) false (knowing p z) (alone p [] s (knowing p z) is) now (begun p inputs h)
       (knowing_holds p z set now (begun p inputs h) (holds_begun p z set inputs h holds)) (All-nil (λ pair. are_both_on (begun p inputs h) pair ≡ false))))
 
   still_off : (h : Held) → Holds p z h → (now : ℕ) (inputs : List Bool) → IsOff z (after_scan (diagram_of p) now inputs h)
@@ -183,16 +200,11 @@ module _ (p : Drawing) (sound : IsSound (diagram_of p))
   -- ---- and so the pairs stay apart
 
   module _ (pairs : List Pair) (outside : All (IsPairOutside p z) pairs) (are : AreExcluded p z pairs) where
-    apart_begun : (h : Held) → AreApart pairs h → (inputs : List Bool) → AreApart pairs (begun p inputs h)
-    apart_begun h apart inputs = λ k d l.
-        both_same _ _ _ _ (begun_same p z (get_or pairs k d).first (outside k d l).first inputs h) (begun_same p z (get_or pairs k d).second (outside k d l).second inputs h)
-        ∙ apart k d l
-
     apart_then : (h : Held) → Holds p z h → AreApart pairs h → (now : ℕ) (inputs : List Bool) → AreApart pairs (after_scan (diagram_of p) now inputs h)
     apart_then h holds apart now inputs = λ k d l.
         subst (λ (next : Held). are_both_on next (get_or pairs k d) ≡ false) (scan_begun p now inputs h)
-        (excluded p keeps known pairs (get_or pairs k d) (knowing p z) (are k d l) now (begun p inputs h)
-        (knowing_holds p z set now (begun p inputs h) (holds_begun p z set inputs h holds)) (apart_begun h apart inputs))
+        (settled_both p keeps known pairs (get_or pairs k d) false (knowing p z) (are k d l) now (begun p inputs h)
+        (knowing_holds p z set now (begun p inputs h) (holds_begun p z set inputs h holds)) (begun_apart p z pairs outside h apart inputs))
 
     apart_after : (scans : List OneScan) (h : Held) → Holds p z h → AreApart pairs h → AreApart pairs (after_each (diagram_of p) scans h)
     unfolding after_each

@@ -6,12 +6,13 @@ use Rattle.ladder_vars.specs.declared.decls.Symbol.TheVariants as symbol
 use Rattle.ladder_grid.specs.Program.{Drawing}
 use Rattle.ladder_scan.specs.Programs.{diagram_of}
 use Rattle.ladder_scan.specs.Rung.{Held}
+use Rattle.ladder_scan.specs.Scan.{after_scan}
 use Rattle.ladder_scan.specs.Standing.{Standing, Fits, IsStanding}
 use Rattle.ladder_known.specs.KnownScan.{Known, after_known}
 use Rattle.ladder_signals.specs.Three.{three, three_known, three_meet}
 use Rattle.ladder_signals.specs.declared.tri.Tri.{Tri}
-use Rattle.ladder_signals.specs.declared.tri.Tri.TheVariants.{Off, On}
-use Rattle.ladder_never.specs.Allowing.{is_on_in}
+use Rattle.ladder_signals.specs.declared.tri.Tri.TheVariants.{On}
+use Rattle.ladder_never.specs.Allowing.{AllowsState, is_on_in}
 use Rattle.ladder_never.specs.Cases.{IsSettledOff, answering, pinned, told}
 use Rattle.ladder_never.specs.Never.{Bits, IsOff, IsSetOf, OneScan, after_each, is_in, knowing}
 use Rattle.ladder_never.specs.Outcomes.{outcomes}
@@ -53,17 +54,21 @@ pub data IsForcedOff (pairs : List Pair) (k : Known Tri Outcome) (point : Point)
 abbrev pub both_told : Pair → Known Tri Outcome → Tri
 both_told pair k = three_meet (told (point_of pair.first) k) (told (point_of pair.second) k)
 
--- Not both of the target are ON after a scan from what is known, where of no pair both were ON: over three values the scan tells it; or it is
--- so from there with a point OFF that a pair forces to be, or both from there with some point OFF and from there with that point ON, or from
--- there with each of the three answers of some instance.
-pub data IsExcluded (p : Drawing) (pairs : List Pair) (target : Pair) : Known Tri Outcome → Type 0 where
-  by_scan : (k : Known Tri Outcome) → both_told target (after_known three outcomes (diagram_of p) 0 [] k) ≡ Off → IsExcluded p pairs target k
-  by_partner : (k : Known Tri Outcome) (point : Point) → IsForcedOff pairs k point → IsExcluded p pairs target (pinned k point (three_known false))
-      → IsExcluded p pairs target k
-  by_cases : (k : Known Tri Outcome) (point : Point) → IsExcluded p pairs target (pinned k point (three_known false))
-      → IsExcluded p pairs target (pinned k point (three_known true)) → IsExcluded p pairs target k
-  by_answers : (k : Known Tri Outcome) (inst : ℕ) → IsExcluded p pairs target (answering k inst AnswersOff)
-      → IsExcluded p pairs target (answering k inst AnswersOn) → IsExcluded p pairs target (answering k inst Input) → IsExcluded p pairs target k
+-- Whether both of the target are ON after a scan from what is known, where of no pair both were ON, is this value: over three values the scan
+-- tells it; or it is so from there with a point OFF that a pair forces to be, or both from there with some point OFF and from there with that
+-- point ON, or from there with each of the three answers of some instance.
+pub data IsSettledBoth (p : Drawing) (pairs : List Pair) (target : Pair) (value : Bool) : Known Tri Outcome → Type 0 where
+  by_scan : (k : Known Tri Outcome) → both_told target (after_known three outcomes (diagram_of p) 0 [] k) ≡ three_known value → IsSettledBoth p pairs target value k
+  by_partner : (k : Known Tri Outcome) (point : Point) → IsForcedOff pairs k point → IsSettledBoth p pairs target value (pinned k point (three_known false))
+      → IsSettledBoth p pairs target value k
+  by_cases : (k : Known Tri Outcome) (point : Point) → IsSettledBoth p pairs target value (pinned k point (three_known false))
+      → IsSettledBoth p pairs target value (pinned k point (three_known true)) → IsSettledBoth p pairs target value k
+  by_answers : (k : Known Tri Outcome) (inst : ℕ) → IsSettledBoth p pairs target value (answering k inst AnswersOff)
+      → IsSettledBoth p pairs target value (answering k inst AnswersOn) → IsSettledBoth p pairs target value (answering k inst Input) → IsSettledBoth p pairs target value k
+
+-- Not both of the target are ON.
+abbrev pub IsExcluded : Drawing → List Pair → Pair → Known Tri Outcome → Type 0
+IsExcluded p pairs target k = IsSettledBoth p pairs target false k
 
 -- Of each pair not both are ON after a scan from all that is known where the set is OFF and of no pair both are ON.
 abbrev pub AreExcluded : Drawing → Bits → List Pair → Type 0
@@ -80,3 +85,9 @@ pub record ArePairs (p : Drawing) (s : Standing) (z : Bits) (pairs : List Pair) 
 abbrev pub AreNeverBoth : Drawing → Type 0
 AreNeverBoth p = (s : Standing) → Fits p s → IsStanding s → (z : Bits) → IsSetOf p z → IsSettledOff p z → IsOff z s.held
     → (pairs : List Pair) → ArePairs p s z pairs → (scans : List OneScan) → AreApart pairs (after_each (diagram_of p) scans s.held)
+
+-- What is settled of both of a target is so after one scan from each state that what is known allows, at the same moment, in which of no pair
+-- both are ON. The scan gives no input a value, so that inputs keep theirs.
+abbrev pub SettledBothHolds : Drawing → Type 0
+SettledBothHolds p = (pairs : List Pair) (target : Pair) (value : Bool) (k : Known Tri Outcome) → IsSettledBoth p pairs target value k
+    → (moment : ℕ) (h : Held) → AllowsState p moment k h → AreApart pairs h → are_both_on (after_scan (diagram_of p) moment [] h) target ≡ value

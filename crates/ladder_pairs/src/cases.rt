@@ -1,11 +1,11 @@
-//! Settling, by cases, that not both of a pair are ON after a scan.
+//! Settling, by cases, whether both of a pair are ON after a scan.
 
 ghost use Rattle.std.specs.Prelude.{◌≡◌, ◌≤◌, [], length, IsTrue};
 ghost use Rattle.ladder_scan.specs.Programs.{diagram_of};
 ghost use Rattle.ladder_known.specs.KnownScan.{after_known};
 ghost use Rattle.ladder_glance.specs.Sizes.{HasSizes, IsSpareFor};
 ghost use Rattle.ladder_never.specs.Outcomes.{outcomes};
-ghost use Rattle.ladder_pairs.specs.Pairs.{IsExcluded, both_told};
+ghost use Rattle.ladder_pairs.specs.Pairs.{IsSettledBoth, both_told};
 ghost use Rattle.ladder_signals.specs.Three.{three};
 
 use crate::choosing::choose;
@@ -16,7 +16,7 @@ use ladder_elements::Operations;
 use ladder_glance::{Knowledge, Room, scan_known};
 use ladder_grid::Program;
 use ladder_never::cases::Search;
-use ladder_never::pinning::{answer, pin, pin_answer, told};
+use ladder_never::pinning::{answer, is_known, pin, pin_answer, told};
 use ladder_never::{Answer, Outcome, Point, Sight, Writers};
 use ladder_signals::Tri;
 
@@ -40,14 +40,15 @@ fn look(
     told(point_of(target.first), trial).and(told(point_of(target.second), trial))
 }
 
-/// Whether it is settled that not both of the target are ON after a scan from what is known in the case, by at most so many scans, with
-/// further cases by these points. The case is the same afterwards.
-#[cycle(excluding)]
-pub(crate) fn exclude(
+/// Whether it is settled that both of the target are ON after a scan from what is known in the case, or that they aren't, as is wanted, where of
+/// no pair both are ON before it: by at most so many scans, with further cases. The case is the same afterwards.
+#[cycle(settling)]
+pub fn settle_both(
     program: &Program,
     writers: &Writers,
     pairs: &[Pair],
     target: Pair,
+    wanted: bool,
     case: &mut Knowledge<Tri, Outcome>,
     trial: &mut Knowledge<Tri, Outcome>,
     room: &mut Room<Tri>,
@@ -56,7 +57,7 @@ pub(crate) fn exclude(
     requires case { HasSizes program.now case.old }
     requires trial { HasSizes program.now trial.old }
     requires room { IsSpareFor program.now room.old }
-    ensures excluded { IsTrue result.is_settled → IsExcluded program.now pairs.now target case.old }
+    ensures settled { IsTrue result.is_settled → IsSettledBoth program.now pairs.now target wanted case.old }
     ensures scans { result.scans ≤ scans }
     ensures case { case.new ≡ case.old }
     ensures trial { HasSizes program.now trial.new }
@@ -79,33 +80,30 @@ pub(crate) fn exclude(
     match (both, choose(sight, target)) {
         (Tri::Unsure, Some(Point::Answer(inst))) => {
             by_answers(
-                program, writers, pairs, target, inst, case, trial, room, left,
+                program, writers, pairs, target, wanted, inst, case, trial, room, left,
             )
         }
         (Tri::Unsure, Some(point)) => {
             by_values(
-                program, writers, pairs, target, point, case, trial, room, left,
+                program, writers, pairs, target, wanted, point, case, trial, room, left,
             )
         }
-        (Tri::Off, _) => Search {
-            is_settled: true,
-            scans: left,
-        },
-        (Tri::Unsure | Tri::On, _) => Search {
-            is_settled: false,
+        _ => Search {
+            is_settled: is_known(both, wanted),
             scans: left,
         },
     }
 }
 
 /// The same with all OFF that the pairs from a number on force to be.
-#[cycle(excluding)]
+#[cycle(settling)]
 fn by_partners(
     program: &Program,
     writers: &Writers,
     pairs: &[Pair],
     number: usize,
     target: Pair,
+    wanted: bool,
     case: &mut Knowledge<Tri, Outcome>,
     trial: &mut Knowledge<Tri, Outcome>,
     room: &mut Room<Tri>,
@@ -115,32 +113,35 @@ fn by_partners(
     requires case { HasSizes program.now case.old }
     requires trial { HasSizes program.now trial.old }
     requires room { IsSpareFor program.now room.old }
-    ensures excluded { IsTrue result.is_settled → IsExcluded program.now pairs.now target case.old }
+    ensures settled { IsTrue result.is_settled → IsSettledBoth program.now pairs.now target wanted case.old }
     ensures scans { result.scans ≤ scans }
     ensures case { case.new ≡ case.old }
     ensures trial { HasSizes program.now trial.new }
     ensures room { room.new ≡ room.old }
 {
     let Some(forced) = next_forced(pairs, number, case) else {
-        return exclude(program, writers, pairs, target, case, trial, room, scans);
+        return settle_both(
+            program, writers, pairs, target, wanted, case, trial, room, scans,
+        );
     };
     let before = told(forced.point, case);
     pin(forced.point, Tri::Off, case);
     let more = forced.number + 1;
     let search = by_partners(
-        program, writers, pairs, more, target, case, trial, room, scans,
+        program, writers, pairs, more, target, wanted, case, trial, room, scans,
     );
     pin(forced.point, before, case);
     search
 }
 
 /// The same where the point is ON, and where it is OFF.
-#[cycle(excluding)]
+#[cycle(settling)]
 fn by_values(
     program: &Program,
     writers: &Writers,
     pairs: &[Pair],
     target: Pair,
+    wanted: bool,
     point: Point,
     case: &mut Knowledge<Tri, Outcome>,
     trial: &mut Knowledge<Tri, Outcome>,
@@ -150,7 +151,7 @@ fn by_values(
     requires case { HasSizes program.now case.old }
     requires trial { HasSizes program.now trial.old }
     requires room { IsSpareFor program.now room.old }
-    ensures excluded { IsTrue result.is_settled → IsExcluded program.now pairs.now target case.old }
+    ensures settled { IsTrue result.is_settled → IsSettledBoth program.now pairs.now target wanted case.old }
     ensures scans { result.scans ≤ scans }
     ensures case { case.new ≡ case.old }
     ensures trial { HasSizes program.now trial.new }
@@ -158,24 +159,29 @@ fn by_values(
 {
     let before = told(point, case);
     pin(point, Tri::On, case);
-    let on = by_partners(program, writers, pairs, 0, target, case, trial, room, scans);
+    let on = by_partners(
+        program, writers, pairs, 0, target, wanted, case, trial, room, scans,
+    );
     if !on.is_settled {
         pin(point, before, case);
         return on;
     }
     pin(point, Tri::Off, case);
-    let off = exclude(program, writers, pairs, target, case, trial, room, on.scans);
+    let off = settle_both(
+        program, writers, pairs, target, wanted, case, trial, room, on.scans,
+    );
     pin(point, before, case);
     off
 }
 
 /// The same with each of the three answers of an instance.
-#[cycle(excluding)]
+#[cycle(settling)]
 fn by_answers(
     program: &Program,
     writers: &Writers,
     pairs: &[Pair],
     target: Pair,
+    wanted: bool,
     inst: usize,
     case: &mut Knowledge<Tri, Outcome>,
     trial: &mut Knowledge<Tri, Outcome>,
@@ -185,7 +191,7 @@ fn by_answers(
     requires case { HasSizes program.now case.old }
     requires trial { HasSizes program.now trial.old }
     requires room { IsSpareFor program.now room.old }
-    ensures excluded { IsTrue result.is_settled → IsExcluded program.now pairs.now target case.old }
+    ensures settled { IsTrue result.is_settled → IsSettledBoth program.now pairs.now target wanted case.old }
     ensures scans { result.scans ≤ scans }
     ensures case { case.new ≡ case.old }
     ensures trial { HasSizes program.now trial.new }
@@ -193,20 +199,24 @@ fn by_answers(
 {
     let before = answer(inst, case);
     pin_answer(inst, Answer::On, case);
-    let on = exclude(program, writers, pairs, target, case, trial, room, scans);
+    let on = settle_both(
+        program, writers, pairs, target, wanted, case, trial, room, scans,
+    );
     if !on.is_settled {
         pin_answer(inst, before, case);
         return on;
     }
     pin_answer(inst, Answer::Off, case);
-    let off = exclude(program, writers, pairs, target, case, trial, room, on.scans);
+    let off = settle_both(
+        program, writers, pairs, target, wanted, case, trial, room, on.scans,
+    );
     if !off.is_settled {
         pin_answer(inst, before, case);
         return off;
     }
     pin_answer(inst, Answer::Input, case);
-    let input = exclude(
-        program, writers, pairs, target, case, trial, room, off.scans,
+    let input = settle_both(
+        program, writers, pairs, target, wanted, case, trial, room, off.scans,
     );
     pin_answer(inst, before, case);
     input

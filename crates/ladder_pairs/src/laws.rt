@@ -5,7 +5,7 @@ ghost use Rattle.ladder_elements.specs.Truth.{OnePlace};
 ghost use Rattle.ladder_known.specs.KnownScan.{plainly};
 ghost use Rattle.ladder_never.specs.OutcomeLaws.{outcomes_keep};
 ghost use Rattle.ladder_never.specs.Outcomes.{MayStore, outcomes};
-ghost use Rattle.ladder_pairs.specs.Pairs.{AreNeverBoth};
+ghost use Rattle.ladder_pairs.specs.Pairs.{AreNeverBoth, SettledBothHolds};
 ghost use Rattle.ladder_signals.specs.Three.{AnyTri, three, three_allows};
 ghost use Rattle.ladder_signals.specs.ThreeLaws.{three_allowed, three_lattice};
 
@@ -57,6 +57,15 @@ pub fn never_both(program: &Program)
     ensures { AreNeverBoth program.now }
 {
     checked(program);
+    scan_keeps::<Allowing>();
+    known_is_scan(program);
+}
+
+/// What is settled of both of a pair is so after a scan from each state that what is known allows at its moment, in which of no pair both are ON,
+/// where inputs keep their values.
+pub fn settled_both(program: &Program)
+    ensures { SettledBothHolds program.now }
+{
     scan_keeps::<Allowing>();
     known_is_scan(program);
 }

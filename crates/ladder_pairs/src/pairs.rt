@@ -1,6 +1,6 @@
 //! Pairs that aren't both ON in a state, and never will be.
 
-ghost use Rattle.std.specs.Prelude.{◌≡◌, IfOk, List};
+ghost use Rattle.std.specs.Prelude.{◌≡◌, IfOk, IsTrue, List};
 ghost use Rattle.ladder_scan.specs.Programs.{diagram_of};
 ghost use Rattle.ladder_scan.specs.Standing.{Fits};
 ghost use Rattle.ladder_never.specs.Cases.{IsNever};
@@ -10,6 +10,7 @@ ghost use Rattle.ladder_pairs.specs.Pairs.{AreApart, ArePairs};
 use crate::begin::begin;
 use crate::laws;
 use crate::pair::Pair;
+use crate::points::are_apart;
 use crate::removing::{Space, settle};
 use ladder_glance::{Knowledge, Room};
 use ladder_grid::Program;
@@ -40,6 +41,13 @@ impl Pairs {
         ensures { result.now ≡ self.now }
     {
         self.pairs.as_slice()
+    }
+
+    /// Whether of no pair both are ON in the state.
+    pub fn are_apart(&self, state: &State) -> bool
+        ensures { IsTrue result → AreApart self.now state.now.held }
+    {
+        are_apart(&self.pairs, state)
     }
 }
 

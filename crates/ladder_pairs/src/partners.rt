@@ -13,9 +13,9 @@ use ladder_signals::Tri;
 
 /// What is forced OFF, and by which of the pairs.
 #[derive(Clone, Copy)]
-pub(crate) struct Forced {
-    pub(crate) number: usize,
-    pub(crate) point: Point,
+pub struct Forced {
+    pub number: usize,
+    pub point: Point,
 }
 
 /// The other one of a pair, of which one is ON and the other is open.
@@ -32,11 +32,7 @@ fn forced_by(pair: Pair, case: &Knowledge<Tri, Outcome>) -> Option<Point>
 }
 
 /// What the first of the pairs from a number on forces that forces something.
-pub(crate) fn next_forced(
-    pairs: &[Pair],
-    from: usize,
-    case: &Knowledge<Tri, Outcome>,
-) -> Option<Forced>
+pub fn next_forced(pairs: &[Pair], from: usize, case: &Knowledge<Tri, Outcome>) -> Option<Forced>
     ensures number { IfSome result (λ f. (from ≤ f.number) × (f.number < length pairs.now)) }
     ensures forced { IfSome result (λ f. IsForcedOff pairs.now case.now f.point) }
 {

@@ -1,8 +1,8 @@
 //! What can be ON, as a point of a case and in a state.
 
-ghost use Rattle.std.specs.Prelude.{◌≡◌};
+ghost use Rattle.std.specs.Prelude.{◌≡◌, IsTrue};
 ghost use Rattle.ladder_never.specs.Allowing.{is_on_in};
-ghost use Rattle.ladder_pairs.specs.Pairs.{are_both_on, point_of};
+ghost use Rattle.ladder_pairs.specs.Pairs.{AreApart, are_both_on, point_of};
 
 use crate::pair::Pair;
 use ladder_never::Point;
@@ -33,4 +33,16 @@ pub(crate) fn are_both_on(state: &State, pair: Pair) -> bool
     ensures { result ≡ are_both_on state.now.held pair }
 {
     is_on(state, pair.first) && is_on(state, pair.second)
+}
+
+/// Whether of none of the pairs both are ON in the state.
+pub(crate) fn are_apart(pairs: &[Pair], state: &State) -> bool
+    ensures { IsTrue result → AreApart pairs.now state.now.held }
+{
+    for number in 0..pairs.len() {
+        if are_both_on(state, pairs[number]) {
+            return false;
+        }
+    }
+    true
 }

@@ -4,7 +4,7 @@ ghost use Rattle.std.specs.Prelude.{◌≡◌, ◌+◌, All, Contains, IsTrue, l
 ghost use Rattle.ladder_glance.specs.Sizes.{HasSizes, IsSpareFor};
 ghost use Rattle.ladder_pairs.specs.Pairs.{IsExcluded};
 
-use crate::cases::exclude;
+use crate::cases::settle_both;
 use crate::pair::Pair;
 use ladder_glance::{Knowledge, Room};
 use ladder_grid::Program;
@@ -36,11 +36,12 @@ fn stays_apart(
     ensures trial { HasSizes program.now space.new.trial }
     ensures room { space.new.room ≡ space.old.room }
 {
-    let search = exclude(
+    let search = settle_both(
         program,
         &space.writers,
         pairs,
         target,
+        false,
         &mut space.case,
         &mut space.trial,
         &mut space.room,

@@ -3,4 +3,5 @@ pub mod Claims
 pub mod Covering
 pub mod Given
 pub mod Rows
+pub mod Running
 pub mod Words

@@ -1,3 +1,4 @@
 pub mod Numbers
 pub mod Possible
+pub mod Reached
 pub mod Searching

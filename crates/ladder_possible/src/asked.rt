@@ -3,9 +3,9 @@
 ghost use Rattle.std.specs.Prelude.{◌≡◌, IfOk};
 ghost use Rattle.ladder_possible.specs.Searching.{IsKnowing, IsSpace, IsTried};
 
-use crate::before::Before;
 use crate::content::MOMENT;
 use crate::sight::{Sight, new_sight};
+use crate::states::States;
 use ladder_glance::{Knowledge, Room};
 use ladder_grid::Program;
 use ladder_never::{Outcome, Set, Writers};
@@ -19,10 +19,12 @@ pub(crate) struct Asked<'a> {
     pub program: &'a Program,
     pub coil: usize,
     pub listed: &'a [usize],
-    pub before: Before,
+    pub states: &'a States,
     /// The value of the coil that is sought after a scan.
     pub sought: bool,
     pub number: u64,
+    /// How many scans over three values a search for the number makes at most, and how many a proof that there is no such state.
+    pub looks: u32,
 }
 
 /// The buffers of a search.

@@ -3,14 +3,14 @@
 ghost use Rattle.std.specs.Prelude.{◌≡◌, ◌<◌, ◌≤◌, ℕ, IsTrue, Some, length, slice_index_or};
 ghost use Rattle.ladder_scan.specs.Standing.{Fits, Standing};
 ghost use Rattle.ladder_possible.specs.Numbers.{HasBits, bit_for};
-ghost use Rattle.ladder_possible.specs.Possible.{SomeLeaves};
+ghost use Rattle.ladder_possible.specs.Possible.{AreStatesOf, SomeLeaves};
 ghost use Rattle.ladder_possible.specs.Searching.{IsTried};
 ghost use Rattle.ladder_possible.specs.declared.content.TheConstants.{MOMENT};
 
 use crate::asked::{Asked, Tried};
-use crate::before::counts;
 use crate::content::{MOMENT, content};
 use crate::numbers::bit_for;
+use crate::states::counts;
 use ladder_glance::{Keep, Knowledge};
 use ladder_grid::Program;
 use ladder_never::Outcome;
@@ -69,16 +69,17 @@ fn set_blocks(program: &Program, case: &Knowledge<Tri, Outcome>, state: &mut Sta
 /// written over.
 fn leaves_sought(asked: Asked<'_>, state: &State, scanned: &mut State) -> bool
     requires coil { asked.coil < length asked.program.now.decls.vars }
+    requires states { AreStatesOf asked.program.now asked.states.now }
     requires fits { Fits asked.program.now state.now }
     requires moment { state.now.moment ≡ MOMENT }
     requires bits { HasBits asked.listed.now asked.number state.now.held.values }
     requires scanned { Fits asked.program.now scanned.old }
-    ensures found { IsTrue result → SomeLeaves asked.entry.program.now asked.entry.coil asked.entry.listed.now asked.entry.before asked.entry.sought asked.entry.number }
+    ensures found { IsTrue result → SomeLeaves asked.entry.program.now asked.entry.coil asked.entry.listed.now asked.entry.states.now asked.entry.sought asked.entry.number }
     ensures scanned { Fits asked.entry.program.now scanned.new }
 {
     state.checked();
     scanned.checked();
-    if !counts(asked.before, asked.coil, state) {
+    if !counts(asked.program, asked.states, asked.coil, state) {
         return false;
     }
     scanned.copy_from(state);
@@ -92,8 +93,9 @@ fn leaves_sought(asked: Asked<'_>, state: &State, scanned: &mut State) -> bool
 pub(crate) fn is_found(asked: Asked<'_>, case: &Knowledge<Tri, Outcome>, tried: &mut Tried) -> bool
     requires few { length asked.listed.now ≤ 64 }
     requires coil { asked.coil < length asked.program.now.decls.vars }
+    requires states { AreStatesOf asked.program.now asked.states.now }
     requires tried { IsTried asked.program.now tried.old }
-    ensures found { IsTrue result → SomeLeaves asked.entry.program.now asked.entry.coil asked.entry.listed.now asked.entry.before asked.entry.sought asked.entry.number }
+    ensures found { IsTrue result → SomeLeaves asked.entry.program.now asked.entry.coil asked.entry.listed.now asked.entry.states.now asked.entry.sought asked.entry.number }
     ensures tried { IsTried asked.entry.program.now tried.new }
 {
     set_values(asked, case, &mut tried.state);

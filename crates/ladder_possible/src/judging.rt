@@ -5,24 +5,24 @@ ghost use Rattle.ladder_questions.specs.Listable.{IsListable};
 ghost use Rattle.ladder_never.specs.Never.{knowing};
 ghost use Rattle.ladder_glance.specs.Sizes.{AreAsLong};
 ghost use Rattle.ladder_possible.specs.Numbers.{IsBegun, MayKnowCoil, NoneLeaves};
-ghost use Rattle.ladder_possible.specs.Possible.{SomeLeaves};
-ghost use Rattle.ladder_possible.specs.Searching.{IsSpace};
+ghost use Rattle.ladder_possible.specs.Possible.{AreStatesOf, SomeLeaves, off_in};
+ghost use Rattle.ladder_possible.specs.Searching.{IsKnowing, IsSpace};
 ghost use Rattle.ladder_possible.specs.declared.judging.Verdict.TheVariants.{Never, Found};
 
-use crate::asked::{Asked, Space};
+use crate::asked::{Asked, Knowing, Space};
 use crate::before::Before;
 use crate::numbers::give;
 use crate::seeking::seek;
+use crate::states::pairs;
 use ladder_glance::Knowledge;
-use ladder_never::cases::settle_value;
 use ladder_never::knowing::know;
-use ladder_never::laws::settled;
 use ladder_never::pinning::pin;
 use ladder_never::{Outcome, Point};
+use ladder_pairs::Pair;
+use ladder_pairs::cases::settle_both;
+use ladder_pairs::laws::settled_both;
 use ladder_signals::Tri;
-
-/// How many scans over three values a search for one number makes at most, and how many a proof that there is none.
-const SCANS: u32 = 4096;
+use ladder_vars::Symbol;
 
 /// What is settled of a number.
 #[derive(Clone, Copy, Debug, PartialEq, Eq)]
@@ -38,25 +38,39 @@ pub(crate) enum Verdict {
 /// Knows that the coil is OFF where only such states count.
 fn know_coil(asked: Asked<'_>, known: &mut Knowledge<Tri, Outcome>)
     requires coil { asked.coil < length asked.program.now.decls.vars }
-    ensures coil { MayKnowCoil asked.entry.program.now asked.entry.coil asked.entry.before known.old known.new }
+    ensures coil { MayKnowCoil asked.entry.program.now asked.entry.coil asked.entry.states.now.before known.old known.new }
     ensures sizes { AreAsLong known.new known.old }
 {
-    if asked.before == Before::Off && !asked.program.decls().vars()[asked.coil].is_input() {
+    if asked.states.before == Before::Off && !asked.program.decls().vars()[asked.coil].is_input() {
         pin(Point::Variable(asked.coil), Tri::Off, known);
     }
 }
 
-/// Knows what the number gives the listed inputs, but for those of its last bits, which are open, that the coil is OFF where only such states
-/// count, and nothing else.
+/// Knows what stays OFF, where only such states count, and nothing else.
+fn know_set(asked: Asked<'_>, known: &mut Knowing)
+    requires states { AreStatesOf asked.program.now asked.states.now }
+    requires known { IsKnowing asked.program.now known.old }
+    ensures case { known.new.case ≡ knowing asked.entry.program.now (off_in asked.entry.states.now.staying known.new.none) }
+    ensures known { IsKnowing asked.entry.program.now known.new }
+{
+    match &asked.states.staying {
+        Some(staying) => know(asked.program, &staying.off, &mut known.case),
+        None => know(asked.program, &known.none, &mut known.case),
+    }
+}
+
+/// Knows what the number gives the listed inputs, but for those of its last bits, which are open, that the coil is OFF and what stays OFF, where
+/// only such states count, and nothing else.
 fn begin(asked: Asked<'_>, open_bits: u32, space: &mut Space)
     requires listable { IsListable asked.program.now asked.coil asked.listed.now }
+    requires states { AreStatesOf asked.program.now asked.states.now }
     requires space { IsSpace asked.program.now space.old }
-    ensures begun { IsBegun asked.entry.program.now asked.entry.coil asked.entry.listed.now asked.entry.before open_bits asked.entry.number
-        (knowing asked.entry.program.now space.new.knowing.none) space.new.knowing.case }
+    ensures begun { IsBegun asked.entry.program.now asked.entry.coil asked.entry.listed.now asked.entry.states.now.before open_bits asked.entry.number
+        (knowing asked.entry.program.now (off_in asked.entry.states.now.staying space.new.knowing.none)) space.new.knowing.case }
     ensures space { IsSpace asked.entry.program.now space.new }
 {
     let known = &mut space.knowing;
-    know(asked.program, &known.none, &mut known.case);
+    know_set(asked, known);
     give(
         asked.listed,
         open_bits,
@@ -72,18 +86,24 @@ fn begin(asked: Asked<'_>, open_bits: u32, space: &mut Space)
 pub(crate) fn is_never(asked: Asked<'_>, open_bits: u32, space: &mut Space, scans: u32) -> bool
     requires listable { IsListable asked.program.now asked.coil asked.listed.now }
     requires aligned { asked.number % 2 ^ open_bits ≡ 0 }
+    requires states { AreStatesOf asked.program.now asked.states.now }
     requires space { IsSpace asked.program.now space.old }
     ensures never { result ≡ true
-        → NoneLeaves asked.entry.program.now asked.entry.coil asked.entry.listed.now asked.entry.before asked.entry.sought asked.entry.number (asked.entry.number + 2 ^ open_bits) }
+        → NoneLeaves asked.entry.program.now asked.entry.coil asked.entry.listed.now asked.entry.states.now asked.entry.sought asked.entry.number (asked.entry.number + 2 ^ open_bits) }
     ensures space { IsSpace asked.entry.program.now space.new }
 {
-    settled(asked.program);
+    settled_both(asked.program);
     begin(asked, open_bits, space);
-    let coil = Point::Variable(asked.coil);
-    let search = settle_value(
+    let coil = Symbol::Var(asked.coil);
+    // A pair of the coil with itself is ON where the coil is.
+    let search = settle_both(
         asked.program,
         &space.knowing.writers,
-        coil,
+        pairs(asked.states),
+        Pair {
+            first: coil,
+            second: coil,
+        },
         !asked.sought,
         &mut space.knowing.case,
         &mut space.knowing.trial,
@@ -96,16 +116,17 @@ pub(crate) fn is_never(asked: Asked<'_>, open_bits: u32, space: &mut Space, scan
 /// What is settled of the number.
 pub(crate) fn judge(asked: Asked<'_>, space: &mut Space) -> Verdict
     requires listable { IsListable asked.program.now asked.coil asked.listed.now }
+    requires states { AreStatesOf asked.program.now asked.states.now }
     requires space { IsSpace asked.program.now space.old }
-    ensures never { result ≡ Never → SomeLeaves asked.entry.program.now asked.entry.coil asked.entry.listed.now asked.entry.before asked.entry.sought asked.entry.number → ⊥ }
-    ensures found { result ≡ Found → SomeLeaves asked.entry.program.now asked.entry.coil asked.entry.listed.now asked.entry.before asked.entry.sought asked.entry.number }
+    ensures never { result ≡ Never → SomeLeaves asked.entry.program.now asked.entry.coil asked.entry.listed.now asked.entry.states.now asked.entry.sought asked.entry.number → ⊥ }
+    ensures found { result ≡ Found → SomeLeaves asked.entry.program.now asked.entry.coil asked.entry.listed.now asked.entry.states.now asked.entry.sought asked.entry.number }
     ensures space { IsSpace asked.entry.program.now space.new }
 {
-    if is_never(asked, 0, space, SCANS) {
+    if is_never(asked, 0, space, asked.looks) {
         return Verdict::Never;
     }
     begin(asked, 0, space);
-    if seek(asked, space, SCANS).is_found {
+    if seek(asked, space, asked.looks).is_found {
         Verdict::Found
     } else {
         Verdict::Open

@@ -2,16 +2,18 @@
 
 ghost use Rattle.std.specs.Prelude.{◌≡◌, ◌<◌, ◌≤◌, IsTrue, length};
 ghost use Rattle.ladder_glance.specs.Sizes.{AreAsLong};
-ghost use Rattle.ladder_possible.specs.Possible.{SomeLeaves};
+ghost use Rattle.ladder_possible.specs.Possible.{AreStatesOf, SomeLeaves, pairs_of};
 ghost use Rattle.ladder_possible.specs.Searching.{IsSpace};
 
 use crate::asked::{Asked, Knowing, Space};
 use crate::candidate::is_found;
+use crate::states::pairs;
 use ladder_glance::Knowledge;
 use ladder_never::cases::look;
 use ladder_never::choosing::open_point;
 use ladder_never::pinning::{is_known, pin, pin_answer};
 use ladder_never::{Answer, Outcome, Point, Sight};
+use ladder_pairs::partners::next_forced;
 use ladder_signals::Tri;
 
 /// Whether a state was found, and how many scans are left.
@@ -64,8 +66,9 @@ fn next_point(asked: Asked<'_>, known: &Knowing) -> Option<Point> {
 pub(crate) fn seek(asked: Asked<'_>, space: &mut Space, scans: u32) -> Attempt
     requires few { length asked.listed.now ≤ 64 }
     requires coil { asked.coil < length asked.program.now.decls.vars }
+    requires states { AreStatesOf asked.program.now asked.states.now }
     requires space { IsSpace asked.program.now space.old }
-    ensures found { IsTrue result.is_found → SomeLeaves asked.entry.program.now asked.entry.coil asked.entry.listed.now asked.entry.before asked.entry.sought asked.entry.number }
+    ensures found { IsTrue result.is_found → SomeLeaves asked.entry.program.now asked.entry.coil asked.entry.listed.now asked.entry.states.now asked.entry.sought asked.entry.number }
     ensures scans { result.scans ≤ scans }
     ensures space { IsSpace asked.entry.program.now space.new }
 {
@@ -101,15 +104,16 @@ pub(crate) fn seek(asked: Asked<'_>, space: &mut Space, scans: u32) -> Attempt
 fn by_cases(asked: Asked<'_>, point: Point, space: &mut Space, scans: u32) -> Attempt
     requires few { length asked.listed.now ≤ 64 }
     requires coil { asked.coil < length asked.program.now.decls.vars }
+    requires states { AreStatesOf asked.program.now asked.states.now }
     requires space { IsSpace asked.program.now space.old }
-    ensures found { IsTrue result.is_found → SomeLeaves asked.entry.program.now asked.entry.coil asked.entry.listed.now asked.entry.before asked.entry.sought asked.entry.number }
+    ensures found { IsTrue result.is_found → SomeLeaves asked.entry.program.now asked.entry.coil asked.entry.listed.now asked.entry.states.now asked.entry.sought asked.entry.number }
     ensures scans { result.scans ≤ scans }
     ensures space { IsSpace asked.entry.program.now space.new }
 {
     let mut left = scans;
     for case in 0..CASES.len() {
         if choose(point, CASES[case], &mut space.knowing.case) {
-            let attempt = seek(asked, space, left);
+            let attempt = by_partners(asked, 0, space, left);
             if attempt.is_found {
                 return attempt;
             }
@@ -121,4 +125,25 @@ fn by_cases(asked: Asked<'_>, point: Point, space: &mut Space, scans: u32) -> At
         is_found: false,
         scans: left,
     }
+}
+
+/// The same with all OFF that the pairs from a number on force to be.
+#[cycle(seeking)]
+fn by_partners(asked: Asked<'_>, number: usize, space: &mut Space, scans: u32) -> Attempt
+    requires few { length asked.listed.now ≤ 64 }
+    requires coil { asked.coil < length asked.program.now.decls.vars }
+    requires number { number ≤ length (pairs_of asked.states.now.staying) }
+    requires states { AreStatesOf asked.program.now asked.states.now }
+    requires space { IsSpace asked.program.now space.old }
+    ensures found { IsTrue result.is_found → SomeLeaves asked.entry.program.now asked.entry.coil asked.entry.listed.now asked.entry.states.now asked.entry.sought asked.entry.number }
+    ensures scans { result.scans ≤ scans }
+    ensures space { IsSpace asked.entry.program.now space.new }
+{
+    let Some(forced) = next_forced(pairs(asked.states), number, &space.knowing.case) else {
+        return seek(asked, space, scans);
+    };
+    pin(forced.point, Tri::Off, &mut space.knowing.case);
+    let attempt = by_partners(asked, forced.number + 1, space, scans);
+    leave(forced.point, &mut space.knowing.case);
+    attempt
 }

@@ -21,7 +21,7 @@ use Rattle.ladder_sim.specs.declared.possible_text.PossibleSummary.{PossibleSumm
 pub none_added : (a : WriteLog) (w : List ℕ) (c : PossibleCursor) → AddedRows a a w w c c (record { rows = 0; unsettled = 0 })
 none_added a w c = record {
   rows = [];
-  gave = record { later = omega arith; rows_are = no_rows c.program c.coil c.listed c.before c.claim c.from; same = refl };
+  gave = record { later = omega arith; rows_are = no_rows c.program c.coil c.listed c.states c.claim c.from; same = refl };
   sends = sends_none a w;
   counts = (refl, refl);
 }
@@ -40,10 +40,10 @@ one_given c d e rows row gave gives =
     let from : e.from ≡ row.number + 1 = ap (λ (x : PossibleCursor). x.from) gives.then in
     record {
       later = omega (arith, gave.later, gives.from, from);
-      rows_are = subst (λ (n : ℕ). AreRows c.program c.coil c.listed c.before c.claim c.from n (rows ++ row ∷ [])) (sym from)
-          (rows_more c.program c.coil c.listed c.before c.claim rows c.from d.from gave.rows_are gave.later row gives.from
-          (here (λ x. AreDenied x.program x.coil x.listed x.before x.claim d.from row.number) gives.denied_before)
-          (λ settled. here (λ x. Says x.claim x.program x.coil x.listed x.before row.number) (gives.said settled)));
+      rows_are = subst (λ (n : ℕ). AreRows c.program c.coil c.listed c.states c.claim c.from n (rows ++ row ∷ [])) (sym from)
+          (rows_more c.program c.coil c.listed c.states c.claim rows c.from d.from gave.rows_are gave.later row gives.from
+          (here (λ x. AreDenied x.program x.coil x.listed x.states x.claim d.from row.number) gives.denied_before)
+          (λ settled. here (λ x. Says x.claim x.program x.coil x.listed x.states row.number) (gives.said settled)));
       same = gives.then ∙ ap (λ (x : PossibleCursor). record x { from = row.number + 1 }) gave.same
           ∙ ap (λ n. record c { from = n }) (sym from);
     }
@@ -81,7 +81,7 @@ ends_at_limit a b w0 w1 c d s limit added reached = record {
 
 -- Each further number is denied.
 pub ends : (a b : WriteLog) (w0 w1 : List ℕ) (c d e : PossibleCursor) (s : PossibleSummary) (limit : Option ℕ) → AddedRows a b w0 w1 c d s
-    → d.from ≤ 2 ^ length d.listed → AreDenied d.program d.coil d.listed d.before d.claim d.from (2 ^ length d.listed) → e ≡ record d { from = 2 ^ length d.listed }
+    → d.from ≤ 2 ^ length d.listed → AreDenied d.program d.coil d.listed d.states d.claim d.from (2 ^ length d.listed) → e ≡ record d { from = 2 ^ length d.listed }
     → AddsRows a b w0 w1 c e limit (Ok s)
 ends a b w0 w1 c d e s limit added within none same =
     let gave = added.gave in
@@ -91,9 +91,9 @@ ends a b w0 w1 c d e s limit added within none same =
       rows = added.rows;
       gave = record {
         later = omega (arith, gave.later, within, from);
-        rows_are = rows_end c.program c.coil c.listed c.before c.claim added.rows c.from d.from e.from gave.rows_are (omega (arith, within, from))
-            (subst (λ (n : ℕ). AreDenied c.program c.coil c.listed c.before c.claim d.from n) (sym from)
-            (subst (λ (x : PossibleCursor). AreDenied x.program x.coil x.listed x.before x.claim d.from (2 ^ length d.listed)) gave.same none));
+        rows_are = rows_end c.program c.coil c.listed c.states c.claim added.rows c.from d.from e.from gave.rows_are (omega (arith, within, from))
+            (subst (λ (n : ℕ). AreDenied c.program c.coil c.listed c.states c.claim d.from n) (sym from)
+            (subst (λ (x : PossibleCursor). AreDenied x.program x.coil x.listed x.states x.claim d.from (2 ^ length d.listed)) gave.same none));
         same = same ∙ ap (λ (x : PossibleCursor). record x { from = 2 ^ length d.listed }) gave.same ∙ ap (λ n. record c { from = n }) (sym from);
       };
       sends = added.sends;

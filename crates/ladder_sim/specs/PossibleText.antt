@@ -32,7 +32,7 @@ IsCount s rows = (s.rows ≡ length rows) × (s.unsettled ≡ count_by (λ row. 
 -- A cursor gave these rows, and is where it is after them.
 pub record Gave (c : PossibleCursor) (rows : List PossibleCause) (d : PossibleCursor) : Type 0 where
   pub later : c.from ≤ d.from
-  pub rows_are : AreRows c.program c.coil c.listed c.before c.claim c.from d.from rows
+  pub rows_are : AreRows c.program c.coil c.listed c.states c.claim c.from d.from rows
   pub same : d ≡ record c { from = d.from }
 
 -- They were all, or as many as the limit allows.

@@ -141,8 +141,9 @@ only_of_one_state rows one_state named causes held groups = only_causes rows cau
 -- Which states are meant is said of any state alone.
 pub no_one_state : (rows : List Row) → (HasFlag (codes "any") rows → ⊥) → (NamesNoStates rows → ⊥) → AsksNone (codes "causes") rows
 no_one_state rows not_any none =
-    only_causes rows (λ list after h. none (h.7.1, h.7.2)) (λ list scans every grouped h. none (h.8.1, h.8.2)) (λ list grouping h. none (h.10.1, h.10.2)) (λ r h. not_any h.1)
-    (λ list after grouping h. none (h.6.1, h.6.2))
+    only_causes rows (λ list after h. none (h.7.1, h.7.2, h.7.3, h.7.4)) (λ list scans every grouped h. none (h.8.1, h.8.2, h.8.3, h.8.4))
+    (λ list grouping h. none (h.10.1, h.10.2, h.10.3, h.10.4)) (λ r h. not_any h.1)
+    (λ list after grouping h. none (h.6.1, h.6.2, h.6.3, h.6.4))
 
 pub only_show : (rows : List Row)
     → ((r : ShowRequest) → Asks (codes "show") rows (Show r) → ⊥)
@@ -322,6 +323,9 @@ no_possible_of_bound rows any none = only_possible rows any (λ r h. none (h.4, 
 
 pub no_possible_of_grouping : (rows : List Row) → HasFlag (codes "any") rows → (HasForm Table rows → HasOrder Given rows → ⊥) → AsksNone (codes "causes") rows
 no_possible_of_grouping rows any none = only_possible rows any (λ r h. none h.7 h.8)
+
+pub no_possible_of_looks : (rows : List Row) → HasFlag (codes "any") rows → ((o : Option ℕ) → HasNumber (codes "looks") rows o → ⊥) → AsksNone (codes "causes") rows
+no_possible_of_looks rows any none = only_possible rows any (λ r h. none r.looks h.20)
 
 pub no_possible_of_list : (rows : List Row) → HasFlag (codes "any") rows → ((l : ListRequest) → NamesList rows l → ⊥) → AsksNone (codes "causes") rows
 no_possible_of_list rows any none =

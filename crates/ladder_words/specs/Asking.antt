@@ -66,9 +66,11 @@ abbrev pub HasOrder : InputOrder → List Row → Type 0
 HasOrder order rows = ((first_of (codes "order") rows ≡ None) × (order ≡ Given))
     ⊎ (name : List ℕ) × HasText (codes "order") rows name × IsNamed name order
 
--- One state is asked of: no flag says that any is, or which.
+-- One state is asked of: no word says that any is, which, or how long a search among them is.
 abbrev pub IsOfOneState : List Row → Type 0
 IsOfOneState rows = (HasFlag (codes "any") rows → ⊥) × (HasFlag (codes "off") rows → ⊥) × (HasFlag (codes "must") rows → ⊥)
+    × (HasFlag (codes "reachable") rows → ⊥)
+    × HasNumber (codes "looks") rows None
 
 -- A statement is written whole or not at all.
 abbrev pub MayHaveLimit : Form → Option ℕ → Type 0
@@ -211,6 +213,8 @@ Asks name rows (Possible r) = (name ≡ codes "causes")
     × HasCoil rows (string_bytes r.coil)
     × HasInputs rows r.all_inputs (map string_bytes r.inputs.items)
     × (HasFlag (codes "relevant") rows → ⊥)
+    × HasSwitch (codes "reachable") rows r.reachable
+    × HasNumber (codes "looks") rows r.looks
 Asks name rows (Relevant list after grouping) = (name ≡ codes "causes")
     × HasFlag (codes "relevant") rows
     × HasInputs rows false []

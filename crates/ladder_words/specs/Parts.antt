@@ -45,9 +45,11 @@ IsOfAnyState rows = HasOption (codes "state") rows None
     × IsOfOneScan rows
     × (HasFlag (codes "relevant") rows → ⊥)
 
--- No flag says which states count, or whether every one is meant.
+-- Nothing says which states count, whether every one is meant, or how long a search is.
 abbrev pub NamesNoStates : List Row → Type 0
 NamesNoStates rows = (HasFlag (codes "off") rows → ⊥) × (HasFlag (codes "must") rows → ⊥)
+    × (HasFlag (codes "reachable") rows → ⊥)
+    × HasNumber (codes "looks") rows None
 
 -- how long the scans last, where there are several
 abbrev pub MayLast : Option Lasting → List Row → Type 0

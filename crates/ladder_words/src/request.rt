@@ -68,6 +68,10 @@ pub struct PossibleRequest {
     pub off: bool,
     /// Whether every state that counts is to leave the coil ON, in place of some one.
     pub must: bool,
+    /// Whether only states count in which it is so what stays so in each state that the machine reaches.
+    pub reachable: bool,
+    /// How many scans a search for one row makes at most, where it is said.
+    pub looks: Option<u64>,
     /// Whether rows are those of groups, with the inputs that don't matter in each.
     pub grouped: bool,
     /// How many rows are written at most.

@@ -30,7 +30,7 @@ const EVERY: u64 = 10;
 ///
 /// `Mistake` where `clap` finds a fault other than that help is asked for, with what it says of it, or `Usage` when there is no memory for that; `Usage` where a fault has none of the named codes, where groups of one scan or a list over several scans are to begin after a
 /// number, where a time between scans is asked for without several scans, several scans by their number and by a time, where a form or the order `auto` is asked for without groups of one scan in one state, or both forms, or a statement with a limit, or an order that has another name, where
-/// neither a coil is named nor each meant, where inputs are named beside all of them, where those that matter are asked for and others are listed, or several scans or any state are asked of, where any state is asked of and a state, a moment, a number to begin after, several scans, a time between scans, a form or the order `auto` is named as well, where it is said which states count and any state isn't asked of, where a stimulus is to be shown with a moment, a number or listed inputs, or a waveform to be written with a saved state or with what is watched, where names are watched beside all of them, and nowhere else; `Help` with its text where help is asked for; `Memory` when out of memory.
+/// neither a coil is named nor each meant, where inputs are named beside all of them, where those that matter are asked for and others are listed, or several scans or any state are asked of, where any state is asked of and a state, a moment, a number to begin after, several scans, a time between scans, a form or the order `auto` is named as well, where it is said which states count, or how long a search is, and any state isn't asked of, where a stimulus is to be shown with a moment, a number or listed inputs, or a waveform to be written with a saved state or with what is watched, where names are watched beside all of them, and nowhere else; `Help` with its text where help is asked for; `Memory` when out of memory.
 pub fn read_words(alloc: Global, words: Vec<String>) -> Result<Task, WordFault>
     ensures asks { IfOk result (AsksBy ladder_app (map string_bytes words.items)) }
 
@@ -194,12 +194,15 @@ fn causes_request(alloc: Global, found: &ArgMatches<'_>) -> Result<Request, Word
     one_state_request(alloc, found)
 }
 
-/// Whether a flag says which states count, or that every one is meant.
+/// Whether it is said which states count, that every one is meant, or how long a search is.
 fn names_states(found: &ArgMatches<'_>) -> bool
     ensures none { result ≡ false → NamesNoStates (rows_of (found_of found.now)) }
     ensures some { result ≡ true → NamesNoStates (rows_of (found_of found.now)) → ⊥ }
 {
-    is_set(found, "off") || is_set(found, "must")
+    is_set(found, "off")
+        || is_set(found, "must")
+        || is_set(found, "reachable")
+        || is_given(found, "looks")
 }
 
 fn one_state_request(alloc: Global, found: &ArgMatches<'_>) -> Result<Request, WordFault>
@@ -239,6 +242,8 @@ fn possible_request(alloc: Global, found: &ArgMatches<'_>) -> Result<Request, Wo
     refuse_grouping(found)?;
     let off = is_set(found, "off");
     let must = is_set(found, "must");
+    let reachable = is_set(found, "reachable");
+    let looks = number(found, "looks")?;
     let grouped = is_set(found, "grouped");
     let ListRequest {
         limit,
@@ -252,6 +257,8 @@ fn possible_request(alloc: Global, found: &ArgMatches<'_>) -> Result<Request, Wo
     Ok(Request::Possible(PossibleRequest {
         off,
         must,
+        reachable,
+        looks,
         grouped,
         limit,
         quiet,

@@ -1,22 +1,21 @@
 use Rattle.std.proofs.Common.{inl, inr, refl, None}
-use Rattle.ladder_questions.specs.Causes.{question}
 use Rattle.ladder_questions.specs.Refusal.{refusal}
 use Rattle.ladder_text.specs.Log.{PutsAll, PutsPrefix}
 use Rattle.ladder_setting.specs.Setting.{given_by}
 use Rattle.ladder_setting.specs.declared.fault.ToolFault.TheVariants as fault
 use Rattle.ladder_setting.proofs.Ends.{cause_fault}
-use Rattle.ladder_lists.proofs.PossibleEnds.{asked_all, counts, lists}
+use Rattle.ladder_lists.specs.Asked.{stored_question}
+use Rattle.ladder_lists.proofs.PossibleEnds.{counts, lists}
 use Rattle.ladder_lists.proofs.possible.list_asked.Goals as goal
 
 pub returns-in-Err-clause-failed : goal.returns-in-Err-clause-failed
 returns-in-Err-clause-failed g c = λ save status.
-    let a = c.args.asked.now in
-    let q = question a.program a.state a.state.moment a.coil c.deref.result.now in
+    let q = stored_question c.args.asked.now in
     inl (record {
       reason = fault.Cause c.in-Err.fault;
       has = inr (inr (
         q,
-        asked_all (given_by c.args.texts.now) c.args.request.now a c.deref.result.now c.deref.ensures.value c.requires.asked,
+        c.requires.asked,
         cause_fault (refusal q None) c.in-Err.fault c.in-Err.ensures.refused,
       ));
       unwritten = refl {a = g.O.Sink.log c.args.out.now};
@@ -26,38 +25,32 @@ returns-in-Err-clause-failed g c = λ save status.
 
 pub returns-in_default-clause-failed : goal.returns-in_default-clause-failed
 returns-in_default-clause-failed g c = λ save status.
-    let a = c.args.asked.now in
-    let q = question a.program a.state a.state.moment a.coil c.deref.result.now in
+    let q = stored_question c.args.asked.now in
     let r = c.args.request.now in
-    let asked = asked_all (given_by c.args.texts.now) r a c.deref.result.now c.deref.ensures.value c.requires.asked in
     let w = c.in_default.ensures in
     inr (inl ((
       lists (given_by c.args.texts.now) r q c.in-Ok.cursor c.write_possible_causes-written.new.causes w.0
           (PutsPrefix (g.O.Sink.log c.args.out.now) (g.O.Sink.log c.write_possible_causes-written.new.writer))
-          asked c.in-Ok.ensures.accepted (rw (c.before_of-before.ensures, c.claim_of-claim.ensures) at c.in-Ok.ensures.cursor) w.1 w.2,
+          c.requires.asked c.in-Ok.ensures.accepted c.in-Ok.ensures.cursor w.1 w.2,
       c.report-in_default.ensures.line,
     )))
 
 pub returns-in_default-put_counts-clause-failed : goal.returns-in_default-put_counts-clause-failed
 returns-in_default-put_counts-clause-failed g c = λ save status.
-    let a = c.args.asked.now in
-    let q = question a.program a.state a.state.moment a.coil c.deref.result.now in
+    let q = stored_question c.args.asked.now in
     let r = c.args.request.now in
-    let asked = asked_all (given_by c.args.texts.now) r a c.deref.result.now c.deref.ensures.value c.requires.asked in
     let w = c.in-Ok-written.ensures in
     inr (inr (counts (given_by c.args.texts.now) r q c.in-Ok.cursor c.write_possible_causes-written.new.causes w.0
     (g.O.Sink.log c.args.out.now) (g.O.Sink.log c.write_possible_causes-written.new.writer)
     (PutsPrefix (g.E.Sink.log c.args.err.now) (g.E.Sink.log c.put_counts.new.err)) c.in-Ok-written.summary
-    asked c.in-Ok.ensures.accepted (rw (c.before_of-before.ensures, c.claim_of-claim.ensures) at c.in-Ok.ensures.cursor) w.1 w.2 w.3.0 w.3.1 c.in_default-put_counts.ensures))
+    c.requires.asked c.in-Ok.ensures.accepted c.in-Ok.ensures.cursor w.1 w.2 w.3.0 w.3.1 c.in_default-put_counts.ensures))
 
 pub returns-clause-done : goal.returns-clause-done
 returns-clause-done g c = λ status.
-    let a = c.args.asked.now in
-    let q = question a.program a.state a.state.moment a.coil c.deref.result.now in
+    let q = stored_question c.args.asked.now in
     let r = c.args.request.now in
-    let asked = asked_all (given_by c.args.texts.now) r a c.deref.result.now c.deref.ensures.value c.requires.asked in
     let w = c.in-Ok-written.ensures in
     counts (given_by c.args.texts.now) r q c.in-Ok.cursor c.write_possible_causes-written.new.causes w.0
     (g.O.Sink.log c.args.out.now) (g.O.Sink.log c.write_possible_causes-written.new.writer)
     (PutsAll (g.E.Sink.log c.args.err.now) (g.E.Sink.log c.put_counts.new.err)) c.in-Ok-written.summary
-    asked c.in-Ok.ensures.accepted (rw (c.before_of-before.ensures, c.claim_of-claim.ensures) at c.in-Ok.ensures.cursor) w.1 w.2 w.3.0 w.3.1 c.in-Ok-put_counts.ensures
+    c.requires.asked c.in-Ok.ensures.accepted c.in-Ok.ensures.cursor w.1 w.2 w.3.0 w.3.1 c.in-Ok-put_counts.ensures

@@ -26,8 +26,10 @@ returns-in_default-clause-failed g c = λ save status.
         question = q;
         asked = c.requires.asked;
         accepted = made.accepted;
+        staying = made.rest.staying;
+        stays = made.rest.stays;
         groups = c.in-Ok.cursor.rest;
-        are = rw (c.before_of-before.ensures, c.claim_of-claim.ensures) at made.rest;
+        are = made.rest.are;
         written = prefix_same _ _ _ _ (text_is c.args.request.now q c.in-Ok.cursor made.listed made.program) c.in_default.ensures.bytes;
       },
       c.report-in_default.ensures.line,
@@ -44,8 +46,10 @@ returns-in_default-put_counts-clause-failed g c = λ save status.
         question = q;
         asked = c.requires.asked;
         accepted = made.accepted;
+        staying = made.rest.staying;
+        stays = made.rest.stays;
         groups = c.in-Ok.cursor.rest;
-        are = rw (c.before_of-before.ensures, c.claim_of-claim.ensures) at made.rest;
+        are = made.rest.are;
         written = all_same _ _ _ _ (text_is r q c.in-Ok.cursor made.listed made.program) w.ensures.bytes;
       };
       count = prefix_same _ _ _ _
@@ -63,8 +67,10 @@ returns-clause-done g c = λ status.
         question = q;
         asked = c.requires.asked;
         accepted = made.accepted;
+        staying = made.rest.staying;
+        stays = made.rest.stays;
         groups = c.in-Ok.cursor.rest;
-        are = rw (c.before_of-before.ensures, c.claim_of-claim.ensures) at made.rest;
+        are = made.rest.are;
         written = all_same _ _ _ _ (text_is r q c.in-Ok.cursor made.listed made.program) w.ensures.bytes;
       };
       count = all_same _ _ _ _

@@ -1,12 +1,17 @@
-use Rattle.std.proofs.Common.{◌+◌, ◌*◌, ◌≤◌}
+use Rattle.std.proofs.Common.{◌+◌, ◌*◌, ◌-◌, ◌≤◌, length}
+use Rattle.ladder_possible.specs.Possible.{pairs_of}
 use Rattle.ladder_possible.specs.Searching.{IsSpace}
 use Rattle.ladder_possible.proofs.seeking.+seeking.Given as goal
 
 abbrev pub decreases-seek : goal.decreases-seek
-decreases-seek l = 2 * l.scans
+decreases-seek l = l.scans * (length (pairs_of l.asked.states.now.staying) + 3)
+
+abbrev pub decreases-by_partners : goal.decreases-by_partners
+decreases-by_partners l =
+    l.scans * (length (pairs_of l.asked.states.now.staying) + 3) + (length (pairs_of l.asked.states.now.staying) - l.number) + 1
 
 abbrev pub decreases-by_cases : goal.decreases-by_cases
-decreases-by_cases l = 2 * l.scans + 1
+decreases-by_cases l = l.scans * (length (pairs_of l.asked.states.now.staying) + 3) + length (pairs_of l.asked.states.now.staying) + 2
 
 abbrev pub invariant-by_cases-loop-case : goal.invariant-by_cases-loop-case
 invariant-by_cases-loop-case l = record {

@@ -1,8 +1,8 @@
 use Rattle.std.proofs.Common.{◌+◌, ◌*◌, ◌-◌, length}
-use Rattle.ladder_pairs.proofs.cases.+excluding.Given as goal
+use Rattle.ladder_pairs.proofs.cases.+settling.Given as goal
 
-abbrev pub decreases-exclude : goal.decreases-exclude
-decreases-exclude l = l.scans * (length l.pairs.now + 3)
+abbrev pub decreases-settle_both : goal.decreases-settle_both
+decreases-settle_both l = l.scans * (length l.pairs.now + 3)
 
 abbrev pub decreases-by_partners : goal.decreases-by_partners
 decreases-by_partners l = l.scans * (length l.pairs.now + 3) + (length l.pairs.now - l.number) + 1

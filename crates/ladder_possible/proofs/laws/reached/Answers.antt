@@ -1,0 +1,5 @@
+use Rattle.ladder_possible.proofs.Running.{runs_stay}
+use Rattle.ladder_possible.proofs.laws.reached.Goals as goal
+
+pub returns : goal.returns
+returns c = runs_stay c.args.program.now c.checked.ensures c.never_on.ensures c.never_both.ensures

@@ -1,0 +1,39 @@
+-- What stays so in each state that a run reaches.
+use Rattle.std.specs.Prelude.{ℕ, ◌<◌, ◌≤◌, ◌^◌, List, [], ◌∷◌}
+use Rattle.ladder_grid.specs.Program.{Drawing}
+use Rattle.ladder_scan.specs.Programs.{diagram_of}
+use Rattle.ladder_scan.specs.Scan.{after_scan}
+use Rattle.ladder_scan.specs.Standing.{Standing, Fits, IsStanding}
+use Rattle.ladder_never.specs.Cases.{IsNever}
+use Rattle.ladder_never.specs.Never.{OneScan}
+use Rattle.ladder_pairs.specs.Pairs.{ArePairs}
+use Rattle.ladder_possible.specs.Possible.{StaysSo}
+use Rattle.ladder_possible.specs.declared.states.Staying.{Staying}
+
+-- Some scans are a run: from a first moment on their moments don't fall, and they have 64 bits.
+abbrev pub IsRun : ℕ → List OneScan → Type 0
+IsRun from [] = Unit {0}
+IsRun from (scan ∷ more) = (from ≤ scan.moment) × (scan.moment < 2 ^ 64) × IsRun scan.moment more
+
+-- The state that these scans leave, one after the other.
+abbrev pub reached : Drawing → List OneScan → Standing → Standing
+reached p [] s = s
+reached p (scan ∷ more) s = reached p more (record s { held = after_scan (diagram_of p) scan.moment scan.inputs s.held; moment = scan.moment })
+
+-- Each state that a run from this one reaches is a state of the program, in which it is so what stays so.
+pub record IsReached (p : Drawing) (staying : Staying) (s : Standing) : Type 0 where
+  pub fits : Fits p s
+  pub standing : IsStanding s
+  pub stays : StaysSo staying s.held
+
+abbrev pub AreReached : Drawing → Standing → Staying → Type 0
+AreReached p s staying = (scans : List OneScan) → IsRun s.moment scans → IsReached p staying (reached p scans s)
+
+-- The set is settled to stay OFF from this state on, and the pairs to stay apart.
+pub record IsStaying (p : Drawing) (s : Standing) (staying : Staying) : Type 0 where
+  pub off : IsNever p s staying.off
+  pub apart : ArePairs p s staying.off staying.apart
+
+-- So it is then so in each state that a run reaches.
+abbrev pub RunsStay : Drawing → Type 0
+RunsStay p = (s : Standing) → Fits p s → IsStanding s → (staying : Staying) → IsStaying p s staying → AreReached p s staying

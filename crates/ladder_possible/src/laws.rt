@@ -1,0 +1,20 @@
+//! Laws over the definitions: each function does nothing, and its contract is the law.
+
+ghost use Rattle.ladder_possible.specs.Reached.{RunsStay};
+
+use ladder_grid::Program;
+use ladder_never::laws::never_on;
+use ladder_pairs::laws::never_both;
+use ladder_scan::scene::checked;
+
+/// What is settled to stay so is so in each state that a run reaches.
+///
+/// From a state of the program in which a set is OFF, and of no pair both are ON, and which are settled to stay so, any scans lead to a state of
+/// the program in which it is still so, with any inputs and at any moments that don't fall.
+pub fn reached(program: &Program)
+    ensures { RunsStay program.now }
+{
+    checked(program);
+    never_on(program);
+    never_both(program);
+}

@@ -1,0 +1,114 @@
+//! Which states count.
+
+ghost use Rattle.std.specs.Prelude.{◌≡◌, ◌<◌, ℕ, IsTrue, false, length, slice_index_or, true};
+ghost use Rattle.ladder_vars.specs.declared.kind.BlockKind.TheVariants.{Ton};
+ghost use Rattle.ladder_elements.specs.Blocks.{new_block, q_of};
+ghost use Rattle.ladder_never.specs.Never.{IsOff, is_in};
+ghost use Rattle.ladder_possible.specs.Possible.{AreStatesOf, Counts, IsBefore, IsStayingOf, MayStay, StaysSo, pairs_of};
+
+use crate::before::Before;
+use ladder_grid::Program;
+use ladder_never::Set;
+use ladder_pairs::{Pair, Pairs};
+use ladder_scan::State;
+
+/// What stays so in each state that a run reaches.
+#[derive(Drop)]
+pub struct Staying {
+    /// What is OFF.
+    pub off: Set,
+    /// Pairs of which not both are ON.
+    pub apart: Pairs,
+}
+
+/// Which states count.
+#[derive(Drop)]
+pub struct States {
+    /// By the coil's variable before the scan.
+    pub before: Before,
+    /// By what stays so in each of them, where that is known of them.
+    pub staying: Option<Staying>,
+}
+
+/// Whether the coil's variable is as it is to be.
+fn is_before(before: Before, coil: usize, state: &State) -> bool
+    ensures { IsTrue result → IsBefore before coil state.now }
+{
+    match before {
+        Before::Any => true,
+        Before::Off => !state.value_or_off(coil),
+    }
+}
+
+/// Whether each of the first variables that is in the set is OFF.
+fn are_variables_off(set: &Set, variables: usize, state: &State) -> bool
+    ensures { IsTrue result → (var : ℕ) → var < variables → is_in set.now.variables var ≡ true → slice_index_or state.now.held.values var false ≡ false }
+{
+    for var in 0..variables {
+        if set.has_variable(var) && state.value_or_off(var) {
+            return false;
+        }
+    }
+    true
+}
+
+/// Whether the Q of each of the first instances that is in the set is OFF.
+fn are_instances_off(set: &Set, instances: usize, state: &State) -> bool
+    ensures { IsTrue result → (inst : ℕ) → inst < instances → is_in set.now.instances inst ≡ true
+        → q_of (slice_index_or state.now.held.kept.blocks inst (new_block Ton)) ≡ false }
+{
+    for inst in 0..instances {
+        if set.has_instance(inst) && state.stored(inst).q() {
+            return false;
+        }
+    }
+    true
+}
+
+/// Whether the set is OFF.
+fn is_off(program: &Program, set: &Set, state: &State) -> bool
+    requires variables { length set.now.variables ≡ length program.now.decls.vars }
+    requires instances { length set.now.instances ≡ length program.now.decls.instances }
+    ensures { IsTrue result → IsOff set.now state.now.held }
+{
+    let decls = program.decls();
+    are_variables_off(set, decls.vars().len(), state)
+        && are_instances_off(set, decls.instances().len(), state)
+}
+
+/// Whether it is so what stays so.
+fn stays_so(program: &Program, staying: &Staying, state: &State) -> bool
+    requires { IsStayingOf program.now staying.now }
+    ensures { IsTrue result → StaysSo staying.now state.now.held }
+{
+    is_off(program, &staying.off, state) && staying.apart.are_apart(state)
+}
+
+/// The same, where anything is to.
+fn may_stay(program: &Program, states: &States, state: &State) -> bool
+    requires { AreStatesOf program.now states.now }
+    ensures { IsTrue result → MayStay states.now.staying state.now.held }
+{
+    match &states.staying {
+        Some(staying) => stays_so(program, staying, state),
+        None => true,
+    }
+}
+
+/// Whether the state counts.
+pub(crate) fn counts(program: &Program, states: &States, coil: usize, state: &State) -> bool
+    requires { AreStatesOf program.now states.now }
+    ensures { IsTrue result → Counts states.now coil state.now }
+{
+    is_before(states.before, coil, state) && may_stay(program, states, state)
+}
+
+/// The pairs that stay apart, where any are known.
+pub(crate) fn pairs(states: &States) -> &[Pair]
+    ensures { result.now ≡ pairs_of states.now.staying }
+{
+    match &states.staying {
+        Some(staying) => staying.apart.list(),
+        None => &[],
+    }
+}

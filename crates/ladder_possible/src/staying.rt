@@ -1,0 +1,37 @@
+//! What stays so in each state that a run reaches.
+
+ghost use Rattle.std.specs.Prelude.{IfOk};
+ghost use Rattle.ladder_scan.specs.Standing.{Fits};
+ghost use Rattle.ladder_possible.specs.Reached.{AreReached, IsStaying};
+
+use crate::laws;
+use crate::states::Staying;
+use ladder_grid::Program;
+use ladder_never::never_on;
+use ladder_pairs::never_both;
+use ladder_scan::{Memory, State};
+use std::alloc::Global;
+
+/// What stays so in each state that a run from the state reaches: what is never ON, as [`never_on`] finds it with so many `scans`, and the pairs
+/// of which never both are ON, as [`never_both`] finds them with so many `pair_scans`.
+///
+/// # Errors
+///
+/// `Memory` when out of memory.
+pub fn staying_from(
+    alloc: Global,
+    program: &Program,
+    state: &State,
+    scans: u32,
+    pair_scans: u32,
+) -> Result<Staying, Memory>
+    requires { Fits program.now state.now }
+    ensures settled { IfOk result (λ staying. IsStaying program.now state.now staying) }
+    ensures reached { IfOk result (λ staying. AreReached program.now state.now staying) }
+{
+    laws::reached(program);
+    state.checked();
+    let off = never_on(alloc, program, state, scans)?;
+    let apart = never_both(alloc, program, state, &off, pair_scans)?;
+    Ok(Staying { off, apart })
+}
