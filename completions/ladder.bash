@@ -29,7 +29,7 @@ _ladder() {
         return
     fi
     case $subcommand in
-        causes) options='--state --at --after --limit --scans --for --every --grouped --terms --st --order --any --off --must --reachable --looks --relevant --all-inputs --all-coils --quiet --why --help' ;;
+        causes) options='--state --at --after --upto --limit --scans --for --every --grouped --terms --st --order --any --off --must --reachable --looks --relevant --all-inputs --all-coils --quiet --why --help' ;;
         show) options='--state --at --number --html --stimulus --coil --all-inputs --why --help' ;;
         sim) options='--state --save --every --watch --watch-all --vcd --why --help' ;;
         check) options='--warn --why --help' ;;
@@ -48,7 +48,7 @@ _ladder() {
                 ((number++))
                 every=1
                 ;;
-            --state | --at | --after | --limit | --scans | --for | --every | --looks | --order | --number | --stimulus | --coil | --save | --watch) ((number++)) ;;
+            --state | --at | --after | --upto | --limit | --scans | --for | --every | --looks | --order | --number | --stimulus | --coil | --save | --watch) ((number++)) ;;
             -*) ;;
             *)
                 ((place++))
@@ -59,7 +59,7 @@ _ladder() {
     done
     case $before in
         --state | --save | --stimulus) mapfile -t COMPREPLY < <(compgen -f -- "$word") ;;
-        --at | --after | --limit | --scans | --for | --every | --looks | --number) ;;
+        --at | --after | --upto | --limit | --scans | --for | --every | --looks | --number) ;;
         --all-coils) mapfile -t COMPREPLY < <(compgen -d -- "$word") ;;
         --order) mapfile -t COMPREPLY < <(compgen -W 'auto given' -- "$word") ;;
         --coil) mapfile -t COMPREPLY < <(compgen -W "$(_ladder_coils "$file")" -- "$word") ;;
