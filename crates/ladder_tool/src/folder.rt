@@ -205,13 +205,13 @@ impl Lists<'_> {
     fn list_all(&self, request: &mut Request, coils: Vec<String>) -> u8
         ensures { result ≤ 1 }
     {
-        let mut status = 0;
+        let mut are_made = true;
         for coil in coils {
             if self.list(request, coil) != 0 {
-                status = 1;
+                are_made = false;
             }
         }
-        status
+        if are_made { 0 } else { 1 }
     }
 
     /// Makes the lists of these coils, where no list is written over what is read. Returns the status.
