@@ -1,16 +1,29 @@
 -- How a list of what some state, or every one, switches on ends.
-use Rattle.std.proofs.Common.{◌≡◌, ◌∙◌, ◌⊎◌, ◌^◌, ℕ, List, None, Option, Some, ap, inl, inr, length, subst}
+use Rattle.std.proofs.Common.{◌≡◌, ◌∙◌, ◌⊎◌, ◌^◌, ℕ, Bool, true, false, List, None, Option, Some, ap, inl, inr, length, subst, sym}
+use Rattle.ladder_grid.specs.Program.{Drawing}
 use Rattle.ladder_questions.specs.Causes.{Question}
 use Rattle.ladder_questions.specs.Refusal.{refusal}
-use Rattle.ladder_possible.specs.Possible.{AreRows, PossibleCursor}
+use Rattle.ladder_possible.specs.Possible.{AreRows, AreStatesOf, MayBeOf, PossibleCursor}
+use Rattle.ladder_possible.specs.declared.states.Staying.{Staying}
+use Rattle.ladder_scan.specs.Standing.{Standing}
 use Rattle.ladder_possible.specs.declared.possible.PossibleCause.{PossibleCause}
 use Rattle.ladder_sim.specs.PossibleText.{AreAll, Gave, IsCount, possible_text}
 use Rattle.ladder_sim.specs.declared.possible_text.PossibleSummary.{PossibleSummary}
 use Rattle.ladder_text.specs.Log.{PutsAll, WriteLog}
 use Rattle.ladder_words.specs.declared.request.PossibleRequest.{PossibleRequest}
 use Rattle.ladder_lists.specs.Asked.{AsksFor}
-use Rattle.ladder_lists.specs.Lists.{CountsPossible, IsAskedOfAll, ListsPossible, possible_line, unless_quiet}
+use Rattle.ladder_lists.specs.Lists.{CountsPossible, IsAskedOfAll, IsStayingBy, ListsPossible, counted, possible_line, unless_quiet}
 use Rattle.ladder_setting.specs.Setting.{Given}
+
+-- What stays so is said of the program's own names.
+of_program : (p : Drawing) (off : Bool) (staying : Option Staying) → MayBeOf p staying → AreStatesOf p (counted off staying)
+of_program p true staying of = of
+of_program p false staying of = of
+
+pub states_of : (b off : Bool) (p : Drawing) (s : Standing) (staying : Option Staying) → IsStayingBy b p s staying → AreStatesOf p (counted off staying)
+states_of false off p s staying none = of_program p off staying (subst (λ (x : Option Staying). MayBeOf p x) (sym none) tt)
+states_of true off p s staying (known, same, is, reached) =
+    of_program p off staying (subst (λ (x : Option Staying). MayBeOf p x) (sym same) (record { off = is.off.set; apart = is.apart.outside }))
 
 pub lists : (g : Given) (r : PossibleRequest) (q : Question) (c d : PossibleCursor) (rows : List PossibleCause) (Written : List ℕ → Type 0) → IsAskedOfAll g r q
     → refusal q None ≡ None → AsksFor r q c → Gave c rows d → Written (possible_text c.program c.listed rows) → ListsPossible g r Written

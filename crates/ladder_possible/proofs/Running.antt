@@ -12,8 +12,7 @@ use Rattle.ladder_scan.proofs.Sizes.{scan_lengths}
 use Rattle.ladder_never.specs.Cases.{AreNeverOn}
 use Rattle.ladder_never.specs.Never.{IsOff, OneScan, after_each}
 use Rattle.ladder_pairs.specs.Pairs.{AreApart, AreNeverBoth}
-use Rattle.ladder_possible.specs.Reached.{AreReached, IsReached, IsRun, IsStaying, RunsStay, reached}
-use Rattle.ladder_possible.specs.declared.states.Staying.{Staying}
+use Rattle.ladder_possible.specs.Reached.{IsRun, RunsStay, reached}
 
 -- the state that one scan leaves
 abbrev next : Drawing → OneScan → Standing → Standing
