@@ -3,6 +3,7 @@ pub mod NearLaws
 pub mod RunLaws
 pub mod RowLaws
 pub mod Taking
+pub mod PartLaws
 pub mod GroupRows
 pub mod CellLaws
 pub mod TermLaws

@@ -10,3 +10,4 @@ pub mod TermParts
 pub mod Forms
 pub mod PossibleText
 pub mod PossibleRows
+pub mod Parts

@@ -1,12 +1,16 @@
 //! The text of a list of causes.
 
-ghost use Rattle.std.specs.Prelude.{◌≡◌, ◌≢◌, ◌+◌, ◌-◌, ◌*◌, ◌<◌, ◌≤◌, ◌++◌, ◌∷◌, ◌^◌, [], IfOk, MatchResult, Some, None, IfSome, codes, decimal, false, length, map, slice_get, take, true};
+ghost use Rattle.std.specs.Prelude.{◌≡◌, ◌≢◌, ◌+◌, ◌-◌, ◌*◌, ◌<◌, ◌≤◌, ◌++◌, ◌∷◌, ◌^◌, [], All, IfOk, MatchOption, MatchResult, Some, None, IfSome, codes, decimal, false, length, map, slice_get, take, true};
 ghost use Rattle.ladder_questions.specs.Assignment.{bit_of};
-ghost use Rattle.ladder_causes.specs.Cursor.{Takes, looks_given, looks_of, searched};
+ghost use Rattle.ladder_causes.specs.Cursor.{KeepsQuestion, Takes, looks_given, looks_of, searched};
+ghost use Rattle.ladder_causes.specs.Parts.{looks_given_to, numbers_to};
+ghost use Rattle.ladder_search.specs.Looks.{looks_until};
+ghost use Rattle.ladder_search.specs.Marked.{marked};
 ghost use Rattle.std.specs.List.{slice_range};
 ghost use Rattle.ladder_text.specs.Block.{Sends};
 ghost use Rattle.ladder_records.specs.Text.{after_commas, bit_text, line_text};
 ghost use Rattle.ladder_sim.specs.CauseText.{cause_text, limited, name_of, TakesAtMost};
+ghost use Rattle.ladder_sim.specs.Parts.{part, part_looks, settled};
 ghost use Rattle.ladder_sim.specs.Rows.{bits, name_in, row, rows};
 ghost use Rattle.ladder_sim.specs.Kept.{IsKept};
 ghost use Rattle.ladder_text.specs.Log.{Puts};
@@ -16,7 +20,7 @@ use crate::kept::Kept;
 use crate::rows::RowBuffer;
 use crate::runs::add_marked;
 use itoa::write_digits;
-use ladder_causes::Causes;
+use ladder_causes::{Causes, Marked};
 use ladder_grid::Program;
 use ladder_text::{Block, Sink, WriteFault};
 use ladder_vars::Decls;
@@ -148,57 +152,113 @@ fn rows_left(limit: Option<u64>, rows: u64) -> u64
     }
 }
 
-/// Adds the rows that are left, or the first of them where there is a limit, and returns how many.
+/// What a list has next, or the part of it up to `last`.
+fn next_numbers(causes: &mut Causes<'_>, last: Option<u64>, most: u64) -> Option<Marked>
+    requires most { 0 < most }
+    ensures gives { IfSome result (λ m. causes.old.rest ≡ marked m.number m.mask ++ causes.new.rest) }
+    ensures part { MatchOption result (part last causes.old.rest ≡ [])
+        (λ m. part last causes.old.rest ≡ marked m.number m.mask ++ part last causes.new.rest) }
+    ensures some { IfSome result (λ m. 0 < m.mask) }
+    ensures few { IfSome result (λ m. length (marked m.number m.mask) ≤ most) }
+    ensures range { IfSome result (λ m. m.number < 2 ^ 63) }
+    ensures question { KeepsQuestion causes.old causes.new }
+    ensures stays { result ≡ None → causes.new.rest ≡ causes.old.rest }
+    ensures looks { MatchOption result (looks_of causes.new ≡ settled last (searched causes.old) (looks_of causes.old))
+        (λ m. All (λ n. looks_of causes.new ≡ looks_until (searched causes.old) n) (marked m.number m.mask)) }
+{
+    match last {
+        Some(last) => causes.next_to(last, most),
+        None => causes.next_many(most),
+    }
+}
+
+/// Adds the rows that are left, up to `last` or all, or the first of them where there is a limit, and returns how many.
 fn add_rows<W: Sink>(
     block: &mut Block,
     causes: &mut Causes<'_>,
     listed: usize,
+    last: Option<u64>,
     limit: Option<u64>,
     writer: &mut W,
 ) -> Result<u64, WriteFault>
     requires listed { listed ≤ 64 }
     requires finite { length causes.old.rest < 2 ^ 64 }
-    ensures sends { Sends (W.log writer.old) (W.log writer.new) block.old block.new result (rows listed (limited limit causes.old.rest)) }
-    ensures count { IfOk result (λ n. n ≡ length (limited limit causes.old.rest)) }
-    ensures taken { MatchResult result (λ n. Takes causes.old causes.new n) (λ _. TakesAtMost causes.old causes.new (length (limited limit causes.old.rest))) }
-    ensures looks { IfOk result (λ _. looks_of causes.new ≡ looks_given (searched causes.old) (looks_of causes.old) limit causes.old.rest) }
+    ensures sends { Sends (W.log writer.old) (W.log writer.new) block.old block.new result (rows listed (limited limit (part last causes.old.rest))) }
+    ensures count { IfOk result (λ n. n ≡ length (limited limit (part last causes.old.rest))) }
+    ensures taken { MatchResult result (λ n. Takes causes.old causes.new n) (λ _. TakesAtMost causes.old causes.new (length (limited limit (part last causes.old.rest)))) }
+    ensures looks { IfOk result (λ _. looks_of causes.new ≡ part_looks last (searched causes.old) (looks_of causes.old) limit (part last causes.old.rest)) }
 {
     let mut buffer = RowBuffer::new();
     let mut kept = Kept::new(listed);
-    let count = buffer_rows(&mut buffer, block, &mut kept, causes, listed, limit, writer)?;
+    let count = buffer_rows(
+        &mut buffer,
+        block,
+        &mut kept,
+        causes,
+        listed,
+        last,
+        limit,
+        writer,
+    )?;
     buffer.hand_over(block, writer)?;
     Ok(count)
 }
 
-/// Adds the rows that are left, or the first of them where there is a limit, to a buffer, and returns how many.
+/// Adds the rows that are left, up to `last` or all, or the first of them where there is a limit, to a buffer, and returns how many.
 fn buffer_rows<W: Sink>(
     buffer: &mut RowBuffer,
     block: &mut Block,
     kept: &mut Kept,
     causes: &mut Causes<'_>,
     listed: usize,
+    last: Option<u64>,
     limit: Option<u64>,
     writer: &mut W,
 ) -> Result<u64, WriteFault>
     requires listed { listed ≤ 64 }
     requires kept { IsKept listed kept.old }
     requires finite { length causes.old.rest < 2 ^ 64 }
-    ensures sends { Sends (W.log writer.old) (W.log writer.new) (block.old ++ buffer.old) (block.new ++ buffer.new) result (rows listed (limited limit causes.old.rest)) }
-    ensures count { IfOk result (λ n. n ≡ length (limited limit causes.old.rest)) }
-    ensures taken { MatchResult result (λ n. Takes causes.old causes.new n) (λ _. TakesAtMost causes.old causes.new (length (limited limit causes.old.rest))) }
-    ensures looks { IfOk result (λ _. looks_of causes.new ≡ looks_given (searched causes.old) (looks_of causes.old) limit causes.old.rest) }
+    ensures sends { Sends (W.log writer.old) (W.log writer.new) (block.old ++ buffer.old) (block.new ++ buffer.new) result (rows listed (limited limit (part last causes.old.rest))) }
+    ensures count { IfOk result (λ n. n ≡ length (limited limit (part last causes.old.rest))) }
+    ensures taken { MatchResult result (λ n. Takes causes.old causes.new n) (λ _. TakesAtMost causes.old causes.new (length (limited limit (part last causes.old.rest)))) }
+    ensures looks { IfOk result (λ _. looks_of causes.new ≡ part_looks last (searched causes.old) (looks_of causes.old) limit (part last causes.old.rest)) }
 {
     let mut count = 0u64;
     loop {
         if is_reached(limit, count) {
             return Ok(count);
         }
-        let Some(numbers) = causes.next_many(rows_left(limit, count)) else {
+        let Some(numbers) = next_numbers(causes, last, rows_left(limit, count)) else {
             return Ok(count);
         };
         add_marked(buffer, block, kept, listed, numbers, writer)?;
         count += u64::from(numbers.mask.count_ones());
     }
+}
+
+/// Writes the text of a list, or of the part of it up to `last`: of what is left, or of the first causes where there is a limit.
+fn write_rows<W: Sink>(
+    causes: &mut Causes<'_>,
+    last: Option<u64>,
+    limit: Option<u64>,
+    writer: &mut W,
+) -> Result<Summary, WriteFault>
+    ensures bytes { Puts (W.log writer.old) (W.log writer.new) result (cause_text causes.old.program causes.old.listed (limited limit (part last causes.old.rest))) }
+    ensures rows { IfOk result (λ s. s.rows ≡ length (limited limit (part last causes.old.rest))) }
+    ensures taken { MatchResult result (λ s. Takes causes.old causes.new s.rows) (λ _. TakesAtMost causes.old causes.new (length (limited limit (part last causes.old.rest)))) }
+    ensures looks { IfOk result (λ s. s.looks ≡ looks_of causes.new) }
+    ensures counted { IfOk result (λ _. looks_of causes.new ≡ part_looks last (searched causes.old) (looks_of causes.old) limit (part last causes.old.rest)) }
+{
+    let mut block = Block::new();
+    let listed = causes.free().len();
+    let program = causes.program();
+    add_header(&mut block, b"number", program, causes.free(), writer)?;
+    let rows = add_rows(&mut block, causes, listed, last, limit, writer)?;
+    block.flush(writer)?;
+    Ok(Summary {
+        rows,
+        looks: causes.looks(),
+    })
 }
 
 /// Writes the text of the causes that are left, or of the first ones where there is a limit: a header, and a row for each cause.
@@ -223,14 +283,29 @@ pub fn write_causes<W: Sink>(
     ensures looks { IfOk result (λ s. s.looks ≡ looks_of causes.new) }
     ensures counted { IfOk result (λ _. looks_of causes.new ≡ looks_given (searched causes.old) (looks_of causes.old) limit causes.old.rest) }
 {
-    let mut block = Block::new();
-    let listed = causes.free().len();
-    let program = causes.program();
-    add_header(&mut block, b"number", program, causes.free(), writer)?;
-    let rows = add_rows(&mut block, causes, listed, limit, writer)?;
-    block.flush(writer)?;
-    Ok(Summary {
-        rows,
-        looks: causes.looks(),
-    })
+    write_rows(causes, None, limit, writer)
+}
+
+/// Writes the text of the causes up to `last` that are left, or of the first ones where there is a limit, as `write_causes` does. Those
+/// above `last` are still to be given.
+///
+/// # Errors
+///
+/// X6, as `write_causes`.
+pub fn write_part<W: Sink>(
+    causes: &mut Causes<'_>,
+    last: u64,
+    limit: Option<u64>,
+    writer: &mut W,
+) -> Result<Summary, WriteFault>
+    ensures bytes { Puts (W.log writer.old) (W.log writer.new) result (cause_text causes.old.program causes.old.listed (limited limit (numbers_to last causes.old.rest))) }
+    ensures rows { IfOk result (λ s. s.rows ≡ length (limited limit (numbers_to last causes.old.rest))) }
+    ensures taken { MatchResult result (λ s. Takes causes.old causes.new s.rows) (λ _. TakesAtMost causes.old causes.new (length (limited limit (numbers_to last causes.old.rest)))) }
+
+    // The looks are the cursor's count, which is that of the search as far as it was gone through.
+    ensures looks { IfOk result (λ s. s.looks ≡ looks_of causes.new) }
+    ensures counted { IfOk result (λ _. looks_of causes.new
+        ≡ looks_given_to (searched causes.old) (looks_of causes.old) last limit (numbers_to last causes.old.rest)) }
+{
+    write_rows(causes, Some(last), limit, writer)
 }

@@ -11,7 +11,7 @@ mod runs;
 mod table;
 mod term_text;
 
-pub use cause_text::{Summary, write_causes};
+pub use cause_text::{Summary, write_causes, write_part};
 pub use group_text::{GroupForm, GroupSummary, write_groups};
 pub use held_text::write_held_causes;
 pub use ladder_state::{StateFault, read_state, write_state};
