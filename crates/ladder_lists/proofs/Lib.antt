@@ -2,3 +2,4 @@ pub mod Deciding
 pub mod Endings
 pub mod PossibleEnds
 pub mod PossibleGroupEnds
+pub mod PartEnds

@@ -1,5 +1,6 @@
 -- How a request for a list ends: all its rows are written, or a fault stops it.
 use Rattle.std.specs.Prelude.{◌≡◌, ◌⊎◌, ◌++◌, ◌^◌, ◌∷◌, if◌then◌else◌, ℕ, List, Bool, true, false, Option, None, Some, codes, count_by, decimal, [], length, map, nat_lt, not, string_bytes, unwrap_or}
+use Rattle.std.specs.Option.{option_or}
 use Rattle.ladder_grid.specs.Program.{Drawing}
 use Rattle.ladder_scan.specs.Programs.{diagram_of}
 use Rattle.ladder_scan.specs.Standing.{Standing}
@@ -9,6 +10,7 @@ use Rattle.ladder_questions.specs.Causes.{Question, causes_after, is_cause}
 use Rattle.ladder_causes.specs.Cursor.{first_number, looks_given}
 use Rattle.ladder_causes.specs.GroupCursor.{causes_in}
 use Rattle.ladder_causes.specs.Order.{in_order, sifted}
+use Rattle.ladder_causes.specs.Parts.{causes_between, looks_given_to}
 use Rattle.ladder_causes.specs.Prefixes.{search_of}
 use Rattle.ladder_questions.specs.Refusal.{refusal}
 use Rattle.ladder_relevant.specs.Relevant.{AreInputs, Decide}
@@ -122,6 +124,46 @@ abbrev pub BreaksList : Given → ListRequest → Option ℕ → Logs → Logs �
 BreaksList g r after old new =
     (Lists g r after (PutsPrefix old.out new.out) × IsReported g old.err new.err fault.Write)
     ⊎ CountsList g r after old.out new.out (PutsPrefix old.err new.err)
+
+-- ---- a part of a list
+
+-- the causes of a part that are listed: those after a number, or from the first on, up to another
+abbrev pub part_for : ListRequest → Option ℕ → ℕ → Question → List ℕ
+part_for r after last q = limited r.limit (causes_between after last q)
+
+-- The first rule that is broken. The number to end at is one of an assignment, as the number to begin after is.
+abbrev pub part_refusal : Question → Option ℕ → ℕ → Option CauseFault
+part_refusal q after last = option_or (refusal q (Some last)) (refusal q after)
+
+-- The text of the part is written, whole or as far as `Written` says: all rows that are asked for, and no other.
+pub record ListsPart (g : Given) (r : ListRequest) (after : Option ℕ) (last : ℕ) (Written : List ℕ → Type 0) : Type 0 where
+  pub question : Question
+  pub asked : IsAsked g r question
+  pub accepted : part_refusal question after last ≡ None
+  pub rows : Written (cause_text question.program question.listed (part_for r after last question))
+
+-- Faults are looked for in the order of those of a list.
+abbrev pub HasPartFault : Given → ListRequest → Option ℕ → ℕ → ToolFault → Type 0
+HasPartFault g r after last f =
+    HasSettingFault g f ⊎ (HasNameFault g r f ⊎ ((q : Question) × IsAsked g r q × HasCauseFault (part_refusal q after last) f))
+
+-- how many looks the search for the listed causes makes
+abbrev pub part_looks_for : ListRequest → Option ℕ → ℕ → Question → ℕ
+part_looks_for r after last q = looks_given_to (search_of q (first_number after)) 0 last r.limit (causes_between after last q)
+
+abbrev pub part_rows_text : ListRequest → Option ℕ → ℕ → Question → List ℕ
+part_rows_text r after last q = unless_quiet r.quiet (rows_line (length (part_for r after last q)) (part_looks_for r after last q))
+
+-- The rows were listed, and then their number and that of the looks for them is written: whole, or as far as `Counted` says.
+pub record CountsPart (g : Given) (r : ListRequest) (after : Option ℕ) (last : ℕ) (out out' : WriteLog) (Counted : List ℕ → Type 0) : Type 0 where
+  pub list : ListsPart g r after last (PutsAll out out')
+  pub count : Counted (part_rows_text r after last list.question)
+
+-- Status 1: `out` failed at the rows, or `err` at their count.
+abbrev pub BreaksPart : Given → ListRequest → Option ℕ → ℕ → Logs → Logs → Type 0
+BreaksPart g r after last old new =
+    (ListsPart g r after last (PutsPrefix old.out new.out) × IsReported g old.err new.err fault.Write)
+    ⊎ CountsPart g r after last old.out new.out (PutsPrefix old.err new.err)
 
 -- ---- a list over several scans
 

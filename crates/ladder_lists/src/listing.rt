@@ -17,7 +17,11 @@ use ladder_text::{Piece, Sink, WriteFault, put_pieces};
 use ladder_words::ListRequest;
 use std::alloc::Global;
 
-fn put_rows<E: Sink>(quiet: bool, summary: Summary, err: &mut E) -> Result<(), WriteFault>
+pub(crate) fn put_rows<E: Sink>(
+    quiet: bool,
+    summary: Summary,
+    err: &mut E,
+) -> Result<(), WriteFault>
     ensures { Puts (E.log err.old) (E.log err.new) result (unless_quiet quiet (rows_line summary.rows summary.looks)) }
 {
     if quiet {
