@@ -29,7 +29,7 @@ _ladder() {
         return
     fi
     case $subcommand in
-        causes) options='--state --at --after --limit --scans --for --every --grouped --terms --st --order --any --off --must --relevant --all-inputs --quiet --why --help' ;;
+        causes) options='--state --at --after --upto --limit --scans --for --every --grouped --terms --st --order --any --off --must --relevant --all-inputs --quiet --why --help' ;;
         show) options='--state --at --number --html --stimulus --coil --all-inputs --why --help' ;;
         sim) options='--state --save --every --watch --watch-all --vcd --why --help' ;;
         check) options='--warn --why --help' ;;
@@ -44,7 +44,7 @@ _ladder() {
     # What stands at the places of the line before this word.
     for ((number = 2; number < COMP_CWORD; number++)); do
         case ${COMP_WORDS[number]} in
-            --state | --at | --after | --limit | --scans | --for | --every | --order | --number | --stimulus | --coil | --save | --watch) ((number++)) ;;
+            --state | --at | --after | --upto | --limit | --scans | --for | --every | --order | --number | --stimulus | --coil | --save | --watch) ((number++)) ;;
             -*) ;;
             *)
                 ((place++))
@@ -55,7 +55,7 @@ _ladder() {
     done
     case $before in
         --state | --save | --stimulus) mapfile -t COMPREPLY < <(compgen -f -- "$word") ;;
-        --at | --after | --limit | --scans | --for | --every | --number) ;;
+        --at | --after | --upto | --limit | --scans | --for | --every | --number) ;;
         --order) mapfile -t COMPREPLY < <(compgen -W 'auto given' -- "$word") ;;
         --coil) mapfile -t COMPREPLY < <(compgen -W "$(_ladder_coils "$file")" -- "$word") ;;
         --watch) mapfile -t COMPREPLY < <(compgen -W "$(_ladder_names "$file")" -- "$word") ;;

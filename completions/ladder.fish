@@ -7,7 +7,7 @@ function __ladder_places
     for word in $words
         if test $due = 1
             set due 0
-        else if contains -- $word --state --at --after --limit --scans --for --every --order --number --stimulus --coil --save --watch
+        else if contains -- $word --state --at --after --upto --limit --scans --for --every --order --number --stimulus --coil --save --watch
             set due 1
         else if not string match -q -- '-*' $word
             echo $word
@@ -71,6 +71,7 @@ complete -c ladder -n '__ladder_at never more 0' -l pairs -d 'Pairs that are nev
 complete -c ladder -n '__ladder_at causes,show,sim,never more 0' -l state -r -F -d 'The state to begin in'
 complete -c ladder -n '__ladder_at causes,show more 0' -l at -x -d 'The moment of the scan in ms'
 complete -c ladder -n '__ladder_at causes more 0' -l after -x -d 'Causes with a greater number only'
+complete -c ladder -n '__ladder_at causes more 0' -l upto -x -d 'Causes up to this number only'
 complete -c ladder -n '__ladder_at causes more 0' -l limit -x -d 'At most so many rows'
 complete -c ladder -n '__ladder_at causes more 0' -l scans -x -d 'Over so many scans, with the inputs held'
 complete -c ladder -n '__ladder_at causes more 0' -l for -x -d 'Over all scans up to so many ms, with the inputs held'

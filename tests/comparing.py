@@ -78,6 +78,26 @@ def compare_lists(trial):
     return found
 
 
+def compare_parts(trial):
+    """Parts of the list between cuts at random, and their rows joined; and a part with a limit."""
+    coil, listed, model, chance, found = trial.coil, trial.listed, Program(trial.text), trial.chance, []
+    count = 2 ** len(listed)
+    ends = sorted({*(chance.randrange(count) for _ in range(chance.randint(0, 3))), count - 1})
+    joined = None
+    for after, upto in zip([None, *ends], ends):
+        begin = [] if after is None else ["--after", str(after)]
+        out, err, status = trial.ask("causes", *begin, "--upto", str(upto), "program.ld", coil, *listed)
+        wanted_out, wanted_err = model.part_answer(coil, listed, after, upto)
+        found += differences((out, err, status), (wanted_out.encode(), wanted_err.encode(), 0))
+        joined = out if joined is None else joined + out.split(b"\n", 1)[1]
+        trial.tally["parts"] += 1
+    found += differences((joined, b"", 0), (model.answer(coil, listed)[0].encode(), b"", 0))
+    after, upto, limit = chance.randrange(count), chance.randrange(count), chance.choice([0, 1, 5, 63, 64, 65, 200])
+    wanted_out, wanted_err = model.part_answer(coil, listed, after, upto, limit)
+    asked = ["--after", str(after), "--upto", str(upto), "--limit", str(limit), "program.ld", coil, *listed]
+    return found + differences(trial.ask("causes", *asked), (wanted_out.encode(), wanted_err.encode(), 0))
+
+
 def marked(element):
     """What an element of a page says of its characters, as marks."""
     is_live, kind, text = element[1] == "b", element[2], html.unescape(element[3])
@@ -443,7 +463,8 @@ def compare_relevant(trial):
     return found
 
 
-ALL = (compare_lists, compare_shown, compare_film, compare_held, compare_never, compare_random_states)
-ALONE = {"groups": compare_groups, "show": compare_shown, "held": compare_many_held, "never": compare_never, "pairs": compare_pairs,
+ALL = (compare_lists, compare_parts, compare_shown, compare_film, compare_held, compare_never, compare_random_states)
+ALONE = {"parts": compare_parts, "groups": compare_groups, "show": compare_shown, "held": compare_many_held, "never": compare_never,
+         "pairs": compare_pairs,
          "possible": compare_possible, "off": compare_off, "must": compare_must, "off_must": compare_off_must,
          "relevant": compare_relevant}

@@ -2,13 +2,14 @@
 """Compares the built program with the models on random drawings: differential.py PROGRAM [NUMBER] [SEED] [--only KIND].
 
 Each drawing has one to five rungs of all forms of cells, joints and vertical links, and breaks no rule; it is asked from the fresh
-state, at any moment. Rows and looks must be the model's, and the rows of groups too, in each form and in the sifted order; so must the
-drawing with the power flow of one number, and its page, with the elements read as marks. A film must have the drawings of its records,
+state, at any moment. Rows and looks must be the model's, those of parts of a list too, which joined are the list, and the rows of groups,
+in each form and in the sifted order; so must the drawing with the power flow of one number, and its page, with the elements read as
+marks. A film must have the drawings of its records,
 each shown by itself from the state that `sim --save` has left. A list over several scans must be that of the scans one after the other, from
 the fresh state or from one that `sim --save` has left. What `never` names stays OFF in random runs, and what switches a coil on from
 some random state has a row in the list of `causes --any`. A drawing with a difference is printed whole.
 
-With --only one kind is compared alone: `groups`, `held` and `relevant` from random states too, `show`, and `never`, `pairs` and
+With --only one kind is compared alone: `parts`; `groups`, `held` and `relevant` from random states too, `show`, and `never`, `pairs` and
 `possible` on small
 drawings, against a scan from every state (`lanes.py`).
 """

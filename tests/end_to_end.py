@@ -211,20 +211,18 @@ def sim_with_closed_streams(closed, want, saved):
 
 
 def parts_of_32_inputs(program, folder):
-    """The numbers that the tutorial's recipe for joining parts gives, where they are of 32 bits."""
-    recipe = re.search(r"awk .*? '(NR > 1 .*?)' list", (ROOT / "docs" / "TUTORIAL.md").read_text("utf-8"))[1]
-    fixed, listed = ["I1", "I2"], [f"I{number}" for number in range(3, 33)]
-    declared = [f"{name} AT %IX{place} : BOOL;" for place, name in enumerate(fixed + listed)]
-    rungs = [f"\n|    I{number}          Y\n|----| |---------({form})----" for form, number in [("S", 1), ("R", 2)]]
-    (folder / "wide.ld").write_text("\n".join(["VAR", *declared, "Y AT %QX0 : BOOL;", "END_VAR", *rungs]) + "\n", "ascii")
-    (folder / "nothing.csv").write_bytes(b"moment\n")
-    run(program, ["sim", "--save", "part.csv", "wide.ld", "nothing.csv"], folder)
-    state = (folder / "part.csv").read_text("ascii").replace("var,I1,0", "var,I1,1")
-    (folder / "part.csv").write_text(state, "ascii")
-    listing = run(program, ["causes", "--state", "part.csv", "--after", str(2 ** 30 - 2), "wide.ld", "Y", *listed], folder)[0]
-    words = ["awk", "-F,", "-v", "OFS=,", "-v", "p=2", recipe.replace("p * 8", f"p * {2 ** 30}")]
-    joined = subprocess.run(words, input=listing, stdout=subprocess.PIPE, check=True).stdout
-    return differences((joined,), (f"{3 * 2 ** 30 - 1},1,0{',1' * 30}\n".encode(),))
+    """The lists of two jobs by the tutorial's lines for a Slurm array, where the numbers are of 32 bits."""
+    lines = re.search(r"```text\n(first=.*?)```", (ROOT / "docs" / "TUTORIAL.md").read_text("utf-8"), re.DOTALL)[1]
+    chain = (ROOT / "bench" / "circuits" / "chain32.ld").read_text("ascii")
+    (folder / "plant.ld").write_text(chain.replace("  Y\n", "Alarm\n").replace("Y AT", "Alarm AT"), "ascii")
+    (folder / "ladder").symlink_to(program)
+    have = []
+    for job in ("1022", "1023"):
+        environment = {**os.environ, "PATH": f"{folder}:{os.environ['PATH']}", "SLURM_ARRAY_TASK_ID": job}
+        subprocess.run(["sh", "-c", lines], cwd=folder, env=environment, stderr=subprocess.DEVNULL, check=True)
+        have.append((folder / f"list_{job}.csv").read_bytes())
+    header = "number," + ",".join(f"I{number}" for number in range(1, 33)) + "\n"
+    return differences(have, (header.encode(), f"{header}{2 ** 32 - 1}{',1' * 32}\n".encode()))
 
 
 def program_from_standard_input(program, folder):
@@ -288,7 +286,7 @@ SPECIAL = {
     "check-on-a-full-device": on_a_stream(["check", "motor.ld"], "stdout", full_device, (None, b"fault X6\n", 1)),
     "check-help": help_is_printed("check", "--help"),
     "import-help": help_is_printed("import", "--help"),
-    "causes-parts-of-32-inputs-joined": parts_of_32_inputs,
+    "causes-parts-of-32-inputs": parts_of_32_inputs,
     "streams-rows-on-a-full-device": on_a_stream(CAUSES, "stdout", full_device, (None, b"fault X6\n", 1)),
     "show-on-a-full-device": on_a_stream(["show", "motor.ld", "Start", "Stop"], "stdout", full_device, (None, b"fault X6\n", 1)),
     "streams-rows-on-an-unread-pipe": on_a_stream(CAUSES, "stdout", unread_pipe, (None, b"fault X6\n", 1)),

@@ -1,5 +1,5 @@
 -- The command line, as clap's definitions of a simple command read it: `ladder check [--warn] FILE`,
--- `ladder causes [--state STATE] [--at MS] [--after N] [--limit N] [--scans N] [--every MS] [--grouped] [--terms] [--st] [--order ORDER] [--relevant] [--all-inputs] [--quiet] FILE COIL [INPUT]...`,
+-- `ladder causes [--state STATE] [--at MS] [--after N] [--upto N] [--limit N] [--scans N] [--every MS] [--grouped] [--terms] [--st] [--order ORDER] [--relevant] [--all-inputs] [--quiet] FILE COIL [INPUT]...`,
 -- `ladder causes --any [--off] [--must] [--limit N] [--all-inputs] [--quiet] FILE COIL [INPUT]...`,
 -- `ladder show [--state STATE] [--at MS] [--number N] [--stimulus STIMULUS] [--html] [--coil COIL] [--all-inputs] FILE [INPUT]...`,
 -- `ladder sim [--state STATE] [--save STATE] [--every MS] [--watch NAME]... [--watch-all] [--vcd] FILE STIMULUS`, `ladder uses FILE`, `ladder import PROJECT` and `ladder never [--state STATE] [--pairs] [--quiet] FILE`, each with `[--why]`;
@@ -55,7 +55,7 @@ never_app = taking (codes "never") (text_rule (codes "state") ∷ flag_rule (cod
 
 abbrev pub causes_app : App
 causes_app = taking (codes "causes") (
-    text_rule (codes "state") ∷ number_rule (codes "at") ∷ number_rule (codes "after") ∷ number_rule (codes "limit")
+    text_rule (codes "state") ∷ number_rule (codes "at") ∷ number_rule (codes "after") ∷ number_rule (codes "upto") ∷ number_rule (codes "limit")
     ∷ number_rule (codes "scans") ∷ number_rule (codes "for") ∷ number_rule (codes "every") ∷ flag_rule (codes "grouped") ∷ flag_rule (codes "terms") ∷ flag_rule (codes "st") ∷ text_rule (codes "order")
     ∷ flag_rule (codes "any") ∷ flag_rule (codes "off") ∷ flag_rule (codes "must") ∷ flag_rule (codes "relevant") ∷ flag_rule (codes "all-inputs") ∷ flag_rule (codes "quiet") ∷ flag_rule (codes "why") ∷ place_rule (codes "file") ∷ place_rule (codes "coil") ∷ list_rule (codes "inputs") ∷ []
     )

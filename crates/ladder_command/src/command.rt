@@ -11,8 +11,8 @@ use crate::help::{
     HOLD_HELP, HTML_HELP, IMPORT_ABOUT, INPUTS_HELP, LADDER_ABOUT, LIMIT_HELP, MUST_HELP,
     NEVER_ABOUT, NUMBER_HELP, OFF_HELP, ORDER_HELP, PAIRS_HELP, PROJECT_HELP, QUIET_HELP,
     RELEVANT_HELP, SAVE_HELP, SCANS_HELP, SHOW_ABOUT, SHOWN_HELP, SIM_ABOUT, STATE_HELP,
-    STATEMENT_HELP, STIMULUS_HELP, TERMS_HELP, USES_ABOUT, WARN_HELP, WATCH_ALL_HELP, WATCH_HELP,
-    WAVES_HELP, WHY_HELP,
+    STATEMENT_HELP, STIMULUS_HELP, TERMS_HELP, UPTO_HELP, USES_ABOUT, WARN_HELP, WATCH_ALL_HELP,
+    WATCH_HELP, WAVES_HELP, WHY_HELP,
 };
 use clap::{Arg, ArgAction, Command, value_parser};
 use std::alloc::{AllocError, Global};
@@ -65,6 +65,7 @@ const CAUSES: &[Word] = &[
     Word::Text("state", "STATE", STATE_HELP),
     Word::Number("at", "MS", AT_HELP),
     Word::Number("after", "N", AFTER_HELP),
+    Word::Number("upto", "N", UPTO_HELP),
     Word::Number("limit", "N", LIMIT_HELP),
     Word::Number("scans", "N", SCANS_HELP),
     Word::Number("for", "MS", FOR_HELP),

@@ -95,6 +95,9 @@ pub(crate) const AT_HELP: &str =
 
 pub(crate) const AFTER_HELP: &str = "Lists the causes with a greater number than N only";
 
+pub(crate) const UPTO_HELP: &str =
+    "Ends the list at the number N: parts between two numbers, one after the other, are the whole list; not with --grouped, --scans, --for, --any or --relevant";
+
 pub(crate) const LIMIT_HELP: &str = "Lists at most N rows";
 
 pub(crate) const SCANS_HELP: &str =

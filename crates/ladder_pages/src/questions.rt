@@ -108,7 +108,7 @@ rows 1 looks 1
 pub(crate) const C6: &str = "\
 C6: there is no such number
 
-For k listed inputs the numbers go from 0 to 2^k - 1, those to begin after (`--after`) and those to be shown (`show --number`).
+For k listed inputs the numbers go from 0 to 2^k - 1, those to begin after (`--after`), to end at (`--upto`) and to be shown (`show --number`).
 
 ```console
 $ ladder causes --after 4 motor.ld Motor Start Stop

@@ -142,6 +142,7 @@ pub(crate) fn request(alloc: Global, asked: Asked) -> Result<Request, AllocError
         Asked::Causes(after) => Ok(Request::Causes {
             list: list(alloc)?,
             after,
+            upto: None,
         }),
         Asked::Held => Ok(Request::Held {
             list: list(alloc)?,

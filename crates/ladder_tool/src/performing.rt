@@ -7,7 +7,9 @@ ghost use Rattle.ladder_setting.specs.Setting.{given_by};
 
 use ladder_carry::carry;
 use ladder_held::Scans;
-use ladder_lists::{list_causes, list_groups, list_held, list_never, list_possible, list_relevant};
+use ladder_lists::{
+    list_causes, list_groups, list_held, list_never, list_part, list_possible, list_relevant,
+};
 use ladder_setting::Texts;
 use ladder_text::Sink;
 use ladder_views::{About, film, print, show, trace, watch, wave};
@@ -36,7 +38,10 @@ pub fn perform<O: Sink, S: Sink, E: Sink>(
         Request::Uses { .. } => print(alloc, About::Uses, texts, out, err),
         Request::Never(never) => list_never(alloc, never, texts, out, err),
         Request::Possible(possible) => list_possible(alloc, possible, texts, out, err),
-        Request::Causes { list, after } => list_causes(alloc, list, *after, texts, out, err),
+        Request::Causes { list, after, upto } => match *upto {
+            Some(last) => list_part(alloc, list, *after, last, texts, out, err),
+            None => list_causes(alloc, list, *after, texts, out, err),
+        },
         Request::Held {
             list,
             scans,

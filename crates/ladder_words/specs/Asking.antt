@@ -145,7 +145,7 @@ MayGroup rows limit after (Some g) = HasFlag (codes "grouped") rows
 -- the request is what the subcommand's name and values say
 abbrev pub Asks : Text → List Row → Request → Type 0
 Asks name rows (Check file warns) = (name ≡ codes "check") × HasText (codes "file") rows (string_bytes file) × HasSwitch (codes "warn") rows warns
-Asks name rows (Causes list after) = (name ≡ codes "causes")
+Asks name rows (Causes list after upto) = (name ≡ codes "causes")
     × IsTable rows
     × HasNumber (codes "scans") rows None
     × HasNumber (codes "for") rows None
@@ -154,6 +154,7 @@ Asks name rows (Causes list after) = (name ≡ codes "causes")
     × NamesList rows list
     × IsOfOneState rows
     × (HasFlag (codes "relevant") rows → ⊥)
+    × HasNumber (codes "upto") rows upto
 Asks name rows (Held list scans every grouped) = (name ≡ codes "causes")
     × HasSwitch (codes "grouped") rows grouped
     × HasForm Table rows
@@ -164,6 +165,7 @@ Asks name rows (Held list scans every grouped) = (name ≡ codes "causes")
     × NamesList rows list
     × IsOfOneState rows
     × (HasFlag (codes "relevant") rows → ⊥)
+    × HasNumber (codes "upto") rows None
 Asks name rows (Groups list grouping) = (name ≡ codes "causes")
     × HasFlag (codes "grouped") rows
     × HasForm grouping.form rows
@@ -176,6 +178,7 @@ Asks name rows (Groups list grouping) = (name ≡ codes "causes")
     × NamesList rows list
     × IsOfOneState rows
     × (HasFlag (codes "relevant") rows → ⊥)
+    × HasNumber (codes "upto") rows None
 Asks name rows (Possible r) = (name ≡ codes "causes")
     × HasFlag (codes "any") rows
     × HasSwitch (codes "off") rows r.off
@@ -195,6 +198,7 @@ Asks name rows (Possible r) = (name ≡ codes "causes")
     × HasText (codes "coil") rows (string_bytes r.coil)
     × HasInputs rows r.all_inputs (map string_bytes r.inputs.items)
     × (HasFlag (codes "relevant") rows → ⊥)
+    × HasNumber (codes "upto") rows None
 Asks name rows (Relevant list after grouping) = (name ≡ codes "causes")
     × HasFlag (codes "relevant") rows
     × HasInputs rows false []
@@ -202,6 +206,7 @@ Asks name rows (Relevant list after grouping) = (name ≡ codes "causes")
     × MayGroup rows list.limit after grouping
     × NamesList rows list
     × IsOfOneState rows
+    × HasNumber (codes "upto") rows None
 Asks name rows (Never r) = (name ≡ codes "never")
     × HasOption (codes "state") rows (option_map string_bytes r.state)
     × HasSwitch (codes "pairs") rows r.pairs

@@ -187,6 +187,8 @@ pub enum Request {
         list: ListRequest,
         /// The number to begin after.
         after: Option<u64>,
+        /// The number to end at; the last one where there is none.
+        upto: Option<u64>,
     },
     /// The causes of a coil over several scans, with the inputs held.
     Held {

@@ -7,7 +7,7 @@ ghost use Rattle.clap.specs.Words.{fault_of as clap_fault};
 ghost use Rattle.ladder_command.specs.CommandLine.{ladder_app};
 ghost use Rattle.ladder_pages.specs.Pages.{is_fault_code};
 ghost use Rattle.ladder_words.specs.Asking.{Asks, AsksBy, AsksNone, HasNoTask, HasTask, HasEvery, HasFlag, HasForm, HasInputs, HasLasting, HasMedium, HasNumber, HasOrder, HasOption, HasSwitch, HasWatched, IsNamed, IsOfOneState, IsSingle, IsTable, MayHaveLimit, NamesList, NamesTrace, HasScans, Says, scans_until};
-ghost use Rattle.ladder_words.specs.Parts.{HasGrouping, HasSources, IsOfAnyState, IsOfOneScan, IsOfRecords, IsWhole, MayLast, NamesNoStates, NamesScan, Plays};
+ghost use Rattle.ladder_words.specs.Parts.{HasGrouping, HasSources, IsOfAnyState, IsOfOneScan, IsOfRecords, IsUncut, IsWhole, MayLast, NamesNoStates, NamesScan, Plays};
 ghost use Rattle.ladder_words.specs.Faults.{IsFaultOf, SaysOf, UsageWhere};
 
 use crate::request::{
@@ -28,8 +28,8 @@ const EVERY: u64 = 10;
 /// # Errors
 ///
 /// `Mistake` where `clap` finds a fault other than that help is asked for, with what it says of it, or `Usage` when there is no memory for that; `Usage` where a fault has none of the named codes, where groups of one scan or a list over several scans are to begin after a
-/// number, where a time between scans is asked for without several scans, several scans by their number and by a time, where a form or the order `auto` is asked for without groups of one scan in one state, or both forms, or a statement with a limit, or an order that has another name, where
-/// inputs are named beside all of them, where those that matter are asked for and others are listed, or several scans or any state are asked of, where any state is asked of and a state, a moment, a number to begin after, several scans, a time between scans, a form or the order `auto` is named as well, where it is said which states count and any state isn't asked of, where a stimulus is to be shown with a moment, a number or listed inputs, or a waveform to be written with a saved state or with what is watched, where names are watched beside all of them, and nowhere else; `Help` with its text where help is asked for; `Memory` when out of memory.
+/// number or to end at one, where a list over the inputs that matter is to end at a number, where a time between scans is asked for without several scans, several scans by their number and by a time, where a form or the order `auto` is asked for without groups of one scan in one state, or both forms, or a statement with a limit, or an order that has another name, where
+/// inputs are named beside all of them, where those that matter are asked for and others are listed, or several scans or any state are asked of, where any state is asked of and a state, a moment, a number to begin after or to end at, several scans, a time between scans, a form or the order `auto` is named as well, where it is said which states count and any state isn't asked of, where a stimulus is to be shown with a moment, a number or listed inputs, or a waveform to be written with a saved state or with what is watched, where names are watched beside all of them, and nowhere else; `Help` with its text where help is asked for; `Memory` when out of memory.
 pub fn read_words(alloc: Global, words: Vec<String>) -> Result<Task, WordFault>
     ensures asks { IfOk result (AsksBy ladder_app (map string_bytes words.items)) }
 
@@ -330,8 +330,9 @@ fn list_request(alloc: Global, found: &ArgMatches<'_>) -> Result<Request, WordFa
         return Err(WordFault::Usage);
     }
     let after = number(found, "after")?;
+    let upto = number(found, "upto")?;
     let list = list_of(alloc, found)?;
-    Ok(Request::Causes { list, after })
+    Ok(Request::Causes { list, after, upto })
 }
 
 fn held_request(
@@ -345,7 +346,7 @@ fn held_request(
     ensures ok { IfOk result (Asks (codes "causes") (rows_of (found_of found.now))) }
     ensures err { IfErr result (UsageWhere (AsksNone (codes "causes") (rows_of (found_of found.now)))) }
 {
-    if is_given(found, "after") {
+    if is_part(found) {
         return Err(WordFault::Usage);
     }
     refuse_grouping(found)?;
@@ -359,6 +360,14 @@ fn held_request(
         every,
         grouped,
     })
+}
+
+/// Whether the list is to begin after a number, or to end at one.
+fn is_part(found: &ArgMatches<'_>) -> bool
+    ensures whole { result ≡ false → IsUncut (rows_of (found_of found.now)) }
+    ensures part { result ≡ true → IsUncut (rows_of (found_of found.now)) → ⊥ }
+{
+    is_given(found, "after") || is_given(found, "upto")
 }
 
 /// The time from each scan to the next.
@@ -378,7 +387,7 @@ fn groups_request(alloc: Global, found: &ArgMatches<'_>) -> Result<Request, Word
     ensures ok { IfOk result (Asks (codes "causes") (rows_of (found_of found.now))) }
     ensures err { IfErr result (UsageWhere (AsksNone (codes "causes") (rows_of (found_of found.now)))) }
 {
-    // One scan has none that follows, and a group has no number, so there is none to begin after.
+    // One scan has none that follows, and a group has no number, so there is none to begin after or to end at.
     if is_counted(found) {
         return Err(WordFault::Usage);
     }
@@ -401,6 +410,10 @@ fn relevant_request(alloc: Global, found: &ArgMatches<'_>) -> Result<Request, Wo
     if is_repeated(found) {
         return Err(WordFault::Usage);
     }
+    // Their list has no part.
+    if is_given(found, "upto") {
+        return Err(WordFault::Usage);
+    }
     if is_set(found, "grouped") {
         return relevant_groups(alloc, found);
     }
@@ -419,6 +432,7 @@ fn relevant_groups(alloc: Global, found: &ArgMatches<'_>) -> Result<Request, Wor
     requires relevant { HasFlag (codes "relevant") (rows_of (found_of found.now)) }
     requires inputs { HasInputs (rows_of (found_of found.now)) false [] }
     requires single { IsSingle (rows_of (found_of found.now)) }
+    requires whole { HasNumber (codes "upto") (rows_of (found_of found.now)) None }
     requires grouped { HasFlag (codes "grouped") (rows_of (found_of found.now)) }
     ensures ok { IfOk result (Asks (codes "causes") (rows_of (found_of found.now))) }
     ensures err { IfErr result (UsageWhere (AsksNone (codes "causes") (rows_of (found_of found.now)))) }
@@ -444,15 +458,12 @@ fn is_repeated(found: &ArgMatches<'_>) -> bool
     is_given(found, "scans") || is_given(found, "for") || is_given(found, "every")
 }
 
-/// Whether several scans are asked for, or a number to begin after.
+/// Whether several scans are asked for, or a number to begin after or to end at.
 fn is_counted(found: &ArgMatches<'_>) -> bool
     ensures one { result ≡ false → IsOfOneScan (rows_of (found_of found.now)) }
     ensures several { result ≡ true → IsOfOneScan (rows_of (found_of found.now)) → ⊥ }
 {
-    is_given(found, "scans")
-        || is_given(found, "for")
-        || is_given(found, "every")
-        || is_given(found, "after")
+    is_given(found, "scans") || is_given(found, "for") || is_given(found, "every") || is_part(found)
 }
 
 /// How the groups are asked for.

@@ -1,11 +1,11 @@
 use Rattle.std.proofs.Common.{refl}
 use Rattle.std.proofs.lemmas.Result.{err_from_is_err_and}
 use Rattle.clap.specs.Words.{found_of, rows_of}
-use Rattle.ladder_words.proofs.Faults.{no_causes_of_list, no_held_of_every, no_held_of_grouping, no_held_of_start, usage_weaker}
+use Rattle.ladder_words.proofs.Faults.{no_causes_of_list, no_held_of_every, no_held_of_grouping, no_held_of_part, usage_weaker}
 use Rattle.ladder_words.proofs.words.held_request.Goals as goal
 
-pub returns-then-is_given-clause-err : goal.returns-then-is_given-clause-err
-returns-then-is_given-clause-err c = no_held_of_start (rows_of (found_of c.args.found.now)) c.requires.one_state c.requires.named c.args.lasting c.requires.lasting (c.if-is_given.ensures.given refl).1
+pub returns-then-is_part-clause-err : goal.returns-then-is_part-clause-err
+returns-then-is_part-clause-err c = no_held_of_part (rows_of (found_of c.args.found.now)) c.requires.one_state c.requires.named c.args.lasting c.requires.lasting (c.if-is_part.ensures.part refl)
 
 pub returns-in_err-refuse_grouping-clause-err : goal.returns-in_err-refuse_grouping-clause-err
 returns-in_err-refuse_grouping-clause-err c =

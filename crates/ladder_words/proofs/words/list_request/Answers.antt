@@ -1,7 +1,7 @@
 use Rattle.std.proofs.Common.{refl}
 use Rattle.std.proofs.lemmas.Result.{err_from_is_err_and}
 use Rattle.clap.specs.Words.{found_of, rows_of}
-use Rattle.ladder_words.proofs.Faults.{no_causes_of_list, no_list_of_every, no_list_of_grouping, no_list_of_start, usage_weaker}
+use Rattle.ladder_words.proofs.Faults.{no_causes_of_list, no_list_of_end, no_list_of_every, no_list_of_grouping, no_list_of_start, usage_weaker}
 use Rattle.ladder_words.proofs.words.list_request.Goals as goal
 
 pub returns-in_err-refuse_grouping-clause-err : goal.returns-in_err-refuse_grouping-clause-err
@@ -19,6 +19,12 @@ returns-in_err-after-clause-err c =
     let none = no_list_of_start (rows_of (found_of c.args.found.now)) c.requires.one_state c.requires.named in
     let fault = err_from_is_err_and c.from_residual-in_err-after.result c.from_residual-in_err-after.ensures.1 in
     rw (fault.1, fault.2) (usage_weaker _ none c.in_err-after.ensures.err)
+
+pub returns-in_err-upto-clause-err : goal.returns-in_err-upto-clause-err
+returns-in_err-upto-clause-err c =
+    let none = no_list_of_end (rows_of (found_of c.args.found.now)) c.requires.one_state c.requires.named in
+    let fault = err_from_is_err_and c.from_residual-in_err-upto.result c.from_residual-in_err-upto.ensures.1 in
+    rw (fault.1, fault.2) (usage_weaker _ none c.in_err-upto.ensures.err)
 
 pub returns-in_err-list-clause-err : goal.returns-in_err-list-clause-err
 returns-in_err-list-clause-err c =
