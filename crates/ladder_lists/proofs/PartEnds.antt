@@ -1,28 +1,16 @@
 -- How a request for a part of a list ends, from what each step of it ensures.
-use Rattle.std.proofs.Common.{◌≡◌, ◌⊎◌, ◌∙◌, ap, inl, inr, ℕ, List, Option, Some, length}
-use Rattle.std.specs.Prelude.{None}
-use Rattle.std.specs.Option.{option_or}
+use Rattle.std.proofs.Common.{◌≡◌, ◌⊎◌, ◌∙◌, ap, inl, inr, ℕ, List, Option, length}
 use Rattle.ladder_grid.specs.Program.{Drawing}
 use Rattle.ladder_search.specs.Looks.{Search}
 use Rattle.ladder_questions.specs.Causes.{Question, causes_after}
-use Rattle.ladder_questions.specs.Refusal.{refusal}
-use Rattle.ladder_questions.specs.declared.fault.CauseFault.{CauseFault}
 use Rattle.ladder_causes.specs.Cursor.{Cursor, first_number, looks_of, searched}
 use Rattle.ladder_causes.specs.Parts.{causes_between, looks_given_to, numbers_to}
 use Rattle.ladder_causes.specs.Prefixes.{search_of}
 use Rattle.ladder_sim.specs.CauseText.{cause_text, limited}
-use Rattle.ladder_setting.specs.Reports.{HasCauseFault}
 use Rattle.ladder_setting.specs.Setting.{Given, HasSettingFault}
 use Rattle.ladder_setting.specs.declared.fault.ToolFault.{ToolFault}
-use Rattle.ladder_lists.specs.Lists.{HasNameFault, HasPartFault, part_for, part_looks_for, part_refusal, part_rows_text, rows_line, unless_quiet}
+use Rattle.ladder_lists.specs.Lists.{HasNameFault, HasPartFault, part_for, part_looks_for, part_rows_text, rows_line, unless_quiet}
 use Rattle.ladder_words.specs.declared.request.ListRequest.{ListRequest}
-
--- the rule that the number to end at breaks comes first, and where it breaks none, the one that the number to begin after breaks
-pub end_refused : (q : Question) (after : Option ℕ) (last : ℕ) (f : CauseFault) → refusal q (Some last) ≡ Some f → part_refusal q after last ≡ Some f
-end_refused q after last f h = ap (λ (o : Option CauseFault). option_or o (refusal q after)) h
-
-pub end_accepted : (q : Question) (after : Option ℕ) (last : ℕ) → refusal q (Some last) ≡ None → part_refusal q after last ≡ refusal q after
-end_accepted q after last h = ap (λ (o : Option CauseFault). option_or o (refusal q after)) h
 
 -- A fault before anything is asked.
 pub before_part : (g : Given) (r : ListRequest) (after : Option ℕ) (last : ℕ) (f : ToolFault) → HasSettingFault g f ⊎ HasNameFault g r f → HasPartFault g r after last f

@@ -13,7 +13,7 @@ use Rattle.ladder_causes.specs.Parts.{numbers_to}
 use Rattle.ladder_sim.specs.CauseText.{limited}
 use Rattle.ladder_sim.specs.Limit.{limit_left}
 use Rattle.ladder_sim.specs.Parts.{part, part_looks, settled}
-use Rattle.ladder_sim.proofs.Taking.{Going, taken_many}
+use Rattle.ladder_sim.proofs.Taking.{Going}
 
 is_to : (n last : ℕ) → n ≤ last → nat_le n last ≡ true
 is_to n last h = grind (arith, nat_tests)

@@ -38,16 +38,10 @@ pub fn perform<O: Sink, S: Sink, E: Sink>(
         Request::Uses { .. } => print(alloc, About::Uses, texts, out, err),
         Request::Never(never) => list_never(alloc, never, texts, out, err),
         Request::Possible(possible) => list_possible(alloc, possible, texts, out, err),
-        Request::Causes {
-            list,
-            after,
-            upto: Some(last),
-        } => list_part(alloc, list, *after, *last, texts, out, err),
-        Request::Causes {
-            list,
-            after,
-            upto: None,
-        } => list_causes(alloc, list, *after, texts, out, err),
+        Request::Causes { list, after, upto } => match *upto {
+            Some(last) => list_part(alloc, list, *after, last, texts, out, err),
+            None => list_causes(alloc, list, *after, texts, out, err),
+        },
         Request::Held {
             list,
             scans,
