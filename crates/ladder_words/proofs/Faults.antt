@@ -11,9 +11,9 @@ use Rattle.ladder_words.specs.declared.request.Form.TheVariants.{Statement, Tabl
 use Rattle.ladder_words.specs.declared.request.InputOrder.{InputOrder}
 use Rattle.ladder_words.specs.declared.request.InputOrder.TheVariants.{Given, Sifted}
 use Rattle.ladder_words.specs.declared.request.ListRequest.{ListRequest}
-use Rattle.ladder_words.specs.declared.words.Lasting.{Lasting}
-use Rattle.ladder_words.specs.declared.words.NamedScan.{NamedScan}
-use Rattle.ladder_words.specs.declared.words.Played.{Played}
+use Rattle.ladder_words.specs.declared.lasting.Lasting.{Lasting}
+use Rattle.ladder_words.specs.declared.parts.NamedScan.{NamedScan}
+use Rattle.ladder_words.specs.declared.simulating.Played.{Played}
 use Rattle.ladder_words.specs.declared.request.Grouping.{Grouping}
 use Rattle.ladder_words.specs.declared.request.ShowRequest.{ShowRequest}
 use Rattle.ladder_words.specs.declared.request.FilmRequest.{FilmRequest}
@@ -22,7 +22,7 @@ use Rattle.ladder_words.specs.declared.request.WatchRequest.{WatchRequest}
 use Rattle.ladder_words.specs.declared.request.WavesRequest.{WavesRequest}
 use Rattle.ladder_words.specs.declared.request.PossibleRequest.{PossibleRequest}
 use Rattle.ladder_words.specs.declared.request.NeverRequest.{NeverRequest}
-use Rattle.ladder_words.specs.declared.words.Lasting.TheVariants.{Count, Until}
+use Rattle.ladder_words.specs.declared.lasting.Lasting.TheVariants.{Count, Until}
 use Rattle.ladder_words.specs.declared.request.Request.TheVariants.{Causes, Check, Film, Groups, Held, Import, Never, Possible, Relevant, Show, Sim, Uses, Watch, Waves}
 use Rattle.ladder_words.specs.declared.request.WordFault.{WordFault}
 use Rattle.ladder_words.specs.declared.request.WordFault.TheVariants.{Help, Memory, Mistake, Usage}

@@ -5,9 +5,9 @@ use Rattle.std.specs.List.{list_all}
 use Rattle.std.specs.Str.Parse.{IsNumeral, digits_value, without_leading_plus}
 use Rattle.clap.specs.Words.{App, Row, Text, all_of, first_of, one_of, subcommand_of}
 use Rattle.ladder_pages.specs.Pages.{is_fault_code}
-use Rattle.ladder_words.specs.declared.words.TheConstants.{EVERY}
-use Rattle.ladder_words.specs.declared.words.Lasting.{Lasting}
-use Rattle.ladder_words.specs.declared.words.Lasting.TheVariants.{Count, Until}
+use Rattle.ladder_words.specs.declared.parts.TheConstants.{EVERY}
+use Rattle.ladder_words.specs.declared.lasting.Lasting.{Lasting}
+use Rattle.ladder_words.specs.declared.lasting.Lasting.TheVariants.{Count, Until}
 use Rattle.ladder_words.specs.declared.request.Form.{Form}
 use Rattle.ladder_words.specs.declared.request.Form.TheVariants.{Statement, Table, Terms}
 use Rattle.ladder_words.specs.declared.request.Grouping.{Grouping}

@@ -2,10 +2,10 @@
 use Rattle.std.specs.Prelude.{⊤, false, List, Option, None, Some, map, codes, string_bytes, option_map, []}
 use Rattle.clap.specs.Words.{Row}
 use Rattle.ladder_words.specs.Asking.{HasFlag, HasForm, HasInputs, HasLasting, HasNumber, HasOption, HasOrder, HasText}
-use Rattle.ladder_words.specs.declared.words.Lasting.{Lasting}
-use Rattle.ladder_words.specs.declared.words.NamedScan.{NamedScan}
-use Rattle.ladder_words.specs.declared.words.Played.{Played}
-use Rattle.ladder_words.specs.declared.words.Sources.{Sources}
+use Rattle.ladder_words.specs.declared.lasting.Lasting.{Lasting}
+use Rattle.ladder_words.specs.declared.parts.NamedScan.{NamedScan}
+use Rattle.ladder_words.specs.declared.simulating.Played.{Played}
+use Rattle.ladder_words.specs.declared.parts.Sources.{Sources}
 use Rattle.ladder_words.specs.declared.request.Form.{Form}
 use Rattle.ladder_words.specs.declared.request.Form.TheVariants.{Statement}
 use Rattle.ladder_words.specs.declared.request.Grouping.{Grouping}

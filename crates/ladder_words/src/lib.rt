@@ -1,7 +1,14 @@
 //! What the words of a command line ask of the program `ladder`.
 #![tactic(auto)]
 
+mod causes;
+mod found;
+mod grouping;
+mod lasting;
+mod parts;
 mod request;
+mod showing;
+mod simulating;
 mod words;
 
 pub use request::{
