@@ -20,7 +20,7 @@ coil_names p = map (name_at p) (coils_of p)
 
 -- the request for a list, made of the coil with this name; one that asks of no coil stays as it is
 abbrev pub of_coil : String Global → Request → Request
-of_coil coil (Causes list after) = Causes (record list { coil = coil }) after
+of_coil coil (Causes list after upto) = Causes (record list { coil = coil }) after upto
 of_coil coil (Held list scans every grouped) = Held (record list { coil = coil }) scans every grouped
 of_coil coil (Groups list grouping) = Groups (record list { coil = coil }) grouping
 of_coil coil (Relevant list after grouping) = Relevant (record list { coil = coil }) after grouping
@@ -29,7 +29,7 @@ of_coil coil other = other
 
 -- whether the line of counts of a list is left out
 abbrev pub is_quiet : Request → Bool
-is_quiet (Causes list after) = list.quiet
+is_quiet (Causes list after upto) = list.quiet
 is_quiet (Held list scans every grouped) = list.quiet
 is_quiet (Groups list grouping) = list.quiet
 is_quiet (Relevant list after grouping) = list.quiet

@@ -53,7 +53,13 @@ fn check_for(
     coil: &String,
 ) -> Result<(), ToolFault> {
     match request {
-        Request::Causes { list, after } => check_list(alloc, list, *after, setting, coil),
+        Request::Causes { list, after, upto } => {
+            match check_list(alloc, list, *after, setting, coil) {
+                // A number to end at is refused as one to begin after.
+                Ok(()) => check_list(alloc, list, *upto, setting, coil),
+                Err(fault) => Err(fault),
+            }
+        }
         Request::Groups { list, .. } => check_list(alloc, list, None, setting, coil),
         Request::Held {
             list,
