@@ -3,3 +3,4 @@ pub mod Endings
 pub mod PossibleEnds
 pub mod PossibleGroupEnds
 pub mod PartEnds
+pub mod ProgressEnds

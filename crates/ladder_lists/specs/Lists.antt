@@ -10,7 +10,7 @@ use Rattle.ladder_questions.specs.Causes.{Question, causes_after, is_cause}
 use Rattle.ladder_causes.specs.Cursor.{first_number, looks_given}
 use Rattle.ladder_causes.specs.GroupCursor.{causes_in}
 use Rattle.ladder_causes.specs.Order.{in_order, sifted}
-use Rattle.ladder_causes.specs.Parts.{causes_between, looks_given_to}
+use Rattle.ladder_causes.specs.Parts.{causes_between, looks_given_to, numbers_to}
 use Rattle.ladder_causes.specs.Prefixes.{search_of}
 use Rattle.ladder_questions.specs.Refusal.{refusal}
 use Rattle.ladder_relevant.specs.Relevant.{AreInputs, Decide}
@@ -48,9 +48,12 @@ use Rattle.ladder_possible.specs.declared.possible.PossibleCause.{PossibleCause}
 use Rattle.ladder_possible_groups.specs.Cursor.{ArePossibleGroups}
 use Rattle.ladder_sim.specs.HeldText.{held_text}
 use Rattle.ladder_sim.specs.PossibleText.{possible_text}
+use Rattle.ladder_sim.specs.Parts.{part}
+use Rattle.ladder_sim.specs.Progress.{TellsAll, TellsUntil}
 use Rattle.ladder_sim.specs.TermText.{form_text}
 use Rattle.ladder_sim.specs.declared.group_text.GroupForm.{GroupForm}
 use Rattle.ladder_sim.specs.declared.group_text.GroupForm.TheVariants as group_form
+use Rattle.ladder_sim.specs.declared.progress.ProgressFault.TheVariants as progress
 use Rattle.ladder_text.specs.Log.{PutsAll, PutsPrefix, WriteLog}
 use Rattle.ladder_setting.specs.declared.fault.ToolFault.{ToolFault}
 use Rattle.ladder_setting.specs.declared.fault.ToolFault.TheVariants as fault
@@ -166,6 +169,53 @@ abbrev pub BreaksPart : Given → ListRequest → Option ℕ → ℕ → Logs �
 BreaksPart g r after last old new =
     (ListsPart g r after last (PutsPrefix old.out new.out) × IsReported g old.err new.err fault.Write)
     ⊎ CountsPart g r after last old.out new.out (PutsPrefix old.err new.err)
+
+-- ---- a list that tells how far it is
+
+-- the causes that are listed: those after a number, or from the first on, up to another where there is one
+abbrev pub causes_upto : ListRequest → Option ℕ → Option ℕ → Question → List ℕ
+causes_upto r after upto q = limited r.limit (part upto (causes_after after q))
+
+abbrev pub progress_text : ListRequest → Option ℕ → Option ℕ → Question → List ℕ
+progress_text r after upto q = cause_text q.program q.listed (causes_upto r after upto q)
+
+-- the text of those up to n
+abbrev pub progress_text_to : ListRequest → Option ℕ → Option ℕ → Question → ℕ → List ℕ
+progress_text_to r after upto q n = cause_text q.program q.listed (numbers_to n (causes_upto r after upto q))
+
+-- The counts, the first rule that is broken and the faults are those of the same list that tells nothing.
+abbrev pub progress_rows_text : ListRequest → Option ℕ → Option ℕ → Question → List ℕ
+progress_rows_text r after None q = rows_text r after q
+progress_rows_text r after (Some last) q = part_rows_text r after last q
+
+abbrev pub progress_refusal : Question → Option ℕ → Option ℕ → Option CauseFault
+progress_refusal q after None = refusal q after
+progress_refusal q after (Some last) = part_refusal q after last
+
+abbrev pub HasProgressFault : Given → ListRequest → Option ℕ → Option ℕ → ToolFault → Type 0
+HasProgressFault g r after None f = HasListFault g r after f
+HasProgressFault g r after (Some last) f = HasPartFault g r after last f
+
+-- So much was written of what is asked.
+pub record ListsProgress (g : Given) (r : ListRequest) (after upto : Option ℕ) (Written : Question → Type 0) : Type 0 where
+  pub question : Question
+  pub asked : IsAsked g r question
+  pub accepted : progress_refusal question after upto ≡ None
+  pub written : Written question
+
+-- The rows are written, and on `err` the lines of some numbers, and then the counts.
+abbrev pub CountsProgress : Given → ListRequest → Option ℕ → Option ℕ → Logs → Logs → Type 0
+CountsProgress g r after upto old new = ListsProgress g r after upto (λ q. (told : WriteLog)
+    × TellsAll (progress_text r after upto q) old.out new.out old.err told × PutsAll told new.err (progress_rows_text r after upto q))
+
+-- Status 1: `out` failed at the rows, with all of them up to the last number that was told; or `err` at a line, when the rows up to its number
+-- were written whole; or at the counts.
+abbrev pub BreaksProgress : Given → ListRequest → Option ℕ → Option ℕ → Logs → Logs → Type 0
+BreaksProgress g r after upto old new = ListsProgress g r after upto (λ q.
+    ((told : WriteLog) × TellsUntil progress.Rows (progress_text_to r after upto q) (progress_text r after upto q) old.out new.out old.err told
+    × IsReported g told new.err fault.Write)
+    ⊎ (TellsUntil progress.Lines (progress_text_to r after upto q) (progress_text r after upto q) old.out new.out old.err new.err
+    ⊎ ((told : WriteLog) × TellsAll (progress_text r after upto q) old.out new.out old.err told × PutsPrefix told new.err (progress_rows_text r after upto q))))
 
 -- ---- a list over several scans
 

@@ -12,6 +12,7 @@ mod part;
 mod possible;
 mod possible_asking;
 mod possible_grouping;
+mod progress;
 mod relevant;
 
 pub use grouping::list_groups;
@@ -20,4 +21,5 @@ pub use listing::list_causes;
 pub use never::list_never;
 pub use part::list_part;
 pub use possible::list_possible;
+pub use progress::list_progress;
 pub use relevant::list_relevant;

@@ -22,7 +22,7 @@ use ladder_words::ListRequest;
 use std::alloc::Global;
 
 /// The cursor over the causes after a number where there is one, of which those up to `last` are asked for.
-fn cursor_to<'a>(
+pub(crate) fn cursor_to<'a>(
     alloc: Global,
     asked: &'a Asked,
     after: Option<u64>,

@@ -10,3 +10,4 @@ pub mod TermLaws
 pub mod FormLaws
 pub mod TwoFields
 pub mod PossibleLaws
+pub mod TellLaws

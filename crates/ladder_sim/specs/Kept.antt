@@ -1,8 +1,7 @@
 -- Private to the writer of rows: a row that is kept, and the numbers whose rows differ from it in two digits and six bits alone.
 use Rattle.std.specs.Prelude.{◌≡◌, ◌+◌, ◌-◌, ◌*◌, ◌/◌, ◌%◌, ◌<◌, ◌≤◌, ◌++◌, ◌∷◌, [], ℕ, List, codes, decimal, length, take, drop}
-use Rattle.std.specs.List.{slice_range}
 use Rattle.ladder_records.specs.Text.{after_commas}
-use Rattle.ladder_sim.specs.Rows.{bits, row}
+use Rattle.ladder_sim.specs.Rows.{bits}
 use Rattle.ladder_sim.specs.declared.kept.Kept.{Kept}
 
 -- the end of the row of a number below 64: six bits and the line feed

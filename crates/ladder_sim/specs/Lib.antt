@@ -11,3 +11,5 @@ pub mod Forms
 pub mod PossibleText
 pub mod PossibleRows
 pub mod Parts
+pub mod Progress
+pub mod Telling

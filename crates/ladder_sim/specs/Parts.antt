@@ -1,4 +1,4 @@
--- Private to the writer of causes: a whole list, or the part of it up to a number.
+-- A whole list, or the part of it up to a number.
 use Rattle.std.specs.Prelude.{ℕ, if◌then◌else◌, List, length, nat_lt, take, Option, Some, None}
 use Rattle.ladder_search.specs.Looks.{Search, looks_in_all, looks_upto}
 use Rattle.ladder_causes.specs.Cursor.{looks_through}

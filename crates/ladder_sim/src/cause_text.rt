@@ -205,7 +205,7 @@ fn add_rows<W: Sink>(
 }
 
 /// Adds the rows that are left, up to `last` or all, or the first of them where there is a limit, to a buffer, and returns how many.
-fn buffer_rows<W: Sink>(
+pub(crate) fn buffer_rows<W: Sink>(
     buffer: &mut RowBuffer,
     block: &mut Block,
     kept: &mut Kept,
@@ -219,6 +219,7 @@ fn buffer_rows<W: Sink>(
     requires kept { IsKept listed kept.old }
     requires finite { length causes.old.rest < 2 ^ 64 }
     ensures sends { Sends (W.log writer.old) (W.log writer.new) (block.old ++ buffer.old) (block.new ++ buffer.new) result (rows listed (limited limit (part last causes.old.rest))) }
+    ensures kept { IfOk result (λ _. IsKept listed kept.new) }
     ensures count { IfOk result (λ n. n ≡ length (limited limit (part last causes.old.rest))) }
     ensures taken { MatchResult result (λ n. Takes causes.old causes.new n) (λ _. TakesAtMost causes.old causes.new (length (limited limit (part last causes.old.rest)))) }
     ensures looks { IfOk result (λ _. looks_of causes.new ≡ part_looks last (searched causes.old) (looks_of causes.old) limit (part last causes.old.rest)) }

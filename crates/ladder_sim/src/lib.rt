@@ -6,6 +6,7 @@ mod group_text;
 mod held_text;
 mod kept;
 mod possible_text;
+mod progress;
 mod rows;
 mod runs;
 mod table;
@@ -22,3 +23,4 @@ pub use ladder_text::{
 pub use ladder_trace::{Film, SimFault, simulate, write_film, write_waves};
 pub use ladder_uses::write_uses;
 pub use possible_text::{PossibleSummary, write_possible_causes};
+pub use progress::{ProgressFault, write_progress};

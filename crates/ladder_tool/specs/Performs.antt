@@ -10,7 +10,7 @@ use Rattle.ladder_words.specs.declared.request.Request.TheVariants as request
 use Rattle.ladder_setting.specs.Setting.{Given, HasProgramFault, HasSettingFault}
 use Rattle.ladder_setting.specs.Reports.{IsReported, Logs, Refuses}
 use Rattle.ladder_carry.specs.Carrying.{BreaksCarrying, Carries}
-use Rattle.ladder_lists.specs.Lists.{BreaksGroups, BreaksHeldBy, BreaksList, BreaksNeverBy, BreaksPart, BreaksPossibleBy, BreaksRelevant, CountsGroups, CountsHeldBy, CountsList, CountsNeverBy, CountsPart, CountsPossibleBy, CountsRelevant, HasHeldFaultBy, HasListFault, HasNeverFault, HasPartFault, HasPossibleFaultBy, HasRelevantFault, after_for, scans_of}
+use Rattle.ladder_lists.specs.Lists.{BreaksGroups, BreaksHeldBy, BreaksList, BreaksNeverBy, BreaksPart, BreaksPossibleBy, BreaksProgress, BreaksRelevant, CountsGroups, CountsHeldBy, CountsList, CountsNeverBy, CountsPart, CountsPossibleBy, CountsProgress, CountsRelevant, HasHeldFaultBy, HasListFault, HasNeverFault, HasPartFault, HasPossibleFaultBy, HasProgressFault, HasRelevantFault, after_for, scans_of}
 use Rattle.ladder_views.specs.Views.{BreaksFilm, BreaksTrace, BreaksWatch, BreaksWaves, HasFilmFault, HasShowFault, HasWatchFault, IsFilmed, IsTraced, IsWatched, IsWaved, Prints, Shows, check_text}
 
 -- Status 0. Only a simulation writes on `save`, and only a list on `err`.
@@ -18,6 +18,7 @@ abbrev pub IsDone : Request → Given → Logs → Logs → Type 0
 IsDone (Check file warns) g old new = Prints (check_text warns) g.program (PutsAll old.out new.out) × (new.save ≡ old.save) × (new.err ≡ old.err)
 IsDone (Causes list after None) g old new = CountsList g list after old.out new.out (PutsAll old.err new.err) × (new.save ≡ old.save)
 IsDone (Causes list after (Some last)) g old new = CountsPart g list after last old.out new.out (PutsAll old.err new.err) × (new.save ≡ old.save)
+IsDone (request.Progress list after upto) g old new = CountsProgress g list after upto old new × (new.save ≡ old.save)
 IsDone (Held list scans every grouped) g old new = CountsHeldBy grouped g list (scans_of scans every) old.out new.out (PutsAll old.err new.err) × (new.save ≡ old.save)
 IsDone (request.Never r) g old new = CountsNeverBy r.pairs g r old.out new.out (PutsAll old.err new.err) × (new.save ≡ old.save)
 IsDone (request.Possible r) g old new = CountsPossibleBy r.grouped g r old.out new.out (PutsAll old.err new.err) × (new.save ≡ old.save)
@@ -36,6 +37,7 @@ abbrev pub HasFault : Request → Given → ToolFault → Type 0
 HasFault (Check file warns) g = HasProgramFault g.program
 HasFault (Causes list after None) g = HasListFault g list after
 HasFault (Causes list after (Some last)) g = HasPartFault g list after last
+HasFault (request.Progress list after upto) g = HasProgressFault g list after upto
 HasFault (Held list scans every grouped) g = HasHeldFaultBy grouped g list (scans_of scans every)
 HasFault (request.Never r) g = HasNeverFault g
 HasFault (request.Possible r) g = HasPossibleFaultBy r.grouped g r
@@ -55,6 +57,7 @@ Breaks (Check file warns) g old new =
     Prints (check_text warns) g.program (PutsPrefix old.out new.out) × (new.save ≡ old.save) × IsReported g old.err new.err fault.Write
 Breaks (Causes list after None) g old new = BreaksList g list after old new × (new.save ≡ old.save)
 Breaks (Causes list after (Some last)) g old new = BreaksPart g list after last old new × (new.save ≡ old.save)
+Breaks (request.Progress list after upto) g old new = BreaksProgress g list after upto old new × (new.save ≡ old.save)
 Breaks (Held list scans every grouped) g old new = BreaksHeldBy grouped g list (scans_of scans every) old new × (new.save ≡ old.save)
 Breaks (request.Never r) g old new = BreaksNeverBy r.pairs g r old new × (new.save ≡ old.save)
 Breaks (request.Possible r) g old new = BreaksPossibleBy r.grouped g r old new × (new.save ≡ old.save)

@@ -53,7 +53,7 @@ fn check_for(
     coil: &String,
 ) -> Result<(), ToolFault> {
     match request {
-        Request::Causes { list, after, upto } => {
+        Request::Causes { list, after, upto } | Request::Progress { list, after, upto } => {
             match check_list(alloc, list, *after, setting, coil) {
                 // A number to end at is refused as one to begin after.
                 Ok(()) => check_list(alloc, list, *upto, setting, coil),

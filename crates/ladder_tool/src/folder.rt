@@ -47,6 +47,7 @@ fn form_of(request: &Request) -> Form {
         } => grouping.form,
         Request::Relevant { grouping: None, .. }
         | Request::Causes { .. }
+        | Request::Progress { .. }
         | Request::Held { .. }
         | Request::Possible(_)
         | Request::Check { .. }
@@ -83,6 +84,7 @@ fn path_of(alloc: Global, folder: &str, coil: &str, end: &str) -> Result<String,
 fn state_of(request: &Request) -> Option<&str> {
     match request {
         Request::Causes { list, .. }
+        | Request::Progress { list, .. }
         | Request::Held { list, .. }
         | Request::Groups { list, .. }
         | Request::Relevant { list, .. } => match &list.state {
@@ -106,6 +108,7 @@ fn state_of(request: &Request) -> Option<&str> {
 fn program_of(request: &Request) -> &str {
     match request {
         Request::Causes { list, .. }
+        | Request::Progress { list, .. }
         | Request::Held { list, .. }
         | Request::Groups { list, .. }
         | Request::Relevant { list, .. } => list.file.as_str(),

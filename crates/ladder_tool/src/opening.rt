@@ -66,6 +66,7 @@ pub(crate) fn readers_of<'a>(
             stimulus: None,
         },
         Request::Causes { list, .. }
+        | Request::Progress { list, .. }
         | Request::Held { list, .. }
         | Request::Groups { list, .. }
         | Request::Relevant { list, .. } => Readers {

@@ -8,7 +8,8 @@ ghost use Rattle.ladder_setting.specs.Setting.{given_by};
 use ladder_carry::carry;
 use ladder_held::Scans;
 use ladder_lists::{
-    list_causes, list_groups, list_held, list_never, list_part, list_possible, list_relevant,
+    list_causes, list_groups, list_held, list_never, list_part, list_possible, list_progress,
+    list_relevant,
 };
 use ladder_setting::Texts;
 use ladder_text::Sink;
@@ -42,6 +43,9 @@ pub fn perform<O: Sink, S: Sink, E: Sink>(
             Some(last) => list_part(alloc, list, *after, last, texts, out, err),
             None => list_causes(alloc, list, *after, texts, out, err),
         },
+        Request::Progress { list, after, upto } => {
+            list_progress(alloc, list, *after, *upto, texts, out, err)
+        }
         Request::Held {
             list,
             scans,

@@ -183,6 +183,7 @@ fn saving_of(request: &Request) -> Option<(&str, &SimRequest)> {
         Request::Watch(watched) => saving_in(&watched.sim),
         Request::Check { .. }
         | Request::Causes { .. }
+        | Request::Progress { .. }
         | Request::Held { .. }
         | Request::Groups { .. }
         | Request::Relevant { .. }

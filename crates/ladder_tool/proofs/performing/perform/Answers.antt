@@ -47,3 +47,9 @@ returns-in-Import-clause-failed g c = λ status. rw c.in-Import.is (inr (rw c.de
 
 pub returns-in-Relevant-clause-failed : goal.returns-in-Relevant-clause-failed
 returns-in-Relevant-clause-failed g c = λ status. rw c.in-Relevant.is (with_third refl (c.list_relevant.ensures.failed (g.S.Sink.log c.args.save.now) status))
+
+pub returns-in-Progress-clause-done : goal.returns-in-Progress-clause-done
+returns-in-Progress-clause-done g c = λ status. rw c.in-Progress.is (c.list_progress.ensures.done (g.S.Sink.log c.args.save.now) status, refl)
+
+pub returns-in-Progress-clause-failed : goal.returns-in-Progress-clause-failed
+returns-in-Progress-clause-failed g c = λ status. rw c.in-Progress.is (with_third refl (c.list_progress.ensures.failed (g.S.Sink.log c.args.save.now) status))

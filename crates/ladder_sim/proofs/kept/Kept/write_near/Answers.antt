@@ -1,4 +1,4 @@
-use Rattle.std.proofs.Common.{◌≡◌, ◌∙◌, ◌-◌, ◌+◌, ◌*◌, ◌<◌, ◌^◌, ap, arith, length, refl, rules, take}
+use Rattle.std.proofs.Common.{◌≡◌, ◌∙◌, ◌-◌, ◌+◌, ◌*◌, ◌<◌, ◌^◌, ap, arith, length, rules, take}
 use lib.Lanes.{put_chunk}
 use Rattle.ladder_sim.proofs.NearLaws.{low_bits, low_digits, near_written, two_digits}
 use Rattle.ladder_sim.proofs.kept.Kept.write_near.Goals as goal

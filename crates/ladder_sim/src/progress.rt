@@ -1,0 +1,255 @@
+//! A list of causes that tells how far it is.
+
+ghost use Rattle.std.specs.Prelude.{◌≡◌, ◌-◌, ◌<◌, ◌≤◌, ◌++◌, ◌^◌, [], IfOk, IfSome, MatchResult, None, length};
+ghost use Rattle.ladder_causes.specs.Cursor.{Takes, looks_of, searched};
+ghost use Rattle.ladder_causes.specs.Parts.{numbers_to};
+ghost use Rattle.ladder_sim.specs.CauseText.{TakesAtMost, cause_text, limited};
+ghost use Rattle.ladder_sim.specs.Kept.{IsKept};
+ghost use Rattle.ladder_sim.specs.Limit.{limit_left};
+ghost use Rattle.ladder_sim.specs.Parts.{part, part_looks};
+ghost use Rattle.ladder_sim.specs.Progress.{TellsAll, TellsUntil, reached_line};
+ghost use Rattle.ladder_sim.specs.Telling.{IsUntold, TellsSent};
+ghost use Rattle.ladder_text.specs.Log.{Puts, PutsAll};
+
+use crate::cause_text::{Summary, add_header, buffer_rows, is_reached};
+use crate::kept::Kept;
+use crate::rows::RowBuffer;
+use ladder_causes::Causes;
+use ladder_grid::Program;
+use ladder_text::{Block, Piece, Sink, WriteFault, put_pieces};
+
+/// So many numbers behind those that are settled are listed before it is asked how long it took.
+const AHEAD: u64 = 4095;
+
+/// The work of a second, in instructions, roughly.
+const SECOND: u64 = 3_000_000_000;
+
+/// The work of a row.
+const ROW_WORK: u64 = 60;
+
+/// The work of a look, and what each step of the program adds to it. A pass over the steps takes four times as much, but several looks mostly
+/// share one.
+const LOOK_WORK: u64 = 110;
+
+const STEP_WORK: u64 = 9;
+
+/// Which writer of a list failed that tells how far it is.
+#[derive(Clone, Copy, Debug, PartialEq, Eq)]
+pub enum ProgressFault {
+    /// The one of the rows.
+    Rows,
+    /// The one of the lines.
+    Lines,
+}
+
+/// The work of a list.
+#[derive(Drop)]
+struct Pace {
+    /// What a look takes.
+    look: u64,
+    /// How much was done when the last number was told.
+    told: u64,
+}
+
+impl Pace {
+    fn new(program: &Program) -> Pace {
+        let steps = program.steps().len() as u64;
+        Pace {
+            look: steps.saturating_mul(STEP_WORK).saturating_add(LOOK_WORK),
+            told: 0,
+        }
+    }
+
+    /// Whether a second's work was done since the last number was told; then the next one is.
+    fn is_due(&mut self, looks: u64, rows: u64) -> bool {
+        let rows = rows.saturating_mul(ROW_WORK);
+        let work = looks.saturating_mul(self.look).saturating_add(rows);
+        if work.saturating_sub(self.told) < SECOND {
+            return false;
+        }
+        self.told = work;
+        true
+    }
+}
+
+/// The last number of a list.
+fn end_of(upto: Option<u64>, listed: usize) -> u64
+    requires few { listed ≤ 32 }
+    ensures part { IfSome upto (λ last. result ≡ last) }
+    ensures whole { upto ≡ None → result ≡ 2 ^ listed - 1 }
+{
+    match upto {
+        Some(last) => last,
+        None => (1 << listed) - 1,
+    }
+}
+
+/// What a limit leaves after some rows.
+fn left_of(limit: Option<u64>, rows: u64) -> Option<u64>
+    requires within { IfSome limit (λ most. rows ≤ most) }
+    ensures { result ≡ limit_left limit rows }
+{
+    match limit {
+        Some(most) => Some(most - rows),
+        None => None,
+    }
+}
+
+/// The number up to which is listed next.
+fn next_stop(causes: &Causes<'_>, reached: u64) -> u64
+    requires last { reached < 2 ^ 64 - 1 }
+    ensures more { reached < result }
+{
+    let soon = causes.settled_below().saturating_add(AHEAD);
+    soon.max(reached + 1)
+}
+
+/// Writes all rows that wait.
+fn flush_rows<W: Sink>(
+    buffer: &mut RowBuffer,
+    block: &mut Block,
+    writer: &mut W,
+) -> Result<(), WriteFault>
+    ensures wrote { Puts (W.log writer.old) (W.log writer.new) result (block.old ++ buffer.old) }
+    ensures no_block { IfOk result (λ _. block.new ≡ []) }
+    ensures no_row { IfOk result (λ _. buffer.new ≡ []) }
+{
+    buffer.hand_over(block, writer)?;
+    block.flush(writer)
+}
+
+/// Writes all rows that wait, and then the line of a number.
+fn tell<O: Sink, E: Sink>(
+    buffer: &mut RowBuffer,
+    block: &mut Block,
+    number: u64,
+    out: &mut O,
+    err: &mut E,
+) -> Result<(), ProgressFault>
+    ensures told { MatchResult result
+        (λ _. PutsAll (O.log out.old) (O.log out.new) (block.old ++ buffer.old) × PutsAll (E.log err.old) (E.log err.new) (reached_line number))
+        (λ f. IsUntold f (block.old ++ buffer.old) number (O.log out.old) (O.log out.new) (E.log err.old) (E.log err.new)) }
+    ensures no_block { IfOk result (λ _. block.new ≡ []) }
+    ensures no_row { IfOk result (λ _. buffer.new ≡ []) }
+{
+    let Ok(()) = flush_rows(buffer, block, out) else {
+        return Err(ProgressFault::Rows);
+    };
+    let pieces = [
+        Piece::Text(b"reached "),
+        Piece::Number(number),
+        Piece::Text(b"\n"),
+    ];
+    let Ok(()) = put_pieces(err, pieces.as_slice()) else {
+        return Err(ProgressFault::Lines);
+    };
+    Ok(())
+}
+
+/// Adds the rows of a list, and tells a number about once a second.
+fn tell_rows<O: Sink, E: Sink>(
+    buffer: &mut RowBuffer,
+    block: &mut Block,
+    kept: &mut Kept,
+    causes: &mut Causes<'_>,
+    upto: Option<u64>,
+    limit: Option<u64>,
+    out: &mut O,
+    err: &mut E,
+) -> Result<u64, ProgressFault>
+    requires no_block { block.old ≡ [] }
+    requires no_row { buffer.old ≡ [] }
+    requires kept { IsKept (length causes.old.listed) kept.old }
+    ensures told { MatchResult result
+        (λ _. TellsSent (λ n. cause_text causes.old.program causes.old.listed (numbers_to n (limited limit (part upto causes.old.rest))))
+        (cause_text causes.old.program causes.old.listed (limited limit (part upto causes.old.rest)))
+        (O.log out.old) (O.log out.new) (block.new ++ buffer.new) (E.log err.old) (E.log err.new))
+        (λ f. TellsUntil f (λ n. cause_text causes.old.program causes.old.listed (numbers_to n (limited limit (part upto causes.old.rest))))
+        (cause_text causes.old.program causes.old.listed (limited limit (part upto causes.old.rest)))
+        (O.log out.old) (O.log out.new) (E.log err.old) (E.log err.new)) }
+    ensures count { IfOk result (λ n. n ≡ length (limited limit (part upto causes.old.rest))) }
+    ensures taken { MatchResult result (λ n. Takes causes.old causes.new n) (λ _. TakesAtMost causes.old causes.new (length (limited limit (part upto causes.old.rest)))) }
+    ensures looks { IfOk result (λ _. looks_of causes.new ≡ part_looks upto (searched causes.old) (looks_of causes.old) limit (part upto causes.old.rest)) }
+{
+    let Ok(()) = add_header(block, b"number", causes.program(), causes.free(), out) else {
+        return Err(ProgressFault::Rows);
+    };
+    let end = end_of(upto, causes.free().len());
+    let mut pace = Pace::new(causes.program());
+    let mut rows = 0u64;
+    let mut reached = 0u64;
+    loop {
+        let listed = causes.free().len();
+        let stop = next_stop(causes, reached);
+        let left = left_of(limit, rows);
+        if end <= stop || is_reached(limit, rows) {
+            let Ok(more) = buffer_rows(buffer, block, kept, causes, listed, upto, left, out) else {
+                return Err(ProgressFault::Rows);
+            };
+            return Ok(rows + more);
+        }
+        let Ok(more) = buffer_rows(buffer, block, kept, causes, listed, Some(stop), left, out)
+        else {
+            return Err(ProgressFault::Rows);
+        };
+        rows += more;
+        reached = stop;
+        if !is_reached(limit, rows) && pace.is_due(causes.looks(), rows) {
+            if let Err(fault) = tell(buffer, block, reached, out, err) {
+                return Err(fault);
+            }
+        }
+    }
+}
+
+/// Writes the text of the causes up to `upto` that are left, or of all where there is none, as `write_causes` does; and on `err` about once
+/// a second the line of a number up to which all rows are written, `reached N`.
+///
+/// # Errors
+///
+/// X6, with the writer that failed. What was written of the rows is a prefix of their text, with all of them up to the last number that was told.
+pub fn write_progress<O: Sink, E: Sink>(
+    causes: &mut Causes<'_>,
+    upto: Option<u64>,
+    limit: Option<u64>,
+    out: &mut O,
+    err: &mut E,
+) -> Result<Summary, ProgressFault>
+    ensures told { MatchResult result
+        (λ _. TellsAll (cause_text causes.old.program causes.old.listed (limited limit (part upto causes.old.rest)))
+        (O.log out.old) (O.log out.new) (E.log err.old) (E.log err.new))
+        (λ f. TellsUntil f (λ n. cause_text causes.old.program causes.old.listed (numbers_to n (limited limit (part upto causes.old.rest))))
+        (cause_text causes.old.program causes.old.listed (limited limit (part upto causes.old.rest)))
+        (O.log out.old) (O.log out.new) (E.log err.old) (E.log err.new)) }
+    ensures rows { IfOk result (λ s. s.rows ≡ length (limited limit (part upto causes.old.rest))) }
+    ensures taken { MatchResult result (λ s. Takes causes.old causes.new s.rows) (λ _. TakesAtMost causes.old causes.new (length (limited limit (part upto causes.old.rest)))) }
+
+    // The looks are the cursor's count, which is that of the search as far as it was gone through.
+    ensures looks { IfOk result (λ s. s.looks ≡ looks_of causes.new) }
+    ensures counted { IfOk result (λ _. looks_of causes.new ≡ part_looks upto (searched causes.old) (looks_of causes.old) limit (part upto causes.old.rest)) }
+{
+    let mut block = Block::new();
+    let mut buffer = RowBuffer::new();
+    let mut kept = Kept::new(causes.free().len());
+    let told = tell_rows(
+        &mut buffer,
+        &mut block,
+        &mut kept,
+        causes,
+        upto,
+        limit,
+        out,
+        err,
+    );
+    let rows = match told {
+        Ok(rows) => rows,
+        Err(fault) => return Err(fault),
+    };
+    let Ok(()) = flush_rows(&mut buffer, &mut block, out) else {
+        return Err(ProgressFault::Rows);
+    };
+    Ok(Summary {
+        rows,
+        looks: causes.looks(),
+    })
+}

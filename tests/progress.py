@@ -1,0 +1,126 @@
+#!/usr/bin/env python3
+"""Stops lists that tell how far they are: progress.py PROGRAM [STOPS].
+
+A list with `--progress` must have the bytes and the counts of the same list without it, and its lines must ascend. Stopped at any moment, the
+file of its rows must have all rows up to the last number that was told; and what `--after` lists from there on must complete it. So it must
+where the list ends at a number, begins after one, or has a limit, and where the lines or the rows can't be written.
+"""
+import os
+import pathlib
+import random
+import re
+import resource
+import signal
+import subprocess
+import sys
+import tempfile
+import time
+
+HERE = pathlib.Path(__file__).resolve().parent
+CIRCUIT = HERE.parent / "bench" / "circuits" / "xorand32.ld"
+WORDS = [str(CIRCUIT), "Y", *(f"I{number}" for number in range(1, 33))]
+LINE = re.compile(rb"reached ([0-9]+)\n")
+
+
+def run(program, words, **how):
+    done = subprocess.run([program, "causes", *words], stdin=subprocess.DEVNULL, capture_output=True, check=False, timeout=300, **how)
+    return done.returncode, done.stdout, done.stderr
+
+
+def told(text):
+    """The numbers that were told, and what was said besides."""
+    return [int(number) for number in LINE.findall(text)], LINE.sub(b"", text)
+
+
+def part(rows, last):
+    """The text of a list up to a number."""
+    lines = rows.splitlines(keepends=True)
+    return b"".join([lines[0], *(line for line in lines[1:] if int(line.split(b",", 1)[0]) <= last)])
+
+
+def alike(program, options):
+    """What differs between a list that tells and the same list that doesn't."""
+    status, rows, counts = run(program, [*options, *WORDS])
+    other, same, said = run(program, ["--progress", *options, *WORDS])
+    numbers, left = told(said)
+    wrong = []
+    if (other, same, left) != (status, rows, counts):
+        wrong.append(f"{options}: status {other}, {len(same)} bytes, {left!r} in place of {status}, {len(rows)}, {counts!r}")
+    if numbers != sorted(set(numbers)):
+        wrong.append(f"{options}: the lines don't ascend: {numbers}")
+    return wrong, numbers, rows
+
+
+def stopped(program, rows, wait):
+    """What is wrong where the list is killed so long after its first line, or after its start where it is negative."""
+    with tempfile.TemporaryDirectory() as folder:
+        path = pathlib.Path(folder) / "rows.csv"
+        with open(path, "wb") as out:
+            process = subprocess.Popen([program, "causes", "--progress", *WORDS], stdin=subprocess.DEVNULL, stdout=out, stderr=subprocess.PIPE)
+        first = process.stderr.readline() if wait >= 0 else b""
+        time.sleep(abs(wait))
+        process.send_signal(signal.SIGKILL)
+        said = first + process.stderr.read()
+        process.stderr.close()
+        process.wait()
+        numbers, _ = told(said)
+        has = path.read_bytes()
+    if not rows.startswith(has):
+        return [f"stopped after {wait:.3f} s: the file is no front of the list"]
+    if not numbers:
+        return []
+    front = part(rows, numbers[-1])
+    if not has.startswith(front):
+        return [f"stopped after {wait:.3f} s: reached {numbers[-1]}, but of {len(front)} bytes {len(has)} are written"]
+    status, more, _ = run(program, ["--after", str(numbers[-1]), *WORDS])
+    if status != 0 or front + more.split(b"\n", 1)[1] != rows:
+        return [f"stopped after {wait:.3f} s: what is listed after {numbers[-1]} doesn't complete the list"]
+    return []
+
+
+def unwritten(program, rows):
+    """What is wrong where the rows, or the lines, can't be written to their end."""
+    wrong = []
+    with tempfile.TemporaryDirectory() as folder:
+        path = pathlib.Path(folder) / "rows.csv"
+        limit = len(rows) // 2
+        with open(path, "wb") as out:
+            done = subprocess.run([program, "causes", "--progress", *WORDS], stdin=subprocess.DEVNULL, stdout=out, stderr=subprocess.PIPE, check=False, timeout=300,
+                                  preexec_fn=lambda: (signal.signal(signal.SIGXFSZ, signal.SIG_IGN), resource.setrlimit(resource.RLIMIT_FSIZE, (limit, limit))))
+        numbers, left = told(done.stderr)
+        has = path.read_bytes()
+        if (done.returncode, left) != (1, b"fault X6\n") or not rows.startswith(has) or numbers and not has.startswith(part(rows, numbers[-1])):
+            wrong.append(f"rows that can't be written: status {done.returncode}, {left!r}, {len(has)} bytes, reached {numbers[-1:]}")
+        with open(path, "wb") as out, open("/dev/full", "wb") as full:
+            done = subprocess.run([program, "causes", "--progress", *WORDS], stdin=subprocess.DEVNULL, stdout=out, stderr=full, check=False, timeout=300)
+        has = path.read_bytes()
+        if done.returncode != 1 or not rows.startswith(has) or has == rows:
+            wrong.append(f"lines that can't be written: status {done.returncode}, {len(has)} of {len(rows)} bytes")
+    return wrong
+
+
+def main():
+    program = os.path.abspath(sys.argv[1])
+    stops = int(sys.argv[2]) if len(sys.argv) > 2 else 6
+    wrong, numbers, rows = alike(program, [])
+    if not numbers:
+        wrong.append("a list of several seconds told nothing")
+    tried = 1
+    middle = numbers[len(numbers) // 2] if numbers else 1 << 31
+    for options in (["--upto", str(middle)], ["--after", str(middle)], ["--limit", "300000"], ["--quiet"]):
+        wrong += alike(program, options)[0]
+        tried += 1
+    chance = random.Random(20261126)
+    for number in range(stops):
+        wrong += stopped(program, rows, chance.uniform(0, 0.5) if number % 3 else -chance.uniform(0.001, 0.2))
+        tried += 1
+    wrong += unwritten(program, rows)
+    tried += 2
+    for line in wrong:
+        print(line)
+    print(f"{tried - len(wrong)} of {tried} lists that tell how far they are passed")
+    return 1 if wrong else 0
+
+
+if __name__ == "__main__":
+    sys.exit(main())
