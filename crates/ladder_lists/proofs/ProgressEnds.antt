@@ -10,11 +10,13 @@ use Rattle.ladder_sim.specs.CauseText.{cause_text, limited}
 use Rattle.ladder_sim.specs.Parts.{part, part_looks}
 use Rattle.ladder_sim.specs.Progress.{TellsUntil}
 use Rattle.ladder_sim.specs.declared.progress.ProgressFault.{ProgressFault}
+use Rattle.ladder_sim.specs.declared.progress.ProgressFault.TheVariants.{Lines, Rows}
 use Rattle.ladder_setting.specs.Setting.{Given, HasSettingFault}
-use Rattle.ladder_setting.specs.Reports.{HasCauseFault}
+use Rattle.ladder_setting.specs.Reports.{HasCauseFault, IsReported, logs}
 use Rattle.ladder_setting.specs.declared.fault.ToolFault.{ToolFault}
+use Rattle.ladder_setting.specs.declared.fault.ToolFault.TheVariants as fault
 use Rattle.ladder_text.specs.Log.{WriteLog}
-use Rattle.ladder_lists.specs.Lists.{HasNameFault, HasProgressFault, IsAsked, causes_upto, progress_refusal, progress_rows_text, progress_text, progress_text_to, rows_line, unless_quiet}
+use Rattle.ladder_lists.specs.Lists.{BreaksProgress, HasNameFault, HasProgressFault, IsAsked, causes_upto, progress_refusal, progress_rows_text, progress_text, progress_text_to, rows_line, unless_quiet}
 use Rattle.ladder_words.specs.declared.request.ListRequest.{ListRequest}
 
 -- A fault before anything is asked.
@@ -79,3 +81,20 @@ module _ (r : ListRequest) (after upto : Option ℕ) (q : Question) (c : Cursor)
           ≡ progress_rows_text r after upto q
       by None = ap (λ n. unless_quiet r.quiet (rows_line (length (causes_upto r after None q)) n)) (whole_looks (search_of q (first_number after)) r.limit (causes_after after q))
       by (Some last) = ap (λ n. unless_quiet r.quiet (rows_line (length (causes_upto r after (Some last) q)) n)) (upto_looks (search_of q (first_number after)) last r.limit (part (Some last) (causes_after after q)))
+
+  -- It ends where a writer failed.
+  pub broke_off : (g : Given) (f : ProgressFault) (save : WriteLog) (o o' e m e' : WriteLog) → IsAsked g r q → progress_refusal q after upto ≡ None
+      → TellsUntil f (λ n. cause_text c.program c.listed (numbers_to n (limited r.limit (part upto c.rest)))) (cause_text c.program c.listed (limited r.limit (part upto c.rest))) o o' e m
+      → (f ≡ Rows → IsReported g m e' fault.Write) → (f ≡ Lines → e' ≡ m) → BreaksProgress g r after upto (logs o save e) (logs o' save e')
+  broke_off g Rows save o o' e m e' asked accepted h said quiet = record {
+    question = q;
+    asked = asked;
+    accepted = accepted;
+    written = inl (m, told_is Rows o o' e m h, said refl);
+  }
+  broke_off g Lines save o o' e m e' asked accepted h said quiet = record {
+    question = q;
+    asked = asked;
+    accepted = accepted;
+    written = inr (inl (subst (λ (l : WriteLog). TellsUntil Lines (progress_text_to r after upto q) (progress_text r after upto q) o o' e l) (sym (quiet refl)) (told_is Lines o o' e m h)));
+  }

@@ -1,6 +1,6 @@
 //! A request for a list of causes that tells how far it is.
 
-ghost use Rattle.std.specs.Prelude.{◌≡◌, ◌≤◌, ◌⊎◌, IfErr, IfOk, None};
+ghost use Rattle.std.specs.Prelude.{◌≡◌, ◌≢◌, ◌≤◌, ◌⊎◌, IfErr, IfOk, None};
 ghost use Rattle.ladder_text.specs.Log.{WriteLog};
 ghost use Rattle.ladder_causes.specs.Cursor.{first_number, looks_of, searched};
 ghost use Rattle.ladder_causes.specs.Prefixes.{search_of};
@@ -8,7 +8,7 @@ ghost use Rattle.ladder_lists.specs.Asked.{question_of};
 ghost use Rattle.ladder_lists.specs.Lists.{BreaksProgress, CountsProgress, HasProgressFault, IsAsked, progress_refusal};
 ghost use Rattle.ladder_questions.specs.Causes.{causes_after};
 ghost use Rattle.ladder_scan.specs.Standing.{Fits};
-ghost use Rattle.ladder_setting.specs.Reports.{HasCauseFault, Refuses, logs};
+ghost use Rattle.ladder_setting.specs.Reports.{HasCauseFault, IsReported, Refuses, logs};
 ghost use Rattle.ladder_setting.specs.Setting.{given_by};
 
 use crate::asking::{Asked, read_question};
@@ -51,6 +51,19 @@ fn cursor_upto<'a>(
     }
 }
 
+/// Says that the rows could not be written. Of lines that can't be written nothing is said, since nothing can be.
+fn end_at<E: Sink>(texts: &Texts, fault: ProgressFault, err: &mut E) -> u8
+    ensures status { result ≤ 1 }
+    ensures failed { result ≢ 0 }
+    ensures rows { fault ≡ ProgressFault.Rows → IsReported (given_by texts.now) (E.log err.old) (E.log err.new) ToolFault.Write }
+    ensures lines { fault ≡ ProgressFault.Lines → E.log err.new ≡ E.log err.old }
+{
+    match fault {
+        ProgressFault::Rows => report(texts, &ToolFault::Write, err),
+        ProgressFault::Lines => 1,
+    }
+}
+
 /// Lists the causes of what is asked, and tells how far the list is.
 fn tell_asked<O: Sink, E: Sink>(
     alloc: Global,
@@ -79,8 +92,7 @@ fn tell_asked<O: Sink, E: Sink>(
     drop(cursor);
     let summary = match written {
         Ok(summary) => summary,
-        Err(ProgressFault::Rows) => return report(texts, &ToolFault::Write, err),
-        Err(ProgressFault::Lines) => return 1,
+        Err(fault) => return end_at(texts, fault, err),
     };
     let Ok(()) = put_rows(request.quiet, summary, err) else {
         return 1;
