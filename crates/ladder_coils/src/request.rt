@@ -11,6 +11,7 @@ pub fn ask_of(request: &mut Request, coil: String)
 {
     match request {
         Request::Causes { list, .. } => list.coil = coil,
+        Request::Progress { list, .. } => list.coil = coil,
         Request::Held { list, .. } => list.coil = coil,
         Request::Groups { list, .. } => list.coil = coil,
         Request::Relevant { list, .. } => list.coil = coil,
@@ -33,6 +34,7 @@ pub fn is_quiet(request: &Request) -> bool
 {
     match request {
         Request::Causes { list, .. }
+        | Request::Progress { list, .. }
         | Request::Held { list, .. }
         | Request::Groups { list, .. }
         | Request::Relevant { list, .. } => list.quiet,

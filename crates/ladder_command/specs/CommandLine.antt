@@ -1,5 +1,5 @@
 -- The command line, as clap's definitions of a simple command read it: `ladder check [--warn] FILE`,
--- `ladder causes [--state STATE] [--at MS] [--after N] [--upto N] [--limit N] [--scans N] [--every MS] [--grouped] [--terms] [--st] [--order ORDER] [--relevant] [--all-inputs] [--quiet] FILE COIL [INPUT]...`,
+-- `ladder causes [--state STATE] [--at MS] [--after N] [--upto N] [--limit N] [--scans N] [--every MS] [--grouped] [--terms] [--st] [--order ORDER] [--relevant] [--all-inputs] [--progress] [--quiet] FILE COIL [INPUT]...`,
 -- `ladder causes --any [--off] [--must] [--reachable] [--looks N] [--limit N] [--all-inputs] [--quiet] FILE COIL [INPUT]...`,
 -- each with `--all-coils FOLDER` in place of COIL,
 -- `ladder show [--state STATE] [--at MS] [--number N] [--stimulus STIMULUS] [--html] [--coil COIL] [--all-inputs] FILE [INPUT]...`,
@@ -68,7 +68,7 @@ causes_app = taking (codes "causes") (
     ∷ number_rule (codes "scans") ∷ number_rule (codes "for") ∷ number_rule (codes "every") ∷ flag_rule (codes "grouped") ∷ flag_rule (codes "terms") ∷ flag_rule (codes "st") ∷ text_rule (codes "order")
     ∷ flag_rule (codes "any") ∷ flag_rule (codes "off") ∷ flag_rule (codes "must")
     ∷ flag_rule (codes "reachable") ∷ small_rule (codes "looks")
-    ∷ flag_rule (codes "relevant") ∷ flag_rule (codes "all-inputs") ∷ text_rule (codes "all-coils") ∷ flag_rule (codes "quiet") ∷ flag_rule (codes "why") ∷ place_rule (codes "file") ∷ free_place_rule (codes "coil") ∷ list_rule (codes "inputs") ∷ []
+    ∷ flag_rule (codes "relevant") ∷ flag_rule (codes "all-inputs") ∷ text_rule (codes "all-coils") ∷ flag_rule (codes "progress") ∷ flag_rule (codes "quiet") ∷ flag_rule (codes "why") ∷ place_rule (codes "file") ∷ free_place_rule (codes "coil") ∷ list_rule (codes "inputs") ∷ []
     )
 
 abbrev pub show_app : App

@@ -61,6 +61,9 @@ pub(crate) const PAIRS_HELP: &str =
 pub(crate) const RELEVANT_HELP: &str =
     "Lists the inputs that matter to the coil in this scan, in order of declaration: no other makes a difference; not with an INPUT";
 
+pub(crate) const PROGRESS_HELP: &str =
+    "Tells on standard error, about once a second, up to which number the list is written: `reached N`; not with --grouped, --scans, --for, --any or --relevant";
+
 pub(crate) const QUIET_HELP: &str = "Writes no line of counts on standard error; faults stay";
 
 pub(crate) const FILE_HELP: &str = "The program: declarations and rungs; at most 1048576 bytes";

@@ -3,8 +3,8 @@ use Rattle.std.proofs.Common.{◌≡◌, ◌∙◌, ◌++◌, ℕ, Bool, true, f
 use Rattle.std.specs.List.{list_all}
 use Rattle.clap.specs.Words.{Row, Text, all_of, first_of}
 use Rattle.ladder_pages.specs.Pages.{is_fault_code}
-use Rattle.ladder_words.specs.Asking.{Asks, AsksNone, HasCoil, HasEvery, HasNoTask, HasFlag, HasForm, HasInputs, HasLasting, HasNumber, HasOption, HasScans, HasSwitch, HasWatched, HasOrder, IsNamed, IsOfOneState, IsSingle, IsTable, MayGroup, MayHaveLimit, NamesList, NamesTrace, input_texts, inputs_for}
-use Rattle.ladder_words.specs.Parts.{HasGrouping, IsOfAnyState, IsOfOneScan, IsOfRecords, IsUncut, IsWhole, MayLast, NamesNoStates, NamesScan, Plays}
+use Rattle.ladder_words.specs.Asking.{Asks, AsksNone, HasCoil, HasEvery, HasNoTask, HasFlag, HasForm, HasInputs, HasLasting, HasNumber, HasOption, HasScans, HasSwitch, HasWatched, HasOrder, IsNamed, IsOfOneState, IsSingle, IsTable, MayGroup, MayHaveLimit, NamesCauses, NamesList, NamesTrace, input_texts, inputs_for}
+use Rattle.ladder_words.specs.Parts.{HasGrouping, IsOfAnyState, IsOfOneScan, IsOfRecords, IsUncut, IsWhole, MayLast, NamesNoEnd, NamesNoStates, NamesScan, Plays}
 use Rattle.ladder_words.specs.Faults.{UsageWhere}
 use Rattle.ladder_words.specs.declared.request.Form.{Form}
 use Rattle.ladder_words.specs.declared.request.Form.TheVariants.{Statement, Table, Terms}
@@ -23,7 +23,7 @@ use Rattle.ladder_words.specs.declared.request.WavesRequest.{WavesRequest}
 use Rattle.ladder_words.specs.declared.request.PossibleRequest.{PossibleRequest}
 use Rattle.ladder_words.specs.declared.request.NeverRequest.{NeverRequest}
 use Rattle.ladder_words.specs.declared.lasting.Lasting.TheVariants.{Count, Until}
-use Rattle.ladder_words.specs.declared.request.Request.TheVariants.{Causes, Check, Film, Groups, Held, Import, Never, Possible, Relevant, Show, Sim, Uses, Watch, Waves}
+use Rattle.ladder_words.specs.declared.request.Request.TheVariants.{Causes, Check, Film, Groups, Held, Import, Never, Possible, Progress, Relevant, Show, Sim, Uses, Watch, Waves}
 use Rattle.ladder_words.specs.declared.request.WordFault.{WordFault}
 use Rattle.ladder_words.specs.declared.request.WordFault.TheVariants.{Help, Memory, Mistake, Usage}
 use Rattle.ladder_words.specs.declared.request.Task.TheVariants.{Explain, Perform, PerformAll}
@@ -52,6 +52,7 @@ name_differs same = ap (λ (name : List ℕ). get_or name 0 0) same
 explains_alone : (rows : List Row) → AsksNone (codes "explain") rows
 explains_alone rows (Check file warns) h = let other : 101 ≡ 99 = name_differs h.0 in absurd (omega (arith, other))
 explains_alone rows (Causes list after upto) h = let other : 101 ≡ 99 = name_differs h.0 in absurd (omega (arith, other))
+explains_alone rows (Progress list after upto) h = let other : 101 ≡ 99 = name_differs h.0 in absurd (omega (arith, other))
 explains_alone rows (Held list scans every grouped) h = let other : 101 ≡ 99 = name_differs h.0 in absurd (omega (arith, other))
 explains_alone rows (Groups list grouping) h = let other : 101 ≡ 99 = name_differs h.0 in absurd (omega (arith, other))
 explains_alone rows (Possible r) h = let other : 101 ≡ 99 = name_differs h.0 in absurd (omega (arith, other))
@@ -91,6 +92,7 @@ no_line name rows differs none (Explain other) h = differs h.0
 pub no_check : (rows : List Row) → first_of (codes "file") rows ≡ None → AsksNone (codes "check") rows
 no_check rows none (Check file warns) h = let some = h.1 in cc
 no_check rows none (Causes list after upto) h = let other = h.0 in cc
+no_check rows none (Progress list after upto) h = let other = h.0 in cc
 no_check rows none (Held list scans every grouped) h = let other = h.0 in cc
 no_check rows none (Groups list grouping) h = let other = h.0 in cc
 no_check rows none (Possible r) h = let other = h.0 in cc
@@ -105,14 +107,15 @@ no_check rows none (Never r) h = let other : 99 ≡ 110 = ap (λ (name : List �
 no_check rows none (Import file) h = let other : 99 ≡ 105 = ap (λ (name : List ℕ). get_or name 0 0) h.0 in absurd (omega (arith, other))
 
 pub only_causes : (rows : List Row)
-    → ((list : ListRequest) (after upto : Option ℕ) → Asks (codes "causes") rows (Causes list after upto) → ⊥)
+    → ((list : ListRequest) (after upto : Option ℕ) → NamesCauses rows list after upto → ⊥)
     → ((list : ListRequest) (scans every : ℕ) (grouped : Bool) → Asks (codes "causes") rows (Held list scans every grouped) → ⊥)
     → ((list : ListRequest) (grouping : Grouping) → Asks (codes "causes") rows (Groups list grouping) → ⊥)
     → ((r : PossibleRequest) → Asks (codes "causes") rows (Possible r) → ⊥)
     → ((list : ListRequest) (after : Option ℕ) (grouping : Option Grouping) → Asks (codes "causes") rows (Relevant list after grouping) → ⊥)
     → AsksNone (codes "causes") rows
 only_causes rows causes held groups possible relevant (Check file warns) h = let other = h.0 in cc
-only_causes rows causes held groups possible relevant (Causes list after upto) h = causes list after upto h
+only_causes rows causes held groups possible relevant (Causes list after upto) h = causes list after upto h.1
+only_causes rows causes held groups possible relevant (Progress list after upto) h = causes list after upto h.1
 only_causes rows causes held groups possible relevant (Held list scans every grouped) h = held list scans every grouped h
 only_causes rows causes held groups possible relevant (Groups list grouping) h = groups list grouping h
 only_causes rows causes held groups possible relevant (Possible r) h = possible r h
@@ -129,10 +132,10 @@ only_causes rows causes held groups possible relevant (Import file) h = let othe
 -- What some state switches on is asked for by a flag, and the other lists without it.
 only_possible : (rows : List Row) → HasFlag (codes "any") rows → ((r : PossibleRequest) → Asks (codes "causes") rows (Possible r) → ⊥)
     → AsksNone (codes "causes") rows
-only_possible rows any none = only_causes rows (λ list after upto h. h.7.0 any) (λ list scans every grouped h. h.8.0 any) (λ list grouping h. h.10.0 any) none (λ list after grouping h. h.6.0 any)
+only_possible rows any none = only_causes rows (λ list after upto h. h.4.0 any) (λ list scans every grouped h. h.8.0 any) (λ list grouping h. h.10.0 any) none (λ list after grouping h. h.6.0 any)
 
 only_of_one_state : (rows : List Row) → IsOfOneState rows → (HasFlag (codes "relevant") rows → ⊥)
-    → ((list : ListRequest) (after upto : Option ℕ) → Asks (codes "causes") rows (Causes list after upto) → ⊥)
+    → ((list : ListRequest) (after upto : Option ℕ) → NamesCauses rows list after upto → ⊥)
     → ((list : ListRequest) (scans every : ℕ) (grouped : Bool) → Asks (codes "causes") rows (Held list scans every grouped) → ⊥)
     → ((list : ListRequest) (grouping : Grouping) → Asks (codes "causes") rows (Groups list grouping) → ⊥)
     → AsksNone (codes "causes") rows
@@ -141,7 +144,7 @@ only_of_one_state rows one_state named causes held groups = only_causes rows cau
 -- Which states are meant is said of any state alone.
 pub no_one_state : (rows : List Row) → (HasFlag (codes "any") rows → ⊥) → (NamesNoStates rows → ⊥) → AsksNone (codes "causes") rows
 no_one_state rows not_any none =
-    only_causes rows (λ list after upto h. none (h.7.1, h.7.2, h.7.3, h.7.4)) (λ list scans every grouped h. none (h.8.1, h.8.2, h.8.3, h.8.4))
+    only_causes rows (λ list after upto h. none (h.4.1, h.4.2, h.4.3, h.4.4)) (λ list scans every grouped h. none (h.8.1, h.8.2, h.8.3, h.8.4))
     (λ list grouping h. none (h.10.1, h.10.2, h.10.3, h.10.4)) (λ r h. not_any h.1)
     (λ list after grouping h. none (h.6.1, h.6.2, h.6.3, h.6.4))
 
@@ -151,6 +154,7 @@ pub only_show : (rows : List Row)
     → AsksNone (codes "show") rows
 only_show rows show film (Check file warns) h = let other = h.0 in cc
 only_show rows show film (Causes list after upto) h = let other = h.0 in cc
+only_show rows show film (Progress list after upto) h = let other = h.0 in cc
 only_show rows show film (Held list scans every grouped) h = let other = h.0 in cc
 only_show rows show film (Groups list grouping) h = let other = h.0 in cc
 only_show rows show film (Possible r) h = let other = h.0 in cc
@@ -171,6 +175,7 @@ pub only_sim : (rows : List Row)
     → AsksNone (codes "sim") rows
 only_sim rows sim watch waves (Check file warns) h = let other = h.0 in cc
 only_sim rows sim watch waves (Causes list after upto) h = let other = h.0 in cc
+only_sim rows sim watch waves (Progress list after upto) h = let other = h.0 in cc
 only_sim rows sim watch waves (Held list scans every grouped) h = let other = h.0 in cc
 only_sim rows sim watch waves (Groups list grouping) h = let other = h.0 in cc
 only_sim rows sim watch waves (Possible r) h = let other = h.0 in cc
@@ -187,6 +192,7 @@ only_sim rows sim watch waves (Import file) h = let other : 115 ≡ 105 = ap (λ
 pub no_uses : (rows : List Row) → first_of (codes "file") rows ≡ None → AsksNone (codes "uses") rows
 no_uses rows none (Check file warns) h = let other = h.0 in cc
 no_uses rows none (Causes list after upto) h = let other = h.0 in cc
+no_uses rows none (Progress list after upto) h = let other = h.0 in cc
 no_uses rows none (Held list scans every grouped) h = let other = h.0 in cc
 no_uses rows none (Groups list grouping) h = let other = h.0 in cc
 no_uses rows none (Possible r) h = let other = h.0 in cc
@@ -203,6 +209,7 @@ no_uses rows none (Import file) h = let other : 117 ≡ 105 = ap (λ (name : Lis
 pub no_import : (rows : List Row) → first_of (codes "file") rows ≡ None → AsksNone (codes "import") rows
 no_import rows none (Check file warns) h = let other : 105 ≡ 99 = name_differs h.0 in absurd (omega (arith, other))
 no_import rows none (Causes list after upto) h = let other : 105 ≡ 99 = name_differs h.0 in absurd (omega (arith, other))
+no_import rows none (Progress list after upto) h = let other : 105 ≡ 99 = name_differs h.0 in absurd (omega (arith, other))
 no_import rows none (Held list scans every grouped) h = let other : 105 ≡ 99 = name_differs h.0 in absurd (omega (arith, other))
 no_import rows none (Groups list grouping) h = let other : 105 ≡ 99 = name_differs h.0 in absurd (omega (arith, other))
 no_import rows none (Possible r) h = let other : 105 ≡ 99 = name_differs h.0 in absurd (omega (arith, other))
@@ -221,6 +228,7 @@ pub only_never : (rows : List Row)
     → AsksNone (codes "never") rows
 only_never rows never (Check file warns) h = let other : 110 ≡ 99 = ap (λ (name : List ℕ). get_or name 0 0) h.0 in absurd (omega (arith, other))
 only_never rows never (Causes list after upto) h = let other : 110 ≡ 99 = ap (λ (name : List ℕ). get_or name 0 0) h.0 in absurd (omega (arith, other))
+only_never rows never (Progress list after upto) h = let other : 110 ≡ 99 = ap (λ (name : List ℕ). get_or name 0 0) h.0 in absurd (omega (arith, other))
 only_never rows never (Held list scans every grouped) h = let other : 110 ≡ 99 = ap (λ (name : List ℕ). get_or name 0 0) h.0 in absurd (omega (arith, other))
 only_never rows never (Groups list grouping) h = let other : 110 ≡ 99 = ap (λ (name : List ℕ). get_or name 0 0) h.0 in absurd (omega (arith, other))
 only_never rows never (Possible r) h = let other : 110 ≡ 99 = ap (λ (name : List ℕ). get_or name 0 0) h.0 in absurd (omega (arith, other))
@@ -241,7 +249,7 @@ lasts rows scans every (inr h) = (Some (Until h.1.0), (h.0, h.1.1))
 -- one scan, or several
 pub no_lasting : (rows : List Row) → IsOfOneState rows → (HasFlag (codes "relevant") rows → ⊥) → ((o : Option Lasting) → MayLast o rows → ⊥) → AsksNone (codes "causes") rows
 no_lasting rows one_state named none =
-    only_of_one_state rows one_state named (λ list after upto h. none None (h.2, h.3)) (λ list scans every grouped h. let l = lasts rows scans every h.4 in none l.0 l.1)
+    only_of_one_state rows one_state named (λ list after upto h. none None (h.1.0, h.1.1)) (λ list scans every grouped h. let l = lasts rows scans every h.4 in none l.0 l.1)
     (λ list grouping h. none None (h.4, h.5))
 
 not_several : (rows : List Row) (scans every : ℕ) → MayLast None rows → HasScans scans every rows → ⊥
@@ -252,40 +260,40 @@ not_several rows scans every none (inr h) = let some = h.1.1.1 in let no = none.
 pub no_list_of_grouping : (rows : List Row) → IsOfOneState rows → (HasFlag (codes "relevant") rows → ⊥) → (HasFlag (codes "grouped") rows → ⊥) → MayLast None rows
     → (HasForm Table rows → HasOrder Given rows → ⊥) → AsksNone (codes "causes") rows
 no_list_of_grouping rows one_state named single one none =
-    only_of_one_state rows one_state named (λ list after upto h. none h.1.1 h.1.2) (λ list scans every grouped h. not_several rows scans every one h.4) (λ list grouping h. single h.1)
+    only_of_one_state rows one_state named (λ list after upto h. none h.0.1 h.0.2) (λ list scans every grouped h. not_several rows scans every one h.4) (λ list grouping h. single h.1)
 
 -- One scan has none that follows.
 pub no_list_of_every : (rows : List Row) → IsOfOneState rows → (HasFlag (codes "relevant") rows → ⊥) → (HasFlag (codes "grouped") rows → ⊥) → MayLast None rows → (HasNumber (codes "every") rows None → ⊥)
     → AsksNone (codes "causes") rows
 no_list_of_every rows one_state named single one none =
-    only_of_one_state rows one_state named (λ list after upto h. none h.4) (λ list scans every grouped h. not_several rows scans every one h.4) (λ list grouping h. single h.1)
+    only_of_one_state rows one_state named (λ list after upto h. none h.1.2) (λ list scans every grouped h. not_several rows scans every one h.4) (λ list grouping h. single h.1)
 
 pub no_list_of_start : (rows : List Row) → IsOfOneState rows → (HasFlag (codes "relevant") rows → ⊥) → ((o : Option ℕ) → HasNumber (codes "after") rows o → ⊥) → AsksNone (codes "causes") rows
 no_list_of_start rows one_state named none =
-    only_of_one_state rows one_state named (λ list after upto h. none after h.5) (λ list scans every grouped h. none None h.6) (λ list grouping h. none None h.7)
+    only_of_one_state rows one_state named (λ list after upto h. none after h.2) (λ list scans every grouped h. none None h.6) (λ list grouping h. none None h.7)
 
 pub no_list_of_end : (rows : List Row) → IsOfOneState rows → (HasFlag (codes "relevant") rows → ⊥) → ((o : Option ℕ) → HasNumber (codes "upto") rows o → ⊥) → AsksNone (codes "causes") rows
 no_list_of_end rows one_state named none =
-    only_of_one_state rows one_state named (λ list after upto h. none upto h.9) (λ list scans every grouped h. none None h.10) (λ list grouping h. none None h.12)
+    only_of_one_state rows one_state named (λ list after upto h. none upto h.6) (λ list scans every grouped h. none None h.10) (λ list grouping h. none None h.12)
 
 pub no_causes_of_list : (rows : List Row) → IsOfOneState rows → (HasFlag (codes "relevant") rows → ⊥) → ((l : ListRequest) → NamesList rows l → ⊥) → AsksNone (codes "causes") rows
 no_causes_of_list rows one_state named none =
-    only_of_one_state rows one_state named (λ list after upto h. none list h.6) (λ list scans every grouped h. none list h.7) (λ list grouping h. none list h.9)
+    only_of_one_state rows one_state named (λ list after upto h. none list h.3) (λ list scans every grouped h. none list h.7) (λ list grouping h. none list h.9)
 
 given_at_all : (rows : List Row) (l : Lasting) → HasLasting l rows → HasNumber (codes "scans") rows None → HasNumber (codes "for") rows None → ⊥
 given_at_all rows (Count n) h none no_time = let given = h.0.1 in cc
 given_at_all rows (Until time) h none no_time = let given = h.1.1 in cc
 
--- several scans, whose list begins after no number and ends at none
+-- several scans, whose list begins after no number, ends at none and tells none that it is at
 pub no_held_of_part : (rows : List Row) → IsOfOneState rows → (HasFlag (codes "relevant") rows → ⊥) → (l : Lasting) → HasLasting l rows → (IsUncut rows → ⊥) → AsksNone (codes "causes") rows
 no_held_of_part rows one_state named l some none =
-    only_of_one_state rows one_state named (λ list after upto h. given_at_all rows l some h.2 h.3) (λ list scans every grouped h. none (h.6, h.10))
-    (λ list grouping h. none (h.7, h.12))
+    only_of_one_state rows one_state named (λ list after upto h. given_at_all rows l some h.1.0 h.1.1) (λ list scans every grouped h. none (h.6, (h.10, h.11)))
+    (λ list grouping h. none (h.7, (h.12, h.13)))
 
 -- Their groups have one form, and the inputs the order in which they are listed.
 pub no_held_of_grouping : (rows : List Row) → IsOfOneState rows → (HasFlag (codes "relevant") rows → ⊥) → (l : Lasting) → HasLasting l rows → (HasForm Table rows → HasOrder Given rows → ⊥) → AsksNone (codes "causes") rows
 no_held_of_grouping rows one_state named l some none =
-    only_of_one_state rows one_state named (λ list after upto h. given_at_all rows l some h.2 h.3) (λ list scans every grouped h. none h.2 h.3)
+    only_of_one_state rows one_state named (λ list after upto h. given_at_all rows l some h.1.0 h.1.1) (λ list scans every grouped h. none h.2 h.3)
     (λ list grouping h. given_at_all rows l some h.4 h.5)
 
 pub no_every : (rows : List Row) → ((o : Option ℕ) → HasNumber (codes "every") rows o → ⊥) → (every : ℕ) → HasEvery every rows → ⊥
@@ -295,13 +303,13 @@ no_every rows none every (inr h) = none None h.0
 -- The period is asked for beside several scans alone.
 pub no_held_of_every : (rows : List Row) → IsOfOneState rows → (HasFlag (codes "relevant") rows → ⊥) → (l : Lasting) → HasLasting l rows → ((every : ℕ) → HasEvery every rows → ⊥) → AsksNone (codes "causes") rows
 no_held_of_every rows one_state named l some none =
-    only_of_one_state rows one_state named (λ list after upto h. given_at_all rows l some h.2 h.3) (λ list scans every grouped h. none every h.5)
+    only_of_one_state rows one_state named (λ list after upto h. given_at_all rows l some h.1.0 h.1.1) (λ list scans every grouped h. none every h.5)
     (λ list grouping h. given_at_all rows l some h.4 h.5)
 
 pub no_groups_of_scan : (rows : List Row) → IsOfOneState rows → (HasFlag (codes "relevant") rows → ⊥) → HasFlag (codes "grouped") rows → MayLast None rows → (IsOfOneScan rows → ⊥) → AsksNone (codes "causes") rows
 no_groups_of_scan rows one_state named grouped one none =
-    only_of_one_state rows one_state named (λ list after upto h. h.1.0 grouped) (λ list scans every held h. not_several rows scans every one h.4)
-    (λ list grouping h. none (h.4, h.5, h.6, h.7, h.12))
+    only_of_one_state rows one_state named (λ list after upto h. h.0.0 grouped) (λ list scans every held h. not_several rows scans every one h.4)
+    (λ list grouping h. none (h.4, h.5, h.6, (h.7, (h.12, h.13))))
 
 -- A statement has no limit, so a list of its groups has none.
 pub may_have_limit : (rows : List Row) (form : Form) (limit : Option ℕ) → IsWhole form rows → HasNumber (codes "limit") rows limit → MayHaveLimit form limit
@@ -319,12 +327,12 @@ is_whole rows Statement (Some n) may h = cc
 pub no_groups_of_grouping : (rows : List Row) → IsOfOneState rows → (HasFlag (codes "relevant") rows → ⊥) → HasFlag (codes "grouped") rows → MayLast None rows → ((g : Grouping) → HasGrouping rows g → ⊥)
     → AsksNone (codes "causes") rows
 no_groups_of_grouping rows one_state named grouped one none =
-    only_of_one_state rows one_state named (λ list after upto h. h.1.0 grouped) (λ list scans every held h. not_several rows scans every one h.4)
+    only_of_one_state rows one_state named (λ list after upto h. h.0.0 grouped) (λ list scans every held h. not_several rows scans every one h.4)
     (λ list grouping h. none grouping (h.2, h.3, is_whole rows grouping.form list.limit h.8 h.9.2))
 
 -- what some state switches on
 pub no_possible_of_bound : (rows : List Row) → HasFlag (codes "any") rows → (IsOfAnyState rows → ⊥) → AsksNone (codes "causes") rows
-no_possible_of_bound rows any none = only_possible rows any (λ r h. none (h.4, h.5, (h.9, h.10, h.11, h.12, h.21), h.18))
+no_possible_of_bound rows any none = only_possible rows any (λ r h. none (h.4, h.5, (h.9, h.10, h.11, (h.12, (h.21, h.22))), h.18))
 
 pub no_possible_of_grouping : (rows : List Row) → HasFlag (codes "any") rows → (HasForm Table rows → HasOrder Given rows → ⊥) → AsksNone (codes "causes") rows
 no_possible_of_grouping rows any none = only_possible rows any (λ r h. none h.7 h.8)
@@ -344,7 +352,7 @@ no_possible_of_list rows any none =
 only_relevant : (rows : List Row) → HasFlag (codes "relevant") rows
     → ((list : ListRequest) (after : Option ℕ) (grouping : Option Grouping) → Asks (codes "causes") rows (Relevant list after grouping) → ⊥)
     → AsksNone (codes "causes") rows
-only_relevant rows flag none = only_causes rows (λ list after upto h. h.8 flag) (λ list scans every grouped h. h.9 flag) (λ list grouping h. h.11 flag) (λ r h. h.18 flag) none
+only_relevant rows flag none = only_causes rows (λ list after upto h. h.5 flag) (λ list scans every grouped h. h.9 flag) (λ list grouping h. h.11 flag) (λ r h. h.18 flag) none
 
 pub no_relevant_of_inputs : (rows : List Row) → HasFlag (codes "relevant") rows → (HasInputs rows false [] → ⊥) → AsksNone (codes "causes") rows
 no_relevant_of_inputs rows flag none = only_relevant rows flag (λ list after grouping h. none h.2)
@@ -352,8 +360,8 @@ no_relevant_of_inputs rows flag none = only_relevant rows flag (λ list after gr
 pub no_relevant_of_scans : (rows : List Row) → HasFlag (codes "relevant") rows → (IsSingle rows → ⊥) → AsksNone (codes "causes") rows
 no_relevant_of_scans rows flag none = only_relevant rows flag (λ list after grouping h. none h.3)
 
-pub no_relevant_of_end : (rows : List Row) → HasFlag (codes "relevant") rows → (HasNumber (codes "upto") rows None → ⊥) → AsksNone (codes "causes") rows
-no_relevant_of_end rows flag none = only_relevant rows flag (λ list after grouping h. none h.7)
+pub no_relevant_of_end : (rows : List Row) → HasFlag (codes "relevant") rows → (NamesNoEnd rows → ⊥) → AsksNone (codes "causes") rows
+no_relevant_of_end rows flag none = only_relevant rows flag (λ list after grouping h. none (h.7, h.8))
 
 pub no_relevant_of_list : (rows : List Row) → HasFlag (codes "relevant") rows → ((l : ListRequest) → NamesList rows l → ⊥) → AsksNone (codes "causes") rows
 no_relevant_of_list rows flag none = only_relevant rows flag (λ list after grouping h. none list h.5)

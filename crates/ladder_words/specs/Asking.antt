@@ -18,7 +18,7 @@ use Rattle.ladder_words.specs.declared.request.Medium.TheVariants as medium
 use Rattle.ladder_words.specs.declared.request.CommandLine.{CommandLine}
 use Rattle.ladder_words.specs.declared.request.ListRequest.{ListRequest}
 use Rattle.ladder_words.specs.declared.request.Request.{Request}
-use Rattle.ladder_words.specs.declared.request.Request.TheVariants.{Causes, Check, Film, Groups, Held, Import, Never, Possible, Relevant, Show, Sim, Uses, Watch, Waves}
+use Rattle.ladder_words.specs.declared.request.Request.TheVariants.{Causes, Check, Film, Groups, Held, Import, Never, Possible, Progress, Relevant, Show, Sim, Uses, Watch, Waves}
 use Rattle.ladder_words.specs.declared.request.SimRequest.{SimRequest}
 use Rattle.ladder_words.specs.declared.request.Task.{Task}
 use Rattle.ladder_words.specs.declared.request.Task.TheVariants.{Explain, Perform, PerformAll}
@@ -150,6 +150,16 @@ NamesList rows l = HasOption (codes "state") rows (option_map string_bytes l.sta
 abbrev pub IsSingle : List Row → Type 0
 IsSingle rows = HasNumber (codes "scans") rows None × HasNumber (codes "for") rows None × HasNumber (codes "every") rows None
 
+-- what a list with a row for each cause of one scan names, from the number that it begins after to the one that it ends at
+abbrev pub NamesCauses : List Row → ListRequest → Option ℕ → Option ℕ → Type 0
+NamesCauses rows list after upto = IsTable rows
+    × IsSingle rows
+    × HasNumber (codes "after") rows after
+    × NamesList rows list
+    × IsOfOneState rows
+    × (HasFlag (codes "relevant") rows → ⊥)
+    × HasNumber (codes "upto") rows upto
+
 -- Each cause has a row of its own, after a number where there is one, or they are in groups.
 abbrev pub MayGroup : List Row → Option ℕ → Option ℕ → Option Grouping → Type 0
 MayGroup rows limit after None = IsTable rows × HasNumber (codes "after") rows after
@@ -163,16 +173,8 @@ MayGroup rows limit after (Some g) = HasFlag (codes "grouped") rows
 -- the request is what the subcommand's name and values say
 abbrev pub Asks : Text → List Row → Request → Type 0
 Asks name rows (Check file warns) = (name ≡ codes "check") × HasText (codes "file") rows (string_bytes file) × HasSwitch (codes "warn") rows warns
-Asks name rows (Causes list after upto) = (name ≡ codes "causes")
-    × IsTable rows
-    × HasNumber (codes "scans") rows None
-    × HasNumber (codes "for") rows None
-    × HasNumber (codes "every") rows None
-    × HasNumber (codes "after") rows after
-    × NamesList rows list
-    × IsOfOneState rows
-    × (HasFlag (codes "relevant") rows → ⊥)
-    × HasNumber (codes "upto") rows upto
+Asks name rows (Causes list after upto) = (name ≡ codes "causes") × NamesCauses rows list after upto × (HasFlag (codes "progress") rows → ⊥)
+Asks name rows (Progress list after upto) = (name ≡ codes "causes") × NamesCauses rows list after upto × HasFlag (codes "progress") rows
 Asks name rows (Held list scans every grouped) = (name ≡ codes "causes")
     × HasSwitch (codes "grouped") rows grouped
     × HasForm Table rows
@@ -184,6 +186,7 @@ Asks name rows (Held list scans every grouped) = (name ≡ codes "causes")
     × IsOfOneState rows
     × (HasFlag (codes "relevant") rows → ⊥)
     × HasNumber (codes "upto") rows None
+    × (HasFlag (codes "progress") rows → ⊥)
 Asks name rows (Groups list grouping) = (name ≡ codes "causes")
     × HasFlag (codes "grouped") rows
     × HasForm grouping.form rows
@@ -197,6 +200,7 @@ Asks name rows (Groups list grouping) = (name ≡ codes "causes")
     × IsOfOneState rows
     × (HasFlag (codes "relevant") rows → ⊥)
     × HasNumber (codes "upto") rows None
+    × (HasFlag (codes "progress") rows → ⊥)
 Asks name rows (Possible r) = (name ≡ codes "causes")
     × HasFlag (codes "any") rows
     × HasSwitch (codes "off") rows r.off
@@ -219,6 +223,7 @@ Asks name rows (Possible r) = (name ≡ codes "causes")
     × HasSwitch (codes "reachable") rows r.reachable
     × HasNumber (codes "looks") rows r.looks
     × HasNumber (codes "upto") rows None
+    × (HasFlag (codes "progress") rows → ⊥)
 Asks name rows (Relevant list after grouping) = (name ≡ codes "causes")
     × HasFlag (codes "relevant") rows
     × HasInputs rows false []
@@ -227,6 +232,7 @@ Asks name rows (Relevant list after grouping) = (name ≡ codes "causes")
     × NamesList rows list
     × IsOfOneState rows
     × HasNumber (codes "upto") rows None
+    × (HasFlag (codes "progress") rows → ⊥)
 Asks name rows (Never r) = (name ≡ codes "never")
     × HasOption (codes "state") rows (option_map string_bytes r.state)
     × HasSwitch (codes "pairs") rows r.pairs

@@ -31,17 +31,20 @@ Plays rows w = HasOption (codes "state") rows (option_map string_bytes w.state)
 abbrev pub IsOfRecords : List Row → Type 0
 IsOfRecords rows = HasNumber (codes "at") rows None × HasNumber (codes "number") rows None × HasInputs rows false []
 
--- No number is given to begin after, and none to end at.
-abbrev pub IsUncut : List Row → Type 0
-IsUncut rows = HasNumber (codes "after") rows None × HasNumber (codes "upto") rows None
+-- No number is given to end at, and no line is asked for that tells up to which one a list is written.
+abbrev pub NamesNoEnd : List Row → Type 0
+NamesNoEnd rows = HasNumber (codes "upto") rows None × (HasFlag (codes "progress") rows → ⊥)
 
--- One scan is asked for, and no number to begin after or to end at.
+-- No number is given to begin after, and none to end at, and no line tells how far a list is.
+abbrev pub IsUncut : List Row → Type 0
+IsUncut rows = HasNumber (codes "after") rows None × NamesNoEnd rows
+
+-- One scan is asked for, no number to begin after or to end at, and no line that tells how far a list is.
 abbrev pub IsOfOneScan : List Row → Type 0
 IsOfOneScan rows = HasNumber (codes "scans") rows None
     × HasNumber (codes "for") rows None
     × HasNumber (codes "every") rows None
-    × HasNumber (codes "after") rows None
-    × HasNumber (codes "upto") rows None
+    × IsUncut rows
 
 -- One scan of any state, at any moment, is asked for: no state and no moment are given, and no inputs are found for one state.
 abbrev pub IsOfAnyState : List Row → Type 0

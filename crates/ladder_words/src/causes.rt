@@ -8,7 +8,7 @@ ghost use Rattle.ladder_words.specs.Faults.{UsageWhere};
 
 use crate::found::{is_given, is_set, number};
 use crate::grouping::{groups_request, refuse_grouping, relevant_groups};
-use crate::lasting::{count, held_request, is_part, lasting_of};
+use crate::lasting::{count, held_request, is_part, lasting_of, names_end};
 use crate::parts::list_of;
 use crate::request::{ListRequest, PossibleRequest, Request, WordFault};
 use crate::showing::lists_inputs;
@@ -73,7 +73,7 @@ fn possible_request(alloc: Global, found: &ArgMatches<'_>) -> Result<Request, Wo
     ensures ok { IfOk result (Asks (codes "causes") (rows_of (found_of found.now))) }
     ensures err { IfErr result (UsageWhere (AsksNone (codes "causes") (rows_of (found_of found.now)))) }
 {
-    // Any state is meant, at any moment, and one scan from it; the list has its rows from the first one on.
+    // Any state is meant, at any moment, and one scan from it; the list has its rows from the first one on, and no line tells how far it is.
     if is_bound(found) {
         return Err(WordFault::Usage);
     }
@@ -107,7 +107,7 @@ fn possible_request(alloc: Global, found: &ArgMatches<'_>) -> Result<Request, Wo
     }))
 }
 
-/// Whether a state, a moment, several scans, a number to begin after or the inputs that matter in one state are asked for.
+/// Whether a state, a moment, several scans, a number to begin after or to end at, lines of how far the list is, or the inputs that matter in one state are asked for.
 fn is_bound(found: &ArgMatches<'_>) -> bool
     ensures none { result ≡ false → IsOfAnyState (rows_of (found_of found.now)) }
     ensures some { result ≡ true → IsOfAnyState (rows_of (found_of found.now)) → ⊥ }
@@ -134,6 +134,9 @@ fn list_request(alloc: Global, found: &ArgMatches<'_>) -> Result<Request, WordFa
     let after = number(found, "after")?;
     let upto = number(found, "upto")?;
     let list = list_of(alloc, found)?;
+    if is_set(found, "progress") {
+        return Ok(Request::Progress { list, after, upto });
+    }
     Ok(Request::Causes { list, after, upto })
 }
 
@@ -151,8 +154,8 @@ fn relevant_request(alloc: Global, found: &ArgMatches<'_>) -> Result<Request, Wo
     if is_repeated(found) {
         return Err(WordFault::Usage);
     }
-    // Their list has no part.
-    if is_given(found, "upto") {
+    // Their list has no part, and no line tells how far it is.
+    if names_end(found) {
         return Err(WordFault::Usage);
     }
     if is_set(found, "grouped") {
@@ -176,7 +179,7 @@ fn is_repeated(found: &ArgMatches<'_>) -> bool
     is_given(found, "scans") || is_given(found, "for") || is_given(found, "every")
 }
 
-/// Whether several scans are asked for, or a number to begin after or to end at.
+/// Whether several scans are asked for, a number to begin after or to end at, or lines of how far the list is.
 pub(crate) fn is_counted(found: &ArgMatches<'_>) -> bool
     ensures one { result ≡ false → IsOfOneScan (rows_of (found_of found.now)) }
     ensures several { result ≡ true → IsOfOneScan (rows_of (found_of found.now)) → ⊥ }

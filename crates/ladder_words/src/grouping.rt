@@ -2,8 +2,8 @@
 
 ghost use Rattle.std.specs.Prelude.{◌≡◌, [], true, false, codes, IfOk, IfErr, None, Some};
 ghost use Rattle.clap.specs.Words.{found_of, rows_of};
-ghost use Rattle.ladder_words.specs.Asking.{Asks, AsksNone, HasFlag, HasForm, HasInputs, HasNumber, HasOrder, IsNamed, IsOfOneState, IsSingle};
-ghost use Rattle.ladder_words.specs.Parts.{HasGrouping, IsWhole, MayLast};
+ghost use Rattle.ladder_words.specs.Asking.{Asks, AsksNone, HasFlag, HasForm, HasInputs, HasOrder, IsNamed, IsOfOneState, IsSingle};
+ghost use Rattle.ladder_words.specs.Parts.{HasGrouping, IsWhole, MayLast, NamesNoEnd};
 ghost use Rattle.ladder_words.specs.Faults.{UsageWhere};
 
 use crate::causes::is_counted;
@@ -35,7 +35,7 @@ pub(crate) fn groups_request(alloc: Global, found: &ArgMatches<'_>) -> Result<Re
     ensures ok { IfOk result (Asks (codes "causes") (rows_of (found_of found.now))) }
     ensures err { IfErr result (UsageWhere (AsksNone (codes "causes") (rows_of (found_of found.now)))) }
 {
-    // One scan has none that follows, and a group has no number, so there is none to begin after or to end at.
+    // One scan has none that follows, and a group has no number, so there is none to begin after, to end at or to tell.
     if is_counted(found) {
         return Err(WordFault::Usage);
     }
@@ -49,7 +49,7 @@ pub(crate) fn relevant_groups(alloc: Global, found: &ArgMatches<'_>) -> Result<R
     requires relevant { HasFlag (codes "relevant") (rows_of (found_of found.now)) }
     requires inputs { HasInputs (rows_of (found_of found.now)) false [] }
     requires single { IsSingle (rows_of (found_of found.now)) }
-    requires whole { HasNumber (codes "upto") (rows_of (found_of found.now)) None }
+    requires whole { NamesNoEnd (rows_of (found_of found.now)) }
     requires grouped { HasFlag (codes "grouped") (rows_of (found_of found.now)) }
     ensures ok { IfOk result (Asks (codes "causes") (rows_of (found_of found.now))) }
     ensures err { IfErr result (UsageWhere (AsksNone (codes "causes") (rows_of (found_of found.now)))) }

@@ -3,7 +3,7 @@
 ghost use Rattle.std.specs.Prelude.{◌≡◌, List, true, false, codes, IfOk, IfErr, None, Option, Some};
 ghost use Rattle.clap.specs.Words.{Row, found_of, rows_of};
 ghost use Rattle.ladder_words.specs.Asking.{Asks, AsksNone, HasFlag, HasLasting, IsOfOneState, HasScans, scans_until};
-ghost use Rattle.ladder_words.specs.Parts.{IsUncut, MayLast};
+ghost use Rattle.ladder_words.specs.Parts.{IsUncut, MayLast, NamesNoEnd};
 ghost use Rattle.ladder_words.specs.Faults.{UsageWhere};
 
 use crate::found::{is_given, is_set, number};
@@ -81,10 +81,18 @@ pub(crate) fn held_request(
     })
 }
 
-/// Whether the list is to begin after a number, or to end at one.
+/// Whether the list is to begin after a number or to end at one, or to tell how far it is.
 pub(crate) fn is_part(found: &ArgMatches<'_>) -> bool
     ensures whole { result ≡ false → IsUncut (rows_of (found_of found.now)) }
     ensures part { result ≡ true → IsUncut (rows_of (found_of found.now)) → ⊥ }
 {
-    is_given(found, "after") || is_given(found, "upto")
+    is_given(found, "after") || names_end(found)
+}
+
+/// Whether the list is to end at a number, or to tell up to which one it is written.
+pub(crate) fn names_end(found: &ArgMatches<'_>) -> bool
+    ensures none { result ≡ false → NamesNoEnd (rows_of (found_of found.now)) }
+    ensures some { result ≡ true → NamesNoEnd (rows_of (found_of found.now)) → ⊥ }
+{
+    is_given(found, "upto") || is_set(found, "progress")
 }

@@ -194,6 +194,14 @@ pub enum Request {
         /// The number to end at; the last one where there is none.
         upto: Option<u64>,
     },
+    /// The causes of a coil, with lines of how far the list is.
+    Progress {
+        list: ListRequest,
+        /// The number to begin after.
+        after: Option<u64>,
+        /// The number to end at; the last one where there is none.
+        upto: Option<u64>,
+    },
     /// The causes of a coil over several scans, with the inputs held.
     Held {
         list: ListRequest,

@@ -10,8 +10,8 @@ returns-then-lists_inputs-clause-err c = no_relevant_of_inputs (rows_of (found_o
 pub returns-then-is_repeated-clause-err : goal.returns-then-is_repeated-clause-err
 returns-then-is_repeated-clause-err c = no_relevant_of_scans (rows_of (found_of c.args.found.now)) c.requires.relevant (c.if-is_repeated.ensures.several refl)
 
-pub returns-then-is_given-clause-err : goal.returns-then-is_given-clause-err
-returns-then-is_given-clause-err c = no_relevant_of_end (rows_of (found_of c.args.found.now)) c.requires.relevant (c.if-is_given.ensures.given refl).1
+pub returns-then-names_end-clause-err : goal.returns-then-names_end-clause-err
+returns-then-names_end-clause-err c = no_relevant_of_end (rows_of (found_of c.args.found.now)) c.requires.relevant (c.if-names_end.ensures.some refl)
 
 pub returns-in_err-refuse_grouping-clause-err : goal.returns-in_err-refuse_grouping-clause-err
 returns-in_err-refuse_grouping-clause-err c =
