@@ -31,10 +31,12 @@ returns-in_default-clause-failed g c = λ save status.
       question = q;
       asked = c.requires.asked;
       accepted = made.accepted;
-      written = inr (inr (g.E.Sink.log c.write_progress-written.new.err,
-          (all_same _ _ _ _ (progress_text_is r c.args.after c.args.upto q c.in-Ok.cursor made.program made.listed made.rest) w.ensures.told.0, w.ensures.told.1),
-          prefix_same _ _ _ _ (progress_line_is r c.args.after c.args.upto q c.in-Ok.cursor made.program made.listed made.rest w.summary.rows w.summary.looks made.search made.looks w.ensures.rows (w.ensures.looks ∙ w.ensures.counted))
-          c.in_default.ensures));
+      written = inr (inr (
+        g.E.Sink.log c.write_progress-written.new.err,
+        (all_same _ _ _ _ (progress_text_is r c.args.after c.args.upto q c.in-Ok.cursor made.program made.listed made.rest) w.ensures.told.0, w.ensures.told.1),
+        prefix_same _ _ _ _ (progress_line_is r c.args.after c.args.upto q c.in-Ok.cursor made.program made.listed made.rest w.summary.rows w.summary.looks made.search made.looks w.ensures.rows (w.ensures.looks ∙ w.ensures.counted))
+            c.in_default.ensures,
+      ));
     })
 
 pub returns-clause-done : goal.returns-clause-done
@@ -47,8 +49,10 @@ returns-clause-done g c = λ save status.
       question = q;
       asked = c.requires.asked;
       accepted = made.accepted;
-      written = (g.E.Sink.log c.write_progress-written.new.err,
-          (all_same _ _ _ _ (progress_text_is r c.args.after c.args.upto q c.in-Ok.cursor made.program made.listed made.rest) w.ensures.told.0, w.ensures.told.1),
-          all_same _ _ _ _ (progress_line_is r c.args.after c.args.upto q c.in-Ok.cursor made.program made.listed made.rest w.summary.rows w.summary.looks made.search made.looks w.ensures.rows (w.ensures.looks ∙ w.ensures.counted))
-          c.in-Ok-put_rows.ensures);
+      written = (
+        g.E.Sink.log c.write_progress-written.new.err,
+        (all_same _ _ _ _ (progress_text_is r c.args.after c.args.upto q c.in-Ok.cursor made.program made.listed made.rest) w.ensures.told.0, w.ensures.told.1),
+        all_same _ _ _ _ (progress_line_is r c.args.after c.args.upto q c.in-Ok.cursor made.program made.listed made.rest w.summary.rows w.summary.looks made.search made.looks w.ensures.rows (w.ensures.looks ∙ w.ensures.counted))
+            c.in-Ok-put_rows.ensures,
+      );
     }
