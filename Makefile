@@ -27,6 +27,7 @@ test:
 	python3 tests/completions.py $(PROGRAM)
 	python3 tests/growth.py $(PROGRAM)
 	python3 tests/saving.py $(PROGRAM)
+	python3 tests/progress.py $(PROGRAM)
 	python3 tests/waves.py $(PROGRAM)
 	python3 tests/filling.py $(PROGRAM)
 	python3 tests/importing.py $(PROGRAM) 200

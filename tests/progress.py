@@ -3,10 +3,12 @@
 
 A list with `--progress` must have the bytes and the counts of the same list without it, and its lines must ascend. Stopped at any moment, the
 file of its rows must have all rows up to the last number that was told; and what `--after` lists from there on must complete it. So it must
-where the list ends at a number, begins after one, or has a limit, and where the lines or the rows can't be written.
+where the list ends at a number, begins after one, or has a limit, and where the lines or the rows can't be written. On a terminal it tells by
+itself.
 """
 import os
 import pathlib
+import pty
 import random
 import re
 import resource
@@ -99,6 +101,26 @@ def unwritten(program, rows):
     return wrong
 
 
+def on_terminal(program):
+    """What is wrong where standard error is a terminal: a list whose rows go elsewhere tells, and one whose rows are seen there doesn't."""
+    wrong = []
+    for seen in (False, True):
+        master, terminal = pty.openpty()
+        process = subprocess.Popen([program, "causes", *WORDS], stdin=subprocess.DEVNULL, stdout=terminal if seen else subprocess.DEVNULL, stderr=terminal)
+        os.close(terminal)
+        text = b""
+        try:
+            while part := os.read(master, 65536):
+                text += part
+        except OSError:
+            pass
+        os.close(master)
+        status = process.wait()
+        if status != 0 or (b"reached " in text) == seen:
+            wrong.append(f"on a terminal, rows {'there' if seen else 'elsewhere'}: status {status}, {text[-200:]!r}")
+    return wrong
+
+
 def main():
     program = os.path.abspath(sys.argv[1])
     stops = int(sys.argv[2]) if len(sys.argv) > 2 else 6
@@ -115,7 +137,8 @@ def main():
         wrong += stopped(program, rows, chance.uniform(0, 0.5) if number % 3 else -chance.uniform(0.001, 0.2))
         tried += 1
     wrong += unwritten(program, rows)
-    tried += 2
+    wrong += on_terminal(program)
+    tried += 4
     for line in wrong:
         print(line)
     print(f"{tried - len(wrong)} of {tried} lists that tell how far they are passed")

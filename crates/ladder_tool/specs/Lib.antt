@@ -1,3 +1,4 @@
 pub mod Performs
 pub mod Files
 pub mod Coils
+pub mod Telling

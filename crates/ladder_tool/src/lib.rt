@@ -9,6 +9,7 @@ mod opening;
 mod performing;
 mod program;
 mod saving;
+mod telling;
 
 pub use coil::perform_coil;
 pub use files::{Readers, perform_files};

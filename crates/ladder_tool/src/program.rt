@@ -6,13 +6,14 @@ use crate::files::perform_files;
 use crate::folder::run_coils;
 use crate::opening::readers_of;
 use crate::saving::{SavedFile, followed};
+use crate::telling::telling;
 use ladder_pages::{codes, page_of};
 use ladder_setting::{ToolFault, write_fault};
 use ladder_text::{Sink, WriteFault, Writing, put};
 use ladder_words::{AllCoils, CommandLine, Request, SimRequest, Task, WordFault, read_words};
 use std::alloc::{AllocError, Global};
 use std::fs::File;
-use std::io::Write;
+use std::io::{IsTerminal, Write};
 use std::{fs, io};
 
 /// What is said of words that `clap` takes and that ask for nothing.
@@ -28,11 +29,21 @@ pub fn run(rt: &HostRuntime, alloc: Global, words: Vec<String>) -> u8
     // Words that can't be taken don't say what the flag means, so it is looked for among them.
     let why = words.iter().any(|word| word.as_str() == "--why");
     match read_words(alloc, words) {
-        Ok(Task::Perform(line)) => run_line(rt, alloc, &line),
+        Ok(Task::Perform(line)) => run_line(rt, alloc, &seen_on(rt, line)),
         Ok(Task::PerformAll(mut all)) => run_all(rt, alloc, &mut all),
         Ok(Task::Explain(names)) => explain(rt, &names),
         Err(fault) => refuse(rt, why, &fault),
     }
+}
+
+/// A plain list tells how far it is where that is seen: on a terminal to which its rows don't go.
+fn seen_on(rt: &HostRuntime, line: CommandLine) -> CommandLine {
+    if rt.stdout().is_terminal() || !rt.stderr().is_terminal() {
+        return line;
+    }
+    let CommandLine { request, why } = line;
+    let request = telling(request);
+    CommandLine { request, why }
 }
 
 /// Shows the help that the arguments ask for, or reports why they ask for nothing. Returns the status.
