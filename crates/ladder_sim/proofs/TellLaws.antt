@@ -17,7 +17,7 @@ use Rattle.ladder_sim.specs.Limit.{limit_left}
 use Rattle.ladder_sim.specs.Parts.{part, part_looks, settled}
 use Rattle.ladder_sim.specs.Progress.{BreaksAfter, TellsUntil, reached_line, reached_text}
 use Rattle.ladder_sim.specs.Rows.{header, rows}
-use Rattle.ladder_sim.specs.Telling.{IsBase, IsUntold, Telling, TellsSent}
+use Rattle.ladder_sim.specs.Telling.{AreTold, IsBase, IsTold, IsUntold, Telling, TellsEnd, TellsSent}
 use Rattle.ladder_sim.specs.declared.progress.ProgressFault.{ProgressFault}
 use Rattle.ladder_sim.specs.declared.progress.ProgressFault.TheVariants.{Lines, Rows}
 use Rattle.ladder_sim.proofs.NearLaws.{drop_twice}
@@ -26,6 +26,9 @@ use Rattle.ladder_text.specs.Block.{SendsAll}
 use Rattle.ladder_text.specs.Log.{PutsAll, PutsPrefix, WriteLog}
 use Rattle.ladder_text.proofs.Puts.{prefix_after, puts_more, puts_none}
 use Rattle.ladder_text.proofs.Sending.{flush_all, sends_more, sends_none, sends_prefix}
+
+true_false : true ≡ false → ⊥
+true_false e = cc
 
 -- ---- numbers up to one and above it
 is_to : (n last : ℕ) → n ≤ last → nat_le n last ≡ true
@@ -438,12 +441,16 @@ text_of upto limit c = cause_text c.program c.listed (asked_of upto limit c)
 abbrev pub head_of : Cursor → List ℕ
 head_of c = header c.program c.listed
 
+-- what was told before the rows could not be written
+abbrev pub EndsAtRows : Bool → Option ℕ → Option ℕ → Cursor → (out out' err err' : WriteLog) → Type 0
+EndsAtRows lines upto limit old out out' err err' = (told : List ℕ) × BreaksAfter told (text_to_of upto limit old) (text_of upto limit old) out out' × AreTold lines told err err'
+
 -- So many rows were given and are written or wait, and the lines of some numbers are written.
-pub record Stands (upto limit : Option ℕ) (old new : Cursor) (count reached : ℕ) (out out' err err' : WriteLog) (waits : List ℕ) : Type 0 where
+pub record Stands (lines : Bool) (upto limit : Option ℕ) (old new : Cursor) (count reached : ℕ) (out out' err err' : WriteLog) (waits : List ℕ) : Type 0 where
   pub way : OnTheWay upto limit old new count reached
   pub told : List ℕ
   pub rows : Telling (text_to_of upto limit old) told out out' waits (head_of old ++ rows (length old.listed) way.given)
-  pub lines : PutsAll err err' (reached_text told)
+  pub told_lines : AreTold lines told err err'
 
 -- the text, cut where the rows that were given end
 whole_is : (upto limit : Option ℕ) (old new : Cursor) (count reached : ℕ) (w : OnTheWay upto limit old new count reached)
@@ -454,38 +461,37 @@ whole_is upto limit old new count reached w =
     ap (λ xs. head_of old ++ rows k xs) w.split ∙ ap (λ xs. head_of old ++ xs) (rows_both k w.given left)
     ∙ sym (append_assoc (head_of old) (rows k w.given) (rows k left))
 
-module _ (upto limit : Option ℕ) (old new : Cursor) (count reached : ℕ) (out a b err err' : WriteLog) (waits : List ℕ) (s : Stands upto limit old new count reached out a err err' waits) where
+module _ (lines : Bool) (upto limit : Option ℕ) (old new : Cursor) (count reached : ℕ) (out a b err err' : WriteLog) (waits : List ℕ) (s : Stands lines upto limit old new count reached out a err err' waits) where
   -- the next rows could not be written
   pub breaks_at_rows : (next after : List ℕ) → rows (length old.listed) (limited (limit_left limit count) (part upto new.rest)) ≡ next ++ after → PutsPrefix a b (waits ++ next)
-      → (told : List ℕ) × BreaksAfter told (text_to_of upto limit old) (text_of upto limit old) out b × PutsAll err err' (reached_text told)
+      → EndsAtRows lines upto limit old out b err err'
   breaks_at_rows next after is p = (
     s.told,
     telling_breaks (text_to_of upto limit old) s.told out a b waits (head_of old ++ rows (length old.listed) s.way.given) next after (text_of upto limit old) s.rows
         (whole_is upto limit old new count reached s.way ∙ ap (λ xs. (head_of old ++ rows (length old.listed) s.way.given) ++ xs) is) p,
-    s.lines,
+    s.told_lines,
   )
 
   -- what waits could not be written
-  pub breaks_at_flush : PutsPrefix a b waits
-      → (told : List ℕ) × BreaksAfter told (text_to_of upto limit old) (text_of upto limit old) out b × PutsAll err err' (reached_text told)
+  pub breaks_at_flush : PutsPrefix a b waits → EndsAtRows lines upto limit old out b err err'
   breaks_at_flush p = (
     s.told,
     telling_stops (text_to_of upto limit old) s.told out a b waits (head_of old ++ rows (length old.listed) s.way.given)
         (rows (length old.listed) (limited (limit_left limit count) (part upto new.rest))) (text_of upto limit old) s.rows (whole_is upto limit old new count reached s.way) p,
-    s.lines,
+    s.told_lines,
   )
 
   -- the last rows
   pub all_sent : (w1 : List ℕ) → SendsAll a b waits w1 (rows (length old.listed) (limited (limit_left limit count) (part upto new.rest)))
-      → TellsSent (text_to_of upto limit old) (text_of upto limit old) out b w1 err err'
+      → TellsSent lines (text_to_of upto limit old) (text_of upto limit old) out b w1 err err'
   all_sent w1 sent =
       let more = telling_more (text_to_of upto limit old) s.told out a b waits w1 (head_of old ++ rows (length old.listed) s.way.given)
       (rows (length old.listed) (limited (limit_left limit count) (part upto new.rest))) s.rows sent in
-      (s.told, subst (λ xs. Telling (text_to_of upto limit old) s.told out b w1 xs) (sym (whole_is upto limit old new count reached s.way)) more, s.lines)
+      (s.told, subst (λ xs. Telling (text_to_of upto limit old) s.told out b w1 xs) (sym (whole_is upto limit old new count reached s.way)) more, s.told_lines)
 
 -- ---- a step and then a line
-module _ (upto limit : Option ℕ) (old a b : Cursor) (count reached n : ℕ) (out o1 o2 err e1 : WriteLog) (w0 w1 : List ℕ)
-    (s : Stands upto limit old a count reached out o1 err e1 w0)
+module _ (lines : Bool) (upto limit : Option ℕ) (old a b : Cursor) (count reached n : ℕ) (out o1 o2 err e1 : WriteLog) (w0 w1 : List ℕ)
+    (s : Stands lines upto limit old a count reached out o1 err e1 w0)
     (within : IfSome upto (λ last. n ≤ last)) (order : a.rest ≡ numbers_to n a.rest ++ numbers_above n a.rest)
     (takes : Takes a b (length (limited (limit_left limit count) (numbers_to n a.rest)))) (more : reached ≤ n)
     (looks : looks_of b ≡ part_looks (Some n) (searched a) (looks_of a) (limit_left limit count) (numbers_to n a.rest))
@@ -493,7 +499,7 @@ module _ (upto limit : Option ℕ) (old a b : Cursor) (count reached n : ℕ) (o
   abbrev pub size : ℕ
   size = length (limited (limit_left limit count) (numbers_to n a.rest))
 
-  pub stepped : Stands upto limit old b (count + size) n out o2 err e1 w1
+  pub stepped : Stands lines upto limit old b (count + size) n out o2 err e1 w1
   unfolding way_on
   stepped =
       let k = length old.listed in
@@ -506,7 +512,7 @@ module _ (upto limit : Option ℕ) (old a b : Cursor) (count reached n : ℕ) (o
         told = s.told;
         rows = subst (λ xs. Telling (text_to_of upto limit old) s.told out o2 w1 xs) text
             (telling_more (text_to_of upto limit old) s.told out o1 o2 w0 w1 (head_of old ++ rows k s.way.given) (rows k low) s.rows sent);
-        lines = s.lines;
+        told_lines = s.told_lines;
       }
 
   -- all up to n is written, and no other
@@ -517,9 +523,9 @@ module _ (upto limit : Option ℕ) (old a b : Cursor) (count reached n : ℕ) (o
       let high = above_left upto limit old a b count reached n s.way within order takes short in
       ap (λ xs. head_of old ++ rows (length old.listed) xs) (sym (given_to upto limit old b (count + size) n way high))
 
-  pub told_on : (o3 e2 : WriteLog) → limit ≢ Some (count + size) → PutsAll o2 o3 w1 → PutsAll e1 e2 (reached_line n) → Stands upto limit old b (count + size) n out o3 err e2 []
+  pub told_on : (o3 e2 : WriteLog) → lines ≡ true → limit ≢ Some (count + size) → PutsAll o2 o3 w1 → PutsAll e1 e2 (reached_line n) → Stands lines upto limit old b (count + size) n out o3 err e2 []
   unfolding stepped way_on
-  told_on o3 e2 short p q =
+  told_on o3 e2 some short p q =
       let k = length old.listed in
       let low = limited (limit_left limit count) (numbers_to n a.rest) in
       let st = stepped in
@@ -528,7 +534,23 @@ module _ (upto limit : Option ℕ) (old a b : Cursor) (count reached n : ℕ) (o
         way = st.way;
         told = n ∷ s.told;
         rows = telling_anew (text_to_of upto limit old) s.told n out o3 (head_of old ++ rows k (s.way.given ++ low)) all (up_to_is short);
-        lines = puts_more err e1 e2 (reached_text s.told) (reached_line n) s.lines q;
+        told_lines = (λ none. absurd (true_false (sym some ∙ none)), puts_more err e1 e2 (reached_text s.told) (reached_line n) s.told_lines.1 q);
+      }
+
+  -- what waited is written, and no number is told
+  pub flushed_on : (o3 : WriteLog) → PutsAll o2 o3 w1 → Stands lines upto limit old b (count + size) n out o3 err e1 []
+  unfolding stepped way_on
+  flushed_on o3 p =
+      let k = length old.listed in
+      let written = head_of old ++ rows k (s.way.given ++ limited (limit_left limit count) (numbers_to n a.rest)) in
+      let st = stepped in
+      let sent : SendsAll o2 o3 w1 [] [] = record { sent = w1; cut = refl; wrote = p } in
+      record {
+        way = st.way;
+        told = s.told;
+        rows = subst (λ xs. Telling (text_to_of upto limit old) s.told out o3 [] xs) (append-nil written)
+            (telling_more (text_to_of upto limit old) s.told out o2 o3 w1 [] written [] st.rows sent);
+        told_lines = s.told_lines;
       }
 
   -- the line could not be written
@@ -544,14 +566,24 @@ module _ (upto limit : Option ℕ) (old a b : Cursor) (count reached n : ℕ) (o
         s.told,
         subst (λ xs. PutsAll out o3 xs) (up_to_is short) all,
         prefix_after err e1 e2 (reached_text s.told ++ reached_line n) (reached_text s.told) (reached_line n) []
-            (sym (append-nil (reached_text s.told ++ reached_line n))) s.lines q,
+            (sym (append-nil (reached_text s.told ++ reached_line n))) s.told_lines.1 q,
       )
 
+-- ---- how it ends
+-- A list that tells nothing is cut off where its writer failed.
+pub plain_breaks : (f : ProgressFault) (text_to : ℕ → List ℕ) (text : List ℕ) (o o' e e' : WriteLog) → TellsEnd false f text_to text o o' e e' → PutsPrefix o o' text
+plain_breaks Rows text_to text o o' e e' h = subst (λ told. BreaksAfter told text_to text o o') (h.2.0 refl) h.1
+plain_breaks Lines text_to text o o' e e' h = absurd (true_false (sym h.0))
+
+pub told_end : (f : ProgressFault) (text_to : ℕ → List ℕ) (text : List ℕ) (o o' e e' : WriteLog) → TellsEnd true f text_to text o o' e e' → TellsUntil f text_to text o o' e e'
+told_end Rows text_to text o o' e e' h = (h.0, h.1, h.2.1)
+told_end Lines text_to text o o' e e' h = h.1
+
 -- the header, and then nothing yet
-pub headed : (upto limit : Option ℕ) (c : Cursor) (out o1 err : WriteLog) (w0 w1 held : List ℕ) → w0 ≡ [] → held ≡ [] → SendsAll out o1 w0 w1 (head_of c)
-    → Stands upto limit c c 0 0 out o1 err err (w1 ++ held)
+pub headed : (lines : Bool) (upto limit : Option ℕ) (c : Cursor) (out o1 err : WriteLog) (w0 w1 held : List ℕ) → w0 ≡ [] → held ≡ [] → SendsAll out o1 w0 w1 (head_of c)
+    → Stands lines upto limit c c 0 0 out o1 err err (w1 ++ held)
 unfolding way_begins
-headed upto limit c out o1 err w0 block held none empty first =
+headed lines upto limit c out o1 err w0 block held none empty first =
     let w1 = block ++ held in
     let same : block ≡ w1 = sym (ap (λ xs. block ++ xs) empty ∙ append-nil block) in
     let sent0 = subst (λ w. SendsAll out o1 [] w (head_of c)) same (subst (λ w. SendsAll out o1 w block (head_of c)) none first) in
@@ -560,7 +592,7 @@ headed upto limit c out o1 err w0 block held none empty first =
       told = [];
       rows = subst (λ xs. Telling (text_to_of upto limit c) [] out o1 w1 xs) (sym (append-nil (head_of c)))
           (telling_more (text_to_of upto limit c) [] out out o1 [] w1 [] (head_of c) (telling_begins (text_to_of upto limit c) out) sent0);
-      lines = puts_none err;
+      told_lines = (λ none. refl, puts_none err);
     }
 
 -- What waited is the text.
@@ -625,20 +657,20 @@ module _ (upto limit : Option ℕ) (a : Cursor) (count n : ℕ) (within : IfSome
       (part upto (drop (length (limited (limit_left limit count) (numbers_to n a.rest))) a.rest))) in
       omega (arith, cut, both)
 
-module _ (upto limit : Option ℕ) (old a : Cursor) (count reached n : ℕ) (out o1 err e1 : WriteLog) (w0 : List ℕ) (s : Stands upto limit old a count reached out o1 err e1 w0)
+module _ (lines : Bool) (upto limit : Option ℕ) (old a : Cursor) (count reached n : ℕ) (out o1 err e1 : WriteLog) (w0 : List ℕ) (s : Stands lines upto limit old a count reached out o1 err e1 w0)
     (left : Option ℕ) (listed : List ℕ) (is_left : left ≡ limit_left limit count) (is_listed : listed ≡ old.listed) where
   -- the last rows, written or not
   pub last_sent : (o2 : WriteLog) (w1 : List ℕ) → SendsAll o1 o2 w0 w1 (rows (length listed) (limited left (part upto a.rest)))
-      → TellsSent (text_to_of upto limit old) (text_of upto limit old) out o2 w1 err e1
+      → TellsSent lines (text_to_of upto limit old) (text_of upto limit old) out o2 w1 err e1
   last_sent o2 w1 sent =
-      all_sent upto limit old a count reached out o1 o2 err e1 w0 s w1
+      all_sent lines upto limit old a count reached out o1 o2 err e1 w0 s w1
       (subst (λ l. SendsAll o1 o2 w0 w1 (rows (length old.listed) (limited l (part upto a.rest)))) is_left
       (subst (λ (xs : List ℕ). SendsAll o1 o2 w0 w1 (rows (length xs) (limited left (part upto a.rest)))) is_listed sent))
 
   pub last_breaks : (o2 : WriteLog) → PutsPrefix o1 o2 (w0 ++ rows (length listed) (limited left (part upto a.rest)))
-      → (told : List ℕ) × BreaksAfter told (text_to_of upto limit old) (text_of upto limit old) out o2 × PutsAll err e1 (reached_text told)
+      → EndsAtRows lines upto limit old out o2 err e1
   last_breaks o2 p =
-      breaks_at_rows upto limit old a count reached out o1 o2 err e1 w0 s (rows (length old.listed) (limited (limit_left limit count) (part upto a.rest))) [] (sym (append-nil _))
+      breaks_at_rows lines upto limit old a count reached out o1 o2 err e1 w0 s (rows (length old.listed) (limited (limit_left limit count) (part upto a.rest))) [] (sym (append-nil _))
       (subst (λ l. PutsPrefix o1 o2 (w0 ++ rows (length old.listed) (limited l (part upto a.rest)))) is_left
       (subst (λ (xs : List ℕ). PutsPrefix o1 o2 (w0 ++ rows (length xs) (limited left (part upto a.rest)))) is_listed p))
 
@@ -660,9 +692,9 @@ module _ (upto limit : Option ℕ) (old a : Cursor) (count reached n : ℕ) (out
   module _ (within : IfSome upto (λ last. n ≤ last)) (order : a.rest ≡ numbers_to n a.rest ++ numbers_above n a.rest) where
     -- rows up to n that could not be written
     pub step_breaks : (o2 : WriteLog) → PutsPrefix o1 o2 (w0 ++ rows (length listed) (limited left (part (Some n) a.rest)))
-        → (told : List ℕ) × BreaksAfter told (text_to_of upto limit old) (text_of upto limit old) out o2 × PutsAll err e1 (reached_text told)
+        → EndsAtRows lines upto limit old out o2 err e1
     step_breaks o2 p =
-        breaks_at_rows upto limit old a count reached out o1 o2 err e1 w0 s _ _ (next_rows upto limit a count n within order (length old.listed))
+        breaks_at_rows lines upto limit old a count reached out o1 o2 err e1 w0 s _ _ (next_rows upto limit a count n within order (length old.listed))
         (subst (λ l. PutsPrefix o1 o2 (w0 ++ rows (length old.listed) (limited l (numbers_to n a.rest)))) is_left
         (subst (λ (xs : List ℕ). PutsPrefix o1 o2 (w0 ++ rows (length xs) (limited left (numbers_to n a.rest)))) is_listed p))
 
@@ -695,26 +727,31 @@ module _ (upto limit : Option ℕ) (old a : Cursor) (count reached n : ℕ) (out
           subst (λ l. SendsAll o1 o2 w0 w1 (rows (length old.listed) (limited l (numbers_to n a.rest)))) is_left
           (subst (λ (xs : List ℕ). SendsAll o1 o2 w0 w1 (rows (length xs) (limited left (numbers_to n a.rest)))) is_listed sent)
 
-      pub step_on : Stands upto limit old b (count + more) n out o2 err e1 w1
+      pub step_on : Stands lines upto limit old b (count + more) n out o2 err e1 w1
       step_on =
-          subst (λ m. Stands upto limit old b (count + m) n out o2 err e1 w1) (sym is_size)
-          (stepped upto limit old a b count reached n out o1 o2 err e1 w0 w1 s within order takes_size up looks_size sends_size)
+          subst (λ m. Stands lines upto limit old b (count + m) n out o2 err e1 w1) (sym is_size)
+          (stepped lines upto limit old a b count reached n out o1 o2 err e1 w0 w1 s within order takes_size up looks_size sends_size)
 
       short_size : limit ≢ Some (count + more) → limit ≢ Some (count + length (limited (limit_left limit count) (numbers_to n a.rest)))
       short_size short e = short (e ∙ ap (λ m. Some (count + m)) (sym is_size))
 
-      pub step_told : (o3 e2 : WriteLog) (block held : List ℕ) → limit ≢ Some (count + more) → PutsAll o2 o3 w1 → PutsAll e1 e2 (reached_line n) → block ≡ [] → held ≡ []
-          → Stands upto limit old b (count + more) n out o3 err e2 (block ++ held)
+      pub step_told : (o3 e2 : WriteLog) (block held : List ℕ) → limit ≢ Some (count + more) → PutsAll o2 o3 w1 → IsTold lines n e1 e2 → block ≡ [] → held ≡ []
+          → Stands lines upto limit old b (count + more) n out o3 err e2 (block ++ held)
       step_told o3 e2 block held short p q no_block none =
           let empty : [] ≡ block ++ held = sym (ap (λ xs. xs ++ held) no_block ∙ none) in
-          subst (λ ws. Stands upto limit old b (count + more) n out o3 err e2 ws) empty
-          (subst (λ m. Stands upto limit old b (count + m) n out o3 err e2 []) (sym is_size)
-          (told_on upto limit old a b count reached n out o1 o2 err e1 w0 w1 s within order takes_size up looks_size sends_size o3 e2 (short_size short) p q))
+          subst (λ ws. Stands lines upto limit old b (count + more) n out o3 err e2 ws) empty
+          (subst (λ m. Stands lines upto limit old b (count + m) n out o3 err e2 []) (sym is_size) (by lines refl q))
+        where
+          by : (told : Bool) → lines ≡ told → IsTold told n e1 e2 → Stands lines upto limit old b (count + length (limited (limit_left limit count) (numbers_to n a.rest))) n out o3 err e2 []
+          by true is h = told_on lines upto limit old a b count reached n out o1 o2 err e1 w0 w1 s within order takes_size up looks_size sends_size o3 e2 is (short_size short) p h
+          by false is h =
+              subst (λ (e : WriteLog). Stands lines upto limit old b (count + length (limited (limit_left limit count) (numbers_to n a.rest))) n out o3 err e []) (sym h)
+              (flushed_on lines upto limit old a b count reached n out o1 o2 err e1 w0 w1 s within order takes_size up looks_size sends_size o3 p)
 
-      pub step_untold : (f : ProgressFault) (o3 e2 : WriteLog) → limit ≢ Some (count + more) → IsUntold f w1 n o2 o3 e1 e2
-          → TellsUntil f (text_to_of upto limit old) (text_of upto limit old) out o3 err e2
+      pub step_untold : (f : ProgressFault) (o3 e2 : WriteLog) → limit ≢ Some (count + more) → IsUntold lines f w1 n o2 o3 e1 e2
+          → TellsEnd lines f (text_to_of upto limit old) (text_of upto limit old) out o3 err e2
       step_untold Rows o3 e2 short h =
-          let at = breaks_at_flush upto limit old b (count + more) n out o2 o3 err e1 w1 step_on h.0 in
-          (at.0, at.1, subst (λ (e : WriteLog). PutsAll err e (reached_text at.0)) (sym h.1) at.2)
+          let at = breaks_at_flush lines upto limit old b (count + more) n out o2 o3 err e1 w1 step_on h.0 in
+          (at.0, at.1, subst (λ (e : WriteLog). AreTold lines at.0 err e) (sym h.1) at.2)
       step_untold Lines o3 e2 short h =
-          untold upto limit old a b count reached n out o1 o2 err e1 w0 w1 s within order takes_size up looks_size sends_size o3 e2 (short_size short) h.0 h.1
+          (h.0, untold lines upto limit old a b count reached n out o1 o2 err e1 w0 w1 s within order takes_size up looks_size sends_size o3 e2 (short_size short) h.1 h.2)

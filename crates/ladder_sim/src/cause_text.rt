@@ -17,13 +17,15 @@ ghost use Rattle.ladder_text.specs.Log.{Puts};
 ghost use Rattle.ladder_sim.specs.declared.cause_text.TheConstants.{DIGITS, ROW};
 
 use crate::kept::Kept;
+use crate::progress::write_paced;
 use crate::rows::RowBuffer;
 use crate::runs::add_marked;
 use itoa::write_digits;
 use ladder_causes::{Causes, Marked};
 use ladder_grid::Program;
-use ladder_text::{Block, Sink, WriteFault};
+use ladder_text::{Block, Sink, WriteFault, Writing};
 use ladder_vars::Decls;
+use std::io;
 
 /// How many digits a number has at most.
 pub(crate) const DIGITS: usize = 20;
@@ -172,38 +174,6 @@ fn next_numbers(causes: &mut Causes<'_>, last: Option<u64>, most: u64) -> Option
     }
 }
 
-/// Adds the rows that are left, up to `last` or all, or the first of them where there is a limit, and returns how many.
-fn add_rows<W: Sink>(
-    block: &mut Block,
-    causes: &mut Causes<'_>,
-    listed: usize,
-    last: Option<u64>,
-    limit: Option<u64>,
-    writer: &mut W,
-) -> Result<u64, WriteFault>
-    requires listed { listed ≤ 64 }
-    requires finite { length causes.old.rest < 2 ^ 64 }
-    ensures sends { Sends (W.log writer.old) (W.log writer.new) block.old block.new result (rows listed (limited limit (part last causes.old.rest))) }
-    ensures count { IfOk result (λ n. n ≡ length (limited limit (part last causes.old.rest))) }
-    ensures taken { MatchResult result (λ n. Takes causes.old causes.new n) (λ _. TakesAtMost causes.old causes.new (length (limited limit (part last causes.old.rest)))) }
-    ensures looks { IfOk result (λ _. looks_of causes.new ≡ part_looks last (searched causes.old) (looks_of causes.old) limit (part last causes.old.rest)) }
-{
-    let mut buffer = RowBuffer::new();
-    let mut kept = Kept::new(listed);
-    let count = buffer_rows(
-        &mut buffer,
-        block,
-        &mut kept,
-        causes,
-        listed,
-        last,
-        limit,
-        writer,
-    )?;
-    buffer.hand_over(block, writer)?;
-    Ok(count)
-}
-
 /// Adds the rows that are left, up to `last` or all, or the first of them where there is a limit, to a buffer, and returns how many.
 pub(crate) fn buffer_rows<W: Sink>(
     buffer: &mut RowBuffer,
@@ -250,16 +220,12 @@ fn write_rows<W: Sink>(
     ensures looks { IfOk result (λ s. s.looks ≡ looks_of causes.new) }
     ensures counted { IfOk result (λ _. looks_of causes.new ≡ part_looks last (searched causes.old) (looks_of causes.old) limit (part last causes.old.rest)) }
 {
-    let mut block = Block::new();
-    let listed = causes.free().len();
-    let program = causes.program();
-    add_header(&mut block, b"number", program, causes.free(), writer)?;
-    let rows = add_rows(&mut block, causes, listed, last, limit, writer)?;
-    block.flush(writer)?;
-    Ok(Summary {
-        rows,
-        looks: causes.looks(),
-    })
+    // Nothing is told, so nothing is written there.
+    let mut untold = Writing::new(io::sink());
+    match write_paced(causes, last, limit, false, writer, &mut untold) {
+        Ok(summary) => Ok(summary),
+        Err(_) => Err(WriteFault),
+    }
 }
 
 /// Writes the text of the causes that are left, or of the first ones where there is a limit: a header, and a row for each cause.

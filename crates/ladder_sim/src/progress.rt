@@ -1,14 +1,14 @@
 //! A list of causes that tells how far it is.
 
-ghost use Rattle.std.specs.Prelude.{◌≡◌, ◌-◌, ◌<◌, ◌≤◌, ◌++◌, ◌^◌, [], IfOk, IfSome, MatchResult, None, length};
+ghost use Rattle.std.specs.Prelude.{ℕ, List, ◌≡◌, ◌-◌, ◌<◌, ◌≤◌, ◌++◌, ◌^◌, [], IfOk, IfSome, MatchResult, None, length};
 ghost use Rattle.ladder_causes.specs.Cursor.{Takes, looks_of, searched};
 ghost use Rattle.ladder_causes.specs.Parts.{numbers_to};
 ghost use Rattle.ladder_sim.specs.CauseText.{TakesAtMost, cause_text, limited};
 ghost use Rattle.ladder_sim.specs.Kept.{IsKept};
 ghost use Rattle.ladder_sim.specs.Limit.{limit_left};
 ghost use Rattle.ladder_sim.specs.Parts.{part, part_looks};
-ghost use Rattle.ladder_sim.specs.Progress.{TellsAll, TellsUntil, reached_line};
-ghost use Rattle.ladder_sim.specs.Telling.{IsUntold, TellsSent};
+ghost use Rattle.ladder_sim.specs.Progress.{TellsAll, TellsUntil};
+ghost use Rattle.ladder_sim.specs.Telling.{AreTold, IsTold, IsUntold, TellsEnd, TellsSent};
 ghost use Rattle.ladder_text.specs.Log.{Puts, PutsAll};
 
 use crate::cause_text::{Summary, add_header, buffer_rows, is_reached};
@@ -47,8 +47,8 @@ pub enum ProgressFault {
 struct Pace {
     /// What a look takes.
     look: u64,
-    /// How much was done when the last number was told.
-    told: u64,
+    /// How much was done when this was last asked and it was due.
+    done: u64,
 }
 
 impl Pace {
@@ -56,18 +56,18 @@ impl Pace {
         let steps = program.steps().len() as u64;
         Pace {
             look: steps.saturating_mul(STEP_WORK).saturating_add(LOOK_WORK),
-            told: 0,
+            done: 0,
         }
     }
 
-    /// Whether a second's work was done since the last number was told; then the next one is.
+    /// Whether a second's work was done since it was last so.
     fn is_due(&mut self, looks: u64, rows: u64) -> bool {
-        let rows = rows.saturating_mul(ROW_WORK);
-        let work = looks.saturating_mul(self.look).saturating_add(rows);
-        if work.saturating_sub(self.told) < SECOND {
+        let rows = rows.wrapping_mul(ROW_WORK);
+        let work = looks.wrapping_mul(self.look).wrapping_add(rows);
+        if work.wrapping_sub(self.done) < SECOND {
             return false;
         }
-        self.told = work;
+        self.done = work;
         true
     }
 }
@@ -118,23 +118,27 @@ fn flush_rows<W: Sink>(
     block.flush(writer)
 }
 
-/// Writes all rows that wait, and then the line of a number.
+/// Writes all rows that wait, and then the line of a number, where numbers are told.
 fn tell<O: Sink, E: Sink>(
     buffer: &mut RowBuffer,
     block: &mut Block,
+    lines: bool,
     number: u64,
     out: &mut O,
     err: &mut E,
 ) -> Result<(), ProgressFault>
     ensures told { MatchResult result
-        (λ _. PutsAll (O.log out.old) (O.log out.new) (block.old ++ buffer.old) × PutsAll (E.log err.old) (E.log err.new) (reached_line number))
-        (λ f. IsUntold f (block.old ++ buffer.old) number (O.log out.old) (O.log out.new) (E.log err.old) (E.log err.new)) }
+        (λ _. PutsAll (O.log out.old) (O.log out.new) (block.old ++ buffer.old) × IsTold lines number (E.log err.old) (E.log err.new))
+        (λ f. IsUntold lines f (block.old ++ buffer.old) number (O.log out.old) (O.log out.new) (E.log err.old) (E.log err.new)) }
     ensures no_block { IfOk result (λ _. block.new ≡ []) }
     ensures no_row { IfOk result (λ _. buffer.new ≡ []) }
 {
     let Ok(()) = flush_rows(buffer, block, out) else {
         return Err(ProgressFault::Rows);
     };
+    if !lines {
+        return Ok(());
+    }
     let pieces = [
         Piece::Text(b"reached "),
         Piece::Number(number),
@@ -146,7 +150,7 @@ fn tell<O: Sink, E: Sink>(
     Ok(())
 }
 
-/// Adds the rows of a list, and tells a number about once a second.
+/// Adds the rows of a list, writes those that wait about once a second, and tells a number then, where numbers are told.
 fn tell_rows<O: Sink, E: Sink>(
     buffer: &mut RowBuffer,
     block: &mut Block,
@@ -154,6 +158,7 @@ fn tell_rows<O: Sink, E: Sink>(
     causes: &mut Causes<'_>,
     upto: Option<u64>,
     limit: Option<u64>,
+    lines: bool,
     out: &mut O,
     err: &mut E,
 ) -> Result<u64, ProgressFault>
@@ -161,10 +166,10 @@ fn tell_rows<O: Sink, E: Sink>(
     requires no_row { buffer.old ≡ [] }
     requires kept { IsKept (length causes.old.listed) kept.old }
     ensures told { MatchResult result
-        (λ _. TellsSent (λ n. cause_text causes.old.program causes.old.listed (numbers_to n (limited limit (part upto causes.old.rest))))
+        (λ _. TellsSent lines (λ n. cause_text causes.old.program causes.old.listed (numbers_to n (limited limit (part upto causes.old.rest))))
         (cause_text causes.old.program causes.old.listed (limited limit (part upto causes.old.rest)))
         (O.log out.old) (O.log out.new) (block.new ++ buffer.new) (E.log err.old) (E.log err.new))
-        (λ f. TellsUntil f (λ n. cause_text causes.old.program causes.old.listed (numbers_to n (limited limit (part upto causes.old.rest))))
+        (λ f. TellsEnd lines f (λ n. cause_text causes.old.program causes.old.listed (numbers_to n (limited limit (part upto causes.old.rest))))
         (cause_text causes.old.program causes.old.listed (limited limit (part upto causes.old.rest)))
         (O.log out.old) (O.log out.new) (E.log err.old) (E.log err.new)) }
     ensures count { IfOk result (λ n. n ≡ length (limited limit (part upto causes.old.rest))) }
@@ -195,11 +200,58 @@ fn tell_rows<O: Sink, E: Sink>(
         rows += more;
         reached = stop;
         if !is_reached(limit, rows) && pace.is_due(causes.looks(), rows) {
-            if let Err(fault) = tell(buffer, block, reached, out, err) {
+            if let Err(fault) = tell(buffer, block, lines, reached, out, err) {
                 return Err(fault);
             }
         }
     }
+}
+
+/// Writes the text of a list, or of the part of it up to `upto`, as `tell_rows` adds its rows.
+pub(crate) fn write_paced<O: Sink, E: Sink>(
+    causes: &mut Causes<'_>,
+    upto: Option<u64>,
+    limit: Option<u64>,
+    lines: bool,
+    out: &mut O,
+    err: &mut E,
+) -> Result<Summary, ProgressFault>
+    ensures told { MatchResult result
+        (λ _. PutsAll (O.log out.old) (O.log out.new) (cause_text causes.old.program causes.old.listed (limited limit (part upto causes.old.rest)))
+        × ((told : List ℕ) × AreTold lines told (E.log err.old) (E.log err.new)))
+        (λ f. TellsEnd lines f (λ n. cause_text causes.old.program causes.old.listed (numbers_to n (limited limit (part upto causes.old.rest))))
+        (cause_text causes.old.program causes.old.listed (limited limit (part upto causes.old.rest)))
+        (O.log out.old) (O.log out.new) (E.log err.old) (E.log err.new)) }
+    ensures rows { IfOk result (λ s. s.rows ≡ length (limited limit (part upto causes.old.rest))) }
+    ensures taken { MatchResult result (λ s. Takes causes.old causes.new s.rows) (λ _. TakesAtMost causes.old causes.new (length (limited limit (part upto causes.old.rest)))) }
+    ensures looks { IfOk result (λ s. s.looks ≡ looks_of causes.new) }
+    ensures counted { IfOk result (λ _. looks_of causes.new ≡ part_looks upto (searched causes.old) (looks_of causes.old) limit (part upto causes.old.rest)) }
+{
+    let mut block = Block::new();
+    let mut buffer = RowBuffer::new();
+    let mut kept = Kept::new(causes.free().len());
+    let told = tell_rows(
+        &mut buffer,
+        &mut block,
+        &mut kept,
+        causes,
+        upto,
+        limit,
+        lines,
+        out,
+        err,
+    );
+    let rows = match told {
+        Ok(rows) => rows,
+        Err(fault) => return Err(fault),
+    };
+    let Ok(()) = flush_rows(&mut buffer, &mut block, out) else {
+        return Err(ProgressFault::Rows);
+    };
+    Ok(Summary {
+        rows,
+        looks: causes.looks(),
+    })
 }
 
 /// Writes the text of the causes up to `upto` that are left, or of all where there is none, as `write_causes` does; and on `err` about once
@@ -228,28 +280,5 @@ pub fn write_progress<O: Sink, E: Sink>(
     ensures looks { IfOk result (λ s. s.looks ≡ looks_of causes.new) }
     ensures counted { IfOk result (λ _. looks_of causes.new ≡ part_looks upto (searched causes.old) (looks_of causes.old) limit (part upto causes.old.rest)) }
 {
-    let mut block = Block::new();
-    let mut buffer = RowBuffer::new();
-    let mut kept = Kept::new(causes.free().len());
-    let told = tell_rows(
-        &mut buffer,
-        &mut block,
-        &mut kept,
-        causes,
-        upto,
-        limit,
-        out,
-        err,
-    );
-    let rows = match told {
-        Ok(rows) => rows,
-        Err(fault) => return Err(fault),
-    };
-    let Ok(()) = flush_rows(&mut buffer, &mut block, out) else {
-        return Err(ProgressFault::Rows);
-    };
-    Ok(Summary {
-        rows,
-        looks: causes.looks(),
-    })
+    write_paced(causes, upto, limit, true, out, err)
 }

@@ -11,12 +11,12 @@ returns-in_default-clause-told g c =
       [],
       sends_prefix _ _ _ [] [] (text_of c.args.upto c.args.limit old) [] (head_of old) (rows (length old.listed) (asked_of c.args.upto c.args.limit old)) refl (sends_none _ [])
           (rw (c.requires.no_block, c.program.ensures, c.free.ensures.listed) at c.in_default.ensures),
-      puts_none _,
+      (λ none. refl, puts_none _),
     )
 
 pub loop-limit-init : goal.loop-limit-init
 loop-limit-init g c = record {
-  stands = headed c.args.upto c.args.limit c.args.causes.now _ _ _ c.args.block.now c.add_header.new.block c.args.buffer.now c.requires.no_block c.requires.no_row
+  stands = headed c.args.lines c.args.upto c.args.limit c.args.causes.now _ _ _ c.args.block.now c.add_header.new.block c.args.buffer.now c.requires.no_block c.requires.no_row
       (rw (c.program.ensures, c.free.ensures.listed) at c.in-Ok.ensures);
   kept = c.requires.kept;
   small = omega arith;
@@ -25,13 +25,13 @@ loop-limit-init g c = record {
 pub returns-in_default-buffer_rows-clause-told : goal.returns-in_default-buffer_rows-clause-told
 returns-in_default-buffer_rows-clause-told g c =
     let st = c.loop-limit.invariant.stands in
-    last_breaks c.args.upto c.args.limit c.args.causes.now c.loop-limit.causes c.loop-limit.rows c.loop-limit.reached 0 _ _ _ _ _ st c.left_of-left.result c.free-listed.result.now c.left_of-left.ensures
+    last_breaks c.args.lines c.args.upto c.args.limit c.args.causes.now c.loop-limit.causes c.loop-limit.rows c.loop-limit.reached 0 _ _ _ _ _ st c.left_of-left.result c.free-listed.result.now c.left_of-left.ensures
     (c.free-listed.ensures.listed ∙ listed_same c.args.causes.now c.loop-limit.causes c.loop-limit.rows st.way.takes) _ c.in_default-buffer_rows.ensures.sends
 
 pub overflow_add-result : goal.overflow_add-result
 overflow_add-result g c =
     let st = c.loop-limit.invariant.stands in
-    let counted = last_counted c.args.upto c.args.limit c.args.causes.now c.loop-limit.causes c.loop-limit.rows c.loop-limit.reached 0 _ _ _ _ _ st c.left_of-left.result c.free-listed.result.now c.left_of-left.ensures
+    let counted = last_counted c.args.lines c.args.upto c.args.limit c.args.causes.now c.loop-limit.causes c.loop-limit.rows c.loop-limit.reached 0 _ _ _ _ _ st c.left_of-left.result c.free-listed.result.now c.left_of-left.ensures
     (c.free-listed.ensures.listed ∙ listed_same c.args.causes.now c.loop-limit.causes c.loop-limit.rows st.way.takes) c.in-Ok-buffer_rows.more c.in-Ok-buffer_rows.ensures.count in
     let short = way_short c.args.upto c.args.limit c.args.causes.now c.loop-limit.causes c.loop-limit.rows c.loop-limit.reached st.way in
     record { fits = omega (arith, counted, short, c.free.ensures.finite) }
@@ -39,14 +39,14 @@ overflow_add-result g c =
 pub returns-then-end-stop-clause-told : goal.returns-then-end-stop-clause-told
 returns-then-end-stop-clause-told g c =
     let st = c.loop-limit.invariant.stands in
-    last_sent c.args.upto c.args.limit c.args.causes.now c.loop-limit.causes c.loop-limit.rows c.loop-limit.reached 0 _ _ _ _ _ st c.left_of-left.result c.free-listed.result.now c.left_of-left.ensures
+    last_sent c.args.lines c.args.upto c.args.limit c.args.causes.now c.loop-limit.causes c.loop-limit.rows c.loop-limit.reached 0 _ _ _ _ _ st c.left_of-left.result c.free-listed.result.now c.left_of-left.ensures
     (c.free-listed.ensures.listed ∙ listed_same c.args.causes.now c.loop-limit.causes c.loop-limit.rows st.way.takes) _ _ c.in-Ok-buffer_rows.ensures.sends
 
 pub returns-in_default-buffer_rows-2-clause-told : goal.returns-in_default-buffer_rows-2-clause-told
 returns-in_default-buffer_rows-2-clause-told g c =
     let st = c.loop-limit.invariant.stands in
     let n = c.next_stop-stop.result in
-    step_breaks c.args.upto c.args.limit c.args.causes.now c.loop-limit.causes c.loop-limit.rows c.loop-limit.reached n _ _ _ _ _ st c.left_of-left.result c.free-listed.result.now c.left_of-left.ensures
+    step_breaks c.args.lines c.args.upto c.args.limit c.args.causes.now c.loop-limit.causes c.loop-limit.rows c.loop-limit.reached n _ _ _ _ _ st c.left_of-left.result c.free-listed.result.now c.left_of-left.ensures
     (c.free-listed.ensures.listed ∙ listed_same c.args.causes.now c.loop-limit.causes c.loop-limit.rows st.way.takes)
     (within_end c.args.upto c.end_of-end.result n c.end_of-end.ensures.part c.if-end-stop.false) (c.free-listed.ensures.order n) _ c.in_default-buffer_rows-2.ensures.sends
 
@@ -54,7 +54,7 @@ pub returns-in_default-buffer_rows-2-clause-taken : goal.returns-in_default-buff
 returns-in_default-buffer_rows-2-clause-taken g c =
     let st = c.loop-limit.invariant.stands in
     let n = c.next_stop-stop.result in
-    step_took c.args.upto c.args.limit c.args.causes.now c.loop-limit.causes c.loop-limit.rows c.loop-limit.reached n _ _ _ _ _ st c.left_of-left.result c.free-listed.result.now c.left_of-left.ensures
+    step_took c.args.lines c.args.upto c.args.limit c.args.causes.now c.loop-limit.causes c.loop-limit.rows c.loop-limit.reached n _ _ _ _ _ st c.left_of-left.result c.free-listed.result.now c.left_of-left.ensures
     (c.free-listed.ensures.listed ∙ listed_same c.args.causes.now c.loop-limit.causes c.loop-limit.rows st.way.takes)
     (within_end c.args.upto c.end_of-end.result n c.end_of-end.ensures.part c.if-end-stop.false) (c.free-listed.ensures.order n) c.buffer_rows-in-loop-limit.new.causes c.in_default-buffer_rows-2.ensures.taken
 
@@ -62,7 +62,7 @@ pub overflow_add-rows : goal.overflow_add-rows
 overflow_add-rows g c =
     let st = c.loop-limit.invariant.stands in
     let n = c.next_stop-stop.result in
-    let few = rows_few c.args.upto c.args.limit c.args.causes.now c.loop-limit.causes c.loop-limit.rows c.loop-limit.reached n _ _ _ _ _ st c.left_of-left.result c.free-listed.result.now c.left_of-left.ensures
+    let few = rows_few c.args.lines c.args.upto c.args.limit c.args.causes.now c.loop-limit.causes c.loop-limit.rows c.loop-limit.reached n _ _ _ _ _ st c.left_of-left.result c.free-listed.result.now c.left_of-left.ensures
     (c.free-listed.ensures.listed ∙ listed_same c.args.causes.now c.loop-limit.causes c.loop-limit.rows st.way.takes)
     (within_end c.args.upto c.end_of-end.result n c.end_of-end.ensures.part c.if-end-stop.false) (c.free-listed.ensures.order n) in
     let short = way_short c.args.upto c.args.limit c.args.causes.now c.loop-limit.causes c.loop-limit.rows c.loop-limit.reached st.way in
@@ -72,7 +72,7 @@ pub returns-in-Err-clause-told : goal.returns-in-Err-clause-told
 returns-in-Err-clause-told g c =
     let st = c.loop-limit.invariant.stands in
     let n = c.next_stop-stop.result in
-    step_untold c.args.upto c.args.limit c.args.causes.now c.loop-limit.causes c.loop-limit.rows c.loop-limit.reached n _ _ _ _ _ st c.left_of-left.result c.free-listed.result.now c.left_of-left.ensures
+    step_untold c.args.lines c.args.upto c.args.limit c.args.causes.now c.loop-limit.causes c.loop-limit.rows c.loop-limit.reached n _ _ _ _ _ st c.left_of-left.result c.free-listed.result.now c.left_of-left.ensures
     (c.free-listed.ensures.listed ∙ listed_same c.args.causes.now c.loop-limit.causes c.loop-limit.rows st.way.takes)
     (within_end c.args.upto c.end_of-end.result n c.end_of-end.ensures.part c.if-end-stop.false) (c.free-listed.ensures.order n)
     c.buffer_rows-in-loop-limit.new.causes _ _ c.in-Ok-buffer_rows-2.more (omega (arith, c.next_stop-stop.ensures.more)) c.in-Ok-buffer_rows-2.ensures.count c.in-Ok-buffer_rows-2.ensures.taken
@@ -82,7 +82,7 @@ pub returns-in-Err-clause-taken : goal.returns-in-Err-clause-taken
 returns-in-Err-clause-taken g c =
     let st = c.loop-limit.invariant.stands in
     let n = c.next_stop-stop.result in
-    let few = rows_few c.args.upto c.args.limit c.args.causes.now c.loop-limit.causes c.loop-limit.rows c.loop-limit.reached n _ _ _ _ _ st c.left_of-left.result c.free-listed.result.now c.left_of-left.ensures
+    let few = rows_few c.args.lines c.args.upto c.args.limit c.args.causes.now c.loop-limit.causes c.loop-limit.rows c.loop-limit.reached n _ _ _ _ _ st c.left_of-left.result c.free-listed.result.now c.left_of-left.ensures
     (c.free-listed.ensures.listed ∙ listed_same c.args.causes.now c.loop-limit.causes c.loop-limit.rows st.way.takes)
     (within_end c.args.upto c.end_of-end.result n c.end_of-end.ensures.part c.if-end-stop.false) (c.free-listed.ensures.order n) in (
       c.loop-limit.rows + c.in-Ok-buffer_rows-2.more,
@@ -96,7 +96,7 @@ loop-limit-preserved-then-is_due g c =
     let n = c.next_stop-stop.result in
     let same = c.free-listed.ensures.listed ∙ listed_same c.args.causes.now c.loop-limit.causes c.loop-limit.rows st.way.takes in
     record {
-      stands = step_told c.args.upto c.args.limit c.args.causes.now c.loop-limit.causes c.loop-limit.rows c.loop-limit.reached n _ _ _ _ _ st c.left_of-left.result c.free-listed.result.now c.left_of-left.ensures same
+      stands = step_told c.args.lines c.args.upto c.args.limit c.args.causes.now c.loop-limit.causes c.loop-limit.rows c.loop-limit.reached n _ _ _ _ _ st c.left_of-left.result c.free-listed.result.now c.left_of-left.ensures same
           (within_end c.args.upto c.end_of-end.result n c.end_of-end.ensures.part c.if-end-stop.false) (c.free-listed.ensures.order n)
           c.buffer_rows-in-loop-limit.new.causes _ _ c.in-Ok-buffer_rows-2.more (omega (arith, c.next_stop-stop.ensures.more)) c.in-Ok-buffer_rows-2.ensures.count c.in-Ok-buffer_rows-2.ensures.taken
           c.in-Ok-buffer_rows-2.ensures.looks c.in-Ok-buffer_rows-2.ensures.sends _ _ c.tell.new.block c.tell.new.buffer (c.if-not-is_reached.ensures.no refl)
@@ -111,7 +111,7 @@ loop-limit-preserved g c =
     let n = c.next_stop-stop.result in
     let same = c.free-listed.ensures.listed ∙ listed_same c.args.causes.now c.loop-limit.causes c.loop-limit.rows st.way.takes in
     record {
-      stands = step_on c.args.upto c.args.limit c.args.causes.now c.loop-limit.causes c.loop-limit.rows c.loop-limit.reached n _ _ _ _ _ st c.left_of-left.result c.free-listed.result.now c.left_of-left.ensures same
+      stands = step_on c.args.lines c.args.upto c.args.limit c.args.causes.now c.loop-limit.causes c.loop-limit.rows c.loop-limit.reached n _ _ _ _ _ st c.left_of-left.result c.free-listed.result.now c.left_of-left.ensures same
           (within_end c.args.upto c.end_of-end.result n c.end_of-end.ensures.part c.if-end-stop.false) (c.free-listed.ensures.order n)
           c.buffer_rows-in-loop-limit.new.causes _ _ c.in-Ok-buffer_rows-2.more (omega (arith, c.next_stop-stop.ensures.more)) c.in-Ok-buffer_rows-2.ensures.count c.in-Ok-buffer_rows-2.ensures.taken
           c.in-Ok-buffer_rows-2.ensures.looks c.in-Ok-buffer_rows-2.ensures.sends;

@@ -5,7 +5,7 @@ use Rattle.ladder_sim.proofs.progress.tell_rows.Given as goal
 
 abbrev pub invariant-loop-limit : goal.invariant-loop-limit
 invariant-loop-limit g l = record {
-  stands : Stands l.upto l.limit l.fn.causes l.causes l.rows l.reached (g.O.Sink.log l.fn.out) (g.O.Sink.log l.out) (g.E.Sink.log l.fn.err) (g.E.Sink.log l.err) (l.block ++ l.buffer);
+  stands : Stands l.lines l.upto l.limit l.fn.causes l.causes l.rows l.reached (g.O.Sink.log l.fn.out) (g.O.Sink.log l.out) (g.E.Sink.log l.fn.err) (g.E.Sink.log l.err) (l.block ++ l.buffer);
   kept : IsKept (length l.fn.causes.listed) l.kept;
   small : l.reached < 2 ^ 64 - 1;
 }

@@ -1,6 +1,6 @@
 use Rattle.std.proofs.Common.{◌++◌, [], append-nil, sym}
 use Rattle.ladder_sim.proofs.TellLaws.{telling_stops, text_of, text_to_of}
-use Rattle.ladder_sim.proofs.progress.write_progress.Goals as goal
+use Rattle.ladder_sim.proofs.progress.write_paced.Goals as goal
 
 pub returns-in_default-clause-told : goal.returns-in_default-clause-told
 returns-in_default-clause-told g c =
