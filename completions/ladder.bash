@@ -29,7 +29,7 @@ _ladder() {
         return
     fi
     case $subcommand in
-        causes) options='--state --at --after --upto --limit --scans --for --every --grouped --terms --st --order --any --off --must --reachable --looks --relevant --all-inputs --all-coils --quiet --why --help' ;;
+        causes) options='--state --at --after --upto --limit --scans --for --every --grouped --terms --st --order --any --off --must --reachable --looks --relevant --all-inputs --all-coils --progress --quiet --why --help' ;;
         show) options='--state --at --number --html --stimulus --coil --all-inputs --why --help' ;;
         sim) options='--state --save --every --watch --watch-all --vcd --why --help' ;;
         check) options='--warn --why --help' ;;
