@@ -175,6 +175,7 @@ fn next_numbers(causes: &mut Causes<'_>, last: Option<u64>, most: u64) -> Option
 }
 
 /// Adds the rows that are left, up to `last` or all, or the first of them where there is a limit, to a buffer, and returns how many.
+#[inline(always)]
 pub(crate) fn buffer_rows<W: Sink>(
     buffer: &mut RowBuffer,
     block: &mut Block,

@@ -151,6 +151,9 @@ fn tell<O: Sink, E: Sink>(
 }
 
 /// Adds the rows of a list, writes those that wait about once a second, and tells a number then, where numbers are told.
+///
+/// It is a part of its caller, as `buffer_rows` is of it, so that what they keep is known not to lie where a row is written.
+#[inline(always)]
 fn tell_rows<O: Sink, E: Sink>(
     buffer: &mut RowBuffer,
     block: &mut Block,
