@@ -186,6 +186,7 @@ impl Kept {
     }
 
     /// Writes the rows of numbers near the kept one over the first bytes of a text, and returns how many bytes they have.
+    #[inline(always)]
     pub(crate) fn write_run(&self, text: &mut [u8], listed: usize, run: Marked) -> usize
         requires few { listed ≤ 64 }
         requires room { length text.old ≡ RUN }

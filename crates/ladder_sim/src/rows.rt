@@ -93,6 +93,7 @@ impl RowBuffer {
     }
 
     /// Takes the rows of numbers near the kept one.
+    #[inline(always)]
     pub(crate) fn take_run(&mut self, kept: &Kept, listed: usize, run: Marked)
         requires few { listed ≤ 64 }
         requires room { length self.old ≤ FULL }

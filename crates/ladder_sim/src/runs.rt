@@ -61,6 +61,7 @@ fn add_singly<W: Sink>(
 }
 
 /// Adds the rows of a run.
+#[inline(always)]
 fn add_run<W: Sink>(
     buffer: &mut RowBuffer,
     block: &mut Block,
@@ -87,6 +88,7 @@ fn add_run<W: Sink>(
 }
 
 /// Adds the rows of numbers.
+#[inline(always)]
 pub(crate) fn add_marked<W: Sink>(
     buffer: &mut RowBuffer,
     block: &mut Block,
