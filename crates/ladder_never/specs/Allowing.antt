@@ -13,7 +13,7 @@ use Rattle.ladder_known.specs.KnownScan.{Known, all_known, plainly}
 use Rattle.ladder_known.specs.KnownLaws.{BothKnown}
 use Rattle.ladder_signals.specs.Three.{AnyTri, three_allows}
 use Rattle.ladder_signals.specs.declared.tri.Tri.{Tri}
-use Rattle.ladder_never.specs.Never.{Bits, IsOff, IsSetOf, knowing}
+use Rattle.ladder_never.specs.Never.{Bits, IsSetOf, IsSo, knowing}
 use Rattle.ladder_never.specs.Cases.{IsSettled}
 use Rattle.ladder_never.specs.Outcomes.{MayStore}
 use Rattle.ladder_never.specs.declared.outcome.Outcome.{Outcome}
@@ -41,6 +41,6 @@ abbrev pub SettledHolds : Drawing → Type 0
 SettledHolds p = (var : ℕ) (value : Bool) (k : Known Tri Outcome) → IsSettled p (Variable var) value k → (moment : ℕ) (h : Held) → AllowsState p moment k h
     → slice_index_or (after_scan (diagram_of p) moment [] h).values var false ≡ value
 
--- All that is known where a set is OFF allows each state in which it is OFF, at any moment.
+-- All that is known where a set is so allows each state in which it is so, at any moment.
 abbrev pub KnowingAllows : Drawing → Type 0
-KnowingAllows p = (s : Standing) → Fits p s → IsStanding s → (z : Bits) → IsSetOf p z → IsOff z s.held → (moment : ℕ) → AllowsState p moment (knowing p z) s.held
+KnowingAllows p = (s : Standing) → Fits p s → IsStanding s → (z : Bits) → IsSetOf p z → IsSo z s.held → (moment : ℕ) → AllowsState p moment (knowing p z) s.held

@@ -8,7 +8,7 @@ use Rattle.ladder_known.specs.KnownScan.{Known, after_known, kept_at}
 use Rattle.ladder_signals.specs.Three.{three, three_known}
 use Rattle.ladder_signals.specs.declared.tri.Tri.{Tri}
 use Rattle.ladder_signals.specs.declared.tri.Tri.TheVariants.{Off, On, Unsure}
-use Rattle.ladder_never.specs.Never.{Bits, IsOff, IsSetOf, OneScan, StaysOff, IsWithin, after_each, is_in, knowing}
+use Rattle.ladder_never.specs.Never.{Bits, IsSetOf, IsSo, IsWithin, OneScan, Stays, after_each, claims, knowing}
 use Rattle.ladder_never.specs.Outcomes.{answer_known, outcomes, q_known}
 use Rattle.ladder_never.specs.declared.answer.Answer.{Answer}
 use Rattle.ladder_never.specs.declared.answer.Answer.TheVariants.{Off as AnswersOff, On as AnswersOn, Input, Open}
@@ -56,21 +56,20 @@ pub data IsSettled (p : Drawing) (target : Point) (value : Bool) : Known Tri Out
   by_answers : (k : Known Tri Outcome) (inst : ℕ) → IsSettled p target value (answering k inst AnswersOff) → IsSettled p target value (answering k inst AnswersOn)
       → IsSettled p target value (answering k inst Input) → IsSettled p target value k
 
--- Each of the set is settled to be OFF after a scan from all that is known where the set is OFF.
-pub record IsSettledOff (p : Drawing) (z : Bits) : Type 0 where
-  pub variables : (var : ℕ) → is_in z.variables var ≡ true → IsSettled p (Variable var) false (knowing p z)
-  pub instances : (inst : ℕ) → is_in z.instances inst ≡ true → IsSettled p (Output inst) false (knowing p z)
+-- All that a set claims is settled to be so after a scan from all that is known where the set is so.
+pub record IsSettledSo (p : Drawing) (z : Bits) : Type 0 where
+  pub variables : (var : ℕ) (value : Bool) → claims z.variables var ≡ three_known value → IsSettled p (Variable var) value (knowing p z)
+  pub instances : (inst : ℕ) (value : Bool) → claims z.instances inst ≡ three_known value → IsSettled p (Output inst) value (knowing p z)
 
--- The set is OFF in a state and settled to stay OFF. Each set that one scan over three values leaves OFF, without cases, is within it, where
--- it is OFF in the state.
-pub record IsNever (p : Drawing) (s : Standing) (z : Bits) : Type 0 where
+-- The set is so in a state and settled to stay so. Each set that is so in the state, and that one scan over three values leaves so, without
+-- cases, is within it.
+pub record IsSteady (p : Drawing) (s : Standing) (z : Bits) : Type 0 where
   pub set : IsSetOf p z
-  pub off : IsOff z s.held
-  pub settled : IsSettledOff p z
-  pub most : (other : Bits) → IsSetOf p other → IsOff other s.held → StaysOff p other → IsWithin other z
+  pub so : IsSo z s.held
+  pub settled : IsSettledSo p z
+  pub most : (other : Bits) → IsSetOf p other → IsSo other s.held → Stays p other → IsWithin other z
 
--- Such a set is OFF for ever: where each of them is OFF in a state, each is OFF after any scans from there, with any inputs and at any
--- moments.
-abbrev pub AreNeverOn : Drawing → Type 0
-AreNeverOn p = (s : Standing) → Fits p s → IsStanding s → (z : Bits) → IsSetOf p z → IsSettledOff p z → IsOff z s.held
-    → (scans : List OneScan) → IsOff z (after_each (diagram_of p) scans s.held)
+-- Such a set is so for ever: where it is so in a state, it is so after any scans from there, with any inputs and at any moments.
+abbrev pub StaysForEver : Drawing → Type 0
+StaysForEver p = (s : Standing) → Fits p s → IsStanding s → (z : Bits) → IsSetOf p z → IsSettledSo p z → IsSo z s.held
+    → (scans : List OneScan) → IsSo z (after_each (diagram_of p) scans s.held)

@@ -2,53 +2,54 @@
 use Rattle.std.specs.Prelude.{◌≡◌, ◌<◌, ℕ, ◌+◌, Bool, true, false, List, length, slice_index_or, count_by}
 use Rattle.ladder_grid.specs.Program.{Drawing}
 use Rattle.ladder_known.specs.KnownScan.{Known, kept_at}
+use Rattle.ladder_signals.specs.Three.{three_known}
 use Rattle.ladder_signals.specs.declared.tri.Tri.{Tri}
 use Rattle.ladder_signals.specs.declared.tri.Tri.TheVariants.{Off, On, Unsure}
-use Rattle.ladder_never.specs.Never.{Bits, IsSetOf, IsWithin, StaysOff, after_knowing, is_in}
+use Rattle.ladder_never.specs.Never.{Bits, IsSetOf, IsWithin, Stays, after_knowing, claims}
 use Rattle.ladder_never.specs.Cases.{IsSettled, told}
 use Rattle.ladder_never.specs.Outcomes.{outcomes, q_known}
 use Rattle.ladder_never.specs.declared.outcome.Outcome.{Outcome}
 use Rattle.ladder_never.specs.declared.point.Point.{Point}
 
--- Of the first set, one scan from the second one leaves each OFF.
-pub record AreLeftOff (p : Drawing) (z w : Bits) : Type 0 where
-  pub variables : (var : ℕ) → is_in z.variables var ≡ true → slice_index_or (after_knowing p w).values var Off ≡ Off
-  pub instances : (inst : ℕ) → is_in z.instances inst ≡ true → q_known (kept_at outcomes (after_knowing p w) inst) ≡ Off
+-- What the first set claims, one scan from the second one leaves so.
+pub record AreLeftSo (p : Drawing) (z w : Bits) : Type 0 where
+  pub variables : (var : ℕ) (value : Bool) → claims z.variables var ≡ three_known value → slice_index_or (after_knowing p w).values var Unsure ≡ three_known value
+  pub instances : (inst : ℕ) (value : Bool) → claims z.instances inst ≡ three_known value → q_known (kept_at outcomes (after_knowing p w) inst) ≡ three_known value
 
--- A set that stays OFF is left OFF by a scan from each set that it is within.
-abbrev pub LeavesOff : Drawing → Type 0
-LeavesOff p = (z w : Bits) → IsSetOf p z → IsSetOf p w → IsWithin z w → StaysOff p z → AreLeftOff p z w
+-- A set that stays so is left so by a scan from each set that it is within.
+abbrev pub LeavesSo : Drawing → Type 0
+LeavesSo p = (z w : Bits) → IsSetOf p z → IsSetOf p w → IsWithin z w → Stays p z → AreLeftSo p z w
 
-abbrev pub is_off : Tri → Bool
-is_off Off = true
-is_off On = false
-is_off Unsure = false
+abbrev pub is_claim : Tri → Bool
+is_claim Off = true
+is_claim On = true
+is_claim Unsure = false
 
--- how many there are
-abbrev pub members : List Bool → ℕ
-members = count_by (λ b. b)
+-- of how many something is claimed
+abbrev pub members : List Tri → ℕ
+members = count_by is_claim
 
 abbrev pub size : Bits → ℕ
 size z = members z.variables + members z.instances
 
--- The target is settled to be OFF after a scan from the case; without scans for further cases, that scan over three values tells it.
-pub data IsStaying (p : Drawing) (target : Point) (after case : Known Tri Outcome) (scans : ℕ) : Type 0 where
-  staying : IsSettled p target false case → (scans ≡ 0 → is_off (told target after) ≡ true) → IsStaying p target after case scans
+-- The target is settled to have the value after a scan from the case; without scans for further cases, that scan over three values tells it.
+pub data IsStaying (p : Drawing) (target : Point) (after case : Known Tri Outcome) (scans : ℕ) (value : Bool) : Type 0 where
+  staying : IsSettled p target value case → (scans ≡ 0 → told target after ≡ three_known value) → IsStaying p target after case scans value
 
--- In the second list are some of the first: all that pass the test, and none without the property.
-pub record IsLeftBy (test : ℕ → Bool) (P : ℕ → Type 0) (bits left : List Bool) (removed : ℕ) : Type 0 where
-  pub within : (i : ℕ) → is_in left i ≡ true → is_in bits i ≡ true
-  pub holds : (i : ℕ) → is_in left i ≡ true → P i
-  pub kept : (i : ℕ) → is_in bits i ≡ true → test i ≡ true → is_in left i ≡ true
+-- The second list claims some of what the first does: all that is told, and nothing without the property.
+pub record IsLeftBy (telling : ℕ → Tri) (P : ℕ → Bool → Type 0) (bits left : List Tri) (removed : ℕ) : Type 0 where
+  pub within : (i : ℕ) (value : Bool) → claims left i ≡ three_known value → claims bits i ≡ three_known value
+  pub holds : (i : ℕ) (value : Bool) → claims left i ≡ three_known value → P i value
+  pub kept : (i : ℕ) (value : Bool) → claims bits i ≡ three_known value → telling i ≡ three_known value → claims left i ≡ three_known value
   pub length : length left ≡ length bits
   pub count : members left + removed ≡ members bits
   pub same : removed ≡ 0 → left ≡ bits
 
 -- The same where the first n have been tried.
-pub record IsLeftSoFar (test : ℕ → Bool) (P : ℕ → Type 0) (bits left : List Bool) (removed n : ℕ) : Type 0 where
-  pub within : (i : ℕ) → is_in left i ≡ true → is_in bits i ≡ true
-  pub holds : (i : ℕ) → i < n → is_in left i ≡ true → P i
-  pub kept : (i : ℕ) → is_in bits i ≡ true → test i ≡ true → is_in left i ≡ true
+pub record IsLeftSoFar (telling : ℕ → Tri) (P : ℕ → Bool → Type 0) (bits left : List Tri) (removed n : ℕ) : Type 0 where
+  pub within : (i : ℕ) (value : Bool) → claims left i ≡ three_known value → claims bits i ≡ three_known value
+  pub holds : (i : ℕ) (value : Bool) → i < n → claims left i ≡ three_known value → P i value
+  pub kept : (i : ℕ) (value : Bool) → claims bits i ≡ three_known value → telling i ≡ three_known value → claims left i ≡ three_known value
   pub length : length left ≡ length bits
   pub count : members left + removed ≡ members bits
   pub same : removed ≡ 0 → left ≡ bits

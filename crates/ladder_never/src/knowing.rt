@@ -1,9 +1,9 @@
-//! What is known of a state in which a set is OFF.
+//! What is known of a state in which a set is so.
 
 ghost use Rattle.std.specs.Prelude.{◌≡◌, length, map, replicate};
 ghost use Rattle.ladder_grid.specs.Program.{memories_of};
 ghost use Rattle.ladder_glance.specs.Sizes.{HasSizes};
-ghost use Rattle.ladder_never.specs.Never.{off_or_open, knowing, IsSetOf};
+ghost use Rattle.ladder_never.specs.Never.{knowing, IsSetOf};
 ghost use Rattle.ladder_never.specs.declared.answer.Answer.TheVariants as answer;
 ghost use Rattle.ladder_never.specs.declared.outcome.Outcome.TheVariants as outcome;
 ghost use Rattle.ladder_signals.specs.declared.tri.Tri.TheVariants.{Unsure};
@@ -15,18 +15,12 @@ use ladder_glance::Knowledge;
 use ladder_grid::Program;
 use ladder_signals::Tri;
 
-fn off_or_open(is_off: bool) -> Tri
-    ensures { result ≡ off_or_open is_off }
-{
-    if is_off { Tri::Off } else { Tri::Unsure }
-}
-
-fn know_values(variables: &[bool], known: &mut Knowledge<Tri, Outcome>)
+fn know_values(variables: &[Tri], known: &mut Knowledge<Tri, Outcome>)
     requires { length known.old.values ≡ length variables.now }
-    ensures { known.new ≡ record known.old { values = map off_or_open variables.now } }
+    ensures { known.new ≡ record known.old { values = variables.now } }
 {
     for var in 0..variables.len() {
-        known.put_value(var, off_or_open(variables[var]));
+        known.put_value(var, variables[var]);
     }
 }
 
@@ -39,20 +33,20 @@ fn open_memories(count: usize, known: &mut Knowledge<Tri, Outcome>)
     }
 }
 
-fn know_blocks(instances: &[bool], known: &mut Knowledge<Tri, Outcome>)
+fn know_blocks(instances: &[Tri], known: &mut Knowledge<Tri, Outcome>)
     requires { length known.old.blocks ≡ length instances.now }
-    ensures { known.new ≡ record known.old { blocks = map (λ b. outcome.OfKind (off_or_open b) answer.Open) instances.now } }
+    ensures { known.new ≡ record known.old { blocks = map (λ t. outcome.OfKind t answer.Open) instances.now } }
 {
     for inst in 0..instances.len() {
         let of_kind = Outcome::OfKind {
-            q: off_or_open(instances[inst]),
+            q: instances[inst],
             answer: Answer::Open,
         };
         known.keep(inst, of_kind);
     }
 }
 
-/// Becomes what is known of a state of the program in which each of the set is OFF.
+/// Becomes what is known of a state of the program in which all that the set claims is so.
 pub fn know(program: &Program, set: &Set, known: &mut Knowledge<Tri, Outcome>)
     requires set { IsSetOf program.now set.now }
     requires known { HasSizes program.now known.old }

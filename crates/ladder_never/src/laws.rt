@@ -4,10 +4,10 @@ ghost use Rattle.ladder_elements.specs.Relations.{AllowsAt, allows_kept};
 ghost use Rattle.ladder_elements.specs.Truth.{OnePlace};
 ghost use Rattle.ladder_known.specs.KnownScan.{plainly};
 ghost use Rattle.ladder_never.specs.Allowing.{KnowingAllows, SettledHolds};
-ghost use Rattle.ladder_never.specs.Cases.{AreNeverOn};
+ghost use Rattle.ladder_never.specs.Cases.{StaysForEver};
 ghost use Rattle.ladder_never.specs.OutcomeLaws.{knows_kept, outcomes_grow, outcomes_keep};
 ghost use Rattle.ladder_never.specs.Outcomes.{KnowsMore, MayStore, TellsMore, outcomes};
-ghost use Rattle.ladder_never.specs.Removing.{LeavesOff};
+ghost use Rattle.ladder_never.specs.Removing.{LeavesSo};
 ghost use Rattle.ladder_signals.specs.Three.{AnyTri, three, three_allows};
 ghost use Rattle.ladder_signals.specs.ThreeLaws.{three_allowed, three_lattice};
 
@@ -82,12 +82,12 @@ impl StepRelation for Further {
     ghost steps = { λ _ d. outcomes_grow d };
 }
 
-/// A set that a scan leaves OFF is OFF for ever.
+/// A set that a scan leaves so is so for ever.
 ///
-/// Scans over three values settle it, by cases, from what is known where each of the set is OFF: all other variables and Qs, all inputs and
-/// all memories are open. From a state of the program in which each is OFF, each is OFF after any scans, with any inputs and at any moments.
-pub fn never_on(program: &Program)
-    ensures { AreNeverOn program.now }
+/// Scans over three values settle it, by cases, from what is known where the set is so: all other variables and Qs, all inputs and all
+/// memories are open. From a state of the program in which it is so, it is so after any scans, with any inputs and at any moments.
+pub fn stays_for_ever(program: &Program)
+    ensures { StaysForEver program.now }
 {
     checked(program);
     scan_keeps::<Allowing>();
@@ -103,16 +103,16 @@ pub fn settled(program: &Program)
     known_is_scan(program);
 }
 
-/// All that is known where a set is OFF allows each state of the program in which it is, at any moment.
+/// All that is known where a set is so allows each state of the program in which it is, at any moment.
 pub fn knowing_allows(program: &Program)
     ensures { KnowingAllows program.now }
 {
     let _program = program;
 }
 
-/// What one scan leaves OFF of a set it leaves OFF of each larger one.
-pub(crate) fn leaves_off(program: &Program)
-    ensures { LeavesOff program.now }
+/// What one scan leaves so of a set it leaves so of each larger one.
+pub(crate) fn leaves_so(program: &Program)
+    ensures { LeavesSo program.now }
 {
     scan_keeps::<Further>();
     let _program = program;

@@ -1,4 +1,4 @@
-//! What can never come ON, whatever the inputs do.
+//! What stays OFF and what stays ON, whatever the inputs do.
 //!
 //! The modules `cases`, `choosing`, `knowing` and `pinning` are public for `ladder_possible` and `ladder_pairs`, which search by the same
 //! cases for a state that switches a coil on, and for pairs that are never both ON.
@@ -23,7 +23,7 @@ mod writers;
 
 pub use answer::Answer;
 pub use flow::Sight;
-pub use never::never_on;
+pub use never::never_changing;
 pub use outcome::Outcome;
 pub use point::Point;
 pub use set::Set;

@@ -1,20 +1,20 @@
-//! Removing what isn't settled to stay OFF.
+//! Removing what isn't settled to stay so.
 
-ghost use Rattle.std.specs.Prelude.{◌≡◌, ◌+◌, ◌≤◌, ℕ, [], length, slice_index_or, true, IsTrue};
+ghost use Rattle.std.specs.Prelude.{◌≡◌, ◌+◌, ◌≤◌, ℕ, Bool, [], length, slice_index_or, true, IsTrue};
 ghost use Rattle.ladder_scan.specs.Programs.{diagram_of};
 ghost use Rattle.ladder_known.specs.KnownScan.{after_known, kept_at};
 ghost use Rattle.ladder_glance.specs.Sizes.{HasSizes, IsSpareFor};
-ghost use Rattle.ladder_never.specs.Cases.{told, IsSettledOff};
-ghost use Rattle.ladder_never.specs.Never.{Bits, IsSetOf, IsWithin, StaysOff};
+ghost use Rattle.ladder_never.specs.Cases.{told, IsSettledSo};
+ghost use Rattle.ladder_never.specs.Never.{Bits, IsSetOf, IsWithin, Stays};
 ghost use Rattle.ladder_never.specs.Outcomes.{outcomes, q_known};
-ghost use Rattle.ladder_never.specs.Removing.{is_off, size, IsLeftBy, IsStaying};
+ghost use Rattle.ladder_never.specs.Removing.{size, IsLeftBy, IsStaying};
 ghost use Rattle.ladder_never.specs.declared.point.Point.TheVariants as point;
-ghost use Rattle.ladder_signals.specs.Three.{three};
-ghost use Rattle.ladder_signals.specs.declared.tri.Tri.TheVariants.{Off};
+ghost use Rattle.ladder_signals.specs.Three.{three, three_known};
+ghost use Rattle.ladder_signals.specs.declared.tri.Tri.TheVariants.{Unsure};
 
 use crate::cases::settle_value;
 use crate::knowing::know;
-use crate::laws::leaves_off;
+use crate::laws::leaves_so;
 use crate::outcome::Outcome;
 use crate::pinning::told;
 use crate::point::Point;
@@ -32,12 +32,13 @@ pub(crate) struct Space {
     pub(crate) room: Room<Tri>,
 }
 
-/// Whether the target stays in the set: `after` is what one scan leaves of what is known in the case. Where it is open, cases are tried, by
-/// at most so many scans.
+/// Whether the target is settled to have the wanted value after a scan from the case: `after` is what one scan leaves of what is known in
+/// it. Where that is open, cases are tried, by at most so many scans.
 fn stays(
     program: &Program,
     writers: &Writers,
     target: Point,
+    wanted: bool,
     after: &Knowledge<Tri, Outcome>,
     space: &mut Space,
     scans: u32,
@@ -46,21 +47,21 @@ fn stays(
     requires trial { HasSizes program.now space.old.trial }
     requires room { IsSpareFor program.now space.old.room }
     requires after { after.now ≡ after_known three outcomes (diagram_of program.now) 0 [] space.old.case }
-    ensures stays { IsTrue result → IsStaying program.now target after.now space.old.case scans }
-    ensures off { is_off (told target after.now) ≡ true → IsTrue result }
+    ensures stays { IsTrue result → IsStaying program.now target after.now space.old.case scans wanted }
+    ensures told { told target after.now ≡ three_known wanted → IsTrue result }
     ensures case { space.new.case ≡ space.old.case }
     ensures trial { HasSizes program.now space.new.trial }
     ensures room { space.new.room ≡ space.old.room }
 {
     match told(target, after) {
-        Tri::Off => true,
-        Tri::On => false,
+        Tri::Off => !wanted,
+        Tri::On => wanted,
         Tri::Unsure => {
             let search = settle_value(
                 program,
                 writers,
                 target,
-                false,
+                wanted,
                 &mut space.case,
                 &mut space.trial,
                 &mut space.room,
@@ -71,20 +72,48 @@ fn stays(
     }
 }
 
-/// Leaves the variables that are settled to be OFF, and returns how many were removed.
+/// Whether what is claimed of the target is settled to be so after a scan from the case. Where nothing is, there is nothing to settle.
+fn keeps(
+    program: &Program,
+    writers: &Writers,
+    target: Point,
+    claim: Tri,
+    after: &Knowledge<Tri, Outcome>,
+    space: &mut Space,
+    scans: u32,
+) -> bool
+    requires case { HasSizes program.now space.old.case }
+    requires trial { HasSizes program.now space.old.trial }
+    requires room { IsSpareFor program.now space.old.room }
+    requires after { after.now ≡ after_known three outcomes (diagram_of program.now) 0 [] space.old.case }
+    ensures stays { IsTrue result → (value : Bool) → claim ≡ three_known value → IsStaying program.now target after.now space.old.case scans value }
+    ensures told { told target after.now ≡ claim → IsTrue result }
+    ensures open { claim ≡ Unsure → IsTrue result }
+    ensures case { space.new.case ≡ space.old.case }
+    ensures trial { HasSizes program.now space.new.trial }
+    ensures room { space.new.room ≡ space.old.room }
+{
+    match claim {
+        Tri::Off => stays(program, writers, target, false, after, space, scans),
+        Tri::On => stays(program, writers, target, true, after, space, scans),
+        Tri::Unsure => true,
+    }
+}
+
+/// Leaves what is claimed of variables and settled to stay so, and returns how many claims were removed.
 fn leave_variables(
     program: &Program,
     writers: &Writers,
     after: &Knowledge<Tri, Outcome>,
     space: &mut Space,
     scans: u32,
-    variables: &mut [bool],
+    variables: &mut [Tri],
 ) -> usize
     requires case { HasSizes program.now space.old.case }
     requires trial { HasSizes program.now space.old.trial }
     requires room { IsSpareFor program.now space.old.room }
     requires after { after.now ≡ after_known three outcomes (diagram_of program.now) 0 [] space.old.case }
-    ensures left { IsLeftBy (λ var. is_off (told (point.Variable var) after.now)) (λ var. IsStaying program.now (point.Variable var) after.now space.old.case scans) variables.old variables.new result }
+    ensures left { IsLeftBy (λ var. told (point.Variable var) after.now) (λ var. IsStaying program.now (point.Variable var) after.now space.old.case scans) variables.old variables.new result }
     ensures few { result ≤ length variables.old }
     ensures case { space.new.case ≡ space.old.case }
     ensures trial { HasSizes program.now space.new.trial }
@@ -92,28 +121,37 @@ fn leave_variables(
 {
     let mut removed = 0;
     for var in 0..variables.len() {
-        if variables[var] && !stays(program, writers, Point::Variable(var), after, space, scans) {
-            variables[var] = false;
+        let claim = variables[var];
+        if !keeps(
+            program,
+            writers,
+            Point::Variable(var),
+            claim,
+            after,
+            space,
+            scans,
+        ) {
+            variables[var] = Tri::Unsure;
             removed += 1;
         }
     }
     removed
 }
 
-/// Leaves the instances whose Q is settled to be OFF, and returns how many were removed.
+/// Leaves what is claimed of Qs and settled to stay so, and returns how many claims were removed.
 fn leave_instances(
     program: &Program,
     writers: &Writers,
     after: &Knowledge<Tri, Outcome>,
     space: &mut Space,
     scans: u32,
-    instances: &mut [bool],
+    instances: &mut [Tri],
 ) -> usize
     requires case { HasSizes program.now space.old.case }
     requires trial { HasSizes program.now space.old.trial }
     requires room { IsSpareFor program.now space.old.room }
     requires after { after.now ≡ after_known three outcomes (diagram_of program.now) 0 [] space.old.case }
-    ensures left { IsLeftBy (λ inst. is_off (told (point.Output inst) after.now)) (λ inst. IsStaying program.now (point.Output inst) after.now space.old.case scans) instances.old instances.new result }
+    ensures left { IsLeftBy (λ inst. told (point.Output inst) after.now) (λ inst. IsStaying program.now (point.Output inst) after.now space.old.case scans) instances.old instances.new result }
     ensures few { result ≤ length instances.old }
     ensures case { space.new.case ≡ space.old.case }
     ensures trial { HasSizes program.now space.new.trial }
@@ -121,15 +159,24 @@ fn leave_instances(
 {
     let mut removed = 0;
     for inst in 0..instances.len() {
-        if instances[inst] && !stays(program, writers, Point::Output(inst), after, space, scans) {
-            instances[inst] = false;
+        let claim = instances[inst];
+        if !keeps(
+            program,
+            writers,
+            Point::Output(inst),
+            claim,
+            after,
+            space,
+            scans,
+        ) {
+            instances[inst] = Tri::Unsure;
             removed += 1;
         }
     }
     removed
 }
 
-/// Leaves what is settled to be OFF after a scan from the set, and returns how many were removed.
+/// Leaves what is settled to be so after a scan from the set, and returns how many claims were removed.
 fn remove(
     program: &Program,
     writers: &Writers,
@@ -145,16 +192,16 @@ fn remove(
     requires room { IsSpareFor program.now space.old.room }
     ensures set { IsSetOf program.now set.new }
     ensures within { IsWithin set.new set.old }
-    ensures most { (other : Bits) → IsSetOf program.now other → StaysOff program.now other → IsWithin other set.old → IsWithin other set.new }
+    ensures most { (other : Bits) → IsSetOf program.now other → Stays program.now other → IsWithin other set.old → IsWithin other set.new }
     ensures removed { size set.new + result ≡ size set.old }
-    ensures settled { result ≡ 0 → IsSettledOff program.now set.new }
-    ensures plain { scans ≡ 0 → result ≡ 0 → StaysOff program.now set.new }
+    ensures settled { result ≡ 0 → IsSettledSo program.now set.new }
+    ensures plain { scans ≡ 0 → result ≡ 0 → Stays program.now set.new }
     ensures after { HasSizes program.now after.new }
     ensures case { HasSizes program.now space.new.case }
     ensures trial { HasSizes program.now space.new.trial }
     ensures room { IsSpareFor program.now space.new.room }
 {
-    leaves_off(program);
+    leaves_so(program);
     know(program, set, &mut space.case);
     after.copy_from(&space.case);
     scan_known(program, after, &[], 0, &mut space.room);
@@ -163,7 +210,7 @@ fn remove(
     variables + instances
 }
 
-/// Removes, again and again, what isn't settled to be OFF after a scan, until all that is left is.
+/// Removes, again and again, what isn't settled to be so after a scan, until all that is left is.
 pub(crate) fn settle(
     program: &Program,
     writers: &Writers,
@@ -179,9 +226,9 @@ pub(crate) fn settle(
     requires room { IsSpareFor program.now space.old.room }
     ensures set { IsSetOf program.now set.new }
     ensures within { IsWithin set.new set.old }
-    ensures most { (other : Bits) → IsSetOf program.now other → StaysOff program.now other → IsWithin other set.old → IsWithin other set.new }
-    ensures settled { IsSettledOff program.now set.new }
-    ensures plain { scans ≡ 0 → StaysOff program.now set.new }
+    ensures most { (other : Bits) → IsSetOf program.now other → Stays program.now other → IsWithin other set.old → IsWithin other set.new }
+    ensures settled { IsSettledSo program.now set.new }
+    ensures plain { scans ≡ 0 → Stays program.now set.new }
 {
     let mut removed = 1;
     while 0 < removed {

@@ -1,18 +1,21 @@
-//! A set of variables and of Qs.
+//! A set of what is claimed of variables and of Qs.
 
-ghost use Rattle.std.specs.Prelude.{◌≡◌, IfOk, false, length, replicate};
-ghost use Rattle.ladder_never.specs.Never.{is_in};
+ghost use Rattle.std.specs.Prelude.{◌≡◌, IfOk, length, replicate};
+ghost use Rattle.ladder_never.specs.Never.{claims};
+ghost use Rattle.ladder_signals.specs.declared.tri.Tri.TheVariants.{Unsure};
 
 use ladder_grid::Program;
 use ladder_scan::Memory;
+use ladder_signals::Tri;
 use std::alloc::Global;
 use std::marker::Model;
 
-/// Which variables, and the Qs of which instances, are in a set, each by its number in order of declaration.
+/// Of which variables, and of the Qs of which instances, it is claimed that they are OFF, or that they are ON, each by its number in order
+/// of declaration. Of the others, which are `Unsure`, nothing is claimed.
 #[derive(Drop)]
 pub struct Set {
-    pub(crate) variables: Vec<bool>,
-    pub(crate) instances: Vec<bool>,
+    pub(crate) variables: Vec<Tri>,
+    pub(crate) instances: Vec<Tri>,
 }
 
 impl Model for Set {
@@ -24,33 +27,33 @@ impl Model for Set {
 }
 
 impl Set {
-    /// A set of the program's variables and instances with none in it.
+    /// A set that claims nothing of the program's variables and instances.
     ///
     /// # Errors
     ///
     /// `Memory` when out of memory.
     pub fn none(alloc: Global, program: &Program) -> Result<Set, Memory>
-        ensures variables { IfOk result (λ z. z.variables ≡ replicate (length program.now.decls.vars) false) }
-        ensures instances { IfOk result (λ z. z.instances ≡ replicate (length program.now.decls.instances) false) }
+        ensures variables { IfOk result (λ z. z.variables ≡ replicate (length program.now.decls.vars) Unsure) }
+        ensures instances { IfOk result (λ z. z.instances ≡ replicate (length program.now.decls.instances) Unsure) }
     {
         let decls = program.decls();
         Ok(Set {
-            variables: vec![in alloc; false; decls.vars().len()]?,
-            instances: vec![in alloc; false; decls.instances().len()]?,
+            variables: vec![in alloc; Tri::Unsure; decls.vars().len()]?,
+            instances: vec![in alloc; Tri::Unsure; decls.instances().len()]?,
         })
     }
 
-    /// Whether a variable is in the set.
-    pub fn has_variable(&self, var: usize) -> bool
-        ensures { result ≡ is_in self.now.variables var }
+    /// What is claimed of a variable.
+    pub fn of_variable(&self, var: usize) -> Tri
+        ensures { result ≡ claims self.now.variables var }
     {
-        self.variables.get(var).copied().unwrap_or(false)
+        self.variables.get(var).copied().unwrap_or(Tri::Unsure)
     }
 
-    /// Whether the Q of an instance is in the set.
-    pub fn has_instance(&self, inst: usize) -> bool
-        ensures { result ≡ is_in self.now.instances inst }
+    /// What is claimed of the Q of an instance.
+    pub fn of_instance(&self, inst: usize) -> Tri
+        ensures { result ≡ claims self.now.instances inst }
     {
-        self.instances.get(inst).copied().unwrap_or(false)
+        self.instances.get(inst).copied().unwrap_or(Tri::Unsure)
     }
 }
