@@ -35,6 +35,9 @@ pub(crate) const NEVER_ABOUT: &str =
     "Lists the variables and outputs of blocks that can never come ON from the state on, \
      whatever the inputs do, with the places where they are drawn";
 
+pub(crate) const NEVER_OFF_HELP: &str =
+    "Lists the variables and outputs of blocks that are ON and can never go OFF, in place of what can never come ON";
+
 pub(crate) const IMPORT_ABOUT: &str =
     "Writes the program text of a ClassicLadder project, or says what of it can't be carried over";
 
@@ -56,7 +59,7 @@ pub(crate) const ALL_COILS_HELP: &str =
     "Lists each coil of the program, in a file of its own: FOLDER/NAME.csv, .txt with --terms, .st with --st; COIL is then left out";
 
 pub(crate) const PAIRS_HELP: &str =
-    "Lists pairs of variables and outputs of blocks of which never both are ON, in place of what can never come ON itself";
+    "Lists pairs of variables and outputs of blocks of which never both are ON, in place of what can never come ON";
 
 pub(crate) const RELEVANT_HELP: &str =
     "Lists the inputs that matter to the coil in this scan, in order of declaration: no other makes a difference; not with an INPUT";
@@ -153,7 +156,7 @@ pub(crate) const MUST_HELP: &str =
     "With --any: lists what leaves the coil ON from every state, at every moment, in place of from some one";
 
 pub(crate) const REACHABLE_HELP: &str =
-    "With --any: counts only states in which all is OFF that `ladder never` lists, and of no pair of `ladder never --pairs` both are ON, as in each state that the machine reaches";
+    "With --any: counts only states in which all is so that `ladder never` and `ladder never --off` list, and of no pair of `ladder never --pairs` both are ON, as in each state that the machine reaches";
 
 pub(crate) const LOOKS_HELP: &str =
     "With --any: how many scans a search for one row makes at most, up to 4294967295; without it 4096";

@@ -1,5 +1,5 @@
 -- From what is asked to how the request ends that asks it.
-use Rattle.std.proofs.Common.{◌≡◌, ◌⊎◌, Bool, true, false, List, ℕ, Option, inl, inr}
+use Rattle.std.proofs.Common.{◌≡◌, ◌⊎◌, Bool, true, false, List, ℕ, Option, inl, inr, subst, sym}
 use Rattle.std.specs.Prelude.{None, Some, string_bytes, unwrap_or}
 use Rattle.ladder_vars.specs.Decls.{Declared}
 use Rattle.ladder_grid.specs.Program.{Drawing}
@@ -15,7 +15,8 @@ use Rattle.ladder_words.specs.declared.request.Grouping.{Grouping}
 use Rattle.ladder_words.specs.declared.request.ListRequest.{ListRequest}
 use Rattle.ladder_lists.specs.Lists.{BreaksGroups, BreaksGroupsOf, BreaksList, BreaksOf, CountsGroups, CountsList, CountsOf, GroupCountsOf, HasListFault, IsAsked}
 use Rattle.ladder_lists.specs.Lists.{BreaksRelevant, HasRelevantFault, IsDecided, IsOnCoil, after_for}
-use Rattle.ladder_lists.specs.Lists.{BreaksNever, BreaksNeverBy, BreaksPairs, CountsNever, CountsNeverBy, CountsPairs, HasNeverFault}
+use Rattle.ladder_lists.specs.Lists.{BreaksNever, CountsNever, HasNeverFault}
+use Rattle.ladder_words.specs.declared.request.Excluded.{Excluded}
 use Rattle.ladder_words.specs.declared.request.NeverRequest.{NeverRequest}
 
 -- a refusal for another way to say the same
@@ -71,18 +72,11 @@ pub relevant_list_failed : (g : Given) (r : ListRequest) (after : Option ℕ) (g
 relevant_list_failed g r after grouping q old new is decided (inl h) = rw is (inl (refuses_as g _ _ old new (λ f has. inr (q, decided, has)) h))
 relevant_list_failed g r after grouping q old new is decided (inr h) = rw is (inr (q, decided, h))
 
--- ---- names that can never come ON, or pairs of names
+-- ---- what never changes
 
-pub done_pairs : (b : Bool) (g : Given) (r : NeverRequest) (out out' : WriteLog) (C : List ℕ → Type 0) → b ≡ true → CountsPairs g r out out' C → CountsNeverBy b g r out out' C
-done_pairs b g r out out' C is done = rw is done
+pub done_never : (e f : Excluded) (g : Given) (r : NeverRequest) (out out' : WriteLog) (C : List ℕ → Type 0) → e ≡ f → CountsNever f g r out out' C → CountsNever e g r out out' C
+done_never e f g r out out' C is done = subst (λ (x : Excluded). CountsNever x g r out out' C) (sym is) done
 
-pub done_names : (b : Bool) (g : Given) (r : NeverRequest) (out out' : WriteLog) (C : List ℕ → Type 0) → b ≡ false → CountsNever g r out out' C → CountsNeverBy b g r out out' C
-done_names b g r out out' C is done = rw is done
-
-pub failed_pairs : (b : Bool) (g : Given) (r : NeverRequest) (old new : Logs) → b ≡ true → Refuses g (HasNeverFault g) old new ⊎ BreaksPairs g r old new
-    → Refuses g (HasNeverFault g) old new ⊎ BreaksNeverBy b g r old new
-failed_pairs b g r old new is failed = rw is failed
-
-pub failed_names : (b : Bool) (g : Given) (r : NeverRequest) (old new : Logs) → b ≡ false → Refuses g (HasNeverFault g) old new ⊎ BreaksNever g r old new
-    → Refuses g (HasNeverFault g) old new ⊎ BreaksNeverBy b g r old new
-failed_names b g r old new is failed = rw is failed
+pub failed_never : (e f : Excluded) (g : Given) (r : NeverRequest) (old new : Logs) → e ≡ f → Refuses g (HasNeverFault g) old new ⊎ BreaksNever f g r old new
+    → Refuses g (HasNeverFault g) old new ⊎ BreaksNever e g r old new
+failed_never e f g r old new is failed = subst (λ (x : Excluded). Refuses g (HasNeverFault g) old new ⊎ BreaksNever x g r old new) (sym is) failed

@@ -23,7 +23,7 @@ of_program p false staying of = of
 pub states_of : (b off : Bool) (p : Drawing) (s : Standing) (staying : Option Staying) → IsStayingBy b p s staying → AreStatesOf p (counted off staying)
 states_of false off p s staying none = of_program p off staying (subst (λ (x : Option Staying). MayBeOf p x) (sym none) tt)
 states_of true off p s staying (known, same, is, reached) =
-    of_program p off staying (subst (λ (x : Option Staying). MayBeOf p x) (sym same) (record { off = is.off.set; apart = is.apart.outside }))
+    of_program p off staying (subst (λ (x : Option Staying). MayBeOf p x) (sym same) (record { set = is.steady.set; apart = is.apart.outside }))
 
 pub lists : (g : Given) (r : PossibleRequest) (q : Question) (c d : PossibleCursor) (rows : List PossibleCause) (Written : List ℕ → Type 0) → IsAskedOfAll g r q
     → refusal q None ≡ None → AsksFor r q c → Gave c rows d → Written (possible_text c.program c.listed rows) → ListsPossible g r Written

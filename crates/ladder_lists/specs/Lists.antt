@@ -29,9 +29,9 @@ use Rattle.ladder_class_text.specs.ClassText.{held_group_text, possible_group_te
 use Rattle.ladder_held.specs.declared.fault.HeldFault.{HeldFault}
 use Rattle.ladder_held.specs.declared.fault.HeldFault.TheVariants as held
 use Rattle.ladder_held.specs.declared.scans.Scans.{Scans}
-use Rattle.ladder_dead.specs.Dead.{dead_rows, dead_text}
-use Rattle.ladder_never.specs.Cases.{IsNever}
-use Rattle.ladder_never.specs.Never.{Bits, IsOff, after_each}
+use Rattle.ladder_steady_text.specs.SteadyText.{steady_rows, steady_text}
+use Rattle.ladder_never.specs.Cases.{IsSteady}
+use Rattle.ladder_never.specs.Never.{Bits, IsSo, after_each}
 use Rattle.ladder_never.specs.Never as never
 use Rattle.ladder_pair_text.specs.PairText.{pairs_text}
 use Rattle.ladder_pairs.specs.Pairs.{AreApart, ArePairs}
@@ -63,6 +63,8 @@ use Rattle.ladder_words.specs.declared.request.Grouping.{Grouping}
 use Rattle.ladder_words.specs.declared.request.InputOrder.{InputOrder}
 use Rattle.ladder_words.specs.declared.request.InputOrder.TheVariants as order
 use Rattle.ladder_words.specs.declared.request.ListRequest.{ListRequest}
+use Rattle.ladder_words.specs.declared.request.Excluded.{Excluded}
+use Rattle.ladder_words.specs.declared.request.Excluded.TheVariants as excluded
 use Rattle.ladder_words.specs.declared.request.NeverRequest.{NeverRequest}
 use Rattle.ladder_words.specs.declared.request.PossibleRequest.{PossibleRequest}
 use Rattle.ladder_setting.specs.Setting.{Given, HasSettingFault, IsSet}
@@ -314,46 +316,47 @@ abbrev pub BreaksHeldBy : Bool → Given → ListRequest → Scans → Logs → 
 BreaksHeldBy true = BreaksHeldGroups
 BreaksHeldBy false = BreaksHeld
 
--- ---- what can never come ON
+-- ---- what never changes
 
--- The names of some variables and blocks are written with the places where they are drawn, whole or as far as `Written` says. None is an
--- input, each is OFF in the state, and after any scans from there, with any inputs and at any moments.
-pub record ListsNever (g : Given) (Written : List ℕ → Type 0) : Type 0 where
+-- The names of some variables and blocks are written with the places where they are drawn, whole or as far as `Written` says: those that stay
+-- at this value, which is OFF or ON. None is an input, each has the value in the state, and after any scans from there, with any inputs and at
+-- any moments.
+pub record ListsSteady (value : Bool) (g : Given) (Written : List ℕ → Type 0) : Type 0 where
   pub program : Drawing
   pub state : Standing
   pub set : IsSet g program state
-  pub dead : Bits
-  pub settled : IsNever program state dead
-  pub off : (scans : List never.OneScan) → IsOff dead (after_each (diagram_of program) scans state.held)
-  pub rows : Written (dead_text program dead)
+  pub steady : Bits
+  pub settled : IsSteady program state steady
+  pub so : (scans : List never.OneScan) → IsSo steady (after_each (diagram_of program) scans state.held)
+  pub rows : Written (steady_text program steady value)
 
 -- A fault of the texts, or being out of memory.
 abbrev pub HasNeverFault : Given → ToolFault → Type 0
 HasNeverFault g f = HasSettingFault g f ⊎ (f ≡ fault.Memory)
 
 -- The rows were listed, and then their number is written: whole, or as far as `Counted` says.
-pub record CountsNever (g : Given) (r : NeverRequest) (out out' : WriteLog) (Counted : List ℕ → Type 0) : Type 0 where
-  pub list : ListsNever g (PutsAll out out')
-  pub count : Counted (unless_quiet r.quiet (held_line (length (dead_rows list.program list.dead))))
+pub record CountsSteady (value : Bool) (g : Given) (r : NeverRequest) (out out' : WriteLog) (Counted : List ℕ → Type 0) : Type 0 where
+  pub list : ListsSteady value g (PutsAll out out')
+  pub count : Counted (unless_quiet r.quiet (held_line (length (steady_rows list.program list.steady value))))
 
 -- Status 1: `out` failed at the rows, or `err` at their count.
-abbrev pub BreaksNever : Given → NeverRequest → Logs → Logs → Type 0
-BreaksNever g r old new =
-    (ListsNever g (PutsPrefix old.out new.out) × IsReported g old.err new.err fault.Write)
-    ⊎ CountsNever g r old.out new.out (PutsPrefix old.err new.err)
+abbrev pub BreaksSteady : Bool → Given → NeverRequest → Logs → Logs → Type 0
+BreaksSteady value g r old new =
+    (ListsSteady value g (PutsPrefix old.out new.out) × IsReported g old.err new.err fault.Write)
+    ⊎ CountsSteady value g r old.out new.out (PutsPrefix old.err new.err)
 
 -- ---- what is never ON together
 
--- Pairs of variables and outputs of blocks are written, whole or as far as `Written` says. None is an input or can never come ON, of no pair
--- both are ON in the state, and so it is after any scans from there, with any inputs and at any moments.
+-- Pairs of variables and outputs of blocks are written, whole or as far as `Written` says. None is an input or never changes, of no pair both
+-- are ON in the state, and so it is after any scans from there, with any inputs and at any moments.
 pub record ListsPairs (g : Given) (Written : List ℕ → Type 0) : Type 0 where
   pub program : Drawing
   pub state : Standing
   pub set : IsSet g program state
-  pub dead : Bits
-  pub settled : IsNever program state dead
+  pub steady : Bits
+  pub settled : IsSteady program state steady
   pub pairs : List Pair
-  pub are : ArePairs program state dead pairs
+  pub are : ArePairs program state steady pairs
   pub apart : (scans : List never.OneScan) → AreApart pairs (after_each (diagram_of program) scans state.held)
   pub rows : Written (pairs_text program pairs)
 
@@ -368,14 +371,16 @@ BreaksPairs g r old new =
     (ListsPairs g (PutsPrefix old.out new.out) × IsReported g old.err new.err fault.Write)
     ⊎ CountsPairs g r old.out new.out (PutsPrefix old.err new.err)
 
--- names, or pairs of them
-abbrev pub CountsNeverBy : Bool → Given → NeverRequest → WriteLog → WriteLog → (List ℕ → Type 0) → Type 0
-CountsNeverBy true = CountsPairs
-CountsNeverBy false = CountsNever
+-- what stays OFF where ON is shut out, what stays ON where OFF is, or pairs
+abbrev pub CountsNever : Excluded → Given → NeverRequest → WriteLog → WriteLog → (List ℕ → Type 0) → Type 0
+CountsNever excluded.On = CountsSteady false
+CountsNever excluded.Off = CountsSteady true
+CountsNever excluded.BothOn = CountsPairs
 
-abbrev pub BreaksNeverBy : Bool → Given → NeverRequest → Logs → Logs → Type 0
-BreaksNeverBy true = BreaksPairs
-BreaksNeverBy false = BreaksNever
+abbrev pub BreaksNever : Excluded → Given → NeverRequest → Logs → Logs → Type 0
+BreaksNever excluded.On = BreaksSteady false
+BreaksNever excluded.Off = BreaksSteady true
+BreaksNever excluded.BothOn = BreaksPairs
 
 -- ---- what some state switches on
 

@@ -1,30 +1,31 @@
-//! A request for what can never come ON.
+//! A request for what never changes.
 
 ghost use Rattle.std.specs.Prelude.{◌≡◌, ◌≤◌, ◌⊎◌};
 ghost use Rattle.ladder_scan.specs.Standing.{Fits};
 ghost use Rattle.ladder_text.specs.Log.{PutsAll, WriteLog};
 ghost use Rattle.ladder_setting.specs.Reports.{Refuses, logs};
-ghost use Rattle.ladder_lists.specs.Lists.{BreaksNever, BreaksNeverBy, CountsNever, CountsNeverBy, HasNeverFault};
+ghost use Rattle.ladder_lists.specs.Lists.{BreaksNever, BreaksSteady, CountsNever, CountsSteady, HasNeverFault};
 ghost use Rattle.ladder_setting.specs.Setting.{IsSet, given_by};
 
 use crate::holding::put_count;
 use crate::pairing::list_pairs;
-use ladder_dead::write_dead;
 use ladder_grid::Program;
-use ladder_never::never_on;
+use ladder_never::never_changing;
 use ladder_scan::State;
 use ladder_setting::{Texts, ToolFault, read_setting, report};
+use ladder_steady_text::write_steady;
 use ladder_text::Sink;
-use ladder_words::NeverRequest;
+use ladder_words::{Excluded, NeverRequest};
 use std::alloc::Global;
 
 /// How many scans may settle one variable or output of a block, in each round of the search.
 pub(crate) const SCANS: u32 = 1_000;
 
-/// Lists the names that can never come ON from a state on.
+/// Lists the names that stay at the value from a state on.
 fn list_from<O: Sink, E: Sink>(
     alloc: Global,
     request: &NeverRequest,
+    value: bool,
     program: &Program,
     state: &State,
     texts: &Texts,
@@ -34,15 +35,15 @@ fn list_from<O: Sink, E: Sink>(
     requires fits { Fits program.now state.now }
     requires set { IsSet (given_by texts.now) program.now state.now }
     ensures status { result ≤ 1 }
-    ensures done { result ≡ 0 → CountsNever (given_by texts.now) request.now (O.log out.old) (O.log out.new) (PutsAll (E.log err.old) (E.log err.new)) }
+    ensures done { result ≡ 0 → CountsSteady value (given_by texts.now) request.now (O.log out.old) (O.log out.new) (PutsAll (E.log err.old) (E.log err.new)) }
     ensures failed { (save : WriteLog) → result ≡ 1
         → Refuses (given_by texts.now) (HasNeverFault (given_by texts.now)) (logs (O.log out.old) save (E.log err.old)) (logs (O.log out.new) save (E.log err.new))
-        ⊎ BreaksNever (given_by texts.now) request.now (logs (O.log out.old) save (E.log err.old)) (logs (O.log out.new) save (E.log err.new)) }
+        ⊎ BreaksSteady value (given_by texts.now) request.now (logs (O.log out.old) save (E.log err.old)) (logs (O.log out.new) save (E.log err.new)) }
 {
-    let Ok(dead) = never_on(alloc, program, state, SCANS) else {
+    let Ok(steady) = never_changing(alloc, program, state, SCANS) else {
         return report(texts, &ToolFault::Memory, err);
     };
-    let Ok(rows) = write_dead(program, &dead, out) else {
+    let Ok(rows) = write_steady(program, &steady, value, out) else {
         return report(texts, &ToolFault::Write, err);
     };
     let Ok(()) = put_count(request.quiet, rows, err) else {
@@ -51,31 +52,32 @@ fn list_from<O: Sink, E: Sink>(
     0
 }
 
-/// Lists the names that can never come ON from the state of the texts on.
+/// Lists the names that stay at the value from the state of the texts on.
 fn list_names<O: Sink, E: Sink>(
     alloc: Global,
     request: &NeverRequest,
+    value: bool,
     texts: &Texts,
     out: &mut O,
     err: &mut E,
 ) -> u8
     ensures status { result ≤ 1 }
-    ensures done { result ≡ 0 → CountsNever (given_by texts.now) request.now (O.log out.old) (O.log out.new) (PutsAll (E.log err.old) (E.log err.new)) }
+    ensures done { result ≡ 0 → CountsSteady value (given_by texts.now) request.now (O.log out.old) (O.log out.new) (PutsAll (E.log err.old) (E.log err.new)) }
     ensures failed { (save : WriteLog) → result ≡ 1
         → Refuses (given_by texts.now) (HasNeverFault (given_by texts.now)) (logs (O.log out.old) save (E.log err.old)) (logs (O.log out.new) save (E.log err.new))
-        ⊎ BreaksNever (given_by texts.now) request.now (logs (O.log out.old) save (E.log err.old)) (logs (O.log out.new) save (E.log err.new)) }
+        ⊎ BreaksSteady value (given_by texts.now) request.now (logs (O.log out.old) save (E.log err.old)) (logs (O.log out.new) save (E.log err.new)) }
 {
     match read_setting(alloc, texts) {
         Ok(setting) => {
             let (program, state) = (&setting.program, &setting.state);
-            list_from(alloc, request, program, state, texts, out, err)
+            list_from(alloc, request, value, program, state, texts, out, err)
         }
         Err(fault) => report(texts, &fault, err),
     }
 }
 
-/// Lists what can never come ON from the state of the texts on: names, or pairs of names of which never both are ON, where these are asked
-/// for.
+/// Lists what never changes from the state of the texts on: names that never come ON, names that never go OFF, or pairs of names of which
+/// never both are ON, as the request says.
 pub fn list_never<O: Sink, E: Sink>(
     alloc: Global,
     request: &NeverRequest,
@@ -84,13 +86,14 @@ pub fn list_never<O: Sink, E: Sink>(
     err: &mut E,
 ) -> u8
     ensures status { result ≤ 1 }
-    ensures done { result ≡ 0 → CountsNeverBy request.now.pairs (given_by texts.now) request.now (O.log out.old) (O.log out.new) (PutsAll (E.log err.old) (E.log err.new)) }
+    ensures done { result ≡ 0 → CountsNever request.now.excluded (given_by texts.now) request.now (O.log out.old) (O.log out.new) (PutsAll (E.log err.old) (E.log err.new)) }
     ensures failed { (save : WriteLog) → result ≡ 1
         → Refuses (given_by texts.now) (HasNeverFault (given_by texts.now)) (logs (O.log out.old) save (E.log err.old)) (logs (O.log out.new) save (E.log err.new))
-        ⊎ BreaksNeverBy request.now.pairs (given_by texts.now) request.now (logs (O.log out.old) save (E.log err.old)) (logs (O.log out.new) save (E.log err.new)) }
+        ⊎ BreaksNever request.now.excluded (given_by texts.now) request.now (logs (O.log out.old) save (E.log err.old)) (logs (O.log out.new) save (E.log err.new)) }
 {
-    if request.pairs {
-        return list_pairs(alloc, request, texts, out, err);
+    match request.excluded {
+        Excluded::On => list_names(alloc, request, false, texts, out, err),
+        Excluded::Off => list_names(alloc, request, true, texts, out, err),
+        Excluded::BothOn => list_pairs(alloc, request, texts, out, err),
     }
-    list_names(alloc, request, texts, out, err)
 }

@@ -10,7 +10,7 @@ ghost use Rattle.ladder_setting.specs.Setting.{IsSet, given_by};
 use crate::holding::put_count;
 use crate::never::SCANS;
 use ladder_grid::Program;
-use ladder_never::never_on;
+use ladder_never::never_changing;
 use ladder_pair_text::write_pairs;
 use ladder_pairs::never_both;
 use ladder_scan::State;
@@ -40,10 +40,10 @@ fn list_from<O: Sink, E: Sink>(
         → Refuses (given_by texts.now) (HasNeverFault (given_by texts.now)) (logs (O.log out.old) save (E.log err.old)) (logs (O.log out.new) save (E.log err.new))
         ⊎ BreaksPairs (given_by texts.now) request.now (logs (O.log out.old) save (E.log err.old)) (logs (O.log out.new) save (E.log err.new)) }
 {
-    let Ok(dead) = never_on(alloc, program, state, SCANS) else {
+    let Ok(steady) = never_changing(alloc, program, state, SCANS) else {
         return report(texts, &ToolFault::Memory, err);
     };
-    let Ok(pairs) = never_both(alloc, program, state, &dead, PAIR_SCANS) else {
+    let Ok(pairs) = never_both(alloc, program, state, &steady, PAIR_SCANS) else {
         return report(texts, &ToolFault::Memory, err);
     };
     let Ok(rows) = write_pairs(program, &pairs, out) else {

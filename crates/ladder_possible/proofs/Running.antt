@@ -9,8 +9,8 @@ use Rattle.ladder_scan.specs.Standing.{Fits, IsStanding, Standing}
 use Rattle.ladder_scan.proofs.ByList.{scanned_is}
 use Rattle.ladder_scan.proofs.Possible.{after_sound, scanned_possible, scanned_shapes}
 use Rattle.ladder_scan.proofs.Sizes.{scan_lengths}
-use Rattle.ladder_never.specs.Cases.{AreNeverOn}
-use Rattle.ladder_never.specs.Never.{IsOff, OneScan, after_each}
+use Rattle.ladder_never.specs.Cases.{StaysForEver}
+use Rattle.ladder_never.specs.Never.{IsSo, OneScan, after_each}
 use Rattle.ladder_pairs.specs.Pairs.{AreApart, AreNeverBoth}
 use Rattle.ladder_possible.specs.Reached.{IsRun, RunsStay, reached}
 
@@ -58,15 +58,15 @@ module _ (p : Drawing) (sound : IsSound (diagram_of p)) where
   stands_after [] s standing run = standing
   stands_after (scan ∷ more) s standing run = stands_after more (next p scan s) (next_stands scan s standing run.0 run.1) run.2
 
-pub runs_stay : (p : Drawing) → IsSound (diagram_of p) → AreNeverOn p → AreNeverBoth p → RunsStay p
+pub runs_stay : (p : Drawing) → IsSound (diagram_of p) → StaysForEver p → AreNeverBoth p → RunsStay p
 runs_stay p sound never both s fits standing staying is scans run =
     let held = held_is p scans s in
     record {
       fits = fits_after p sound scans s fits;
       standing = stands_after p sound scans s standing run;
       stays = record {
-        off = subst (λ (h : Held). IsOff staying.off h) (sym held) (never s fits standing staying.off is.off.set is.off.settled is.off.off scans);
+        so = subst (λ (h : Held). IsSo staying.steady h) (sym held) (never s fits standing staying.steady is.steady.set is.steady.settled is.steady.so scans);
         apart = subst (λ (h : Held). AreApart staying.apart h) (sym held)
-            (both s fits standing staying.off is.off.set is.off.settled is.off.off staying.apart is.apart scans);
+            (both s fits standing staying.steady is.steady.set is.steady.settled is.steady.so staying.apart is.apart scans);
       };
     }

@@ -4,7 +4,7 @@ use Rattle.ladder_grid.specs.Program.{Drawing}
 use Rattle.ladder_scan.specs.Programs.{diagram_of}
 use Rattle.ladder_scan.specs.Scan.{after_scan}
 use Rattle.ladder_scan.specs.Standing.{Standing, Fits, IsStanding}
-use Rattle.ladder_never.specs.Cases.{IsNever}
+use Rattle.ladder_never.specs.Cases.{IsSteady}
 use Rattle.ladder_never.specs.Never.{OneScan}
 use Rattle.ladder_pairs.specs.Pairs.{ArePairs}
 use Rattle.ladder_possible.specs.Possible.{StaysSo}
@@ -29,10 +29,10 @@ pub record IsReached (p : Drawing) (staying : Staying) (s : Standing) : Type 0 w
 abbrev pub AreReached : Drawing → Standing → Staying → Type 0
 AreReached p s staying = (scans : List OneScan) → IsRun s.moment scans → IsReached p staying (reached p scans s)
 
--- The set is settled to stay OFF from this state on, and the pairs to stay apart.
+-- All that the set claims is settled to stay so from this state on, and the pairs to stay apart.
 pub record IsStaying (p : Drawing) (s : Standing) (staying : Staying) : Type 0 where
-  pub off : IsNever p s staying.off
-  pub apart : ArePairs p s staying.off staying.apart
+  pub steady : IsSteady p s staying.steady
+  pub apart : ArePairs p s staying.steady staying.apart
 
 -- So it is then so in each state that a run reaches.
 abbrev pub RunsStay : Drawing → Type 0

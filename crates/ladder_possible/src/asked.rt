@@ -38,7 +38,7 @@ pub(crate) struct Space {
 /// What is known in a search.
 #[derive(Drop)]
 pub(crate) struct Knowing {
-    /// Nothing is in it: what is known where it is OFF is what is known of any state.
+    /// It claims nothing: what is known where it is so is what is known of any state.
     pub none: Set,
     /// What is known before a scan.
     pub case: Knowledge<Tri, Outcome>,

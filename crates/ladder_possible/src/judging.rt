@@ -5,7 +5,7 @@ ghost use Rattle.ladder_questions.specs.Listable.{IsListable};
 ghost use Rattle.ladder_never.specs.Never.{knowing};
 ghost use Rattle.ladder_glance.specs.Sizes.{AreAsLong};
 ghost use Rattle.ladder_possible.specs.Numbers.{IsBegun, MayKnowCoil, NoneLeaves};
-ghost use Rattle.ladder_possible.specs.Possible.{AreStatesOf, SomeLeaves, off_in};
+ghost use Rattle.ladder_possible.specs.Possible.{AreStatesOf, SomeLeaves, set_in};
 ghost use Rattle.ladder_possible.specs.Searching.{IsKnowing, IsSpace};
 ghost use Rattle.ladder_possible.specs.declared.judging.Verdict.TheVariants.{Never, Found};
 
@@ -46,27 +46,27 @@ fn know_coil(asked: Asked<'_>, known: &mut Knowledge<Tri, Outcome>)
     }
 }
 
-/// Knows what stays OFF, where only such states count, and nothing else.
+/// Knows what never changes, where only such states count, and nothing else.
 fn know_set(asked: Asked<'_>, known: &mut Knowing)
     requires states { AreStatesOf asked.program.now asked.states.now }
     requires known { IsKnowing asked.program.now known.old }
-    ensures case { known.new.case ≡ knowing asked.entry.program.now (off_in asked.entry.states.now.staying known.new.none) }
+    ensures case { known.new.case ≡ knowing asked.entry.program.now (set_in asked.entry.states.now.staying known.new.none) }
     ensures known { IsKnowing asked.entry.program.now known.new }
 {
     match &asked.states.staying {
-        Some(staying) => know(asked.program, &staying.off, &mut known.case),
+        Some(staying) => know(asked.program, &staying.steady, &mut known.case),
         None => know(asked.program, &known.none, &mut known.case),
     }
 }
 
-/// Knows what the number gives the listed inputs, but for those of its last bits, which are open, that the coil is OFF and what stays OFF, where
+/// Knows what the number gives the listed inputs, but for those of its last bits, which are open, that the coil is OFF and what never changes, where
 /// only such states count, and nothing else.
 fn begin(asked: Asked<'_>, open_bits: u32, space: &mut Space)
     requires listable { IsListable asked.program.now asked.coil asked.listed.now }
     requires states { AreStatesOf asked.program.now asked.states.now }
     requires space { IsSpace asked.program.now space.old }
     ensures begun { IsBegun asked.entry.program.now asked.entry.coil asked.entry.listed.now asked.entry.states.now.before open_bits asked.entry.number
-        (knowing asked.entry.program.now (off_in asked.entry.states.now.staying space.new.knowing.none)) space.new.knowing.case }
+        (knowing asked.entry.program.now (set_in asked.entry.states.now.staying space.new.knowing.none)) space.new.knowing.case }
     ensures space { IsSpace asked.entry.program.now space.new }
 {
     let known = &mut space.knowing;

@@ -3,7 +3,7 @@
 ghost use Rattle.ladder_possible.specs.Reached.{RunsStay};
 
 use ladder_grid::Program;
-use ladder_never::laws::never_on;
+use ladder_never::laws::stays_for_ever;
 use ladder_pairs::laws::never_both;
 use ladder_scan::scene::checked;
 
@@ -15,6 +15,6 @@ pub fn reached(program: &Program)
     ensures { RunsStay program.now }
 {
     checked(program);
-    never_on(program);
+    stays_for_ever(program);
     never_both(program);
 }

@@ -1,9 +1,10 @@
 //! Which states count.
 
-ghost use Rattle.std.specs.Prelude.{◌≡◌, ◌<◌, ℕ, IsTrue, false, length, slice_index_or, true};
+ghost use Rattle.std.specs.Prelude.{◌≡◌, ◌<◌, ℕ, Bool, IsTrue, false, length, slice_index_or};
 ghost use Rattle.ladder_vars.specs.declared.kind.BlockKind.TheVariants.{Ton};
 ghost use Rattle.ladder_elements.specs.Blocks.{new_block, q_of};
-ghost use Rattle.ladder_never.specs.Never.{IsOff, is_in};
+ghost use Rattle.ladder_never.specs.Never.{IsSo, claims};
+ghost use Rattle.ladder_signals.specs.Three.{three_known};
 ghost use Rattle.ladder_possible.specs.Possible.{AreStatesOf, Counts, IsBefore, IsStayingOf, MayStay, StaysSo, pairs_of};
 
 use crate::before::Before;
@@ -11,12 +12,13 @@ use ladder_grid::Program;
 use ladder_never::Set;
 use ladder_pairs::{Pair, Pairs};
 use ladder_scan::State;
+use ladder_signals::Tri;
 
 /// What stays so in each state that a run reaches.
 #[derive(Drop)]
 pub struct Staying {
-    /// What is OFF.
-    pub off: Set,
+    /// What is OFF, and what is ON.
+    pub steady: Set,
     /// Pairs of which not both are ON.
     pub apart: Pairs,
 }
@@ -40,40 +42,52 @@ fn is_before(before: Before, coil: usize, state: &State) -> bool
     }
 }
 
-/// Whether each of the first variables that is in the set is OFF.
-fn are_variables_off(set: &Set, variables: usize, state: &State) -> bool
-    ensures { IsTrue result → (var : ℕ) → var < variables → is_in set.now.variables var ≡ true → slice_index_or state.now.held.values var false ≡ false }
+/// Whether it may have the value by what is claimed of it.
+fn allows(claim: Tri, value: bool) -> bool
+    ensures { IsTrue result → (claimed : Bool) → claim ≡ three_known claimed → value ≡ claimed }
+{
+    match claim {
+        Tri::On => value,
+        Tri::Off => !value,
+        Tri::Unsure => true,
+    }
+}
+
+/// Whether each of the first variables has the value that the set claims.
+fn are_variables_so(set: &Set, variables: usize, state: &State) -> bool
+    ensures { IsTrue result → (var : ℕ) → var < variables → (value : Bool) → claims set.now.variables var ≡ three_known value
+        → slice_index_or state.now.held.values var false ≡ value }
 {
     for var in 0..variables {
-        if set.has_variable(var) && state.value_or_off(var) {
+        if !allows(set.of_variable(var), state.value_or_off(var)) {
             return false;
         }
     }
     true
 }
 
-/// Whether the Q of each of the first instances that is in the set is OFF.
-fn are_instances_off(set: &Set, instances: usize, state: &State) -> bool
-    ensures { IsTrue result → (inst : ℕ) → inst < instances → is_in set.now.instances inst ≡ true
-        → q_of (slice_index_or state.now.held.kept.blocks inst (new_block Ton)) ≡ false }
+/// Whether the Q of each of the first instances has the value that the set claims.
+fn are_instances_so(set: &Set, instances: usize, state: &State) -> bool
+    ensures { IsTrue result → (inst : ℕ) → inst < instances → (value : Bool) → claims set.now.instances inst ≡ three_known value
+        → q_of (slice_index_or state.now.held.kept.blocks inst (new_block Ton)) ≡ value }
 {
     for inst in 0..instances {
-        if set.has_instance(inst) && state.stored(inst).q() {
+        if !allows(set.of_instance(inst), state.stored(inst).q()) {
             return false;
         }
     }
     true
 }
 
-/// Whether the set is OFF.
-fn is_off(program: &Program, set: &Set, state: &State) -> bool
+/// Whether all that the set claims is so.
+fn is_so(program: &Program, set: &Set, state: &State) -> bool
     requires variables { length set.now.variables ≡ length program.now.decls.vars }
     requires instances { length set.now.instances ≡ length program.now.decls.instances }
-    ensures { IsTrue result → IsOff set.now state.now.held }
+    ensures { IsTrue result → IsSo set.now state.now.held }
 {
     let decls = program.decls();
-    are_variables_off(set, decls.vars().len(), state)
-        && are_instances_off(set, decls.instances().len(), state)
+    are_variables_so(set, decls.vars().len(), state)
+        && are_instances_so(set, decls.instances().len(), state)
 }
 
 /// Whether it is so what stays so.
@@ -81,7 +95,7 @@ fn stays_so(program: &Program, staying: &Staying, state: &State) -> bool
     requires { IsStayingOf program.now staying.now }
     ensures { IsTrue result → StaysSo staying.now state.now.held }
 {
-    is_off(program, &staying.off, state) && staying.apart.are_apart(state)
+    is_so(program, &staying.steady, state) && staying.apart.are_apart(state)
 }
 
 /// The same, where anything is to.

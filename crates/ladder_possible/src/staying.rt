@@ -7,13 +7,13 @@ ghost use Rattle.ladder_possible.specs.Reached.{AreReached, IsStaying};
 use crate::laws;
 use crate::states::Staying;
 use ladder_grid::Program;
-use ladder_never::never_on;
+use ladder_never::never_changing;
 use ladder_pairs::never_both;
 use ladder_scan::{Memory, State};
 use std::alloc::Global;
 
-/// What stays so in each state that a run from the state reaches: what is never ON, as [`never_on`] finds it with so many `scans`, and the pairs
-/// of which never both are ON, as [`never_both`] finds them with so many `pair_scans`.
+/// What stays so in each state that a run from the state reaches: what never changes, as [`never_changing`] finds it with so many `scans`, and the
+/// pairs of which never both are ON, as [`never_both`] finds them with so many `pair_scans`.
 ///
 /// # Errors
 ///
@@ -31,7 +31,7 @@ pub fn staying_from(
 {
     laws::reached(program);
     state.checked();
-    let off = never_on(alloc, program, state, scans)?;
-    let apart = never_both(alloc, program, state, &off, pair_scans)?;
-    Ok(Staying { off, apart })
+    let steady = never_changing(alloc, program, state, scans)?;
+    let apart = never_both(alloc, program, state, &steady, pair_scans)?;
+    Ok(Staying { steady, apart })
 }

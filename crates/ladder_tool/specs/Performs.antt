@@ -10,7 +10,7 @@ use Rattle.ladder_words.specs.declared.request.Request.TheVariants as request
 use Rattle.ladder_setting.specs.Setting.{Given, HasProgramFault, HasSettingFault}
 use Rattle.ladder_setting.specs.Reports.{IsReported, Logs, Refuses}
 use Rattle.ladder_carry.specs.Carrying.{BreaksCarrying, Carries}
-use Rattle.ladder_lists.specs.Lists.{BreaksGroups, BreaksHeldBy, BreaksList, BreaksNeverBy, BreaksPart, BreaksPossibleBy, BreaksProgress, BreaksRelevant, CountsGroups, CountsHeldBy, CountsList, CountsNeverBy, CountsPart, CountsPossibleBy, CountsProgress, CountsRelevant, HasHeldFaultBy, HasListFault, HasNeverFault, HasPartFault, HasPossibleFaultBy, HasProgressFault, HasRelevantFault, after_for, scans_of}
+use Rattle.ladder_lists.specs.Lists.{BreaksGroups, BreaksHeldBy, BreaksList, BreaksNever, BreaksPart, BreaksPossibleBy, BreaksProgress, BreaksRelevant, CountsGroups, CountsHeldBy, CountsList, CountsNever, CountsPart, CountsPossibleBy, CountsProgress, CountsRelevant, HasHeldFaultBy, HasListFault, HasNeverFault, HasPartFault, HasPossibleFaultBy, HasProgressFault, HasRelevantFault, after_for, scans_of}
 use Rattle.ladder_views.specs.Views.{BreaksFilm, BreaksTrace, BreaksWatch, BreaksWaves, HasFilmFault, HasShowFault, HasWatchFault, IsFilmed, IsTraced, IsWatched, IsWaved, Prints, Shows, check_text}
 
 -- Status 0. Only a simulation writes on `save`, and only a list on `err`.
@@ -20,7 +20,7 @@ IsDone (Causes list after None) g old new = CountsList g list after old.out new.
 IsDone (Causes list after (Some last)) g old new = CountsPart g list after last old.out new.out (PutsAll old.err new.err) × (new.save ≡ old.save)
 IsDone (request.Progress list after upto) g old new = CountsProgress g list after upto old new × (new.save ≡ old.save)
 IsDone (Held list scans every grouped) g old new = CountsHeldBy grouped g list (scans_of scans every) old.out new.out (PutsAll old.err new.err) × (new.save ≡ old.save)
-IsDone (request.Never r) g old new = CountsNeverBy r.pairs g r old.out new.out (PutsAll old.err new.err) × (new.save ≡ old.save)
+IsDone (request.Never r) g old new = CountsNever r.excluded g r old.out new.out (PutsAll old.err new.err) × (new.save ≡ old.save)
 IsDone (request.Possible r) g old new = CountsPossibleBy r.grouped g r old.out new.out (PutsAll old.err new.err) × (new.save ≡ old.save)
 IsDone (Groups list grouping) g old new = CountsGroups g list grouping old.out new.out (PutsAll old.err new.err) × (new.save ≡ old.save)
 IsDone (request.Relevant list after grouping) g old new = CountsRelevant g list after grouping old.out new.out (PutsAll old.err new.err) × (new.save ≡ old.save)
@@ -59,7 +59,7 @@ Breaks (Causes list after None) g old new = BreaksList g list after old new × (
 Breaks (Causes list after (Some last)) g old new = BreaksPart g list after last old new × (new.save ≡ old.save)
 Breaks (request.Progress list after upto) g old new = BreaksProgress g list after upto old new × (new.save ≡ old.save)
 Breaks (Held list scans every grouped) g old new = BreaksHeldBy grouped g list (scans_of scans every) old new × (new.save ≡ old.save)
-Breaks (request.Never r) g old new = BreaksNeverBy r.pairs g r old new × (new.save ≡ old.save)
+Breaks (request.Never r) g old new = BreaksNever r.excluded g r old new × (new.save ≡ old.save)
 Breaks (request.Possible r) g old new = BreaksPossibleBy r.grouped g r old new × (new.save ≡ old.save)
 Breaks (Groups list grouping) g old new = BreaksGroups g list grouping old new × (new.save ≡ old.save)
 Breaks (request.Relevant list after grouping) g old new = BreaksRelevant g list after grouping old new × (new.save ≡ old.save)

@@ -3,7 +3,7 @@ use Rattle.std.proofs.Common.{◌≡◌, ◌∙◌, ◌++◌, ℕ, Bool, true, f
 use Rattle.std.specs.List.{list_all}
 use Rattle.clap.specs.Words.{Row, Text, all_of, first_of}
 use Rattle.ladder_pages.specs.Pages.{is_fault_code}
-use Rattle.ladder_words.specs.Asking.{Asks, AsksNone, HasCoil, HasEvery, HasNoTask, HasFlag, HasForm, HasInputs, HasLasting, HasNumber, HasOption, HasScans, HasSwitch, HasWatched, HasOrder, IsNamed, IsOfOneState, IsSingle, IsTable, MayGroup, MayHaveLimit, NamesCauses, NamesList, NamesTrace, input_texts, inputs_for}
+use Rattle.ladder_words.specs.Asking.{Asks, AsksNone, HasCoil, HasEvery, HasExcluded, HasNoTask, HasFlag, HasForm, HasInputs, HasLasting, HasNumber, HasOption, HasScans, HasSwitch, HasWatched, HasOrder, IsNamed, IsOfOneState, IsSingle, IsTable, MayGroup, MayHaveLimit, NamesCauses, NamesList, NamesTrace, input_texts, inputs_for}
 use Rattle.ladder_words.specs.Parts.{HasGrouping, IsOfAnyState, IsOfOneScan, IsOfRecords, IsUncut, IsWhole, MayLast, NamesNoEnd, NamesNoStates, NamesScan, Plays}
 use Rattle.ladder_words.specs.Faults.{UsageWhere}
 use Rattle.ladder_words.specs.declared.request.Form.{Form}
@@ -21,6 +21,7 @@ use Rattle.ladder_words.specs.declared.request.SimRequest.{SimRequest}
 use Rattle.ladder_words.specs.declared.request.WatchRequest.{WatchRequest}
 use Rattle.ladder_words.specs.declared.request.WavesRequest.{WavesRequest}
 use Rattle.ladder_words.specs.declared.request.PossibleRequest.{PossibleRequest}
+use Rattle.ladder_words.specs.declared.request.Excluded.{Excluded}
 use Rattle.ladder_words.specs.declared.request.NeverRequest.{NeverRequest}
 use Rattle.ladder_words.specs.declared.lasting.Lasting.TheVariants.{Count, Until}
 use Rattle.ladder_words.specs.declared.request.Request.TheVariants.{Causes, Check, Film, Groups, Held, Import, Never, Possible, Progress, Relevant, Show, Sim, Uses, Watch, Waves}
@@ -508,6 +509,9 @@ pub no_waves_of_watched : (rows : List Row) → HasFlag (codes "vcd") rows → (
 no_waves_of_watched rows vcd none = only_sim rows (λ r h. h.1 vcd) (λ r h. h.1 vcd) (λ r h. none h.7)
 
 -- what is read of a file that is not named
+pub no_excluded : (rows : List Row) → ((e : Excluded) → HasExcluded e rows → ⊥) → AsksNone (codes "never") rows
+no_excluded rows none = only_never rows (λ r h. none r.excluded h.2)
+
 pub no_never : (rows : List Row) → first_of (codes "file") rows ≡ None → AsksNone (codes "never") rows
 no_never rows none = only_never rows (λ r h. let some = h.3 in cc)
 

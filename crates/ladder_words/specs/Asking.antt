@@ -8,6 +8,8 @@ use Rattle.ladder_pages.specs.Pages.{is_fault_code}
 use Rattle.ladder_words.specs.declared.parts.TheConstants.{EVERY}
 use Rattle.ladder_words.specs.declared.lasting.Lasting.{Lasting}
 use Rattle.ladder_words.specs.declared.lasting.Lasting.TheVariants.{Count, Until}
+use Rattle.ladder_words.specs.declared.request.Excluded.{Excluded}
+use Rattle.ladder_words.specs.declared.request.Excluded.TheVariants as excluded
 use Rattle.ladder_words.specs.declared.request.Form.{Form}
 use Rattle.ladder_words.specs.declared.request.Form.TheVariants.{Statement, Table, Terms}
 use Rattle.ladder_words.specs.declared.request.Grouping.{Grouping}
@@ -50,6 +52,12 @@ abbrev pub HasForm : Form → List Row → Type 0
 HasForm Table rows = (HasFlag (codes "terms") rows → ⊥) × (HasFlag (codes "st") rows → ⊥)
 HasForm Terms rows = HasFlag (codes "terms") rows × (HasFlag (codes "st") rows → ⊥)
 HasForm Statement rows = (HasFlag (codes "terms") rows → ⊥) × HasFlag (codes "st") rows
+
+-- What is to be shut out for ever: that a name comes ON, where no word says otherwise.
+abbrev pub HasExcluded : Excluded → List Row → Type 0
+HasExcluded excluded.On rows = (HasFlag (codes "off") rows → ⊥) × (HasFlag (codes "pairs") rows → ⊥)
+HasExcluded excluded.Off rows = HasFlag (codes "off") rows × (HasFlag (codes "pairs") rows → ⊥)
+HasExcluded excluded.BothOn rows = (HasFlag (codes "off") rows → ⊥) × HasFlag (codes "pairs") rows
 
 -- how a drawing is to be written
 abbrev pub HasMedium : Medium → List Row → Type 0
@@ -235,7 +243,7 @@ Asks name rows (Relevant list after grouping) = (name ≡ codes "causes")
     × (HasFlag (codes "progress") rows → ⊥)
 Asks name rows (Never r) = (name ≡ codes "never")
     × HasOption (codes "state") rows (option_map string_bytes r.state)
-    × HasSwitch (codes "pairs") rows r.pairs
+    × HasExcluded r.excluded rows
     × HasSwitch (codes "quiet") rows r.quiet
     × HasText (codes "file") rows (string_bytes r.file)
 Asks name rows (Show r) = (name ≡ codes "show")

@@ -12,7 +12,7 @@ mod simulating;
 mod words;
 
 pub use request::{
-    AllCoils, CommandLine, FilmRequest, Form, Grouping, InputOrder, ListRequest, Medium,
+    AllCoils, CommandLine, Excluded, FilmRequest, Form, Grouping, InputOrder, ListRequest, Medium,
     NeverRequest, PossibleRequest, Request, ShowRequest, SimRequest, Task, WatchRequest,
     WavesRequest, WordFault,
 };

@@ -88,13 +88,24 @@ pub struct PossibleRequest {
     pub inputs: Vec<String>,
 }
 
-/// What a request for what can never come ON names.
+/// What is shut out for ever by what is listed.
+#[derive(Clone, Copy, Debug, PartialEq, Eq)]
+pub enum Excluded {
+    /// That a name comes ON.
+    On,
+    /// That a name goes OFF.
+    Off,
+    /// That both names of a pair are ON.
+    BothOn,
+}
+
+/// What a request for what never changes names.
 #[derive(Drop)]
 pub struct NeverRequest {
     /// The file of the state from which on it is asked; the fresh one where there is none.
     pub state: Option<String>,
-    /// Whether pairs are asked for of which never both are ON, in place of what can never come ON itself.
-    pub pairs: bool,
+    /// What is to be shut out for ever.
+    pub excluded: Excluded,
     /// Whether the number of rows isn't told.
     pub quiet: bool,
     /// The file of the program text.
@@ -243,7 +254,7 @@ pub enum Request {
         /// The file of the program text.
         file: String,
     },
-    /// What can never come ON from a state on.
+    /// What never changes from a state on.
     Never(NeverRequest),
     /// The program text of a ClassicLadder project.
     Import {

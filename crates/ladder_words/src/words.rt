@@ -6,13 +6,13 @@ ghost use Rattle.clap.specs.Words.{Text, found_of, kind_of, rows_of, subcommand_
 ghost use Rattle.clap.specs.Words.{fault_of as clap_fault};
 ghost use Rattle.ladder_command.specs.CommandLine.{ladder_app};
 ghost use Rattle.ladder_pages.specs.Pages.{is_fault_code};
-ghost use Rattle.ladder_words.specs.Asking.{Asks, AsksBy, AsksNone, HasNoTask, HasTask, Says};
+ghost use Rattle.ladder_words.specs.Asking.{Asks, AsksBy, AsksNone, HasExcluded, HasNoTask, HasTask, Says};
 ghost use Rattle.ladder_words.specs.Faults.{IsFaultOf, SaysOf, UsageWhere};
 
 use crate::causes::causes_request;
 use crate::found::{is_set, optional, text, texts};
 use crate::parts::{Sources, sources_of};
-use crate::request::{AllCoils, CommandLine, NeverRequest, Request, Task, WordFault};
+use crate::request::{AllCoils, CommandLine, Excluded, NeverRequest, Request, Task, WordFault};
 use crate::showing::show_request;
 use crate::simulating::sim_request;
 use clap::ArgMatches;
@@ -174,16 +174,29 @@ fn import_request(alloc: Global, found: &ArgMatches<'_>) -> Result<Request, Word
     Ok(Request::Import { file })
 }
 
+/// What the flags ask to be shut out for ever.
+fn excluded_of(found: &ArgMatches<'_>) -> Result<Excluded, WordFault>
+    ensures ok { IfOk result (λ e. HasExcluded e (rows_of (found_of found.now))) }
+    ensures err { IfErr result (UsageWhere ((e : Excluded) → HasExcluded e (rows_of (found_of found.now)) → ⊥)) }
+{
+    match (is_set(found, "off"), is_set(found, "pairs")) {
+        (false, false) => Ok(Excluded::On),
+        (true, false) => Ok(Excluded::Off),
+        (false, true) => Ok(Excluded::BothOn),
+        (true, true) => Err(WordFault::Usage),
+    }
+}
+
 fn never_request(alloc: Global, found: &ArgMatches<'_>) -> Result<Request, WordFault>
     ensures ok { IfOk result (Asks (codes "never") (rows_of (found_of found.now))) }
     ensures err { IfErr result (UsageWhere (AsksNone (codes "never") (rows_of (found_of found.now)))) }
 {
-    let pairs = is_set(found, "pairs");
+    let excluded = excluded_of(found)?;
     let quiet = is_set(found, "quiet");
     let Sources { state, file } = sources_of(alloc, found)?;
     Ok(Request::Never(NeverRequest {
         state,
-        pairs,
+        excluded,
         quiet,
         file,
     }))

@@ -13,34 +13,34 @@ returns-in_default-clause-failed g c = λ save status. inl (record {
   reported = c.report.ensures.line;
 })
 
-pub returns-in_default-write_dead-clause-failed : goal.returns-in_default-write_dead-clause-failed
-returns-in_default-write_dead-clause-failed g c = λ save status.
+pub returns-in_default-write_steady-clause-failed : goal.returns-in_default-write_steady-clause-failed
+returns-in_default-write_steady-clause-failed g c = λ save status.
     let made = c.in-Ok.ensures in
     inr (inl ((
       record {
         program = c.args.program.now;
         state = c.args.state.now;
         set = c.requires.set;
-        dead = c.in-Ok.dead;
+        steady = c.in-Ok.steady;
         settled = made.is;
-        off = made.off;
-        rows = c.in_default-write_dead.ensures.wrote;
+        so = made.so;
+        rows = c.in_default-write_steady.ensures.wrote;
       },
-      c.report-in_default-write_dead.ensures.line,
+      c.report-in_default-write_steady.ensures.line,
     )))
 
 pub returns-in_default-put_count-clause-failed : goal.returns-in_default-put_count-clause-failed
 returns-in_default-put_count-clause-failed g c = λ save status.
     let made = c.in-Ok.ensures in
-    let w = c.in-Ok-write_dead in
+    let w = c.in-Ok-write_steady in
     inr (inr (record {
       list = record {
         program = c.args.program.now;
         state = c.args.state.now;
         set = c.requires.set;
-        dead = c.in-Ok.dead;
+        steady = c.in-Ok.steady;
         settled = made.is;
-        off = made.off;
+        so = made.so;
         rows = w.ensures.wrote;
       };
       count = prefix_same _ _ _ _ (ap (λ n. unless_quiet c.args.request.now.quiet (held_line n)) w.ensures.rows) c.in_default-put_count.ensures;
@@ -49,15 +49,15 @@ returns-in_default-put_count-clause-failed g c = λ save status.
 pub returns-clause-done : goal.returns-clause-done
 returns-clause-done g c = λ status.
     let made = c.in-Ok.ensures in
-    let w = c.in-Ok-write_dead in
+    let w = c.in-Ok-write_steady in
     record {
       list = record {
         program = c.args.program.now;
         state = c.args.state.now;
         set = c.requires.set;
-        dead = c.in-Ok.dead;
+        steady = c.in-Ok.steady;
         settled = made.is;
-        off = made.off;
+        so = made.so;
         rows = w.ensures.wrote;
       };
       count = all_same _ _ _ _ (ap (λ n. unless_quiet c.args.request.now.quiet (held_line n)) w.ensures.rows) c.in-Ok-put_count.ensures;

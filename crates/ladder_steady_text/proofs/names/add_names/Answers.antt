@@ -3,17 +3,17 @@ use Rattle.std.specs.List.{flat_map}
 use Rattle.ladder_records.specs.Text.{lines_text}
 use Rattle.ladder_text.specs.Block.{SendsAll}
 use Rattle.ladder_uses.specs.Uses.{symbols_of}
-use Rattle.ladder_dead.specs.Dead.{member_rows}
+use Rattle.ladder_steady_text.specs.SteadyText.{claimed_rows}
 use Rattle.ladder_uses.proofs.Rows.{rows_apart, rows_prefix, rows_more, rows_sent}
 use Rattle.ladder_text.proofs.Sending.{sends_err}
-use Rattle.ladder_dead.proofs.dead.add_members.Goals as goal
+use Rattle.ladder_steady_text.proofs.names.add_names.Goals as goal
 
 pub returns-in_err-rows-clause-sends : goal.returns-in_err-rows-clause-sends
 returns-in_err-rows-clause-sends g c = sends_err _ _ _ _ _ _ c.from_residual.ensures.0
     (let p = c.args.program.now in
     let z = c.args.set.now in
     let here = rw c.decls-decls.ensures at c.symbol_at.ensures in
-    rows_prefix _ _ _ _ _ _ _ _ _ (rows_apart (member_rows p z) (symbols_of p.decls) c.loop-number.number c.symbol_at.result _ here refl) c.loop-number.invariant.0 c.in_err-rows.ensures.sends)
+    rows_prefix _ _ _ _ _ _ _ _ _ (rows_apart (claimed_rows p z c.args.value) (symbols_of p.decls) c.loop-number.number c.symbol_at.result _ here refl) c.loop-number.invariant.0 c.in_err-rows.ensures.sends)
 
 pub loop-number-preserved : goal.loop-number-preserved
 loop-number-preserved g c =
@@ -21,12 +21,12 @@ loop-number-preserved g c =
     let p = c.args.program.now in
     let z = c.args.set.now in
     let here = rw c.decls-decls.ensures at c.symbol_at.ensures in
-    let more = rows_more (member_rows p z) (symbols_of p.decls) c.loop-number.number c.symbol_at.result _ here refl in (
+    let more = rows_more (claimed_rows p z c.args.value) (symbols_of p.decls) c.loop-number.number c.symbol_at.result _ here refl in (
       rows_sent _ _ _ _ _ _ _ _ _ more inv.0 c.in_ok-rows.ensures.sends,
       omega (
         arith,
         ap length more,
-        length-append (flat_map (member_rows p z) (take c.loop-number.number (symbols_of p.decls))) (member_rows p z c.symbol_at.result),
+        length-append (flat_map (claimed_rows p z c.args.value) (take c.loop-number.number (symbols_of p.decls))) (claimed_rows p z c.args.value c.symbol_at.result),
         inv.1,
         c.in_ok-rows.ensures.count,
       ),
@@ -38,5 +38,5 @@ returns-clause-sends g c =
     let p = c.args.program.now in
     let z = c.args.set.now in
     let all = take_all c.loop-number.number (symbols_of p.decls) (omega (arith, rw c.decls-decls.ensures at c.symbol_count-number-end.ensures.value)) in
-    subst (λ symbols. SendsAll (g.W.Sink.log c.args.writer.now) (g.W.Sink.log c.loop-number.writer) c.args.block.now c.loop-number.block (lines_text (flat_map (member_rows p z) symbols)))
+    subst (λ symbols. SendsAll (g.W.Sink.log c.args.writer.now) (g.W.Sink.log c.loop-number.writer) c.args.block.now c.loop-number.block (lines_text (flat_map (claimed_rows p z c.args.value) symbols)))
     all c.loop-number.invariant.0
