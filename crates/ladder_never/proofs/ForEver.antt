@@ -1,4 +1,4 @@
--- A set that one scan over three values leaves OFF is OFF after any scans.
+-- A set that one scan over three values leaves so is so after any scans.
 use Rattle.std.proofs.Common.{◌≡◌, ◌∙◌, inl, inr, ℕ, Bool, true, false, List, [], ◌∷◌, map, get_or, length, set, zero, suc, refl, sym, ap, subst}
 use Rattle.std.proofs.lemmas.List.{length-map}
 use Rattle.std.specs.Prelude.{slice_get, unwrap_or, option_map}
@@ -25,10 +25,10 @@ use Rattle.ladder_known.proofs.Lists.{get_both, map_same}
 use Rattle.ladder_signals.specs.Three.{three, three_known, three_allows}
 use Rattle.ladder_signals.specs.declared.tri.Tri.{Tri}
 use Rattle.ladder_signals.specs.declared.tri.Tri.TheVariants.{Off}
-use Rattle.ladder_never.specs.Never.{Bits, IsOff, IsSetOf, OneScan, after_each, is_in, knowing}
+use Rattle.ladder_never.specs.Never.{Bits, IsSetOf, IsSo, OneScan, after_each, claims, knowing}
 use Rattle.ladder_never.specs.Allowing.{Allows, AllowsState, KnowingAllows, SettledHolds, is_on_in}
 use Rattle.ladder_never.specs.AnswerLaws.{OneAnswer, one_answer}
-use Rattle.ladder_never.specs.Cases.{AreNeverOn, IsSettled, IsSettledOff, answering, by_answers, by_cases, by_scan, pinned, told, with_answer, with_q}
+use Rattle.ladder_never.specs.Cases.{IsSettled, IsSettledSo, StaysForEver, answering, by_answers, by_cases, by_scan, pinned, told, with_answer, with_q}
 use Rattle.ladder_never.specs.declared.answer.Answer.{Answer}
 use Rattle.ladder_never.specs.declared.answer.Answer.TheVariants.{Off as AnswersOff, On as AnswersOn, Input}
 use Rattle.ladder_never.specs.declared.point.Point.{Point}
@@ -48,23 +48,20 @@ diagram_kind : (p : Drawing) (i : ℕ) → (diagram_of p).kind i ≡ get_or (map
 unfolding diagram_of
 diagram_kind p i = kind_of p.decls.instances i
 
--- as many as the program has, each instance of its kind, and the set OFF
+-- as many as the program has, each instance of its kind, and the set is so
 pub record Holds (p : Drawing) (z : Bits) (h : Held) : Type 0 where
   pub values : length h.values ≡ length p.decls.vars
   pub memories : length h.kept.memories ≡ memories_of p
   pub shapes : map shape h.kept.blocks ≡ map new_block (map (λ i. i.kind) p.decls.instances)
-  pub off : IsOff z h
+  pub so : IsSo z h
 
 pub knowing_holds : (p : Drawing) (z : Bits) → IsSetOf p z → (now : ℕ) (h : Held) → Holds p z h → AllowsState p now (knowing p z) h
 knowing_holds p z set now h holds = record {
-  values = values_allow z.variables h.values (set.variables ∙ sym holds.values) holds.off.variables;
+  values = values_allow z.variables h.values (set.variables ∙ sym holds.values) holds.so.variables;
   memories = memories_allow (memories_of p) h.kept.memories holds.memories;
   blocks = blocks_allow (diagram_of p).kind (diagram_of p).preset now (map (λ i. i.kind) p.decls.instances) z.instances h.kept.blocks (diagram_kind p)
-      (set.instances ∙ sym (length-map p.decls.instances (λ i. i.kind))) holds.shapes holds.off.instances;
+      (set.instances ∙ sym (length-map p.decls.instances (λ i. i.kind))) holds.shapes holds.so.instances;
 }
-
-off_by : (x : Tri) (b : Bool) → three_allows x 0 b → x ≡ Off → b ≡ false
-off_by x b h e = subst (λ (y : Tri). three_allows y 0 b) e h
 
 known_allows : (b : Bool) → three_allows (three_known b) 0 b
 known_allows true = refl
@@ -126,32 +123,26 @@ answer_allows p now k h both inst =
       | inr (inr m) ↦ inr (inr (with Input m))
     ]
 
-told_off : (p : Drawing) (now : ℕ) (k : Known Tri Outcome) (h : Held) → AllowsState p now k h → (point : Point) → told point k ≡ Off → is_on_in point h ≡ false
-unfolding told
-told_off p now k h both (Variable var) e =
-    subst (λ (vs : List Bool). get_or vs var false ≡ false) (map_same h.values)
-    (off_by _ _ ((both_at Allows k.values (map (λ v. v) h.values) both.values Off false (tt, λ _. refl) var).1 refl) e)
-told_off p now k h both (Output inst) e =
-    let d = diagram_of p in
-    subst (λ (ss : List Stored). q_of (get_or ss inst (new_block Ton)) ≡ false) (map_same h.kept.blocks)
-    (off_by (q_known (kept_at outcomes k inst)) _
-    (q_sound (d.kind inst) (d.preset inst) now (kept_at outcomes k inst) (get_or (map (λ s. s) h.kept.blocks) inst (new_block Ton))
-    (get_both (λ i. MayStore (d.kind i) (d.preset i) now) k.blocks (map (λ s. s) h.kept.blocks) both.blocks Anything (new_block Ton) (λ i. tt) inst)) e)
-told_off p now k h both (Memory number) e =
-    subst (λ (ms : List Bool). get_or ms number false ≡ false) (map_same h.kept.memories)
-    (off_by _ _ ((both_at Allows k.memories (map (λ m. m) h.kept.memories) both.memories Off false (tt, λ _. refl) number).1 refl) e)
-told_off p now k h both (AnswerOf inst) e = refl
-
 is_known : (x : Tri) (b value : Bool) → three_allows x 0 b → x ≡ three_known value → b ≡ value
 is_known x b true h e = subst (λ (y : Tri). three_allows y 0 b) e h
 is_known x b false h e = subst (λ (y : Tri). three_allows y 0 b) e h
 
-told_value : (p : Drawing) (now : ℕ) (k : Known Tri Outcome) (h : Held) → AllowsState p now k h → (var : ℕ) (value : Bool) → told (Variable var) k ≡ three_known value
+pub told_value : (p : Drawing) (now : ℕ) (k : Known Tri Outcome) (h : Held) → AllowsState p now k h → (var : ℕ) (value : Bool) → told (Variable var) k ≡ three_known value
     → get_or h.values var false ≡ value
 unfolding told
 told_value p now k h both var value e =
     subst (λ (vs : List Bool). get_or vs var false ≡ value) (map_same h.values)
     (is_known _ _ value ((both_at Allows k.values (map (λ v. v) h.values) both.values Off false (tt, λ _. refl) var).1 refl) e)
+
+pub told_output : (p : Drawing) (now : ℕ) (k : Known Tri Outcome) (h : Held) → AllowsState p now k h → (inst : ℕ) (value : Bool) → told (Output inst) k ≡ three_known value
+    → q_of (get_or h.kept.blocks inst (new_block Ton)) ≡ value
+unfolding told
+told_output p now k h both inst value e =
+    let d = diagram_of p in
+    subst (λ (ss : List Stored). q_of (get_or ss inst (new_block Ton)) ≡ value) (map_same h.kept.blocks)
+    (is_known (q_known (kept_at outcomes k inst)) _ value
+    (q_sound (d.kind inst) (d.preset inst) now (kept_at outcomes k inst) (get_or (map (λ s. s) h.kept.blocks) inst (new_block Ton))
+    (get_both (λ i. MayStore (d.kind i) (d.preset i) now) k.blocks (map (λ s. s) h.kept.blocks) both.blocks Anything (new_block Ton) (λ i. tt) inst)) e)
 
 either_case : {A : Type 0} (b : Bool) → (b ≡ true → A) → (b ≡ false → A) → A
 either_case true f g = f refl
@@ -172,11 +163,11 @@ holds_begun p z set inputs h holds = record {
   values = size-given (map is_input p.decls.vars) inputs h.values ∙ holds.values;
   memories = holds.memories;
   shapes = holds.shapes;
-  off = record {
-    variables = λ var m.
-        given_same (map is_input p.decls.vars) inputs h.values var (no_input_in (get_or (map is_input p.decls.vars) var false) (is_in z.variables var) (set.no_input var) m)
-        ∙ holds.off.variables var m;
-    instances = holds.off.instances;
+  so = record {
+    variables = λ var value m.
+        given_same (map is_input p.decls.vars) inputs h.values var (no_input_in (get_or (map is_input p.decls.vars) var false) value (claims z.variables var) (set.no_input var) m)
+        ∙ holds.so.variables var value m;
+    instances = holds.so.instances;
   };
 }
 
@@ -206,29 +197,30 @@ module _ (p : Drawing)
     | inr (inr m) ↦ settled_by target value P tells (answering k inst Input) input now h m
   ]
 
-  settled_off : (target : Point) (k : Known Tri Outcome) → IsSettled p target false k → (now : ℕ) (h : Held) → AllowsState p now k h
-      → is_on_in target (after_scan (diagram_of p) now [] h) ≡ false
-  settled_off target = settled_by target false (λ h. is_on_in target h ≡ false) (λ now k h both e. told_off p now k h both target e)
-
   pub settled_holds : SettledHolds p
   settled_holds var value = settled_by (Variable var) value (λ h. get_or h.values var false ≡ value) (λ now k h both e. told_value p now k h both var value e)
 
 module _ (p : Drawing) (sound : IsSound (diagram_of p))
     (keeps : (now : ℕ) → ScanKeeps (diagram_of p) three plain outcomes plainly Allows (λ inst. MayStore ((diagram_of p).kind inst) ((diagram_of p).preset inst) now) 0 now)
-    (known : KnownIsScan (diagram_of p)) (z : Bits) (set : IsSetOf p z) (settled : IsSettledOff p z) where
-  off_then : (target : Point) → IsSettled p target false (knowing p z) → (h : Held) → Holds p z h → (now : ℕ) (inputs : List Bool)
-      → is_on_in target (after_scan (diagram_of p) now inputs h) ≡ false
-  off_then target is h holds now inputs =
-      subst (λ (next : Held). is_on_in target next ≡ false) (scan_begun p now inputs h)
-      (settled_off p keeps known target (knowing p z) is now (begun p inputs h) (knowing_holds p z set now (begun p inputs h) (holds_begun p z set inputs h holds)))
+    (known : KnownIsScan (diagram_of p)) (z : Bits) (set : IsSetOf p z) (settled : IsSettledSo p z) where
+  so_then : (target : Point) (value : Bool) (P : Held → Type 0)
+      → ((now : ℕ) (k : Known Tri Outcome) (h : Held) → AllowsState p now k h → told target k ≡ three_known value → P h)
+      → IsSettled p target value (knowing p z) → (h : Held) → Holds p z h → (now : ℕ) (inputs : List Bool) → P (after_scan (diagram_of p) now inputs h)
+  so_then target value P tells is h holds now inputs =
+      subst P (scan_begun p now inputs h)
+      (settled_by p keeps known target value P tells (knowing p z) is now (begun p inputs h) (knowing_holds p z set now (begun p inputs h) (holds_begun p z set inputs h holds)))
 
-  still_off : (h : Held) → Holds p z h → (now : ℕ) (inputs : List Bool) → IsOff z (after_scan (diagram_of p) now inputs h)
-  still_off h holds now inputs = record {
-    variables = λ var m. off_then (Variable var) (settled.variables var m) h holds now inputs;
-    instances = λ inst m. off_then (Output inst) (settled.instances inst m) h holds now inputs;
+  still_so : (h : Held) → Holds p z h → (now : ℕ) (inputs : List Bool) → IsSo z (after_scan (diagram_of p) now inputs h)
+  still_so h holds now inputs = record {
+    variables = λ var value m.
+        so_then (Variable var) value (λ next. get_or next.values var false ≡ value) (λ moment k next both e. told_value p moment k next both var value e)
+        (settled.variables var value m) h holds now inputs;
+    instances = λ inst value m.
+        so_then (Output inst) value (λ next. q_of (get_or next.kept.blocks inst (new_block Ton)) ≡ value) (λ moment k next both e. told_output p moment k next both inst value e)
+        (settled.instances inst value m) h holds now inputs;
   }
 
-  holds_on : (h : Held) → Holds p z h → (now : ℕ) (inputs : List Bool) → Holds p z (after_scan (diagram_of p) now inputs h)
+  pub holds_on : (h : Held) → Holds p z h → (now : ℕ) (inputs : List Bool) → Holds p z (after_scan (diagram_of p) now inputs h)
   holds_on h holds now inputs =
       let d = diagram_of p in
       let start : Held = record { values = given d.inputs inputs h.values; kept = h.kept } in
@@ -238,26 +230,26 @@ module _ (p : Drawing) (sound : IsSound (diagram_of p))
         values = lengths.values ∙ holds.values;
         memories = lengths.memories ∙ holds.memories;
         shapes = ap (λ (x : Held). map shape x.kept.blocks) by_rungs ∙ scanned_shapes d now start d.rungs ∙ holds.shapes;
-        off = still_off h holds now inputs;
+        so = still_so h holds now inputs;
       }
 
-  off_after : (scans : List OneScan) (h : Held) → Holds p z h → IsOff z (after_each (diagram_of p) scans h)
+  so_after : (scans : List OneScan) (h : Held) → Holds p z h → IsSo z (after_each (diagram_of p) scans h)
   unfolding after_each
-  off_after [] h holds = holds.off
-  off_after (scan ∷ more) h holds = off_after more (after_scan (diagram_of p) scan.moment scan.inputs h) (holds_on h holds scan.moment scan.inputs)
+  so_after [] h holds = holds.so
+  so_after (scan ∷ more) h holds = so_after more (after_scan (diagram_of p) scan.moment scan.inputs h) (holds_on h holds scan.moment scan.inputs)
 
-pub standing_holds : (p : Drawing) (s : Standing) → Fits p s → IsStanding s → (z : Bits) → IsOff z s.held → Holds p z s.held
-standing_holds p s fits standing z off = record {
+pub standing_holds : (p : Drawing) (s : Standing) → Fits p s → IsStanding s → (z : Bits) → IsSo z s.held → Holds p z s.held
+standing_holds p s fits standing z so = record {
   values = fits.values;
   memories = fits.memories;
   shapes = sound_shapes s.kinds s.held.kept.blocks s.moment standing.sound ∙ ap (map new_block) fits.kinds;
-  off = off;
+  so = so;
 }
 
 pub knowing_allows : (p : Drawing) → KnowingAllows p
-knowing_allows p s fits standing z set off moment = knowing_holds p z set moment s.held (standing_holds p s fits standing z off)
+knowing_allows p s fits standing z set so moment = knowing_holds p z set moment s.held (standing_holds p s fits standing z so)
 
-pub never_on : (p : Drawing) → IsSound (diagram_of p)
+pub stays_for_ever : (p : Drawing) → IsSound (diagram_of p)
     → ((now : ℕ) → ScanKeeps (diagram_of p) three plain outcomes plainly Allows (λ inst. MayStore ((diagram_of p).kind inst) ((diagram_of p).preset inst) now) 0 now)
-    → KnownIsScan (diagram_of p) → AreNeverOn p
-never_on p sound keeps known s fits standing z set settled off scans = off_after p sound keeps known z set settled scans s.held (standing_holds p s fits standing z off)
+    → KnownIsScan (diagram_of p) → StaysForEver p
+stays_for_ever p sound keeps known s fits standing z set settled so scans = so_after p sound keeps known z set settled scans s.held (standing_holds p s fits standing z so)

@@ -1,5 +1,6 @@
 pub mod Listed
-pub mod OffForEver
+pub mod Begun
+pub mod ForEver
 pub mod Larger
 pub mod Left
 pub mod PinnedTwice

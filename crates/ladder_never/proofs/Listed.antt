@@ -8,10 +8,10 @@ use Rattle.ladder_elements.specs.Relations.{Both}
 use Rattle.ladder_scan.specs.RungByRung.{shape}
 use Rattle.ladder_scan.specs.Scan.{given}
 use Rattle.ladder_known.specs.KnownLaws.{BothAt}
-use Rattle.ladder_signals.specs.Three.{three_allows}
-use Rattle.ladder_signals.specs.declared.tri.Tri.TheVariants.{Unsure}
+use Rattle.ladder_signals.specs.Three.{three_allows, three_known}
+use Rattle.ladder_signals.specs.declared.tri.Tri.{Tri}
+use Rattle.ladder_signals.specs.declared.tri.Tri.TheVariants.{Off, On, Unsure}
 use Rattle.ladder_never.specs.Allowing.{Allows}
-use Rattle.ladder_never.specs.Never.{off_or_open}
 use Rattle.ladder_never.specs.OutcomeLaws.{open_answers}
 use Rattle.ladder_never.specs.Outcomes.{KnowsMore, MayStore, TellsMore}
 use Rattle.ladder_never.specs.declared.answer.Answer.TheVariants.{Open}
@@ -25,16 +25,17 @@ both_at R (x ∷ xs) (y ∷ ys) h d e r zero = h.0
 both_at R (x ∷ xs) (y ∷ ys) h d e r (suc i) = both_at R xs ys h.1 d e r i
 
 -- ---- against a state
-one_allows : (b v : Bool) → (b ≡ true → v ≡ false) → three_allows (off_or_open b) 0 v
-one_allows true v e = e refl
-one_allows false v e = tt
+one_allows : (t : Tri) (v : Bool) → ((value : Bool) → t ≡ three_known value → v ≡ value) → three_allows t 0 v
+one_allows On v e = e true refl
+one_allows Off v e = e false refl
+one_allows Unsure v e = tt
 
-pub values_allow : (bits vs : List Bool) → length bits ≡ length vs → ((i : ℕ) → get_or bits i false ≡ true → get_or vs i false ≡ false)
-    → Both Allows (map off_or_open bits) (map (λ v. v) vs)
+pub values_allow : (bits : List Tri) (vs : List Bool) → length bits ≡ length vs → ((i : ℕ) (value : Bool) → get_or bits i Unsure ≡ three_known value → get_or vs i false ≡ value)
+    → Both Allows bits (map (λ v. v) vs)
 values_allow [] [] h e = tt
 values_allow [] (v ∷ vs) h e = absurd (omega (arith, h))
-values_allow (b ∷ bits) [] h e = absurd (omega (arith, h))
-values_allow (b ∷ bits) (v ∷ vs) h e = ((tt, λ _. one_allows b v (e 0)), values_allow bits vs (omega (arith, h)) (λ i. e (suc i)))
+values_allow (t ∷ bits) [] h e = absurd (omega (arith, h))
+values_allow (t ∷ bits) (v ∷ vs) h e = ((tt, λ _. one_allows t v (e 0)), values_allow bits vs (omega (arith, h)) (λ i. e (suc i)))
 
 pub memories_allow : (n : ℕ) (ms : List Bool) → length ms ≡ n → Both Allows (replicate n Unsure) (map (λ v. v) ms)
 memories_allow zero [] h = tt
@@ -54,17 +55,18 @@ none_one k ks e = cc
 one_none : (s : Stored) (ss : List Stored) → map shape (s ∷ ss) ≡ map new_block [] → ⊥
 one_none s ss e = cc
 
-pub blocks_allow : (kind : ℕ → BlockKind) (preset : ℕ → ℕ) (now : ℕ) (kinds : List BlockKind) (bits : List Bool) (ss : List Stored) → ((i : ℕ) → kind i ≡ get_or kinds i Ton)
-    → length bits ≡ length kinds → map shape ss ≡ map new_block kinds → ((i : ℕ) → get_or bits i false ≡ true → q_of (get_or ss i (new_block Ton)) ≡ false)
-    → BothAt (λ i. MayStore (kind i) (preset i) now) (map (λ b. OfKind (off_or_open b) Open) bits) (map (λ s. s) ss)
+pub blocks_allow : (kind : ℕ → BlockKind) (preset : ℕ → ℕ) (now : ℕ) (kinds : List BlockKind) (bits : List Tri) (ss : List Stored) → ((i : ℕ) → kind i ≡ get_or kinds i Ton)
+    → length bits ≡ length kinds → map shape ss ≡ map new_block kinds
+    → ((i : ℕ) (value : Bool) → get_or bits i Unsure ≡ three_known value → q_of (get_or ss i (new_block Ton)) ≡ value)
+    → BothAt (λ i. MayStore (kind i) (preset i) now) (map (λ t. OfKind t Open) bits) (map (λ s. s) ss)
 blocks_allow kind preset now [] [] [] k h e f = tt
 blocks_allow kind preset now [] [] (s ∷ ss) k h e f = absurd (one_none s ss e)
-blocks_allow kind preset now [] (b ∷ bits) ss k h e f = absurd (omega (arith, h))
+blocks_allow kind preset now [] (t ∷ bits) ss k h e f = absurd (omega (arith, h))
 blocks_allow kind preset now (x ∷ kinds) [] ss k h e f = absurd (omega (arith, h))
-blocks_allow kind preset now (x ∷ kinds) (b ∷ bits) [] k h e f = absurd (none_one x kinds e)
-blocks_allow kind preset now (x ∷ kinds) (b ∷ bits) (s ∷ ss) k h e f =
+blocks_allow kind preset now (x ∷ kinds) (t ∷ bits) [] k h e f = absurd (none_one x kinds e)
+blocks_allow kind preset now (x ∷ kinds) (t ∷ bits) (s ∷ ss) k h e f =
     let fits = heads s ss x kinds e ∙ sym (ap new_block (k 0)) in (
-      (fits, one_allows b (q_of s) (f 0), open_answers (kind 0) (preset 0) now s fits),
+      (fits, one_allows t (q_of s) (f 0), open_answers (kind 0) (preset 0) now s fits),
       blocks_allow (λ i. kind (suc i)) (λ i. preset (suc i)) now kinds bits ss (λ i. k (suc i)) (omega (arith, h)) (tails s ss x kinds e) (λ i. f (suc i)),
     )
 
@@ -76,7 +78,7 @@ given_none (false ∷ flags) [] = refl
 given_none (true ∷ flags) (v ∷ vs) = ap (λ ws. v ∷ ws) (given_none flags vs)
 given_none (false ∷ flags) (v ∷ vs) = ap (λ ws. v ∷ ws) (given_none flags vs)
 
-on_off : true ≡ false → ⊥
+pub on_off : true ≡ false → ⊥
 on_off e = cc
 
 -- a variable that is no input keeps its value
@@ -91,29 +93,50 @@ given_same (true ∷ flags) (x ∷ xs) (v ∷ vs) (suc i) e = given_same flags x
 given_same (false ∷ flags) xs (v ∷ vs) zero e = refl
 given_same (false ∷ flags) xs (v ∷ vs) (suc i) e = given_same flags xs vs i e
 
-pub no_input_in : (flag b : Bool) → (flag ≡ true → b ≡ false) → b ≡ true → flag ≡ false
-no_input_in true b e f = absurd (on_off (sym f ∙ e refl))
-no_input_in false b e f = refl
+pub unsure_known : (value : Bool) → Unsure ≡ three_known value → ⊥
+unsure_known true e = cc
+unsure_known false e = cc
+
+pub no_input_in : (flag value : Bool) (t : Tri) → (flag ≡ true → t ≡ Unsure) → t ≡ three_known value → flag ≡ false
+no_input_in true value t e f = absurd (unsure_known value (sym (e refl) ∙ f))
+no_input_in false value t e f = refl
 
 -- ---- against a larger set
-one_more : (b c : Bool) → (b ≡ true → c ≡ true) → KnowsMore (off_or_open b) (off_or_open c)
-one_more true c e = ap off_or_open (e refl)
-one_more false c e = tt
+one_more : (t u : Tri) → ((value : Bool) → t ≡ three_known value → u ≡ three_known value) → KnowsMore t u
+one_more On u e = e true refl
+one_more Off u e = e false refl
+one_more Unsure u e = tt
 
-pub values_more : (bits more : List Bool) → length bits ≡ length more → ((i : ℕ) → get_or bits i false ≡ true → get_or more i false ≡ true)
-    → Both KnowsMore (map off_or_open bits) (map off_or_open more)
+pub values_more : (bits more : List Tri) → length bits ≡ length more
+    → ((i : ℕ) (value : Bool) → get_or bits i Unsure ≡ three_known value → get_or more i Unsure ≡ three_known value) → Both KnowsMore bits more
 values_more [] [] h e = tt
-values_more [] (c ∷ more) h e = absurd (omega (arith, h))
-values_more (b ∷ bits) [] h e = absurd (omega (arith, h))
-values_more (b ∷ bits) (c ∷ more) h e = (one_more b c (e 0), values_more bits more (omega (arith, h)) (λ i. e (suc i)))
+values_more [] (u ∷ more) h e = absurd (omega (arith, h))
+values_more (t ∷ bits) [] h e = absurd (omega (arith, h))
+values_more (t ∷ bits) (u ∷ more) h e = (one_more t u (e 0), values_more bits more (omega (arith, h)) (λ i. e (suc i)))
 
 pub memories_more : (n : ℕ) → Both KnowsMore (replicate n Unsure) (replicate n Unsure)
 memories_more zero = tt
 memories_more (suc n) = (tt, memories_more n)
 
-pub blocks_more : (bits more : List Bool) → length bits ≡ length more → ((i : ℕ) → get_or bits i false ≡ true → get_or more i false ≡ true)
-    → BothAt (λ i. TellsMore) (map (λ b. OfKind (off_or_open b) Open) bits) (map (λ b. OfKind (off_or_open b) Open) more)
+pub blocks_more : (bits more : List Tri) → length bits ≡ length more
+    → ((i : ℕ) (value : Bool) → get_or bits i Unsure ≡ three_known value → get_or more i Unsure ≡ three_known value)
+    → BothAt (λ i. TellsMore) (map (λ t. OfKind t Open) bits) (map (λ t. OfKind t Open) more)
 blocks_more [] [] h e = tt
-blocks_more [] (c ∷ more) h e = absurd (omega (arith, h))
-blocks_more (b ∷ bits) [] h e = absurd (omega (arith, h))
-blocks_more (b ∷ bits) (c ∷ more) h e = ((one_more b c (e 0), tt), blocks_more bits more (omega (arith, h)) (λ i. e (suc i)))
+blocks_more [] (u ∷ more) h e = absurd (omega (arith, h))
+blocks_more (t ∷ bits) [] h e = absurd (omega (arith, h))
+blocks_more (t ∷ bits) (u ∷ more) h e = ((one_more t u (e 0), tt), blocks_more bits more (omega (arith, h)) (λ i. e (suc i)))
+
+-- ---- places
+-- where something is known, it is the same with any other value past the end
+pub known_within : (xs : List Tri) (i : ℕ) (value : Bool) (d : Tri) → get_or xs i Unsure ≡ three_known value → get_or xs i d ≡ three_known value
+known_within [] i value d e = absurd (unsure_known value e)
+known_within (x ∷ xs) zero value d e = e
+known_within (x ∷ xs) (suc i) value d e = known_within xs i value d e
+
+-- what is known where a list as long claims something, with any value past the end
+pub known_beside : (bits xs : List Tri) (i : ℕ) (value : Bool) (d : Tri) → length xs ≡ length bits → get_or bits i Unsure ≡ three_known value
+    → get_or xs i d ≡ three_known value → get_or xs i Unsure ≡ three_known value
+known_beside [] xs i value d h m e = absurd (unsure_known value m)
+known_beside (t ∷ bits) [] i value d h m e = absurd (omega (arith, h))
+known_beside (t ∷ bits) (x ∷ xs) zero value d h m e = e
+known_beside (t ∷ bits) (x ∷ xs) (suc i) value d h m e = known_beside bits xs i value d (omega (arith, h)) m e

@@ -1,18 +1,20 @@
 -- Pinning a point again, and back.
-use Rattle.std.proofs.Common.{◌≡◌, ◌∙◌, ℕ, List, [], ◌∷◌, get_or, set, zero, suc, not, true, false, Bool, refl, sym, ap}
+use Rattle.std.proofs.Common.{◌≡◌, ◌∙◌, ℕ, List, [], ◌∷◌, get_or, length, set, zero, suc, not, true, false, Bool, refl, sym, ap, subst}
 use Rattle.ladder_known.specs.KnownScan.{Known, kept_at}
+use Rattle.ladder_signals.specs.Three.{three_known}
 use Rattle.ladder_signals.specs.declared.tri.Tri.{Tri}
-use Rattle.ladder_signals.specs.declared.tri.Tri.TheVariants.{Off, On, Unsure}
+use Rattle.ladder_signals.specs.declared.tri.Tri.TheVariants.{Off, Unsure}
 use Rattle.ladder_never.specs.Cases.{IsSettled, answering, pinned, told, with_answer, with_q}
 use Rattle.ladder_never.specs.Outcomes.{answer_known, outcomes, q_known}
 use Rattle.ladder_never.specs.Never.{Bits}
-use Rattle.ladder_never.specs.Removing.{is_off, IsStaying, staying}
+use Rattle.ladder_never.specs.Removing.{IsStaying, staying}
 use Rattle.ladder_grid.specs.Program.{Drawing}
 use Rattle.ladder_never.specs.declared.answer.Answer.{Answer}
 use Rattle.ladder_never.specs.declared.outcome.Outcome.{Outcome}
 use Rattle.ladder_never.specs.declared.outcome.Outcome.TheVariants.{Anything, OfKind}
 use Rattle.ladder_never.specs.declared.point.Point.{Point}
 use Rattle.ladder_never.specs.declared.point.Point.TheVariants.{Variable, Output, Memory, Answer as AnswerOf}
+use Rattle.ladder_never.proofs.Listed.{known_beside, known_within}
 
 set_again : {A : Type 0} (xs : List A) (i : ℕ) (x y : A) → set (set xs i x) i y ≡ set xs i y
 set_again [] i x y = refl
@@ -96,23 +98,18 @@ answer_over k pin next back inst x b e f g h =
 pub other_answer : (k pin next other : Known Tri Outcome) (inst : ℕ) (x y : Answer) → pin ≡ answering k inst x → next ≡ pin → other ≡ answering next inst y → other ≡ answering k inst y
 other_answer k pin next other inst x y e f g = g ∙ ap (λ (l : Known Tri Outcome). answering l inst y) (f ∙ e) ∙ answering_again k inst x y
 
-pub off_is : (x : Tri) → is_off x ≡ true → x ≡ Off
-off_is Off e = refl
-off_is On e = cc
-off_is Unsure e = cc
-
 pub not_not : (b : Bool) → not b ≡ false → b ≡ true
 not_not true e = refl
 not_not false e = sym e
 
--- what is known to be OFF passes
-pub passes_variable : (k l : Known Tri Outcome) (var : ℕ) → k ≡ l → get_or l.values var Off ≡ Off → is_off (told (Variable var) k) ≡ true
+-- what is known of a variable and of a Q is told
+pub told_of_variable : (k l : Known Tri Outcome) (var : ℕ) (value : Bool) → k ≡ l → get_or l.values var Unsure ≡ three_known value → told (Variable var) k ≡ three_known value
 unfolding told
-passes_variable k l var e f = ap (λ (m : Known Tri Outcome). is_off (get_or m.values var Off)) e ∙ ap is_off f
+told_of_variable k l var value e f = ap (λ (m : Known Tri Outcome). get_or m.values var Off) e ∙ known_within l.values var value Off f
 
-pub passes_output : (k l : Known Tri Outcome) (inst : ℕ) → k ≡ l → q_known (kept_at outcomes l inst) ≡ Off → is_off (told (Output inst) k) ≡ true
+pub told_of_output : (k l : Known Tri Outcome) (inst : ℕ) (value : Bool) → k ≡ l → q_known (kept_at outcomes l inst) ≡ three_known value → told (Output inst) k ≡ three_known value
 unfolding told
-passes_output k l inst e f = ap (λ (m : Known Tri Outcome). is_off (q_known (kept_at outcomes m inst))) e ∙ ap is_off f
+told_of_output k l inst value e f = ap (λ (m : Known Tri Outcome). q_known (kept_at outcomes m inst)) e ∙ f
 
 false_true : false ≡ true → ⊥
 false_true e = cc
@@ -120,24 +117,26 @@ false_true e = cc
 pub neither_on : {A : Type 0} {b : Bool} → b ≡ false → b ≡ true → A
 neither_on e f = absurd (false_true (sym e ∙ f))
 
--- what passes is known to be OFF
-pub off_variable : (k l : Known Tri Outcome) (var : ℕ) → k ≡ l → is_off (told (Variable var) k) ≡ true → get_or l.values var Off ≡ Off
+-- what is told of a variable of which something is claimed, and of a Q, is known
+pub known_of_variable : (bits : List Tri) (k l : Known Tri Outcome) (var : ℕ) (value : Bool) → k ≡ l → length k.values ≡ length bits → get_or bits var Unsure ≡ three_known value
+    → told (Variable var) k ≡ three_known value → get_or l.values var Unsure ≡ three_known value
 unfolding told
-off_variable k l var e f = off_is (get_or l.values var Off) (sym (ap (λ (m : Known Tri Outcome). is_off (get_or m.values var Off)) e) ∙ f)
+known_of_variable bits k l var value e many m f =
+    subst (λ (n : Known Tri Outcome). get_or n.values var Unsure ≡ three_known value) e (known_beside bits k.values var value Off many m f)
 
-pub off_output : (k l : Known Tri Outcome) (inst : ℕ) → k ≡ l → is_off (told (Output inst) k) ≡ true → q_known (kept_at outcomes l inst) ≡ Off
+pub known_of_output : (k l : Known Tri Outcome) (inst : ℕ) (value : Bool) → k ≡ l → told (Output inst) k ≡ three_known value → q_known (kept_at outcomes l inst) ≡ three_known value
 unfolding told
-off_output k l inst e f = off_is (q_known (kept_at outcomes l inst)) (sym (ap (λ (m : Known Tri Outcome). is_off (q_known (kept_at outcomes m inst))) e) ∙ f)
+known_of_output k l inst value e f = sym (ap (λ (m : Known Tri Outcome). q_known (kept_at outcomes m inst)) e) ∙ f
 
-abbrev pub set_of : List Bool → List Bool → Bits
+abbrev pub set_of : List Tri → List Tri → Bits
 set_of variables instances = record { variables = variables; instances = instances }
 
-pub same_bits : (xs ys zs ws : List Bool) → xs ≡ zs → ys ≡ ws → set_of xs ys ≡ set_of zs ws
-same_bits xs ys zs ws e f = ap (λ (vs : List Bool). set_of vs ys) e ∙ ap (set_of zs) f
+pub same_bits : (xs ys zs ws : List Tri) → xs ≡ zs → ys ≡ ws → set_of xs ys ≡ set_of zs ws
+same_bits xs ys zs ws e f = ap (λ (vs : List Tri). set_of vs ys) e ∙ ap (set_of zs) f
 
-pub staying_settled : {p : Drawing} {target : Point} {after case : Known Tri Outcome} {scans : ℕ} → IsStaying p target after case scans → IsSettled p target false case
+pub staying_settled : {p : Drawing} {target : Point} {after case : Known Tri Outcome} {scans : ℕ} {value : Bool} → IsStaying p target after case scans value → IsSettled p target value case
 staying_settled (staying settled plain) = settled
 
-pub staying_plain : {p : Drawing} {target : Point} {after case : Known Tri Outcome} {scans : ℕ} → IsStaying p target after case scans → scans ≡ 0
-    → is_off (told target after) ≡ true
+pub staying_plain : {p : Drawing} {target : Point} {after case : Known Tri Outcome} {scans : ℕ} {value : Bool} → IsStaying p target after case scans value → scans ≡ 0
+    → told target after ≡ three_known value
 staying_plain (staying settled plain) = plain

@@ -23,9 +23,9 @@ use Rattle.ladder_known.proofs.Lists.{get_both, map_same}
 use Rattle.ladder_signals.specs.Three.{three, three_allows, three_known, three_meet}
 use Rattle.ladder_signals.specs.declared.tri.Tri.{Tri}
 use Rattle.ladder_signals.specs.declared.tri.Tri.TheVariants.{Off, On, Unsure}
-use Rattle.ladder_never.specs.Never.{Bits, IsOff, IsSetOf, OneScan, after_each, knowing}
+use Rattle.ladder_never.specs.Never.{Bits, IsSetOf, OneScan, after_each, knowing}
 use Rattle.ladder_never.specs.Allowing.{Allows, AllowsState, is_on_in}
-use Rattle.ladder_never.specs.Cases.{IsSettled, IsSettledOff, answering, by_answers, by_cases, by_scan, pinned, told}
+use Rattle.ladder_never.specs.Cases.{IsSettledSo, answering, pinned, told}
 use Rattle.ladder_never.specs.OutcomeLaws.{q_sound}
 use Rattle.ladder_never.specs.Outcomes.{MayStore, outcomes, q_known}
 use Rattle.ladder_never.specs.declared.answer.Answer.TheVariants.{Off as AnswersOff, On as AnswersOn, Input}
@@ -33,29 +33,17 @@ use Rattle.ladder_never.specs.declared.outcome.Outcome.{Outcome}
 use Rattle.ladder_never.specs.declared.outcome.Outcome.TheVariants.{Anything}
 use Rattle.ladder_never.specs.declared.point.Point.{Point}
 use Rattle.ladder_never.proofs.Listed.{both_at, given_same}
-use Rattle.ladder_never.proofs.OffForEver.{Holds, answer_allows, begun, holds_begun, knowing_holds, pin_allows, scan_begun, standing_holds}
+use Rattle.ladder_never.proofs.ForEver.{Holds, answer_allows, begun, holds_begun, holds_on, knowing_holds, pin_allows, scan_begun, standing_holds, told_output, told_value}
 use Rattle.ladder_pairs.specs.Pairs.{AreApart, AreExcluded, AreNeverBoth, ArePairs, IsExcluded, IsForcedOff, IsOutside, IsPairOutside, IsSettledBoth, are_both_on, point_of}
 use Rattle.ladder_pairs.specs.Pairs as pairs_of
 use Rattle.ladder_pairs.specs.declared.pair.Pair.{Pair}
 
 -- ---- what is known of one of a pair
 
-is_known : (x : Tri) (b value : Bool) → three_allows x 0 b → x ≡ three_known value → b ≡ value
-is_known x b true h e = subst (λ (y : Tri). three_allows y 0 b) e h
-is_known x b false h e = subst (λ (y : Tri). three_allows y 0 b) e h
-
 told_is : (p : Drawing) (now : ℕ) (k : Known Tri Outcome) (h : Held) → AllowsState p now k h → (s : Symbol) (value : Bool) → told (point_of s) k ≡ three_known value
     → is_on_in (point_of s) h ≡ value
-unfolding told
-told_is p now k h both (symbol.Var var) value e =
-    subst (λ (vs : List Bool). get_or vs var false ≡ value) (map_same h.values)
-    (is_known _ _ value ((both_at Allows k.values (map (λ v. v) h.values) both.values Off false (tt, λ _. refl) var).1 refl) e)
-told_is p now k h both (symbol.Instance inst) value e =
-    let d = diagram_of p in
-    subst (λ (ss : List Stored). q_of (get_or ss inst (new_block Ton)) ≡ value) (map_same h.kept.blocks)
-    (is_known (q_known (kept_at outcomes k inst)) _ value
-    (q_sound (d.kind inst) (d.preset inst) now (kept_at outcomes k inst) (get_or (map (λ s. s) h.kept.blocks) inst (new_block Ton))
-    (get_both (λ i. MayStore (d.kind i) (d.preset i) now) k.blocks (map (λ s. s) h.kept.blocks) both.blocks Anything (new_block Ton) (λ i. tt) inst)) e)
+told_is p now k h both (symbol.Var var) value e = told_value p now k h both var value e
+told_is p now k h both (symbol.Instance inst) value e = told_output p now k h both inst value e
 
 either_off : (x y : Tri) → three_meet x y ≡ Off → (x ≡ Off) ⊎ (y ≡ Off)
 either_off Off y e = inl refl
@@ -138,20 +126,6 @@ module _ (p : Drawing)
     | inr (inr m) ↦ settled_both pairs target value (answering k inst Input) input now h m apart
   ]
 
--- What is settled to be OFF, in a pair with itself.
-abbrev twice : Symbol → Pair
-twice s = record { first = s; second = s }
-
-alone : (p : Drawing) (pairs : List Pair) (s : Symbol) (k : Known Tri Outcome) → IsSettled p (point_of s) false k → IsExcluded p pairs (twice s) k
-alone p pairs s _ (by_scan k e) = pairs_of.by_scan k (ap (λ (x : Tri). three_meet x x) e)
-alone p pairs s _ (by_cases k point off on) = pairs_of.by_cases k point (alone p pairs s (pinned k point (three_known false)) off) (alone p pairs s (pinned k point (three_known true)) on)
-alone p pairs s _ (by_answers k inst off on input) =
-    pairs_of.by_answers k inst (alone p pairs s (answering k inst AnswersOff) off) (alone p pairs s (answering k inst AnswersOn) on) (alone p pairs s (answering k inst Input) input)
-
-both_itself : (a : Bool) → (a && a) ≡ false → a ≡ false
-both_itself true e = e
-both_itself false e = refl
-
 both_same : (a b c d : Bool) → a ≡ c → b ≡ d → (a && b) ≡ (c && d)
 both_same a b c d e f = ap (λ x. x && b) e ∙ ap (λ x. c && x) f
 
@@ -168,36 +142,8 @@ begun_apart p z pairs outside h apart inputs = λ k d l.
 
 module _ (p : Drawing) (sound : IsSound (diagram_of p))
     (keeps : (now : ℕ) → ScanKeeps (diagram_of p) three plain outcomes plainly Allows (λ inst. MayStore ((diagram_of p).kind inst) ((diagram_of p).preset inst) now) 0 now)
-    (known : KnownIsScan (diagram_of p)) (z : Bits) (set : IsSetOf p z) (settled : IsSettledOff p z) where
-  -- ---- the set stays OFF
-
-  off_then : (s : Symbol) → IsSettled p (point_of s) false (knowing p z) → (h : Held) → Holds p z h → (now : ℕ) (inputs : List Bool)
-      → is_on_in (point_of s) (after_scan (diagram_of p) now inputs h) ≡ false
-  off_then s is h holds now inputs =
-      subst (λ (next : Held). is_on_in (point_of s) next ≡ false) (scan_begun p now inputs h)
-      (both_itself _ (settled_both p keeps known [] (twice s) false (knowing p z) (alone p [] s (knowing p z) is) now (begun p inputs h)
-      (knowing_holds p z set now (begun p inputs h) (holds_begun p z set inputs h holds)) (All-nil (λ pair. are_both_on (begun p inputs h) pair ≡ false))))
-
-  still_off : (h : Held) → Holds p z h → (now : ℕ) (inputs : List Bool) → IsOff z (after_scan (diagram_of p) now inputs h)
-  still_off h holds now inputs = record {
-    variables = λ var m. off_then (symbol.Var var) (settled.variables var m) h holds now inputs;
-    instances = λ inst m. off_then (symbol.Instance inst) (settled.instances inst m) h holds now inputs;
-  }
-
-  holds_on : (h : Held) → Holds p z h → (now : ℕ) (inputs : List Bool) → Holds p z (after_scan (diagram_of p) now inputs h)
-  holds_on h holds now inputs =
-      let d = diagram_of p in
-      let start : Held = record { values = given d.inputs inputs h.values; kept = h.kept } in
-      let by_rungs : after_scan d now inputs h ≡ (scanned d now start d.rungs).held = sym (scanned_is d sound.forward now start) in
-      let lengths = scan_lengths d now d.inputs inputs h start (after_scan d now inputs h) d.rungs refl by_rungs in
-      record {
-        values = lengths.values ∙ holds.values;
-        memories = lengths.memories ∙ holds.memories;
-        shapes = ap (λ (x : Held). map shape x.kept.blocks) by_rungs ∙ scanned_shapes d now start d.rungs ∙ holds.shapes;
-        off = still_off h holds now inputs;
-      }
-
-  -- ---- and so the pairs stay apart
+    (known : KnownIsScan (diagram_of p)) (z : Bits) (set : IsSetOf p z) (settled : IsSettledSo p z) where
+  -- ---- the set stays so, and so the pairs stay apart
 
   module _ (pairs : List Pair) (outside : All (IsPairOutside p z) pairs) (are : AreExcluded p z pairs) where
     apart_then : (h : Held) → Holds p z h → AreApart pairs h → (now : ℕ) (inputs : List Bool) → AreApart pairs (after_scan (diagram_of p) now inputs h)
@@ -210,10 +156,10 @@ module _ (p : Drawing) (sound : IsSound (diagram_of p))
     unfolding after_each
     apart_after [] h holds apart = apart
     apart_after (scan ∷ more) h holds apart =
-        apart_after more (after_scan (diagram_of p) scan.moment scan.inputs h) (holds_on h holds scan.moment scan.inputs) (apart_then h holds apart scan.moment scan.inputs)
+        apart_after more (after_scan (diagram_of p) scan.moment scan.inputs h) (holds_on p sound keeps known z set settled h holds scan.moment scan.inputs) (apart_then h holds apart scan.moment scan.inputs)
 
 pub never_both : (p : Drawing) → IsSound (diagram_of p)
     → ((now : ℕ) → ScanKeeps (diagram_of p) three plain outcomes plainly Allows (λ inst. MayStore ((diagram_of p).kind inst) ((diagram_of p).preset inst) now) 0 now)
     → KnownIsScan (diagram_of p) → AreNeverBoth p
-never_both p sound keeps known s fits standing z set settled off pairs are scans =
-    apart_after p sound keeps known z set settled pairs are.outside are.excluded scans s.held (standing_holds p s fits standing z off) are.apart
+never_both p sound keeps known s fits standing z set settled so pairs are scans =
+    apart_after p sound keeps known z set settled pairs are.outside are.excluded scans s.held (standing_holds p s fits standing z so) are.apart

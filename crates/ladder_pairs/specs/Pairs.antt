@@ -11,10 +11,10 @@ use Rattle.ladder_scan.specs.Standing.{Standing, Fits, IsStanding}
 use Rattle.ladder_known.specs.KnownScan.{Known, after_known}
 use Rattle.ladder_signals.specs.Three.{three, three_known, three_meet}
 use Rattle.ladder_signals.specs.declared.tri.Tri.{Tri}
-use Rattle.ladder_signals.specs.declared.tri.Tri.TheVariants.{On}
+use Rattle.ladder_signals.specs.declared.tri.Tri.TheVariants.{On, Unsure}
 use Rattle.ladder_never.specs.Allowing.{AllowsState, is_on_in}
-use Rattle.ladder_never.specs.Cases.{IsSettledOff, answering, pinned, told}
-use Rattle.ladder_never.specs.Never.{Bits, IsOff, IsSetOf, OneScan, after_each, is_in, knowing}
+use Rattle.ladder_never.specs.Cases.{IsSettledSo, answering, pinned, told}
+use Rattle.ladder_never.specs.Never.{Bits, IsSetOf, IsSo, OneScan, after_each, claims, knowing}
 use Rattle.ladder_never.specs.Outcomes.{outcomes}
 use Rattle.ladder_never.specs.declared.answer.Answer.TheVariants.{Off as AnswersOff, On as AnswersOn, Input}
 use Rattle.ladder_never.specs.declared.outcome.Outcome.{Outcome}
@@ -35,10 +35,10 @@ are_both_on h pair = is_on_in (point_of pair.first) h && is_on_in (point_of pair
 abbrev pub AreApart : List Pair → Held → Type 0
 AreApart pairs h = All (λ pair. are_both_on h pair ≡ false) pairs
 
--- A variable of the program that is no input, or an instance of it, and none of what is in the set.
+-- A variable of the program that is no input, or an instance of it, of which the set claims nothing.
 abbrev pub IsOutside : Drawing → Bits → Symbol → Type 0
-IsOutside p z (symbol.Var var) = (var < length p.decls.vars) × (slice_index_or (map is_input p.decls.vars) var false ≡ false) × (is_in z.variables var ≡ false)
-IsOutside p z (symbol.Instance inst) = (inst < length p.decls.instances) × (is_in z.instances inst ≡ false)
+IsOutside p z (symbol.Var var) = (var < length p.decls.vars) × (slice_index_or (map is_input p.decls.vars) var false ≡ false) × (claims z.variables var ≡ Unsure)
+IsOutside p z (symbol.Instance inst) = (inst < length p.decls.instances) × (claims z.instances inst ≡ Unsure)
 
 -- Both of a pair are.
 pub record IsPairOutside (p : Drawing) (z : Bits) (pair : Pair) : Type 0 where
@@ -70,7 +70,7 @@ pub data IsSettledBoth (p : Drawing) (pairs : List Pair) (target : Pair) (value 
 abbrev pub IsExcluded : Drawing → List Pair → Pair → Known Tri Outcome → Type 0
 IsExcluded p pairs target k = IsSettledBoth p pairs target false k
 
--- Of each pair not both are ON after a scan from all that is known where the set is OFF and of no pair both are ON.
+-- Of each pair not both are ON after a scan from all that is known where the set is so and of no pair both are ON.
 abbrev pub AreExcluded : Drawing → Bits → List Pair → Type 0
 AreExcluded p z pairs = All (λ pair. IsExcluded p pairs pair (knowing p z)) pairs
 
@@ -80,10 +80,10 @@ pub record ArePairs (p : Drawing) (s : Standing) (z : Bits) (pairs : List Pair) 
   pub apart : AreApart pairs s.held
   pub excluded : AreExcluded p z pairs
 
--- Such pairs exclude each other for ever: where the set is OFF in a state, and of no pair both are ON, of no pair both are ON after any scans
+-- Such pairs exclude each other for ever: where the set is so in a state, and of no pair both are ON, of no pair both are ON after any scans
 -- from there, with any inputs and at any moments.
 abbrev pub AreNeverBoth : Drawing → Type 0
-AreNeverBoth p = (s : Standing) → Fits p s → IsStanding s → (z : Bits) → IsSetOf p z → IsSettledOff p z → IsOff z s.held
+AreNeverBoth p = (s : Standing) → Fits p s → IsStanding s → (z : Bits) → IsSetOf p z → IsSettledSo p z → IsSo z s.held
     → (pairs : List Pair) → ArePairs p s z pairs → (scans : List OneScan) → AreApart pairs (after_each (diagram_of p) scans s.held)
 
 -- What is settled of both of a target is so after one scan from each state that what is known allows, at the same moment, in which of no pair

@@ -10,6 +10,7 @@ use crate::points::are_both_on;
 use ladder_grid::Program;
 use ladder_never::Set;
 use ladder_scan::{Memory, State};
+use ladder_signals::Tri;
 use ladder_vars::Symbol;
 use std::alloc::Global;
 
@@ -19,7 +20,7 @@ fn add_variables(program: &Program, set: &Set, symbols: &mut Vec<Symbol>) -> Res
 {
     let vars = program.decls().vars();
     for var in 0..vars.len() {
-        if !vars[var].is_input() && !set.has_variable(var) {
+        if !vars[var].is_input() && set.of_variable(var) == Tri::Unsure {
             symbols.push(Symbol::Var(var))?;
         }
     }
@@ -31,7 +32,7 @@ fn add_instances(program: &Program, set: &Set, symbols: &mut Vec<Symbol>) -> Res
     ensures { IfOk result (λ _. All (IsOutside program.now set.now) symbols.new.items) }
 {
     for inst in 0..program.decls().instances().len() {
-        if !set.has_instance(inst) {
+        if set.of_instance(inst) == Tri::Unsure {
             symbols.push(Symbol::Instance(inst))?;
         }
     }

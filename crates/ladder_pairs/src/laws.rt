@@ -50,8 +50,8 @@ impl StepRelation for Allowing {
 
 /// Pairs that are settled to stay apart are never both ON.
 ///
-/// Scans over three values settle it, by cases, from what is known where a set is OFF that stays OFF, and of no pair both are ON: all else is
-/// open, and so are all inputs. From a state of the program in which the set is OFF, and of no pair both are ON, of no pair both are ON after
+/// Scans over three values settle it, by cases, from what is known where a set is so that stays so, and of no pair both are ON: all else is
+/// open, and so are all inputs. From a state of the program in which the set is so, and of no pair both are ON, of no pair both are ON after
 /// any scans, with any inputs and at any moments.
 pub fn never_both(program: &Program)
     ensures { AreNeverBoth program.now }

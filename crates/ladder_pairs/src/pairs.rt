@@ -3,7 +3,7 @@
 ghost use Rattle.std.specs.Prelude.{◌≡◌, IfOk, IsTrue, List};
 ghost use Rattle.ladder_scan.specs.Programs.{diagram_of};
 ghost use Rattle.ladder_scan.specs.Standing.{Fits};
-ghost use Rattle.ladder_never.specs.Cases.{IsNever};
+ghost use Rattle.ladder_never.specs.Cases.{IsSteady};
 ghost use Rattle.ladder_never.specs.Never.{OneScan, after_each};
 ghost use Rattle.ladder_pairs.specs.Pairs.{AreApart, ArePairs};
 
@@ -53,8 +53,8 @@ impl Pairs {
 
 /// Pairs of which from the state on never both are ON: of no pair both are ON after any scans from there, with any inputs and at any moments.
 ///
-/// They are of what is outside the set, which is never ON, and no input. Of no pair both are ON in the state, and from any state in which that
-/// is so, and the set is OFF, a scan leaves it so, as scans over three values settle by cases, in each round at most so many `scans` for one
+/// They are of what the set says nothing of, and no input. Of no pair both are ON in the state, and from any state in which that is so, and
+/// the set is so, a scan leaves it so, as scans over three values settle by cases, in each round at most so many `scans` for one
 /// pair. A pair that isn't among them may exclude each other all the same: more scans may settle it.
 ///
 /// # Errors
@@ -68,7 +68,7 @@ pub fn never_both(
     scans: u32,
 ) -> Result<Pairs, Memory>
     requires fits { Fits program.now state.now }
-    requires set { IsNever program.now state.now set.now }
+    requires set { IsSteady program.now state.now set.now }
     ensures are { IfOk result (λ pairs. ArePairs program.now state.now set.now pairs) }
     ensures apart { IfOk result (λ pairs. (scans : List OneScan) → AreApart pairs (after_each (diagram_of program.now) scans state.now.held)) }
 {

@@ -1,5 +1,4 @@
 use Rattle.std.proofs.Common.{◌≡◌, length, map, take}
-use Rattle.ladder_never.specs.Never.{off_or_open}
 use Rattle.ladder_never.specs.declared.answer.Answer.TheVariants.{Open}
 use Rattle.ladder_never.specs.declared.outcome.Outcome.TheVariants.{OfKind}
 use Rattle.ladder_never.proofs.knowing.know_blocks.Given as goal
@@ -8,5 +7,5 @@ abbrev pub invariant-loop-inst : goal.invariant-loop-inst
 invariant-loop-inst l = record {
   known : l.known ≡ record l.fn.known { blocks = l.known.blocks };
   many : length l.known.blocks ≡ length l.instances;
-  done : take l.inst l.known.blocks ≡ map (λ b. OfKind (off_or_open b) Open) (take l.inst l.instances);
+  done : take l.inst l.known.blocks ≡ map (λ t. OfKind t Open) (take l.inst l.instances);
 }

@@ -1,4 +1,4 @@
-use Rattle.ladder_never.proofs.OffForEver.{knowing_allows}
+use Rattle.ladder_never.proofs.ForEver.{knowing_allows}
 use Rattle.ladder_never.proofs.laws.knowing_allows.Goals as goal
 
 pub returns : goal.returns

@@ -1,5 +1,5 @@
 use Rattle.ladder_scan.specs.Programs.{diagram_of}
-use Rattle.ladder_never.proofs.OffForEver.{settled_holds}
+use Rattle.ladder_never.proofs.ForEver.{settled_holds}
 use Rattle.ladder_never.proofs.laws.settled.Goals as goal
 
 pub returns : goal.returns

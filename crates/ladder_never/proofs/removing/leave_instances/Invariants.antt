@@ -1,13 +1,13 @@
 use Rattle.std.proofs.Common.{◌≡◌, ◌≤◌}
 use Rattle.ladder_glance.specs.Sizes.{HasSizes}
 use Rattle.ladder_never.specs.Cases.{told}
-use Rattle.ladder_never.specs.Removing.{is_off, IsLeftSoFar, IsStaying}
+use Rattle.ladder_never.specs.Removing.{IsLeftSoFar, IsStaying}
 use Rattle.ladder_never.specs.declared.point.Point.TheVariants.{Output}
 use Rattle.ladder_never.proofs.removing.leave_instances.Given as goal
 
 abbrev pub invariant-loop-inst : goal.invariant-loop-inst
 invariant-loop-inst l = record {
-  left : IsLeftSoFar (λ inst. is_off (told (Output inst) l.after)) (λ inst. IsStaying l.program (Output inst) l.after l.fn.space.case l.scans) l.fn.instances l.instances l.removed l.inst;
+  left : IsLeftSoFar (λ inst. told (Output inst) l.after) (λ inst. IsStaying l.program (Output inst) l.after l.fn.space.case l.scans) l.fn.instances l.instances l.removed l.inst;
   few : l.removed ≤ l.inst;
   case : l.space.case ≡ l.fn.space.case;
   trial : HasSizes l.program l.space.trial;

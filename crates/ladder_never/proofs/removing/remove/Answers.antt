@@ -1,48 +1,48 @@
-use Rattle.std.proofs.Common.{◌∙◌, ap, arith, false, subst, sym, []}
+use Rattle.std.proofs.Common.{◌∙◌, ap, arith, subst, sym, []}
 use Rattle.std.proofs.lemmas.List.{with_items_is}
 use Rattle.ladder_scan.specs.Programs.{diagram_of}
 use Rattle.ladder_known.specs.KnownScan.{after_known, Known}
 use Rattle.ladder_signals.specs.Three.{three}
-use Rattle.ladder_never.specs.Never.{Bits, StaysOff}
+use Rattle.ladder_never.specs.Never.{Bits, Stays}
 use Rattle.ladder_never.specs.Outcomes.{outcomes}
-use Rattle.ladder_never.specs.Cases.{IsSettled, IsSettledOff}
+use Rattle.ladder_never.specs.Cases.{IsSettled, IsSettledSo}
 use Rattle.ladder_never.specs.declared.outcome.Outcome.{Outcome}
 use Rattle.ladder_never.specs.declared.point.Point.TheVariants.{Variable, Output}
 use Rattle.ladder_signals.specs.declared.tri.Tri.{Tri}
 use Rattle.ladder_never.proofs.Left.{moved}
-use Rattle.ladder_never.proofs.PinnedTwice.{off_output, off_variable, passes_output, passes_variable, same_bits, staying_plain, staying_settled}
+use Rattle.ladder_never.proofs.PinnedTwice.{known_of_output, known_of_variable, same_bits, staying_plain, staying_settled, told_of_output, told_of_variable}
 use Rattle.ladder_never.proofs.removing.remove.Goals as goal
 
 pub returns-clause-within : goal.returns-clause-within
 returns-clause-within c =
     let before = c.set.inside in
     record {
-      variables = λ var e.
-          moved _ _ var (c.deref_mut.ensures.value ∙ ap (λ (z : Bits). z.variables) c.set.view_is)
-          (c.leave_variables-variables.ensures.left.within var
-          (moved _ _ var (with_items_is before.variables c.leave_variables-variables.new.variables (c.leave_variables-variables.auto.variables ∙ c.deref_mut.ensures.len)) e));
-      instances = λ inst e.
-          moved _ _ inst (c.deref_mut-2.ensures.value ∙ ap (λ (z : Bits). z.instances) c.set.view_is)
-          (c.leave_instances-instances.ensures.left.within inst
-          (moved _ _ inst (with_items_is before.instances c.leave_instances-instances.new.instances (c.leave_instances-instances.auto.instances ∙ c.deref_mut-2.ensures.len)) e));
+      variables = λ var value e.
+          moved _ _ var value (c.deref_mut.ensures.value ∙ ap (λ (z : Bits). z.variables) c.set.view_is)
+          (c.leave_variables-variables.ensures.left.within var value
+          (moved _ _ var value (with_items_is before.variables c.leave_variables-variables.new.variables (c.leave_variables-variables.auto.variables ∙ c.deref_mut.ensures.len)) e));
+      instances = λ inst value e.
+          moved _ _ inst value (c.deref_mut-2.ensures.value ∙ ap (λ (z : Bits). z.instances) c.set.view_is)
+          (c.leave_instances-instances.ensures.left.within inst value
+          (moved _ _ inst value (with_items_is before.instances c.leave_instances-instances.new.instances (c.leave_instances-instances.auto.instances ∙ c.deref_mut-2.ensures.len)) e));
     }
 
 pub returns-clause-most : goal.returns-clause-most
 returns-clause-most c = λ other set stays within.
     let before = c.set.inside in
-    let left = c.leaves_off.ensures other c.args.set.now set c.requires.set within stays in
+    let left = c.leaves_so.ensures other c.args.set.now set c.requires.set within stays in
     let after = c.scan_known.ensures.known ∙ ap (after_known three outcomes (diagram_of c.args.program.now) 0 []) (c.copy_from.ensures ∙ c.know.ensures.known) in
     record {
-      variables = λ var m.
-          moved _ _ var (sym (with_items_is before.variables c.leave_variables-variables.new.variables (c.leave_variables-variables.auto.variables ∙ c.deref_mut.ensures.len)))
-          (c.leave_variables-variables.ensures.left.kept var
-          (moved _ _ var (sym (c.deref_mut.ensures.value ∙ ap (λ (z : Bits). z.variables) c.set.view_is)) (within.variables var m))
-          (passes_variable _ _ var after (left.variables var m)));
-      instances = λ inst m.
-          moved _ _ inst (sym (with_items_is before.instances c.leave_instances-instances.new.instances (c.leave_instances-instances.auto.instances ∙ c.deref_mut-2.ensures.len)))
-          (c.leave_instances-instances.ensures.left.kept inst
-          (moved _ _ inst (sym (c.deref_mut-2.ensures.value ∙ ap (λ (z : Bits). z.instances) c.set.view_is)) (within.instances inst m))
-          (passes_output _ _ inst after (left.instances inst m)));
+      variables = λ var value m.
+          moved _ _ var value (sym (with_items_is before.variables c.leave_variables-variables.new.variables (c.leave_variables-variables.auto.variables ∙ c.deref_mut.ensures.len)))
+          (c.leave_variables-variables.ensures.left.kept var value
+          (moved _ _ var value (sym (c.deref_mut.ensures.value ∙ ap (λ (z : Bits). z.variables) c.set.view_is)) (within.variables var value m))
+          (told_of_variable _ _ var value after (left.variables var value m)));
+      instances = λ inst value m.
+          moved _ _ inst value (sym (with_items_is before.instances c.leave_instances-instances.new.instances (c.leave_instances-instances.auto.instances ∙ c.deref_mut-2.ensures.len)))
+          (c.leave_instances-instances.ensures.left.kept inst value
+          (moved _ _ inst value (sym (c.deref_mut-2.ensures.value ∙ ap (λ (z : Bits). z.instances) c.set.view_is)) (within.instances inst value m))
+          (told_of_output _ _ inst value after (left.instances inst value m)));
     }
 
 pub returns-clause-plain : goal.returns-clause-plain
@@ -51,12 +51,13 @@ returns-clause-plain c = λ none nothing.
     let after = c.scan_known.ensures.known ∙ ap (after_known three outcomes (diagram_of c.args.program.now) 0 []) (c.copy_from.ensures ∙ c.know.ensures.known) in
     let variables = c.leave_variables-variables.ensures.left.same (omega (arith, nothing)) ∙ c.deref_mut.ensures.value ∙ ap (λ (z : Bits). z.variables) c.set.view_is in
     let instances = c.leave_instances-instances.ensures.left.same (omega (arith, nothing)) ∙ c.deref_mut-2.ensures.value ∙ ap (λ (z : Bits). z.instances) c.set.view_is in
-    subst (StaysOff c.args.program.now) (sym (same_bits _ _ _ _
+    subst (Stays c.args.program.now) (sym (same_bits _ _ _ _
     (with_items_is before.variables c.leave_variables-variables.new.variables (c.leave_variables-variables.auto.variables ∙ c.deref_mut.ensures.len) ∙ variables)
     (with_items_is before.instances c.leave_instances-instances.new.instances (c.leave_instances-instances.auto.instances ∙ c.deref_mut-2.ensures.len) ∙ instances)))
     (record {
-      variables = λ var m. off_variable _ _ var after (staying_plain (c.leave_variables-variables.ensures.left.holds var (moved _ _ var (sym variables) m)) none);
-      instances = λ inst m. off_output _ _ inst after (staying_plain (c.leave_instances-instances.ensures.left.holds inst (moved _ _ inst (sym instances) m)) none);
+      variables = λ var value m. known_of_variable c.args.set.now.variables _ _ var value after
+          (c.scan_known.ensures.sizes.values ∙ sym c.requires.set.variables) m (staying_plain (c.leave_variables-variables.ensures.left.holds var value (moved _ _ var value (sym variables) m)) none);
+      instances = λ inst value m. known_of_output _ _ inst value after (staying_plain (c.leave_instances-instances.ensures.left.holds inst value (moved _ _ inst value (sym instances) m)) none);
     })
 
 pub returns-clause-settled : goal.returns-clause-settled
@@ -64,14 +65,14 @@ returns-clause-settled c = λ nothing.
     let before = c.set.inside in
     let variables = c.leave_variables-variables.ensures.left.same (omega (arith, nothing)) ∙ c.deref_mut.ensures.value ∙ ap (λ (z : Bits). z.variables) c.set.view_is in
     let instances = c.leave_instances-instances.ensures.left.same (omega (arith, nothing)) ∙ c.deref_mut-2.ensures.value ∙ ap (λ (z : Bits). z.instances) c.set.view_is in
-    subst (IsSettledOff c.args.program.now) (sym (same_bits _ _ _ _
+    subst (IsSettledSo c.args.program.now) (sym (same_bits _ _ _ _
     (with_items_is before.variables c.leave_variables-variables.new.variables (c.leave_variables-variables.auto.variables ∙ c.deref_mut.ensures.len) ∙ variables)
     (with_items_is before.instances c.leave_instances-instances.new.instances (c.leave_instances-instances.auto.instances ∙ c.deref_mut-2.ensures.len) ∙ instances)))
     (record {
-      variables = λ var m.
-          subst (λ (k : Known Tri Outcome). IsSettled c.args.program.now (Variable var) false k) c.know.ensures.known
-          (staying_settled (c.leave_variables-variables.ensures.left.holds var (moved _ _ var (sym variables) m)));
-      instances = λ inst m.
-          subst (λ (k : Known Tri Outcome). IsSettled c.args.program.now (Output inst) false k) (c.leave_variables-variables.ensures.case ∙ c.know.ensures.known)
-          (staying_settled (c.leave_instances-instances.ensures.left.holds inst (moved _ _ inst (sym instances) m)));
+      variables = λ var value m.
+          subst (λ (k : Known Tri Outcome). IsSettled c.args.program.now (Variable var) value k) c.know.ensures.known
+          (staying_settled (c.leave_variables-variables.ensures.left.holds var value (moved _ _ var value (sym variables) m)));
+      instances = λ inst value m.
+          subst (λ (k : Known Tri Outcome). IsSettled c.args.program.now (Output inst) value k) (c.leave_variables-variables.ensures.case ∙ c.know.ensures.known)
+          (staying_settled (c.leave_instances-instances.ensures.left.holds inst value (moved _ _ inst value (sym instances) m)));
     })

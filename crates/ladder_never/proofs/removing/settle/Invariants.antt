@@ -1,7 +1,7 @@
 use Rattle.std.proofs.Common.{◌≡◌, ◌+◌}
 use Rattle.ladder_glance.specs.Sizes.{HasSizes, IsSpareFor}
-use Rattle.ladder_never.specs.Cases.{IsSettledOff}
-use Rattle.ladder_never.specs.Never.{Bits, IsSetOf, IsWithin, StaysOff}
+use Rattle.ladder_never.specs.Cases.{IsSettledSo}
+use Rattle.ladder_never.specs.Never.{Bits, IsSetOf, IsWithin, Stays}
 use Rattle.ladder_never.specs.Removing.{size}
 use Rattle.ladder_never.proofs.removing.settle.Given as goal
 
@@ -9,9 +9,9 @@ abbrev pub invariant-loop-removed : goal.invariant-loop-removed
 invariant-loop-removed l = record {
   set : IsSetOf l.program l.set;
   within : IsWithin l.set l.fn.set;
-  most : (other : Bits) → IsSetOf l.program other → StaysOff l.program other → IsWithin other l.fn.set → IsWithin other l.set;
-  settled : l.removed ≡ 0 → IsSettledOff l.program l.set;
-  plain : l.scans ≡ 0 → l.removed ≡ 0 → StaysOff l.program l.set;
+  most : (other : Bits) → IsSetOf l.program other → Stays l.program other → IsWithin other l.fn.set → IsWithin other l.set;
+  settled : l.removed ≡ 0 → IsSettledSo l.program l.set;
+  plain : l.scans ≡ 0 → l.removed ≡ 0 → Stays l.program l.set;
   after : HasSizes l.program l.after;
   case : HasSizes l.program l.space.case;
   trial : HasSizes l.program l.space.trial;
