@@ -11,7 +11,7 @@ from collections import Counter
 from typing import NamedTuple
 
 from end_to_end import differences, run
-from lanes import MOMENT, Everywhere, Lanes, do_suffice, never, never_both, open_bits
+from lanes import MOMENT, Everywhere, Lanes, do_suffice, never_both, of_value, open_bits, steady
 from model import FORMS, Program, classes_answer, judged_answer, text_of
 from running import Running, bits_of
 
@@ -281,39 +281,48 @@ def compare_held_from(trial, sort, every, scans):
     return found + differences(trial.ask("causes", *asked), (out.encode(), f"rows {len(table)}\n".encode(), 0))
 
 
-def run_at_random(trial, dead):
-    """Names that never come ON, of which one does in some of 64 random runs."""
+def is_on_in(lanes, name):
+    """The lanes in which a variable, or the output of an instance, is ON."""
+    return lanes.values.get(name, 0) | lanes.values.get(name + ".Q", 0)
+
+
+def run_at_random(trial, named):
+    """Names that never change, of which one does in some of 64 random runs."""
     lanes, moment, found = Lanes(Program(trial.text), 64), 0, []
     for _ in range(40):
         moment += trial.chance.choice([0, 1, 10, 700, 5000])
         lanes.scan({name: trial.chance.getrandbits(64) for name in lanes.program.inputs}, moment)
-        for name in dead:
-            if any(lanes.values.get(f"{name.upper()}{end}", 0) for end in ("", ".Q", ".Q1")):
-                found.append(f"{name} came ON at {moment}, and `never` names it")
+        for name, is_on in named.items():
+            if is_on_in(lanes, name) != (2 ** 64 - 1 if is_on else 0):
+                found.append(f"{name} changed at {moment}, and `never` names it")
     return found
 
 
-def compare_never(trial):
-    """What can never come ON: rows of the cross-reference, OFF in random runs, and OFF after a scan from every state that has them OFF."""
-    out, said, status = trial.ask("never", "program.ld")
+def named_never(trial, *words):
+    """The names that `never` lists with these words, and what is wrong with its text: the rows of the cross-reference of these names."""
+    out, said, status = trial.ask("never", *words, "program.ld")
     lines, every = out.decode().splitlines(), trial.ask("uses", "program.ld")[0].decode().splitlines()
-    dead = {line.split(",")[0] for line in lines[1:]}
-    wanted = [every[0], *(line for line in every[1:] if line.split(",")[0] in dead)]
+    named = {line.split(",")[0] for line in lines[1:]}
+    wanted = [every[0], *(line for line in every[1:] if line.split(",")[0] in named)]
     found = differences(("\n".join(lines).encode(), said, status), ("\n".join(wanted).encode(), f"rows {len(wanted) - 1}\n".encode(), 0))
+    return {name.upper() for name in named}, found
+
+
+def compare_never(trial):
+    """What never changes, OFF and ON: rows of the cross-reference, the same in random runs, and after a scan from every state in which it is so."""
+    (dead, found), (live, wrong) = named_never(trial), named_never(trial, "--off")
+    named = dict.fromkeys(dead, False) | dict.fromkeys(live, True)
+    found += wrong + ([f"{sorted(dead & live)} are OFF and ON"] if dead & live else [])
     program = Program(trial.text)
-    found += run_at_random(trial, dead)
+    found += run_at_random(trial, named)
     if len(open_bits(program)) > MOST_BITS:
         return found
-    most = never(program)
-    trial.tally["names that never come ON"] += len(most)
-    trial.tally["of these named"] += len(dead)
-    wrong = sorted({name.upper() for name in dead} - most)
-    return found + ([f"{wrong} can come ON, and `never` names them"] if wrong else [])
-
-
-def is_on(lanes, name):
-    """The lanes in which a variable, or the output of an instance, is ON."""
-    return lanes.values.get(name, 0) | lanes.values.get(name + ".Q", 0)
+    most = steady(program)
+    for value, what in ((False, "come ON"), (True, "go OFF")):
+        trial.tally[f"names that never {what}"] += len(of_value(most, value))
+        trial.tally[f"of these that never {what} named"] += len(of_value(named, value))
+    wrong = sorted(name for name, value in named.items() if most.get(name) != value)
+    return found + ([f"{wrong} can change, and `never` names them"] if wrong else [])
 
 
 def run_pairs_at_random(trial, pairs):
@@ -323,14 +332,14 @@ def run_pairs_at_random(trial, pairs):
         moment += trial.chance.choice([0, 1, 10, 700, 5000])
         lanes.scan({name: trial.chance.getrandbits(64) for name in lanes.program.inputs}, moment)
         for first, second in pairs:
-            if is_on(lanes, first) & is_on(lanes, second):
+            if is_on_in(lanes, first) & is_on_in(lanes, second):
                 found.append(f"{first} and {second} were ON at {moment}, and `never --pairs` names them")
     return found
 
 
 def compare_pairs(trial):
     """Pairs that are never both ON: each of two names, apart in random runs, and apart after a scan from every state that has them all apart
-    and has OFF what can never come ON."""
+    and in which what never changes is so."""
     out, said, status = trial.ask("never", "--pairs", "program.ld")
     rows = [line.split(",") for line in out.decode().splitlines()]
     pairs = {tuple(sorted(name.upper() for name in row)) for row in rows[1:]}
@@ -341,11 +350,11 @@ def compare_pairs(trial):
     found += run_pairs_at_random(trial, pairs)
     if len(open_bits(program)) > MOST_BITS:
         return found
-    dead = never(program)
-    most = never_both(program, dead)
+    known = steady(program)
+    most = never_both(program, known)
     trial.tally["pairs that are never both ON"] += len(most)
     trial.tally["of these pairs named"] += len(pairs & most)
-    wrong = sorted(pair for pair in pairs - most if not dead.intersection(pair))
+    wrong = sorted(pair for pair in pairs - most if not known.keys() & set(pair))
     return found + ([f"{wrong} can be ON together, and `never --pairs` names them"] if wrong else [])
 
 
@@ -392,9 +401,9 @@ def compare_random_states(trial):
 
 
 def stays_so(trial):
-    """What the program says of each state that a run reaches: the names that are OFF, and the pairs of which not both are ON."""
-    dead, pairs = (trial.ask("never", *words, "program.ld")[0].decode().upper().splitlines()[1:] for words in ((), ("--pairs",)))
-    return {line.split(",")[0] for line in dead}, [line.split(",") for line in pairs]
+    """What the program says of each state that a run reaches: the names that are OFF, those that are ON, and the pairs of which not both are."""
+    dead, live, pairs = (trial.ask("never", *words, "program.ld")[0].decode().upper().splitlines()[1:] for words in ((), ("--off",), ("--pairs",)))
+    return {line.split(",")[0] for line in dead}, {line.split(",")[0] for line in live}, [line.split(",") for line in pairs]
 
 
 def run_with_rows(trial, settled, others, options):
@@ -420,8 +429,8 @@ def run_with_rows(trial, settled, others, options):
 def compare_with_each(trial, *options):
     """What some state leaves ON, or with `--must` every one, of all states or with `--off` of those in which the coil is OFF, and with
     `--reachable` of those in which it is so what stays so, against a scan from each; None where these are too many."""
-    dead, pairs = stays_so(trial) if "--reachable" in options else (set(), [])
-    every = Everywhere(Program(trial.text), trial.listed, dead | ({trial.coil.upper()} if "--off" in options else set()), pairs)
+    dead, live, pairs = stays_so(trial) if "--reachable" in options else (set(), set(), [])
+    every = Everywhere(Program(trial.text), trial.listed, dead | ({trial.coil.upper()} if "--off" in options else set()), live, pairs)
     if every.bits > MOST_BITS:
         return None
     settled, others, found = rows_of_any(trial, *options)
