@@ -4,13 +4,7 @@ use Rattle.ladder_signals.specs.Three.{three_known}
 use Rattle.ladder_signals.specs.declared.tri.Tri.{Tri}
 use Rattle.ladder_signals.specs.declared.tri.Tri.TheVariants.{Unsure}
 use Rattle.ladder_never.specs.Never.{claims}
-use Rattle.ladder_never.proofs.Listed.{on_off, unsure_known}
-
-same_value : (v value : Bool) → three_known v ≡ three_known value → v ≡ value
-same_value true true e = refl
-same_value true false e = cc
-same_value false true e = cc
-same_value false false e = refl
+use Rattle.ladder_never.proofs.Claims.{claim_within, on_off, same_value, unsure_known}
 
 value_of : (flag v value : Bool) (t : Tri) → t ≡ (if flag then Unsure else three_known v) → t ≡ three_known value → v ≡ value
 value_of true v value t e f = absurd (unsure_known value (sym e ∙ f))
@@ -31,11 +25,6 @@ within_or (t ∷ bits) (suc i) = elim (within_or bits i) [
   | inl l ↦ inl (omega (arith, l))
   | inr e ↦ inr e
 ]
-
-pub claim_within : (bits : List Tri) (i : ℕ) (value : Bool) → claims bits i ≡ three_known value → i < length bits
-claim_within [] i value m = absurd (unsure_known value m)
-claim_within (t ∷ bits) zero value m = omega arith
-claim_within (t ∷ bits) (suc i) value m = let l = claim_within bits i value m in omega (arith, l)
 
 module _ (is_input is_on : ℕ → Bool) (bits : List Tri) (begun : (i : ℕ) → i < length bits → claims bits i ≡ (if is_input i then Unsure else three_known (is_on i))) where
   pub begun_no_input : (i : ℕ) → is_input i ≡ true → claims bits i ≡ Unsure

@@ -7,7 +7,7 @@ use Rattle.ladder_signals.specs.declared.tri.Tri.{Tri}
 use Rattle.ladder_signals.specs.declared.tri.Tri.TheVariants.{Off, On, Unsure}
 use Rattle.ladder_never.specs.Never.{claims}
 use Rattle.ladder_never.specs.Removing.{IsLeftBy, IsLeftSoFar, is_claim, members}
-use Rattle.ladder_never.proofs.Listed.{unsure_known}
+use Rattle.ladder_never.proofs.Claims.{unsure_known}
 
 none_past : (xs : List Tri) (i : ℕ) → length xs ≤ i → get_or xs i Unsure ≡ Unsure
 none_past [] i h = refl

@@ -1,3 +1,4 @@
+pub mod Claims
 pub mod Listed
 pub mod Begun
 pub mod ForEver

@@ -16,6 +16,7 @@ use Rattle.ladder_never.specs.OutcomeLaws.{open_answers}
 use Rattle.ladder_never.specs.Outcomes.{KnowsMore, MayStore, TellsMore}
 use Rattle.ladder_never.specs.declared.answer.Answer.TheVariants.{Open}
 use Rattle.ladder_never.specs.declared.outcome.Outcome.TheVariants.{OfKind}
+use Rattle.ladder_never.proofs.Claims.{on_off, unsure_known}
 
 pub both_at : {A B : Type 0} (R : A → B → Type 0) (xs : List A) (ys : List B) → Both R xs ys → (d : A) (e : B) → R d e → (i : ℕ) → R (get_or xs i d) (get_or ys i e)
 both_at R [] [] h d e r i = r
@@ -78,9 +79,6 @@ given_none (false ∷ flags) [] = refl
 given_none (true ∷ flags) (v ∷ vs) = ap (λ ws. v ∷ ws) (given_none flags vs)
 given_none (false ∷ flags) (v ∷ vs) = ap (λ ws. v ∷ ws) (given_none flags vs)
 
-pub on_off : true ≡ false → ⊥
-on_off e = cc
-
 -- a variable that is no input keeps its value
 pub given_same : (flags xs vs : List Bool) (i : ℕ) → get_or flags i false ≡ false → get_or (given flags xs vs) i false ≡ get_or vs i false
 given_same [] xs vs i e = refl
@@ -92,10 +90,6 @@ given_same (true ∷ flags) [] (v ∷ vs) (suc i) e = given_same flags [] vs i e
 given_same (true ∷ flags) (x ∷ xs) (v ∷ vs) (suc i) e = given_same flags xs vs i e
 given_same (false ∷ flags) xs (v ∷ vs) zero e = refl
 given_same (false ∷ flags) xs (v ∷ vs) (suc i) e = given_same flags xs vs i e
-
-pub unsure_known : (value : Bool) → Unsure ≡ three_known value → ⊥
-unsure_known true e = cc
-unsure_known false e = cc
 
 pub no_input_in : (flag value : Bool) (t : Tri) → (flag ≡ true → t ≡ Unsure) → t ≡ three_known value → flag ≡ false
 no_input_in true value t e f = absurd (unsure_known value (sym (e refl) ∙ f))
@@ -125,18 +119,3 @@ blocks_more [] [] h e = tt
 blocks_more [] (u ∷ more) h e = absurd (omega (arith, h))
 blocks_more (t ∷ bits) [] h e = absurd (omega (arith, h))
 blocks_more (t ∷ bits) (u ∷ more) h e = ((one_more t u (e 0), tt), blocks_more bits more (omega (arith, h)) (λ i. e (suc i)))
-
--- ---- places
--- where something is known, it is the same with any other value past the end
-pub known_within : (xs : List Tri) (i : ℕ) (value : Bool) (d : Tri) → get_or xs i Unsure ≡ three_known value → get_or xs i d ≡ three_known value
-known_within [] i value d e = absurd (unsure_known value e)
-known_within (x ∷ xs) zero value d e = e
-known_within (x ∷ xs) (suc i) value d e = known_within xs i value d e
-
--- what is known where a list as long claims something, with any value past the end
-pub known_beside : (bits xs : List Tri) (i : ℕ) (value : Bool) (d : Tri) → length xs ≡ length bits → get_or bits i Unsure ≡ three_known value
-    → get_or xs i d ≡ three_known value → get_or xs i Unsure ≡ three_known value
-known_beside [] xs i value d h m e = absurd (unsure_known value m)
-known_beside (t ∷ bits) [] i value d h m e = absurd (omega (arith, h))
-known_beside (t ∷ bits) (x ∷ xs) zero value d h m e = e
-known_beside (t ∷ bits) (x ∷ xs) (suc i) value d h m e = known_beside bits xs i value d (omega (arith, h)) m e

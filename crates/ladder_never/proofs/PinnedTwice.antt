@@ -14,7 +14,7 @@ use Rattle.ladder_never.specs.declared.outcome.Outcome.{Outcome}
 use Rattle.ladder_never.specs.declared.outcome.Outcome.TheVariants.{Anything, OfKind}
 use Rattle.ladder_never.specs.declared.point.Point.{Point}
 use Rattle.ladder_never.specs.declared.point.Point.TheVariants.{Variable, Output, Memory, Answer as AnswerOf}
-use Rattle.ladder_never.proofs.Listed.{known_beside, known_within}
+use Rattle.ladder_never.proofs.Claims.{known_beside, known_within}
 
 set_again : {A : Type 0} (xs : List A) (i : ℕ) (x y : A) → set (set xs i x) i y ≡ set xs i y
 set_again [] i x y = refl
