@@ -1,4 +1,4 @@
-use Rattle.std.proofs.Common.{◌≡◌, ◌∙◌, ap, arith, false, length, List, map, slice_index_or, sym, ℕ, if◌then◌else◌}
+use Rattle.std.proofs.Common.{◌≡◌, ◌∙◌, ap, arith, false, length, List, map, slice_index_or, sym, if◌then◌else◌}
 use Rattle.std.proofs.lemmas.List.{length-replicate, with_items_is}
 use Rattle.ladder_vars.specs.declared.decls.Decls.{Decls}
 use Rattle.ladder_vars.specs.declared.decls.Var.{Var}
@@ -22,11 +22,11 @@ returns-clause-most c = λ other set so.
     let variables = with_items_is before.variables c.begin_variables.new.variables (c.begin_variables.auto.variables ∙ c.deref_mut.ensures.len) in
     let instances = with_items_is before.instances c.begin_instances.new.instances (c.begin_instances.auto.instances ∙ c.deref_mut-2.ensures.len) in
     let as_many_variables : length c.begin_variables.new.variables ≡ length vars =
-        c.begin_variables.auto.variables ∙ ap length (c.deref_mut.ensures.value ∙ ap (λ (z : Bits). z.variables) c.set.view_is ∙ c.in_ok-set.ensures.variables)
-        ∙ length-replicate (length vars) Unsure in
+    c.begin_variables.auto.variables ∙ ap length (c.deref_mut.ensures.value ∙ ap (λ (z : Bits). z.variables) c.set.view_is ∙ c.in_ok-set.ensures.variables)
+    ∙ length-replicate (length vars) Unsure in
     let as_many_instances : length c.begin_instances.new.instances ≡ length c.args.program.now.decls.instances =
-        c.begin_instances.auto.instances ∙ ap length (c.deref_mut-2.ensures.value ∙ ap (λ (z : Bits). z.instances) c.set.view_is ∙ c.in_ok-set.ensures.instances)
-        ∙ length-replicate (length c.args.program.now.decls.instances) Unsure in
+    c.begin_instances.auto.instances ∙ ap length (c.deref_mut-2.ensures.value ∙ ap (λ (z : Bits). z.instances) c.set.view_is ∙ c.in_ok-set.ensures.instances)
+    ∙ length-replicate (length c.args.program.now.decls.instances) Unsure in
     record {
       variables = λ var value m.
           moved _ _ var value (sym variables)

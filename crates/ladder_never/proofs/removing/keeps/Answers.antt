@@ -1,4 +1,4 @@
-use Rattle.std.proofs.Common.{◌≡◌, ◌∙◌, Bool, subst, sym, false, true}
+use Rattle.std.proofs.Common.{◌∙◌, subst, sym, false, true}
 use Rattle.ladder_never.specs.Removing.{IsStaying}
 use Rattle.ladder_never.proofs.Claims.{same_value, unsure_known}
 use Rattle.ladder_never.proofs.removing.keeps.Goals as goal

@@ -24,7 +24,7 @@ loop-inst-preserved c = elim c.if-not-keeps.branch [
         (claim_stays _ _ c.args.instances.now c.loop-inst.instances _ c.loop-inst.inst c.loop-inst.invariant.left (omega (arith, c.loop-inst-test.true, c.loop-inst.auto.instances)) c.keeps.result
         w.if-not-keeps.false _
         (λ kept value m.
-          subst (λ (k : Known Tri Outcome). IsStaying c.args.program.now (Output c.loop-inst.inst) c.args.after.now k c.args.scans value) c.loop-inst.invariant.case (c.keeps.ensures.stays kept value m)));
+        subst (λ (k : Known Tri Outcome). IsStaying c.args.program.now (Output c.loop-inst.inst) c.args.after.now k c.args.scans value) c.loop-inst.invariant.case (c.keeps.ensures.stays kept value m)));
     few = search rules;
     case = search rules;
     trial = search rules;

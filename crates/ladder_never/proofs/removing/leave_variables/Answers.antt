@@ -24,7 +24,7 @@ loop-var-preserved c = elim c.if-not-keeps.branch [
         (claim_stays _ _ c.args.variables.now c.loop-var.variables _ c.loop-var.var c.loop-var.invariant.left (omega (arith, c.loop-var-test.true, c.loop-var.auto.variables)) c.keeps.result
         w.if-not-keeps.false _
         (λ kept value m.
-          subst (λ (k : Known Tri Outcome). IsStaying c.args.program.now (Variable c.loop-var.var) c.args.after.now k c.args.scans value) c.loop-var.invariant.case (c.keeps.ensures.stays kept value m)));
+        subst (λ (k : Known Tri Outcome). IsStaying c.args.program.now (Variable c.loop-var.var) c.args.after.now k c.args.scans value) c.loop-var.invariant.case (c.keeps.ensures.stays kept value m)));
     few = search rules;
     case = search rules;
     trial = search rules;

@@ -1,5 +1,4 @@
-use Rattle.std.proofs.Common.{◌≡◌, ◌∙◌, ap, sym}
-use Rattle.ladder_signals.specs.Three.{three_known}
+use Rattle.std.proofs.Common.{◌∙◌, ap, sym}
 use Rattle.ladder_never.specs.Cases.{by_scan, told}
 use Rattle.ladder_never.specs.Removing.{staying}
 use Rattle.ladder_never.proofs.Claims.{is_off, is_on, off_known, on_known, unsure_known}
