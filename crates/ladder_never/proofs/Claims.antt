@@ -1,9 +1,10 @@
 -- What is claimed, and what is known where it is claimed.
 use Rattle.std.proofs.Common.{◌≡◌, ◌∙◌, ◌<◌, ℕ, Bool, true, false, not, List, [], ◌∷◌, get_or, length, zero, suc, refl, sym, arith}
+use Rattle.ladder_scan.specs.Rung.{Held}
 use Rattle.ladder_signals.specs.Three.{three_known}
 use Rattle.ladder_signals.specs.declared.tri.Tri.{Tri}
 use Rattle.ladder_signals.specs.declared.tri.Tri.TheVariants.{Off, On, Unsure}
-use Rattle.ladder_never.specs.Never.{claims}
+use Rattle.ladder_never.specs.Never.{Bits, IsSo, IsWithin, claims}
 
 pub on_off : true ≡ false → ⊥
 on_off e = cc
@@ -34,6 +35,12 @@ pub is_on : (value : Bool) → On ≡ three_known value → value ≡ true
 is_on true e = refl
 is_on false e = cc
 
+-- what claims no more than something that claims nothing
+pub none_left : (t u : Tri) → ((value : Bool) → t ≡ three_known value → u ≡ three_known value) → u ≡ Unsure → t ≡ Unsure
+none_left Off u f e = absurd (unsure_known false (sym e ∙ f false refl))
+none_left On u f e = absurd (unsure_known true (sym e ∙ f true refl))
+none_left Unsure u f e = refl
+
 -- ---- in a list
 pub claim_within : (bits : List Tri) (i : ℕ) (value : Bool) → claims bits i ≡ three_known value → i < length bits
 claim_within [] i value m = absurd (unsure_known value m)
@@ -53,3 +60,10 @@ known_beside [] xs i value d h m e = absurd (unsure_known value m)
 known_beside (t ∷ bits) [] i value d h m e = absurd (omega (arith, h))
 known_beside (t ∷ bits) (x ∷ xs) zero value d h m e = e
 known_beside (t ∷ bits) (x ∷ xs) (suc i) value d h m e = known_beside bits xs i value d (omega (arith, h)) m e
+
+-- ---- in a set
+pub so_within : (z w : Bits) (h : Held) → IsWithin z w → IsSo w h → IsSo z h
+so_within z w h within so = record {
+  variables = λ var value m. so.variables var value (within.variables var value m);
+  instances = λ inst value m. so.instances inst value (within.instances inst value m);
+}

@@ -1,6 +1,6 @@
 -- What is left of a list of claims, one by one.
-use Rattle.std.proofs.Common.{◌≡◌, ◌≢◌, ◌∙◌, ◌<◌, ◌≤◌, ◌+◌, ◌⊎◌, inl, inr, ℕ, Bool, true, cond, List, [], ◌∷◌, get_or, length, set, zero, suc, refl, sym, ap, subst, arith}
-use Rattle.std.proofs.lemmas.List.{get_or-set_other, get_or-set_same, length-set}
+use Rattle.std.proofs.Common.{◌≡◌, ◌≢◌, ◌∙◌, ◌<◌, ◌≤◌, ◌+◌, ◌⊎◌, inl, inr, ℕ, Bool, true, false, cond, List, [], ◌∷◌, get_or, length, set, zero, suc, refl, sym, ap, subst, arith}
+use Rattle.std.proofs.lemmas.List.{get_or_default, get_or-set_other, get_or-set_same, length-set}
 use Rattle.std.proofs.lemmas.List.Sums.{sum_by-set}
 use Rattle.ladder_signals.specs.Three.{three_known}
 use Rattle.ladder_signals.specs.declared.tri.Tri.{Tri}
@@ -39,6 +39,9 @@ other i n h e = omega (arith, h, e)
 -- nothing is claimed where a claim was dropped
 dropped : (xs : List Tri) (n i : ℕ) (value : Bool) → n < length xs → i ≡ n → claims (set xs n Unsure) i ≡ three_known value → ⊥
 dropped xs n i value within e h = unsure_known value (sym (get_or-set_same xs n Unsure Unsure within) ∙ sym (ap (λ j. claims (set xs n Unsure) j) e) ∙ h)
+
+true_false : true ≡ false → ⊥
+true_false e = cc
 
 module _ (telling : ℕ → Tri) (P : ℕ → Bool → Type 0) where
   pub none_tried : (bits : List Tri) → IsLeftSoFar telling P bits bits 0 0
@@ -97,6 +100,18 @@ module _ (telling : ℕ → Tri) (P : ℕ → Bool → Type 0) where
     count = omega (arith, one_less left n within (some_claim (claims left n) claimed), so.count);
     same = λ h. absurd (omega (arith, h));
   }
+
+  -- by whether the claim at hand is kept, read with any value past the end
+  pub claim_stays : (bits left : List Tri) (removed n : ℕ) → IsLeftSoFar telling P bits left removed n → n < length left → (keeps : Bool) → keeps ≡ true → (d : Tri)
+      → (keeps ≡ true → (value : Bool) → get_or left n d ≡ three_known value → P n value) → IsLeftSoFar telling P bits left removed (n + 1)
+  claim_stays bits left removed n so within keeps kept d stays =
+      one_stays bits left removed n so (λ value m. stays kept value (get_or_default left n d Unsure within ∙ m))
+
+  pub claim_goes : (bits left : List Tri) (removed n : ℕ) → IsLeftSoFar telling P bits left removed n → n < length left → (keeps : Bool) → keeps ≡ false → (d : Tri)
+      → (telling n ≡ get_or left n d → keeps ≡ true) → (get_or left n d ≡ Unsure → keeps ≡ true) → IsLeftSoFar telling P bits (set left n Unsure) (removed + 1) (n + 1)
+  claim_goes bits left removed n so within keeps gone d told none =
+      let there = get_or_default left n d Unsure within in
+      one_goes bits left removed n so (λ e. true_false (sym (none (there ∙ e)) ∙ gone)) (λ e. true_false (sym (told (e ∙ sym there)) ∙ gone)) within
 
   pub same_left : (bits xs ys : List Tri) (m n k : ℕ) → xs ≡ ys → m ≡ n → IsLeftSoFar telling P bits ys n k → IsLeftSoFar telling P bits xs m k
   same_left bits xs ys m n k e f so =

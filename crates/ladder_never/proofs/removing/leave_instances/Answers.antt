@@ -1,31 +1,33 @@
-use Rattle.std.proofs.Common.{rules}
-use Rattle.ladder_never.proofs.Left.{one_goes, one_stays, same_left}
-use Rattle.ladder_never.proofs.removing.leave_instances.Goals.{then-instances-inst+then-not-stays, else-instances-inst, else-instances-inst-via-then-instances-inst+else-not-stays, else-instances-inst-via-else-instances-inst}
+use Rattle.std.proofs.Common.{arith, rules, subst}
+use Rattle.ladder_known.specs.KnownScan.{Known}
+use Rattle.ladder_signals.specs.declared.tri.Tri.{Tri}
+use Rattle.ladder_never.specs.Removing.{IsStaying}
+use Rattle.ladder_never.specs.declared.outcome.Outcome.{Outcome}
+use Rattle.ladder_never.specs.declared.point.Point.TheVariants.{Output}
+use Rattle.ladder_never.proofs.Left.{claim_goes, claim_stays, same_left}
+use Rattle.ladder_never.proofs.removing.leave_instances.Goals.{then-not-keeps, else-not-keeps}
 use Rattle.ladder_never.proofs.removing.leave_instances.Goals as goal
 
 pub loop-inst-preserved : goal.loop-inst-preserved
-loop-inst-preserved c = elim c.if-instances-inst.branch [
-  | then-instances-inst+then-not-stays w ↦ record {
-    left = same_left _ _ c.args.instances.now _ _ _ _ _ w.instances-is w.removed-is (one_goes _ _ c.args.instances.now _ _ _ c.loop-inst.invariant.left (search rules) (search rules) (search rules));
+loop-inst-preserved c = elim c.if-not-keeps.branch [
+  | then-not-keeps w ↦ record {
+    left = same_left _ _ c.args.instances.now _ _ _ _ _ w.instances-is w.removed-is
+        (claim_goes _ _ c.args.instances.now c.loop-inst.instances _ c.loop-inst.inst c.loop-inst.invariant.left (omega (arith, c.loop-inst-test.true, c.loop-inst.auto.instances)) c.keeps.result
+        w.if-not-keeps.true _ c.keeps.ensures.told c.keeps.ensures.open);
     few = search rules;
     case = search rules;
     trial = search rules;
     room = search rules;
   }
-  | else-instances-inst w ↦ elim w.else-instances-inst.branch [
-    | else-instances-inst-via-then-instances-inst+else-not-stays v ↦ record {
-      left = same_left _ _ c.args.instances.now _ _ _ _ _ w.instances-is w.removed-is (one_stays _ _ c.args.instances.now _ _ _ c.loop-inst.invariant.left (search rules));
-      few = search rules;
-      case = search rules;
-      trial = search rules;
-      room = search rules;
-    }
-    | else-instances-inst-via-else-instances-inst v ↦ record {
-      left = same_left _ _ c.args.instances.now _ _ _ _ _ w.instances-is w.removed-is (one_stays _ _ c.args.instances.now _ _ _ c.loop-inst.invariant.left (search rules));
-      few = search rules;
-      case = search rules;
-      trial = search rules;
-      room = search rules;
-    }
-  ]
+  | else-not-keeps w ↦ record {
+    left = same_left _ _ c.args.instances.now _ _ _ _ _ w.instances-is w.removed-is
+        (claim_stays _ _ c.args.instances.now c.loop-inst.instances _ c.loop-inst.inst c.loop-inst.invariant.left (omega (arith, c.loop-inst-test.true, c.loop-inst.auto.instances)) c.keeps.result
+        w.if-not-keeps.false _
+        (λ kept value m.
+        subst (λ (k : Known Tri Outcome). IsStaying c.args.program.now (Output c.loop-inst.inst) c.args.after.now k c.args.scans value) c.loop-inst.invariant.case (c.keeps.ensures.stays kept value m)));
+    few = search rules;
+    case = search rules;
+    trial = search rules;
+    room = search rules;
+  }
 ]

@@ -1,31 +1,33 @@
-use Rattle.std.proofs.Common.{rules}
-use Rattle.ladder_never.proofs.Left.{one_goes, one_stays, same_left}
-use Rattle.ladder_never.proofs.removing.leave_variables.Goals.{then-variables-var+then-not-stays, else-variables-var, else-variables-var-via-then-variables-var+else-not-stays, else-variables-var-via-else-variables-var}
+use Rattle.std.proofs.Common.{arith, rules, subst}
+use Rattle.ladder_known.specs.KnownScan.{Known}
+use Rattle.ladder_signals.specs.declared.tri.Tri.{Tri}
+use Rattle.ladder_never.specs.Removing.{IsStaying}
+use Rattle.ladder_never.specs.declared.outcome.Outcome.{Outcome}
+use Rattle.ladder_never.specs.declared.point.Point.TheVariants.{Variable}
+use Rattle.ladder_never.proofs.Left.{claim_goes, claim_stays, same_left}
+use Rattle.ladder_never.proofs.removing.leave_variables.Goals.{then-not-keeps, else-not-keeps}
 use Rattle.ladder_never.proofs.removing.leave_variables.Goals as goal
 
 pub loop-var-preserved : goal.loop-var-preserved
-loop-var-preserved c = elim c.if-variables-var.branch [
-  | then-variables-var+then-not-stays w ↦ record {
-    left = same_left _ _ c.args.variables.now _ _ _ _ _ w.variables-is w.removed-is (one_goes _ _ c.args.variables.now _ _ _ c.loop-var.invariant.left (search rules) (search rules) (search rules));
+loop-var-preserved c = elim c.if-not-keeps.branch [
+  | then-not-keeps w ↦ record {
+    left = same_left _ _ c.args.variables.now _ _ _ _ _ w.variables-is w.removed-is
+        (claim_goes _ _ c.args.variables.now c.loop-var.variables _ c.loop-var.var c.loop-var.invariant.left (omega (arith, c.loop-var-test.true, c.loop-var.auto.variables)) c.keeps.result
+        w.if-not-keeps.true _ c.keeps.ensures.told c.keeps.ensures.open);
     few = search rules;
     case = search rules;
     trial = search rules;
     room = search rules;
   }
-  | else-variables-var w ↦ elim w.else-variables-var.branch [
-    | else-variables-var-via-then-variables-var+else-not-stays v ↦ record {
-      left = same_left _ _ c.args.variables.now _ _ _ _ _ w.variables-is w.removed-is (one_stays _ _ c.args.variables.now _ _ _ c.loop-var.invariant.left (search rules));
-      few = search rules;
-      case = search rules;
-      trial = search rules;
-      room = search rules;
-    }
-    | else-variables-var-via-else-variables-var v ↦ record {
-      left = same_left _ _ c.args.variables.now _ _ _ _ _ w.variables-is w.removed-is (one_stays _ _ c.args.variables.now _ _ _ c.loop-var.invariant.left (search rules));
-      few = search rules;
-      case = search rules;
-      trial = search rules;
-      room = search rules;
-    }
-  ]
+  | else-not-keeps w ↦ record {
+    left = same_left _ _ c.args.variables.now _ _ _ _ _ w.variables-is w.removed-is
+        (claim_stays _ _ c.args.variables.now c.loop-var.variables _ c.loop-var.var c.loop-var.invariant.left (omega (arith, c.loop-var-test.true, c.loop-var.auto.variables)) c.keeps.result
+        w.if-not-keeps.false _
+        (λ kept value m.
+        subst (λ (k : Known Tri Outcome). IsStaying c.args.program.now (Variable c.loop-var.var) c.args.after.now k c.args.scans value) c.loop-var.invariant.case (c.keeps.ensures.stays kept value m)));
+    few = search rules;
+    case = search rules;
+    trial = search rules;
+    room = search rules;
+  }
 ]

@@ -1,4 +1,4 @@
-use Rattle.std.proofs.Common.{◌∙◌, ap, arith, subst, sym, []}
+use Rattle.std.proofs.Common.{◌∙◌, ap, arith, length, subst, sym, []}
 use Rattle.std.proofs.lemmas.List.{with_items_is}
 use Rattle.ladder_scan.specs.Programs.{diagram_of}
 use Rattle.ladder_known.specs.KnownScan.{after_known, Known}
@@ -9,9 +9,22 @@ use Rattle.ladder_never.specs.Cases.{IsSettled, IsSettledSo}
 use Rattle.ladder_never.specs.declared.outcome.Outcome.{Outcome}
 use Rattle.ladder_never.specs.declared.point.Point.TheVariants.{Variable, Output}
 use Rattle.ladder_signals.specs.declared.tri.Tri.{Tri}
+use Rattle.ladder_never.proofs.Claims.{none_left}
 use Rattle.ladder_never.proofs.Left.{moved}
 use Rattle.ladder_never.proofs.PinnedTwice.{known_of_output, known_of_variable, same_bits, staying_plain, staying_settled, told_of_output, told_of_variable}
 use Rattle.ladder_never.proofs.removing.remove.Goals as goal
+
+pub returns-clause-set : goal.returns-clause-set
+returns-clause-set c =
+    let before = c.set.inside in
+    let variables = with_items_is before.variables c.leave_variables-variables.new.variables (c.leave_variables-variables.auto.variables ∙ c.deref_mut.ensures.len) in
+    let instances = with_items_is before.instances c.leave_instances-instances.new.instances (c.leave_instances-instances.auto.instances ∙ c.deref_mut-2.ensures.len) in
+    let old = c.deref_mut.ensures.value ∙ ap (λ (z : Bits). z.variables) c.set.view_is in
+    record {
+      variables = ap length variables ∙ c.leave_variables-variables.ensures.left.length ∙ ap length old ∙ c.requires.set.variables;
+      instances = ap length instances ∙ c.leave_instances-instances.ensures.left.length ∙ ap length (c.deref_mut-2.ensures.value ∙ ap (λ (z : Bits). z.instances) c.set.view_is) ∙ c.requires.set.instances;
+      no_input = λ var flag. none_left _ _ (λ value m. moved _ _ var value old (c.leave_variables-variables.ensures.left.within var value (moved _ _ var value variables m))) (c.requires.set.no_input var flag);
+    }
 
 pub returns-clause-within : goal.returns-clause-within
 returns-clause-within c =
