@@ -2,7 +2,7 @@
 use Rattle.std.proofs.Common.{◌≡◌, ℕ, ◌+◌, ◌||◌, Bool, true, false, cond, List, [], ◌∷◌, length, set, get_or, All, zero, suc, pred, refl, sym, ap, ap₂, subst, ◌∙◌, arith, get_or-set_other, length-set, inl, inr}
 use Rattle.std.proofs.lemmas.Bool.{cases_Bool, cases_eq}
 use Rattle.std.proofs.lemmas.List.Elements.{All-cons, All-head, All-tail}
-use Rattle.ladder_grid.specs.declared.cell.Operand.{Operand}
+use Rattle.ladder_vars.specs.declared.kind.BlockKind.TheVariants.{Ton}
 use Rattle.ladder_grid.specs.declared.cell.Operand.TheVariants as operand
 use Rattle.ladder_grid.specs.declared.cell.Cell.{Cell}
 use Rattle.ladder_grid.specs.declared.cell.Cell.TheVariants as cell
@@ -14,7 +14,8 @@ use Rattle.ladder_grid.specs.declared.steps.Rare.TheVariants.{Wire, Rising, Fall
 use Rattle.ladder_grid.specs.Program.{Drawing}
 use Rattle.ladder_grid.specs.Gates.{leaps_below}
 use Rattle.ladder_elements.specs.Algebra.{Algebra}
-use Rattle.ladder_scan.specs.Cells.{Diagram, Frame, Kept, contact, memory_of, q_from, q_here, stored_by}
+use Rattle.ladder_elements.specs.Blocks.{new_block}
+use Rattle.ladder_scan.specs.Cells.{Frame, Kept, contact, memory_of, q_from, q_here, stored_by}
 use Rattle.ladder_scan.specs.Programs.{diagram_of}
 use Rattle.ladder_scan.specs.Gating.{among, own}
 use Rattle.ladder_look.specs.Gating.{acted, guard_by}
@@ -22,7 +23,7 @@ use Rattle.ladder_look.specs.Stepping.{Going, keeping, gone, all_gone}
 use Rattle.ladder_slices.specs.Slicing.{Needs, marked, mark, unmark, keeps, keeps_act, by_gate, by_own, cell_values, cell_ends, reads, needs_before, kept_of}
 
 -- ---- marks
-marked_here : (m : List Bool) (n : ℕ) → marked (mark m n) n ≡ true
+pub marked_here : (m : List Bool) (n : ℕ) → marked (mark m n) n ≡ true
 marked_here [] n = refl
 marked_here (b ∷ m) zero = refl
 marked_here (b ∷ m) (suc n) = marked_here m n
@@ -191,8 +192,8 @@ module _ {S : Type 0} (o : Algebra S) (p : Drawing) (k : Kept) (now : ℕ) where
     act_values (cell.Coil mode var memory) m h w =
         wrote off m f.values g.values var _ _ w
         (λ t.
-            let old = w.at var t in
-            chosen_alike a b _ _ _ _ e (ap₂ (λ z y. stored_by o mode z (o.known (memory_of k (cell.Coil mode var memory))) y) h old) old)
+        let old = w.at var t in
+        chosen_alike a b _ _ _ _ e (ap₂ (λ z y. stored_by o mode z (o.known (memory_of k (cell.Coil mode var memory))) y) h old) old)
     act_values (cell.Block inst) m h w = w
     act_values (cell.Lower inst linked) m h w = w
     act_values (cell.Jump target) m h w = w
@@ -277,7 +278,7 @@ module _ {S : Type 0} (o : Algebra S) (p : Drawing) (k : Kept) (now : ℕ) where
         values = a.values;
         ends = a.ends;
         links = kept_alike n.links spot g.links h.links _ _
-            (ap₂ (λ x y. q_from o ((diagram_of p).kind inst) ((diagram_of p).preset inst) _ now x y) (own_left n.links spot g.links h.links b) (here off (by_own spot n.links) below g.links h.links a.links)) b;
+            (ap₂ (λ x y. q_from o ((diagram_of p).kind inst) ((diagram_of p).preset inst) (get_or k.blocks inst (new_block Ton)) now x y) (own_left n.links spot g.links h.links b) (here off (by_own spot n.links) below g.links h.links a.links)) b;
         taken = a.taken;
         guard = a.guard;
       }
@@ -410,10 +411,11 @@ module _ {S : Type 0} (o : Algebra S) (p : Drawing) (k : Kept) (now : ℕ) where
   }
 
 -- ---- the slice
-kept_all : (P : Step → Type 0) (p : Drawing) (ss : List Step) (n : Needs) → All P ss → All P (kept_of p ss n)
+either : (P : Step → Type 0) (b : Bool) (s : Step) (ss : List Step) → P s → All P ss → All P (cond b (s ∷ ss) ss)
+either P true s ss h more = All-cons P s ss h more
+either P false s ss h more = more
+
+pub kept_all : (P : Step → Type 0) (p : Drawing) (ss : List Step) (n : Needs) → All P ss → All P (kept_of p ss n)
 unfolding kept_of
 kept_all P p [] n h = h
-kept_all P p (s ∷ ss) n h =
-    let more = kept_all P p ss n (All-tail P s ss h) in
-    let either : (b : Bool) → All P (cond b (s ∷ kept_of p ss n) (kept_of p ss n)) = λ b. elim b [ true ↦ All-cons P s (kept_of p ss n) (All-head P s ss h) more | false ↦ more ] in
-    either (keeps p (needs_before p ss n) s)
+kept_all P p (s ∷ ss) n h = either P (keeps p (needs_before p ss n) s) s (kept_of p ss n) (All-head P s ss h) (kept_all P p ss n (All-tail P s ss h))
