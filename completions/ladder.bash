@@ -34,7 +34,7 @@ _ladder() {
         sim) options='--state --save --every --watch --watch-all --vcd --why --help' ;;
         check) options='--warn --why --help' ;;
         uses | import) options='--why --help' ;;
-        never) options='--state --pairs --quiet --why --help' ;;
+        never) options='--state --off --pairs --quiet --why --help' ;;
         explain) options='--help' ;;
         help)
             mapfile -t COMPREPLY < <(compgen -W 'check causes show sim uses never import explain' -- "$word")

@@ -74,6 +74,7 @@ complete -c ladder -n '__ladder_at causes,show more 0' -l all-inputs -d 'All inp
 complete -c ladder -n '__ladder_at causes more 0' -l all-coils -x -a '(__fish_complete_directories)' -d 'Each coil, a file for each in this folder'
 complete -c ladder -n '__ladder_at causes more 0' -l progress -d 'Tell how far the list is, about once a second'
 complete -c ladder -n '__ladder_at causes,never more 0' -l quiet -d 'No line of counts'
+complete -c ladder -n '__ladder_at never more 0' -l off -d 'What can never go OFF'
 complete -c ladder -n '__ladder_at never more 0' -l pairs -d 'Pairs that are never both ON'
 complete -c ladder -n '__ladder_at causes,show,sim,never more 0' -l state -r -F -d 'The state to begin in'
 complete -c ladder -n '__ladder_at causes,show more 0' -l at -x -d 'The moment of the scan in ms'

@@ -12,3 +12,4 @@ pub mod Looks
 pub mod Values
 pub mod Starts
 pub mod Sizes
+pub mod GoneSizes

@@ -1,3 +1,4 @@
+pub mod BySteps
 pub mod SignalScan
 pub mod Laws
 pub mod Lanes

@@ -1,0 +1,22 @@
+-- Looks by some steps of a program in place of all.
+use Rattle.std.specs.Prelude.{◌≡◌, ℕ, true, false, List, length, slice_index_or}
+use Rattle.ladder_grid.specs.declared.gates.TheConstants.{ON, OFF, LINKS}
+use Rattle.ladder_grid.specs.declared.steps.Step.{Step}
+use Rattle.ladder_grid.specs.Program.{Drawing}
+use Rattle.ladder_elements.specs.Algebra.{Algebra}
+use Rattle.ladder_scan.specs.Programs.{diagram_of}
+use Rattle.ladder_scan.specs.Rung.{Held}
+use Rattle.ladder_look.specs.SignalScan.{look_frame}
+use Rattle.ladder_look.specs.Stepping.{all_gone, going}
+
+-- These values are what the steps leave, one after the other, from what a look begins with: no jump is taken, and of the links ON and OFF
+-- alone are settled, since a gate sets a link before another step looks at it.
+pub record AreLeftBy {S : Type 0} (o : Algebra S) (p : Drawing) (now : ℕ) (steps : List Step) (inputs : List S) (h : Held) (values : List S) : Type 0 where
+  pub taken : List S
+  pub as_many : length taken ≡ p.rungs
+  pub none : (i : ℕ) → slice_index_or taken i (o.known false) ≡ o.known false
+  pub links : List S
+  pub long : length links ≡ LINKS
+  pub on : slice_index_or links ON (o.known false) ≡ o.known true
+  pub off : slice_index_or links OFF (o.known false) ≡ o.known false
+  pub are : values ≡ (all_gone o p h.kept now steps (going (look_frame o (diagram_of p) inputs h) taken links (o.known true))).frame.values

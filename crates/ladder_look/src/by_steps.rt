@@ -1,0 +1,83 @@
+//! A look by some steps of a program in place of all.
+
+ghost use Rattle.std.specs.Prelude.{◌≡◌, ◌+◌, ◌-◌, ◌^◌, All, length, min};
+ghost use Rattle.ladder_grid.specs.declared.gates.TheConstants.{LINKS};
+ghost use Rattle.ladder_scan.specs.Programs.{diagram_of, IsSound};
+ghost use Rattle.ladder_scan.specs.Rung.{SameSizes};
+ghost use Rattle.ladder_scan.specs.Standing.{Fits};
+ghost use Rattle.ladder_look.specs.BySteps.{AreLeftBy};
+ghost use Rattle.ladder_look.specs.Sheets.{HasRoom};
+ghost use Rattle.ladder_look.specs.Stepping.{IsWithin};
+
+use crate::looking::{Work, begin, clear};
+use crate::steps::{Base, go};
+use ladder_elements::Operations;
+use ladder_grid::Program;
+use ladder_grid::steps::Step;
+use ladder_scan::State;
+use ladder_scan::gates::set_rails;
+use ladder_scan::scene::checked;
+use ladder_scan::signals::Signals;
+
+/// Takes the steps, from the given inputs and all that is stored.
+fn take_steps<S: Operations>(
+    base: Base<'_>,
+    inputs: &[S],
+    steps: &[Step],
+    seen: &mut Signals<S>,
+    taken: &mut [S],
+    links: &mut [S],
+)
+    requires program { IsSound (diagram_of base.program.now) }
+    requires fits { length base.storage.now.values ≡ length base.program.now.decls.vars }
+    requires steps { All (IsWithin base.program.now.rungs (length base.program.now.decls.vars)) steps.now }
+    requires sizes { SameSizes seen.old base.storage.now }
+    requires taken { length taken.old ≡ base.program.now.rungs }
+    requires links { length links.old ≡ LINKS }
+    ensures values { AreLeftBy S.algebra base.entry.program.now base.entry.now steps.now inputs.now base.entry.storage.now seen.new.values }
+    ensures sizes { SameSizes seen.new base.entry.storage.now }
+{
+    begin(base.program, base.storage, inputs, seen);
+    clear(taken);
+    set_rails(links);
+    go(base, steps, seen, taken, links);
+}
+
+/// What [`look`] does, but for the steps: these are taken in place of all that the program has. `work` then holds what they leave of
+/// the variables.
+///
+/// It needs no memory.
+///
+/// [`look`]: crate::look
+pub fn look_by_steps<S: Operations>(
+    program: &Program,
+    state: &State,
+    inputs: &[S],
+    now: u64,
+    steps: &[Step],
+    work: &mut Work<S>,
+)
+    requires state { Fits program.now state.now }
+    requires work { HasRoom program.now work.old }
+    requires steps { All (IsWithin program.now.rungs (length program.now.decls.vars)) steps.now }
+    ensures values { AreLeftBy S.algebra program.now now steps.now inputs.now state.now.held work.new.values }
+    ensures fits { HasRoom program.now work.new }
+    ensures looks { work.new.looks ≡ min (work.old.looks + 1) (2 ^ 64 - 1) }
+{
+    checked(program);
+    state.checked();
+    let base = Base {
+        program,
+        storage: state.storage(),
+        now,
+    };
+    take_steps(
+        base,
+        inputs,
+        steps,
+        &mut work.seen,
+        &mut work.taken,
+        &mut work.links,
+    );
+    work.looks = work.looks.saturating_add(1);
+}

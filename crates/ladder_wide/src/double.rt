@@ -1,0 +1,95 @@
+//! Two values of a signal side by side, which makes a signal of twice as many words.
+
+ghost use Rattle.std.specs.Prelude.{◌≡◌};
+ghost use Rattle.ladder_wide.specs.Doubles.{BothAre, double_opened, double_opened_values, double_opened_word, double_word, double_word_kept, doubles, doubles_allowed, doubles_choice_known, doubles_lattice, low_allows};
+
+use crate::wide::Wide;
+use ladder_elements::{Operations, Signal};
+use ladder_prefixes::Open;
+use ladder_signals::Word64;
+
+/// Two values: `low` for the numbers in which the first open bit is 0, `high` for those in which it is 1. Each operation goes on
+/// each.
+#[derive(Clone, Copy)]
+pub struct Double<S> {
+    pub low: S,
+    pub high: S,
+}
+
+impl<S: Signal> Operations for Double<S> {
+    ghost algebra = { doubles S.algebra };
+
+    ghost value = { BothAre S.value };
+
+    ghost choice_known = { doubles_choice_known S.value S.algebra S.choice_known };
+
+    fn known(b: bool) -> Double<S> {
+        Double {
+            low: S::known(b),
+            high: S::known(b),
+        }
+    }
+
+    fn or(self, other: Double<S>) -> Double<S> {
+        Double {
+            low: self.low.or(other.low),
+            high: self.high.or(other.high),
+        }
+    }
+
+    fn and(self, other: Double<S>) -> Double<S> {
+        Double {
+            low: self.low.and(other.low),
+            high: self.high.and(other.high),
+        }
+    }
+
+    fn not(self) -> Double<S> {
+        Double {
+            low: self.low.not(),
+            high: self.high.not(),
+        }
+    }
+
+    fn choose(condition: Double<S>, on: Double<S>, off: Double<S>) -> Double<S> {
+        Double {
+            low: S::choose(condition.low, on.low, off.low),
+            high: S::choose(condition.high, on.high, off.high),
+        }
+    }
+
+    fn is_value(self) -> bool {
+        self.low.is_value() && self.high.is_value()
+    }
+}
+
+/// What a double allows is what its low side allows.
+impl<S: Signal> Signal for Double<S> {
+    ghost place = { S.place };
+
+    ghost allows = { low_allows S.allows };
+
+    ghost lattice = { doubles_lattice S.value S.algebra S.lattice };
+
+    ghost allowed = { doubles_allowed S.value S.algebra S.place S.allows S.allowed };
+}
+
+impl<S: Wide> Open for Double<S> {
+    ghost opened = { double_opened S.algebra S.width S.opened };
+
+    ghost opened_values = { double_opened_values S.value S.algebra S.width S.opened S.lattice S.opened_values };
+
+    fn opened(shift: u32) -> Double<S> {
+        if shift == S::width() {
+            Double {
+                low: S::known(false),
+                high: S::known(true),
+            }
+        } else {
+            Double {
+                low: S::opened(shift),
+                high: S::opened(shift),
+            }
+        }
+    }
+}
