@@ -1,38 +1,29 @@
 -- Pairs that are settled to stay apart are never both ON.
-use Rattle.std.proofs.Common.{◌≡◌, ◌∙◌, ◌&&◌, ◌⊎◌, inl, inr, ℕ, Bool, true, false, List, [], ◌∷◌, map, get_or, refl, sym, ap, subst}
+use Rattle.std.proofs.Common.{◌≡◌, ◌∙◌, ◌&&◌, ◌⊎◌, inl, inr, ℕ, Bool, true, false, List, [], ◌∷◌, map, get_or, refl, ap, subst}
 use Rattle.std.specs.Prelude.{All}
-use Rattle.std.proofs.lemmas.List.Elements.{All-contains, All-nil}
-use Rattle.ladder_vars.specs.declared.kind.BlockKind.TheVariants.{Ton}
+use Rattle.std.proofs.lemmas.List.Elements.{All-contains}
 use Rattle.ladder_vars.specs.declared.decls.Symbol.{Symbol}
 use Rattle.ladder_vars.specs.declared.decls.Symbol.TheVariants as symbol
 use Rattle.ladder_vars.specs.Decls.{is_input}
 use Rattle.ladder_grid.specs.Program.{Drawing}
 use Rattle.ladder_elements.specs.declared.block.Stored.{Stored}
-use Rattle.ladder_elements.specs.Blocks.{q_of, new_block}
 use Rattle.ladder_elements.specs.Truth.{plain}
 use Rattle.ladder_scan.specs.Programs.{diagram_of, IsSound}
 use Rattle.ladder_scan.specs.Rung.{Held}
-use Rattle.ladder_scan.specs.RungByRung.{scanned, shape}
-use Rattle.ladder_scan.specs.Scan.{after_scan, given}
-use Rattle.ladder_scan.proofs.ByList.{scanned_is}
-use Rattle.ladder_scan.proofs.Possible.{scanned_shapes}
-use Rattle.ladder_scan.proofs.Sizes.{scan_lengths}
-use Rattle.ladder_known.specs.KnownScan.{Known, after_known, all_known, kept_at, plainly}
+use Rattle.ladder_scan.specs.Scan.{after_scan}
+use Rattle.ladder_known.specs.KnownScan.{Known, after_known, all_known, plainly}
 use Rattle.ladder_known.specs.KnownLaws.{BothKnown, KnownIsScan, ScanKeeps}
-use Rattle.ladder_known.proofs.Lists.{get_both, map_same}
-use Rattle.ladder_signals.specs.Three.{three, three_allows, three_known, three_meet}
+use Rattle.ladder_signals.specs.Three.{three, three_known, three_meet}
 use Rattle.ladder_signals.specs.declared.tri.Tri.{Tri}
 use Rattle.ladder_signals.specs.declared.tri.Tri.TheVariants.{Off, On, Unsure}
 use Rattle.ladder_never.specs.Never.{Bits, IsSetOf, OneScan, after_each, knowing}
 use Rattle.ladder_never.specs.Allowing.{Allows, AllowsState, is_on_in}
 use Rattle.ladder_never.specs.Cases.{IsSettledSo, answering, pinned, told}
-use Rattle.ladder_never.specs.OutcomeLaws.{q_sound}
-use Rattle.ladder_never.specs.Outcomes.{MayStore, outcomes, q_known}
+use Rattle.ladder_never.specs.Outcomes.{MayStore, outcomes}
 use Rattle.ladder_never.specs.declared.answer.Answer.TheVariants.{Off as AnswersOff, On as AnswersOn, Input}
 use Rattle.ladder_never.specs.declared.outcome.Outcome.{Outcome}
-use Rattle.ladder_never.specs.declared.outcome.Outcome.TheVariants.{Anything}
 use Rattle.ladder_never.specs.declared.point.Point.{Point}
-use Rattle.ladder_never.proofs.Listed.{both_at, given_same}
+use Rattle.ladder_never.proofs.Listed.{given_same}
 use Rattle.ladder_never.proofs.ForEver.{Holds, answer_allows, begun, holds_begun, holds_on, knowing_holds, pin_allows, scan_begun, standing_holds, told_output, told_value}
 use Rattle.ladder_pairs.specs.Pairs.{AreApart, AreExcluded, AreNeverBoth, ArePairs, IsExcluded, IsForcedOff, IsOutside, IsPairOutside, IsSettledBoth, are_both_on, point_of}
 use Rattle.ladder_pairs.specs.Pairs as pairs_of
@@ -142,21 +133,21 @@ begun_apart p z pairs outside h apart inputs = λ k d l.
 
 module _ (p : Drawing) (sound : IsSound (diagram_of p))
     (keeps : (now : ℕ) → ScanKeeps (diagram_of p) three plain outcomes plainly Allows (λ inst. MayStore ((diagram_of p).kind inst) ((diagram_of p).preset inst) now) 0 now)
-    (known : KnownIsScan (diagram_of p)) (z : Bits) (set : IsSetOf p z) (settled : IsSettledSo p z) where
-  -- ---- the set stays so, and so the pairs stay apart
+    (known : KnownIsScan (diagram_of p)) (z : Bits) (set : IsSetOf p z) (settled : IsSettledSo p z)
+    (pairs : List Pair) (outside : All (IsPairOutside p z) pairs) (are : AreExcluded p z pairs) where
+  -- ---- the set stays so, and the pairs stay apart
 
-  module _ (pairs : List Pair) (outside : All (IsPairOutside p z) pairs) (are : AreExcluded p z pairs) where
-    apart_then : (h : Held) → Holds p z h → AreApart pairs h → (now : ℕ) (inputs : List Bool) → AreApart pairs (after_scan (diagram_of p) now inputs h)
-    apart_then h holds apart now inputs = λ k d l.
-        subst (λ (next : Held). are_both_on next (get_or pairs k d) ≡ false) (scan_begun p now inputs h)
-        (settled_both p keeps known pairs (get_or pairs k d) false (knowing p z) (are k d l) now (begun p inputs h)
-        (knowing_holds p z set now (begun p inputs h) (holds_begun p z set inputs h holds)) (begun_apart p z pairs outside h apart inputs))
+  apart_then : (h : Held) → Holds p z h → AreApart pairs h → (now : ℕ) (inputs : List Bool) → AreApart pairs (after_scan (diagram_of p) now inputs h)
+  apart_then h holds apart now inputs = λ k d l.
+      subst (λ (next : Held). are_both_on next (get_or pairs k d) ≡ false) (scan_begun p now inputs h)
+      (settled_both p keeps known pairs (get_or pairs k d) false (knowing p z) (are k d l) now (begun p inputs h)
+      (knowing_holds p z set now (begun p inputs h) (holds_begun p z set inputs h holds)) (begun_apart p z pairs outside h apart inputs))
 
-    apart_after : (scans : List OneScan) (h : Held) → Holds p z h → AreApart pairs h → AreApart pairs (after_each (diagram_of p) scans h)
-    unfolding after_each
-    apart_after [] h holds apart = apart
-    apart_after (scan ∷ more) h holds apart =
-        apart_after more (after_scan (diagram_of p) scan.moment scan.inputs h) (holds_on p sound keeps known z set settled h holds scan.moment scan.inputs) (apart_then h holds apart scan.moment scan.inputs)
+  apart_after : (scans : List OneScan) (h : Held) → Holds p z h → AreApart pairs h → AreApart pairs (after_each (diagram_of p) scans h)
+  unfolding after_each
+  apart_after [] h holds apart = apart
+  apart_after (scan ∷ more) h holds apart =
+      apart_after more (after_scan (diagram_of p) scan.moment scan.inputs h) (holds_on p sound keeps known z set settled h holds scan.moment scan.inputs) (apart_then h holds apart scan.moment scan.inputs)
 
 pub never_both : (p : Drawing) → IsSound (diagram_of p)
     → ((now : ℕ) → ScanKeeps (diagram_of p) three plain outcomes plainly Allows (λ inst. MayStore ((diagram_of p).kind inst) ((diagram_of p).preset inst) now) 0 now)
