@@ -11,6 +11,7 @@ mod likening;
 mod order;
 mod probe;
 mod tree;
+mod words;
 
 pub use causes::Causes;
 pub use groups::Groups;

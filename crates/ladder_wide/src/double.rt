@@ -1,15 +1,10 @@
-//! Two values of a signal side by side, which makes a signal of twice as many words.
+//! Two values of a signal side by side.
 
-ghost use Rattle.std.specs.Prelude.{◌≡◌};
-ghost use Rattle.ladder_wide.specs.Doubles.{BothAre, double_opened, double_opened_values, double_opened_word, double_word, double_word_kept, doubles, doubles_allowed, doubles_choice_known, doubles_lattice, low_allows};
+ghost use Rattle.ladder_wide.specs.Doubles.{BothAre, doubles, doubles_allowed, doubles_choice_known, doubles_lattice, low_allows};
 
-use crate::wide::Wide;
 use ladder_elements::{Operations, Signal};
-use ladder_prefixes::Open;
-use ladder_signals::Word64;
 
-/// Two values: `low` for the numbers in which the first open bit is 0, `high` for those in which it is 1. Each operation goes on
-/// each.
+/// Two values of a signal: each operation goes on each.
 #[derive(Clone, Copy)]
 pub struct Double<S> {
     pub low: S,
@@ -63,7 +58,7 @@ impl<S: Signal> Operations for Double<S> {
     }
 }
 
-/// What a double allows is what its low side allows.
+/// What it allows is what its low side allows.
 impl<S: Signal> Signal for Double<S> {
     ghost place = { S.place };
 
@@ -72,24 +67,4 @@ impl<S: Signal> Signal for Double<S> {
     ghost lattice = { doubles_lattice S.value S.algebra S.lattice };
 
     ghost allowed = { doubles_allowed S.value S.algebra S.place S.allows S.allowed };
-}
-
-impl<S: Wide> Open for Double<S> {
-    ghost opened = { double_opened S.algebra S.width S.opened };
-
-    ghost opened_values = { double_opened_values S.value S.algebra S.width S.opened S.lattice S.opened_values };
-
-    fn opened(shift: u32) -> Double<S> {
-        if shift == S::width() {
-            Double {
-                low: S::known(false),
-                high: S::known(true),
-            }
-        } else {
-            Double {
-                low: S::opened(shift),
-                high: S::opened(shift),
-            }
-        }
-    }
 }

@@ -1,8 +1,8 @@
-//! Signals of several words: a look over one of them is a look over each of its words.
+//! The signal of four words side by side: a look over it is a look over each of its words.
 #![tactic(auto)]
 
 mod double;
-mod wide;
+mod quad;
 
 pub use double::Double;
-pub use wide::{Wide, WordLane};
+pub use quad::{Quad, WordLane};
