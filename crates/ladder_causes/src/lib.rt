@@ -3,6 +3,7 @@
 
 mod asked;
 mod causes;
+mod entries;
 mod group_tree;
 mod groups;
 mod lanes;
