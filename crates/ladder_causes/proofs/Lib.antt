@@ -5,6 +5,7 @@ pub mod Pruning
 pub mod Telling
 pub mod Knowledge
 pub mod Likenings
+pub mod FourLaws
 pub mod LaneLaws
 pub mod GroupCounts
 pub mod AnyOrder

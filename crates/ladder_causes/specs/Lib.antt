@@ -2,6 +2,7 @@ pub mod Asked
 pub mod Batches
 pub mod CauseTree
 pub mod Cursor
+pub mod Fours
 pub mod GroupCursor
 pub mod Knowing
 pub mod Likening
@@ -9,4 +10,5 @@ pub mod LookLaws
 pub mod Order
 pub mod Parts
 pub mod Prefixes
+pub mod Probes
 pub mod Sifting

@@ -3,6 +3,7 @@
 
 mod asked;
 mod causes;
+mod entries;
 mod group_tree;
 mod groups;
 mod lanes;
@@ -11,6 +12,7 @@ mod likening;
 mod order;
 mod probe;
 mod tree;
+mod words;
 
 pub use causes::Causes;
 pub use groups::Groups;
