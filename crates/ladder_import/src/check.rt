@@ -1,24 +1,23 @@
 //! Whether a program has what a project has.
 
-ghost use Rattle.std.specs.Prelude.{◌≡◌, ◌+◌, ◌-◌, ◌&&◌, ◌<◌, ◌≤◌, ℕ, Some, length, not, slice_get, true};
+ghost use Rattle.std.specs.Prelude.{◌≡◌, ◌+◌, ◌-◌, ◌/◌, ◌%◌, ◌&&◌, ◌<◌, ◌≤◌, ℕ, Some, length, not, slice_get, true};
 ghost use Rattle.std.specs.List.{list_all, list_any};
-ghost use Rattle.ladder_page.specs.declared.geometry.TheConstants.{COLUMNS, ROWS};
+ghost use Rattle.ladder_page.specs.declared.geometry.TheConstants.{COLUMNS, PLACES, ROWS};
 ghost use Rattle.ladder_grid.specs.Program.{feeds, is_empty, joined, site_at, takes_power};
 ghost use Rattle.ladder_clp.specs.declared.order.Placed.{Placed};
 ghost use Rattle.ladder_grid.specs.declared.cell.Operand.TheVariants as operands;
 ghost use Rattle.ladder_grid.specs.declared.cell.Cell.TheVariants as cells;
 ghost use Rattle.ladder_page.specs.Operand.{is_input_at};
-ghost use Rattle.ladder_import.specs.Reach.{AreReached};
+ghost use Rattle.ladder_import.specs.Reach.{AreReached, IsPower};
 ghost use Rattle.ladder_import.specs.Sheets.{fed};
 ghost use Rattle.ladder_import.specs.Carried.{AreApart, AreCarried, AreInstances, IsAlike, IsCarriedOver, IsBlockOf, IsCell, IsCoilOn, IsContactOn, IsFedAlike, IsInstance, IsJumpTo, IsLeftOut, IsNever, IsOperand, IsPlaceCarried, IsRungCarried, IsTarget, IsVar, IsWritten, entry_of, same_block};
 
 use crate::meaning::{BlockRef, BlockSort, Meaning, Source, source_of, timed_as};
-use crate::sheet::{
-    element_at, fed, is_idle, meaning_at, reached, reached_in, reads_late, same_sort, stands,
-};
+use crate::power::{Power, fed, power_of};
+use crate::sheet::{element_at, is_idle, meaning_at, reads_late, same_sort, stands};
 use ladder_clp::{Element, Placed, Preset, Project};
 use ladder_grid::{Cell, Joint, Operand, Program};
-use ladder_page::geometry::{COLUMNS, ROWS};
+use ladder_page::geometry::{COLUMNS, PLACES, ROWS};
 use ladder_page::{CoilMode, Mode};
 use ladder_vars::{Address, Decls, Instance};
 
@@ -319,11 +318,13 @@ fn is_cell(
 }
 
 /// Whether no power comes to the element, and it does nothing then.
-fn is_left_out(elements: &[Element], row: usize, column: usize, cell: Cell) -> bool
-    requires { (row < ROWS) × (column < COLUMNS) }
+fn is_left_out(elements: &[Element], power: &Power, row: usize, column: usize, cell: Cell) -> bool
+    requires rows { row < ROWS }
+    requires columns { column < COLUMNS }
+    requires power { IsPower elements.now power.now }
     ensures { result ≡ true → IsLeftOut elements.now row column cell }
 {
-    !reached(elements, row, column) && is_idle(meaning_at(elements, row, column)) && is_empty(cell)
+    is_empty(cell) && !power[column][row] && is_idle(meaning_at(elements, row, column))
 }
 
 /// Whether the cell is fed from the row as the element is; `before`: where power can come to in the column before.
@@ -350,15 +351,17 @@ fn are_fed_alike(
     program: &Program,
     rung: usize,
     elements: &[Element],
+    power: &Power,
     row: usize,
     column: usize,
 ) -> bool
     requires rungs { rung < program.now.rungs }
     requires rows { row < ROWS }
     requires columns { column < COLUMNS }
+    requires power { IsPower elements.now power.now }
     ensures { result ≡ true → IsFedAlike program.now rung elements.now row column }
 {
-    let before = reached_in(elements, column.saturating_sub(1));
+    let before = power[column.saturating_sub(1)];
     for from in 0..ROWS {
         if !is_fed_alike(program, rung, elements, row, column, from, &before) {
             return false;
@@ -368,32 +371,41 @@ fn are_fed_alike(
 }
 
 /// Whether a cell is fed as its element is, which stands where it means the same.
-fn is_alike(program: &Program, rung: usize, elements: &[Element], row: usize, column: usize) -> bool
+fn is_alike(
+    program: &Program,
+    rung: usize,
+    elements: &[Element],
+    power: &Power,
+    row: usize,
+    column: usize,
+) -> bool
     requires rungs { rung < program.now.rungs }
     requires rows { row < ROWS }
     requires columns { column < COLUMNS }
+    requires power { IsPower elements.now power.now }
     ensures { result ≡ true → IsAlike program.now rung elements.now row column }
 {
     stands(elements, row, column)
         && !reads_late(elements, row, column)
-        && are_fed_alike(program, rung, elements, row, column)
+        && are_fed_alike(program, rung, elements, power, row, column)
 }
 
-/// Whether a place has what the project has there.
+/// Whether a place, which are numbered row by row, has what the project has there.
 fn is_place_carried(
     program: &Program,
     rungs: &[Placed<'_>],
     blocks: &[BlockRef],
     rung: usize,
     placed: &Placed<'_>,
-    row: usize,
-    column: usize,
+    power: &Power,
+    place: usize,
 ) -> bool
     requires numbers { rung < program.now.rungs }
-    requires rows { row < ROWS }
-    requires columns { column < COLUMNS }
-    ensures { result ≡ true → IsPlaceCarried program.now rungs.now blocks.now rung placed.now row column }
+    requires places { place < PLACES }
+    requires power { IsPower placed.now.rung.elements power.now }
+    ensures { result ≡ true → IsPlaceCarried program.now rungs.now blocks.now rung placed.now (place / COLUMNS) (place % COLUMNS) }
 {
+    let (row, column) = (place / COLUMNS, place % COLUMNS);
     let cell = program.cell(rung, row, column);
     let elements = placed.rung.elements.as_slice();
     let element = element_at(elements, row, column);
@@ -406,28 +418,8 @@ fn is_place_carried(
         element,
         meaning,
         cell,
-    ) || is_left_out(elements, row, column, cell))
-        && (is_empty(cell) || is_alike(program, rung, elements, row, column))
-}
-
-fn is_row_carried(
-    program: &Program,
-    rungs: &[Placed<'_>],
-    blocks: &[BlockRef],
-    rung: usize,
-    placed: &Placed<'_>,
-    row: usize,
-) -> bool
-    requires numbers { rung < program.now.rungs }
-    requires rows { row < ROWS }
-    ensures { result ≡ true → (c : ℕ) → c < COLUMNS → IsPlaceCarried program.now rungs.now blocks.now rung placed.now row c }
-{
-    for column in 0..COLUMNS {
-        if !is_place_carried(program, rungs, blocks, rung, placed, row, column) {
-            return false;
-        }
-    }
-    true
+    ) || is_left_out(elements, power, row, column, cell))
+        && (is_empty(cell) || is_alike(program, rung, elements, power, row, column))
 }
 
 fn is_rung_carried(
@@ -440,8 +432,9 @@ fn is_rung_carried(
     requires { rung < program.now.rungs }
     ensures { result ≡ true → IsRungCarried program.now rungs.now blocks.now rung placed.now }
 {
-    for row in 0..ROWS {
-        if !is_row_carried(program, rungs, blocks, rung, placed, row) {
+    let power = power_of(placed.rung.elements.as_slice());
+    for place in 0..PLACES {
+        if !is_place_carried(program, rungs, blocks, rung, placed, &power, place) {
             return false;
         }
     }

@@ -8,6 +8,7 @@ mod drawn;
 mod importing;
 mod meaning;
 mod names;
+mod power;
 mod refusal;
 mod sheet;
 

@@ -1,9 +1,8 @@
-//! The elements of a rung, and how power goes through them.
+//! The elements of a rung, and where they may stand.
 
 ghost use Rattle.std.specs.Prelude.{◌≡◌, ◌+◌, ◌-◌, ◌*◌, ◌<◌, ◌≤◌, ◌&&◌, ◌||◌};
 ghost use Rattle.ladder_page.specs.declared.geometry.TheConstants.{COLUMNS, ROWS, PLACES};
-ghost use Rattle.ladder_import.specs.Reach.{AreReached};
-ghost use Rattle.ladder_import.specs.Sheets.{are_tied, brings, element_at, ends_rung, fed, has_places, is_bare, is_blank_at, is_block, is_contact, is_effect, is_effect_below, is_idle, is_left_half, is_linked, is_read_by, is_running, is_tied, meaning_at, passes, reached, reads_late, reads_place, same_sort, some_below, source_is, stands, stands_as, is_stopped, stopped_as, tied};
+ghost use Rattle.ladder_import.specs.Sheets.{element_at, ends_rung, has_places, is_bare, is_blank_at, is_block, is_contact, is_effect, is_effect_below, is_idle, is_left_half, is_linked, is_read_by, is_running, is_tied, meaning_at, reads_late, reads_place, same_sort, some_below, source_is, stands, stands_as, is_stopped, stopped_as};
 
 use crate::meaning::{BlockSort, Meaning, Source, is_blank_kind, meaning_of, source_of};
 use ladder_clp::Element;
@@ -21,12 +20,6 @@ pub(crate) fn either(a: bool, b: bool) -> bool
     ensures { result ≡ (a || b) }
 {
     a || b
-}
-
-fn both(a: bool, b: bool) -> bool
-    ensures { result ≡ (a && b) }
-{
-    a && b
 }
 
 /// The element at a place.
@@ -147,141 +140,6 @@ pub(crate) fn meaning_at(elements: &[Element], row: usize, column: usize) -> Mea
         let meaning = meaning_of(element_at(elements, row, column).kind);
         stopped_as(elements, row, column, meaning)
     }
-}
-
-/// Whether power goes through.
-pub(crate) fn passes(meaning: Meaning) -> bool
-    ensures { result ≡ passes meaning }
-{
-    match meaning {
-        Meaning::Wire | Meaning::Contact(_) | Meaning::Block(_) | Meaning::Off => true,
-        Meaning::Blank | Meaning::Coil(_) | Meaning::Jump | Meaning::Other => false,
-    }
-}
-
-/// Whether links join so many rows below to this one, on the left of the column.
-fn tied(elements: &[Element], row: usize, column: usize, count: usize) -> bool
-    requires { (row + count < ROWS) × (column < COLUMNS) }
-    ensures { result ≡ tied elements.now row column count }
-{
-    let mut all = true;
-    for i in 0..count {
-        all = both(all, is_linked(elements, row + i + 1, column));
-    }
-    all
-}
-
-fn are_tied(elements: &[Element], row: usize, column: usize, from: usize) -> bool
-    requires rows { (row < ROWS) × (from < ROWS) }
-    requires columns { column < COLUMNS }
-    ensures { result ≡ are_tied elements.now row column from }
-{
-    tied(
-        elements,
-        row.min(from),
-        column,
-        row.max(from) - row.min(from),
-    )
-}
-
-/// Whether power can leave the place on its right; `here` and `above`: whether it can come to it and to the one above.
-fn brings(elements: &[Element], row: usize, column: usize, here: bool, above: bool) -> bool
-    requires { (row < ROWS) × (column < COLUMNS) }
-    ensures { result ≡ brings elements.now row column here above }
-{
-    passes(meaning_at(elements, row, column)) && here || is_running(elements, row, column) && above
-}
-
-/// Whether power comes from a row of the column to a row in the next one.
-fn comes(
-    elements: &[Element],
-    row: usize,
-    column: usize,
-    from: usize,
-    here: bool,
-    above: bool,
-) -> bool
-    requires rows { (row < ROWS) × (from < ROWS) }
-    requires columns { column + 1 < COLUMNS }
-    ensures { result ≡ (brings elements.now from column here above && are_tied elements.now row (column + 1) from) }
-{
-    brings(elements, from, column, here, above) && are_tied(elements, row, column + 1, from)
-}
-
-/// Whether power can come to the row in the next column; `before`: where it can in this one.
-fn reaches(elements: &[Element], row: usize, column: usize, before: &[bool; ROWS]) -> bool
-    requires rows { row < ROWS }
-    requires columns { column + 1 < COLUMNS }
-    requires before { AreReached elements.now column before.now }
-    ensures { result ≡ reached elements.now (column + 1) row }
-{
-    let mut found = false;
-    for from in 0..ROWS {
-        found = either(
-            found,
-            comes(
-                elements,
-                row,
-                column,
-                from,
-                before[from],
-                before[from.saturating_sub(1)],
-            ),
-        );
-    }
-    found
-}
-
-fn reached_next(elements: &[Element], column: usize, before: &[bool; ROWS]) -> [bool; ROWS]
-    requires columns { column + 1 < COLUMNS }
-    requires before { AreReached elements.now column before.now }
-    ensures { AreReached elements.now (column + 1) result }
-{
-    let mut reached = [false; ROWS];
-    for row in 0..ROWS {
-        reached[row] = reaches(elements, row, column, before);
-    }
-    reached
-}
-
-/// To which rows of a column power can come.
-pub(crate) fn reached_in(elements: &[Element], column: usize) -> [bool; ROWS]
-    requires { column < COLUMNS }
-    ensures { AreReached elements.now column result }
-{
-    let mut reached = [true; ROWS];
-    for before in 0..column {
-        reached = reached_next(elements, before, &reached);
-    }
-    reached
-}
-
-/// Whether power can come to the place.
-pub(crate) fn reached(elements: &[Element], row: usize, column: usize) -> bool
-    requires { (row < ROWS) × (column < COLUMNS) }
-    ensures { result ≡ reached elements.now column row }
-{
-    reached_in(elements, column)[row]
-}
-
-/// Whether power can come to the left of the element from the row; `before`: where it can come to in the column before.
-pub(crate) fn fed(
-    elements: &[Element],
-    row: usize,
-    column: usize,
-    from: usize,
-    before: &[bool; ROWS],
-) -> bool
-    requires rows { (row < ROWS) × (from < ROWS) }
-    requires columns { column < COLUMNS }
-    requires before { AreReached elements.now (column - 1) before.now }
-    ensures { result ≡ fed elements.now row column from }
-{
-    if column == 0 {
-        return false;
-    }
-    let (here, above) = (before[from], before[from.saturating_sub(1)]);
-    brings(elements, from, column - 1, here, above) && are_tied(elements, row, column, from)
 }
 
 fn is_effect(meaning: Meaning) -> bool

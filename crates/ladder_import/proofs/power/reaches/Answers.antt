@@ -4,7 +4,7 @@ use Rattle.ladder_clp.specs.declared.element.Element.{Element}
 use Rattle.ladder_import.specs.Reach.{comes_from}
 use Rattle.ladder_import.specs.Sheets.{are_tied, brings, reached, some_below}
 use Rattle.ladder_import.proofs.Below.{none_below, one_more}
-use Rattle.ladder_import.proofs.sheet.reaches.Goals as goal
+use Rattle.ladder_import.proofs.power.reaches.Goals as goal
 
 onward : (es : List Element) (row column n : ℕ) → n ≡ suc column → some_below (λ q. brings es q column (reached es column q) (reached es column (q - 1)) && are_tied es row n q) ROWS ≡ reached es n row
 unfolding reached
@@ -18,14 +18,10 @@ loop-from-init c = none_below (comes_from c.args.elements.now c.args.row c.args.
 
 pub loop-from-preserved : goal.loop-from-preserved
 loop-from-preserved c =
-    let es = c.args.elements.now in
-    let column = c.args.column in
     let from = c.loop-from.from in
-    let here = c.requires.before from c.loop-from-test.true in
-    let above = c.requires.before (from - 1) (omega (arith, c.loop-from-test.true)) in
+    let leaves = c.requires.leaving from c.loop-from-test.true in
     c.either-found.ensures
-    ∙ one_more (comes_from es c.args.row column) from _ _ c.loop-from.invariant
-    (c.comes.ensures ∙ rw (c.saturating_sub.ensures, here, above) refl)
+    ∙ one_more (comes_from c.args.elements.now c.args.row c.args.column) from _ _ c.loop-from.invariant (c.comes.ensures ∙ rw leaves refl)
 
 pub returns : goal.returns
 returns c =

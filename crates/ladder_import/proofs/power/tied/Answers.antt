@@ -1,7 +1,7 @@
 use Rattle.std.proofs.Common.{◌≡◌, ℕ, ◌+◌, ◌&&◌, Bool, List, true, add-one, refl, ◌∙◌}
 use Rattle.ladder_clp.specs.declared.element.Element.{Element}
 use Rattle.ladder_import.specs.Sheets.{is_linked, tied}
-use Rattle.ladder_import.proofs.sheet.tied.Goals as goal
+use Rattle.ladder_import.proofs.power.tied.Goals as goal
 
 none_yet : (es : List Element) (row column : ℕ) → true ≡ tied es row column 0
 unfolding tied

@@ -2,7 +2,7 @@ use Rattle.std.proofs.Common.{◌∙◌, ◌+◌, arith}
 use Rattle.std.proofs.lemmas.List.{length-set}
 use Rattle.ladder_import.specs.Sheets.{reached}
 use Rattle.ladder_import.proofs.Below.{set_more}
-use Rattle.ladder_import.proofs.sheet.reached_next.Goals as goal
+use Rattle.ladder_import.proofs.power.reached_next.Goals as goal
 
 pub loop-row-preserved : goal.loop-row-preserved
 loop-row-preserved c =
