@@ -4,14 +4,14 @@ ghost use Rattle.std.specs.Prelude.{◌<◌};
 ghost use Rattle.ladder_page.specs.declared.geometry.TheConstants.{COLUMNS, ROWS};
 
 use crate::bytes::{add, add_line, add_number, add_remark, fill, trimmed};
-use crate::check::entry_of;
 use crate::drawn::Sheet;
-use crate::meaning::{BlockSort, Meaning, Source, source_of, timed_as};
 use crate::names::{Named, Used, letters, name_in, symbol_of};
-use crate::sheet::{element_at, meaning_at};
 use ladder_clp::{Placed, Project};
 use ladder_page::geometry::{CELL, COLUMNS, ROWS};
 use ladder_page::{CoilMode, Mode};
+use ladder_sheet::{
+    BlockSort, Meaning, Source, element_at, entry_of, meaning_at, source_of, timed_as,
+};
 use ladder_vars::BlockKind;
 use std::alloc::{AllocError, Global};
 

@@ -3,11 +3,9 @@
 ghost use Rattle.std.specs.Prelude.{◌<◌, ◌≤◌};
 ghost use Rattle.ladder_page.specs.declared.geometry.TheConstants.{COLUMNS, ROWS};
 
-use crate::meaning::Meaning;
-use crate::power::{passes, power_of};
-use crate::sheet::{is_linked, meaning_at};
 use ladder_clp::{Element, Project};
 use ladder_page::geometry::{COLUMNS, PLACES, ROWS};
+use ladder_sheet::{Meaning, is_linked, meaning_at, passes, power_of};
 use std::alloc::{AllocError, Global};
 
 /// The elements of a rung, and which of them are drawn: those that mean something, and that power can come to.

@@ -5,15 +5,15 @@ ghost use Rattle.ladder_clp.specs.declared.project.Project.{Project};
 ghost use Rattle.ladder_import.specs.Import.{HasText, IsFault};
 ghost use Rattle.ladder_import.specs.Refusals.{IsThere};
 
-use crate::check::is_carried_over;
 use crate::draw::drawing;
 use crate::drawn::sheets_of;
-use crate::meaning::BlockRef;
 use crate::names::{blocks_in, drawn_blocks, names_of, used_in};
 use crate::refusal::{Refusal, refusals};
 use ladder_clp::Project;
+use ladder_faithful::is_carried_over;
 use ladder_grid::{GridFault, read_program};
 use ladder_page::geometry::RUNGS;
+use ladder_sheet::BlockRef;
 use ladder_vars::VarRule;
 use ladder_vars::limits::{MOST_INSTANCES, MOST_VARS};
 use std::alloc::{AllocError, Global};

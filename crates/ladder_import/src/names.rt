@@ -5,10 +5,9 @@ ghost use Rattle.ladder_page.specs.declared.geometry.TheConstants.{ROWS};
 
 use crate::bytes::{add, add_number, trimmed};
 use crate::drawn::Sheet;
-use crate::meaning::{BlockRef, BlockSort, Meaning, Source, source_of};
-use crate::sheet::{element_at, meaning_at};
 use ladder_clp::{Project, Symbol};
 use ladder_page::geometry::{COLUMNS, ROWS};
+use ladder_sheet::{BlockRef, BlockSort, Meaning, Source, element_at, meaning_at, source_of};
 use ladder_vars::Name;
 use std::alloc::{AllocError, Global};
 

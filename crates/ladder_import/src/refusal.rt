@@ -2,21 +2,18 @@
 
 ghost use Rattle.std.specs.Prelude.{◌≡◌, ◌+◌, ◌-◌, ◌<◌, ◌≤◌, IfSome, All, IfOk, length};
 ghost use Rattle.ladder_page.specs.declared.geometry.TheConstants.{COLUMNS, ROWS};
-ghost use Rattle.ladder_import.specs.Reach.{AreReached, IsPower};
-ghost use Rattle.ladder_import.specs.Refusals.{IsThere, holds, is_coil, is_no_source, is_other, is_run};
-ghost use Rattle.ladder_import.specs.Sheets.{some_below};
+ghost use Rattle.ladder_sheet.specs.Reach.{IsPower};
+ghost use Rattle.ladder_import.specs.Refusals.{IsThere, holds, is_coil, is_no_source, is_other};
 
-use crate::check::entry_of;
 use crate::drawn::sheets_of;
-use crate::meaning::{BlockRef, BlockSort, Meaning, Source, meaning_of, source_of, timed_as};
 use crate::names::drawn_blocks;
-use crate::power::{Power, fed, power_of};
-use crate::sheet::{
-    either, element_at, ends_rung, has_places, is_block, is_contact, is_idle, is_running,
-    meaning_at, reads_late, stands,
-};
 use ladder_clp::{Element, Placed, Project};
 use ladder_page::geometry::{COLUMNS, ROWS};
+use ladder_sheet::{
+    BlockRef, BlockSort, Meaning, Power, Source, element_at, ends_rung, entry_of, has_places,
+    is_block, is_contact, is_idle, is_run_by_any, meaning_at, meaning_of, power_of, reads_late,
+    source_of, stands, timed_as,
+};
 use std::alloc::{AllocError, Global};
 use thiserror::Error;
 
@@ -114,36 +111,6 @@ fn is_no_source(source: Source) -> bool
         Source::Other => true,
         Source::Input | Source::Output | Source::Memory | Source::Done(_) => false,
     }
-}
-
-fn is_run(
-    elements: &[Element],
-    row: usize,
-    column: usize,
-    from: usize,
-    before: &[bool; ROWS],
-) -> bool
-    requires rows { (row < ROWS) × (from < ROWS) }
-    requires columns { column < COLUMNS }
-    requires before { AreReached elements.now (column - 1) before.now }
-    ensures { result ≡ is_run elements.now row column from }
-{
-    fed(elements, row, column, from, before) && is_running(elements, from, column.saturating_sub(1))
-}
-
-/// Whether power comes from the second output of an old timer.
-fn is_run_by_any(elements: &[Element], power: &Power, row: usize, column: usize) -> bool
-    requires rows { row < ROWS }
-    requires columns { column < COLUMNS }
-    requires power { IsPower elements.now power.now }
-    ensures { result ≡ some_below (is_run elements.now row column) ROWS }
-{
-    let before = power[column.saturating_sub(1)];
-    let mut found = false;
-    for from in 0..ROWS {
-        found = either(found, is_run(elements, row, column, from, &before));
-    }
-    found
 }
 
 /// Whether the reason holds of the element at a place.
