@@ -7,7 +7,7 @@ use Rattle.ladder_clp.specs.declared.project.Project.{Project}
 use Rattle.ladder_import.specs.declared.refusal.Refusal.{Refusal}
 use Rattle.ladder_import.specs.declared.importing.ImportFault.{ImportFault}
 use Rattle.ladder_import.specs.declared.importing.ImportFault.TheVariants as fault
-use Rattle.ladder_import.specs.Carried.{IsCarriedOver}
+use Rattle.ladder_faithful.specs.Carried.{IsCarriedOver}
 use Rattle.ladder_import.specs.Refusals.{IsThere}
 
 -- The text is a program that has what the project has.

@@ -3,15 +3,15 @@ use Rattle.std.specs.Prelude.{◌≡◌, ℕ, ◌-◌, ◌≤◌, ◌==◌, ◌&
 use Rattle.ladder_page.specs.declared.geometry.TheConstants.{ROWS, COLUMNS}
 use Rattle.ladder_clp.specs.declared.element.Element.{Element}
 use Rattle.ladder_clp.specs.declared.order.Placed.{Placed}
-use Rattle.ladder_import.specs.declared.meaning.Meaning.{Meaning}
-use Rattle.ladder_import.specs.declared.meaning.Meaning.TheVariants as meaning
-use Rattle.ladder_import.specs.declared.meaning.Source.{Source}
-use Rattle.ladder_import.specs.declared.meaning.Source.TheVariants as source
+use Rattle.ladder_sheet.specs.declared.meaning.Meaning.{Meaning}
+use Rattle.ladder_sheet.specs.declared.meaning.Meaning.TheVariants as meaning
+use Rattle.ladder_sheet.specs.declared.meaning.Source.{Source}
+use Rattle.ladder_sheet.specs.declared.meaning.Source.TheVariants as source
 use Rattle.ladder_import.specs.declared.refusal.Reason.{Reason}
 use Rattle.ladder_import.specs.declared.refusal.Reason.TheVariants as reason
 use Rattle.ladder_import.specs.declared.refusal.Refusal.{Refusal}
-use Rattle.ladder_import.specs.Meanings.{meaning_of, source_of}
-use Rattle.ladder_import.specs.Sheets.{element_at, ends_rung, fed, has_places, is_block, is_contact, is_idle, is_running, meaning_at, reached, reads_late, some_below, stands}
+use Rattle.ladder_sheet.specs.Meanings.{meaning_of, source_of}
+use Rattle.ladder_sheet.specs.Sheets.{element_at, ends_rung, has_places, is_block, is_contact, is_idle, is_run, meaning_at, reached, reads_late, some_below, stands}
 
 abbrev pub is_other : Meaning → Bool
 is_other m = elim m [ meaning.Other ↦ true | _ ↦ false ]
@@ -21,10 +21,6 @@ is_coil m = elim m [ meaning.Coil n ↦ true | _ ↦ false ]
 
 abbrev pub is_no_source : Source → Bool
 is_no_source s = elim s [ source.Other ↦ true | _ ↦ false ]
-
--- power comes from the row, and from the second output of an old timer there
-abbrev pub is_run : List Element → ℕ → ℕ → ℕ → Bool
-is_run es r c q = fed es r c q && is_running es q (c - 1)
 
 -- What a reason says of the element at a place.
 abbrev pub holds : Reason → List Element → ℕ → ℕ → Bool

@@ -4,14 +4,14 @@ ghost use Rattle.std.specs.Prelude.{◌<◌};
 ghost use Rattle.ladder_page.specs.declared.geometry.TheConstants.{COLUMNS, ROWS};
 
 use crate::bytes::{add, add_line, add_number, add_remark, fill, trimmed};
-use crate::check::entry_of;
-use crate::drawn::{Sheet, sheet_of};
-use crate::meaning::{BlockSort, Meaning, Source, source_of, timed_as};
+use crate::drawn::Sheet;
 use crate::names::{Named, Used, letters, name_in, symbol_of};
-use crate::sheet::{element_at, meaning_at};
 use ladder_clp::{Placed, Project};
 use ladder_page::geometry::{CELL, COLUMNS, ROWS};
 use ladder_page::{CoilMode, Mode};
+use ladder_sheet::{
+    BlockSort, Meaning, Source, element_at, entry_of, meaning_at, source_of, timed_as,
+};
 use ladder_vars::BlockKind;
 use std::alloc::{AllocError, Global};
 
@@ -275,21 +275,25 @@ fn add_wire_line(
 }
 
 /// Whether the rung jumps to the number.
-fn jumps_to(placed: &Placed<'_>, number: u32) -> bool {
-    let sheet = sheet_of(placed.rung.elements.as_slice());
+fn jumps_to(sheet: &Sheet<'_>, number: u32) -> bool {
     for row in 0..ROWS {
         let element = element_at(sheet.elements, row, COLUMNS - 1);
-        if sheet.is_drawn(row, COLUMNS - 1) && element.kind == 54 && element.number == number {
+        if element.kind == 54 && element.number == number && sheet.is_drawn(row, COLUMNS - 1) {
             return true;
         }
     }
     false
 }
 
-/// Whether a rung before this one, of the same section, jumps to it.
-fn is_target(before: &[Placed<'_>], placed: &Placed<'_>) -> bool {
-    for other in before {
-        if other.section == placed.section && jumps_to(other, placed.rung.number) {
+/// Whether one of so many rungs, of the same section, jumps to this one.
+fn is_target(
+    rungs: &[Placed<'_>],
+    sheets: &[Sheet<'_>],
+    count: usize,
+    placed: &Placed<'_>,
+) -> bool {
+    for (other, sheet) in rungs.iter().zip(sheets).take(count) {
+        if other.section == placed.section && jumps_to(sheet, placed.rung.number) {
             return true;
         }
     }
@@ -316,14 +320,13 @@ fn add_rows(
     text: &mut Vec<u8>,
     project: &Project<'_>,
     named: &[Named],
-    placed: &Placed<'_>,
+    sheet: &Sheet<'_>,
 ) -> Result<(), AllocError> {
-    let sheet = sheet_of(placed.rung.elements.as_slice());
     let rows = sheet.rows();
     for row in 0..ROWS {
         if row < rows {
-            add_name_line(alloc, text, named, &sheet, row)?;
-            add_wire_line(alloc, text, project, &sheet, row)?;
+            add_name_line(alloc, text, named, sheet, row)?;
+            add_wire_line(alloc, text, project, sheet, row)?;
         }
     }
     Ok(())
@@ -333,6 +336,7 @@ fn add_rows(
 pub(crate) fn drawing(
     alloc: Global,
     project: &Project<'_>,
+    sheets: &[Sheet<'_>],
     named: &[Named],
 ) -> Result<Vec<u8>, AllocError> {
     let mut text = Vec::new(alloc);
@@ -342,15 +346,15 @@ pub(crate) fn drawing(
     }
     add(&mut text, b"END_VAR\n")?;
     let mut count = 0u32;
-    for (number, placed) in project.rungs.iter().enumerate() {
+    for (number, (placed, sheet)) in project.rungs.iter().zip(sheets).enumerate() {
         count = count.saturating_add(1);
         add_title(&mut text, count, placed)?;
-        if is_target(&project.rungs[..number], placed) {
+        if is_target(&project.rungs, sheets, number, placed) {
             add(&mut text, b"R")?;
             add_number(&mut text, placed.rung.number)?;
             add(&mut text, b":\n")?;
         }
-        add_rows(alloc, &mut text, project, named, placed)?;
+        add_rows(alloc, &mut text, project, named, sheet)?;
     }
     Ok(text)
 }

@@ -3,10 +3,10 @@
 ghost use Rattle.std.specs.Prelude.{◌<◌, ◌≤◌};
 ghost use Rattle.ladder_page.specs.declared.geometry.TheConstants.{COLUMNS, ROWS};
 
-use crate::meaning::Meaning;
-use crate::sheet::{is_linked, meaning_at, passes, reached_in};
-use ladder_clp::Element;
+use ladder_clp::{Element, Project};
 use ladder_page::geometry::{COLUMNS, PLACES, ROWS};
+use ladder_sheet::{Meaning, is_linked, meaning_at, passes, power_of};
+use std::alloc::{AllocError, Global};
 
 /// The elements of a rung, and which of them are drawn: those that mean something, and that power can come to.
 #[derive(Clone, Copy)]
@@ -29,16 +29,26 @@ fn is_blank(meaning: Meaning) -> bool {
 }
 
 /// The elements with what is drawn of them.
-pub(crate) fn sheet_of(elements: &[Element]) -> Sheet<'_> {
+fn sheet_of(elements: &[Element]) -> Sheet<'_> {
+    let power = power_of(elements);
     let mut drawn = [false; PLACES];
-    for column in 0..COLUMNS {
-        let reached = reached_in(elements, column);
-        for row in 0..ROWS {
-            drawn[COLUMNS * row + column] = reached[row]
-                && !is_blank(meaning_at(elements, row, column));
-        }
+    for place in 0..PLACES {
+        let (row, column) = (place / COLUMNS, place % COLUMNS);
+        drawn[place] = power[column][row] && !is_blank(meaning_at(elements, row, column));
     }
     Sheet { elements, drawn }
+}
+
+/// A sheet for each rung, in the order of the scan.
+pub(crate) fn sheets_of<'a>(
+    alloc: Global,
+    project: &'a Project<'_>,
+) -> Result<Vec<Sheet<'a>>, AllocError> {
+    let mut sheets = Vec::new(alloc);
+    for placed in &project.rungs {
+        sheets.push(sheet_of(placed.rung.elements.as_slice()))?;
+    }
+    Ok(sheets)
 }
 
 impl Sheet<'_> {

@@ -5,14 +5,15 @@ ghost use Rattle.ladder_clp.specs.declared.project.Project.{Project};
 ghost use Rattle.ladder_import.specs.Import.{HasText, IsFault};
 ghost use Rattle.ladder_import.specs.Refusals.{IsThere};
 
-use crate::check::is_carried_over;
 use crate::draw::drawing;
-use crate::meaning::BlockRef;
+use crate::drawn::sheets_of;
 use crate::names::{blocks_in, drawn_blocks, names_of, used_in};
 use crate::refusal::{Refusal, refusals};
 use ladder_clp::Project;
+use ladder_faithful::is_carried_over;
 use ladder_grid::{GridFault, read_program};
 use ladder_page::geometry::RUNGS;
+use ladder_sheet::BlockRef;
 use ladder_vars::VarRule;
 use ladder_vars::limits::{MOST_INSTANCES, MOST_VARS};
 use std::alloc::{AllocError, Global};
@@ -83,8 +84,9 @@ fn drawn(alloc: Global, project: &Project<'_>) -> Result<Vec<u8>, ImportFault>
     ensures text { IfOk result (λ v. HasText project.now v.items) }
     ensures fault { IfErr result (λ e. IsFault project.now e) }
 {
-    let used = used_in(alloc, project)?;
-    let blocks = blocks_in(alloc, &used, &drawn_blocks(alloc, project)?)?;
+    let sheets = sheets_of(alloc, project)?;
+    let used = used_in(alloc, &sheets)?;
+    let blocks = blocks_in(alloc, &used, &drawn_blocks(alloc, &sheets)?)?;
     if blocks.len() > MOST_INSTANCES {
         return Err(ImportFault::TooManyBlocks);
     }
@@ -92,7 +94,7 @@ fn drawn(alloc: Global, project: &Project<'_>) -> Result<Vec<u8>, ImportFault>
         return Err(ImportFault::TooManyVars);
     }
     let named = names_of(alloc, project, &used, &blocks)?;
-    let text = drawing(alloc, project, &named)?;
+    let text = drawing(alloc, project, &sheets, &named)?;
     checked(alloc, project, &blocks, text)
 }
 

@@ -2,14 +2,11 @@
 #![tactic(auto)]
 
 mod bytes;
-mod check;
 mod draw;
 mod drawn;
 mod importing;
-mod meaning;
 mod names;
 mod refusal;
-mod sheet;
 
 pub use importing::{ImportFault, import};
 pub use refusal::{Reason, Refusal, refusals};

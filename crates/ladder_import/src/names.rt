@@ -4,11 +4,10 @@ ghost use Rattle.std.specs.Prelude.{◌<◌, ◌≤◌, length};
 ghost use Rattle.ladder_page.specs.declared.geometry.TheConstants.{ROWS};
 
 use crate::bytes::{add, add_number, trimmed};
-use crate::drawn::{Sheet, sheet_of};
-use crate::meaning::{BlockRef, BlockSort, Meaning, Source, source_of};
-use crate::sheet::{element_at, meaning_at};
+use crate::drawn::Sheet;
 use ladder_clp::{Project, Symbol};
 use ladder_page::geometry::{COLUMNS, ROWS};
+use ladder_sheet::{BlockRef, BlockSort, Meaning, Source, element_at, meaning_at, source_of};
 use ladder_vars::Name;
 use std::alloc::{AllocError, Global};
 
@@ -112,12 +111,11 @@ fn add_row(used: &mut Vec<Used>, sheet: &Sheet<'_>, row: usize) -> Result<(), Al
 }
 
 /// What the elements use that are drawn.
-pub(crate) fn used_in(alloc: Global, project: &Project<'_>) -> Result<Vec<Used>, AllocError> {
+pub(crate) fn used_in(alloc: Global, sheets: &[Sheet<'_>]) -> Result<Vec<Used>, AllocError> {
     let mut used = Vec::new(alloc);
-    for placed in &project.rungs {
-        let sheet = sheet_of(placed.rung.elements.as_slice());
+    for sheet in sheets {
         for row in 0..ROWS {
-            add_row(&mut used, &sheet, row)?;
+            add_row(&mut used, sheet, row)?;
         }
     }
     Ok(used)
@@ -312,13 +310,12 @@ fn add_blocks(blocks: &mut Vec<BlockRef>, sheet: &Sheet<'_>, row: usize) -> Resu
 /// The blocks that are drawn, each as often as it is.
 pub(crate) fn drawn_blocks(
     alloc: Global,
-    project: &Project<'_>,
+    sheets: &[Sheet<'_>],
 ) -> Result<Vec<BlockRef>, AllocError> {
     let mut blocks = Vec::new(alloc);
-    for placed in &project.rungs {
-        let sheet = sheet_of(placed.rung.elements.as_slice());
+    for sheet in sheets {
         for row in 0..ROWS {
-            add_blocks(&mut blocks, &sheet, row)?;
+            add_blocks(&mut blocks, sheet, row)?;
         }
     }
     Ok(blocks)

@@ -2,19 +2,18 @@
 
 ghost use Rattle.std.specs.Prelude.{◌≡◌, ◌+◌, ◌-◌, ◌<◌, ◌≤◌, IfSome, All, IfOk, length};
 ghost use Rattle.ladder_page.specs.declared.geometry.TheConstants.{COLUMNS, ROWS};
-ghost use Rattle.ladder_import.specs.Reach.{AreReached};
-ghost use Rattle.ladder_import.specs.Refusals.{IsThere, holds, is_coil, is_no_source, is_other, is_run};
-ghost use Rattle.ladder_import.specs.Sheets.{some_below};
+ghost use Rattle.ladder_sheet.specs.Reach.{IsPower};
+ghost use Rattle.ladder_import.specs.Refusals.{IsThere, holds, is_coil, is_no_source, is_other};
 
-use crate::check::entry_of;
-use crate::meaning::{BlockRef, BlockSort, Meaning, Source, meaning_of, source_of, timed_as};
+use crate::drawn::sheets_of;
 use crate::names::drawn_blocks;
-use crate::sheet::{
-    either, element_at, ends_rung, fed, has_places, is_block, is_contact, is_idle, is_running,
-    meaning_at, reached, reached_in, reads_late, stands,
-};
 use ladder_clp::{Element, Placed, Project};
 use ladder_page::geometry::{COLUMNS, ROWS};
+use ladder_sheet::{
+    BlockRef, BlockSort, Meaning, Power, Source, element_at, ends_rung, entry_of, has_places,
+    is_block, is_contact, is_idle, is_run_by_any, meaning_at, meaning_of, power_of, reads_late,
+    source_of, stands, timed_as,
+};
 use std::alloc::{AllocError, Global};
 use thiserror::Error;
 
@@ -114,37 +113,11 @@ fn is_no_source(source: Source) -> bool
     }
 }
 
-fn is_run(
-    elements: &[Element],
-    row: usize,
-    column: usize,
-    from: usize,
-    before: &[bool; ROWS],
-) -> bool
-    requires rows { (row < ROWS) × (from < ROWS) }
-    requires columns { column < COLUMNS }
-    requires before { AreReached elements.now (column - 1) before.now }
-    ensures { result ≡ is_run elements.now row column from }
-{
-    fed(elements, row, column, from, before) && is_running(elements, from, column.saturating_sub(1))
-}
-
-/// Whether power comes from the second output of an old timer.
-fn is_run_by_any(elements: &[Element], row: usize, column: usize) -> bool
-    requires { (row < ROWS) × (column < COLUMNS) }
-    ensures { result ≡ some_below (is_run elements.now row column) ROWS }
-{
-    let before = reached_in(elements, column.saturating_sub(1));
-    let mut found = false;
-    for from in 0..ROWS {
-        found = either(found, is_run(elements, row, column, from, &before));
-    }
-    found
-}
-
 /// Whether the reason holds of the element at a place.
-fn holds(reason: Reason, elements: &[Element], row: usize, column: usize) -> bool
-    requires { (row < ROWS) × (column < COLUMNS) }
+fn holds(reason: Reason, elements: &[Element], power: &Power, row: usize, column: usize) -> bool
+    requires rows { row < ROWS }
+    requires columns { column < COLUMNS }
+    requires power { IsPower elements.now power.now }
     ensures { result ≡ holds reason elements.now row column }
 {
     let element = element_at(elements, row, column);
@@ -169,8 +142,8 @@ fn holds(reason: Reason, elements: &[Element], row: usize, column: usize) -> boo
         Reason::Switched => element.kind == 10 && !stands(elements, row, column),
         Reason::NoPreset | Reason::Twice => is_block(meaning_of(element.kind)),
         Reason::ReadsLate => reads_late(elements, row, column),
-        Reason::NoPower => !reached(elements, row, column) && !is_idle(meaning),
-        Reason::Running => is_run_by_any(elements, row, column),
+        Reason::NoPower => !power[column][row] && !is_idle(meaning),
+        Reason::Running => is_run_by_any(elements, power, row, column),
         Reason::Elsewhere => element.kind == 54,
     }
 }
@@ -188,7 +161,8 @@ fn refused(
     ensures { IfSome result (λ f. IsThere rungs.now f) }
 {
     let placed = rungs.get(rung)?;
-    if holds(reason, placed.rung.elements.as_slice(), row, column) {
+    let elements = placed.rung.elements.as_slice();
+    if holds(reason, elements, &power_of(elements), row, column) {
         Some(Refusal {
             rung: placed.rung.number,
             row: row + 1,
@@ -295,13 +269,21 @@ fn block_reason(
 }
 
 /// What keeps an element from standing where it is.
-fn place_reason(elements: &[Element], row: usize, column: usize, meaning: Meaning) -> Option<Reason>
-    requires { (row < ROWS) × (column < COLUMNS) }
+fn place_reason(
+    elements: &[Element],
+    power: &Power,
+    row: usize,
+    column: usize,
+    meaning: Meaning,
+) -> Option<Reason>
+    requires rows { row < ROWS }
+    requires columns { column < COLUMNS }
+    requires power { IsPower elements.now power.now }
 {
     if stands(elements, row, column) {
         if reads_late(elements, row, column) {
             Some(Reason::ReadsLate)
-        } else if is_run_by_any(elements, row, column) {
+        } else if is_run_by_any(elements, power, row, column) {
             Some(Reason::Running)
         } else {
             None
@@ -368,13 +350,15 @@ fn reason_at(
     project: &Project<'_>,
     blocks: &[BlockRef],
     rung: usize,
+    elements: &[Element],
+    power: &Power,
     row: usize,
     column: usize,
 ) -> Option<Reason>
-    requires { (row < ROWS) × (column < COLUMNS) }
+    requires rows { row < ROWS }
+    requires columns { column < COLUMNS }
+    requires power { IsPower elements.now power.now }
 {
-    let placed = project.rungs.get(rung)?;
-    let elements = placed.rung.elements.as_slice();
     let element = element_at(elements, row, column);
     let meaning = meaning_at(elements, row, column);
     if let Some(reason) = kind_reason(element.kind) {
@@ -386,7 +370,7 @@ fn reason_at(
     if is_blank(meaning) {
         return None;
     }
-    if !reached(elements, row, column) {
+    if !power[column][row] {
         if is_idle(meaning) {
             return None;
         }
@@ -396,7 +380,7 @@ fn reason_at(
     }
     match drawn_reason(project, blocks, rung, element, meaning) {
         Some(reason) => Some(reason),
-        None => place_reason(elements, row, column, meaning),
+        None => place_reason(elements, power, row, column, meaning),
     }
 }
 
@@ -405,15 +389,18 @@ fn add_row(
     project: &Project<'_>,
     blocks: &[BlockRef],
     rung: usize,
+    elements: &[Element],
+    power: &Power,
     row: usize,
     refusals: &mut Vec<Refusal>,
 ) -> Result<(), AllocError>
     requires rows { row < ROWS }
+    requires power { IsPower elements.now power.now }
     requires before { All (IsThere project.now.rungs.items) refusals.old.items }
     ensures { IfOk result (λ _. All (IsThere project.now.rungs.items) refusals.new.items) }
 {
     for column in 0..COLUMNS {
-        if let Some(reason) = reason_at(project, blocks, rung, row, column) {
+        if let Some(reason) = reason_at(project, blocks, rung, elements, power, row, column) {
             if let Some(refusal) = refused(&project.rungs, rung, row, column, reason) {
                 refusals.push(refusal)?;
             }
@@ -432,8 +419,13 @@ fn add_rung(
     requires before { All (IsThere project.now.rungs.items) refusals.old.items }
     ensures { IfOk result (λ _. All (IsThere project.now.rungs.items) refusals.new.items) }
 {
+    let Some(placed) = project.rungs.get(rung) else {
+        return Ok(());
+    };
+    let elements = placed.rung.elements.as_slice();
+    let power = power_of(elements);
     for row in 0..ROWS {
-        add_row(project, blocks, rung, row, refusals)?;
+        add_row(project, blocks, rung, elements, &power, row, refusals)?;
     }
     Ok(())
 }
@@ -446,7 +438,7 @@ fn add_rung(
 pub fn refusals(alloc: Global, project: &Project<'_>) -> Result<Vec<Refusal>, AllocError>
     ensures { IfOk result (λ v. All (IsThere project.now.rungs.items) v.items) }
 {
-    let blocks = drawn_blocks(alloc, project)?;
+    let blocks = drawn_blocks(alloc, &sheets_of(alloc, project)?)?;
     let mut refusals = Vec::new(alloc);
     for rung in 0..project.rungs.len() {
         add_rung(project, &blocks, rung, &mut refusals)?;

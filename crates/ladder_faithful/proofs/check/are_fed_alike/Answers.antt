@@ -1,0 +1,5 @@
+use Rattle.std.proofs.Common.{below_more}
+use Rattle.ladder_faithful.proofs.check.are_fed_alike.Goals as goal
+
+pub loop-from-preserved : goal.loop-from-preserved
+loop-from-preserved c = below_more _ _ c.loop-from.invariant (c.is_fed_alike.ensures c.if-not-is_fed_alike.false)

@@ -1,0 +1,12 @@
+use Rattle.std.proofs.Common.{◌∙◌, arith, sym}
+use Rattle.ladder_faithful.proofs.check.is_carried_over.Goals as goal
+
+pub returns : goal.returns
+returns c = λ same. record {
+  blocks = c.args.blocks.now;
+  apart = c.are_apart.ensures c.if-not-are_apart.false;
+  instances = rw (c.instances.ensures.value, c.decls-decls.ensures) at (c.are_instances.ensures c.if-not-are_instances.false);
+  off = sym (rw c.decls-decls.ensures at c.are_off.ensures) ∙ c.if-not-are_off.false;
+  count = omega (arith, c.rungs.ensures.value, c.len.ensures, c.if-rungs-len.false);
+  rungs = rw c.deref.ensures.value at (c.are_carried.ensures same);
+}

@@ -1,0 +1,141 @@
+-- A program has what a project has: each rung in its place in the scan, and each element in its row and column with its meaning.
+use Rattle.std.specs.Prelude.{◌≡◌, ◌⊎◌, ℕ, ◌<◌, ◌&&◌, ◌==◌, not, Bool, true, false, List, [], ◌∷◌, length, slice_get, Some, None, option_map}
+use Rattle.std.specs.List.{list_all, list_any}
+use Rattle.ladder_vars.specs.Decls.{Declared}
+use Rattle.ladder_vars.specs.declared.decls.Instance.{Instance}
+use Rattle.ladder_page.specs.declared.geometry.TheConstants.{ROWS, COLUMNS}
+use Rattle.ladder_page.specs.declared.mode.Mode.{Mode}
+use Rattle.ladder_page.specs.declared.mode.Mode.TheVariants as mode
+use Rattle.ladder_page.specs.declared.mode.CoilMode.{CoilMode}
+use Rattle.ladder_page.specs.Operand.{is_input_at}
+use Rattle.ladder_grid.specs.declared.cell.Operand.{Operand}
+use Rattle.ladder_grid.specs.declared.cell.Operand.TheVariants as operand
+use Rattle.ladder_grid.specs.declared.cell.Cell.{Cell}
+use Rattle.ladder_grid.specs.declared.cell.Cell.TheVariants as cell
+use Rattle.ladder_grid.specs.Program.{Drawing, site_at, feeds, has_coil, is_empty}
+use Rattle.ladder_clp.specs.declared.element.Element.{Element}
+use Rattle.ladder_clp.specs.declared.order.Placed.{Placed}
+use Rattle.ladder_clp.specs.declared.project.Project.{Project}
+use Rattle.ladder_sheet.specs.declared.meaning.BlockSort.TheVariants as sort
+use Rattle.ladder_sheet.specs.declared.meaning.BlockRef.{BlockRef}
+use Rattle.ladder_sheet.specs.declared.meaning.Meaning.{Meaning}
+use Rattle.ladder_sheet.specs.declared.meaning.Meaning.TheVariants as meaning
+use Rattle.ladder_sheet.specs.declared.meaning.Source.{Source}
+use Rattle.ladder_sheet.specs.declared.meaning.Source.TheVariants as source
+use Rattle.ladder_sheet.specs.Meanings.{entry_of, source_of, timed_as}
+use Rattle.ladder_sheet.specs.Sheets.{element_at, fed, is_idle, meaning_at, reached, reads_late, same_sort, stands}
+
+-- ---- variables and blocks
+
+-- the variable that is declared at an address of this letter, with this one number
+abbrev pub IsVar : Declared → ℕ → ℕ → ℕ → Type 0
+IsVar decls letter number var =
+    option_map (λ v. v.address) (slice_get decls.vars var) ≡ Some (Some (record { letter = letter; first = number; second = None }))
+
+-- No coil writes the variable, and it is no input: as all variables begin as OFF, it is always OFF.
+abbrev pub IsNever : Drawing → ℕ → Type 0
+IsNever d var = (has_coil var d ≡ false) × (is_input_at (slice_get d.decls.vars var) ≡ false)
+
+abbrev pub same_block : BlockRef → BlockRef → Bool
+same_block a b = same_sort a.sort b.sort && (a.number == b.number)
+
+-- %I, %Q and %B are the addresses %I (73), %Q (81) and %M (77); instance i stands for the block i, and a block that none stands
+-- for is always OFF.
+abbrev pub IsOperand : Drawing → List BlockRef → Source → ℕ → Operand → Type 0
+IsOperand d blocks source.Input number (operand.Var var) = IsVar d.decls 73 number var
+IsOperand d blocks source.Output number (operand.Var var) = IsVar d.decls 81 number var
+IsOperand d blocks source.Memory number (operand.Var var) = IsVar d.decls 77 number var
+IsOperand d blocks (source.Done s) number (operand.Var var) = (list_any (same_block (record { sort = s; number = number })) blocks ≡ false) × IsNever d var
+IsOperand d blocks (source.Done s) number (operand.Output inst) = slice_get blocks inst ≡ Some (record { sort = s; number = number })
+IsOperand d blocks source number operand = ⊥
+
+-- A coil writes %Q or %B.
+abbrev pub IsWritten : Drawing → Source → ℕ → ℕ → Type 0
+IsWritten d source.Output number var = IsVar d.decls 81 number var
+IsWritten d source.Memory number var = IsVar d.decls 77 number var
+IsWritten d source number var = ⊥
+
+-- no block is twice among them
+abbrev pub AreApart : List BlockRef → Type 0
+AreApart [] = Unit {0}
+AreApart (b ∷ bs) = (list_any (same_block b) bs ≡ false) × AreApart bs
+
+-- The instance has the kind and the preset of the block.
+abbrev pub IsInstance : Project → BlockRef → Instance → Type 0
+IsInstance p b i = timed_as b.sort (entry_of p b.sort b.number) ≡ Some (record { kind = i.kind; preset = i.preset })
+
+-- Each instance has the kind and the preset of the block that it stands for.
+abbrev pub AreInstances : Project → List BlockRef → List Instance → Type 0
+AreInstances p [] [] = Unit {0}
+AreInstances p (b ∷ bs) (i ∷ is) = IsInstance p b i × AreInstances p bs is
+AreInstances p blocks instances = ⊥
+
+-- ---- cells
+
+-- A rung with this number, of the same section, is in this place in the scan.
+abbrev pub IsTarget : List Placed → ℕ → ℕ → ℕ → Type 0
+IsTarget rungs section number target = (x : Placed) × (slice_get rungs target ≡ Some x) × (x.rung.number ≡ number) × (x.section ≡ section)
+
+abbrev pub IsContactOn : Drawing → List BlockRef → Mode → Source → ℕ → Cell → Type 0
+IsContactOn d blocks m source number (cell.Contact n operand memory) = (n ≡ m) × IsOperand d blocks source number operand
+IsContactOn d blocks m source number other = ⊥
+
+abbrev pub IsCoilOn : Drawing → CoilMode → Source → ℕ → Cell → Type 0
+IsCoilOn d m source number (cell.Coil n var memory) = (n ≡ m) × IsWritten d source number var
+IsCoilOn d m source number other = ⊥
+
+abbrev pub IsJumpTo : List Placed → ℕ → ℕ → Cell → Type 0
+IsJumpTo rungs section number (cell.Jump target) = IsTarget rungs section number target
+IsJumpTo rungs section number other = ⊥
+
+abbrev pub IsBlockOf : List BlockRef → BlockRef → Cell → Type 0
+IsBlockOf blocks block (cell.Block inst) = slice_get blocks inst ≡ Some block
+IsBlockOf blocks block other = ⊥
+
+-- What stands at the place of an element with this meaning.
+abbrev pub IsCell : Drawing → List Placed → List BlockRef → ℕ → Element → Meaning → Cell → Type 0
+IsCell d rungs blocks section e meaning.Blank at = is_empty at ≡ true
+IsCell d rungs blocks section e meaning.Wire at = at ≡ cell.Wire
+IsCell d rungs blocks section e (meaning.Contact m) at = IsContactOn d blocks m (source_of e.class) e.number at
+IsCell d rungs blocks section e (meaning.Coil m) at = IsCoilOn d m (source_of e.class) e.number at
+IsCell d rungs blocks section e meaning.Jump at = IsJumpTo rungs section e.number at
+IsCell d rungs blocks section e (meaning.Block s) at = IsBlockOf blocks (record { sort = s; number = e.number }) at
+IsCell d rungs blocks section e meaning.Off at = IsContactOn d blocks mode.Plain (source.Done sort.Timer) e.number at
+IsCell d rungs blocks section e meaning.Other at = ⊥
+
+-- No power comes to the element, it does nothing then, and nothing is at its place.
+abbrev pub IsLeftOut : List Element → ℕ → ℕ → Cell → Type 0
+IsLeftOut es r c at = (reached es c r ≡ false) × (is_idle (meaning_at es r c) ≡ true) × (at ≡ cell.Empty)
+
+-- The cell is fed from the same rows.
+abbrev pub IsFedAlike : Drawing → ℕ → List Element → ℕ → ℕ → Type 0
+IsFedAlike d k es r c = (q : ℕ) → q < ROWS → feeds d k r c q ≡ fed es r c q
+
+-- A cell is fed as its element is, which stands where it means the same in a program and reads no block before it in its rung.
+pub record IsAlike (d : Drawing) (k : ℕ) (es : List Element) (r c : ℕ) : Type 0 where
+  pub fed : IsFedAlike d k es r c
+  pub stands : stands es r c ≡ true
+  pub early : reads_late es r c ≡ false
+
+-- A place of rung k has what the project has there.
+pub record IsPlaceCarried (d : Drawing) (rungs : List Placed) (blocks : List BlockRef) (k : ℕ) (x : Placed) (r c : ℕ) : Type 0 where
+  pub same : IsCell d rungs blocks x.section (element_at x.rung.elements r c) (meaning_at x.rung.elements r c) (site_at d k r c).cell
+      ⊎ IsLeftOut x.rung.elements r c (site_at d k r c).cell
+  pub alike : is_empty (site_at d k r c).cell ≡ false → IsAlike d k x.rung.elements r c
+
+abbrev pub IsRungCarried : Drawing → List Placed → List BlockRef → ℕ → Placed → Type 0
+IsRungCarried d rungs blocks k x = (r c : ℕ) → r < ROWS → c < COLUMNS → IsPlaceCarried d rungs blocks k x r c
+
+-- Each rung of the scan is the rung with the same number in the program.
+abbrev pub AreCarried : Drawing → List Placed → List BlockRef → Type 0
+AreCarried d rungs blocks = (k : ℕ) → k < length rungs → (x : Placed) → slice_get rungs k ≡ Some x → IsRungCarried d rungs blocks k x
+
+-- A program is a project carried over: instance i stands for one of the project's blocks, each for another one; all variables
+-- begin as OFF; and the rungs are those of the scan.
+pub record IsCarriedOver (p : Project) (d : Drawing) : Type 0 where
+  pub blocks : List BlockRef
+  pub apart : AreApart blocks
+  pub instances : AreInstances p blocks d.decls.instances
+  pub off : list_all (λ v. not v.initial) d.decls.vars ≡ true
+  pub count : d.rungs ≡ length p.rungs.items
+  pub rungs : AreCarried d p.rungs.items blocks

@@ -1,0 +1,548 @@
+//! Whether a program has what a project has.
+
+ghost use Rattle.std.specs.Prelude.{◌≡◌, ◌+◌, ◌-◌, ◌/◌, ◌%◌, ◌&&◌, ◌<◌, ◌≤◌, ℕ, Some, length, not, slice_get, true};
+ghost use Rattle.std.specs.List.{list_all, list_any};
+ghost use Rattle.ladder_page.specs.declared.geometry.TheConstants.{COLUMNS, PLACES, ROWS};
+ghost use Rattle.ladder_grid.specs.Program.{feeds, is_empty, joined, site_at, takes_power};
+ghost use Rattle.ladder_clp.specs.declared.order.Placed.{Placed};
+ghost use Rattle.ladder_grid.specs.declared.cell.Operand.TheVariants as operands;
+ghost use Rattle.ladder_grid.specs.declared.cell.Cell.TheVariants as cells;
+ghost use Rattle.ladder_page.specs.Operand.{is_input_at};
+ghost use Rattle.ladder_sheet.specs.Reach.{AreReached, IsPower};
+ghost use Rattle.ladder_sheet.specs.Sheets.{fed};
+ghost use Rattle.ladder_faithful.specs.Carried.{AreApart, AreCarried, AreInstances, IsAlike, IsCarriedOver, IsBlockOf, IsCell, IsCoilOn, IsContactOn, IsFedAlike, IsInstance, IsJumpTo, IsLeftOut, IsNever, IsOperand, IsPlaceCarried, IsRungCarried, IsTarget, IsVar, IsWritten, same_block};
+
+use ladder_clp::{Element, Placed, Project};
+use ladder_grid::{Cell, Joint, Operand, Program};
+use ladder_page::geometry::{COLUMNS, PLACES, ROWS};
+use ladder_page::{CoilMode, Mode};
+use ladder_sheet::{
+    BlockRef, BlockSort, Meaning, Power, Source, element_at, entry_of, fed, is_idle, meaning_at,
+    power_of, reads_late, same_sort, source_of, stands, timed_as,
+};
+use ladder_vars::{Address, Decls, Instance};
+
+fn takes_power(joint: Joint) -> bool
+    ensures { result ≡ takes_power joint }
+{
+    match joint {
+        Joint::Dash | Joint::Plus => true,
+        Joint::Blank | Joint::Bar => false,
+    }
+}
+
+fn both(a: bool, b: bool) -> bool
+    ensures { result ≡ (a && b) }
+{
+    a && b
+}
+
+/// Whether vertical links join so many rows below to this one, on the left of the column.
+fn joined(program: &Program, rung: usize, row: usize, column: usize, count: usize) -> bool
+    requires rungs { rung < program.now.rungs }
+    requires columns { (1 ≤ column) × (column < COLUMNS) }
+    requires rows { row + count < ROWS }
+    ensures { result ≡ joined program.now rung row column count }
+{
+    let mut all = true;
+    for i in 0..count {
+        all = both(all, program.vertical(rung, row + i, column));
+    }
+    all
+}
+
+/// Whether the right link of a row in the column before enters the group of this row's joint.
+fn feeds(program: &Program, rung: usize, row: usize, column: usize, from: usize) -> bool
+    requires rungs { rung < program.now.rungs }
+    requires columns { column < COLUMNS }
+    requires rows { (row < ROWS) × (from < ROWS) }
+    ensures { result ≡ feeds program.now rung row column from }
+{
+    column >= 1
+        && program.right_link(rung, from, column - 1)
+        && takes_power(program.joint(rung, from, column))
+        && joined(
+            program,
+            rung,
+            row.min(from),
+            column,
+            row.max(from) - row.min(from),
+        )
+}
+
+fn is_empty(cell: Cell) -> bool
+    ensures { result ≡ is_empty cell }
+{
+    match cell {
+        Cell::Empty => true,
+        Cell::Wire
+        | Cell::Contact { .. }
+        | Cell::Coil { .. }
+        | Cell::Block { .. }
+        | Cell::Lower { .. }
+        | Cell::Jump { .. }
+        | Cell::Return => false,
+    }
+}
+
+fn is_at(place: Option<Address>, address: Address) -> bool
+    ensures { result ≡ true → place ≡ Some address }
+{
+    match place {
+        Some(other) => other == address,
+        None => false,
+    }
+}
+
+/// Whether the variable is declared at this address.
+fn is_var(decls: &Decls, letter: char, number: u32, var: usize) -> bool
+    ensures { result ≡ true → IsVar decls.now letter number var }
+{
+    match decls.vars().get(var) {
+        Some(v) => is_at(
+            v.address,
+            Address {
+                letter,
+                first: number,
+                second: None,
+            },
+        ),
+        None => false,
+    }
+}
+
+/// Whether the instance stands for the block.
+fn is_instance_of(blocks: &[BlockRef], block: BlockRef, inst: usize) -> bool
+    ensures { result ≡ true → slice_get blocks.now inst ≡ Some block }
+{
+    match blocks.get(inst) {
+        Some(other) => *other == block,
+        None => false,
+    }
+}
+
+/// Whether the variable is always OFF.
+fn is_never(program: &Program, var: usize) -> bool
+    ensures { result ≡ true → IsNever program.now var }
+{
+    !program.has_coil(var) && !is_input_at(program.decls(), var)
+}
+
+fn is_input_at(decls: &Decls, var: usize) -> bool
+    ensures { result ≡ is_input_at (slice_get decls.now.vars var) }
+{
+    match decls.vars().get(var) {
+        Some(v) => v.is_input(),
+        None => false,
+    }
+}
+
+/// Whether the variable is what a contact reads.
+fn is_var_read(
+    program: &Program,
+    blocks: &[BlockRef],
+    source: Source,
+    number: u32,
+    var: usize,
+) -> bool
+    ensures { result ≡ true → IsOperand program.now blocks.now source number (operands.Var var) }
+{
+    match source {
+        Source::Input => is_var(program.decls(), 'I', number, var),
+        Source::Output => is_var(program.decls(), 'Q', number, var),
+        Source::Memory => is_var(program.decls(), 'M', number, var),
+        Source::Done(sort) => {
+            !is_among(BlockRef { sort, number }, blocks) && is_never(program, var)
+        }
+        Source::Other => false,
+    }
+}
+
+fn is_operand(
+    program: &Program,
+    blocks: &[BlockRef],
+    source: Source,
+    number: u32,
+    operand: Operand,
+) -> bool
+    ensures { result ≡ true → IsOperand program.now blocks.now source number operand }
+{
+    match operand {
+        Operand::Var(var) => is_var_read(program, blocks, source, number, var),
+        Operand::Output(inst) => match source {
+            Source::Done(sort) => is_instance_of(blocks, BlockRef { sort, number }, inst),
+            Source::Input | Source::Output | Source::Memory | Source::Other => false,
+        },
+    }
+}
+
+/// Whether the variable is what a coil writes.
+fn is_written(program: &Program, source: Source, number: u32, var: usize) -> bool
+    ensures { result ≡ true → IsWritten program.now source number var }
+{
+    match source {
+        Source::Output => is_var(program.decls(), 'Q', number, var),
+        Source::Memory => is_var(program.decls(), 'M', number, var),
+        Source::Input | Source::Done(_) | Source::Other => false,
+    }
+}
+
+/// Whether a rung with this number, of the same section, is in this place in the scan.
+fn is_target(rungs: &[Placed<'_>], section: u32, number: u32, target: usize) -> bool
+    ensures { result ≡ true → IsTarget rungs.now section number target }
+{
+    match rungs.get(target) {
+        Some(placed) => placed.rung.number == number && placed.section == section,
+        None => false,
+    }
+}
+
+/// Whether the cell is a contact of this mode on the operand.
+fn is_contact_on(
+    program: &Program,
+    blocks: &[BlockRef],
+    mode: Mode,
+    source: Source,
+    number: u32,
+    cell: Cell,
+) -> bool
+    ensures { result ≡ true → IsContactOn program.now blocks.now mode source number cell }
+{
+    match cell {
+        Cell::Contact {
+            mode: drawn,
+            operand,
+            ..
+        } => drawn == mode && is_operand(program, blocks, source, number, operand),
+        Cell::Empty
+        | Cell::Wire
+        | Cell::Coil { .. }
+        | Cell::Block { .. }
+        | Cell::Lower { .. }
+        | Cell::Jump { .. }
+        | Cell::Return => false,
+    }
+}
+
+/// Whether the cell is a coil of this mode on the variable.
+fn is_coil_on(program: &Program, mode: CoilMode, source: Source, number: u32, cell: Cell) -> bool
+    ensures { result ≡ true → IsCoilOn program.now mode source number cell }
+{
+    match cell {
+        Cell::Coil {
+            mode: drawn,
+            var,
+            ..
+        } => drawn == mode && is_written(program, source, number, var),
+        Cell::Empty
+        | Cell::Wire
+        | Cell::Contact { .. }
+        | Cell::Block { .. }
+        | Cell::Lower { .. }
+        | Cell::Jump { .. }
+        | Cell::Return => false,
+    }
+}
+
+fn is_wire(cell: Cell) -> bool
+    ensures { result ≡ true → cell ≡ cells.Wire }
+{
+    match cell {
+        Cell::Wire => true,
+        Cell::Empty
+        | Cell::Contact { .. }
+        | Cell::Coil { .. }
+        | Cell::Block { .. }
+        | Cell::Lower { .. }
+        | Cell::Jump { .. }
+        | Cell::Return => false,
+    }
+}
+
+fn is_jump_to(rungs: &[Placed<'_>], section: u32, number: u32, cell: Cell) -> bool
+    ensures { result ≡ true → IsJumpTo rungs.now section number cell }
+{
+    match cell {
+        Cell::Jump { target } => is_target(rungs, section, number, target),
+        Cell::Empty
+        | Cell::Wire
+        | Cell::Contact { .. }
+        | Cell::Coil { .. }
+        | Cell::Block { .. }
+        | Cell::Lower { .. }
+        | Cell::Return => false,
+    }
+}
+
+fn is_block_of(blocks: &[BlockRef], block: BlockRef, cell: Cell) -> bool
+    ensures { result ≡ true → IsBlockOf blocks.now block cell }
+{
+    match cell {
+        Cell::Block { inst } => is_instance_of(blocks, block, inst),
+        Cell::Empty
+        | Cell::Wire
+        | Cell::Contact { .. }
+        | Cell::Coil { .. }
+        | Cell::Lower { .. }
+        | Cell::Jump { .. }
+        | Cell::Return => false,
+    }
+}
+
+/// Whether the cell is what the element means.
+fn is_cell(
+    program: &Program,
+    rungs: &[Placed<'_>],
+    blocks: &[BlockRef],
+    section: u32,
+    element: Element,
+    meaning: Meaning,
+    cell: Cell,
+) -> bool
+    ensures { result ≡ true → IsCell program.now rungs.now blocks.now section element meaning cell }
+{
+    let source = source_of(element.class);
+    let number = element.number;
+    match meaning {
+        Meaning::Blank => is_empty(cell),
+        Meaning::Wire => is_wire(cell),
+        Meaning::Contact(mode) => is_contact_on(program, blocks, mode, source, number, cell),
+        Meaning::Coil(mode) => is_coil_on(program, mode, source, number, cell),
+        Meaning::Jump => is_jump_to(rungs, section, number, cell),
+        Meaning::Block(sort) => is_block_of(blocks, BlockRef { sort, number }, cell),
+        Meaning::Off => {
+            let done = Source::Done(BlockSort::Timer);
+            is_contact_on(program, blocks, Mode::Plain, done, number, cell)
+        }
+        Meaning::Other => false,
+    }
+}
+
+/// Whether no power comes to the element, and it does nothing then.
+fn is_left_out(elements: &[Element], power: &Power, row: usize, column: usize, cell: Cell) -> bool
+    requires rows { row < ROWS }
+    requires columns { column < COLUMNS }
+    requires power { IsPower elements.now power.now }
+    ensures { result ≡ true → IsLeftOut elements.now row column cell }
+{
+    is_empty(cell) && !power[column][row] && is_idle(meaning_at(elements, row, column))
+}
+
+/// Whether the cell is fed from the row as the element is; `before`: where power can come to in the column before.
+fn is_fed_alike(
+    program: &Program,
+    rung: usize,
+    elements: &[Element],
+    row: usize,
+    column: usize,
+    from: usize,
+    before: &[bool; ROWS],
+) -> bool
+    requires rungs { rung < program.now.rungs }
+    requires rows { (row < ROWS) × (from < ROWS) }
+    requires columns { column < COLUMNS }
+    requires before { AreReached elements.now (column - 1) before.now }
+    ensures { result ≡ true → feeds program.now rung row column from ≡ fed elements.now row column from }
+{
+    feeds(program, rung, row, column, from) == fed(elements, row, column, from, before)
+}
+
+/// Whether the cell is fed from the same rows.
+fn are_fed_alike(
+    program: &Program,
+    rung: usize,
+    elements: &[Element],
+    power: &Power,
+    row: usize,
+    column: usize,
+) -> bool
+    requires rungs { rung < program.now.rungs }
+    requires rows { row < ROWS }
+    requires columns { column < COLUMNS }
+    requires power { IsPower elements.now power.now }
+    ensures { result ≡ true → IsFedAlike program.now rung elements.now row column }
+{
+    let before = power[column.saturating_sub(1)];
+    for from in 0..ROWS {
+        if !is_fed_alike(program, rung, elements, row, column, from, &before) {
+            return false;
+        }
+    }
+    true
+}
+
+/// Whether a cell is fed as its element is, which stands where it means the same.
+fn is_alike(
+    program: &Program,
+    rung: usize,
+    elements: &[Element],
+    power: &Power,
+    row: usize,
+    column: usize,
+) -> bool
+    requires rungs { rung < program.now.rungs }
+    requires rows { row < ROWS }
+    requires columns { column < COLUMNS }
+    requires power { IsPower elements.now power.now }
+    ensures { result ≡ true → IsAlike program.now rung elements.now row column }
+{
+    stands(elements, row, column)
+        && !reads_late(elements, row, column)
+        && are_fed_alike(program, rung, elements, power, row, column)
+}
+
+/// Whether a place, which are numbered row by row, has what the project has there.
+fn is_place_carried(
+    program: &Program,
+    rungs: &[Placed<'_>],
+    blocks: &[BlockRef],
+    rung: usize,
+    placed: &Placed<'_>,
+    power: &Power,
+    place: usize,
+) -> bool
+    requires numbers { rung < program.now.rungs }
+    requires places { place < PLACES }
+    requires power { IsPower placed.now.rung.elements power.now }
+    ensures { result ≡ true → IsPlaceCarried program.now rungs.now blocks.now rung placed.now (place / COLUMNS) (place % COLUMNS) }
+{
+    let (row, column) = (place / COLUMNS, place % COLUMNS);
+    let cell = program.cell(rung, row, column);
+    let elements = placed.rung.elements.as_slice();
+    let element = element_at(elements, row, column);
+    let meaning = meaning_at(elements, row, column);
+    (is_cell(
+        program,
+        rungs,
+        blocks,
+        placed.section,
+        element,
+        meaning,
+        cell,
+    ) || is_left_out(elements, power, row, column, cell))
+        && (is_empty(cell) || is_alike(program, rung, elements, power, row, column))
+}
+
+fn is_rung_carried(
+    program: &Program,
+    rungs: &[Placed<'_>],
+    blocks: &[BlockRef],
+    rung: usize,
+    placed: &Placed<'_>,
+) -> bool
+    requires { rung < program.now.rungs }
+    ensures { result ≡ true → IsRungCarried program.now rungs.now blocks.now rung placed.now }
+{
+    let power = power_of(placed.rung.elements.as_slice());
+    for place in 0..PLACES {
+        if !is_place_carried(program, rungs, blocks, rung, placed, &power, place) {
+            return false;
+        }
+    }
+    true
+}
+
+/// Whether the rung with a number has what the project has.
+fn is_carried_at(program: &Program, rungs: &[Placed<'_>], blocks: &[BlockRef], rung: usize) -> bool
+    requires { rung < program.now.rungs }
+    ensures { result ≡ true → (x : Placed) → slice_get rungs.now rung ≡ Some x → IsRungCarried program.now rungs.now blocks.now rung x }
+{
+    match rungs.get(rung) {
+        Some(placed) => is_rung_carried(program, rungs, blocks, rung, placed),
+        None => false,
+    }
+}
+
+/// Whether each rung has what the project has.
+fn are_carried(program: &Program, rungs: &[Placed<'_>], blocks: &[BlockRef]) -> bool
+    requires { program.now.rungs ≡ length rungs.now }
+    ensures { result ≡ true → AreCarried program.now rungs.now blocks.now }
+{
+    for rung in 0..rungs.len() {
+        if !is_carried_at(program, rungs, blocks, rung) {
+            return false;
+        }
+    }
+    true
+}
+
+fn same_block(a: BlockRef, b: BlockRef) -> bool
+    ensures { result ≡ same_block a b }
+{
+    same_sort(a.sort, b.sort) && a.number == b.number
+}
+
+fn is_among(block: BlockRef, others: &[BlockRef]) -> bool
+    ensures { result ≡ list_any (same_block block) others.now }
+{
+    others.iter().any(|other| same_block(block, *other))
+}
+
+/// Whether no block is twice among them.
+fn are_apart(mut blocks: &[BlockRef]) -> bool
+    ensures { result ≡ true → AreApart blocks.entry.now }
+{
+    while let [block, rest @ ..] = blocks {
+        if is_among(*block, rest) {
+            return false;
+        }
+        blocks = rest;
+    }
+    true
+}
+
+fn is_instance(project: &Project<'_>, block: BlockRef, instance: Instance) -> bool
+    ensures { result ≡ true → IsInstance project.now block instance }
+{
+    match timed_as(
+        block.sort,
+        entry_of(project, block.sort, block.number as usize),
+    ) {
+        Some(timed) => timed.kind == instance.kind && timed.preset == u64::from(instance.preset),
+        None => false,
+    }
+}
+
+/// Whether each instance has the kind and the preset of the block that it stands for.
+fn are_instances(project: &Project<'_>, mut blocks: &[BlockRef], mut instances: &[Instance]) -> bool
+    ensures { result ≡ true → AreInstances project.now blocks.entry.now instances.entry.now }
+{
+    while let [block, others @ ..] = blocks {
+        let [instance, rest @ ..] = instances else {
+            return false;
+        };
+        if !is_instance(project, *block, *instance) {
+            return false;
+        }
+        blocks = others;
+        instances = rest;
+    }
+    instances.is_empty()
+}
+
+/// Whether all variables begin as OFF.
+fn are_off(decls: &Decls) -> bool
+    ensures { result ≡ list_all (λ v. not v.initial) decls.now.vars }
+{
+    decls.vars().iter().all(|v| !v.initial)
+}
+
+/// Whether a program is a project carried over, with the blocks in the order of the instances.
+pub fn is_carried_over(project: &Project<'_>, blocks: &[BlockRef], program: &Program) -> bool
+    ensures { result ≡ true → IsCarriedOver project.now program.now }
+{
+    let decls = program.decls();
+    if program.rungs() != project.rungs.len() {
+        return false;
+    }
+    if !are_apart(blocks) {
+        return false;
+    }
+    if !are_instances(project, blocks, decls.instances()) {
+        return false;
+    }
+    if !are_off(decls) {
+        return false;
+    }
+    are_carried(program, &project.rungs, blocks)
+}

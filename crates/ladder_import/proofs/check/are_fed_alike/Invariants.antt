@@ -1,7 +1,0 @@
-use Rattle.std.proofs.Common.{◌≡◌, ◌<◌, ℕ}
-use Rattle.ladder_grid.specs.Program.{feeds}
-use Rattle.ladder_import.specs.Sheets.{fed}
-use Rattle.ladder_import.proofs.check.are_fed_alike.Given as goal
-
-abbrev pub invariant-loop-from : goal.invariant-loop-from
-invariant-loop-from l = (q : ℕ) → q < l.from → feeds l.program l.rung l.row l.column q ≡ fed l.elements l.row l.column q

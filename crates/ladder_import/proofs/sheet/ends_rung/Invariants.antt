@@ -1,6 +1,0 @@
-use Rattle.std.proofs.Common.{◌≡◌}
-use Rattle.ladder_import.specs.Sheets.{is_effect_below, some_below}
-use Rattle.ladder_import.proofs.sheet.ends_rung.Given as goal
-
-abbrev pub invariant-loop-lower : goal.invariant-loop-lower
-invariant-loop-lower l = l.found ≡ some_below (is_effect_below l.elements l.row l.column) l.lower

@@ -1,7 +1,0 @@
-use Rattle.std.proofs.Common.{◌≡◌}
-use Rattle.ladder_import.specs.Reach.{comes_from}
-use Rattle.ladder_import.specs.Sheets.{some_below}
-use Rattle.ladder_import.proofs.sheet.reaches.Given as goal
-
-abbrev pub invariant-loop-from : goal.invariant-loop-from
-invariant-loop-from l = l.found ≡ some_below (comes_from l.elements l.row l.column) l.from

@@ -1,0 +1,3 @@
+pub mod Meanings
+pub mod Reach
+pub mod Sheets

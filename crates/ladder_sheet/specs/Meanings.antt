@@ -1,0 +1,103 @@
+-- Which element of ClassicLadder means what (its calc.c, and the kinds of elements in its classicladder.h).
+use Rattle.std.specs.Prelude.{ℕ, slice_get, ◌*◌, ◌==◌, ◌||◌, nat_le, Bool, Option, Some, None, option_map, if◌then◌else◌}
+use Rattle.ladder_vars.specs.declared.kind.BlockKind.{BlockKind}
+use Rattle.ladder_vars.specs.declared.kind.BlockKind.TheVariants as kind
+use Rattle.ladder_page.specs.declared.mode.Mode.{Mode}
+use Rattle.ladder_page.specs.declared.mode.Mode.TheVariants as mode
+use Rattle.ladder_page.specs.declared.mode.CoilMode.{CoilMode}
+use Rattle.ladder_page.specs.declared.mode.CoilMode.TheVariants as coil
+use Rattle.ladder_clp.specs.declared.project.Project.{Project}
+use Rattle.ladder_clp.specs.declared.table.Preset.{Preset}
+use Rattle.ladder_sheet.specs.declared.meaning.BlockSort.{BlockSort}
+use Rattle.ladder_sheet.specs.declared.meaning.BlockSort.TheVariants as sort
+use Rattle.ladder_sheet.specs.declared.meaning.Meaning.{Meaning}
+use Rattle.ladder_sheet.specs.declared.meaning.Meaning.TheVariants as meaning
+use Rattle.ladder_sheet.specs.declared.meaning.Timed.{Timed}
+use Rattle.ladder_sheet.specs.declared.meaning.Source.{Source}
+use Rattle.ladder_sheet.specs.declared.meaning.Source.TheVariants as source
+
+-- ---- kinds of elements
+
+abbrev pub contact_of : ℕ → Option Mode
+contact_of k =
+    if k == 1 then Some mode.Plain
+    else (if k == 2 then Some mode.Negated
+    else (if k == 3 then Some mode.Rising
+    else (if k == 4 then Some mode.Falling else None)))
+
+abbrev pub coil_of : ℕ → Option CoilMode
+coil_of k =
+    if k == 50 then Some coil.Store
+    else (if k == 51 then Some coil.Inverse
+    else (if k == 52 then Some coil.Set
+    else (if k == 53 then Some coil.Reset else None)))
+
+abbrev pub block_of : ℕ → Option BlockSort
+block_of k =
+    if k == 10 then Some sort.Timer
+    else (if k == 11 then Some sort.Monostable
+    else (if k == 13 then Some sort.IecTimer else None))
+
+-- Nothing, a part of a larger element (99), or a tool of the editor (from 100 on), which does nothing.
+abbrev pub is_blank_kind : ℕ → Bool
+is_blank_kind k = k == 0 || nat_le 99 k
+
+abbrev pub plain_of : ℕ → Meaning
+plain_of k =
+    if is_blank_kind k then meaning.Blank
+    else (if k == 9 then meaning.Wire
+    else (if k == 54 then meaning.Jump else meaning.Other))
+
+abbrev pub unlike_contact : ℕ → Meaning
+unlike_contact k = elim (coil_of k) [ Some m ↦ meaning.Coil m | None ↦ elim (block_of k) [ Some s ↦ meaning.Block s | None ↦ plain_of k ] ]
+
+abbrev pub meaning_of : ℕ → Meaning
+meaning_of k = elim (contact_of k) [ Some m ↦ meaning.Contact m | None ↦ unlike_contact k ]
+
+-- ---- sorts of variables
+
+-- %I, %Q and %B, and what a timer, a monostable or an IEC timer has at its first output
+abbrev pub source_of : ℕ → Source
+source_of class =
+    if class == 50 then source.Input
+    else (if class == 60 then source.Output
+    else (if class == 0 then source.Memory
+    else (if class == 10 then source.Done sort.Timer
+    else (if class == 20 then source.Done sort.Monostable
+    else (if class == 15 then source.Done sort.IecTimer else source.Other)))))
+
+-- ---- presets
+
+-- the milliseconds of a base
+abbrev pub millis_of : ℕ → Option ℕ
+millis_of base =
+    if base == 0 then Some 60000
+    else (if base == 1 then Some 1000
+    else (if base == 2 then Some 100 else None))
+
+-- what an IEC timer is
+abbrev pub kind_of_mode : ℕ → Option BlockKind
+kind_of_mode n =
+    if n == 0 then Some kind.Ton
+    else (if n == 1 then Some kind.Tof
+    else (if n == 2 then Some kind.Tp else None))
+
+abbrev pub timed : Option BlockKind → Preset → Option Timed
+timed (Some k) p = option_map (λ ms. record { kind = k; preset = ms * p.count }) (millis_of p.base)
+timed None p = None
+
+-- An old timer is an on-delay timer, a monostable a pulse timer.
+abbrev pub kind_of_sort : BlockSort → Preset → Option BlockKind
+kind_of_sort sort.Timer p = Some kind.Ton
+kind_of_sort sort.Monostable p = Some kind.Tp
+kind_of_sort sort.IecTimer p = kind_of_mode p.mode
+
+abbrev pub timed_as : BlockSort → Option Preset → Option Timed
+timed_as s (Some p) = timed (kind_of_sort s p) p
+timed_as s None = None
+
+-- the entry with a number in the table of such blocks
+abbrev pub entry_of : Project → BlockSort → ℕ → Option Preset
+entry_of p sort.Timer n = slice_get p.timers.items n
+entry_of p sort.Monostable n = slice_get p.monostables.items n
+entry_of p sort.IecTimer n = slice_get p.iec_timers.items n

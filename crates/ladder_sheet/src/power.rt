@@ -1,0 +1,179 @@
+//! How power goes through the elements of a rung.
+
+ghost use Rattle.std.specs.Prelude.{◌≡◌, ◌+◌, ◌-◌, ◌<◌, ◌≤◌, ◌&&◌};
+ghost use Rattle.ladder_page.specs.declared.geometry.TheConstants.{COLUMNS, ROWS};
+ghost use Rattle.ladder_sheet.specs.Reach.{AreLeaving, AreReached, IsPower};
+ghost use Rattle.ladder_sheet.specs.Sheets.{are_tied, brings, fed, is_run, passes, reached, some_below, tied};
+
+use crate::meaning::Meaning;
+use crate::sheet::{either, is_linked, is_running, meaning_at};
+use ladder_clp::Element;
+use ladder_page::geometry::{COLUMNS, ROWS};
+
+/// For each column to which of its rows power can come.
+pub type Power = [[bool; ROWS]; COLUMNS];
+
+fn both(a: bool, b: bool) -> bool
+    ensures { result ≡ (a && b) }
+{
+    a && b
+}
+
+/// Whether power goes through.
+pub fn passes(meaning: Meaning) -> bool
+    ensures { result ≡ passes meaning }
+{
+    match meaning {
+        Meaning::Wire | Meaning::Contact(_) | Meaning::Block(_) | Meaning::Off => true,
+        Meaning::Blank | Meaning::Coil(_) | Meaning::Jump | Meaning::Other => false,
+    }
+}
+
+/// Whether links join so many rows below to this one, on the left of the column.
+fn tied(elements: &[Element], row: usize, column: usize, count: usize) -> bool
+    requires { (row + count < ROWS) × (column < COLUMNS) }
+    ensures { result ≡ tied elements.now row column count }
+{
+    let mut all = true;
+    for i in 0..count {
+        all = both(all, is_linked(elements, row + i + 1, column));
+    }
+    all
+}
+
+fn are_tied(elements: &[Element], row: usize, column: usize, from: usize) -> bool
+    requires rows { (row < ROWS) × (from < ROWS) }
+    requires columns { column < COLUMNS }
+    ensures { result ≡ are_tied elements.now row column from }
+{
+    tied(
+        elements,
+        row.min(from),
+        column,
+        row.max(from) - row.min(from),
+    )
+}
+
+/// Whether power can leave the place on its right; `here` and `above`: whether it can come to it and to the one above.
+fn brings(elements: &[Element], row: usize, column: usize, here: bool, above: bool) -> bool
+    requires { (row < ROWS) × (column < COLUMNS) }
+    ensures { result ≡ brings elements.now row column here above }
+{
+    passes(meaning_at(elements, row, column)) && here || is_running(elements, row, column) && above
+}
+
+/// From which rows of the column power can go on to the next one; `here`: to which it can come.
+fn leaving(elements: &[Element], column: usize, here: &[bool; ROWS]) -> [bool; ROWS]
+    requires columns { column < COLUMNS }
+    requires here { AreReached elements.now column here.now }
+    ensures { AreLeaving elements.now column result }
+{
+    let mut leaving = [false; ROWS];
+    for row in 0..ROWS {
+        leaving[row] = brings(
+            elements,
+            row,
+            column,
+            here[row],
+            here[row.saturating_sub(1)],
+        );
+    }
+    leaving
+}
+
+/// Whether power comes from a row of the column, which it can leave or not, to a row in the next one.
+fn comes(elements: &[Element], row: usize, column: usize, from: usize, leaves: bool) -> bool
+    requires rows { (row < ROWS) × (from < ROWS) }
+    requires columns { column + 1 < COLUMNS }
+    ensures { result ≡ (leaves && are_tied elements.now row (column + 1) from) }
+{
+    leaves && are_tied(elements, row, column + 1, from)
+}
+
+/// Whether power can come to the row in the next column; `leaving`: from which rows it can leave this one.
+fn reaches(elements: &[Element], row: usize, column: usize, leaving: &[bool; ROWS]) -> bool
+    requires rows { row < ROWS }
+    requires columns { column + 1 < COLUMNS }
+    requires leaving { AreLeaving elements.now column leaving.now }
+    ensures { result ≡ reached elements.now (column + 1) row }
+{
+    let mut found = false;
+    for from in 0..ROWS {
+        found = either(found, comes(elements, row, column, from, leaving[from]));
+    }
+    found
+}
+
+fn reached_next(elements: &[Element], column: usize, before: &[bool; ROWS]) -> [bool; ROWS]
+    requires columns { column + 1 < COLUMNS }
+    requires before { AreReached elements.now column before.now }
+    ensures { AreReached elements.now (column + 1) result }
+{
+    let leaving = leaving(elements, column, before);
+    let mut reached = [false; ROWS];
+    for row in 0..ROWS {
+        reached[row] = reaches(elements, row, column, &leaving);
+    }
+    reached
+}
+
+/// Where power can come to, found column by column.
+pub fn power_of(elements: &[Element]) -> Power
+    ensures { IsPower elements.now result }
+{
+    let mut power = [[true; ROWS]; COLUMNS];
+    for column in 0..COLUMNS - 1 {
+        power[column + 1] = reached_next(elements, column, &power[column]);
+    }
+    power
+}
+
+/// Whether power can come to the left of the element from the row; `before`: where it can come to in the column before.
+pub fn fed(
+    elements: &[Element],
+    row: usize,
+    column: usize,
+    from: usize,
+    before: &[bool; ROWS],
+) -> bool
+    requires rows { (row < ROWS) × (from < ROWS) }
+    requires columns { column < COLUMNS }
+    requires before { AreReached elements.now (column - 1) before.now }
+    ensures { result ≡ fed elements.now row column from }
+{
+    if column == 0 {
+        return false;
+    }
+    let (here, above) = (before[from], before[from.saturating_sub(1)]);
+    brings(elements, from, column - 1, here, above) && are_tied(elements, row, column, from)
+}
+
+fn is_run(
+    elements: &[Element],
+    row: usize,
+    column: usize,
+    from: usize,
+    before: &[bool; ROWS],
+) -> bool
+    requires rows { (row < ROWS) × (from < ROWS) }
+    requires columns { column < COLUMNS }
+    requires before { AreReached elements.now (column - 1) before.now }
+    ensures { result ≡ is_run elements.now row column from }
+{
+    fed(elements, row, column, from, before) && is_running(elements, from, column.saturating_sub(1))
+}
+
+/// Whether power comes to the element from the second output of an old timer.
+pub fn is_run_by_any(elements: &[Element], power: &Power, row: usize, column: usize) -> bool
+    requires rows { row < ROWS }
+    requires columns { column < COLUMNS }
+    requires power { IsPower elements.now power.now }
+    ensures { result ≡ some_below (is_run elements.now row column) ROWS }
+{
+    let before = power[column.saturating_sub(1)];
+    let mut found = false;
+    for from in 0..ROWS {
+        found = either(found, is_run(elements, row, column, from, &before));
+    }
+    found
+}

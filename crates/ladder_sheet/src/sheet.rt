@@ -1,0 +1,354 @@
+//! The elements of a rung, and where they may stand.
+
+ghost use Rattle.std.specs.Prelude.{◌≡◌, ◌+◌, ◌-◌, ◌*◌, ◌<◌, ◌≤◌, ◌&&◌, ◌||◌, false, true};
+ghost use Rattle.ladder_page.specs.declared.geometry.TheConstants.{COLUMNS, ROWS, PLACES};
+ghost use Rattle.ladder_sheet.specs.Meanings.{source_of};
+ghost use Rattle.ladder_sheet.specs.declared.meaning.BlockSort.{BlockSort};
+ghost use Rattle.ladder_sheet.specs.Sheets.{element_at, ends_rung, has_places, is_bare, is_blank_at, is_block, is_contact, is_effect, is_effect_below, is_idle, is_left_half, is_linked, is_read_by, is_running, is_tied, meaning_at, reads_late, reads_place, same_sort, some_below, source_is, stands, stands_as, is_stopped, stopped_as};
+
+use crate::meaning::{BlockSort, Meaning, Source, is_blank_kind, meaning_of, source_of};
+use ladder_clp::Element;
+use ladder_page::CoilMode;
+use ladder_page::geometry::{COLUMNS, ROWS};
+
+const BLANK: Element = Element {
+    kind: 0,
+    link: 0,
+    class: 0,
+    number: 0,
+};
+
+pub(crate) fn either(a: bool, b: bool) -> bool
+    ensures { result ≡ (a || b) }
+{
+    a || b
+}
+
+/// The element at a place.
+pub fn element_at(elements: &[Element], row: usize, column: usize) -> Element
+    requires { (row ≤ ROWS) × (column < COLUMNS) }
+    ensures { result ≡ element_at elements.now row column }
+{
+    let place = COLUMNS * row + column;
+    if place < elements.len() {
+        elements[place]
+    } else {
+        BLANK
+    }
+}
+
+fn is_blank_at(elements: &[Element], row: usize, column: usize) -> bool
+    requires { (row ≤ ROWS) × (column < COLUMNS) }
+    ensures { result ≡ is_blank_at elements.now row column }
+{
+    is_blank_kind(element_at(elements, row, column).kind)
+}
+
+/// Whether the row and the one above it are joined on the left of the column.
+pub fn is_linked(elements: &[Element], row: usize, column: usize) -> bool
+    requires { (row ≤ ROWS) × (column < COLUMNS) }
+    ensures { result ≡ is_linked elements.now row column }
+{
+    element_at(elements, row, column).link != 0
+}
+
+pub fn is_block(meaning: Meaning) -> bool
+    ensures { result ≡ is_block meaning }
+{
+    match meaning {
+        Meaning::Block(_) => true,
+        Meaning::Blank
+        | Meaning::Wire
+        | Meaning::Contact(_)
+        | Meaning::Coil(_)
+        | Meaning::Jump
+        | Meaning::Off
+        | Meaning::Other => false,
+    }
+}
+
+fn is_left_half(elements: &[Element], row: usize, column: usize) -> bool
+    requires { (row ≤ ROWS) × (column < COLUMNS) }
+    ensures { result ≡ is_left_half elements.now row column }
+{
+    column + 1 < COLUMNS && is_block(meaning_of(element_at(elements, row, column + 1).kind))
+}
+
+/// Whether the second output of an old timer is there.
+pub(crate) fn is_running(elements: &[Element], row: usize, column: usize) -> bool
+    requires { (row ≤ ROWS) × (column < COLUMNS) }
+    ensures { result ≡ is_running elements.now row column }
+{
+    row >= 1 && element_at(elements, row - 1, column).kind == 10
+}
+
+/// Whether nothing is there from which power could go on.
+fn is_bare(elements: &[Element], row: usize, column: usize) -> bool
+    requires { (row ≤ ROWS) × (column < COLUMNS) }
+    ensures { result ≡ is_bare elements.now row column }
+{
+    is_blank_at(elements, row, column)
+        && !is_left_half(elements, row, column)
+        && !is_running(elements, row, column)
+}
+
+/// Whether nothing is drawn to the second input of an old timer.
+fn is_stopped(elements: &[Element], row: usize, column: usize) -> bool
+    requires { (row ≤ ROWS) × (column < COLUMNS) }
+    ensures { result ≡ is_stopped elements.now row column }
+{
+    column >= 2
+        && row + 1 < ROWS
+        && !is_linked(elements, row + 1, column - 1)
+        && !is_linked(elements, row + 2, column - 1)
+        && is_bare(elements, row + 1, column - 2)
+}
+
+fn stopped_as(elements: &[Element], row: usize, column: usize, meaning: Meaning) -> Meaning
+    requires { (row ≤ ROWS) × (column < COLUMNS) }
+    ensures { result ≡ stopped_as elements.now row column meaning }
+{
+    match meaning {
+        Meaning::Block(BlockSort::Timer) => {
+            if is_stopped(elements, row, column) {
+                Meaning::Off
+            } else {
+                Meaning::Block(BlockSort::Timer)
+            }
+        }
+        Meaning::Block(BlockSort::Monostable | BlockSort::IecTimer)
+        | Meaning::Blank
+        | Meaning::Wire
+        | Meaning::Contact(_)
+        | Meaning::Coil(_)
+        | Meaning::Jump
+        | Meaning::Off
+        | Meaning::Other => meaning,
+    }
+}
+
+/// What the element at a place means.
+pub fn meaning_at(elements: &[Element], row: usize, column: usize) -> Meaning
+    requires { (row ≤ ROWS) × (column < COLUMNS) }
+    ensures { result ≡ meaning_at elements.now row column }
+{
+    if is_left_half(elements, row, column) {
+        if is_blank_at(elements, row, column) {
+            Meaning::Wire
+        } else {
+            Meaning::Other
+        }
+    } else {
+        let meaning = meaning_of(element_at(elements, row, column).kind);
+        stopped_as(elements, row, column, meaning)
+    }
+}
+
+fn is_effect(meaning: Meaning) -> bool
+    ensures { result ≡ is_effect meaning }
+{
+    match meaning {
+        Meaning::Coil(_) | Meaning::Jump => true,
+        Meaning::Blank
+        | Meaning::Wire
+        | Meaning::Contact(_)
+        | Meaning::Block(_)
+        | Meaning::Off
+        | Meaning::Other => false,
+    }
+}
+
+fn is_effect_below(elements: &[Element], row: usize, column: usize, lower: usize) -> bool
+    requires { (lower < ROWS) × (column < COLUMNS) }
+    ensures { result ≡ is_effect_below elements.now row column lower }
+{
+    row < lower && is_effect(meaning_at(elements, lower, column))
+}
+
+/// Whether nothing that writes or leads out of the rung is below.
+pub fn ends_rung(elements: &[Element], row: usize, column: usize) -> bool
+    requires { (row < ROWS) × (column < COLUMNS) }
+    ensures { result ≡ ends_rung elements.now row column }
+{
+    let mut found = false;
+    for lower in 0..ROWS {
+        found = either(found, is_effect_below(elements, row, column, lower));
+    }
+    !found
+}
+
+/// Whether the second input of an old timer is joined with the first.
+fn is_tied(elements: &[Element], row: usize, column: usize, sort: BlockSort) -> bool
+    requires { (row < ROWS) × (1 ≤ column) × (column < COLUMNS) }
+    ensures { result ≡ is_tied elements.now row column sort }
+{
+    match sort {
+        BlockSort::Timer => column == 1 || is_linked(elements, row + 1, column - 1),
+        BlockSort::Monostable | BlockSort::IecTimer => true,
+    }
+}
+
+/// Whether a block has its four places.
+pub fn has_places(elements: &[Element], row: usize, column: usize) -> bool
+    requires { (row < ROWS) × (column < COLUMNS) }
+    ensures { result ≡ has_places elements.now row column }
+{
+    column >= 1
+        && row + 1 < ROWS
+        && !is_linked(elements, row, column)
+        && !is_linked(elements, row + 1, column)
+        && is_blank_at(elements, row + 1, column - 1)
+        && is_blank_at(elements, row + 1, column)
+        && !is_left_half(elements, row + 1, column)
+}
+
+fn stands_as(elements: &[Element], row: usize, column: usize, meaning: Meaning) -> bool
+    requires { (row < ROWS) × (column < COLUMNS) }
+    ensures { result ≡ stands_as elements.now row column meaning }
+{
+    match meaning {
+        Meaning::Contact(_) => column + 1 < COLUMNS,
+        Meaning::Coil(_) => column + 1 == COLUMNS,
+        Meaning::Jump => column + 1 == COLUMNS && ends_rung(elements, row, column),
+        Meaning::Block(sort) => {
+            has_places(elements, row, column) && is_tied(elements, row, column, sort)
+        }
+        Meaning::Off => has_places(elements, row, column) && column + 1 < COLUMNS,
+        Meaning::Blank | Meaning::Wire | Meaning::Other => true,
+    }
+}
+
+/// Whether the element stands where it means the same in a program.
+pub fn stands(elements: &[Element], row: usize, column: usize) -> bool
+    requires { (row < ROWS) × (column < COLUMNS) }
+    ensures { result ≡ stands elements.now row column }
+{
+    stands_as(elements, row, column, meaning_at(elements, row, column))
+}
+
+pub fn same_sort(a: BlockSort, b: BlockSort) -> bool
+    ensures { result ≡ same_sort a b }
+{
+    match a {
+        BlockSort::Timer => match b {
+            BlockSort::Timer => true,
+            BlockSort::Monostable | BlockSort::IecTimer => false,
+        },
+        BlockSort::Monostable => match b {
+            BlockSort::Monostable => true,
+            BlockSort::Timer | BlockSort::IecTimer => false,
+        },
+        BlockSort::IecTimer => match b {
+            BlockSort::IecTimer => true,
+            BlockSort::Timer | BlockSort::Monostable => false,
+        },
+    }
+}
+
+fn source_is(source: Source, sort: BlockSort) -> bool
+    ensures { result ≡ source_is source sort }
+{
+    match source {
+        Source::Done(other) => same_sort(other, sort),
+        Source::Input | Source::Output | Source::Memory | Source::Other => false,
+    }
+}
+
+fn is_read_by(reader: Element, block: Element, meaning: Meaning) -> bool
+    ensures { result ≡ is_read_by reader block meaning }
+{
+    match meaning {
+        Meaning::Block(sort) => {
+            source_is(source_of(reader.class), sort) && reader.number == block.number
+        }
+        Meaning::Blank
+        | Meaning::Wire
+        | Meaning::Contact(_)
+        | Meaning::Coil(_)
+        | Meaning::Jump
+        | Meaning::Off
+        | Meaning::Other => false,
+    }
+}
+
+pub fn is_contact(meaning: Meaning) -> bool
+    ensures { result ≡ is_contact meaning }
+{
+    match meaning {
+        Meaning::Contact(_) => true,
+        Meaning::Blank
+        | Meaning::Wire
+        | Meaning::Coil(_)
+        | Meaning::Jump
+        | Meaning::Block(_)
+        | Meaning::Off
+        | Meaning::Other => false,
+    }
+}
+
+fn reads_place(elements: &[Element], reader: Element, place: usize) -> bool
+    requires { place < PLACES }
+    ensures { result ≡ reads_place elements.now reader place }
+{
+    let (row, column) = (place % ROWS, place / ROWS);
+    is_read_by(
+        reader,
+        element_at(elements, row, column),
+        meaning_at(elements, row, column),
+    )
+}
+
+/// Whether the element reads no block, as most don't.
+fn reads_none(reader: Element) -> bool
+    ensures { result ≡ true → (sort : BlockSort) → source_is (source_of reader.class) sort ≡ false }
+{
+    match source_of(reader.class) {
+        Source::Done(_) => false,
+        Source::Input | Source::Output | Source::Memory | Source::Other => true,
+    }
+}
+
+fn reads_before(elements: &[Element], reader: Element, count: usize) -> bool
+    requires { count ≤ PLACES }
+    ensures { result ≡ some_below (reads_place elements.now reader) count }
+{
+    if reads_none(reader) {
+        return false;
+    }
+    let mut found = false;
+    for place in 0..count {
+        found = either(found, reads_place(elements, reader, place));
+    }
+    found
+}
+
+/// Whether a contact reads a block that comes before it in its rung.
+pub fn reads_late(elements: &[Element], row: usize, column: usize) -> bool
+    requires { (row < ROWS) × (column < COLUMNS) }
+    ensures { result ≡ reads_late elements.now row column }
+{
+    is_contact(meaning_at(elements, row, column))
+        && reads_before(
+            elements,
+            element_at(elements, row, column),
+            ROWS * column + row,
+        )
+}
+
+/// Whether the element does nothing where no power comes.
+pub fn is_idle(meaning: Meaning) -> bool
+    ensures { result ≡ is_idle meaning }
+{
+    match meaning {
+        Meaning::Coil(CoilMode::Set | CoilMode::Reset) => true,
+        Meaning::Coil(CoilMode::Store | CoilMode::Inverse | CoilMode::Rising | CoilMode::Falling) =>
+            false,
+        Meaning::Other => false,
+        Meaning::Blank
+        | Meaning::Wire
+        | Meaning::Contact(_)
+        | Meaning::Jump
+        | Meaning::Block(_)
+        | Meaning::Off => true,
+    }
+}
