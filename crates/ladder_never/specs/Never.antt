@@ -22,6 +22,7 @@ pub record Bits : Type 0 where
   pub variables : List Tri
   pub instances : List Tri
 
+-- What is claimed of one of them, by its number.
 abbrev pub claims : List Tri → ℕ → Tri
 claims bits i = slice_index_or bits i Unsure
 

@@ -20,6 +20,7 @@ pub record AreLeftSo (p : Drawing) (z w : Bits) : Type 0 where
 abbrev pub LeavesSo : Drawing → Type 0
 LeavesSo p = (z w : Bits) → IsSetOf p z → IsSetOf p w → IsWithin z w → Stays p z → AreLeftSo p z w
 
+-- something is claimed
 abbrev pub is_claim : Tri → Bool
 is_claim Off = true
 is_claim On = true
@@ -29,6 +30,7 @@ is_claim Unsure = false
 abbrev pub members : List Tri → ℕ
 members = count_by is_claim
 
+-- of how many of a set
 abbrev pub size : Bits → ℕ
 size z = members z.variables + members z.instances
 

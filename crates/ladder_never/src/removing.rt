@@ -72,7 +72,8 @@ fn stays(
     }
 }
 
-/// Whether what is claimed of the target is settled to be so after a scan from the case. Where nothing is, there is nothing to settle.
+/// Whether what is claimed of the target is settled to be so after a scan from the case. Where nothing is claimed, there is nothing to
+/// settle.
 fn keeps(
     program: &Program,
     writers: &Writers,
