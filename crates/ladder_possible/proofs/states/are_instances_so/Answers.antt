@@ -1,4 +1,4 @@
-use Rattle.std.proofs.Common.{◌≡◌, ◌∙◌, ℕ, Bool, ap, arith, inl, inr, slice_index_or, subst, sym}
+use Rattle.std.proofs.Common.{◌≡◌, ◌∙◌, ℕ, Bool, ap, arith, inl, inr, refl, slice_index_or, subst, sym}
 use Rattle.std.proofs.lemmas.Bool.{cases_lt}
 use Rattle.ladder_vars.specs.declared.kind.BlockKind.TheVariants.{Ton}
 use Rattle.ladder_elements.specs.Blocks.{new_block, q_of}
@@ -17,7 +17,7 @@ loop-inst-preserved c = λ i less value e.
           let same : i ≡ x = omega (arith, less, high) in
           let here : claims set.instances x ≡ three_known value = subst (λ (n : ℕ). claims set.instances n ≡ three_known value) same e in
           subst (λ (n : ℕ). q_of (slice_index_or blocks n (new_block Ton)) ≡ value) (sym same)
-          (ap q_of (sym c.stored.ensures) ∙ sym c.q.ensures ∙ c.if-not-allows.ensures tt value (c.of_instance.ensures ∙ here))
+          (ap q_of (sym c.stored.ensures) ∙ sym c.q.ensures ∙ c.if-not-allows.ensures refl value (c.of_instance.ensures ∙ here))
     ]
 
 pub returns : goal.returns

@@ -1,4 +1,4 @@
-use Rattle.std.proofs.Common.{◌≡◌, ◌∙◌, ℕ, Bool, arith, inl, inr, slice_index_or, false, subst, sym}
+use Rattle.std.proofs.Common.{◌≡◌, ◌∙◌, ℕ, Bool, arith, inl, inr, refl, slice_index_or, false, subst, sym}
 use Rattle.std.proofs.lemmas.Bool.{cases_lt}
 use Rattle.ladder_never.specs.Never.{claims}
 use Rattle.ladder_signals.specs.Three.{three_known}
@@ -15,7 +15,7 @@ loop-var-preserved c = λ v less value e.
           let same : v ≡ x = omega (arith, less, high) in
           let here : claims set.variables x ≡ three_known value = subst (λ (n : ℕ). claims set.variables n ≡ three_known value) same e in
           subst (λ (n : ℕ). slice_index_or held.values n false ≡ value) (sym same)
-          (sym c.value_or_off.ensures ∙ c.if-not-allows.ensures tt value (c.of_variable.ensures ∙ here))
+          (sym c.value_or_off.ensures ∙ c.if-not-allows.ensures refl value (c.of_variable.ensures ∙ here))
     ]
 
 pub returns : goal.returns

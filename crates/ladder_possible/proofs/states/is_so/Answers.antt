@@ -1,4 +1,4 @@
-use Rattle.std.proofs.Common.{◌≡◌, ◌∙◌, ap, arith, length, sym}
+use Rattle.std.proofs.Common.{◌≡◌, ◌∙◌, ap, arith, length, refl, sym}
 use Rattle.ladder_never.proofs.Claims.{claim_within}
 use Rattle.ladder_possible.proofs.states.is_so.Goals as goal
 
@@ -10,6 +10,6 @@ returns-then-are_variables_so c = λ is.
     let instances : length z.instances ≡ length c.instances.result.now =
     c.requires.instances ∙ ap (λ d. length d.instances) (sym c.decls-decls.ensures) ∙ ap length (sym c.instances.ensures.value) in
     record {
-      variables = λ var value e. c.if-are_variables_so.ensures tt var (omega (arith, vars, claim_within z.variables var value e)) value e;
+      variables = λ var value e. c.if-are_variables_so.ensures refl var (omega (arith, vars, claim_within z.variables var value e)) value e;
       instances = λ inst value e. c.are_instances_so.ensures is inst (omega (arith, instances, claim_within z.instances inst value e)) value e;
     }
