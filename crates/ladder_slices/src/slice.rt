@@ -43,7 +43,7 @@ impl<'a> Model for Slice<'a> {
     ghost invariant = { λ s. s.steps.items ≡ slice_of s.program.now s.var };
 }
 
-/// Those of some steps that are kept, the last one first. `marks` are of what is read after them, and then of what is read before.
+/// Those of some steps that are kept, in their order. `marks` are of what is read after them, and then of what is read before.
 fn kept_steps(
     alloc: Global,
     program: &Program,
