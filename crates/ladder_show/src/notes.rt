@@ -7,10 +7,10 @@ ghost use Rattle.ladder_show.specs.Notes.{above, cell_note, instance_note, is_am
 ghost use Rattle.ladder_show.specs.Pictures.{counter_note, timer_note};
 
 use crate::picture::Picture;
-use crate::show::mark_in;
 use ladder_elements::Stored;
 use ladder_grid::Cell;
 use ladder_page::geometry::{PLACES, ROWS};
+use ladder_power::mark_in;
 use ladder_scan::State;
 use ladder_text::{Block, Piece, Sink, WriteFault, add_pieces};
 use ladder_vars::{Instance, Var};
