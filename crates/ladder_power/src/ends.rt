@@ -1,8 +1,8 @@
 //! Where power ends on the routes to a cell.
 
-ghost use Rattle.std.specs.Prelude.{◌≡◌, ◌<◌, ◌≤◌, ◌-◌, ◌+◌, ◌%◌, ◌/◌, ◌&&◌, ◌*◌, slice_index_or, false};
+ghost use Rattle.std.specs.Prelude.{◌≡◌, ◌<◌, ◌≤◌, ◌-◌, ◌+◌, ◌%◌, ◌/◌, ◌&&◌, ◌*◌, false};
 ghost use Rattle.ladder_page.specs.declared.geometry.TheConstants.{COLUMNS, PLACES, ROWS, RUNGS};
-ghost use Rattle.ladder_grid.specs.Program.{feeds, is_block, joined, site_at, takes_power};
+ghost use Rattle.ladder_grid.specs.Program.{feeds, is_block, joined, takes_power};
 ghost use Rattle.ladder_power.specs.Ends.{AreAnswers, any_past, any_to, is_ended, is_live, of_rung};
 ghost use Rattle.ladder_power.specs.Show.{mark_in};
 ghost use Rattle.ladder_power.specs.Why.{ends_at, is_closed};
