@@ -1,14 +1,6 @@
-pub mod Cuts
-pub mod Each
-pub mod Erasing
 pub mod Fitting
 pub mod Gets
-pub mod LinkedEnds
-pub mod LoneCoils
 pub mod Noted
 pub mod PlainNames
-pub mod PowerRoutes
-pub mod RouteEnds
 pub mod Showings
-pub mod Told
 pub mod Untagging

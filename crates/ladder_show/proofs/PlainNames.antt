@@ -8,7 +8,7 @@ use Rattle.std.proofs.lemmas.List.Folds.{list_all_at}
 use Rattle.ladder_vars.specs.Name.{has_name_form, is_name, is_name_byte}
 use Rattle.ladder_page.proofs.FormLaws.{form_bytes}
 use Rattle.ladder_show.specs.Page.{escaped, escaped_line}
-use Rattle.ladder_show.specs.Show.{each}
+use Rattle.ladder_power.specs.Show.{each}
 
 plain_byte : (b : ℕ) → is_name_byte b ≡ true → escaped b ≡ b ∷ []
 plain_byte b h =

@@ -6,7 +6,7 @@ use Rattle.ladder_show.specs.declared.look.Look.{Look}
 use Rattle.ladder_show.specs.declared.look.Look.TheVariants.{Plain, Rail, Passed, Wire, Link, Joint, On}
 use Rattle.ladder_show.specs.Browser.{KeepsCharacters, untagged}
 use Rattle.ladder_show.specs.Page.{before, closing, drawn_place, escaped, look_at, opening, turn}
-use Rattle.ladder_show.specs.Show.{each}
+use Rattle.ladder_power.specs.Show.{each}
 
 opened : (look : Look) (rest : List ℕ) → untagged false (opening look ++ rest) ≡ untagged false rest
 unfolding untagged

@@ -1,10 +1,6 @@
-pub mod Show
+pub mod Marked
 pub mod Notes
 pub mod Page
 pub mod Browser
 pub mod Pictures
 pub mod Showing
-pub mod Why
-pub mod Ends
-pub mod Marks
-pub mod Cuts

@@ -15,7 +15,8 @@ use Rattle.ladder_elements.specs.declared.block.Stored.TheVariants.{Timer, Count
 use Rattle.ladder_scan.specs.declared.seen.Mark.{Mark}
 use Rattle.ladder_elements.specs.Blocks.{new_block}
 use Rattle.ladder_scan.specs.Standing.{Standing}
-use Rattle.ladder_show.specs.Show.{each, is_line_of, mark_in}
+use Rattle.ladder_power.specs.Show.{each, mark_in}
+use Rattle.ladder_show.specs.Marked.{is_line_of}
 use Rattle.ladder_page.specs.declared.lines.Part.{Part}
 use Rattle.ladder_page.specs.Lines.{part_in}
 use Rattle.ladder_page.specs.Picture.{Lines, line_at}

@@ -14,7 +14,8 @@ use Rattle.ladder_show.specs.declared.look.Look.{Look}
 use Rattle.ladder_show.specs.declared.look.Look.TheVariants.{Plain, Rail, Passed, Wire, Link, Joint, On}
 use Rattle.ladder_show.specs.declared.page.TheConstants.{BUTTON_START, FRAMES_STYLE, PAGE_LEGEND, PAGE_OPENING, PAGE_STYLE}
 use Rattle.ladder_show.specs.Notes.{above, tail_line}
-use Rattle.ladder_show.specs.Show.{each, is_line_of, mark_in}
+use Rattle.ladder_power.specs.Show.{each, mark_in}
+use Rattle.ladder_show.specs.Marked.{is_line_of}
 
 -- ---- one character
 

@@ -19,8 +19,8 @@ use Rattle.ladder_show.specs.declared.picture.Style.TheVariants.{Marked, MarkedF
 use Rattle.ladder_show.specs.declared.showing.Scan.{Scan}
 use Rattle.ladder_show.specs.Notes.{head_line, noted_lines, tail_line}
 use Rattle.ladder_show.specs.Page.{drawn_whole, frame_head, frame_tail, frames_start, page_head, page_tail}
-use Rattle.ladder_show.specs.Show.{shown_whole}
-use Rattle.ladder_show.specs.Why.{why}
+use Rattle.ladder_show.specs.Marked.{shown_whole}
+use Rattle.ladder_power.specs.Why.{why}
 
 -- What is shown: a text and its program, the state before the scan, the inputs and the moment of the scan, and where that is asked, the
 -- variable of whose coils it is written why they have power, or none.

@@ -1,17 +1,15 @@
 //! The drawing of a program with the power flow of a scan.
 #![tactic(auto)]
 
-mod ends;
 mod fault;
 pub mod laws;
 mod look;
+mod marked;
 mod notes;
 mod noting;
 mod page;
 mod picture;
-mod show;
 mod showing;
-mod why;
 
 pub use fault::ShowFault;
 pub use noting::write_film_start;

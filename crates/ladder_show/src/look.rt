@@ -7,8 +7,8 @@ ghost use Rattle.ladder_page.specs.Bytes.{space};
 ghost use Rattle.ladder_show.specs.Page.{before, cell_look, closing, joint_look, opening, rail_look, wire_look};
 ghost use Rattle.ladder_show.specs.Pictures.{looks_of};
 
-use crate::show::{are_dashes, mark_in};
 use ladder_page::geometry::{PITCH, RAIL};
+use ladder_power::{are_dashes, mark_in};
 use ladder_scan::Mark;
 
 /// What a character of a drawing is, and where it is one of a wire, a link or a joint, whether that has power.

@@ -3,14 +3,14 @@
 ghost use Rattle.std.specs.Prelude.{◌≡◌, ◌<◌, ◌≤◌, ◌+◌, ◌++◌, length, option_map};
 ghost use Rattle.ladder_page.specs.declared.geometry.TheConstants.{PLACES};
 ghost use Rattle.ladder_text.specs.Block.{Sends};
-ghost use Rattle.ladder_show.specs.Notes.{above, cell_note, instance_note, is_among, lead, moment_text, noted_before, numbered_note, place_note, rung_notes, stored_note, tail_line, value_text, var_note, var_notes};
+ghost use Rattle.ladder_show.specs.Notes.{above, cell_note, instance_note, is_among, lead, moment_text, noted_before, numbered_note, place_note, rung_notes, stored_note, tail_line, value_text, var_notes};
 ghost use Rattle.ladder_show.specs.Pictures.{counter_note, timer_note};
 
 use crate::picture::Picture;
-use crate::show::mark_in;
 use ladder_elements::Stored;
 use ladder_grid::Cell;
 use ladder_page::geometry::{PLACES, ROWS};
+use ladder_power::mark_in;
 use ladder_scan::State;
 use ladder_text::{Block, Piece, Sink, WriteFault, add_pieces};
 use ladder_vars::{Instance, Var};

@@ -1,18 +1,18 @@
 //! The whole text: the lines with their marks, and what is noted beside them.
 
-ghost use Rattle.std.specs.Prelude.{◌≡◌, ◌<◌, ◌≤◌, ◌^◌, length, map, position};
+ghost use Rattle.std.specs.Prelude.{◌≡◌, ◌<◌, length, map, position};
 ghost use Rattle.ladder_text.specs.Block.{Sends};
 ghost use Rattle.ladder_text.specs.Log.{Puts};
-ghost use Rattle.ladder_show.specs.Show.{is_line_of};
+ghost use Rattle.ladder_show.specs.Marked.{is_line_of};
 ghost use Rattle.ladder_show.specs.Pictures.{Fits, lines_drawn, of_picture, tail_end};
 ghost use Rattle.ladder_show.specs.Showing.{end_of, film_start, head_of, tail_of, whole_of, why_of, why_on};
 ghost use Rattle.ladder_show.specs.Notes.{is_left_out, kept_line, noted_line, noted_lines, notes_behind};
 
+use crate::marked::{add_whole_line, rung_of};
 use crate::notes::{add_above, add_rung_notes, add_tail_with};
 use crate::page::{add_drawn_line, add_frame_head, add_frames_start, add_page_head};
 use crate::picture::{Picture, Style};
-use crate::show::{add_whole_line, rung_of};
-use crate::why::add_why;
+use ladder_power::add_why;
 use ladder_text::{Block, Sink, WriteFault};
 
 fn add_notes_behind<W: Sink>(

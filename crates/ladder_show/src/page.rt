@@ -6,12 +6,13 @@ ghost use Rattle.ladder_page.specs.Bytes.{space};
 ghost use Rattle.ladder_text.specs.Block.{Sends};
 ghost use Rattle.ladder_show.specs.Page.{button, button_start, drawn_in, drawn_line, drawn_place, drawn_whole, escaped, escaped_line, frame_head, frames_start, frames_style, page_begun, page_head, page_legend, page_opening, page_start, page_style, turn};
 ghost use Rattle.ladder_show.specs.Pictures.{Fits, lines_of, looks_of};
-ghost use Rattle.ladder_show.specs.Show.{each, is_line_of};
+ghost use Rattle.ladder_power.specs.Show.{each};
+ghost use Rattle.ladder_show.specs.Marked.{is_line_of};
 
 use crate::look::{Look, RungLine, closing, look_at, look_before, opening};
+use crate::marked::rung_of;
 use crate::notes::add_above;
 use crate::picture::Picture;
-use crate::show::rung_of;
 use ladder_scan::State;
 use ladder_text::{Block, Piece, Sink, WriteFault, add_pieces};
 

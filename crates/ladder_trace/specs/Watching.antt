@@ -9,7 +9,7 @@ use Rattle.ladder_elements.specs.Blocks.{new_block, q_of}
 use Rattle.ladder_elements.specs.Histories.{cv_of}
 use Rattle.ladder_records.specs.Text.{bit_text}
 use Rattle.ladder_scan.specs.Standing.{Standing}
-use Rattle.ladder_show.specs.Why.{instance_name, output_of, var_name}
+use Rattle.ladder_power.specs.Why.{instance_name, output_of, var_name}
 use Rattle.ladder_trace.specs.declared.column.Column.{Column}
 use Rattle.ladder_trace.specs.declared.column.Column.TheVariants as column
 

@@ -4,7 +4,7 @@ ghost use Rattle.std.specs.Prelude.{◌≡◌, ◌++◌, [], OnOk, codes, map};
 ghost use Rattle.ladder_elements.specs.Histories.{cv_of};
 ghost use Rattle.ladder_records.specs.Text.{after_commas, bit_text};
 ghost use Rattle.ladder_scan.specs.Standing.{Fits};
-ghost use Rattle.ladder_show.specs.Why.{instance_name, output_of, output_word, var_name};
+ghost use Rattle.ladder_power.specs.Why.{instance_name, output_of, output_word, var_name};
 ghost use Rattle.ladder_text.specs.Block.{Sends};
 ghost use Rattle.ladder_text.specs.Log.{Puts};
 ghost use Rattle.ladder_text.specs.Pieces.{piece_text};

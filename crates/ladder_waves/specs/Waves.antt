@@ -12,8 +12,8 @@ use Rattle.ladder_vars.specs.Kind.{traits_of}
 use Rattle.ladder_elements.specs.Blocks.{q_of, new_block}
 use Rattle.ladder_grid.specs.Program.{Drawing}
 use Rattle.ladder_scan.specs.Standing.{Standing}
-use Rattle.ladder_show.specs.Show.{each}
-use Rattle.ladder_show.specs.Why.{instance_name, var_name}
+use Rattle.ladder_power.specs.Show.{each}
+use Rattle.ladder_power.specs.Why.{instance_name, var_name}
 
 -- ---- what is shown
 

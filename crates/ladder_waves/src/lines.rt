@@ -3,8 +3,8 @@
 ghost use Rattle.std.specs.Prelude.{◌≡◌, ◌++◌, codes, decimal, length};
 ghost use Rattle.ladder_text.specs.Block.{Sends};
 ghost use Rattle.ladder_vars.specs.declared.decls.Symbol.TheVariants.{Instance, Var};
-ghost use Rattle.ladder_show.specs.Show.{each};
-ghost use Rattle.ladder_show.specs.Why.{instance_name, var_name};
+ghost use Rattle.ladder_power.specs.Show.{each};
+ghost use Rattle.ladder_power.specs.Why.{instance_name, var_name};
 ghost use Rattle.ladder_waves.specs.Lines.{line_of};
 ghost use Rattle.ladder_waves.specs.Waves.{change_line, declaration, for_each, output_name, output_word, scope_line, value_line, value_of, wire_line};
 

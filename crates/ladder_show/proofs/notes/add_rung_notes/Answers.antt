@@ -2,7 +2,7 @@ use Rattle.std.proofs.Common.{refl}
 use Rattle.ladder_page.specs.declared.geometry.TheConstants.{PLACES}
 use Rattle.ladder_text.proofs.Sending.{sends_err}
 use Rattle.ladder_show.specs.Notes.{place_note}
-use Rattle.ladder_show.proofs.Each.{cut_off, more, none_yet}
+use Rattle.ladder_power.proofs.Each.{cut_off, more, none_yet}
 use Rattle.ladder_show.proofs.notes.add_rung_notes.Goals as goal
 
 pub loop-at-init : goal.loop-at-init

@@ -1,5 +1,5 @@
 use Rattle.ladder_text.specs.Block.{SendsAll}
-use Rattle.ladder_show.specs.Show.{each}
+use Rattle.ladder_power.specs.Show.{each}
 use Rattle.ladder_show.specs.Notes.{place_note}
 use Rattle.ladder_show.proofs.notes.add_rung_notes.Given as goal
 

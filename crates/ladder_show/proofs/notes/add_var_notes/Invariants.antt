@@ -1,6 +1,6 @@
 use Rattle.std.specs.Prelude.{◌≡◌, ◌≤◌}
 use Rattle.ladder_text.specs.Block.{SendsAll}
-use Rattle.ladder_show.specs.Show.{each}
+use Rattle.ladder_power.specs.Show.{each}
 use Rattle.ladder_show.specs.Notes.{noted_before, numbered_note}
 use Rattle.ladder_show.proofs.notes.add_var_notes.Given as goal
 

@@ -4,7 +4,7 @@ use Rattle.std.proofs.lemmas.List.{length-map}
 use Rattle.ladder_text.proofs.Sending.{sends_err}
 use Rattle.ladder_show.specs.Notes.{kept_line}
 use Rattle.ladder_show.specs.Pictures.{lines_drawn, lines_of, of_picture}
-use Rattle.ladder_show.proofs.Each.{cut_off, more, none_yet}
+use Rattle.ladder_power.proofs.Each.{cut_off, more, none_yet}
 use Rattle.ladder_show.proofs.noting.add_noted_lines.Goals as goal
 
 abbrev now : Bor (List ℕ) → List ℕ

@@ -1,5 +1,5 @@
 use Rattle.ladder_text.specs.Block.{SendsAll}
-use Rattle.ladder_show.specs.Show.{each}
+use Rattle.ladder_power.specs.Show.{each}
 use Rattle.ladder_show.specs.Notes.{kept_line}
 use Rattle.ladder_show.specs.Pictures.{lines_drawn, of_picture}
 use Rattle.ladder_show.proofs.noting.add_noted_lines.Given as goal

@@ -1,6 +1,6 @@
 use Rattle.std.proofs.Common.{◌++◌, [], codes, refl}
 use Rattle.ladder_text.proofs.Sending.{sends_prefix, sends_last, sends_none, sends_err}
-use Rattle.ladder_show.specs.Why.{why}
+use Rattle.ladder_power.specs.Why.{why}
 use Rattle.ladder_show.proofs.noting.add_why_on.Goals as goal
 
 pub returns-in_err-add : goal.returns-in_err-add

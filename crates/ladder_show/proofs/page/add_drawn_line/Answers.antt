@@ -1,7 +1,7 @@
 use Rattle.std.proofs.Common.{◌++◌, [], codes, refl}
 use Rattle.std.specs.Prelude.{position}
 use Rattle.ladder_text.proofs.Sending.{sends_prefix, sends_last, sends_none, sends_err}
-use Rattle.ladder_show.specs.Show.{is_line_of}
+use Rattle.ladder_show.specs.Marked.{is_line_of}
 use Rattle.ladder_show.specs.Page.{drawn_in}
 use Rattle.ladder_show.specs.Pictures.{lines_of}
 use Rattle.ladder_show.proofs.page.add_drawn_line.Goals as goal

@@ -3,7 +3,7 @@ use Rattle.std.specs.Prelude.{slice_index_or}
 use Rattle.ladder_page.specs.Bytes.{space}
 use Rattle.ladder_text.proofs.Sending.{sends_err}
 use Rattle.ladder_show.specs.Page.{escaped}
-use Rattle.ladder_show.proofs.Each.{cut_off, more, none_yet}
+use Rattle.ladder_power.proofs.Each.{cut_off, more, none_yet}
 use Rattle.ladder_show.proofs.page.add_escaped_line.Goals as goal
 
 pub loop-at-init : goal.loop-at-init

@@ -2,7 +2,7 @@ use Rattle.std.proofs.Common.{refl}
 use Rattle.ladder_text.proofs.Sending.{sends_err}
 use Rattle.ladder_show.specs.Page.{drawn_place}
 use Rattle.ladder_show.specs.Pictures.{looks_of}
-use Rattle.ladder_show.proofs.Each.{cut_off, more, none_yet}
+use Rattle.ladder_power.proofs.Each.{cut_off, more, none_yet}
 use Rattle.ladder_show.proofs.page.add_places.Goals as goal
 
 pub loop-at-init : goal.loop-at-init

@@ -1,7 +1,7 @@
 use Rattle.ladder_text.specs.Block.{SendsAll}
 use Rattle.ladder_show.specs.Page.{drawn_place}
 use Rattle.ladder_show.specs.Pictures.{looks_of}
-use Rattle.ladder_show.specs.Show.{each}
+use Rattle.ladder_power.specs.Show.{each}
 use Rattle.ladder_show.proofs.page.add_places.Given as goal
 
 abbrev pub invariant-loop-at : goal.invariant-loop-at

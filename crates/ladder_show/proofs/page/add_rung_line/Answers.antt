@@ -2,7 +2,7 @@ use Rattle.std.proofs.Common.{◌++◌, [], length, refl}
 use Rattle.ladder_text.proofs.Sending.{sends_prefix, sends_last, sends_none, sends_err}
 use Rattle.ladder_show.specs.Page.{before, closing, drawn_place}
 use Rattle.ladder_show.specs.Pictures.{looks_of}
-use Rattle.ladder_show.specs.Show.{each}
+use Rattle.ladder_power.specs.Show.{each}
 use Rattle.ladder_show.proofs.page.add_rung_line.Goals as goal
 
 pub returns-in_err-add_places : goal.returns-in_err-add_places

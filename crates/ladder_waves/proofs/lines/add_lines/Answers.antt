@@ -1,7 +1,7 @@
 use Rattle.std.proofs.Common.{[], length, refl}
 use Rattle.ladder_text.proofs.Sending.{sends_prefix, sends_last, sends_none, sends_err}
 use Rattle.ladder_vars.specs.declared.decls.Symbol.TheVariants.{Instance, Var}
-use Rattle.ladder_show.specs.Show.{each}
+use Rattle.ladder_power.specs.Show.{each}
 use Rattle.ladder_waves.specs.Lines.{line_of}
 use Rattle.ladder_waves.specs.Waves.{for_each}
 use Rattle.ladder_waves.proofs.lines.add_lines.Goals as goal

@@ -1,7 +1,7 @@
 use Rattle.std.proofs.Common.{◌<◌, arith, ap, length, refl}
 use Rattle.ladder_text.proofs.Sending.{sends_err}
 use Rattle.ladder_vars.specs.declared.decls.Symbol.TheVariants.{Var}
-use Rattle.ladder_show.proofs.Each.{cut_off, more, none_yet}
+use Rattle.ladder_power.proofs.Each.{cut_off, more, none_yet}
 use Rattle.ladder_waves.specs.Lines.{line_of}
 use Rattle.ladder_waves.proofs.lines.add_var_lines.Goals as goal
 

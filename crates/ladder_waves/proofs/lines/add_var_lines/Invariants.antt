@@ -1,6 +1,6 @@
 use Rattle.ladder_text.specs.Block.{SendsAll}
 use Rattle.ladder_vars.specs.declared.decls.Symbol.TheVariants.{Var}
-use Rattle.ladder_show.specs.Show.{each}
+use Rattle.ladder_power.specs.Show.{each}
 use Rattle.ladder_waves.specs.Lines.{line_of}
 use Rattle.ladder_waves.proofs.lines.add_var_lines.Given as goal
 

@@ -1,0 +1,58 @@
+-- The marks of a line can be erased.
+use Rattle.std.proofs.Common.{◌≡◌, ◌∙◌, ◌+◌, ◌*◌, ◌%◌, ◌/◌, ℕ, Bool, true, false, cond, List, refl, sym, arith}
+use Rattle.std.specs.Prelude.{◌==◌, ◌||◌, nat_le, not, slice_index_or, slice_range}
+use Rattle.std.specs.List.{list_all}
+use Rattle.std.proofs.lemmas.Bool.Decides.{nat_tests}
+use Rattle.ladder_scan.specs.declared.seen.Mark.{Mark}
+use Rattle.ladder_power.specs.Show.{IsErased, cell_char, joint_char, link_char, mark_in, symbol_char, unlinked, unmarked, wire_char}
+
+wire_back : (e p : Bool) → unmarked (wire_char e p) ≡ 45
+wire_back true true = refl
+wire_back true false = refl
+wire_back false p = refl
+
+link_back : (m : Mark) (b : ℕ) → unlinked b ≡ b → unlinked (link_char m b) ≡ b
+link_back m b h = grind (arith, nat_tests)
+
+symbol_back : (front : Bool) (b : ℕ) → unmarked b ≡ b → unmarked (symbol_char front b) ≡ b
+symbol_back front b h = grind (arith, nat_tests)
+
+is_dash : (b : ℕ) → (b == 45) ≡ true → b ≡ 45
+is_dash b h = grind (arith, nat_tests)
+
+upright_back : (left : Bool) (b : ℕ) → unmarked b ≡ b → unmarked (cond (not left) b (cond (b == 43) 35 (cond (b == 124) 33 b))) ≡ b
+upright_back false b h = h
+upright_back true b h = grind (arith, nat_tests)
+
+joint_by : (e left c : Bool) (b : ℕ) → (b == 45) ≡ c → unmarked b ≡ b
+    → unmarked (cond c (wire_char e left) (cond (not left) b (cond (b == 43) 35 (cond (b == 124) 33 b)))) ≡ b
+joint_by e left true b d h = wire_back e left ∙ sym (is_dash b d)
+joint_by e left false b d h = upright_back left b h
+
+joint_back : (m : Mark) (b : ℕ) → unmarked b ≡ b → unmarked (joint_char m b) ≡ b
+joint_back m b h = joint_by m.evaluated m.left (b == 45) b refl h
+
+on_back : (on front : Bool) (b : ℕ) → unmarked b ≡ b → unmarked (cond on (symbol_char front b) b) ≡ b
+on_back true front b h = symbol_back front b h
+on_back false front b h = h
+
+cell_by : (e p on front c : Bool) (b : ℕ) → (b == 45) ≡ c → unmarked b ≡ b → unmarked (cond c (wire_char e p) (cond on (symbol_char front b) b)) ≡ b
+cell_by e p on front true b d h = wire_back e p ∙ sym (is_dash b d)
+cell_by e p on front false b d h = on_back on front b h
+
+cell_back : (m : Mark) (front : Bool) (b : ℕ) → unmarked b ≡ b → unmarked (cell_char m front b) ≡ b
+cell_back m front b h = cell_by m.evaluated (cond front m.left m.right) m.on front (b == 45) b refl h
+
+back_by : (edge even joint : Bool) (m : Mark) (front : Bool) (b : ℕ) → cond even (unlinked b) (unmarked b) ≡ b
+    → let x = cond edge b (cond even (cond joint (link_char m b) b) (cond joint (joint_char m b) (cell_char m front b))) in
+    cond even (unlinked x) (unmarked x) ≡ b
+back_by true even joint m front b h = h
+back_by false true true m front b h = link_back m b h
+back_by false true false m front b h = h
+back_by false false true m front b h = joint_back m b h
+back_by false false false m front b h = cell_back m front b h
+
+pub marks_erased : (marks : List Mark) (rung line : ℕ) (text : List ℕ) → IsErased marks rung line text
+marks_erased marks rung line text = λ h at lt.
+    back_by (at == 0 || nat_le 120 at) (line % 2 == 0) (at % 12 == 0) (mark_in marks rung (line / 2) (at / 12))
+    (list_all (λ c. c == 45) (slice_range text (12 * (at / 12) + 1) at)) (slice_index_or text at 32) (h at lt)

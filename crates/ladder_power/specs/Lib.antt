@@ -1,0 +1,5 @@
+pub mod Show
+pub mod Why
+pub mod Ends
+pub mod Marks
+pub mod Cuts

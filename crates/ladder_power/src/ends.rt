@@ -1,0 +1,200 @@
+//! Where power ends on the routes to a cell.
+
+ghost use Rattle.std.specs.Prelude.{◌≡◌, ◌<◌, ◌≤◌, ◌-◌, ◌+◌, ◌%◌, ◌/◌, ◌&&◌, ◌*◌, false};
+ghost use Rattle.ladder_page.specs.declared.geometry.TheConstants.{COLUMNS, PLACES, ROWS, RUNGS};
+ghost use Rattle.ladder_grid.specs.Program.{feeds, is_block, joined, takes_power};
+ghost use Rattle.ladder_power.specs.Ends.{AreAnswers, any_past, any_to, is_ended, is_live, of_rung};
+ghost use Rattle.ladder_power.specs.Show.{mark_in};
+ghost use Rattle.ladder_power.specs.Why.{ends_at, is_closed};
+
+use crate::show::mark_in;
+use ladder_grid::{Cell, Joint, Program};
+use ladder_page::geometry::{PLACES, ROWS};
+use ladder_scan::Mark;
+
+/// A rung of a program, and what was seen of the program.
+#[derive(Clone, Copy)]
+pub(crate) struct Rung<'a> {
+    pub program: &'a Program,
+    pub marks: &'a [Mark],
+    pub number: usize,
+}
+
+fn takes_power(joint: Joint) -> bool
+    ensures { result ≡ takes_power joint }
+{
+    match joint {
+        Joint::Dash | Joint::Plus => true,
+        Joint::Bar | Joint::Blank => false,
+    }
+}
+
+/// Whether vertical links on the left of the column join the rows from `top` to `bottom`.
+fn joined(rung: Rung<'_>, top: usize, bottom: usize, column: usize) -> bool
+    requires number { rung.number < rung.program.now.rungs }
+    requires rows { bottom < ROWS }
+    requires order { top ≤ bottom }
+    requires columns { (1 ≤ column) × (column < COLUMNS) }
+    ensures { result ≡ joined rung.entry.program.now rung.entry.number top column (bottom - top) }
+{
+    let mut all = true;
+    for row in top..bottom {
+        all = all & rung.program.vertical(rung.number, row, column);
+    }
+    all
+}
+
+/// Whether power of the row `from` in the column before enters the joint on the left of the column.
+fn feeds(rung: Rung<'_>, row: usize, column: usize, from: usize) -> bool
+    requires number { rung.number < rung.program.now.rungs }
+    requires row { row < ROWS }
+    requires columns { (1 ≤ column) × (column < COLUMNS) }
+    requires from { from < ROWS }
+    ensures { result ≡ feeds rung.entry.program.now rung.entry.number row column from }
+{
+    rung.program.right_link(rung.number, from, column - 1)
+        && takes_power(rung.program.joint(rung.number, from, column))
+        && joined(rung, row.min(from), row.max(from), column)
+}
+
+fn is_block(cell: Cell) -> bool
+    ensures { result ≡ is_block cell }
+{
+    match cell {
+        Cell::Block { .. } => true,
+        Cell::Empty
+        | Cell::Wire
+        | Cell::Contact { .. }
+        | Cell::Coil { .. }
+        | Cell::Lower { .. }
+        | Cell::Jump { .. }
+        | Cell::Return => false,
+    }
+}
+
+fn is_closed(mark: Mark, cell: Cell) -> bool
+    ensures { result ≡ is_closed mark cell }
+{
+    match cell {
+        Cell::Wire | Cell::Coil { .. } => true,
+        Cell::Contact { .. } => mark.on,
+        Cell::Empty | Cell::Block { .. } | Cell::Lower { .. } | Cell::Jump { .. } | Cell::Return =>
+            false,
+    }
+}
+
+/// Whether power comes past a cell.
+fn passes(rung: Rung<'_>, row: usize, column: usize, live: bool) -> bool
+    requires number { rung.number < rung.program.now.rungs }
+    requires few { rung.program.now.rungs ≤ RUNGS }
+    requires row { row < ROWS }
+    requires column { column < COLUMNS }
+    requires live { live ≡ any_to (of_rung is_live rung) rung.program.now rung.number (ROWS * column + row) }
+    ensures { result ≡ any_past (of_rung is_live rung.entry) rung.entry.program.now rung.entry.number row column }
+{
+    let mark = mark_in(rung.marks, rung.number, row, column);
+    let cell = rung.program.cell(rung.number, row, column);
+    if is_block(cell) {
+        mark.right
+    } else {
+        live & is_closed(mark, cell)
+    }
+}
+
+/// Whether power ends at the place `end` on a route past a cell.
+fn ends(rung: Rung<'_>, row: usize, column: usize, live: bool, ended: bool, end: usize) -> bool
+    requires number { rung.number < rung.program.now.rungs }
+    requires few { rung.program.now.rungs ≤ RUNGS }
+    requires row { row < ROWS }
+    requires column { column < COLUMNS }
+    requires live { live ≡ any_to (of_rung is_live rung) rung.program.now rung.number (ROWS * column + row) }
+    requires ended { ended ≡ any_to (of_rung (is_ended end) rung) rung.program.now rung.number (ROWS * column + row) }
+    ensures { result ≡ any_past (of_rung (is_ended end) rung.entry) rung.entry.program.now rung.entry.number row column }
+{
+    let mark = mark_in(rung.marks, rung.number, row, column);
+    let cell = rung.program.cell(rung.number, row, column);
+    let here = ROWS * column + row == end;
+    if is_block(cell) {
+        !mark.right & here
+    } else {
+        ended | (live & !is_closed(mark, cell) & here)
+    }
+}
+
+/// Whether power comes to a place.
+fn is_live(rung: Rung<'_>, at: usize, live: &[bool]) -> bool
+    requires number { rung.number < rung.program.now.rungs }
+    requires at { at < PLACES }
+    requires live { AreAnswers (of_rung is_live rung) rung.program.now rung.number at live.now }
+    ensures { result ≡ any_to (of_rung is_live rung.entry) rung.entry.program.now rung.entry.number at }
+{
+    let _rungs = rung.program.rungs();
+    if at < ROWS {
+        return true;
+    }
+    let (row, column) = (at % ROWS, at / ROWS);
+    let mut found = false;
+    for from in 0..ROWS {
+        let before = ROWS * (column - 1) + from;
+        found = found
+            | (feeds(rung, row, column, from) & passes(rung, from, column - 1, live[before]));
+    }
+    found
+}
+
+/// Whether power ends at the place `end` on a route to a place.
+fn is_ended(rung: Rung<'_>, at: usize, live: &[bool], ended: &[bool], end: usize) -> bool
+    requires number { rung.number < rung.program.now.rungs }
+    requires at { at < PLACES }
+    requires live { AreAnswers (of_rung is_live rung) rung.program.now rung.number at live.now }
+    requires ended { AreAnswers (of_rung (is_ended end) rung) rung.program.now rung.number at ended.now }
+    ensures { result ≡ any_to (of_rung (is_ended end) rung.entry) rung.entry.program.now rung.entry.number at }
+{
+    let _rungs = rung.program.rungs();
+    if at < ROWS {
+        return false;
+    }
+    let (row, column) = (at % ROWS, at / ROWS);
+    let mut found = false;
+    for from in 0..ROWS {
+        let before = ROWS * (column - 1) + from;
+        let past = ends(rung, from, column - 1, live[before], ended[before], end);
+        found = found | (feeds(rung, row, column, from) & past);
+    }
+    found
+}
+
+/// The places of a rung to which power comes.
+pub(crate) fn live_places(rung: Rung<'_>) -> [bool; PLACES]
+    requires { rung.number < rung.program.now.rungs }
+    ensures { AreAnswers (of_rung is_live rung.entry) rung.entry.program.now rung.entry.number PLACES result }
+{
+    let mut live = [false; PLACES];
+    for at in 0..PLACES {
+        live[at] = is_live(rung, at, &live);
+    }
+    live
+}
+
+/// Whether power ends at the place `end` on a route to each place.
+fn ended_places(rung: Rung<'_>, live: &[bool], end: usize) -> [bool; PLACES]
+    requires number { rung.number < rung.program.now.rungs }
+    requires live { AreAnswers (of_rung is_live rung) rung.program.now rung.number PLACES live.now }
+    ensures { AreAnswers (of_rung (is_ended end) rung.entry) rung.entry.program.now rung.entry.number PLACES result }
+{
+    let mut ended = [false; PLACES];
+    for at in 0..PLACES {
+        ended[at] = is_ended(rung, at, live, &ended, end);
+    }
+    ended
+}
+
+/// Whether power ends at the place `end` on a route to the place `at`.
+pub(crate) fn ends_at(rung: Rung<'_>, live: &[bool], at: usize, end: usize) -> bool
+    requires number { rung.number < rung.program.now.rungs }
+    requires at { at < PLACES }
+    requires live { AreAnswers (of_rung is_live rung) rung.program.now rung.number PLACES live.now }
+    ensures { result ≡ ends_at rung.entry.program.now rung.entry.marks.now rung.entry.number (at % ROWS) (at / ROWS) end }
+{
+    ended_places(rung, live, end)[at]
+}

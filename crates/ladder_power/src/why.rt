@@ -1,0 +1,392 @@
+//! Why the coils of a variable have power, or none.
+
+ghost use Rattle.std.specs.Prelude.{◌≡◌, ◌<◌, ◌≤◌, ◌%◌, ◌/◌, if◌then◌else◌};
+ghost use Rattle.ladder_page.specs.declared.geometry.TheConstants.{PLACES, ROWS, RUNGS};
+ghost use Rattle.ladder_grid.specs.Program.{cell_of, is_coil_of};
+ghost use Rattle.ladder_text.specs.Block.{Sends};
+ghost use Rattle.ladder_power.specs.Ends.{AreAnswers, is_live, of_rung};
+ghost use Rattle.ladder_power.specs.Why.{coil_head, coil_notes, dead_notes, end_line, end_note, end_notes, evaluated_above, instance_name, open_name, open_output, open_reason, output_of, output_word, passed_note, place_notes, power_notes, rung_why, var_name, why};
+
+use crate::ends::{Rung, ends_at, live_places};
+use crate::show::mark_in;
+use ladder_grid::{Cell, Operand, Program};
+use ladder_page::Mode;
+use ladder_page::geometry::{PLACES, ROWS};
+use ladder_scan::Mark;
+use ladder_text::{Block, Piece, Sink, WriteFault, add_pieces};
+use ladder_vars::{Decls, Output};
+
+fn var_name(decls: &Decls, var: usize) -> &[u8]
+    ensures { result.now ≡ var_name decls.now var }
+{
+    match decls.vars().get(var) {
+        Some(var) => var.name.bytes(),
+        None => b"",
+    }
+}
+
+fn instance_name(decls: &Decls, inst: usize) -> &[u8]
+    ensures { result.now ≡ instance_name decls.now inst }
+{
+    match decls.instances().get(inst) {
+        Some(instance) => instance.name.bytes(),
+        None => b"",
+    }
+}
+
+fn open_name(decls: &Decls, cell: Cell) -> &[u8]
+    ensures { result.now ≡ open_name decls.now cell }
+{
+    match cell {
+        Cell::Contact {
+            operand: Operand::Var(var),
+            ..
+        } => var_name(decls, var),
+        Cell::Contact {
+            operand: Operand::Output(inst),
+            ..
+        }
+        | Cell::Block { inst } => { instance_name(decls, inst) }
+        Cell::Empty
+        | Cell::Wire
+        | Cell::Coil { .. }
+        | Cell::Lower { .. }
+        | Cell::Jump { .. }
+        | Cell::Return => b"",
+    }
+}
+
+fn output_word(output: Output) -> &'static [u8]
+    ensures { result.now ≡ output_word output }
+{
+    match output {
+        Output::Q => b".Q",
+        Output::Q1 => b".Q1",
+    }
+}
+
+fn output_of(decls: &Decls, inst: usize) -> &'static [u8]
+    ensures { result.now ≡ output_of decls.now inst }
+{
+    match decls.instances().get(inst) {
+        Some(instance) => output_word(instance.kind.traits().output),
+        None => b"",
+    }
+}
+
+fn open_output(decls: &Decls, cell: Cell) -> &'static [u8]
+    ensures { result.now ≡ open_output decls.now cell }
+{
+    match cell {
+        Cell::Contact {
+            operand: Operand::Output(inst),
+            ..
+        }
+        | Cell::Block { inst } => output_of(decls, inst),
+        Cell::Contact {
+            operand: Operand::Var(_),
+            ..
+        }
+        | Cell::Empty
+        | Cell::Wire
+        | Cell::Coil { .. }
+        | Cell::Lower { .. }
+        | Cell::Jump { .. }
+        | Cell::Return => b"",
+    }
+}
+
+fn open_reason(cell: Cell) -> &'static [u8]
+    ensures { result.now ≡ open_reason cell }
+{
+    match cell {
+        Cell::Contact {
+            mode: Mode::Plain,
+            ..
+        }
+        | Cell::Block { .. } => b" is OFF",
+        Cell::Contact {
+            mode: Mode::Negated,
+            ..
+        } => b" is ON",
+        Cell::Contact {
+            mode: Mode::Rising,
+            ..
+        } => b" has not become ON",
+        Cell::Contact {
+            mode: Mode::Falling,
+            ..
+        } => b" has not become OFF",
+        Cell::Empty
+        | Cell::Wire
+        | Cell::Coil { .. }
+        | Cell::Lower { .. }
+        | Cell::Jump { .. }
+        | Cell::Return => b"",
+    }
+}
+
+/// What is at a place of the rung.
+fn cell_at(rung: Rung<'_>, at: usize) -> Cell
+    requires number { rung.number < rung.program.now.rungs }
+    requires at { at < PLACES }
+    ensures { result ≡ cell_of rung.entry.program.now rung.entry.number at }
+{
+    rung.program.cell(rung.number, at % ROWS, at / ROWS)
+}
+
+fn add_end_line<W: Sink>(
+    block: &mut Block,
+    rung: Rung<'_>,
+    end: usize,
+    writer: &mut W,
+) -> Result<(), WriteFault>
+    requires number { rung.number < rung.program.now.rungs }
+    requires end { end < PLACES }
+    ensures { Sends (W.log writer.old) (W.log writer.new) block.old block.new result (end_line rung.entry.program.now rung.entry.number end) }
+{
+    let cell = cell_at(rung, end);
+    let pieces = [
+        Piece::Text(b"(* row "),
+        Piece::Number((end % ROWS + 1) as u64),
+        Piece::Text(b", column "),
+        Piece::Number((end / ROWS + 1) as u64),
+        Piece::Text(b": "),
+        Piece::Text(open_name(rung.program.decls(), cell)),
+        Piece::Text(open_output(rung.program.decls(), cell)),
+        Piece::Text(open_reason(cell)),
+        Piece::Text(b" *)\n"),
+    ];
+    add_pieces(block, pieces.as_slice(), writer)
+}
+
+fn add_end_note<W: Sink>(
+    block: &mut Block,
+    rung: Rung<'_>,
+    live: &[bool],
+    at: usize,
+    end: usize,
+    writer: &mut W,
+) -> Result<(), WriteFault>
+    requires number { rung.number < rung.program.now.rungs }
+    requires live { AreAnswers (of_rung is_live rung) rung.program.now rung.number PLACES live.now }
+    requires at { at < PLACES }
+    requires end { end < PLACES }
+    ensures { Sends (W.log writer.old) (W.log writer.new) block.old block.new result (end_note rung.entry.program.now rung.entry.marks.now rung.entry.number at end) }
+{
+    if ends_at(rung, live, at, end) {
+        add_end_line(block, rung, end, writer)
+    } else {
+        block.add(b"", writer)
+    }
+}
+
+/// Adds where power ends on the routes to a place.
+fn add_end_notes<W: Sink>(
+    block: &mut Block,
+    rung: Rung<'_>,
+    at: usize,
+    writer: &mut W,
+) -> Result<(), WriteFault>
+    requires number { rung.number < rung.program.now.rungs }
+    requires at { at < PLACES }
+    ensures { Sends (W.log writer.old) (W.log writer.new) block.old block.new result (end_notes rung.entry.program.now rung.entry.marks.now rung.entry.number at) }
+{
+    let live = live_places(rung);
+    for end in 0..PLACES {
+        add_end_note(block, rung, &live, at, end, writer)?;
+    }
+    Ok(())
+}
+
+/// The rung of a mark where it was evaluated, and else the one before.
+fn later(mark: Mark, rung: usize, before: usize) -> usize
+    ensures { result ≡ (if mark.evaluated then rung else before) }
+{
+    if mark.evaluated { rung } else { before }
+}
+
+/// The last rung above this one that was evaluated.
+fn evaluated_above(marks: &[Mark], rung: usize) -> usize
+    requires { rung ≤ RUNGS }
+    ensures value { result ≡ evaluated_above marks.now rung }
+    ensures few { result ≤ rung }
+{
+    let mut last = 0;
+    for above in 0..rung {
+        last = later(mark_in(marks, above, 0, 0), above, last);
+    }
+    last
+}
+
+fn add_dead_notes<W: Sink>(
+    block: &mut Block,
+    rung: Rung<'_>,
+    at: usize,
+    writer: &mut W,
+) -> Result<(), WriteFault>
+    requires number { rung.number < rung.program.now.rungs }
+    requires at { at < PLACES }
+    ensures { Sends (W.log writer.old) (W.log writer.new) block.old block.new result (dead_notes rung.entry.program.now rung.entry.marks.now rung.entry.number at) }
+{
+    block.add(b": no power, which ends at *)\n", writer)?;
+    add_end_notes(block, rung, at, writer)
+}
+
+/// Adds that the rung is passed over by the one with this number.
+fn add_passed_note<W: Sink>(
+    block: &mut Block,
+    above: usize,
+    writer: &mut W,
+) -> Result<(), WriteFault>
+    requires { above < RUNGS }
+    ensures { Sends (W.log writer.old) (W.log writer.new) block.old block.new result (passed_note above) }
+{
+    let pieces = [
+        Piece::Text(b": passed over"),
+        Piece::Text(b" by rung "),
+        Piece::Number((above + 1) as u64),
+        Piece::Text(b" *)\n"),
+    ];
+    add_pieces(block, pieces.as_slice(), writer)
+}
+
+fn add_power_notes<W: Sink>(
+    block: &mut Block,
+    rung: Rung<'_>,
+    at: usize,
+    mark: Mark,
+    writer: &mut W,
+) -> Result<(), WriteFault>
+    requires number { rung.number < rung.program.now.rungs }
+    requires few { rung.program.now.rungs ≤ RUNGS }
+    requires at { at < PLACES }
+    ensures { Sends (W.log writer.old) (W.log writer.new) block.old block.new result (power_notes rung.entry.program.now rung.entry.marks.now rung.entry.number at mark) }
+{
+    if mark.evaluated {
+        if mark.left {
+            block.add(b": power *)\n", writer)
+        } else {
+            add_dead_notes(block, rung, at, writer)
+        }
+    } else {
+        let above = evaluated_above(rung.marks, rung.number);
+        add_passed_note(block, above, writer)
+    }
+}
+
+fn add_coil_head<W: Sink>(
+    block: &mut Block,
+    rung: Rung<'_>,
+    var: usize,
+    at: usize,
+    writer: &mut W,
+) -> Result<(), WriteFault>
+    requires number { rung.number < RUNGS }
+    requires at { at < PLACES }
+    ensures { Sends (W.log writer.old) (W.log writer.new) block.old block.new result (coil_head rung.entry.program.now var rung.entry.number at) }
+{
+    let pieces = [
+        Piece::Text(b"(* "),
+        Piece::Text(var_name(rung.program.decls(), var)),
+        Piece::Text(b" in rung "),
+        Piece::Number((rung.number + 1) as u64),
+        Piece::Text(b", row "),
+        Piece::Number((at % ROWS + 1) as u64),
+        Piece::Text(b", column "),
+        Piece::Number((at / ROWS + 1) as u64),
+    ];
+    add_pieces(block, pieces.as_slice(), writer)
+}
+
+/// Adds the notes of one coil.
+fn add_coil_notes<W: Sink>(
+    block: &mut Block,
+    rung: Rung<'_>,
+    var: usize,
+    at: usize,
+    writer: &mut W,
+) -> Result<(), WriteFault>
+    requires number { rung.number < rung.program.now.rungs }
+    requires few { rung.program.now.rungs ≤ RUNGS }
+    requires at { at < PLACES }
+    ensures { Sends (W.log writer.old) (W.log writer.new) block.old block.new result (coil_notes rung.entry.program.now rung.entry.marks.now var rung.entry.number at) }
+{
+    add_coil_head(block, rung, var, at, writer)?;
+    let mark = mark_in(rung.marks, rung.number, at % ROWS, at / ROWS);
+    add_power_notes(block, rung, at, mark, writer)
+}
+
+fn is_coil_of(var: usize, cell: Cell) -> bool
+    ensures { result ≡ is_coil_of var cell }
+{
+    match cell {
+        Cell::Coil { var: written, .. } => written == var,
+        Cell::Empty
+        | Cell::Wire
+        | Cell::Contact { .. }
+        | Cell::Block { .. }
+        | Cell::Lower { .. }
+        | Cell::Jump { .. }
+        | Cell::Return => false,
+    }
+}
+
+fn add_place_notes<W: Sink>(
+    block: &mut Block,
+    rung: Rung<'_>,
+    var: usize,
+    at: usize,
+    writer: &mut W,
+) -> Result<(), WriteFault>
+    requires number { rung.number < rung.program.now.rungs }
+    requires at { at < PLACES }
+    ensures { Sends (W.log writer.old) (W.log writer.new) block.old block.new result (place_notes rung.entry.program.now rung.entry.marks.now var rung.entry.number at) }
+{
+    let _rungs = rung.program.rungs();
+    if is_coil_of(var, cell_at(rung, at)) {
+        add_coil_notes(block, rung, var, at, writer)
+    } else {
+        block.add(b"", writer)
+    }
+}
+
+fn add_rung_why<W: Sink>(
+    block: &mut Block,
+    rung: Rung<'_>,
+    var: usize,
+    writer: &mut W,
+) -> Result<(), WriteFault>
+    requires { rung.number < rung.program.now.rungs }
+    ensures { Sends (W.log writer.old) (W.log writer.new) block.old block.new result (rung_why rung.entry.program.now rung.entry.marks.now var rung.entry.number) }
+{
+    for at in 0..PLACES {
+        add_place_notes(block, rung, var, at, writer)?;
+    }
+    Ok(())
+}
+
+/// Adds why the coils of a variable have power, or none.
+///
+/// # Errors
+///
+/// `WriteFault` where the writer fails.
+pub fn add_why<W: Sink>(
+    block: &mut Block,
+    program: &Program,
+    marks: &[Mark],
+    var: usize,
+    writer: &mut W,
+) -> Result<(), WriteFault>
+    ensures { Sends (W.log writer.old) (W.log writer.new) block.old block.new result (why program.now marks.now var) }
+{
+    for number in 0..program.rungs() {
+        let rung = Rung {
+            program,
+            marks,
+            number,
+        };
+        add_rung_why(block, rung, var, writer)?;
+    }
+    Ok(())
+}
