@@ -3,7 +3,7 @@
 -- `ladder causes --any [--off] [--must] [--reachable] [--looks N] [--limit N] [--all-inputs] [--quiet] FILE COIL [INPUT]...`,
 -- each with `--all-coils FOLDER` in place of COIL,
 -- `ladder show [--state STATE] [--at MS] [--number N] [--stimulus STIMULUS] [--html] [--coil COIL] [--all-inputs] FILE [INPUT]...`,
--- `ladder sim [--state STATE] [--save STATE] [--every MS] [--watch NAME]... [--watch-all] [--vcd] FILE STIMULUS`, `ladder uses FILE`, `ladder import PROJECT` and `ladder never [--state STATE] [--pairs] [--quiet] FILE`, each with `[--why]`;
+-- `ladder sim [--state STATE] [--save STATE] [--every MS] [--watch NAME]... [--watch-all] [--vcd] FILE STIMULUS`, `ladder uses FILE`, `ladder import PROJECT` and `ladder never [--state STATE] [--off] [--pairs] [--quiet] FILE`, each with `[--why]`;
 -- and `ladder explain [CODE]...`.
 use Rattle.std.specs.Prelude.{◌≡◌, List, Some, [], ◌∷◌, codes, true, false}
 use Rattle.clap.specs.Simple.{new_shape}
@@ -60,7 +60,7 @@ abbrev pub uses_app : App
 uses_app = taking (codes "uses") (flag_rule (codes "why") ∷ place_rule (codes "file") ∷ [])
 
 abbrev pub never_app : App
-never_app = taking (codes "never") (text_rule (codes "state") ∷ flag_rule (codes "pairs") ∷ flag_rule (codes "quiet") ∷ flag_rule (codes "why") ∷ place_rule (codes "file") ∷ [])
+never_app = taking (codes "never") (text_rule (codes "state") ∷ flag_rule (codes "off") ∷ flag_rule (codes "pairs") ∷ flag_rule (codes "quiet") ∷ flag_rule (codes "why") ∷ place_rule (codes "file") ∷ [])
 
 abbrev pub causes_app : App
 causes_app = taking (codes "causes") (
