@@ -33,7 +33,8 @@ _ladder() {
         show) options='--state --at --number --html --stimulus --coil --all-inputs --why --help' ;;
         sim) options='--state --save --every --watch --watch-all --vcd --why --help' ;;
         check) options='--warn --why --help' ;;
-        uses | import) options='--why --help' ;;
+        uses) options='--why --help' ;;
+        import) options='--hal --why --help' ;;
         never) options='--state --off --pairs --quiet --why --help' ;;
         explain) options='--help' ;;
         help)
@@ -48,7 +49,7 @@ _ladder() {
                 ((number++))
                 every=1
                 ;;
-            --state | --at | --after | --upto | --limit | --scans | --for | --every | --looks | --order | --number | --stimulus | --coil | --save | --watch) ((number++)) ;;
+            --state | --at | --after | --upto | --limit | --scans | --for | --every | --looks | --order | --number | --stimulus | --coil | --save | --watch | --hal) ((number++)) ;;
             -*) ;;
             *)
                 ((place++))
@@ -58,7 +59,7 @@ _ladder() {
         esac
     done
     case $before in
-        --state | --save | --stimulus) mapfile -t COMPREPLY < <(compgen -f -- "$word") ;;
+        --state | --save | --stimulus | --hal) mapfile -t COMPREPLY < <(compgen -f -- "$word") ;;
         --at | --after | --upto | --limit | --scans | --for | --every | --looks | --number) ;;
         --all-coils) mapfile -t COMPREPLY < <(compgen -d -- "$word") ;;
         --order) mapfile -t COMPREPLY < <(compgen -W 'auto given' -- "$word") ;;

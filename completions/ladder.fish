@@ -7,7 +7,7 @@ function __ladder_places
     for word in $words
         if test $due = 1
             set due 0
-        else if contains -- $word --state --at --after --upto --limit --scans --for --every --order --number --stimulus --coil --all-coils --save --watch
+        else if contains -- $word --state --at --after --upto --limit --scans --for --every --order --number --stimulus --coil --all-coils --save --watch --hal
             set due 1
         else if not string match -q -- '-*' $word
             echo $word
@@ -77,6 +77,7 @@ complete -c ladder -n '__ladder_at causes,never more 0' -l quiet -d 'No line of 
 complete -c ladder -n '__ladder_at never more 0' -l off -d 'What can never go OFF'
 complete -c ladder -n '__ladder_at never more 0' -l pairs -d 'Pairs that are never both ON'
 complete -c ladder -n '__ladder_at causes,show,sim,never more 0' -l state -r -F -d 'The state to begin in'
+complete -c ladder -n '__ladder_at import more 0' -l hal -r -F -d 'A HAL file with names'
 complete -c ladder -n '__ladder_at causes,show more 0' -l at -x -d 'The moment of the scan in ms'
 complete -c ladder -n '__ladder_at causes more 0' -l after -x -d 'Causes with a greater number only'
 complete -c ladder -n '__ladder_at causes more 0' -l upto -x -d 'Causes up to this number only'

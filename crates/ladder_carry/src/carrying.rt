@@ -7,6 +7,7 @@ ghost use Rattle.ladder_carry.specs.Carrying.{BreaksCarrying, Carries};
 
 use crate::faults::{write_import_fault, write_project_fault, write_refusals};
 use ladder_clp::{Project, read_project};
+use ladder_hal::{Link, joined, links_in};
 use ladder_import::{ImportFault, import, refusals};
 use ladder_setting::{ToolFault, report_unread};
 use ladder_text::{Sink, WriteFault, put};
@@ -28,6 +29,7 @@ fn carry_whole<O: Sink, E: Sink>(
     why: bool,
     text: &[u8],
     project: &Project<'_>,
+    links: &[Link<'_>],
     out: &mut O,
     err: &mut E,
 ) -> u8
@@ -36,12 +38,36 @@ fn carry_whole<O: Sink, E: Sink>(
     ensures done { result ≡ 0 → Carries text.now (PutsAll (O.log out.old) (O.log out.new)) × (E.log err.new ≡ E.log err.old) }
     ensures failed { result ≡ 1 → BreaksCarrying why text.now (O.log out.old) (O.log out.new) (E.log err.old) (E.log err.new) }
 {
-    match import(alloc, project) {
+    match import(alloc, project, links) {
         Ok(drawn) => match put(out, &drawn) {
             Ok(()) => 0,
             Err(_) => report_unread(why, &ToolFault::Write, err),
         },
         Err(fault) => told(write_import_fault(why, fault, err)),
+    }
+}
+
+/// Writes the program text of a project none of whose elements is refused, with names from a HAL file.
+fn carry_named<O: Sink, E: Sink>(
+    alloc: Global,
+    why: bool,
+    text: &[u8],
+    project: &Project<'_>,
+    hal: &[u8],
+    out: &mut O,
+    err: &mut E,
+) -> u8
+    requires { IsProject text.now project.now }
+    ensures status { result ≤ 1 }
+    ensures done { result ≡ 0 → Carries text.now (PutsAll (O.log out.old) (O.log out.new)) × (E.log err.new ≡ E.log err.old) }
+    ensures failed { result ≡ 1 → BreaksCarrying why text.now (O.log out.old) (O.log out.new) (E.log err.old) (E.log err.new) }
+{
+    let Ok(lines) = joined(alloc, hal) else {
+        return told(write_import_fault(why, ImportFault::Memory, err));
+    };
+    match links_in(alloc, &lines) {
+        Ok(links) => carry_whole(alloc, why, text, project, &links, out, err),
+        Err(_) => told(write_import_fault(why, ImportFault::Memory, err)),
     }
 }
 
@@ -51,6 +77,7 @@ fn carry_project<O: Sink, E: Sink>(
     why: bool,
     text: &[u8],
     project: &Project<'_>,
+    hal: &[u8],
     out: &mut O,
     err: &mut E,
 ) -> u8
@@ -62,7 +89,7 @@ fn carry_project<O: Sink, E: Sink>(
     match refusals(alloc, project) {
         Ok(refused) => {
             if refused.is_empty() {
-                return carry_whole(alloc, why, text, project, out, err);
+                return carry_named(alloc, why, text, project, hal, out, err);
             }
             told(write_refusals(why, &refused, err))
         }
@@ -71,12 +98,13 @@ fn carry_project<O: Sink, E: Sink>(
 }
 
 /// Writes the program text of a ClassicLadder project on `out`, or on `err` what is said of why there is none: a line for each element
-/// that can't be carried over, or the line of another fault, each explained where that is asked for. Returns the status: 0 where the whole
-/// text was written, or 1.
+/// that can't be carried over, or the line of another fault, each explained where that is asked for. The text of a HAL file, empty where
+/// there is none, gives names to inputs and outputs. Returns the status: 0 where the whole text was written, or 1.
 pub fn carry<O: Sink, E: Sink>(
     alloc: Global,
     why: bool,
     text: &[u8],
+    hal: &[u8],
     out: &mut O,
     err: &mut E,
 ) -> u8
@@ -85,7 +113,7 @@ pub fn carry<O: Sink, E: Sink>(
     ensures failed { result ≡ 1 → BreaksCarrying why text.now (O.log out.old) (O.log out.new) (E.log err.old) (E.log err.new) }
 {
     match read_project(alloc, text) {
-        Ok(project) => carry_project(alloc, why, text, &project, out, err),
+        Ok(project) => carry_project(alloc, why, text, &project, hal, out, err),
         Err(fault) => told(write_project_fault(why, fault, err)),
     }
 }

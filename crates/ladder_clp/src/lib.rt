@@ -12,6 +12,7 @@ mod table;
 
 pub use element::Element;
 pub use fault::{ClpFault, Table};
+pub use number::number_in;
 pub use order::Placed;
 pub use project::{Project, read_project};
 pub use rung::{ELEMENTS, Rung};

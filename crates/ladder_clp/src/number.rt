@@ -96,7 +96,7 @@ fn number_at(text: &[u8]) -> Option<u32>
 }
 
 /// The number that a field is.
-pub(crate) fn number_in(field: &[u8]) -> Option<u32>
+pub fn number_in(field: &[u8]) -> Option<u32>
     ensures { result ≡ number_in field.now }
 {
     number_at(after_blanks(field))

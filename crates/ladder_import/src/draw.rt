@@ -5,8 +5,9 @@ ghost use Rattle.ladder_page.specs.declared.geometry.TheConstants.{COLUMNS, ROWS
 
 use crate::bytes::{add, add_line, add_number, add_remark, fill, trimmed};
 use crate::drawn::Sheet;
-use crate::names::{Named, Used, letters, name_in, symbol_of};
+use crate::names::{Named, Used, letters, name_in, signal_of, symbol_of};
 use ladder_clp::{Placed, Project};
+use ladder_hal::Link;
 use ladder_page::geometry::{CELL, COLUMNS, ROWS};
 use ladder_page::{CoilMode, Mode};
 use ladder_sheet::{
@@ -70,11 +71,12 @@ fn add_type(text: &mut Vec<u8>, project: &Project<'_>, used: Used) -> Result<(),
     add(text, b");")
 }
 
-/// Adds what the project says of it.
+/// Adds what the project says of it, and the signal that is connected with its pin.
 fn add_origin(
     alloc: Global,
     text: &mut Vec<u8>,
     project: &Project<'_>,
+    links: &[Link<'_>],
     named: Named,
 ) -> Result<(), AllocError> {
     add(text, b"(* %")?;
@@ -88,6 +90,10 @@ fn add_origin(
             }
         }
     }
+    if let Some(signal) = signal_of(links, named.used) {
+        add(text, b", signal ")?;
+        add_remark(text, signal)?;
+    }
     if let (Source::Done(_), false) = (named.used.source, named.is_block) {
         add(text, b": nothing writes it, always OFF")?;
     }
@@ -98,6 +104,7 @@ fn add_declaration(
     alloc: Global,
     text: &mut Vec<u8>,
     project: &Project<'_>,
+    links: &[Link<'_>],
     named: Named,
 ) -> Result<(), AllocError> {
     let start = text.len();
@@ -110,7 +117,7 @@ fn add_declaration(
         add(text, b" : BOOL;")?;
     }
     fill(text, start, 40)?;
-    add_origin(alloc, text, project, named)
+    add_origin(alloc, text, project, links, named)
 }
 
 fn contact_cell(mode: Mode) -> &'static [u8] {
@@ -336,13 +343,14 @@ fn add_rows(
 pub(crate) fn drawing(
     alloc: Global,
     project: &Project<'_>,
+    links: &[Link<'_>],
     sheets: &[Sheet<'_>],
     named: &[Named],
 ) -> Result<Vec<u8>, AllocError> {
     let mut text = Vec::new(alloc);
     add(&mut text, b"VAR\n")?;
     for other in named {
-        add_declaration(alloc, &mut text, project, *other)?;
+        add_declaration(alloc, &mut text, project, links, *other)?;
     }
     add(&mut text, b"END_VAR\n")?;
     let mut count = 0u32;

@@ -12,6 +12,7 @@ use crate::refusal::{Refusal, refusals};
 use ladder_clp::Project;
 use ladder_faithful::is_carried_over;
 use ladder_grid::{GridFault, read_program};
+use ladder_hal::Link;
 use ladder_page::geometry::RUNGS;
 use ladder_sheet::BlockRef;
 use ladder_vars::VarRule;
@@ -80,7 +81,7 @@ fn checked(
 }
 
 /// The text as it is drawn, and then checked.
-fn drawn(alloc: Global, project: &Project<'_>) -> Result<Vec<u8>, ImportFault>
+fn drawn(alloc: Global, project: &Project<'_>, links: &[Link<'_>]) -> Result<Vec<u8>, ImportFault>
     ensures text { IfOk result (λ v. HasText project.now v.items) }
     ensures fault { IfErr result (λ e. IsFault project.now e) }
 {
@@ -93,8 +94,8 @@ fn drawn(alloc: Global, project: &Project<'_>) -> Result<Vec<u8>, ImportFault>
     if used.len().saturating_sub(blocks.len()) > MOST_VARS {
         return Err(ImportFault::TooManyVars);
     }
-    let named = names_of(alloc, project, &used, &blocks)?;
-    let text = drawing(alloc, project, &sheets, &named)?;
+    let named = names_of(alloc, project, links, &used, &blocks)?;
+    let text = drawing(alloc, project, links, &sheets, &named)?;
     checked(alloc, project, &blocks, text)
 }
 
@@ -108,13 +109,18 @@ fn none_refused(project: &Project<'_>, refused: &[Refusal]) -> Result<(), Import
     Ok(())
 }
 
-/// The program text of a project: it reads as a program, and that has what the project has.
+/// The program text of a project: it reads as a program, and that has what the project has. An input or an output whose symbol is no
+/// name is called after the signal that a link connects with its pin.
 ///
 /// # Errors
 ///
 /// Why there is none. `Refused` where `refusals` names elements; `NotFaithful` never in practice: then the text that was written
 /// did not pass the check.
-pub fn import(alloc: Global, project: &Project<'_>) -> Result<Vec<u8>, ImportFault>
+pub fn import(
+    alloc: Global,
+    project: &Project<'_>,
+    links: &[Link<'_>],
+) -> Result<Vec<u8>, ImportFault>
     ensures carried { IfOk result (λ v. HasText project.now v.items) }
     ensures fault { IfErr result (λ e. IsFault project.now e) }
 {
@@ -123,5 +129,5 @@ pub fn import(alloc: Global, project: &Project<'_>) -> Result<Vec<u8>, ImportFau
     if project.rungs.len() > RUNGS {
         return Err(ImportFault::TooManyRungs);
     }
-    drawn(alloc, project)
+    drawn(alloc, project, links)
 }

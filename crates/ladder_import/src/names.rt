@@ -6,6 +6,7 @@ ghost use Rattle.ladder_page.specs.declared.geometry.TheConstants.{ROWS};
 use crate::bytes::{add, add_number, trimmed};
 use crate::drawn::Sheet;
 use ladder_clp::{Project, Symbol};
+use ladder_hal::{Link, Pin};
 use ladder_page::geometry::{COLUMNS, ROWS};
 use ladder_sheet::{BlockRef, BlockSort, Meaning, Source, element_at, meaning_at, source_of};
 use ladder_vars::Name;
@@ -234,14 +235,49 @@ fn symbol_name(
     Ok(None)
 }
 
+/// The signal that is connected with the pin of an input or an output, the first where there are several.
+pub(crate) fn signal_of<'a>(links: &[Link<'a>], used: Used) -> Option<&'a [u8]> {
+    let pin = match used.source {
+        Source::Input => Pin::Input(used.number),
+        Source::Output => Pin::Output(used.number),
+        Source::Memory | Source::Done(_) | Source::Other => return None,
+    };
+    for link in links {
+        if link.pin == pin {
+            return Some(link.signal);
+        }
+    }
+    None
+}
+
+/// The signal of it as a name, where that is free.
+fn signal_name(
+    alloc: Global,
+    links: &[Link<'_>],
+    named: &[Named],
+    used: Used,
+) -> Result<Option<Name>, AllocError> {
+    match signal_of(links, used) {
+        Some(signal) => {
+            let name = cleaned(alloc, signal)?;
+            Ok(free_name(named, false, &name))
+        }
+        None => Ok(None),
+    }
+}
+
 fn name_of(
     alloc: Global,
     project: &Project<'_>,
+    links: &[Link<'_>],
     named: &[Named],
     used: Used,
     is_block: bool,
 ) -> Result<Option<Name>, AllocError> {
     if let Some(name) = symbol_name(alloc, project, named, used, is_block)? {
+        return Ok(Some(name));
+    }
+    if let Some(name) = signal_name(alloc, links, named, used)? {
         return Ok(Some(name));
     }
     for count in 0..100u32 {
@@ -266,13 +302,14 @@ fn is_one_of(blocks: &[BlockRef], used: Used) -> bool {
 pub(crate) fn names_of(
     alloc: Global,
     project: &Project<'_>,
+    links: &[Link<'_>],
     used: &[Used],
     blocks: &[BlockRef],
 ) -> Result<Vec<Named>, AllocError> {
     let mut named = Vec::new(alloc);
     for other in used {
         let is_block = is_one_of(blocks, *other);
-        if let Some(name) = name_of(alloc, project, &named, *other, is_block)? {
+        if let Some(name) = name_of(alloc, project, links, &named, *other, is_block)? {
             named.push(Named {
                 used: *other,
                 name,

@@ -30,7 +30,7 @@ IsDone (Sim r) g old new = IsTraced g r.every (is_some r.save) old new
 IsDone (request.Watch r) g old new = IsWatched g r old new
 IsDone (request.Waves r) g old new = IsWaved g r.every old.out new.out × (new.save ≡ old.save) × (new.err ≡ old.err)
 IsDone (Uses file) g old new = Prints uses_text g.program (PutsAll old.out new.out) × (new.save ≡ old.save) × (new.err ≡ old.err)
-IsDone (Import file) g old new = Carries g.program (PutsAll old.out new.out) × (new.save ≡ old.save) × (new.err ≡ old.err)
+IsDone (Import file hal) g old new = Carries g.program (PutsAll old.out new.out) × (new.save ≡ old.save) × (new.err ≡ old.err)
 
 -- the faults that the texts and arguments of a request can have
 abbrev pub HasFault : Request → Given → ToolFault → Type 0
@@ -49,7 +49,7 @@ HasFault (Sim r) g = HasSettingFault g
 HasFault (request.Watch r) g = HasWatchFault g r
 HasFault (request.Waves r) g = HasSettingFault g
 HasFault (Uses file) g = HasProgramFault g.program
-HasFault (Import file) g = λ f. ⊥
+HasFault (Import file hal) g = λ f. ⊥
 
 -- Status 1, by a fault while running.
 abbrev pub Breaks : Request → Given → Logs → Logs → Type 0
@@ -70,7 +70,7 @@ Breaks (request.Watch r) g old new = BreaksWatch g r old new
 Breaks (request.Waves r) g old new = BreaksWaves g r.every old new × (new.save ≡ old.save)
 Breaks (Uses file) g old new =
     Prints uses_text g.program (PutsPrefix old.out new.out) × (new.save ≡ old.save) × IsReported g old.err new.err fault.Write
-Breaks (Import file) g old new = BreaksCarrying g.why g.program old.out new.out old.err new.err × (new.save ≡ old.save)
+Breaks (Import file hal) g old new = BreaksCarrying g.why g.program old.out new.out old.err new.err × (new.save ≡ old.save)
 
 -- Status 1.
 abbrev pub IsFailed : Request → Given → Logs → Logs → Type 0

@@ -60,9 +60,15 @@ pub(crate) fn readers_of<'a>(
     request: &'a Request,
 ) -> Readers<Reading<NamedFile<'a>>> {
     match request {
-        Request::Check { file, .. } | Request::Uses { file } | Request::Import { file } => Readers {
+        Request::Check { file, .. } | Request::Uses { file } => Readers {
             program: reading(rt, file.as_str()),
             state: None,
+            stimulus: None,
+        },
+        // A HAL file is read where a state is.
+        Request::Import { file, hal } => Readers {
+            program: reading(rt, file.as_str()),
+            state: reading_named(rt, hal),
             stimulus: None,
         },
         Request::Causes { list, .. }

@@ -17,6 +17,14 @@ use ladder_views::{About, film, print, show, trace, watch, wave};
 use ladder_words::Request;
 use std::alloc::Global;
 
+/// The text of the HAL file of an import, which is read where a state is; empty where there is none.
+fn hal_of(texts: &Texts) -> &[u8] {
+    match &texts.state {
+        Some(text) => text.as_slice(),
+        None => &[],
+    }
+}
+
 /// Performs a request on its texts: its text on `out`, the line of counts on `err`, and the state that is to be saved on `save`.
 /// Returns the status: 0 where all was written, 1 where a fault stopped it, whose line is on `err`, explained where that is asked for.
 pub fn perform<O: Sink, S: Sink, E: Sink>(
@@ -68,7 +76,7 @@ pub fn perform<O: Sink, S: Sink, E: Sink>(
         Request::Film(stimulus) => film(alloc, stimulus, texts, out, err),
         Request::Watch(watched) => watch(alloc, watched, texts, out, save, err),
         Request::Waves(waves) => wave(alloc, texts, waves.every, out, err),
-        Request::Import { .. } => carry(alloc, texts.why, &texts.program, out, err),
+        Request::Import { .. } => carry(alloc, texts.why, &texts.program, hal_of(texts), out, err),
         Request::Sim(sim) => { trace(alloc, texts, sim.every, sim.save.is_some(), out, save, err) }
     }
 }

@@ -282,7 +282,9 @@ Asks name rows (Waves r) = (name ≡ codes "sim")
     × HasText (codes "stimulus") rows (string_bytes r.stimulus)
     × HasWatched rows false []
 Asks name rows (Uses file) = (name ≡ codes "uses") × HasText (codes "file") rows (string_bytes file)
-Asks name rows (Import file) = (name ≡ codes "import") × HasText (codes "file") rows (string_bytes file)
+Asks name rows (Import file hal) = (name ≡ codes "import")
+    × HasText (codes "file") rows (string_bytes file)
+    × HasOption (codes "hal") rows (option_map string_bytes hal)
 
 -- the subcommand's name and values ask for no request
 abbrev pub AsksNone : Text → List Row → Type 0

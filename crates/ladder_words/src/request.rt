@@ -260,6 +260,8 @@ pub enum Request {
     Import {
         /// The file of the project.
         file: String,
+        /// The HAL file after whose signals inputs and outputs are named.
+        hal: Option<String>,
     },
 }
 

@@ -170,8 +170,9 @@ fn import_request(alloc: Global, found: &ArgMatches<'_>) -> Result<Request, Word
     ensures ok { IfOk result (Asks (codes "import") (rows_of (found_of found.now))) }
     ensures err { IfErr result (UsageWhere (AsksNone (codes "import") (rows_of (found_of found.now)))) }
 {
+    let hal = optional(alloc, found, "hal")?;
     let file = text(alloc, found, "file")?;
-    Ok(Request::Import { file })
+    Ok(Request::Import { file, hal })
 }
 
 /// What the flags ask to be shut out for ever.
