@@ -46,6 +46,7 @@ fn readers(texts: [Text; 3]) -> Readers<Reading<Hashes>> {
         program: hashes(program),
         state: Some(hashes(state)),
         stimulus: Some(hashes(stimulus)),
+        hal: None,
     }
 }
 

@@ -181,6 +181,7 @@ fn texts(alloc: Global, asked: Asked) -> Result<Texts, AllocError> {
         program: Vec::from_slice(alloc, MOTOR)?,
         state,
         stimulus,
+        hal: None,
         why: false,
     })
 }

@@ -20,6 +20,7 @@ pub enum TextKind {
     Program,
     State,
     Stimulus,
+    Hal,
 }
 
 /// What stops a request.
@@ -159,6 +160,7 @@ fn kind_word(kind: TextKind) -> &'static [u8]
         TextKind::Program => b"program",
         TextKind::State => b"state",
         TextKind::Stimulus => b"stimulus",
+        TextKind::Hal => b"hal",
     }
 }
 

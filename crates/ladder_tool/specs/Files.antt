@@ -11,14 +11,15 @@ use Rattle.ladder_setting.specs.declared.fault.ToolFault.TheVariants as fault
 use Rattle.ladder_tool.specs.declared.files.TheConstants.{TEXT_LIMIT, STIMULUS_LIMIT}
 use Rattle.ladder_setting.specs.Setting.{Given}
 
--- the readers of a program, and of a state and a stimulus where the request names them
+-- the readers of a program, and of a state, a stimulus and a HAL file where the request names them
 pub record Files : Type 0 where
   pub program : ReadLog
   pub state : Option ReadLog
   pub stimulus : Option ReadLog
+  pub hal : Option ReadLog
 
-abbrev pub files : ReadLog → Option ReadLog → Option ReadLog → Files
-files program state stimulus = record { program = program; state = state; stimulus = stimulus }
+abbrev pub files : ReadLog → Option ReadLog → Option ReadLog → Option ReadLog → Files
+files program state stimulus hal = record { program = program; state = state; stimulus = stimulus; hal = hal }
 
 -- the largest text of a kind, in bytes
 abbrev pub largest : TextKind → ℕ
@@ -44,17 +45,23 @@ abbrev pub AreUnread : TextKind → Option ReadLog → Option ReadLog → ReadFa
 AreUnread k (Some old) (Some new) f = IsUnread k old new f
 AreUnread k old new f = ⊥
 
--- All texts were read.
+-- All texts were read, that of a HAL file too.
 abbrev pub AreRead : Files → Given → Type 0
 AreRead files g = IsWhole kind.Program files.program g.program × AreWhole kind.State files.state g.state × AreWhole kind.Stimulus files.stimulus g.stimulus
+    × ((hal : Option (List ℕ)) × AreWhole kind.Hal files.hal hal)
 
--- The program is read first, then the state, then the stimulus, up to the first that can't be read: no call was made of those after it.
+-- The program is read first, then the state, the stimulus and the HAL file, up to the first that can't be read: no call was made of those
+-- after it.
 abbrev pub StopsAt : Files → Files → ToolFault → Type 0
 StopsAt old new (fault.Read kind.Program f) =
-    IsUnread kind.Program old.program new.program f × (new.state ≡ old.state) × (new.stimulus ≡ old.stimulus)
+    IsUnread kind.Program old.program new.program f × (new.state ≡ old.state) × (new.stimulus ≡ old.stimulus) × (new.hal ≡ old.hal)
 StopsAt old new (fault.Read kind.State f) =
     (text : List ℕ) × IsWhole kind.Program old.program text × AreUnread kind.State old.state new.state f × (new.stimulus ≡ old.stimulus)
+    × (new.hal ≡ old.hal)
 StopsAt old new (fault.Read kind.Stimulus f) =
     (text : List ℕ) × (state : Option (List ℕ)) × IsWhole kind.Program old.program text × AreWhole kind.State old.state state
-    × AreUnread kind.Stimulus old.stimulus new.stimulus f
+    × AreUnread kind.Stimulus old.stimulus new.stimulus f × (new.hal ≡ old.hal)
+StopsAt old new (fault.Read kind.Hal f) =
+    (text : List ℕ) × (state : Option (List ℕ)) × (stimulus : Option (List ℕ)) × IsWhole kind.Program old.program text
+    × AreWhole kind.State old.state state × AreWhole kind.Stimulus old.stimulus stimulus × AreUnread kind.Hal old.hal new.hal f
 StopsAt old new other = ⊥

@@ -13,18 +13,19 @@ use ladder_text::{Sink, Source, read_text};
 use ladder_words::CommandLine;
 use std::alloc::Global;
 
-/// The largest program or state text, in bytes.
+/// The largest text of a program, a state or a HAL file, in bytes.
 pub(crate) const TEXT_LIMIT: usize = 1_048_576;
 
 /// The largest stimulus, in bytes.
 pub(crate) const STIMULUS_LIMIT: usize = 16_777_216;
 
-/// The readers of a request's files: of the program, and of the state and the stimulus where the request names them.
+/// The readers of a request's files: of the program, and of the state, the stimulus and a HAL file where the request names them.
 #[derive(Drop)]
 pub struct Readers<R: Source> {
     pub program: R,
     pub state: Option<R>,
     pub stimulus: Option<R>,
+    pub hal: Option<R>,
 }
 
 /// The largest text of a kind, in bytes.
@@ -32,7 +33,7 @@ fn limit(kind: TextKind) -> usize
     ensures { result ≡ largest kind }
 {
     match kind {
-        TextKind::Program | TextKind::State => TEXT_LIMIT,
+        TextKind::Program | TextKind::State | TextKind::Hal => TEXT_LIMIT,
         TextKind::Stimulus => STIMULUS_LIMIT,
     }
 }
@@ -66,23 +67,26 @@ fn read_named<R: Source>(
     }
 }
 
-/// Reads the texts of a request, up to the first that can't be read: the program, then the state, then the stimulus.
+/// Reads the texts of a request, up to the first that can't be read: the program, then the state, the stimulus and the HAL
+/// file.
 pub(crate) fn read_texts<R: Source>(
     alloc: Global,
     why: bool,
     readers: &mut Readers<R>,
 ) -> Result<Texts, ToolFault>
     ensures why { IfOk result (λ texts. texts.why ≡ why) }
-    ensures read { IfOk result (λ texts. AreRead (files (R.log readers.old.program) (option_map R.log readers.old.state) (option_map R.log readers.old.stimulus)) (given_by texts)) }
-    ensures fault { IfErr result (StopsAt (files (R.log readers.old.program) (option_map R.log readers.old.state) (option_map R.log readers.old.stimulus)) (files (R.log readers.new.program) (option_map R.log readers.new.state) (option_map R.log readers.new.stimulus))) }
+    ensures read { IfOk result (λ texts. AreRead (files (R.log readers.old.program) (option_map R.log readers.old.state) (option_map R.log readers.old.stimulus) (option_map R.log readers.old.hal)) (given_by texts)) }
+    ensures fault { IfErr result (StopsAt (files (R.log readers.old.program) (option_map R.log readers.old.state) (option_map R.log readers.old.stimulus) (option_map R.log readers.old.hal)) (files (R.log readers.new.program) (option_map R.log readers.new.state) (option_map R.log readers.new.stimulus) (option_map R.log readers.new.hal))) }
 {
     let program = read_one(alloc, TextKind::Program, &mut readers.program)?;
     let state = read_named(alloc, TextKind::State, &mut readers.state)?;
     let stimulus = read_named(alloc, TextKind::Stimulus, &mut readers.stimulus)?;
+    let hal = read_named(alloc, TextKind::Hal, &mut readers.hal)?;
     Ok(Texts {
         program,
         state,
         stimulus,
+        hal,
         why,
     })
 }
@@ -99,11 +103,11 @@ pub fn perform_files<R: Source, O: Sink, S: Sink, E: Sink>(
 ) -> u8
     ensures status { result ≤ 1 }
     ensures done { result ≡ 0 → (g : Given) × (g.why ≡ line.now.why)
-        × AreRead (files (R.log readers.old.program) (option_map R.log readers.old.state) (option_map R.log readers.old.stimulus)) g
+        × AreRead (files (R.log readers.old.program) (option_map R.log readers.old.state) (option_map R.log readers.old.stimulus) (option_map R.log readers.old.hal)) g
         × IsDone line.now.request g (logs (O.log out.old) (S.log save.old) (E.log err.old)) (logs (O.log out.new) (S.log save.new) (E.log err.new)) }
-    ensures failed { result ≡ 1 → Refuses (unread line.now.why) (StopsAt (files (R.log readers.old.program) (option_map R.log readers.old.state) (option_map R.log readers.old.stimulus)) (files (R.log readers.new.program) (option_map R.log readers.new.state) (option_map R.log readers.new.stimulus)))
+    ensures failed { result ≡ 1 → Refuses (unread line.now.why) (StopsAt (files (R.log readers.old.program) (option_map R.log readers.old.state) (option_map R.log readers.old.stimulus) (option_map R.log readers.old.hal)) (files (R.log readers.new.program) (option_map R.log readers.new.state) (option_map R.log readers.new.stimulus) (option_map R.log readers.new.hal)))
         (logs (O.log out.old) (S.log save.old) (E.log err.old)) (logs (O.log out.new) (S.log save.new) (E.log err.new))
-        ⊎ ((g : Given) × (g.why ≡ line.now.why) × AreRead (files (R.log readers.old.program) (option_map R.log readers.old.state) (option_map R.log readers.old.stimulus)) g
+        ⊎ ((g : Given) × (g.why ≡ line.now.why) × AreRead (files (R.log readers.old.program) (option_map R.log readers.old.state) (option_map R.log readers.old.stimulus) (option_map R.log readers.old.hal)) g
         × IsFailed line.now.request g (logs (O.log out.old) (S.log save.old) (E.log err.old)) (logs (O.log out.new) (S.log save.new) (E.log err.new))) }
 {
     match read_texts(alloc, line.why, readers) {

@@ -64,12 +64,13 @@ pub(crate) fn readers_of<'a>(
             program: reading(rt, file.as_str()),
             state: None,
             stimulus: None,
+            hal: None,
         },
-        // A HAL file is read where a state is.
         Request::Import { file, hal } => Readers {
             program: reading(rt, file.as_str()),
-            state: reading_named(rt, hal),
+            state: None,
             stimulus: None,
+            hal: reading_named(rt, hal),
         },
         Request::Causes { list, .. }
         | Request::Progress { list, .. }
@@ -79,31 +80,37 @@ pub(crate) fn readers_of<'a>(
             program: reading(rt, list.file.as_str()),
             state: reading_named(rt, &list.state),
             stimulus: None,
+            hal: None,
         },
         Request::Possible(possible) => Readers {
             program: reading(rt, possible.file.as_str()),
             state: None,
             stimulus: None,
+            hal: None,
         },
         Request::Never(never) => Readers {
             program: reading(rt, never.file.as_str()),
             state: reading_named(rt, &never.state),
             stimulus: None,
+            hal: None,
         },
         Request::Show(show) => Readers {
             program: reading(rt, show.file.as_str()),
             state: reading_named(rt, &show.state),
             stimulus: None,
+            hal: None,
         },
         Request::Film(film) => Readers {
             program: reading(rt, film.file.as_str()),
             state: reading_named(rt, &film.state),
             stimulus: Some(reading(rt, film.stimulus.as_str())),
+            hal: None,
         },
         Request::Waves(waves) => Readers {
             program: reading(rt, waves.file.as_str()),
             state: reading_named(rt, &waves.state),
             stimulus: Some(reading(rt, waves.stimulus.as_str())),
+            hal: None,
         },
         Request::Sim(sim) => trace_readers(rt, sim),
         Request::Watch(watched) => trace_readers(rt, &watched.sim),
@@ -116,5 +123,6 @@ fn trace_readers<'a>(rt: &'a HostRuntime, sim: &'a SimRequest) -> Readers<Readin
         program: reading(rt, sim.file.as_str()),
         state: reading_named(rt, &sim.state),
         stimulus: Some(reading(rt, sim.stimulus.as_str())),
+        hal: None,
     }
 }

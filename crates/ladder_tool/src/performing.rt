@@ -1,6 +1,6 @@
 //! What is done for a request.
 
-ghost use Rattle.std.specs.Prelude.{◌≡◌, ◌≤◌};
+ghost use Rattle.std.specs.Prelude.{◌≡◌, ◌≤◌, [], option_map, unwrap_or, vec_items};
 ghost use Rattle.ladder_setting.specs.Reports.{logs};
 ghost use Rattle.ladder_tool.specs.Performs.{IsDone, IsFailed};
 ghost use Rattle.ladder_setting.specs.Setting.{given_by};
@@ -17,9 +17,11 @@ use ladder_views::{About, film, print, show, trace, watch, wave};
 use ladder_words::Request;
 use std::alloc::Global;
 
-/// The text of the HAL file of an import, which is read where a state is; empty where there is none.
-fn hal_of(texts: &Texts) -> &[u8] {
-    match &texts.state {
+/// The text of the HAL file; empty where there is none.
+fn hal_of(texts: &Texts) -> &[u8]
+    ensures { result.now ≡ unwrap_or (option_map vec_items texts.now.hal) [] }
+{
+    match &texts.hal {
         Some(text) => text.as_slice(),
         None => &[],
     }
