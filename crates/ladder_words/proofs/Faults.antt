@@ -222,7 +222,7 @@ no_import rows none (Watch r) h = let other : 105 ≡ 115 = name_differs h.0 in 
 no_import rows none (Waves r) h = let other : 105 ≡ 115 = name_differs h.0 in absurd (omega (arith, other))
 no_import rows none (Uses file) h = let other : 105 ≡ 117 = name_differs h.0 in absurd (omega (arith, other))
 no_import rows none (Never r) h = let other : 105 ≡ 110 = name_differs h.0 in absurd (omega (arith, other))
-no_import rows none (Import file hal) h = let some = h.1.0 in cc
+no_import rows none (Import file hal) h = let some = h.1 in cc
 
 pub only_never : (rows : List Row)
     → ((r : NeverRequest) → Asks (codes "never") rows (Never r) → ⊥)
