@@ -6,5 +6,5 @@ use Rattle.ladder_words.proofs.words.import_request.Goals as goal
 pub returns-in_err-file-clause-err : goal.returns-in_err-file-clause-err
 returns-in_err-file-clause-err c =
     let none = no_import (rows_of (found_of c.args.found.now)) in
-    let fault = err_from_is_err_and c.from_residual.result c.from_residual.ensures.1 in
+    let fault = err_from_is_err_and c.from_residual-in_err-file.result c.from_residual-in_err-file.ensures.1 in
     rw (fault.1, fault.2) (usage_weaker _ none c.in_err-file.ensures.err)
