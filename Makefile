@@ -33,7 +33,7 @@ test:
 	python3 tests/importing.py $(PROGRAM) 200
 	python3 tests/stress.py $(PROGRAM) --sample 1000
 
-# Some 66,000 broken texts and requests in less and less memory, each answered as it must be; and bodies that the prover can't refuse.
+# Some 84,000 broken texts and requests in less and less memory, each answered as it must be; and bodies that the prover can't refuse.
 stress: bin/ladder
 	python3 tests/stress.py bin/ladder
 	python3 tests/wrong_bodies.py bin/ladder
