@@ -2,7 +2,7 @@
 
 use crate::files::Readers;
 use ladder_text::Reading;
-use ladder_words::{Request, SimRequest};
+use ladder_words::Request;
 use std::fs::File;
 use std::io::Read;
 use std::{fs, io};
@@ -54,75 +54,90 @@ fn reading_named<'a>(
     }
 }
 
+/// The reader of a program text alone.
+fn alone<'a>(rt: &'a HostRuntime, program: &'a str) -> Readers<Reading<NamedFile<'a>>> {
+    Readers {
+        program: reading(rt, program),
+        state: None,
+        stimulus: None,
+        hal: None,
+    }
+}
+
+/// The readers of a program text, and of a state where one is named.
+fn from_state<'a>(
+    rt: &'a HostRuntime,
+    program: &'a str,
+    state: &'a Option<String>,
+) -> Readers<Reading<NamedFile<'a>>> {
+    Readers {
+        program: reading(rt, program),
+        state: reading_named(rt, state),
+        stimulus: None,
+        hal: None,
+    }
+}
+
+/// The readers of what is simulated: a program text, a state where one is named, and a stimulus.
+fn simulated<'a>(
+    rt: &'a HostRuntime,
+    program: &'a str,
+    state: &'a Option<String>,
+    stimulus: &'a str,
+) -> Readers<Reading<NamedFile<'a>>> {
+    Readers {
+        program: reading(rt, program),
+        state: reading_named(rt, state),
+        stimulus: Some(reading(rt, stimulus)),
+        hal: None,
+    }
+}
+
+/// The readers of a project, and of a HAL file where one is named.
+fn imported<'a>(
+    rt: &'a HostRuntime,
+    project: &'a str,
+    hal: &'a Option<String>,
+) -> Readers<Reading<NamedFile<'a>>> {
+    Readers {
+        program: reading(rt, project),
+        state: None,
+        stimulus: None,
+        hal: reading_named(rt, hal),
+    }
+}
+
 /// The readers of the files that a request names, none of which was opened yet.
 pub(crate) fn readers_of<'a>(
     rt: &'a HostRuntime,
     request: &'a Request,
 ) -> Readers<Reading<NamedFile<'a>>> {
     match request {
-        Request::Check { file, .. } | Request::Uses { file } => Readers {
-            program: reading(rt, file.as_str()),
-            state: None,
-            stimulus: None,
-            hal: None,
-        },
-        Request::Import { file, hal } => Readers {
-            program: reading(rt, file.as_str()),
-            state: None,
-            stimulus: None,
-            hal: reading_named(rt, hal),
-        },
+        Request::Check { file, .. } | Request::Uses { file } => alone(rt, file.as_str()),
+        Request::Import { file, hal } => imported(rt, file.as_str(), hal),
         Request::Causes { list, .. }
         | Request::Progress { list, .. }
         | Request::Held { list, .. }
         | Request::Groups { list, .. }
-        | Request::Relevant { list, .. } => Readers {
-            program: reading(rt, list.file.as_str()),
-            state: reading_named(rt, &list.state),
-            stimulus: None,
-            hal: None,
-        },
-        Request::Possible(possible) => Readers {
-            program: reading(rt, possible.file.as_str()),
-            state: None,
-            stimulus: None,
-            hal: None,
-        },
-        Request::Never(never) => Readers {
-            program: reading(rt, never.file.as_str()),
-            state: reading_named(rt, &never.state),
-            stimulus: None,
-            hal: None,
-        },
-        Request::Show(show) => Readers {
-            program: reading(rt, show.file.as_str()),
-            state: reading_named(rt, &show.state),
-            stimulus: None,
-            hal: None,
-        },
-        Request::Film(film) => Readers {
-            program: reading(rt, film.file.as_str()),
-            state: reading_named(rt, &film.state),
-            stimulus: Some(reading(rt, film.stimulus.as_str())),
-            hal: None,
-        },
-        Request::Waves(waves) => Readers {
-            program: reading(rt, waves.file.as_str()),
-            state: reading_named(rt, &waves.state),
-            stimulus: Some(reading(rt, waves.stimulus.as_str())),
-            hal: None,
-        },
-        Request::Sim(sim) => trace_readers(rt, sim),
-        Request::Watch(watched) => trace_readers(rt, &watched.sim),
-    }
-}
-
-/// The readers of the files that a trace is made from.
-fn trace_readers<'a>(rt: &'a HostRuntime, sim: &'a SimRequest) -> Readers<Reading<NamedFile<'a>>> {
-    Readers {
-        program: reading(rt, sim.file.as_str()),
-        state: reading_named(rt, &sim.state),
-        stimulus: Some(reading(rt, sim.stimulus.as_str())),
-        hal: None,
+        | Request::Relevant { list, .. } => from_state(rt, list.file.as_str(), &list.state),
+        Request::Possible(possible) => alone(rt, possible.file.as_str()),
+        Request::Never(never) => from_state(rt, never.file.as_str(), &never.state),
+        Request::Show(show) => from_state(rt, show.file.as_str(), &show.state),
+        Request::Film(film) => {
+            simulated(rt, film.file.as_str(), &film.state, film.stimulus.as_str())
+        }
+        Request::Waves(waves) => {
+            simulated(
+                rt,
+                waves.file.as_str(),
+                &waves.state,
+                waves.stimulus.as_str(),
+            )
+        }
+        Request::Sim(sim) => simulated(rt, sim.file.as_str(), &sim.state, sim.stimulus.as_str()),
+        Request::Watch(watched) => {
+            let sim = &watched.sim;
+            simulated(rt, sim.file.as_str(), &sim.state, sim.stimulus.as_str())
+        }
     }
 }
