@@ -14,8 +14,8 @@ use Rattle.ladder_vars.specs.Name.{same_letters}
 use Rattle.ladder_vars.specs.Kind.{traits_of, parameter_word}
 use Rattle.ladder_vars.specs.Grammar.{Is, AreOf, IsAddress, IsBody, bit_word, preset_form}
 use Rattle.ladder_vars.specs.ReadWords.{IsValue, block_of}
-use Rattle.ladder_vars.proofs.PartLaws.{same_bytes}
-use Rattle.ladder_vars.proofs.Steps.{chosen}
+use Rattle.ladder_times.proofs.PartLaws.{same_bytes}
+use Rattle.ladder_times.proofs.Steps.{chosen}
 
 -- `AT` and an address, or nothing, which makes a memory variable
 abbrev pub IsPlace : List (List ℕ) → VarKind → Option Address → Type 0

@@ -18,7 +18,7 @@ use Rattle.ladder_vars.specs.Kind.{traits_of}
 use Rattle.ladder_vars.specs.Grammar.{Decl, IsHead, declared_by}
 use Rattle.ladder_vars.specs.ReadDecls.{name_of, is_declared, is_taken, refusal, with_decl, refused, added}
 use Rattle.ladder_vars.specs.Rules.{DeclDue, Breaks}
-use Rattle.ladder_vars.proofs.Steps.{chosen}
+use Rattle.ladder_times.proofs.Steps.{chosen}
 use Rattle.ladder_vars.proofs.Lists.{list_any-map}
 use Rattle.ladder_vars.proofs.Keeping.{used-addresses, AreFew}
 use Rattle.ladder_vars.proofs.DeclTakes.{ReadsTo}

@@ -11,7 +11,8 @@ use Rattle.ladder_vars.specs.Text.{AreTokens}
 use Rattle.ladder_vars.specs.Grammar.{Is, Decl, IsBody, AreDecls, declared_var, declared_instance, declared_by, IsBlock, HasDecls}
 use Rattle.ladder_vars.specs.ReadText.{token_at}
 use Rattle.ladder_vars.specs.ReadDecls.{expect, name_of, refusal, with_decl, refused, added, body_at, nothing, decls_from, all_of}
-use Rattle.ladder_vars.proofs.Steps.{bind_ok, chosen}
+use Rattle.ladder_times.proofs.Steps.{chosen}
+use Rattle.ladder_vars.proofs.Steps.{bind_ok}
 use Rattle.ladder_vars.proofs.TextTakes.{token_takes, AreTokens-append}
 use Rattle.ladder_vars.proofs.GrammarTakes.{halves, expect_takes, TakesBody, body_takes}
 

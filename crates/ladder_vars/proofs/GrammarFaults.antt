@@ -10,7 +10,8 @@ use Rattle.ladder_vars.specs.Grammar.{bit_word}
 use Rattle.ladder_vars.specs.ReadText.{token_at}
 use Rattle.ladder_vars.specs.ReadWords.{address_of}
 use Rattle.ladder_vars.specs.ReadDecls.{at, some_or, given_bit, initial_at, bool_at, placed}
-use Rattle.ladder_vars.proofs.Steps.{bind_err, chosen}
+use Rattle.ladder_times.proofs.Steps.{chosen}
+use Rattle.ladder_vars.proofs.Steps.{bind_err}
 use Rattle.ladder_vars.proofs.TextTakes.{token_takes}
 use Rattle.ladder_vars.proofs.GrammarTakes.{some_or-ok}
 use Rattle.ladder_vars.proofs.States.{NeedName, AfterAt, AfterAddress, NeedBool, AfterBool, NeedBit, NeedSemicolon}

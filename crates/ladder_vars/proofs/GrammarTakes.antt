@@ -16,7 +16,8 @@ use Rattle.ladder_vars.specs.ReadText.{token_at}
 use Rattle.ladder_vars.specs.ReadWords.{address_of, value_of, block_of}
 use Rattle.ladder_vars.specs.ReadDecls.{some_or, expect, given_bit, initial_at, preset_word, given_preset, given_to, preset_at, bool_at, placed, block_at, typed, body_at}
 use Rattle.ladder_vars.proofs.Bodies.{IsPlace, IsInitial, HasPreset, IsPreset, IsVarBody, IsInstanceBody, is_body}
-use Rattle.ladder_vars.proofs.Steps.{bind_ok, chosen}
+use Rattle.ladder_times.proofs.Steps.{chosen}
+use Rattle.ladder_vars.proofs.Steps.{bind_ok}
 use Rattle.ladder_vars.proofs.TextTakes.{token_takes, AreTokens-append}
 use Rattle.ladder_vars.proofs.WordLaws.{address_takes, value_takes}
 

@@ -17,7 +17,8 @@ use Rattle.ladder_vars.specs.Name.{same_letters}
 use Rattle.ladder_vars.specs.Decls.{Declared, AreKept, AreInRange, names_of, addresses_of, same_address}
 use Rattle.ladder_vars.specs.Kind.{traits_of, largest_preset}
 use Rattle.ladder_vars.specs.ReadDecls.{nothing, is_there, is_declared, is_taken, refusal, with_var, with_instance, with_decl, PresetFits}
-use Rattle.ladder_vars.proofs.Steps.{chosen, or_false}
+use Rattle.ladder_times.proofs.Steps.{chosen}
+use Rattle.ladder_vars.proofs.Steps.{or_false}
 use Rattle.ladder_vars.proofs.Lists.{list_any-map, IsDistinct-put_between}
 
 pub AreInRange-nothing : AreInRange nothing

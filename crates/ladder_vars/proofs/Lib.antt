@@ -3,7 +3,6 @@ mod TextReads
 mod TextTakes
 mod TextFaults
 pub mod Numbers
-mod Durations
 mod Keeping
 mod Leading
 mod Lists
@@ -21,7 +20,3 @@ mod States
 mod Meeting
 mod DeclFaults
 mod LoopFaults
-mod Runs
-mod PartLaws
-mod DurationLaws
-mod TimeLaws

@@ -12,7 +12,8 @@ use Rattle.ladder_vars.specs.ReadText.{token_at}
 use Rattle.ladder_vars.specs.ReadDecls.{expect, name_of, with_decl, added, body_at, nothing, decls_from, all_of}
 use Rattle.ladder_vars.specs.Rules.{DeclDue, Breaks, BreaksOn, line_of}
 use Rattle.ladder_vars.proofs.Keeping.{AreFew, AreFew-decl}
-use Rattle.ladder_vars.proofs.Steps.{bind_err, chosen}
+use Rattle.ladder_times.proofs.Steps.{chosen}
+use Rattle.ladder_vars.proofs.Steps.{bind_err}
 use Rattle.ladder_vars.proofs.TextReads.{first_token}
 use Rattle.ladder_vars.proofs.TextTakes.{token_takes, AreTokens-append}
 use Rattle.ladder_vars.proofs.GrammarTakes.{expect_takes, TakesBody, body_takes}

@@ -7,9 +7,10 @@ use Rattle.ladder_vars.specs.Name.{same_letters}
 use Rattle.ladder_vars.specs.Text.{AreTokens}
 use Rattle.ladder_vars.specs.Rules.{TokenDue, IsForName, IsForValue, Breaks}
 use Rattle.ladder_vars.specs.ReadText.{◌>>=◌, token_at}
-use Rattle.ladder_vars.specs.ReadWords as word
+use Rattle.ladder_times.specs.ReadTimes as word
 use Rattle.ladder_vars.specs.ReadDecls.{at, expect}
-use Rattle.ladder_vars.proofs.Steps.{bind_err, chosen}
+use Rattle.ladder_times.proofs.Steps.{chosen}
+use Rattle.ladder_vars.proofs.Steps.{bind_err}
 use Rattle.ladder_vars.proofs.TextTakes.{token_takes, AreTokens-append}
 use Rattle.ladder_vars.proofs.TextFaults.{HasNoToken, no_token-found}
 use Rattle.ladder_vars.proofs.GrammarTakes.{expect_takes}

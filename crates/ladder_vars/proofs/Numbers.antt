@@ -1,22 +1,10 @@
--- A number that is kept at most at a limit while it is read.
-use Rattle.std.proofs.Common.{◌≡◌, ℕ, ◌+◌, ◌-◌, ◌*◌, ◌≤◌, min, zero, suc, true, nat_le, List, [], ◌∷◌, length, replicate, arith, inl, inr, ap}
-use Rattle.std.proofs.lemmas.Bool.{cases_lt}
+-- How large a number of few digits is.
+use Rattle.std.proofs.Common.{◌≡◌, ℕ, ◌+◌, ◌-◌, ◌*◌, ◌≤◌, zero, suc, true, nat_le, List, [], ◌∷◌, length, replicate, arith}
 use Rattle.std.proofs.lemmas.Bool.{leb-true, and_parts}
 use Rattle.std.specs.List.{list_all}
 use Rattle.std.specs.Char.{is_ascii_digit}
-use Rattle.ladder_vars.specs.Duration.{number_of}
-use Rattle.ladder_vars.specs.ReadWords.{value_from}
-
-grows : (n : ℕ) (bs : List ℕ) → n ≤ value_from n bs
-grows n [] = omega arith
-grows n (b ∷ bs) = omega (arith, grows (n * 10 + (b - 48)) bs)
-
-pub clamped : (m cap : ℕ) (bs : List ℕ) → min (value_from (min m cap) bs) cap ≡ min (value_from m bs) cap
-clamped m cap bs =
-    elim (cases_lt m cap) [
-      | inl below ↦ let same : min m cap ≡ m = omega arith in ap (λ k. min (value_from k bs) cap) same
-      | inr above ↦ omega (arith, grows m bs, grows (min m cap) bs)
-    ]
+use Rattle.ladder_times.specs.Duration.{number_of}
+use Rattle.ladder_times.specs.ReadTimes.{value_from}
 
 digit-le : (b : ℕ) → is_ascii_digit b ≡ true → b ≤ 57
 digit-le b h = leb-true b 57 (and_parts (nat_le 48 b) (nat_le b 57) h).1

@@ -12,7 +12,8 @@ use Rattle.ladder_vars.specs.Kind.{traits_of, parameter_word}
 use Rattle.ladder_vars.specs.ReadText.{token_at}
 use Rattle.ladder_vars.specs.ReadWords.{block_of, value_of}
 use Rattle.ladder_vars.specs.ReadDecls.{at, some_or, preset_fault, expect, preset_word, given_preset, given_to, preset_at, block_at, typed, body_at}
-use Rattle.ladder_vars.proofs.Steps.{bind_err, chosen}
+use Rattle.ladder_times.proofs.Steps.{chosen}
+use Rattle.ladder_vars.proofs.Steps.{bind_err}
 use Rattle.ladder_vars.proofs.TextTakes.{token_takes, AreTokens-append}
 use Rattle.ladder_vars.proofs.GrammarReads.{alike}
 use Rattle.ladder_vars.proofs.GrammarTakes.{some_or-ok, expect_takes, preset_word_takes}

@@ -16,11 +16,12 @@ use Rattle.ladder_vars.specs.declared.decls.Body.TheVariants as body
 use Rattle.ladder_vars.specs.Name.{same_letters, is_name, has_name_form}
 use Rattle.ladder_vars.specs.Kind.{traits_of, parameter_word}
 use Rattle.ladder_vars.specs.Grammar.{Is, IsAddress, Decl, AreDecls, IsHead, IsBlock, CanFollow, bit_word}
-use Rattle.ladder_vars.specs.ReadWords.{IsValue, ◌>>=◌, numbers_of, address_of, part_at, total_from, total_of, time_of, value_of, block_of}
+use Rattle.ladder_times.specs.ReadTimes.{◌>>=◌, part_at, total_from, total_of, time_of}
+use Rattle.ladder_vars.specs.ReadWords.{IsValue, numbers_of, address_of, value_of, block_of}
 use Rattle.ladder_vars.specs.ReadDecls.{preset_fault}
 use Rattle.ladder_vars.proofs.Bodies.{IsInitial, IsPreset, IsVarBody, HasBody, has_body, is_body}
-use Rattle.ladder_vars.proofs.Steps.{chosen}
-use Rattle.ladder_vars.proofs.PartLaws.{same_bytes}
+use Rattle.ladder_times.proofs.Steps.{chosen}
+use Rattle.ladder_times.proofs.PartLaws.{same_bytes}
 use Rattle.ladder_vars.proofs.DeclReads.{no_keyword}
 use Rattle.ladder_vars.proofs.GrammarReads.{alike, block_of-other}
 use Rattle.ladder_vars.proofs.WordLaws.{address_takes, address_reads, value_takes, value_reads}

@@ -8,7 +8,8 @@ use Rattle.ladder_vars.specs.declared.text.Within.TheVariants as state
 use Rattle.ladder_vars.specs.Text.{begins_with, is_blank, is_printed, begins_comment, token_len, closes, Gap, IsUnfinished, IsBadByte, IsStray}
 use Rattle.ladder_vars.specs.ReadText.{skip_from, unfinished, no_token, token_at}
 use Rattle.ladder_vars.proofs.TextReads.{begins_with-append}
-use Rattle.ladder_vars.proofs.Steps.{bind_err, chosen}
+use Rattle.ladder_times.proofs.Steps.{chosen}
+use Rattle.ladder_vars.proofs.Steps.{bind_err}
 use Rattle.ladder_vars.proofs.TextTakes.{GapFrom, EndsComment, EndsLine, begins_cons, head_same, skipped, gap_blank, gap_none, gap_block, gap_line}
 
 pub fault_is : (s : Within) (text : List ℕ) (f : Fault) → skip_from s text ≡ Err f → f ≡ unfinished

@@ -9,7 +9,8 @@ use Rattle.ladder_vars.specs.declared.text.Within.{Within}
 use Rattle.ladder_vars.specs.declared.text.Within.TheVariants as state
 use Rattle.ladder_vars.specs.Text.{begins_with, is_blank, is_word_byte, token_len, closes, Gap, Nothing, Blank, Comment, LineComment, AreTokens}
 use Rattle.ladder_vars.specs.ReadText.{skip_from, token_at}
-use Rattle.ladder_vars.proofs.Steps.{bind_ok, chosen}
+use Rattle.ladder_times.proofs.Steps.{chosen}
+use Rattle.ladder_vars.proofs.Steps.{bind_ok}
 use Rattle.ladder_vars.proofs.TextReads.{begins_with-append}
 
 pub begins_cons : (byte : ℕ) (text : List ℕ) → begins_with byte text ≡ true → (rest : List ℕ) × (text ≡ byte ∷ rest)

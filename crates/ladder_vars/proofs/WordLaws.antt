@@ -12,13 +12,12 @@ use Rattle.ladder_vars.specs.declared.kind.Parameter.{Parameter}
 use Rattle.ladder_vars.specs.declared.kind.Parameter.TheVariants as parameter
 use Rattle.ladder_vars.specs.declared.decls.Address.{Address}
 use Rattle.ladder_vars.specs.Text.{begins}
-use Rattle.ladder_vars.specs.Duration.{IsNumber, number_of}
-use Rattle.ladder_vars.specs.Grammar.{Is, IsSecond, IsAddress}
-use Rattle.ladder_vars.specs.ReadWords.{kind_of}
-use Rattle.ladder_vars.specs.ReadWords.{IsValue, short_number, count_of, after_size, second_of, numbers_of, placed_at, address_of, value_of}
-use Rattle.ladder_vars.proofs.Steps.{chosen}
-use Rattle.ladder_vars.proofs.Runs.{bind_some, prefix_len-run}
-use Rattle.ladder_vars.proofs.TimeLaws.{time_reads, time_takes}
+use Rattle.ladder_times.specs.Duration.{number_of}
+use Rattle.ladder_vars.specs.Grammar.{Is, IsNumber, IsSecond, IsAddress}
+use Rattle.ladder_vars.specs.ReadWords.{kind_of, IsValue, short_number, count_of, after_size, second_of, numbers_of, placed_at, address_of, value_of}
+use Rattle.ladder_times.proofs.Steps.{bind_some, chosen}
+use Rattle.ladder_times.proofs.Runs.{prefix_len-run}
+use Rattle.ladder_times.proofs.TimeLaws.{time_reads, time_takes}
 
 -- ---- numbers
 

@@ -1,10 +1,10 @@
 -- The block VAR .. END_VAR of a text, as a grammar over the spellings of its tokens (IEC 61131-3, declaration of variables).
 -- Each declaration has one name, a place AT %I, AT %Q or AT %M, or none, and an initial value or a preset, or none.
-use Rattle.std.specs.Prelude.{◌≡◌, ℕ, ◌≤◌, ◌⊎◌, ◌==◌, Bool, true, false, List, [], ◌∷◌, ◌++◌, codes, Option, Some, None}
-use Rattle.std.specs.List.{filter_map}
+use Rattle.std.specs.Prelude.{◌≡◌, ℕ, ◌≤◌, ◌⊎◌, ◌==◌, Bool, true, false, List, [], ◌∷◌, ◌++◌, length, codes, Option, Some, None}
+use Rattle.std.specs.List.{filter_map, list_all}
 use Rattle.std.specs.Map.{lookup}
-use Rattle.std.specs.Char.{to_ascii_uppercase}
-use Rattle.ladder_vars.specs.declared.limits.TheConstants.{LARGEST_COUNT}
+use Rattle.std.specs.Char.{is_ascii_digit, to_ascii_uppercase}
+use Rattle.ladder_vars.specs.declared.limits.TheConstants.{MOST_DIGITS, LARGEST_COUNT}
 use Rattle.ladder_vars.specs.declared.decls.VarKind.{VarKind}
 use Rattle.ladder_vars.specs.declared.decls.VarKind.TheVariants as var_kind
 use Rattle.ladder_vars.specs.declared.kind.Parameter.{Parameter}
@@ -18,7 +18,7 @@ use Rattle.ladder_vars.specs.Name.{same_letters, is_name}
 use Rattle.ladder_vars.specs.Kind.{traits_of}
 use Rattle.ladder_vars.specs.Decls.{Declared, AreKept}
 use Rattle.ladder_vars.specs.Text.{AreTokens}
-use Rattle.ladder_vars.specs.Duration.{IsNumber, IsDuration}
+use Rattle.ladder_times.specs.Duration.{number_of, IsDuration}
 
 -- The token is this keyword or mark; letter case makes no difference.
 abbrev pub Is : List ℕ → List ℕ → Type 0
@@ -28,6 +28,10 @@ Is word token = same_letters token word ≡ true
 abbrev pub AreOf : List (List ℕ → Type 0) → List (List ℕ) → Type 0
 AreOf [] ts = ts ≡ []
 AreOf (Sort ∷ sorts) ts = (t : List ℕ) × (others : List (List ℕ)) × (ts ≡ t ∷ others) × Sort t × AreOf sorts others
+
+-- A number of the declarations has 1 to 5 digits.
+abbrev pub IsNumber : List ℕ → ℕ → Type 0
+IsNumber word n = (1 ≤ length word) × (length word ≤ MOST_DIGITS) × (list_all is_ascii_digit word ≡ true) × (n ≡ number_of word)
 
 -- ---- addresses: % I 1 . 0
 

@@ -1,6 +1,7 @@
 -- The standard function blocks (IEC 61131-3:2013, 6.6.3.5), and all that depends on the kind of a block.
 use Rattle.std.specs.Prelude.{ℕ, List, codes, Option, Some, None}
-use Rattle.ladder_vars.specs.declared.limits.TheConstants.{LONGEST_INSTANCE, LONGEST_BISTABLE, LARGEST_TIME, LARGEST_COUNT}
+use Rattle.ladder_vars.specs.declared.limits.TheConstants.{LONGEST_INSTANCE, LONGEST_BISTABLE, LARGEST_COUNT}
+use Rattle.ladder_times.specs.declared.time.TheConstants.{LARGEST_TIME}
 use Rattle.ladder_vars.specs.declared.kind.BlockKind.{BlockKind}
 use Rattle.ladder_vars.specs.declared.kind.BlockKind.TheVariants as kind
 use Rattle.ladder_vars.specs.declared.kind.Parameter.{Parameter}

@@ -3,7 +3,6 @@ pub mod NameView
 pub mod Kind
 pub mod Decls
 pub mod Text
-pub mod Duration
 pub mod Grammar
 pub mod Rules
 pub mod ReadText

@@ -10,10 +10,9 @@ ghost use Rattle.ladder_vars.specs.ReadDecls.{expect, given_bit, initial_at, pre
 use crate::decls::{Address, Body, VarKind};
 use crate::fault::{Fault, VarRule};
 use crate::kind::{BlockKind, Parameter};
-use crate::name::same_letters;
 use crate::text::{is_word_byte, token};
-use crate::time::time_of;
 use crate::words::{address_of, bit_word, block_of, count_of};
+use ladder_times::{read_time, same_letters};
 
 /// The fault of a token that has no place where it stands, with what follows it.
 fn bad_token(rest: &[u8]) -> Fault
@@ -73,7 +72,7 @@ fn value_of(form: Parameter, word: &[u8]) -> Option<u32>
     ensures fits { IfSome result (λ n. n ≤ largest_value form) }
 {
     match form {
-        Parameter::Time => time_of(word),
+        Parameter::Time => read_time(word),
         Parameter::Count => count_of(word),
     }
 }

@@ -6,19 +6,17 @@
 
 mod declaration;
 mod decls;
-mod digits;
 mod fault;
 mod kind;
 pub mod limits;
 mod name;
 mod read;
 mod text;
-mod time;
 mod words;
 
 pub use decls::{Address, Decls, Instance, Symbol, Var, VarKind};
 pub use fault::{VarFault, VarRule};
 pub use kind::{BlockKind, BlockTraits, Output, Parameter, Pin};
+pub use ladder_times::read_time;
 pub use name::Name;
 pub use read::read_decls;
-pub use time::read_time;

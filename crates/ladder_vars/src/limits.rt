@@ -20,6 +20,3 @@ pub const MOST_DIGITS: usize = 5;
 
 /// The largest PV of a counter.
 pub const LARGEST_COUNT: u32 = 32767;
-
-/// The largest PT of a timer, in milliseconds.
-pub const LARGEST_TIME: u32 = u32::MAX;

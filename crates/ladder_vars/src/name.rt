@@ -1,10 +1,11 @@
-//! Names, and words without regard to letter case.
+//! Names.
 
 ghost use Rattle.std.specs.Prelude.{◌≡◌, true, false, IfSome, IfNone};
 ghost use Rattle.std.specs.List.{list_all, list_any};
 ghost use Rattle.ladder_vars.specs.Name.{keywords, is_name_byte, has_name_form, is_name, same_letters};
 
 use crate::limits::LONGEST_NAME;
+use ladder_times::same_letters;
 use std::marker::Model;
 
 /// The words that are no names.
@@ -12,13 +13,6 @@ const KEYWORDS: [&[u8]; 14] = [
     b"VAR", b"END_VAR", b"AT", b"BOOL", b"TRUE", b"FALSE", b"TON", b"TOF", b"TP", b"CTU", b"CTD",
     b"SR", b"RS", b"RETURN",
 ];
-
-/// Whether one word is the other but for the case of letters.
-pub(crate) fn same_letters(a: &[u8], b: &[u8]) -> bool
-    ensures { result ≡ same_letters a.now b.now }
-{
-    a.eq_ignore_ascii_case(b)
-}
 
 fn is_one_of(words: &[&[u8]], word: &[u8]) -> bool
     ensures { result ≡ list_any (λ w. same_letters word.now w.now) words.now }

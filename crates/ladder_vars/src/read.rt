@@ -10,8 +10,9 @@ ghost use Rattle.ladder_vars.specs.ReadDecls.{GivesInMemory, name_of, decls_from
 use crate::declaration::{body_at, expect};
 use crate::decls::Decls;
 use crate::fault::{Fault, ReadFault, VarFault, VarRule};
-use crate::name::{Name, has_name_form, same_letters};
+use crate::name::{Name, has_name_form};
 use crate::text::token;
+use ladder_times::same_letters;
 use std::alloc::Global;
 
 /// The name that a word is, where a name is due and so many bytes are left after it.

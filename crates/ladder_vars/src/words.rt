@@ -1,16 +1,16 @@
 //! What the words of a declaration spell.
 
 ghost use Rattle.std.specs.Prelude.{◌≡◌, ◌≤◌, IfSome};
+ghost use Rattle.std.specs.List.{list_all};
+ghost use Rattle.std.specs.Char.{is_ascii_digit};
 ghost use Rattle.ladder_vars.specs.Grammar.{bit_word};
-ghost use Rattle.ladder_vars.specs.ReadWords.{kind_of};
 ghost use Rattle.ladder_vars.specs.declared.limits.TheConstants.{LARGEST_COUNT};
-ghost use Rattle.ladder_vars.specs.ReadWords.{block_of, count_of, after_size, second_of, numbers_of, placed_at, address_of};
+ghost use Rattle.ladder_vars.specs.ReadWords.{kind_of, block_of, short_number, count_of, after_size, second_of, numbers_of, placed_at, address_of};
 
 use crate::decls::{Address, VarKind};
-use crate::digits::{digits_len, short_number};
 use crate::kind::BlockKind;
-use crate::limits::LARGEST_COUNT;
-use crate::name::same_letters;
+use crate::limits::{LARGEST_COUNT, MOST_DIGITS};
+use ladder_times::{digits_len, number, same_letters};
 
 /// The truth value that a word spells.
 pub(crate) fn bit_word(word: &[u8]) -> Option<bool>
@@ -37,6 +37,24 @@ pub(crate) fn block_of(word: &[u8]) -> Option<BlockKind>
         .iter()
         .copied()
         .find(|kind| same_letters(word, kind.traits().word))
+}
+
+fn are_digits(word: &[u8]) -> bool
+    ensures { result ≡ list_all is_ascii_digit word.now }
+{
+    word.iter().all(|b| b.is_ascii_digit())
+}
+
+/// The number of a word of 1 to 5 digits.
+#[tactic(auto, using(crate::proofs::Numbers::number_of_short))]
+fn short_number(word: &[u8]) -> Option<u32>
+    ensures { result ≡ short_number word.now }
+{
+    if 1 <= word.len() && word.len() <= MOST_DIGITS && are_digits(word) {
+        Some(number(word) as u32)
+    } else {
+        None
+    }
 }
 
 /// The PV that a word spells.

@@ -1,20 +1,18 @@
 -- One part of a duration: digits with a unit are read exactly where they stand.
 use Rattle.std.proofs.Common.{◌≡◌, ℕ, ◌^◌, ◌≤◌, inl, inr, min, true, false, nat_le, List, [], ◌∷◌, ◌++◌, length, map, take, drop, codes, Some, refl, sym, ap, subst, ◌∙◌, arith}
 use Rattle.std.specs.List.{list_all, prefix_len}
-use Rattle.std.specs.Str.{str_to_ascii_lowercase, bytes_eq}
+use Rattle.std.specs.Str.{str_to_ascii_lowercase, str_eq_ignore_ascii_case, bytes_eq}
 use Rattle.std.specs.Char.{is_ascii_digit, is_ascii_alphabetic, is_ascii_lowercase, to_ascii_lowercase}
 use Rattle.std.proofs.lemmas.Bool.{and_parts, leb-true, le-leb}
 use Rattle.std.proofs.lemmas.Bool.Decides.{nat_tests}
 use Rattle.std.proofs.lemmas.List.{take-append-drop}
 use Rattle.std.proofs.lemmas.Slice.Eq.{bytes_eq-Decides}
-use Rattle.ladder_vars.specs.declared.time.Unit.{Unit as TimeUnit}
-use Rattle.ladder_vars.specs.declared.time.Unit.TheVariants as time_unit
-use Rattle.ladder_vars.specs.Name.{same_letters}
-use Rattle.ladder_vars.specs.Text.{begins}
-use Rattle.ladder_vars.specs.Duration.{number_of, Time, IsTime}
-use Rattle.ladder_vars.specs.ReadWords.{letters_of, unit_of, PartAt, part_at}
-use Rattle.ladder_vars.proofs.Steps.{chosen}
-use Rattle.ladder_vars.proofs.Runs.{bind_some, take_run, drop_run, run_passes}
+use Rattle.ladder_times.specs.declared.time.Unit.{Unit as TimeUnit}
+use Rattle.ladder_times.specs.declared.time.Unit.TheVariants as time_unit
+use Rattle.ladder_times.specs.Duration.{number_of, Time, IsTime}
+use Rattle.ladder_times.specs.ReadTimes.{letters_of, unit_of, PartAt, part_at}
+use Rattle.ladder_times.proofs.Steps.{bind_some, chosen}
+use Rattle.ladder_times.proofs.Runs.{begins, take_run, drop_run, run_passes}
 
 -- ---- letters
 
@@ -43,7 +41,7 @@ spelled_small time_unit.Minute = refl
 spelled_small time_unit.Second = refl
 spelled_small time_unit.Milli = refl
 
-lower_is : (w : List ℕ) (u : TimeUnit) → same_letters w (letters_of u) ≡ true → str_to_ascii_lowercase w ≡ letters_of u
+lower_is : (w : List ℕ) (u : TimeUnit) → str_eq_ignore_ascii_case w (letters_of u) ≡ true → str_to_ascii_lowercase w ≡ letters_of u
 lower_is w time_unit.Day h = same_bytes (str_to_ascii_lowercase w) (codes "d") h
 lower_is w time_unit.Hour h = same_bytes (str_to_ascii_lowercase w) (codes "h") h
 lower_is w time_unit.Minute h = same_bytes (str_to_ascii_lowercase w) (codes "m") h
@@ -57,19 +55,19 @@ unit_reads w time_unit.Minute e = rw e refl
 unit_reads w time_unit.Second e = rw e refl
 unit_reads w time_unit.Milli e = rw e refl
 
-unit_takes : (w : List ℕ) (u : TimeUnit) → unit_of w ≡ Some u → same_letters w (letters_of u) ≡ true
+unit_takes : (w : List ℕ) (u : TimeUnit) → unit_of w ≡ Some u → str_eq_ignore_ascii_case w (letters_of u) ≡ true
 unit_takes w u h =
-    let found : (v : TimeUnit) → same_letters w (letters_of v) ≡ true → Some v ≡ Some u → same_letters w (letters_of u) ≡ true
-    = λ v same e. let v_is : v ≡ u = cc in subst (λ x. same_letters w (letters_of x) ≡ true) v_is same in
-    elim (chosen (same_letters w (codes "d")) _ _ _ h) [
+    let found : (v : TimeUnit) → str_eq_ignore_ascii_case w (letters_of v) ≡ true → Some v ≡ Some u → str_eq_ignore_ascii_case w (letters_of u) ≡ true
+    = λ v same e. let v_is : v ≡ u = cc in subst (λ x. str_eq_ignore_ascii_case w (letters_of x) ≡ true) v_is same in
+    elim (chosen (str_eq_ignore_ascii_case w (codes "d")) _ _ _ h) [
       | inl a ↦ found time_unit.Day a.0 a.1
-      | inr b ↦ elim (chosen (same_letters w (codes "h")) _ _ _ b.1) [
+      | inr b ↦ elim (chosen (str_eq_ignore_ascii_case w (codes "h")) _ _ _ b.1) [
         | inl a ↦ found time_unit.Hour a.0 a.1
-        | inr c ↦ elim (chosen (same_letters w (codes "m")) _ _ _ c.1) [
+        | inr c ↦ elim (chosen (str_eq_ignore_ascii_case w (codes "m")) _ _ _ c.1) [
           | inl a ↦ found time_unit.Minute a.0 a.1
-          | inr d ↦ elim (chosen (same_letters w (codes "s")) _ _ _ d.1) [
+          | inr d ↦ elim (chosen (str_eq_ignore_ascii_case w (codes "s")) _ _ _ d.1) [
             | inl a ↦ found time_unit.Second a.0 a.1
-            | inr e ↦ elim (chosen (same_letters w (codes "ms")) _ _ _ e.1) [
+            | inr e ↦ elim (chosen (str_eq_ignore_ascii_case w (codes "ms")) _ _ _ e.1) [
               | inl a ↦ found time_unit.Milli a.0 a.1
               | inr f ↦ absurd cc
             ]

@@ -6,14 +6,13 @@ use Rattle.std.proofs.lemmas.Bool.{eqb-true, and_parts, ltb-true, lt-ltb}
 use Rattle.std.proofs.lemmas.Bool.Decides.{nat_tests}
 use Rattle.std.proofs.lemmas.List.{length-append, append-nil}
 use Rattle.std.proofs.lemmas.List.Sums.{sum_by-cons}
-use Rattle.ladder_vars.specs.declared.time.Unit.{Unit as TimeUnit}
-use Rattle.ladder_vars.specs.declared.time.Unit.TheVariants as time_unit
-use Rattle.ladder_vars.specs.Text.{begins}
-use Rattle.ladder_vars.specs.Duration.{number_of, Time, IsTime, AreTimes}
-use Rattle.ladder_vars.specs.ReadWords.{millis_of, range_of, PartAt, part_at, after_underscore, with_part, may_follow, total_from, total_of}
-use Rattle.ladder_vars.proofs.Steps.{chosen}
-use Rattle.ladder_vars.proofs.Runs.{bind_some}
-use Rattle.ladder_vars.proofs.PartLaws.{cap, part_reads, TakesPart, part_takes}
+use Rattle.ladder_times.specs.declared.time.Unit.{Unit as TimeUnit}
+use Rattle.ladder_times.specs.declared.time.Unit.TheVariants as time_unit
+use Rattle.ladder_times.specs.Duration.{number_of, Time, IsTime, AreTimes}
+use Rattle.ladder_times.specs.ReadTimes.{millis_of, range_of, PartAt, part_at, after_underscore, with_part, may_follow, total_from, total_of}
+use Rattle.ladder_times.proofs.Steps.{bind_some, chosen}
+use Rattle.ladder_times.proofs.Runs.{begins}
+use Rattle.ladder_times.proofs.PartLaws.{cap, part_reads, TakesPart, part_takes}
 
 -- ---- sums that are cut at a limit
 

@@ -1,8 +1,8 @@
 use Rattle.std.proofs.Common.{◌≡◌, ℕ, List, Option, Some, None, IfSome, IfNone, sym, ◌∙◌}
-use Rattle.ladder_vars.specs.Duration.{IsDuration}
-use Rattle.ladder_vars.specs.ReadWords.{time_of}
-use Rattle.ladder_vars.proofs.TimeLaws.{time_reads, time_takes}
-use Rattle.ladder_vars.proofs.time.read_time.Goals as goal
+use Rattle.ladder_times.specs.Duration.{IsDuration}
+use Rattle.ladder_times.specs.ReadTimes.{time_of}
+use Rattle.ladder_times.proofs.TimeLaws.{time_reads, time_takes}
+use Rattle.ladder_times.proofs.time.read_time.Goals as goal
 
 some_time : (o : Option ℕ) (text : List ℕ) → o ≡ time_of text → IfSome o (λ n. IsDuration text n)
 some_time (Some n) text e = time_takes text n (sym e)

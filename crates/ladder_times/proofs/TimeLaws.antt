@@ -1,33 +1,31 @@
 -- Durations: a word is read as so many milliseconds exactly where it is a literal of them.
-use Rattle.std.proofs.Common.{◌≡◌, ℕ, ◌≤◌, ◌⊎◌, inl, inr, ◌||◌, min, Bool, true, false, nat_le, List, [], ◌∷◌, ◌++◌, length, take, drop, codes, Option, Some, None, refl, sym, ap, subst, ◌∙◌, arith}
-use Rattle.std.specs.Str.{str_to_ascii_lowercase}
+use Rattle.std.proofs.Common.{◌≡◌, ℕ, ◌≤◌, ◌⊎◌, inl, inr, ◌||◌, min, Bool, true, false, nat_le, List, [], ◌∷◌, ◌++◌, length, take, drop, codes, Option, Some, None, IfSome, IfNone, refl, sym, ap, subst, ◌∙◌, arith}
+use Rattle.std.specs.Str.{str_to_ascii_lowercase, str_eq_ignore_ascii_case}
 use Rattle.std.specs.List.{list_any}
 use Rattle.std.specs.Char.{to_ascii_lowercase}
 use Rattle.std.proofs.lemmas.Bool.{leb-true, le-leb, or_cases}
 use Rattle.std.proofs.lemmas.List.{take-append-drop, length-map}
 use Rattle.std.proofs.Math.Seq.{take-append_seam, drop-append_seam}
-use Rattle.ladder_vars.specs.Name.{same_letters}
-use Rattle.ladder_vars.specs.Duration.{IsDuration}
-use Rattle.ladder_vars.specs.ReadWords.{or_else, after_word, after_prefix, total_of, time_of}
-use Rattle.ladder_vars.proofs.Steps.{chosen}
-use Rattle.ladder_vars.proofs.Runs.{bind_some}
-use Rattle.ladder_vars.proofs.PartLaws.{cap, same_bytes}
-use Rattle.ladder_vars.proofs.DurationLaws.{sum_of, all_reads, TakesAll, all_takes}
+use Rattle.ladder_times.specs.Duration.{IsDuration}
+use Rattle.ladder_times.specs.ReadTimes.{or_else, after_word, after_prefix, total_of, time_of}
+use Rattle.ladder_times.proofs.Steps.{bind_some, chosen}
+use Rattle.ladder_times.proofs.PartLaws.{cap, same_bytes}
+use Rattle.ladder_times.proofs.DurationLaws.{sum_of, all_reads, TakesAll, all_takes}
 
 -- ---- the prefix
 
-pub same_length : (a b : List ℕ) → same_letters a b ≡ true → length a ≡ length b
+pub same_length : (a b : List ℕ) → str_eq_ignore_ascii_case a b ≡ true → length a ≡ length b
 same_length a b h =
     let same : str_to_ascii_lowercase a ≡ str_to_ascii_lowercase b = same_bytes (str_to_ascii_lowercase a) (str_to_ascii_lowercase b) h in
     omega (arith, ap length same, length-map {A = ℕ} {B = ℕ})
 
-after_word-found : (word prefix after : List ℕ) → same_letters prefix word ≡ true → after_word word (prefix ++ after) ≡ Some after
+after_word-found : (word prefix after : List ℕ) → str_eq_ignore_ascii_case prefix word ≡ true → after_word word (prefix ++ after) ≡ Some after
 after_word-found word prefix after h =
     let len : length word ≡ length prefix = sym (same_length prefix word h) in
     rw (len, take-append_seam prefix after, drop-append_seam prefix after, h) refl
 
 -- TIME# does not begin with T#
-time_first : (prefix after : List ℕ) → same_letters prefix (codes "TIME#") ≡ true → after_word (codes "T#") (prefix ++ after) ≡ None
+time_first : (prefix after : List ℕ) → str_eq_ignore_ascii_case prefix (codes "TIME#") ≡ true → after_word (codes "T#") (prefix ++ after) ≡ None
 time_first [] after h = absurd cc
 time_first (a ∷ []) after h = absurd (let e = same_bytes (str_to_ascii_lowercase (a ∷ [])) (codes "time#") h in cc)
 time_first (a ∷ b ∷ more) after h =
@@ -36,19 +34,19 @@ time_first (a ∷ b ∷ more) after h =
     let second : to_ascii_lowercase b ≡ 105 = cc in
     rw (first, second) refl
 
-prefix_reads : (prefix after : List ℕ) → list_any (same_letters prefix) (codes "T#" ∷ codes "TIME#" ∷ []) ≡ true → after_prefix (prefix ++ after) ≡ Some after
+prefix_reads : (prefix after : List ℕ) → list_any (str_eq_ignore_ascii_case prefix) (codes "T#" ∷ codes "TIME#" ∷ []) ≡ true → after_prefix (prefix ++ after) ≡ Some after
 prefix_reads prefix after h =
-    elim (or_cases (same_letters prefix (codes "T#")) _ h) [
+    elim (or_cases (str_eq_ignore_ascii_case prefix (codes "T#")) _ h) [
       | inl t ↦ rw (after_word-found (codes "T#") prefix after t) refl
-      | inr other ↦ elim (or_cases (same_letters prefix (codes "TIME#")) false other) [
+      | inr other ↦ elim (or_cases (str_eq_ignore_ascii_case prefix (codes "TIME#")) false other) [
         | inl time ↦ rw (time_first prefix after time) (after_word-found (codes "TIME#") prefix after time)
         | inr none ↦ absurd cc
       ]
     ]
 
-after_word-is : (word text after : List ℕ) → after_word word text ≡ Some after → (prefix : List ℕ) × (text ≡ prefix ++ after) × (same_letters prefix word ≡ true)
+after_word-is : (word text after : List ℕ) → after_word word text ≡ Some after → (prefix : List ℕ) × (text ≡ prefix ++ after) × (str_eq_ignore_ascii_case prefix word ≡ true)
 after_word-is word text after h =
-    elim (chosen (same_letters (take (length word) text) word) _ _ _ h) [
+    elim (chosen (str_eq_ignore_ascii_case (take (length word) text) word) _ _ _ h) [
       | inl same ↦
           let left : drop (length word) text ≡ after = cc in
           (take (length word) text, sym (take-append-drop (length word) text) ∙ ap (λ z. take (length word) text ++ z) left, same.0)
@@ -64,11 +62,11 @@ or_else-cases (Some y) b x h = inl h
 or_else-cases None b x h = inr h
 
 prefix_takes : (text after : List ℕ) → after_prefix text ≡ Some after
-    → (prefix : List ℕ) × (text ≡ prefix ++ after) × (list_any (same_letters prefix) (codes "T#" ∷ codes "TIME#" ∷ []) ≡ true)
+    → (prefix : List ℕ) × (text ≡ prefix ++ after) × (list_any (str_eq_ignore_ascii_case prefix) (codes "T#" ∷ codes "TIME#" ∷ []) ≡ true)
 prefix_takes text after h =
     elim (or_else-cases (after_word (codes "T#") text) (after_word (codes "TIME#") text) after h) [
       | inl t ↦ let p = after_word-is (codes "T#") text after t in (p.0, p.1, rw p.2 refl)
-      | inr time ↦ let p = after_word-is (codes "TIME#") text after time in (p.0, p.1, rw p.2 (or_true (same_letters p.0 (codes "T#"))))
+      | inr time ↦ let p = after_word-is (codes "TIME#") text after time in (p.0, p.1, rw p.2 (or_true (str_eq_ignore_ascii_case p.0 (codes "T#"))))
     ]
 
 -- ---- whole literals
@@ -102,3 +100,9 @@ time_takes word n h =
           let sum : n ≡ sum_of all.parts = sym same ∙ below_cap t.0 (sum_of all.parts) all.sum small in
           (p.0, a.0, all.parts, p.1, p.2, all.are_parts, sum, subst (λ k. k ≤ 4294967295) same small)
     ]
+
+-- what is told of a literal by its values alone is how it is read
+pub time_is : (o : Option ℕ) (word : List ℕ) → IfSome o (λ n. IsDuration word n) → IfNone o ((n : ℕ) → IsDuration word n → ⊥) → o ≡ time_of word
+time_is (Some n) word some none = sym (time_reads word n some)
+time_is None word some none =
+    elim (time_of word) as (λ r. time_of word ≡ r → None ≡ r) [ None ↦ λ e. refl | Some n ↦ λ e. absurd (none n (time_takes word n e)) ] refl

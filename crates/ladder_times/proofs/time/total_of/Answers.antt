@@ -1,6 +1,6 @@
 use Rattle.std.proofs.Common.{sym, ◌∙◌, arith}
-use Rattle.ladder_vars.proofs.Durations.{ends, stops, refuses, goes_on}
-use Rattle.ladder_vars.proofs.time.total_of.Goals as goal
+use Rattle.ladder_times.proofs.Durations.{ends, stops, refuses, goes_on}
+use Rattle.ladder_times.proofs.time.total_of.Goals as goal
 
 pub returns-in_err-number-2 : goal.returns-in_err-number-2
 returns-in_err-number-2 c =

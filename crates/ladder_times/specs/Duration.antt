@@ -2,17 +2,13 @@
 use Rattle.std.specs.Prelude.{◌≡◌, ℕ, ◌+◌, ◌-◌, ◌*◌, ◌<◌, ◌≤◌, ◌⊎◌, true, List, [], ◌∷◌, ◌++◌, length, codes}
 use Rattle.std.specs.List.{fold, list_all, list_any, sum_by}
 use Rattle.std.specs.Char.{is_ascii_digit}
-use Rattle.ladder_vars.specs.declared.limits.TheConstants.{MOST_DIGITS, LARGEST_TIME}
-use Rattle.ladder_vars.specs.declared.time.Unit.TheVariants as unit
-use Rattle.ladder_vars.specs.Name.{same_letters}
+use Rattle.std.specs.Str.{str_eq_ignore_ascii_case}
+use Rattle.ladder_times.specs.declared.time.TheConstants.{LARGEST_TIME}
+use Rattle.ladder_times.specs.declared.time.Unit.TheVariants as unit
 
 -- The number that digits spell, the first one weighing most; 48 is the digit 0.
 abbrev pub number_of : List ℕ → ℕ
 number_of digits = fold (λ n b. n * 10 + (b - 48)) 0 digits
-
--- A number of the declarations has 1 to 5 digits.
-abbrev pub IsNumber : List ℕ → ℕ → Type 0
-IsNumber word n = (1 ≤ length word) × (length word ≤ MOST_DIGITS) × (list_all is_ascii_digit word ≡ true) × (n ≡ number_of word)
 
 -- A unit: its letters, its milliseconds, and how many of it make the next larger one, 1 where there is none.
 pub record Measure : Type 0 where
@@ -34,7 +30,7 @@ pub record Time : Type 0 where
   pub unit : unit.the_data
 
 abbrev pub IsTime : Time → Type 0
-IsTime p = (1 ≤ length p.digits) × (list_all is_ascii_digit p.digits ≡ true) × (same_letters p.letters (measure p.unit).letters ≡ true)
+IsTime p = (1 ≤ length p.digits) × (list_all is_ascii_digit p.digits ≡ true) × (str_eq_ignore_ascii_case p.letters (measure p.unit).letters ≡ true)
 
 -- The text is these parts, from larger units to smaller ones; one underscore (95) may stand between two of them.
 -- Any unit after the first one counts to less than the next larger unit.
@@ -49,5 +45,5 @@ AreTimes (p ∷ q ∷ ps) text =
 -- The literal: `T#` or `TIME#`, then the parts; its value in milliseconds is their sum, and below 2 ^ 32 (the profile).
 abbrev pub IsDuration : List ℕ → ℕ → Type 0
 IsDuration text n =
-    (prefix after : List ℕ) × (parts : List Time) × (text ≡ prefix ++ after) × (list_any (same_letters prefix) (codes "T#" ∷ codes "TIME#" ∷ []) ≡ true)
+    (prefix after : List ℕ) × (parts : List Time) × (text ≡ prefix ++ after) × (list_any (str_eq_ignore_ascii_case prefix) (codes "T#" ∷ codes "TIME#" ∷ []) ≡ true)
     × AreTimes parts after × (n ≡ sum_by (λ p. number_of p.digits * (measure p.unit).millis) parts) × (n ≤ LARGEST_TIME)

@@ -1,8 +1,8 @@
 -- One turn of the loop over the parts of a duration.
 use Rattle.std.proofs.Common.{◌≡◌, ℕ, zero, suc, ◌<◌, ◌==◌, true, false, List, [], ◌∷◌, length, Option, Some, None, sym, ◌∙◌, refl, arith}
 use Rattle.std.proofs.lemmas.Bool.{eqb-true}
-use Rattle.ladder_vars.specs.declared.time.Unit.{Unit as TimeUnit}
-use Rattle.ladder_vars.specs.ReadWords.{part_at, PartAt, after_underscore, with_part, may_follow, total_from}
+use Rattle.ladder_times.specs.declared.time.Unit.{Unit as TimeUnit}
+use Rattle.ladder_times.specs.ReadTimes.{part_at, PartAt, after_underscore, with_part, may_follow, total_from}
 
 -- the loop stands before this rest, and the whole is this
 pub record Stands (last : TimeUnit) (total : ℕ) (rest : List ℕ) (whole : Option ℕ) : Type 0 where

@@ -1,15 +1,12 @@
 -- The longest run of bytes of a kind at the front of a text.
-use Rattle.std.proofs.Common.{◌≡◌, ℕ, suc, arith, ◌+◌, Bool, true, false, cond, List, [], ◌∷◌, ◌++◌, length, take, drop, Option, Some, None, refl}
+use Rattle.std.proofs.Common.{◌≡◌, ℕ, suc, arith, ◌+◌, Bool, true, false, cond, List, [], ◌∷◌, ◌++◌, length, take, drop, refl}
 use Rattle.std.specs.List.{list_all, prefix_len}
 use Rattle.std.proofs.lemmas.Bool.{and_parts}
 use Rattle.std.proofs.Math.Seq.{take-append_seam, drop-append_seam}
-use Rattle.ladder_vars.specs.Text.{begins}
-use Rattle.ladder_vars.specs.ReadWords.{◌>>=◌}
 
--- the value of a step that gave one
-pub bind_some : {A B : Type 0} (o : Option A) (f : A → Option B) (y : B) → (o >>= f) ≡ Some y → (x : A) × (o ≡ Some x) × (f x ≡ Some y)
-bind_some (Some x) f y e = (x, refl, e)
-bind_some None f y e = absurd cc
+-- a text begins with a byte of this kind
+abbrev pub begins : (ℕ → Bool) → List ℕ → Bool
+begins test text = elim text [ b ∷ bs ↦ test b | [] ↦ false ]
 
 pub prefix_len-run : (p : ℕ → Bool) (run after : List ℕ) → list_all p run ≡ true → begins p after ≡ false → prefix_len p (run ++ after) ≡ length run
 prefix_len-run p [] [] all end = refl

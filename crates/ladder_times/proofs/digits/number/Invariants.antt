@@ -1,7 +1,7 @@
 use Rattle.std.proofs.Common.{◌≡◌, ◌≤◌, ◌^◌, min, drop}
-use Rattle.ladder_vars.specs.Duration.{number_of}
-use Rattle.ladder_vars.specs.ReadWords.{value_from}
-use Rattle.ladder_vars.proofs.digits.number.Given as goal
+use Rattle.ladder_times.specs.Duration.{number_of}
+use Rattle.ladder_times.specs.ReadTimes.{value_from}
+use Rattle.ladder_times.proofs.digits.number.Given as goal
 
 abbrev pub invariant-loop-digit : goal.invariant-loop-digit
 invariant-loop-digit l = record {

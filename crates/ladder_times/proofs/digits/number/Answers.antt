@@ -1,7 +1,7 @@
 use Rattle.std.proofs.Common.{◌≡◌, ℕ, ◌+◌, ◌-◌, ◌*◌, ◌<◌, ◌^◌, min, List, ◌∷◌, length, drop, get_or, arith, sym, refl, ◌∙◌, ap, add-one, drop-cons}
-use Rattle.ladder_vars.specs.ReadWords.{value_from}
-use Rattle.ladder_vars.proofs.Numbers.{clamped}
-use Rattle.ladder_vars.proofs.digits.number.Goals as goal
+use Rattle.ladder_times.specs.ReadTimes.{value_from}
+use Rattle.ladder_times.proofs.Numbers.{clamped}
+use Rattle.ladder_times.proofs.digits.number.Goals as goal
 
 one_more : (xs : List ℕ) (i n cap total : ℕ) → i < length xs → min (value_from n (drop i xs)) cap ≡ total
     → min (value_from (min (n * 10 + (get_or xs i 0 - 48)) cap) (drop (i + 1) xs)) cap ≡ total

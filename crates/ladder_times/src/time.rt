@@ -3,11 +3,14 @@
 ghost use Rattle.std.specs.Prelude.{◌≡◌, ◌≤◌, ◌<◌, ◌+◌, ◌^◌, length, ℕ, IfSome, IfNone};
 ghost use Rattle.std.specs.List.{prefix_len};
 ghost use Rattle.std.specs.Char.{is_ascii_alphabetic};
-ghost use Rattle.ladder_vars.specs.Duration.{IsDuration};
-ghost use Rattle.ladder_vars.specs.ReadWords.{millis_of, range_of, unit_of, part_at, after_underscore, with_part, may_follow, total_of, after_word, after_prefix, time_of, Gives};
+ghost use Rattle.ladder_times.specs.Duration.{IsDuration};
+ghost use Rattle.ladder_times.specs.ReadTimes.{millis_of, range_of, unit_of, part_at, after_underscore, with_part, may_follow, total_of, after_word, after_prefix, time_of, Gives};
 
 use crate::digits::{CAP, digits_len, number};
-use crate::name::same_letters;
+use crate::letters::same_letters;
+
+/// The largest duration, in milliseconds.
+pub const LARGEST_TIME: u32 = u32::MAX;
 
 /// A unit of a duration.
 #[derive(Clone, Copy)]
@@ -70,7 +73,7 @@ fn letters_len(text: &[u8]) -> usize
     text.iter().take_while(|b| b.is_ascii_alphabetic()).count()
 }
 
-#[tactic(auto, unfolding(crate::specs::ReadWords::part_at))]
+#[tactic(auto, unfolding(crate::specs::ReadTimes::part_at))]
 fn part_at(text: &[u8]) -> Option<(u64, Unit, &[u8])>
     ensures value { Gives (λ p. record { number = p.0; unit = p.1; rest = p.2.now }) result (part_at text.now) }
     ensures shorter { IfSome result (λ p. length p.2.now < length text.now) }
@@ -114,7 +117,7 @@ fn may_follow(last: Unit, number: u64, unit: Unit) -> bool
 }
 
 /// The milliseconds of a duration after its prefix, or 2^32 where they are more.
-#[tactic(auto, unfolding(crate::specs::ReadWords::total_of))]
+#[tactic(auto, unfolding(crate::specs::ReadTimes::total_of))]
 fn total_of(text: &[u8]) -> Option<u64>
     ensures { result ≡ total_of text.now }
 {
@@ -154,8 +157,8 @@ fn after_prefix(text: &[u8]) -> Option<&[u8]>
     }
 }
 
-#[tactic(auto, unfolding(crate::specs::ReadWords::time_of))]
-pub(crate) fn time_of(text: &[u8]) -> Option<u32>
+#[tactic(auto, unfolding(crate::specs::ReadTimes::time_of))]
+fn time_of(text: &[u8]) -> Option<u32>
     ensures { result ≡ time_of text.now }
 {
     let total = total_of(after_prefix(text)?)?;
