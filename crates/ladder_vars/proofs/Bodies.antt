@@ -1,6 +1,7 @@
 -- What follows a name, by its parts: the place, the initial value or the preset, and the semicolon.
 use Rattle.std.proofs.Common.{◌≡◌, ◌⊎◌, inl, inr, ℕ, Bool, false, List, [], ◌∷◌, ◌++◌, codes, Option, Some, None, refl, sym, ap, subst, ◌∙◌}
 use Rattle.std.specs.Str.{str_to_ascii_lowercase}
+use Rattle.std.proofs.lemmas.List.{append-nil}
 use Rattle.ladder_vars.specs.declared.decls.VarKind.{VarKind}
 use Rattle.ladder_vars.specs.declared.decls.VarKind.TheVariants as var_kind
 use Rattle.ladder_vars.specs.declared.kind.BlockKind.{BlockKind}
@@ -12,7 +13,7 @@ use Rattle.ladder_vars.specs.declared.decls.Body.{Body}
 use Rattle.ladder_vars.specs.declared.decls.Body.TheVariants as body
 use Rattle.ladder_vars.specs.Name.{same_letters}
 use Rattle.ladder_vars.specs.Kind.{traits_of, parameter_word}
-use Rattle.ladder_vars.specs.Grammar.{Is, AreOf, IsAddress, IsBody, bit_word, preset_form}
+use Rattle.ladder_vars.specs.Grammar.{Is, Token, Optional, Bracketed, Preset, IsAddress, IsBody, bit_word}
 use Rattle.ladder_vars.specs.ReadWords.{IsValue, block_of}
 use Rattle.ladder_times.proofs.PartLaws.{same_bytes}
 use Rattle.ladder_times.proofs.Steps.{chosen}
@@ -117,199 +118,158 @@ block_takes w kind h =
 
 -- ---- the parts of what the grammar derives
 
-abbrev value_form : Parameter → ℕ → List (List ℕ → Type 0)
-value_form form n = Is (codes "(") ∷ Is (parameter_word form) ∷ Is (codes ":=") ∷ (λ word. IsValue form word n) ∷ Is (codes ")") ∷ []
+-- a token, and what follows it
+one_more : (ts front back rest : List (List ℕ)) (t : List ℕ) → ts ≡ front ++ back → front ≡ t ∷ [] → back ≡ rest → ts ≡ t ∷ rest
+one_more ts front back rest t parts one same = parts ∙ ap (λ z. z ++ back) one ∙ ap (λ z. t ∷ z) same
 
-form_opened : (form : Parameter) (n : ℕ) (P : List (List ℕ → Type 0) → Type 0) → P (preset_form (Some form) n) → P (value_form form n)
-form_opened parameter.Time n P h = h
-form_opened parameter.Count n P h = h
+place_is : (ts : List (List ℕ)) (kind : VarKind) (address : Option Address)
+    → Optional (Token (Is (codes "AT")) ∷ Token (λ word. (a : Address) × (address ≡ Some a) × IsAddress word kind a) ∷ []) ((address ≡ None) × (kind ≡ var_kind.Memory)) ts
+    → IsPlace ts kind address
+place_is ts kind address (inr (empty, (none, memory))) = subst (λ o. IsPlace ts kind o) (sym none) (empty, memory)
+place_is ts kind address (inl (f, b, parts, (at, one, is_at), (g, c, more, (word, other, (a, some, is_address)), end))) =
+    let both : ts ≡ at ∷ word ∷ [] = one_more ts f b (word ∷ []) at parts one (one_more b g c [] word more other end) in
+    subst (λ o. IsPlace ts kind o) (sym some) (at, word, both, is_at, is_address)
 
-form_closed : (form : Parameter) (n : ℕ) (P : List (List ℕ → Type 0) → Type 0) → P (value_form form n) → P (preset_form (Some form) n)
-form_closed parameter.Time n P h = h
-form_closed parameter.Count n P h = h
+initial_is : (ts : List (List ℕ)) (value : Bool)
+    → Optional (Token (Is (codes ":=")) ∷ Token (λ word. bit_word word ≡ Some value) ∷ []) (value ≡ false) ts → IsInitial ts value
+initial_is ts value (inr none) = inl none
+initial_is ts value (inl (f, b, parts, (assign, one, is_assign), (g, c, more, (bit, other, is_bit), end))) =
+    inr (assign, bit, one_more ts f b (bit ∷ []) assign parts one (one_more b g c [] bit more other end), is_assign, is_bit)
 
-instance_with : (form : Parameter) (ts : List (List ℕ)) (kind : BlockKind) (n : ℕ) → (traits_of kind).parameter ≡ Some form
-    → AreOf (Is (codes ":") ∷ Is (traits_of kind).word ∷ Is (codes ":=") ∷ (value_form form n ++ Is (codes ";") ∷ [])) ts → IsInstanceBody ts kind n
-instance_with form ts kind n takes
-    (colon, a, pa, is_colon, (block, b, pb, is_block, (assign, c, pc, is_assign, (opening, d, pd, is_opening, (parameter, e, pe, is_parameter, (given, f, pf, is_given, (word, g, pg, is_word, (closing, i, pi, is_closing, (semicolon, j, pj, is_semicolon, empty)))))))))
+abbrev value_form : Parameter → ℕ → List (List ℕ) → Type 0
+value_form form n = Bracketed (parameter_word form) (λ word. IsValue form word n)
+
+form_opened : (form : Parameter) (n : ℕ) (ts : List (List ℕ)) → Preset (Some form) n ts → value_form form n ts
+form_opened parameter.Time n ts h = h
+form_opened parameter.Count n ts h = h
+
+form_closed : (form : Parameter) (n : ℕ) (ts : List (List ℕ)) → value_form form n ts → Preset (Some form) n ts
+form_closed parameter.Time n ts h = h
+form_closed parameter.Count n ts h = h
+
+has_preset : (form : Parameter) (ts front value : List (List ℕ)) (assign : List ℕ) (kind : BlockKind) (n : ℕ) → (traits_of kind).parameter ≡ Some form
+    → ts ≡ front ++ value → front ≡ assign ∷ [] → Is (codes ":=") assign → value_form form n value → HasPreset ts kind n
+has_preset form ts front value assign kind n takes parts one is_assign
+    (f, a, pa, (opening, oa, is_opening), (g, b, pb, (parameter, ob, is_parameter), (h, c, pc, (given, oc, is_given), (i, d, pd, (word, od, is_word), (j, e, pe, (closing, oe, is_closing), end)))))
+    = record {
+      form = form;
+      takes = takes;
+      assign = assign;
+      opening = opening;
+      parameter = parameter;
+      given = given;
+      word = word;
+      closing = closing;
+      tokens = one_more ts front value _ assign parts one (one_more value f a _ opening pa oa (one_more a g b _ parameter pb ob
+          (one_more b h c _ given pc oc (one_more c i d _ word pd od (one_more d j e [] closing pe oe end)))));
+      is_assign = is_assign;
+      is_opening = is_opening;
+      is_parameter = is_parameter;
+      is_given = is_given;
+      is_word = is_word;
+      is_closing = is_closing;
+    }
+
+preset_is : (o : Option Parameter) (ts : List (List ℕ)) (kind : BlockKind) (n : ℕ) → (traits_of kind).parameter ≡ o
+    → Optional (Token (Is (codes ":=")) ∷ Preset o n ∷ []) (n ≡ 0) ts → IsPreset ts kind n
+preset_is o ts kind n takes (inr none) = inl none
+preset_is None ts kind n takes (inl (f, b, parts, assign, (value, c, more, never, end))) = absurd never
+preset_is (Some form) ts kind n takes (inl (f, b, parts, (assign, one, is_assign), (value, c, more, given, end))) =
+    let all : b ≡ value = more ∙ ap (λ z. value ++ z) end ∙ append-nil value in
+    inr (has_preset form ts f value assign kind n takes (parts ∙ ap (λ z. f ++ z) all) one is_assign (form_opened form n value given))
+
+pub has_body : (ts : List (List ℕ)) (b : Body) → IsBody ts b → HasBody ts b
+has_body ts (body.Var kind address value)
+    (place, a, pa, is_place, (f, b, pb, (colon, ob, is_colon), (g, c, pc, (bool, oc, is_bool), (initial, d, pd, is_initial, (h, e, pe, (semicolon, oe, is_semicolon), end)))))
+    = record {
+      place = place;
+      colon = colon;
+      bool = bool;
+      initial = initial;
+      semicolon = semicolon;
+      tokens = pa ∙ ap (λ z. place ++ z) (one_more a f b _ colon pb ob (one_more b g c _ bool pc oc
+          (pd ∙ ap (λ z. initial ++ z) (one_more d h e [] semicolon pe oe end))));
+      is_place = place_is place kind address is_place;
+      is_colon = is_colon;
+      is_bool = is_bool;
+      is_initial = initial_is initial value is_initial;
+      is_semicolon = is_semicolon;
+    }
+has_body ts (body.Instance kind n)
+    (f, a, pa, (colon, oa, is_colon), (g, b, pb, (block, ob, is_block), (preset, c, pc, is_preset, (h, d, pd, (semicolon, od, is_semicolon), end))))
     = record {
       colon = colon;
       block = block;
-      preset = assign ∷ opening ∷ parameter ∷ given ∷ word ∷ closing ∷ [];
+      preset = preset;
       semicolon = semicolon;
-      tokens = pa ∙ ap (λ z. colon ∷ z) (pb ∙ ap (λ z. block ∷ z) (pc ∙ ap (λ z. assign ∷ z) (pd ∙ ap (λ z. opening ∷ z)
-          (pe ∙ ap (λ z. parameter ∷ z) (pf ∙ ap (λ z. given ∷ z) (pg ∙ ap (λ z. word ∷ z) (pi ∙ ap (λ z. closing ∷ z) (pj ∙ ap (λ z. semicolon ∷ z) empty))))))));
+      tokens = one_more ts f a _ colon pa oa (one_more a g b _ block pb ob (pc ∙ ap (λ z. preset ++ z) (one_more c h d [] semicolon pd od end)));
       is_colon = is_colon;
       is_block = block_reads block kind is_block;
-      is_preset = inr (record {
-        form = form;
-        takes = takes;
-        assign = assign;
-        opening = opening;
-        parameter = parameter;
-        given = given;
-        word = word;
-        closing = closing;
-        tokens = refl;
-        is_assign = is_assign;
-        is_opening = is_opening;
-        is_parameter = is_parameter;
-        is_given = is_given;
-        is_word = is_word;
-        is_closing = is_closing;
-      });
+      is_preset = preset_is (traits_of kind).parameter preset kind n refl is_preset;
       is_semicolon = is_semicolon;
     }
-
-instance_given : (o : Option Parameter) (ts : List (List ℕ)) (kind : BlockKind) (n : ℕ) → (traits_of kind).parameter ≡ o
-    → AreOf (Is (codes ":") ∷ Is (traits_of kind).word ∷ Is (codes ":=") ∷ (preset_form o n ++ Is (codes ";") ∷ [])) ts → IsInstanceBody ts kind n
-instance_given None ts kind n takes (colon, a, pa, is_colon, (block, b, pb, is_block, (assign, c, pc, is_assign, (word, d, pd, never, more)))) = absurd never
-instance_given (Some form) ts kind n takes h =
-    instance_with form ts kind n takes
-    (form_opened form n (λ sorts. AreOf (Is (codes ":") ∷ Is (traits_of kind).word ∷ Is (codes ":=") ∷ (sorts ++ Is (codes ";") ∷ [])) ts) h)
-
-pub has_body : (ts : List (List ℕ)) (b : Body) → IsBody ts b → HasBody ts b
-has_body ts (body.Var kind None value) (inl ((colon, a, pa, is_colon, (bool, b, pb, is_bool, (semicolon, c, pc, is_semicolon, empty))), off), memory) = record {
-  place = [];
-  colon = colon;
-  bool = bool;
-  initial = [];
-  semicolon = semicolon;
-  tokens = pa ∙ ap (λ z. colon ∷ z) (pb ∙ ap (λ z. bool ∷ z) (pc ∙ ap (λ z. semicolon ∷ z) empty));
-  is_place = (refl, memory);
-  is_colon = is_colon;
-  is_bool = is_bool;
-  is_initial = inl (refl, off);
-  is_semicolon = is_semicolon;
-}
-has_body ts (body.Var kind None value)
-    (inr (colon, a, pa, is_colon, (bool, b, pb, is_bool, (assign, c, pc, is_assign, (bit, d, pd, is_bit, (semicolon, e, pe, is_semicolon, empty))))), memory)
-    = record {
-      place = [];
-      colon = colon;
-      bool = bool;
-      initial = assign ∷ bit ∷ [];
-      semicolon = semicolon;
-      tokens = pa ∙ ap (λ z. colon ∷ z) (pb ∙ ap (λ z. bool ∷ z) (pc ∙ ap (λ z. assign ∷ z) (pd ∙ ap (λ z. bit ∷ z) (pe ∙ ap (λ z. semicolon ∷ z) empty))));
-      is_place = (refl, memory);
-      is_colon = is_colon;
-      is_bool = is_bool;
-      is_initial = inr (assign, bit, refl, is_assign, is_bit);
-      is_semicolon = is_semicolon;
-    }
-has_body ts (body.Var kind (Some address) value)
-    (inl ((at, a, pa, is_at, (word, b, pb, is_address, (colon, c, pc, is_colon, (bool, d, pd, is_bool, (semicolon, e, pe, is_semicolon, empty))))), off))
-    = record {
-      place = at ∷ word ∷ [];
-      colon = colon;
-      bool = bool;
-      initial = [];
-      semicolon = semicolon;
-      tokens = pa ∙ ap (λ z. at ∷ z) (pb ∙ ap (λ z. word ∷ z) (pc ∙ ap (λ z. colon ∷ z) (pd ∙ ap (λ z. bool ∷ z) (pe ∙ ap (λ z. semicolon ∷ z) empty))));
-      is_place = (at, word, refl, is_at, is_address);
-      is_colon = is_colon;
-      is_bool = is_bool;
-      is_initial = inl (refl, off);
-      is_semicolon = is_semicolon;
-    }
-has_body ts (body.Var kind (Some address) value)
-    (inr (at, a, pa, is_at, (word, b, pb, is_address, (colon, c, pc, is_colon, (bool, d, pd, is_bool, (assign, e, pe, is_assign, (bit, f, pf, is_bit, (semicolon, g, pg, is_semicolon, empty))))))))
-    = record {
-      place = at ∷ word ∷ [];
-      colon = colon;
-      bool = bool;
-      initial = assign ∷ bit ∷ [];
-      semicolon = semicolon;
-      tokens = pa ∙ ap (λ z. at ∷ z) (pb ∙ ap (λ z. word ∷ z) (pc ∙ ap (λ z. colon ∷ z) (pd ∙ ap (λ z. bool ∷ z)
-          (pe ∙ ap (λ z. assign ∷ z) (pf ∙ ap (λ z. bit ∷ z) (pg ∙ ap (λ z. semicolon ∷ z) empty))))));
-      is_place = (at, word, refl, is_at, is_address);
-      is_colon = is_colon;
-      is_bool = is_bool;
-      is_initial = inr (assign, bit, refl, is_assign, is_bit);
-      is_semicolon = is_semicolon;
-    }
-has_body ts (body.Instance kind n) (inl ((colon, a, pa, is_colon, (block, b, pb, is_block, (semicolon, c, pc, is_semicolon, empty))), none)) = record {
-  colon = colon;
-  block = block;
-  preset = [];
-  semicolon = semicolon;
-  tokens = pa ∙ ap (λ z. colon ∷ z) (pb ∙ ap (λ z. block ∷ z) (pc ∙ ap (λ z. semicolon ∷ z) empty));
-  is_colon = is_colon;
-  is_block = block_reads block kind is_block;
-  is_preset = inl (refl, none);
-  is_semicolon = is_semicolon;
-}
-has_body ts (body.Instance kind n) (inr given) = instance_given (traits_of kind).parameter ts kind n refl given
 
 -- ---- and back
 
-is_var : (kind : VarKind) (address : Option Address) (value : Bool) (ts place initial : List (List ℕ)) (colon bool semicolon : List ℕ)
-    → ts ≡ place ++ (colon ∷ bool ∷ (initial ++ semicolon ∷ [])) → IsPlace place kind address → Is (codes ":") colon → Is (codes "BOOL") bool
-    → IsInitial initial value → Is (codes ";") semicolon → IsBody ts (body.Var kind address value)
-is_var kind None value ts place initial colon bool semicolon parts (none, memory) is_colon is_bool (inl (empty, off)) is_semicolon =
-    let whole : ts ≡ colon ∷ bool ∷ semicolon ∷ []
-    = parts ∙ ap (λ z. z ++ (colon ∷ bool ∷ (initial ++ semicolon ∷ []))) none ∙ ap (λ z. colon ∷ bool ∷ (z ++ semicolon ∷ [])) empty in
-    (inl ((colon, _, whole, is_colon, (bool, _, refl, is_bool, (semicolon, [], refl, is_semicolon, refl))), off), memory)
-is_var kind None value ts place initial colon bool semicolon parts (none, memory) is_colon is_bool (inr (assign, bit, two, is_assign, is_bit)) is_semicolon =
-    let whole : ts ≡ colon ∷ bool ∷ assign ∷ bit ∷ semicolon ∷ []
-    = parts ∙ ap (λ z. z ++ (colon ∷ bool ∷ (initial ++ semicolon ∷ []))) none ∙ ap (λ z. colon ∷ bool ∷ (z ++ semicolon ∷ [])) two in
-    (inr (colon, _, whole, is_colon, (bool, _, refl, is_bool, (assign, _, refl, is_assign, (bit, _, refl, is_bit, (semicolon, [], refl, is_semicolon, refl))))), memory)
-is_var kind (Some a) value ts place initial colon bool semicolon parts (at, word, pair, is_at, is_address) is_colon is_bool (inl (empty, off)) is_semicolon =
-    let whole : ts ≡ at ∷ word ∷ colon ∷ bool ∷ semicolon ∷ []
-    = parts ∙ ap (λ z. z ++ (colon ∷ bool ∷ (initial ++ semicolon ∷ []))) pair ∙ ap (λ z. at ∷ word ∷ colon ∷ bool ∷ (z ++ semicolon ∷ [])) empty in
-    inl ((at, _, whole, is_at, (word, _, refl, is_address, (colon, _, refl, is_colon, (bool, _, refl, is_bool, (semicolon, [], refl, is_semicolon, refl))))), off)
-is_var kind (Some a) value ts place initial colon bool semicolon parts (at, word, pair, is_at, is_address) is_colon is_bool (inr (assign, bit, two, is_assign, is_bit)) is_semicolon =
-    let whole : ts ≡ at ∷ word ∷ colon ∷ bool ∷ assign ∷ bit ∷ semicolon ∷ []
-    = parts ∙ ap (λ z. z ++ (colon ∷ bool ∷ (initial ++ semicolon ∷ []))) pair ∙ ap (λ z. at ∷ word ∷ colon ∷ bool ∷ (z ++ semicolon ∷ [])) two in
-    inr (at, _, whole, is_at, (word, _, refl, is_address, (colon, _, refl, is_colon, (bool, _, refl, is_bool, (assign, _, refl, is_assign, (bit, _, refl, is_bit, (semicolon, [], refl, is_semicolon, refl)))))))
+place_of : (ts : List (List ℕ)) (kind : VarKind) (address : Option Address) → IsPlace ts kind address
+    → Optional (Token (Is (codes "AT")) ∷ Token (λ word. (a : Address) × (address ≡ Some a) × IsAddress word kind a) ∷ []) ((address ≡ None) × (kind ≡ var_kind.Memory)) ts
+place_of ts kind None (empty, memory) = inr (empty, (refl, memory))
+place_of ts kind (Some address) (at, word, both, is_at, is_address) =
+    inl (at ∷ [], word ∷ [], both, (at, refl, is_at), (word ∷ [], [], refl, (word, refl, (address, refl, is_address)), refl))
 
-is_instance : (kind : BlockKind) (n : ℕ) (ts preset : List (List ℕ)) (colon block semicolon : List ℕ) → ts ≡ colon ∷ block ∷ (preset ++ semicolon ∷ [])
-    → Is (codes ":") colon → block_of block ≡ Some kind → IsPreset preset kind n → Is (codes ";") semicolon → IsBody ts (body.Instance kind n)
-is_instance kind n ts preset colon block semicolon parts is_colon is_block (inl (empty, none)) is_semicolon =
-    let whole : ts ≡ colon ∷ block ∷ semicolon ∷ [] = parts ∙ ap (λ z. colon ∷ block ∷ (z ++ semicolon ∷ [])) empty in
-    inl ((colon, _, whole, is_colon, (block, _, refl, block_takes block kind is_block, (semicolon, [], refl, is_semicolon, refl))), none)
-is_instance kind n ts preset colon block semicolon parts is_colon is_block (inr p) is_semicolon =
-    let whole : ts ≡ colon ∷ block ∷ p.assign ∷ p.opening ∷ p.parameter ∷ p.given ∷ p.word ∷ p.closing ∷ semicolon ∷ []
-    = parts ∙ ap (λ z. colon ∷ block ∷ (z ++ semicolon ∷ [])) p.tokens in
-    let Given : Option Parameter → Type 0
-    = λ o. AreOf (Is (codes ":") ∷ Is (traits_of kind).word ∷ Is (codes ":=") ∷ (preset_form o n ++ Is (codes ";") ∷ [])) ts in
-    let given : AreOf (Is (codes ":") ∷ Is (traits_of kind).word ∷ Is (codes ":=") ∷ (value_form p.form n ++ Is (codes ";") ∷ [])) ts = (
-      colon,
-      _,
-      whole,
-      is_colon,
-      (
-        block,
-        _,
-        refl,
-        block_takes block kind is_block,
-        (
-          p.assign,
-          _,
-          refl,
-          p.is_assign,
-          (
-            p.opening,
-            _,
-            refl,
-            p.is_opening,
-            (
-              p.parameter,
-              _,
-              refl,
-              p.is_parameter,
-              (p.given, _, refl, p.is_given, (p.word, _, refl, p.is_word, (p.closing, _, refl, p.is_closing, (semicolon, [], refl, is_semicolon, refl)))),
-            ),
-          ),
-        ),
-      ),
-    ) in
-    let closed : Given (Some p.form)
-    = form_closed p.form n (λ sorts. AreOf (Is (codes ":") ∷ Is (traits_of kind).word ∷ Is (codes ":=") ∷ (sorts ++ Is (codes ";") ∷ [])) ts) given in
-    inr (subst Given (sym p.takes) closed)
+initial_of : (ts : List (List ℕ)) (value : Bool) → IsInitial ts value
+    → Optional (Token (Is (codes ":=")) ∷ Token (λ word. bit_word word ≡ Some value) ∷ []) (value ≡ false) ts
+initial_of ts value (inl none) = inr none
+initial_of ts value (inr (assign, bit, both, is_assign, is_bit)) =
+    inl (assign ∷ [], bit ∷ [], both, (assign, refl, is_assign), (bit ∷ [], [], refl, (bit, refl, is_bit), refl))
+
+value_of_preset : (kind : BlockKind) (n : ℕ) (ts : List (List ℕ)) (p : HasPreset ts kind n)
+    → value_form p.form n (p.opening ∷ p.parameter ∷ p.given ∷ p.word ∷ p.closing ∷ [])
+value_of_preset kind n ts p = (p.opening ∷ [], p.parameter ∷ p.given ∷ p.word ∷ p.closing ∷ [], refl, (p.opening, refl, p.is_opening), (p.parameter ∷ [], p.given ∷ p.word ∷ p.closing ∷ [], refl, (p.parameter, refl, p.is_parameter), (p.given ∷ [], p.word ∷ p.closing ∷ [], refl, (p.given, refl, p.is_given), (p.word ∷ [], p.closing ∷ [], refl, (p.word, refl, p.is_word), (p.closing ∷ [], [], refl, (p.closing, refl, p.is_closing), refl)))))
+
+preset_of : (ts : List (List ℕ)) (kind : BlockKind) (n : ℕ) → IsPreset ts kind n
+    → Optional (Token (Is (codes ":=")) ∷ Preset (traits_of kind).parameter n ∷ []) (n ≡ 0) ts
+preset_of ts kind n (inl none) = inr none
+preset_of ts kind n (inr p) =
+    let value : List (List ℕ) = p.opening ∷ p.parameter ∷ p.given ∷ p.word ∷ p.closing ∷ [] in
+    let given : Preset (traits_of kind).parameter n value
+    = subst (λ o. Preset o n value) (sym p.takes) (form_closed p.form n value (value_of_preset kind n ts p)) in
+    inl (p.assign ∷ [], value, p.tokens, (p.assign, refl, p.is_assign), (value, [], sym (append-nil value), given, refl))
 
 pub is_body : (ts : List (List ℕ)) (b : Body) → HasBody ts b → IsBody ts b
 is_body ts (body.Var kind address value) h =
-    is_var kind address value ts h.place h.initial h.colon h.bool h.semicolon h.tokens h.is_place h.is_colon h.is_bool h.is_initial h.is_semicolon
+    let last : List (List ℕ) = h.semicolon ∷ [] in
+    let behind : List (List ℕ) = h.initial ++ last in (
+      h.place,
+      h.colon ∷ h.bool ∷ behind,
+      h.tokens,
+      place_of h.place kind address h.is_place,
+      (
+        h.colon ∷ [],
+        h.bool ∷ behind,
+        refl,
+        (h.colon, refl, h.is_colon),
+        (
+          h.bool ∷ [],
+          behind,
+          refl,
+          (h.bool, refl, h.is_bool),
+          (h.initial, last, refl, initial_of h.initial value h.is_initial, (last, [], refl, (h.semicolon, refl, h.is_semicolon), refl)),
+        ),
+      ),
+    )
 is_body ts (body.Instance kind n) h =
-    is_instance kind n ts h.preset h.colon h.block h.semicolon h.tokens h.is_colon h.is_block h.is_preset h.is_semicolon
+    let last : List (List ℕ) = h.semicolon ∷ [] in
+    let behind : List (List ℕ) = h.preset ++ last in (
+      h.colon ∷ [],
+      h.block ∷ behind,
+      h.tokens,
+      (h.colon, refl, h.is_colon),
+      (
+        h.block ∷ [],
+        behind,
+        refl,
+        (h.block, refl, block_takes h.block kind h.is_block),
+        (h.preset, last, refl, preset_of h.preset kind n h.is_preset, (last, [], refl, (h.semicolon, refl, h.is_semicolon), refl)),
+      ),
+    )

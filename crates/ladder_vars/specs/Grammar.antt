@@ -24,10 +24,22 @@ use Rattle.ladder_times.specs.Duration.{number_of, IsDuration}
 abbrev pub Is : List ℕ → List ℕ → Type 0
 Is word token = same_letters token word ≡ true
 
--- The tokens are of these sorts, one of each in this order.
-abbrev pub AreOf : List (List ℕ → Type 0) → List (List ℕ) → Type 0
-AreOf [] ts = ts ≡ []
-AreOf (Sort ∷ sorts) ts = (t : List ℕ) × (others : List (List ℕ)) × (ts ≡ t ∷ others) × Sort t × AreOf sorts others
+-- ---- phrases: what tokens in a row are
+
+-- one token of such a sort
+abbrev pub Token : (List ℕ → Type 0) → List (List ℕ) → Type 0
+Token Sort ts = (t : List ℕ) × (ts ≡ t ∷ []) × Sort t
+
+-- these phrases, one behind the other
+abbrev pub Sequence : List (List (List ℕ) → Type 0) → List (List ℕ) → Type 0
+Sequence [] ts = ts ≡ []
+Sequence (Phrase ∷ phrases) ts = (front back : List (List ℕ)) × (ts ≡ front ++ back) × Phrase front × Sequence phrases back
+
+-- these, or nothing, which stands for the default
+abbrev pub Optional : List (List (List ℕ) → Type 0) → Type 0 → List (List ℕ) → Type 0
+Optional phrases Default ts = Sequence phrases ts ⊎ ((ts ≡ []) × Default)
+
+-- ---- numbers
 
 -- A number of the declarations has 1 to 5 digits.
 abbrev pub IsNumber : List ℕ → ℕ → Type 0
@@ -52,32 +64,27 @@ abbrev pub bit_word : List ℕ → Option Bool
 bit_word word = lookup (same_letters word) ((codes "TRUE", true) ∷ (codes "FALSE", false) ∷ (codes "1", true) ∷ (codes "0", false) ∷ [])
 
 -- ( word := value )
-abbrev pub bracketed : List ℕ → (List ℕ → Type 0) → List (List ℕ → Type 0)
-bracketed word Value = Is (codes "(") ∷ Is word ∷ Is (codes ":=") ∷ Value ∷ Is (codes ")") ∷ []
+abbrev pub Bracketed : List ℕ → (List ℕ → Type 0) → List (List ℕ) → Type 0
+Bracketed word Value = Sequence (Token (Is (codes "(")) ∷ Token (Is word) ∷ Token (Is (codes ":=")) ∷ Token Value ∷ Token (Is (codes ")")) ∷ [])
 
 -- A preset: `( PT := duration )` of a timer, `( PV := number )` of a counter, at most 32767 (the profile); a bistable has none.
-abbrev pub preset_form : Option Parameter → ℕ → List (List ℕ → Type 0)
-preset_form (Some parameter.Time) n = bracketed (codes "PT") (λ word. IsDuration word n)
-preset_form (Some parameter.Count) n = bracketed (codes "PV") (λ word. IsNumber word n × (n ≤ LARGEST_COUNT))
-preset_form None n = (λ word. ⊥) ∷ []
+abbrev pub Preset : Option Parameter → ℕ → List (List ℕ) → Type 0
+Preset (Some parameter.Time) n = Bracketed (codes "PT") (λ word. IsDuration word n)
+Preset (Some parameter.Count) n = Bracketed (codes "PV") (λ word. IsNumber word n × (n ≤ LARGEST_COUNT))
+Preset None n = λ ts. ⊥
 
 -- ---- declarations
-
--- These, and then `;`, which leaves the default, or `:=`, what is given, and `;`.
-abbrev pub AreGiven : List (List ℕ → Type 0) → List (List ℕ → Type 0) → Type 0 → List (List ℕ) → Type 0
-AreGiven front given Default ts =
-    (AreOf (front ++ Is (codes ";") ∷ []) ts × Default) ⊎ AreOf (front ++ Is (codes ":=") ∷ (given ++ Is (codes ";") ∷ [])) ts
 
 -- What follows the name of a variable, `[AT address] : BOOL [:= bit] ;`, which is a memory variable without an address, and FALSE without a bit;
 -- and that of an instance, `: type [:= preset] ;`, whose preset is 0 without one.
 abbrev pub IsBody : List (List ℕ) → Body → Type 0
-IsBody ts (body.Var kind None value) =
-    AreGiven (Is (codes ":") ∷ Is (codes "BOOL") ∷ []) ((λ word. bit_word word ≡ Some value) ∷ []) (value ≡ false) ts × (kind ≡ var_kind.Memory)
-IsBody ts (body.Var kind (Some address) value) =
-    AreGiven (Is (codes "AT") ∷ (λ word. IsAddress word kind address) ∷ Is (codes ":") ∷ Is (codes "BOOL") ∷ [])
-    ((λ word. bit_word word ≡ Some value) ∷ []) (value ≡ false) ts
+IsBody ts (body.Var kind address value) =
+    Sequence (Optional (Token (Is (codes "AT")) ∷ Token (λ word. (a : Address) × (address ≡ Some a) × IsAddress word kind a) ∷ [])
+    ((address ≡ None) × (kind ≡ var_kind.Memory)) ∷ Token (Is (codes ":")) ∷ Token (Is (codes "BOOL"))
+    ∷ Optional (Token (Is (codes ":=")) ∷ Token (λ word. bit_word word ≡ Some value) ∷ []) (value ≡ false) ∷ Token (Is (codes ";")) ∷ []) ts
 IsBody ts (body.Instance kind n) =
-    AreGiven (Is (codes ":") ∷ Is (traits_of kind).word ∷ []) (preset_form (traits_of kind).parameter n) (n ≡ 0) ts
+    Sequence (Token (Is (codes ":")) ∷ Token (Is (traits_of kind).word)
+    ∷ Optional (Token (Is (codes ":=")) ∷ Preset (traits_of kind).parameter n ∷ []) (n ≡ 0) ∷ Token (Is (codes ";")) ∷ []) ts
 
 -- A declaration is a name and what follows it.
 pub record Decl : Type 0 where
@@ -86,8 +93,7 @@ pub record Decl : Type 0 where
 
 abbrev pub AreDecls : List (List ℕ) → List Decl → Type 0
 AreDecls ts [] = ts ≡ []
-AreDecls ts (d ∷ ds) =
-    (behind back : List (List ℕ)) × (ts ≡ d.name ∷ (behind ++ back)) × (is_name d.name ≡ true) × IsBody behind d.body × AreDecls back ds
+AreDecls ts (d ∷ ds) = (behind back : List (List ℕ)) × (ts ≡ d.name ∷ (behind ++ back)) × (is_name d.name ≡ true) × IsBody behind d.body × AreDecls back ds
 
 -- the variables among declarations, and the instances
 abbrev pub declared_var : Decl → Option Var
