@@ -7,10 +7,8 @@ use Rattle.ladder_page.specs.Geometry.{place}
 use Rattle.ladder_page.specs.Picture.{Lines}
 use Rattle.ladder_page.specs.Texts.{cell_text}
 use Rattle.ladder_page.specs.Form.{IsFormOf}
-use Rattle.ladder_page.specs.Page.{Page}
-use Rattle.ladder_page.specs.ReadLines.{page}
-use Rattle.ladder_page.specs.PageRules.{ReadsAs}
-use Rattle.ladder_page.specs.ReadLines.{lines_of, unclosed_line, parts_of, form_read, forms_of, page_with, page_of}
+use Rattle.ladder_page.specs.Page.{Page, ReadsAs}
+use Rattle.ladder_page.specs.ReadLines.{page, lines_of, unclosed_line, parts_of, form_read, forms_of, page_with, page_of}
 use Rattle.ladder_page.proofs.FormLaws.{forms_told, form_of_one}
 use Rattle.ladder_page.proofs.CutLaws.{lines_are}
 use Rattle.ladder_page.proofs.UnclosedLaws.{unclosed_is, same_line}
