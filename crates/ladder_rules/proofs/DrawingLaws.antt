@@ -2,6 +2,7 @@
 use Rattle.std.proofs.Common.{◌≡◌, ℕ, ◌+◌, ◌<◌, ◌≤◌, ◌++◌, List, [], ◌∷◌, inl, inr, length, take, Option, refl, arith}
 use Rattle.std.proofs.lemmas.List.{take_more, map-append}
 use Rattle.std.proofs.lemmas.Bool.{cases_lt}
+use Rattle.ladder_page.specs.declared.geometry.TheConstants.{RUNGS}
 use Rattle.ladder_rules.specs.declared.fault.Rule.TheVariants.{Grid}
 use Rattle.ladder_rules.specs.declared.fault.GridRule.TheVariants as rule
 use Rattle.ladder_page.specs.declared.lines.Part.{Part}
@@ -30,9 +31,9 @@ module _ (page : Page)
   sound_page r rung line (inr (inr h)) = targets rung h.1 line h.2
 
 -- A page on which no rule is broken has at most a hundred rungs.
-pub few_rungs : (page : Page) → IsSoundPage page → length page.parts ≤ 100
+pub few_rungs : (page : Page) → IsSoundPage page → length page.parts ≤ RUNGS
 unfolding PartBreaks
-few_rungs page sound = elim (cases_lt 100 (length page.parts)) [
-  | inl many ↦ absurd (sound (Grid rule.TooManyRungs) 100 (part_in page.parts 100).start (inl (many, inr (inl (refl, refl, refl)))))
+few_rungs page sound = elim (cases_lt RUNGS (length page.parts)) [
+  | inl many ↦ absurd (sound (Grid rule.TooManyRungs) RUNGS (part_in page.parts RUNGS).start (inl (many, inr (inl (refl, refl, refl)))))
   | inr few ↦ omega (arith, few)
 ]

@@ -3,6 +3,7 @@ use Rattle.std.proofs.Common.{◌≡◌, ◌↔◌, inl, inr, ℕ, zero, suc, �
 use Rattle.std.proofs.lemmas.Bool.{cases_lt}
 use Rattle.std.proofs.Math.ListN.{get_or-eq_default}
 use Rattle.std.proofs.lemmas.List.{get_or-replicate, get_or_default, get_or-set_same, get_or-set_other, length-set, length-replicate}
+use Rattle.ladder_page.specs.declared.geometry.TheConstants.{RUNGS, ROWS, COLUMNS, PLACES}
 use Rattle.ladder_vars.specs.Decls.{Declared}
 use Rattle.ladder_page.specs.declared.form.Form.{Form}
 use Rattle.ladder_page.specs.declared.lines.Part.{Part}
@@ -117,10 +118,10 @@ module _ (decls : Declared) (lines : Lines) (unclosed : Option ℕ) (parts : Lis
   block = block_in decls forms overs
 
   abbrev count : ℕ
-  count = 60 * min (length parts) 100
+  count = PLACES * min (length parts) RUNGS
 
   -- the table of names has that of each cell
-  block_at : (k r c : ℕ) → k < length parts → k < 100 → r < 6 → c < 10
+  block_at : (k r c : ℕ) → k < length parts → k < RUNGS → r < ROWS → c < COLUMNS
       → block (reading_place k r c) ≡ block_drawn decls (form_at drawn_on k r c) (name_over drawn_on k r c)
   block_at k r c below few rows columns =
       let here : place_read (reading_place k r c) ≡ place k r c
@@ -130,7 +131,7 @@ module _ (decls : Declared) (lines : Lines) (unclosed : Option ℕ) (parts : Lis
       (over_at decls lines parts overs (place k r c) (record { written = false; name = None }) k r c told refl below few rows columns)
 
   -- the table has the instance exactly where there is a block of it
-  block_is : (k r c inst : ℕ) → k < length parts → k < 100 → r < 6 → c < 10
+  block_is : (k r c inst : ℕ) → k < length parts → k < RUNGS → r < ROWS → c < COLUMNS
       → (block (reading_place k r c) ≡ Some inst) ↔ IsDrawnAt drawn_on inst k r c
   unfolding instance_at
   block_is k r c inst below few rows columns =
@@ -142,24 +143,24 @@ module _ (decls : Declared) (lines : Lines) (unclosed : Option ℕ) (parts : Lis
   unfolding instance_at
   declared_only k r c inst is = instance_fits decls (form_at drawn_on k r c) (name_over drawn_on k r c) inst (λ x e. refer_fits decls _ x e) is
 
-  drawn_there : (k r c inst first : ℕ) → r < 6 → c < 10 → first < count → first < reading_place k r c → block first ≡ Some inst → IsDrawnBefore drawn_on inst k r c
+  drawn_there : (k r c inst first : ℕ) → r < ROWS → c < COLUMNS → first < count → first < reading_place k r c → block first ≡ Some inst → IsDrawnBefore drawn_on inst k r c
   drawn_there k r c inst first rows columns below before is =
-      let rung : first / 60 < length parts = omega (arith, below) in
-      let few : first / 60 < 100 = omega (arith, below) in
-      let row : first % 60 / 10 < 6 = omega arith in
-      let column : first % 60 % 10 < 10 = omega arith in
-      let here : reading_place (first / 60) (first % 60 / 10) (first % 60 % 10) ≡ first = omega arith in
-      let less : reading_place (first / 60) (first % 60 / 10) (first % 60 % 10) < reading_place k r c = omega (arith, here, before) in (
-        first / 60,
-        first % 60 / 10,
-        first % 60 % 10,
+      let rung : first / PLACES < length parts = omega (arith, below) in
+      let few : first / PLACES < RUNGS = omega (arith, below) in
+      let row : first % PLACES / COLUMNS < ROWS = omega arith in
+      let column : first % PLACES % COLUMNS < COLUMNS = omega arith in
+      let here : reading_place (first / PLACES) (first % PLACES / COLUMNS) (first % PLACES % COLUMNS) ≡ first = omega arith in
+      let less : reading_place (first / PLACES) (first % PLACES / COLUMNS) (first % PLACES % COLUMNS) < reading_place k r c = omega (arith, here, before) in (
+        first / PLACES,
+        first % PLACES / COLUMNS,
+        first % PLACES % COLUMNS,
         row,
         column,
-        earlier (first / 60) (first % 60 / 10) (first % 60 % 10) k r c column columns row rows less,
-        (block_is (first / 60) (first % 60 / 10) (first % 60 % 10) inst rung few row column).0 (ap block here ∙ is),
+        earlier (first / PLACES) (first % PLACES / COLUMNS) (first % PLACES % COLUMNS) k r c column columns row rows less,
+        (block_is (first / PLACES) (first % PLACES / COLUMNS) (first % PLACES % COLUMNS) inst rung few row column).0 (ap block here ∙ is),
       )
 
-  before_here : (k r c inst : ℕ) (o : Option ℕ) → r < 6 → c < 10 → FirstIn block count inst o → IsBefore o (reading_place k r c) → IsDrawnBefore drawn_on inst k r c
+  before_here : (k r c inst : ℕ) (o : Option ℕ) → r < ROWS → c < COLUMNS → FirstIn block count inst o → IsBefore o (reading_place k r c) → IsDrawnBefore drawn_on inst k r c
   before_here k r c inst None rows columns says before = absurd before
   before_here k r c inst (Some first) rows columns says before = drawn_there k r c inst first rows columns says.0 before says.1
 
@@ -178,7 +179,7 @@ module _ (decls : Declared) (lines : Lines) (unclosed : Option ℕ) (parts : Lis
       subst (λ o. IsBefore o here) none before
 
   drawn_before : (firsts : List (Option ℕ)) → firsts ≡ firsts_of block (length decls.instances) count
-      → (inst k r c : ℕ) → k < length parts → k < 100 → r < 6 → c < 10
+      → (inst k r c : ℕ) → k < length parts → k < RUNGS → r < ROWS → c < COLUMNS
       → IsBefore (slice_index_or firsts inst None) (reading_place k r c) ↔ IsDrawnBefore drawn_on inst k r c
   drawn_before firsts table inst k r c below few rows columns = (
     λ before. elim (cases_lt inst (length decls.instances)) [
@@ -192,7 +193,7 @@ module _ (decls : Declared) (lines : Lines) (unclosed : Option ℕ) (parts : Lis
         let less : reading_place d.0 d.1 d.2 < reading_place k r c = less_place d.0 d.1 d.2 k r c d.4 d.3 d.5 in
         let rung : d.0 ≤ k = omega (arith, less, d.3, d.4, rows, columns) in
         let in_parts : d.0 < length parts = omega (arith, rung, below) in
-        let in_limit : d.0 < 100 = omega (arith, rung, few) in
+        let in_limit : d.0 < RUNGS = omega (arith, rung, few) in
         let within : reading_place d.0 d.1 d.2 < count = omega (arith, in_parts, in_limit, d.3, d.4) in
         let is : block (reading_place d.0 d.1 d.2) ≡ Some inst = (block_is d.0 d.1 d.2 inst in_parts in_limit d.3 d.4).1 d.6 in
         let says = first_in block (length decls.instances) count inst declared in
@@ -201,7 +202,7 @@ module _ (decls : Declared) (lines : Lines) (unclosed : Option ℕ) (parts : Lis
   )
 
   pub drawn_by : (firsts : List (Option ℕ)) → firsts ≡ firsts_of block (length decls.instances) count
-      → (inst k r c : ℕ) → k < length parts → k < 100 → r < 6 → c < 10
+      → (inst k r c : ℕ) → k < length parts → k < RUNGS → r < ROWS → c < COLUMNS
       → (first : Option ℕ) (here : ℕ) → first ≡ slice_index_or firsts inst None → here ≡ reading_place k r c
       → (b : Bool) → IsTrue b ↔ IsBefore first here → IsTrue b ↔ IsDrawnBefore drawn_on inst k r c
   drawn_by firsts table inst k r c below few rows columns first here entry place b test =

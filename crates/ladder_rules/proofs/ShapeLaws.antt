@@ -1,6 +1,7 @@
 -- A block or a lower cell that the code finds torn is so.
 use Rattle.std.proofs.lemmas.Bool.{cases_lt, eqb-true, eqb-false}
 use Rattle.std.proofs.Common.{ℕ, ◌+◌, ◌-◌, ◌<◌, ◌≤◌, ◌==◌, cond, arith, ◌≡◌, ◌↔◌, ◌⊎◌, inl, inr, Bool, true, false, not, IsTrue, Option, Some, None, refl, ap, ◌∙◌}
+use Rattle.ladder_page.specs.declared.geometry.TheConstants.{ROWS}
 use Rattle.ladder_vars.specs.Kind.{traits_of}
 use Rattle.ladder_vars.specs.declared.kind.BlockKind.{BlockKind}
 use Rattle.ladder_vars.specs.declared.kind.Pin.{Pin}
@@ -110,17 +111,17 @@ torn_from above form below = (torn_is above form below, torn_so above form below
 
 -- ---- at a place
 
-module _ (page : Page) (k r c : ℕ) (rows : r < 6) where
-  last_row : (r + 1 == 6) ≡ true → r + 1 < 6 → ⊥
-  last_row e below = absurd (omega (arith, eqb-true (r + 1) 6 e, below))
+module _ (page : Page) (k r c : ℕ) (rows : r < ROWS) where
+  last_row : (r + 1 == ROWS) ≡ true → r + 1 < ROWS → ⊥
+  last_row e below = absurd (omega (arith, eqb-true (r + 1) ROWS e, below))
 
-  none_below : (p : Pin) → ((linked : Bool) → form_below page k r c ≡ Some (Lower p linked) → ⊥) ↔ (r + 1 < 6 → ¬ (IsLowerWith p (form_at page k (r + 1) c)))
+  none_below : (p : Pin) → ((linked : Bool) → form_below page k r c ≡ Some (Lower p linked) → ⊥) ↔ (r + 1 < ROWS → ¬ (IsLowerWith p (form_at page k (r + 1) c)))
   none_below p =
-      elim (r + 1 == 6) as (λ t. (r + 1 == 6) ≡ t → ((linked : Bool) → cond t None (form_at page k (r + 1) c) ≡ Some (Lower p linked) → ⊥)
-      ↔ (r + 1 < 6 → ¬ (IsLowerWith p (form_at page k (r + 1) c)))) [
+      elim (r + 1 == ROWS) as (λ t. (r + 1 == ROWS) ≡ t → ((linked : Bool) → cond t None (form_at page k (r + 1) c) ≡ Some (Lower p linked) → ⊥)
+      ↔ (r + 1 < ROWS → ¬ (IsLowerWith p (form_at page k (r + 1) c)))) [
         | true ↦ λ e. (λ h below lower. last_row e below, λ h linked is. none_some is)
         | false ↦ λ e.
-            let below : r + 1 < 6 = elim (cases_lt (r + 1) 6) [ inl less ↦ less | inr more ↦ absurd (eqb-false (r + 1) 6 e (omega (arith, more, rows))) ] in
+            let below : r + 1 < ROWS = elim (cases_lt (r + 1) ROWS) [ inl less ↦ less | inr more ↦ absurd (eqb-false (r + 1) ROWS e (omega (arith, more, rows))) ] in
             (λ h less lower. h lower.0 lower.1, λ h linked is. h below (linked, is))
       ] refl
 

@@ -1,5 +1,6 @@
 use Rattle.std.proofs.Common.{◌≡◌, ℕ, ◌<◌, ◌≤◌, length, map, true, arith, sym, ap, ◌∙◌}
 use Rattle.std.proofs.lemmas.List.{length-map}
+use Rattle.ladder_page.specs.declared.geometry.TheConstants.{LINES}
 use Rattle.ladder_page.specs.Picture.{Lines}
 use Rattle.ladder_page.specs.Page.{Page, rung_at}
 use Rattle.ladder_page.specs.Seen.{seen}
@@ -14,7 +15,7 @@ use Rattle.ladder_rules.proofs.rung.broken_rule.Goals as goal
 
 module _ (page : Page) (k : ℕ) (rung : Lines) (same : rung ≡ rung_at page k) (size : ℕ) (whole : length rung ≡ size)
     (clean : (line : ℕ) → line < size → is_dirty_at rung line ≡ true → ⊥)
-    (low : size ≤ 12)
+    (low : size ≤ LINES)
     (narrow : (line : ℕ) → line < size → is_wide_at rung line ≡ true → ⊥)
     (kept : (r : GridRule) → IsKept page k r) where
   long : length (rung_at page k) ≡ size
