@@ -6,21 +6,21 @@ use Rattle.ladder_vars.specs.Text.{begins_with}
 use Rattle.ladder_page.specs.Bytes.{space, dash, plus, bar}
 use Rattle.ladder_page.specs.declared.form.Form.{Form}
 use Rattle.ladder_page.specs.declared.form.Form.TheVariants.{Empty, Wire, Contact, Coil, Block, Lower, Jump, Return}
-use Rattle.ladder_page.specs.declared.fault.Rule.TheVariants.{Grid}
-use Rattle.ladder_page.specs.declared.fault.GridRule.TheVariants as rule
+use Rattle.ladder_rules.specs.declared.fault.Rule.TheVariants.{Grid}
+use Rattle.ladder_rules.specs.declared.fault.GridRule.TheVariants as rule
 use Rattle.ladder_page.specs.declared.picture.Half.TheVariants as half
 use Rattle.ladder_vars.specs.declared.decls.Symbol.{Symbol}
-use Rattle.ladder_page.proofs.DrawingLaws.{few_rungs}
+use Rattle.ladder_rules.proofs.DrawingLaws.{few_rungs}
 use Rattle.ladder_page.specs.Form.{whole_cells, HasForm}
 use Rattle.ladder_page.specs.ReadForm.{Table, Lists}
 use Rattle.ladder_page.proofs.FormLaws.{lists_of}
 use Rattle.ladder_page.specs.Picture.{Lines, ch, joint, vertical, text_at, SameGroup}
 use Rattle.ladder_page.specs.Texts.{cell_text}
 use Rattle.ladder_page.specs.Page.{Page, rung_at, form_at}
-use Rattle.ladder_page.specs.Checks.{part_at}
-use Rattle.ladder_page.specs.Feeding.{right_link, enters, IsFed}
-use Rattle.ladder_page.specs.Rules.{is_joint, fits_joint}
-use Rattle.ladder_page.specs.PageRules.{PartBreaks}
+use Rattle.ladder_page.specs.Seen.{part_at}
+use Rattle.ladder_rules.specs.Feeding.{right_link, enters, IsFed}
+use Rattle.ladder_rules.specs.Rules.{is_joint, fits_joint}
+use Rattle.ladder_rules.specs.PageRules.{PartBreaks}
 use Rattle.ladder_grid.specs.Program.{Drawing, takes_power, site_at, joined, feeds}
 use Rattle.ladder_grid.specs.Reading.{joint_of, cell_with, IsDrawn, IsProgram}
 use Rattle.ladder_grid.specs.Agreement.{SameGroups, SameFeeding, FeedsDashes, has_left_link, FeedsCells}

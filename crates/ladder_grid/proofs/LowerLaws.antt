@@ -13,9 +13,9 @@ use Rattle.ladder_page.specs.declared.operand.Reference.{Reference}
 use Rattle.ladder_vars.specs.Kind.{traits_of}
 use Rattle.ladder_page.specs.Operand.{instance_on}
 use Rattle.ladder_page.specs.Suiting.{same_kind, is_of_kind, is_odd_on_block, is_odd}
-use Rattle.ladder_page.specs.Shapes.{lacks_lower}
+use Rattle.ladder_rules.specs.Shapes.{lacks_lower}
 use Rattle.ladder_grid.specs.Program.{is_pin, has_second}
-use Rattle.ladder_page.proofs.OddLaws.{kind_is}
+use Rattle.ladder_rules.proofs.OddLaws.{kind_is}
 
 none_some : {A : Type 0} {x : A} → None ≡ Some x → ⊥
 none_some h = cc

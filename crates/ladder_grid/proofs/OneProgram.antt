@@ -2,8 +2,7 @@
 use Rattle.std.proofs.Common.{◌≡◌, ℕ, ◌*◌, ◌<◌, List, drop, sym, ap, subst, ◌∙◌}
 use Rattle.ladder_vars.specs.Decls.{Declared}
 use Rattle.ladder_vars.specs.Grammar.{HasDecls}
-use Rattle.ladder_page.specs.Page.{Page}
-use Rattle.ladder_page.specs.PageRules.{ReadsAs}
+use Rattle.ladder_page.specs.Page.{Page, ReadsAs}
 use Rattle.ladder_grid.specs.Program.{Drawing, drawing}
 use Rattle.ladder_grid.specs.Sheet.{blank_site}
 use Rattle.ladder_grid.specs.Reading.{IsDrawn, IsProgram}

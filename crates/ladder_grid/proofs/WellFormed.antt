@@ -15,32 +15,31 @@ use Rattle.ladder_grid.specs.declared.site.Site.{Site}
 use Rattle.ladder_vars.specs.declared.kind.Pin.{Pin}
 use Rattle.ladder_page.specs.declared.form.Form.{Form}
 use Rattle.ladder_page.specs.declared.form.Form.TheVariants.{Empty, Wire, Contact, Coil, Block, Lower, Jump, Return}
-use Rattle.ladder_page.specs.declared.fault.Rule.TheVariants.{Grid}
-use Rattle.ladder_page.specs.declared.fault.GridRule.TheVariants as rule
+use Rattle.ladder_rules.specs.declared.fault.Rule.TheVariants.{Grid}
+use Rattle.ladder_rules.specs.declared.fault.GridRule.TheVariants as rule
 use Rattle.ladder_page.specs.declared.picture.Half.TheVariants as half
 use Rattle.ladder_page.specs.declared.operand.Reference.{Reference}
 use Rattle.ladder_page.specs.Gap.{Labels, is_named}
 use Rattle.ladder_page.specs.Operand.{instance_on}
 use Rattle.ladder_page.specs.Suiting.{is_odd}
-use Rattle.ladder_page.proofs.OddLaws.{odd_is}
-use Rattle.ladder_page.proofs.BlockLaws.{block_may}
-use Rattle.ladder_page.specs.Rules.{IsDrawnAt}
+use Rattle.ladder_rules.proofs.OddLaws.{odd_is}
+use Rattle.ladder_rules.proofs.BlockLaws.{block_may}
+use Rattle.ladder_rules.specs.Rules.{IsDrawnAt}
 use Rattle.ladder_page.specs.Page.{Page, labels_of, form_at, name_over, instance_at}
-use Rattle.ladder_page.specs.Seen.{instance_above}
+use Rattle.ladder_page.specs.Seen.{instance_above, part_at}
 use Rattle.ladder_page.specs.AllPlaces.{reading_place}
 use Rattle.ladder_vars.specs.Kind.{traits_of}
 use Rattle.ladder_page.specs.Form.{leaps}
-use Rattle.ladder_page.specs.Checks.{part_at, label_of, later, target_to, jump_label}
-use Rattle.ladder_page.specs.Shapes.{lacks_lower, is_apart, form_above, form_below}
-use Rattle.ladder_page.proofs.ShapeLaws.{torn}
-use Rattle.ladder_page.specs.PageRules.{PartBreaks, target_of}
-use Rattle.ladder_page.specs.Stops.{IsSoundPage}
-use Rattle.ladder_page.proofs.TargetLaws.{target_is}
+use Rattle.ladder_rules.specs.Checks.{label_of, later, target_to, jump_label}
+use Rattle.ladder_rules.specs.Shapes.{lacks_lower, is_apart, form_above, form_below}
+use Rattle.ladder_rules.proofs.ShapeLaws.{torn}
+use Rattle.ladder_rules.specs.PageRules.{PartBreaks, target_of}
+use Rattle.ladder_rules.specs.Stops.{IsSoundPage}
+use Rattle.ladder_rules.proofs.TargetLaws.{target_is}
 use Rattle.ladder_grid.specs.Sheet.{blank_site}
 use Rattle.ladder_grid.specs.Program.{drawing, memory_in, block_in, goes_to, has_memory, Fits, has_second, IsWellFormed}
-use Rattle.ladder_page.specs.Geometry.{place}
+use Rattle.ladder_page.specs.Geometry.{place, at_place}
 use Rattle.ladder_grid.specs.Reading.{cell_with, cell_drawn, site_drawn, memories_before}
-use Rattle.ladder_page.specs.Geometry.{at_place}
 use Rattle.ladder_grid.specs.Build.{sites_of}
 use Rattle.ladder_page.proofs.FitLaws.{SymbolFits, refer_fits, instance_fits}
 use Rattle.ladder_grid.proofs.CellFits.{cell_fits, fits_numbered}

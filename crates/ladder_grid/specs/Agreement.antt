@@ -6,7 +6,7 @@ use Rattle.ladder_grid.specs.declared.cell.Cell.{Cell}
 use Rattle.ladder_grid.specs.declared.cell.Cell.TheVariants as cell
 use Rattle.ladder_page.specs.Picture.{ch, SameGroup}
 use Rattle.ladder_page.specs.Page.{Page, rung_at}
-use Rattle.ladder_page.specs.Feeding.{enters}
+use Rattle.ladder_rules.specs.Feeding.{enters}
 use Rattle.ladder_grid.specs.Program.{Drawing, site_at, joined, feeds}
 
 -- Two rows of the program are joined on the left of a column exactly where their joints are one group of the picture.

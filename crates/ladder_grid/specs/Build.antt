@@ -2,7 +2,7 @@
 use Rattle.std.specs.Prelude.{◌≡◌, ◌≤◌, ℕ, List, length}
 use Rattle.ladder_page.specs.declared.geometry.TheConstants.{RUNGS}
 use Rattle.ladder_grid.specs.declared.site.Site.{Site}
-use Rattle.ladder_page.specs.Stops.{IsSoundPage}
+use Rattle.ladder_rules.specs.Stops.{IsSoundPage}
 use Rattle.ladder_page.specs.AllPlaces.{all_places}
 use Rattle.ladder_grid.specs.Reading.{site_drawn}
 use Rattle.ladder_page.specs.Page.{Page}

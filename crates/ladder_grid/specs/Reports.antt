@@ -1,8 +1,8 @@
 -- Private: how a reading that stops is reported.
 use Rattle.std.specs.Prelude.{ℕ, List}
 use Rattle.ladder_vars.specs.declared.fault.VarRule.TheVariants as var_rule
-use Rattle.ladder_page.specs.declared.fault.Stop.{Stop}
-use Rattle.ladder_page.specs.declared.fault.Stop.TheVariants.{NoMemory, Broken}
+use Rattle.ladder_rules.specs.declared.fault.Stop.{Stop}
+use Rattle.ladder_rules.specs.declared.fault.Stop.TheVariants.{NoMemory, Broken}
 use Rattle.ladder_grid.specs.declared.fault.GridFault.{GridFault}
 use Rattle.ladder_grid.specs.declared.fault.GridFault.TheVariants.{Vars}
 use Rattle.ladder_grid.specs.Reading.{fault_with}

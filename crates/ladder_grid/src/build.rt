@@ -7,19 +7,20 @@ ghost use Rattle.ladder_page.specs.Seen.{seen};
 ghost use Rattle.ladder_page.specs.Page.{labels_of};
 ghost use Rattle.ladder_grid.specs.Program.{has_memory};
 ghost use Rattle.ladder_grid.specs.Build.{sites_of, AreSitesOf};
-ghost use Rattle.ladder_page.specs.Stops.{IsBrokenIn, IsSmall, IsNear};
+ghost use Rattle.ladder_rules.specs.Stops.{IsBrokenIn, IsSmall, IsNear};
 ghost use Rattle.ladder_grid.specs.Reading.{IsDrawn};
 
 use crate::cell::Cell;
 use crate::program::Program;
 use crate::sheet::has_memory;
 use crate::site::{Site, cell_drawn, site_with};
-use ladder_page::firsts::firsts;
+use ladder_page::PageView;
 use ladder_page::geometry::{PLACES, ROWS, RUNGS};
 use ladder_page::lines::{blanked, lines, parts, unclosed_line};
 use ladder_page::page::{forms, overs};
-use ladder_page::page_check::check;
-use ladder_page::{PageView, Stop};
+use ladder_rules::Stop;
+use ladder_rules::firsts::firsts;
+use ladder_rules::page_check::check;
 use ladder_vars::{Decls, Name};
 use std::alloc::{AllocError, Global};
 

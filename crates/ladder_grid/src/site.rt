@@ -9,11 +9,11 @@ ghost use Rattle.ladder_page.specs.Page.{labels_of};
 ghost use Rattle.ladder_grid.specs.Reading.{contact_memory, coil_memory, cell_with, cell_drawn, joint_of, site_drawn};
 
 use crate::cell::{Cell, Joint, Operand};
-use ladder_page::feeding::right_link;
 use ladder_page::page::{form_at, instance_above, name_over, rung_at};
-use ladder_page::page_check::target_of;
 use ladder_page::picture::{joint, vertical};
 use ladder_page::{CoilMode, Form, Mode, PageView};
+use ladder_rules::feeding::right_link;
+use ladder_rules::page_check::target_of;
 use ladder_vars::{Name, Symbol};
 
 /// What is at a place of a rung: a cell, whether power can leave it on its right, the joint on its left, and whether a

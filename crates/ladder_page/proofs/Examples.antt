@@ -7,7 +7,6 @@ use Rattle.ladder_page.specs.Lines.{Piece, Plain, RungLine, Comment, OpenComment
 use Rattle.ladder_page.specs.ReadLines.{lines_of, parts_of, unclosed_line}
 use Rattle.ladder_page.specs.Gap.{label_in}
 use Rattle.ladder_page.specs.ReadForm.{form_at, marked_at}
-use Rattle.ladder_page.specs.Checks.{is_loose}
 use Rattle.ladder_page.specs.declared.form.Form.TheVariants.{Contact, Coil}
 use Rattle.ladder_page.specs.declared.mode.Mode.TheVariants as mode
 use Rattle.ladder_page.specs.declared.mode.CoilMode.TheVariants as coil
@@ -32,12 +31,8 @@ no_dash = refl
 
 -- ---- a contact that another one bridges
 
-bridged : Lines
+unfoldable pub bridged : Lines
 bridged = codes "|     A           Y" ∷ codes "|----| |----+----( )----" ∷ codes "|     A     |" ∷ codes "|----|/|----+" ∷ []
-
--- the same without a branch on the first row
-loose : Lines
-loose = codes "|     A           Y" ∷ codes "|----| |---------( )----" ∷ codes "|     A     |" ∷ codes "|----| |----+" ∷ []
 
 second_cell : form_at (cell_text bridged 0 1) ≡ Some (Coil coil.Store)
 unfolding bridged form_at marked_at text_at
@@ -50,14 +45,6 @@ branch = refl
 linked : vertical bridged 0 1 ≡ true
 unfolding bridged
 linked = refl
-
-closed_vertical : is_loose bridged 1 1 ≡ false
-unfolding bridged
-closed_vertical = refl
-
-loose_vertical : is_loose loose 1 1 ≡ true
-unfolding loose
-loose_vertical = refl
 
 -- ---- lines
 

@@ -1,5 +1,6 @@
 -- The table of what stands over the cells has it for each.
 use Rattle.std.proofs.Common.{◌≡◌, ℕ, ◌*◌, ◌<◌, min, List, length, slice_index_or, arith}
+use Rattle.ladder_page.specs.declared.geometry.TheConstants.{RUNGS, ROWS, COLUMNS, PLACES}
 use Rattle.ladder_vars.specs.Decls.{Declared}
 use Rattle.ladder_page.specs.declared.lines.Part.{Part}
 use Rattle.ladder_page.specs.declared.operand.NameOver.{NameOver}
@@ -10,17 +11,17 @@ use Rattle.ladder_page.specs.Lines.{part_in, rung_of}
 use Rattle.ladder_page.specs.Tables.{over_with, over_read, overs_of}
 use Rattle.ladder_page.proofs.PlaceLaws.{length-all_places, all_places-drawn}
 
-pub overs_count : (decls : Declared) (lines : Lines) (parts : List Part) → length (overs_of decls lines parts) ≡ 60 * min (length parts) 100
+pub overs_count : (decls : Declared) (lines : Lines) (parts : List Part) → length (overs_of decls lines parts) ≡ PLACES * min (length parts) RUNGS
 unfolding overs_of
-overs_count decls lines parts = length-all_places (over_read decls lines parts) (min (length parts) 100)
+overs_count decls lines parts = length-all_places (over_read decls lines parts) (min (length parts) RUNGS)
 
-over_told : (decls : Declared) (lines : Lines) (parts : List Part) (d : NameOver) (k r c : ℕ) → k < length parts → k < 100 → r < 6 → c < 10
+over_told : (decls : Declared) (lines : Lines) (parts : List Part) (d : NameOver) (k r c : ℕ) → k < length parts → k < RUNGS → r < ROWS → c < COLUMNS
     → slice_index_or (overs_of decls lines parts) (place k r c) d ≡ over_with decls (text_over (rung_of lines (part_in parts k)) r c)
 unfolding overs_of over_read
 over_told decls lines parts d k r c below few rows columns =
-    all_places-drawn (over_read decls lines parts) (min (length parts) 100) d k r c (omega (arith, below, few)) rows columns
+    all_places-drawn (over_read decls lines parts) (min (length parts) RUNGS) d k r c (omega (arith, below, few)) rows columns
 
 pub over_at : (decls : Declared) (lines : Lines) (parts : List Part) (overs : List NameOver) (n : ℕ) (d : NameOver) (k r c : ℕ)
-    → overs ≡ overs_of decls lines parts → n ≡ place k r c → k < length parts → k < 100 → r < 6 → c < 10
+    → overs ≡ overs_of decls lines parts → n ≡ place k r c → k < length parts → k < RUNGS → r < ROWS → c < COLUMNS
     → slice_index_or overs n d ≡ over_with decls (text_over (rung_of lines (part_in parts k)) r c)
 over_at decls lines parts overs n d k r c told here below few rows columns = rw (told, here) (over_told decls lines parts d k r c below few rows columns)

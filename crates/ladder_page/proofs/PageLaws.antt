@@ -1,5 +1,6 @@
 -- The page that is read is the page of the text, and the text reads as no other.
 use Rattle.std.proofs.Common.{◌≡◌, ℕ, ◌*◌, ◌<◌, min, List, length, slice_index_or, None, sym, ap, subst, ◌∙◌}
+use Rattle.ladder_page.specs.declared.geometry.TheConstants.{RUNGS, ROWS, COLUMNS, PLACES}
 use Rattle.ladder_vars.specs.Decls.{Declared}
 use Rattle.ladder_page.specs.Lines.{AreRungs, part_in, rung_of}
 use Rattle.ladder_page.specs.declared.lines.Part.{Part}
@@ -7,10 +8,8 @@ use Rattle.ladder_page.specs.Geometry.{place}
 use Rattle.ladder_page.specs.Picture.{Lines}
 use Rattle.ladder_page.specs.Texts.{cell_text}
 use Rattle.ladder_page.specs.Form.{IsFormOf}
-use Rattle.ladder_page.specs.Page.{Page}
-use Rattle.ladder_page.specs.ReadLines.{page}
-use Rattle.ladder_page.specs.PageRules.{ReadsAs}
-use Rattle.ladder_page.specs.ReadLines.{lines_of, unclosed_line, parts_of, form_read, forms_of, page_with, page_of}
+use Rattle.ladder_page.specs.Page.{Page, ReadsAs}
+use Rattle.ladder_page.specs.ReadLines.{page, lines_of, unclosed_line, parts_of, form_read, forms_of, page_with, page_of}
 use Rattle.ladder_page.proofs.FormLaws.{forms_told, form_of_one}
 use Rattle.ladder_page.proofs.CutLaws.{lines_are}
 use Rattle.ladder_page.proofs.UnclosedLaws.{unclosed_is, same_line}
@@ -18,16 +17,16 @@ use Rattle.ladder_page.proofs.CutText.{pieces_of}
 use Rattle.ladder_page.proofs.PartLaws.{parts_are, parts_same}
 use Rattle.ladder_page.proofs.PlaceLaws.{length-all_places, all_places-drawn, same_list}
 
-forms_right : (lines : Lines) (parts : List Part) (k r c : ℕ) → k < min (length parts) 100 → r < 6 → c < 10
+forms_right : (lines : Lines) (parts : List Part) (k r c : ℕ) → k < min (length parts) RUNGS → r < ROWS → c < COLUMNS
     → IsFormOf (cell_text (rung_of lines (part_in parts k)) r c) (slice_index_or (forms_of lines parts) (place k r c) None)
 unfolding forms_of form_read
 forms_right lines parts k r c below rows columns =
     let chars : List ℕ = cell_text (rung_of lines (part_in parts k)) r c in
-    subst (IsFormOf chars) (sym (all_places-drawn (form_read lines parts) (min (length parts) 100) None k r c below rows columns)) (forms_told chars)
+    subst (IsFormOf chars) (sym (all_places-drawn (form_read lines parts) (min (length parts) RUNGS) None k r c below rows columns)) (forms_told chars)
 
-forms_count : (lines : Lines) (parts : List Part) → length (forms_of lines parts) ≡ 60 * min (length parts) 100
+forms_count : (lines : Lines) (parts : List Part) → length (forms_of lines parts) ≡ PLACES * min (length parts) RUNGS
 unfolding forms_of
-forms_count lines parts = length-all_places (form_read lines parts) (min (length parts) 100)
+forms_count lines parts = length-all_places (form_read lines parts) (min (length parts) RUNGS)
 
 pub page_reads : (decls : Declared) (text : List ℕ) → ReadsAs text (page_of decls text)
 page_reads decls text =
@@ -44,7 +43,7 @@ page_reads decls text =
 
 one_forms : (text : List ℕ) (p : Page) → ReadsAs text p → p.forms ≡ forms_of p.lines p.parts
 one_forms text p r =
-    same_list None (min (length p.parts) 100) p.forms (forms_of p.lines p.parts) r.count (forms_count p.lines p.parts) (λ k row c below rows columns.
+    same_list None (min (length p.parts) RUNGS) p.forms (forms_of p.lines p.parts) r.count (forms_count p.lines p.parts) (λ k row c below rows columns.
     form_of_one (cell_text (rung_of p.lines (part_in p.parts k)) row c) _ _ (r.forms k row c below rows columns)
     (forms_right p.lines p.parts k row c below rows columns))
 

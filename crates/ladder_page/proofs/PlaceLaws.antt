@@ -2,6 +2,7 @@
 use Rattle.std.proofs.Common.{◌≡◌, ℕ, zero, suc, ◌+◌, ◌*◌, ◌/◌, ◌%◌, ◌<◌, List, [], ◌∷◌, ◌++◌, length, slice_index_or, get_or, add-one, length-append, arith, refl, sym, ap, subst, ◌∙◌, inl, inr}
 use Rattle.std.proofs.lemmas.Bool.{cases_lt}
 use Rattle.std.proofs.lemmas.List.{get_or_append_left, get_or_push, ext_get_or}
+use Rattle.ladder_page.specs.declared.geometry.TheConstants.{ROWS, COLUMNS, PLACES}
 use Rattle.ladder_page.specs.Geometry.{place}
 use Rattle.ladder_page.specs.Geometry.{at_place}
 use Rattle.ladder_page.specs.AllPlaces.{all_places}
@@ -34,26 +35,26 @@ first_places-at f (suc n) i d below =
           get_or_push (first_places f n) (f n) d i len ∙ ap f (sym here)
     ]
 
-pub length-all_places : {A : Type 0} (f : ℕ → ℕ → ℕ → A) (rungs : ℕ) → length (all_places f rungs) ≡ 60 * rungs
-length-all_places f rungs = length-first_places (at_place f) (60 * rungs)
+pub length-all_places : {A : Type 0} (f : ℕ → ℕ → ℕ → A) (rungs : ℕ) → length (all_places f rungs) ≡ PLACES * rungs
+length-all_places f rungs = length-first_places (at_place f) (PLACES * rungs)
 
 -- by rung, row and column
-pub all_places-drawn : {A : Type 0} (f : ℕ → ℕ → ℕ → A) (rungs : ℕ) (d : A) (k r c : ℕ) → k < rungs → r < 6 → c < 10
+pub all_places-drawn : {A : Type 0} (f : ℕ → ℕ → ℕ → A) (rungs : ℕ) (d : A) (k r c : ℕ) → k < rungs → r < ROWS → c < COLUMNS
     → slice_index_or (all_places f rungs) (place k r c) d ≡ f k r c
 all_places-drawn f rungs d k r c below rows columns =
-    let rung : place k r c / 60 ≡ k = omega arith in
-    let row : place k r c % 60 % 6 ≡ r = omega arith in
-    let column : place k r c % 60 / 6 ≡ c = omega arith in
-    let within : place k r c < 60 * rungs = omega arith in
-    first_places-at (at_place f) (60 * rungs) (place k r c) d within ∙ rw (rung, row, column) refl
+    let rung : place k r c / PLACES ≡ k = omega arith in
+    let row : place k r c % PLACES % ROWS ≡ r = omega arith in
+    let column : place k r c % PLACES / ROWS ≡ c = omega arith in
+    let within : place k r c < PLACES * rungs = omega arith in
+    first_places-at (at_place f) (PLACES * rungs) (place k r c) d within ∙ rw (rung, row, column) refl
 
 -- Two lists with the same at each place are one.
-pub same_list : {A : Type 0} (z : A) (rungs : ℕ) (xs ys : List A) → length xs ≡ 60 * rungs → length ys ≡ 60 * rungs
-    → ((k r c : ℕ) → k < rungs → r < 6 → c < 10 → slice_index_or xs (place k r c) z ≡ slice_index_or ys (place k r c) z) → xs ≡ ys
+pub same_list : {A : Type 0} (z : A) (rungs : ℕ) (xs ys : List A) → length xs ≡ PLACES * rungs → length ys ≡ PLACES * rungs
+    → ((k r c : ℕ) → k < rungs → r < ROWS → c < COLUMNS → slice_index_or xs (place k r c) z ≡ slice_index_or ys (place k r c) z) → xs ≡ ys
 same_list z rungs xs ys sx sy same =
     ext_get_or z xs ys (sx ∙ sym sy) (λ i below.
-    let k : i / 60 < rungs = omega (arith, sx, below) in
-    let r : i % 60 % 6 < 6 = omega arith in
-    let c : i % 60 / 6 < 10 = omega arith in
-    let here : place (i / 60) (i % 60 % 6) (i % 60 / 6) ≡ i = omega arith in
-    subst (λ n. get_or xs n z ≡ get_or ys n z) here (same (i / 60) (i % 60 % 6) (i % 60 / 6) k r c))
+    let k : i / PLACES < rungs = omega (arith, sx, below) in
+    let r : i % PLACES % ROWS < ROWS = omega arith in
+    let c : i % PLACES / ROWS < COLUMNS = omega arith in
+    let here : place (i / PLACES) (i % PLACES % ROWS) (i % PLACES / ROWS) ≡ i = omega arith in
+    subst (λ n. get_or xs n z ≡ get_or ys n z) here (same (i / PLACES) (i % PLACES % ROWS) (i % PLACES / ROWS) k r c))

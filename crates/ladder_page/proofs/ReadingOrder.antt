@@ -1,25 +1,26 @@
 -- Places in the order of reading.
 use Rattle.std.proofs.Common.{◌≡◌, ℕ, ◌+◌, ◌*◌, ◌/◌, ◌%◌, ◌<◌, ◌⊎◌, inl, inr, arith}
 use Rattle.std.proofs.lemmas.Bool.{cases_lt}
+use Rattle.ladder_page.specs.declared.geometry.TheConstants.{ROWS, COLUMNS, PLACES}
 use Rattle.ladder_page.specs.AllPlaces.{reading_place}
 
-pub rung_of_place : (k r c : ℕ) → r < 6 → c < 10 → reading_place k r c / 60 ≡ k
+pub rung_of_place : (k r c : ℕ) → r < ROWS → c < COLUMNS → reading_place k r c / PLACES ≡ k
 rung_of_place k r c rows columns = omega arith
 
-pub row_of_place : (k r c : ℕ) → r < 6 → c < 10 → reading_place k r c % 60 / 10 ≡ r
+pub row_of_place : (k r c : ℕ) → r < ROWS → c < COLUMNS → reading_place k r c % PLACES / COLUMNS ≡ r
 row_of_place k r c rows columns = omega arith
 
-pub column_of_place : (k r c : ℕ) → r < 6 → c < 10 → reading_place k r c % 60 % 10 ≡ c
+pub column_of_place : (k r c : ℕ) → r < ROWS → c < COLUMNS → reading_place k r c % PLACES % COLUMNS ≡ c
 column_of_place k r c rows columns = omega arith
 
-pub at_row : (P : ℕ → ℕ → Type 0) (r c : ℕ) → c < 10 → P r c → P ((10 * r + c) / 10) ((10 * r + c) % 10)
+pub at_row : (P : ℕ → ℕ → Type 0) (r c : ℕ) → c < COLUMNS → P r c → P ((COLUMNS * r + c) / COLUMNS) ((COLUMNS * r + c) % COLUMNS)
 at_row P r c columns h =
-    let row : (10 * r + c) / 10 ≡ r = omega arith in
-    let column : (10 * r + c) % 10 ≡ c = omega arith in
+    let row : (COLUMNS * r + c) / COLUMNS ≡ r = omega arith in
+    let column : (COLUMNS * r + c) % COLUMNS ≡ c = omega arith in
     rw (row, column) h
 
 -- One place comes before another, by rung, row and column, exactly where its number is less.
-pub earlier : (j q d k r c : ℕ) → d < 10 → c < 10 → q < 6 → r < 6 → reading_place j q d < reading_place k r c
+pub earlier : (j q d k r c : ℕ) → d < COLUMNS → c < COLUMNS → q < ROWS → r < ROWS → reading_place j q d < reading_place k r c
     → (j < k) ⊎ ((j ≡ k) × ((q < r) ⊎ ((q ≡ r) × (d < c))))
 earlier j q d k r c d_low c_low q_low r_low less = elim (cases_lt j k) [
   | inl before ↦ inl before
@@ -37,7 +38,7 @@ earlier j q d k r c d_low c_low q_low r_low less = elim (cases_lt j k) [
       )
 ]
 
-pub less_place : (j q d k r c : ℕ) → d < 10 → q < 6 → (j < k) ⊎ ((j ≡ k) × ((q < r) ⊎ ((q ≡ r) × (d < c)))) → reading_place j q d < reading_place k r c
+pub less_place : (j q d k r c : ℕ) → d < COLUMNS → q < ROWS → (j < k) ⊎ ((j ≡ k) × ((q < r) ⊎ ((q ≡ r) × (d < c)))) → reading_place j q d < reading_place k r c
 less_place j q d k r c d_low q_low (inl before) = omega (arith, before, d_low, q_low)
 less_place j q d k r c d_low q_low (inr (rung, inl above)) = omega (arith, rung, above, d_low)
 less_place j q d k r c d_low q_low (inr (rung, inr (row, before))) = omega (arith, rung, row, before)

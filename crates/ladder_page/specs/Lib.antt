@@ -11,15 +11,7 @@ pub mod Operand
 pub mod Suiting
 pub mod AllPlaces
 pub mod Page
-pub mod Feeding
 pub mod Seen
-pub mod Rules
-pub mod Shapes
 pub mod Tables
-pub mod Rung
-pub mod PageRules
-pub mod Checks
 pub mod ReadLines
-pub mod Stops
 pub mod Outline
-pub mod Columns

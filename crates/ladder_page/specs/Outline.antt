@@ -2,8 +2,7 @@
 use Rattle.std.specs.Prelude.{◌≡◌, ℕ, ◌≤◌, List, drop, length}
 use Rattle.ladder_vars.specs.Grammar.{HasDecls}
 use Rattle.ladder_page.specs.declared.lines.Part.{Part}
-use Rattle.ladder_page.specs.Page.{Page}
-use Rattle.ladder_page.specs.PageRules.{ReadsAs}
+use Rattle.ladder_page.specs.Page.{Page, ReadsAs}
 
 -- END_VAR ends at `place`, and these are the rungs of the page that follows it, each with its gap.
 pub record HasOutline (text : List ℕ) (place : ℕ) (parts : List Part) : Type 0 where

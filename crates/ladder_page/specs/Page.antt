@@ -1,12 +1,14 @@
 -- What a drawing is read from, and what is where on it. Rungs, rows and columns are counted from 0.
-use Rattle.std.specs.Prelude.{ℕ, ◌-◌, ◌*◌, List, map, slice_index_or, Option, None, option_map}
+use Rattle.std.specs.Prelude.{◌≡◌, ◌↔◌, ℕ, ◌+◌, ◌-◌, ◌*◌, ◌<◌, min, false, List, length, map, slice_index_or, Option, Some, None, option_map}
 use Rattle.ladder_vars.specs.Decls.{Declared}
 use Rattle.ladder_page.specs.declared.form.Form.{Form}
 use Rattle.ladder_page.specs.declared.lines.Part.{Part}
 use Rattle.ladder_page.specs.declared.operand.Reference.{Reference}
 use Rattle.ladder_page.specs.Geometry.{place}
 use Rattle.ladder_page.specs.Picture.{Lines, text_at}
-use Rattle.ladder_page.specs.Lines.{part_in, rung_of}
+use Rattle.ladder_page.specs.Lines.{Piece, ArePieces, lines_in, IsUnclosed, AreRungs, part_in, rung_of}
+use Rattle.ladder_page.specs.Form.{IsFormOf}
+use Rattle.ladder_page.specs.declared.geometry.TheConstants.{RUNGS, ROWS, COLUMNS, PLACES}
 use Rattle.ladder_page.specs.Gap.{Labels, label_before}
 use Rattle.ladder_page.specs.Operand.{word_in, refer_to, instance_on}
 
@@ -37,3 +39,14 @@ name_over page k r c = refer_to page.decls (word_in (text_at (rung_at page k) (2
 -- The instance that the block at a place is.
 unfoldable pub instance_at : Page → ℕ → ℕ → ℕ → Option ℕ
 instance_at page k r c = instance_on (form_at page k r c) (option_map (λ x. x.symbol) (name_over page k r c))
+
+-- The text after END_VAR reads as this page. The cells of the first hundred rungs have forms: a page with more rungs is refused.
+pub record ReadsAs (text : List ℕ) (page : Page) : Type 0 where
+  pub pieces : List Piece
+  pub cut : ArePieces false pieces text
+  pub lines : page.lines ≡ lines_in pieces
+  pub unclosed : (line : ℕ) → (page.unclosed ≡ Some line) ↔ IsUnclosed pieces line
+  pub rungs : AreRungs page.lines 0 page.parts
+  pub count : length page.forms ≡ PLACES * min (length page.parts) RUNGS
+  pub forms : (k r c : ℕ) → k < min (length page.parts) RUNGS → r < ROWS → c < COLUMNS
+      → IsFormOf (text_at (rung_at page k) (2 * r + 1) c) (form_at page k r c)

@@ -1,8 +1,8 @@
 -- The picture of a rung: what is where, and which joints, links and groups that makes (geometry of the profile).
 -- A rung is the list of its lines. Lines, places, rows and columns are counted from 0. Row r has the name line 2 * r
 -- and the wire line 2 * r + 1; the cell of column c begins at place 12 * c + 1, and the joint on its left is place 12 * c.
-use Rattle.std.specs.Prelude.{◌≡◌, ℕ, ◌+◌, ◌*◌, ◌<◌, ◌≤◌, min, max, Bool, true, ◌==◌, List, [], map, slice_index_or}
-use Rattle.std.specs.List.{range_with_len}
+use Rattle.std.specs.Prelude.{◌≡◌, ℕ, ◌+◌, ◌*◌, ◌<◌, ◌≤◌, min, max, Bool, true, not, ◌==◌, List, [], map, slice_index_or}
+use Rattle.std.specs.List.{list_any, range_with_len}
 use Rattle.ladder_page.specs.declared.geometry.TheConstants.{CELL, PITCH}
 use Rattle.ladder_page.specs.declared.picture.Half.{Half}
 use Rattle.ladder_page.specs.declared.picture.Half.TheVariants as half
@@ -25,6 +25,10 @@ ch lines line place = slice_index_or (line_at lines line) place space
 -- The eleven characters of a line that belong to a column: on a wire line a cell, on a name line the text over it.
 unfoldable pub text_at : Lines → ℕ → ℕ → List ℕ
 text_at rung line c = map (ch rung line) (range_with_len (PITCH * c + 1) CELL)
+
+-- There is a character that is no space.
+abbrev pub has_text : List ℕ → Bool
+has_text chars = list_any (λ b. not (b == space)) chars
 
 -- The joint on the left of a cell.
 abbrev pub joint : Lines → ℕ → ℕ → ℕ

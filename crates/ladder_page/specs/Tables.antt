@@ -2,12 +2,11 @@
 use Rattle.std.specs.Prelude.{ℕ, zero, suc, ◌<◌, ◌/◌, ◌%◌, false, List, length, min, set, replicate, slice_index_or, Option, Some, None}
 use Rattle.ladder_vars.specs.Decls.{Declared}
 use Rattle.ladder_page.specs.declared.geometry.TheConstants.{RUNGS, COLUMNS, PLACES}
-use Rattle.ladder_page.specs.Picture.{Lines}
+use Rattle.ladder_page.specs.Picture.{Lines, has_text}
 use Rattle.ladder_page.specs.Texts.{text_over}
 use Rattle.ladder_page.specs.Lines.{part_in, rung_of}
 use Rattle.ladder_page.specs.Operand.{word_in, refer_to}
 use Rattle.ladder_page.specs.Suiting.{block_drawn}
-use Rattle.ladder_page.specs.Rules.{has_text}
 use Rattle.ladder_page.specs.AllPlaces.{all_places}
 use Rattle.ladder_page.specs.Geometry.{place}
 use Rattle.ladder_page.specs.declared.form.Form.{Form}

@@ -39,7 +39,7 @@ pub fn place(rung: usize, row: usize, column: usize) -> usize
 }
 
 /// The number of a place in the order of reading.
-pub(crate) fn reading_place(rung: usize, row: usize, column: usize) -> usize
+pub fn reading_place(rung: usize, row: usize, column: usize) -> usize
     requires rungs { rung < RUNGS }
     requires rows { row < ROWS }
     requires columns { column < COLUMNS }

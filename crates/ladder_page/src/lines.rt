@@ -257,7 +257,7 @@ pub(crate) fn lines_between<'a, 'b>(
 }
 
 /// The line after the last rung.
-pub(crate) fn last_gap(parts: &[Part]) -> usize
+pub fn last_gap(parts: &[Part]) -> usize
     ensures { result ≡ last_gap parts.now }
 {
     if parts.is_empty() {

@@ -180,7 +180,7 @@ fn is_odd_on_block(decls: &Decls, kind: BlockKind, symbol: Symbol, output: Optio
 }
 
 /// Whether the name is none that the symbol may have.
-pub(crate) fn is_odd(decls: &Decls, form: Option<Form>, name: Option<Reference>) -> bool
+pub fn is_odd(decls: &Decls, form: Option<Form>, name: Option<Reference>) -> bool
     ensures { result ≡ is_odd decls.now form name }
 {
     let Some(name) = name else {
@@ -222,11 +222,7 @@ pub(crate) fn instance_on(form: Option<Form>, name: Option<Reference>) -> Option
 }
 
 /// The instance of which this form and this name draw a block: none by a name that the block can't have.
-pub(crate) fn block_drawn(
-    decls: &Decls,
-    form: &Option<Form>,
-    name: &Option<Reference>,
-) -> Option<usize>
+pub fn block_drawn(decls: &Decls, form: &Option<Form>, name: &Option<Reference>) -> Option<usize>
     ensures { result ≡ block_drawn decls.now form.now name.now }
 {
     if is_odd(decls, *form, *name) {

@@ -26,7 +26,7 @@ fn rung_parts(alloc: Global, text: &[u8]) -> Result<Vec<Part>, AllocError>
 }
 
 /// What follows a place of a text.
-pub(crate) fn behind(text: &[u8], place: usize) -> &[u8]
+pub fn behind(text: &[u8], place: usize) -> &[u8]
     requires { place ≤ length text.now }
     ensures { result.now ≡ drop place text.now }
 {

@@ -4,20 +4,17 @@ ghost use Rattle.std.specs.Prelude.{◌≡◌, ◌+◌, ◌<◌, map, length, Al
 ghost use Rattle.ladder_page.specs.declared.geometry.TheConstants.{RUNGS, ROWS, COLUMNS};
 ghost use Rattle.ladder_page.specs.ReadLines.{IsWithin, form_read, forms_of};
 ghost use Rattle.ladder_page.specs.Tables.{over_with, over_read, overs_of};
-ghost use Rattle.ladder_page.specs.Rules.{has_text};
+ghost use Rattle.ladder_page.specs.Picture.{has_text};
 ghost use Rattle.ladder_page.specs.Texts.{text_over};
 ghost use Rattle.ladder_page.specs.Lines.{part_in, rung_of};
 ghost use Rattle.ladder_page.specs.Page.{rung_at, form_at, name_over, instance_at};
-ghost use Rattle.ladder_page.specs.Seen.{instance_above};
-ghost use Rattle.ladder_page.specs.Seen.{seen};
-ghost use Rattle.ladder_page.specs.Checks.{part_at};
+ghost use Rattle.ladder_page.specs.Seen.{instance_above, seen, part_at};
 
 use crate::form::{Form, form_at as form_of};
 use crate::geometry::{PLACES, ROWS, RUNGS, place};
 use crate::lines::{Part, lines_between};
 use crate::operand::{NameOver, Reference, instance_on, refer_to, word_in};
-use crate::picture::{cell_text, text_over};
-use crate::rules::has_text;
+use crate::picture::{cell_text, has_text, text_over};
 use crate::view::PageView;
 use ladder_vars::Decls;
 use std::alloc::{AllocError, Global};
@@ -43,7 +40,7 @@ fn rung_in<'a, 'b>(lines: &'a [&'b [u8]], parts: &[Part], rung: usize) -> &'a [&
 }
 
 /// The rung and its gap.
-pub(crate) fn part_at(page: PageView<'_, '_>, rung: usize) -> Part
+pub fn part_at(page: PageView<'_, '_>, rung: usize) -> Part
     requires rungs { rung < length page.parts.now }
     ensures value { result ≡ part_at (seen page.entry) rung }
     ensures within { IsWithin (length page.entry.lines.now) result }
@@ -180,12 +177,7 @@ fn over_at(page: PageView<'_, '_>, rung: usize, row: usize, column: usize) -> Na
 }
 
 /// Whether there is text over a cell.
-pub(crate) fn is_written_over(
-    page: PageView<'_, '_>,
-    rung: usize,
-    row: usize,
-    column: usize,
-) -> bool
+pub fn is_written_over(page: PageView<'_, '_>, rung: usize, row: usize, column: usize) -> bool
     requires rungs { rung < length page.parts.now }
     requires few { rung < RUNGS }
     requires rows { row < ROWS }

@@ -2,7 +2,7 @@
 
 ghost use Rattle.std.specs.Prelude.{◌≡◌, ◌<◌, ◌+◌, ◌^◌, ◌↔◌, map, IsTrue, slice_index_or, []};
 ghost use Rattle.ladder_page.specs.declared.geometry.TheConstants.{ROWS, COLUMNS, CELL};
-ghost use Rattle.ladder_page.specs.Picture.{half_line, ch, joint, vertical, SameGroup};
+ghost use Rattle.ladder_page.specs.Picture.{half_line, ch, has_text, joint, vertical, SameGroup};
 ghost use Rattle.ladder_page.specs.Texts.{characters, cell_text, text_over};
 
 use crate::geometry::{CELL, PITCH};
@@ -17,7 +17,7 @@ pub enum Half {
 }
 
 /// The line of a row that has its names, or its wires.
-pub(crate) fn half_line(row: usize, half: Half) -> usize
+pub fn half_line(row: usize, half: Half) -> usize
     requires { row < ROWS }
     ensures { result ≡ half_line row half }
 {
@@ -28,14 +28,14 @@ pub(crate) fn half_line(row: usize, half: Half) -> usize
 }
 
 /// The line of a rung, an empty one past the last.
-pub(crate) fn line_at<'a>(lines: &[&'a [u8]], line: usize) -> &'a [u8]
+pub fn line_at<'a>(lines: &[&'a [u8]], line: usize) -> &'a [u8]
     ensures { result.now ≡ slice_index_or (map (λ l. l.now) lines.now) line [] }
 {
     if line < lines.len() { lines[line] } else { &[] }
 }
 
 /// The character of a line at a place, a space past each end.
-pub(crate) fn ch(lines: &[&[u8]], line: usize, place: usize) -> u8
+pub fn ch(lines: &[&[u8]], line: usize, place: usize) -> u8
     ensures { result ≡ ch (map (λ l. l.now) lines.now) line place }
 {
     if line < lines.len() {
@@ -48,6 +48,13 @@ pub(crate) fn ch(lines: &[&[u8]], line: usize, place: usize) -> u8
     } else {
         b' '
     }
+}
+
+/// Whether there is a character that is no space.
+pub fn has_text(chars: &[u8]) -> bool
+    ensures { result ≡ has_text chars.now }
+{
+    chars.iter().any(|b| *b != b' ')
 }
 
 fn eleven(lines: &[&[u8]], line: usize, place: usize) -> [u8; CELL]
@@ -108,7 +115,7 @@ pub fn vertical(lines: &[&[u8]], row: usize, column: usize) -> bool
 }
 
 /// Whether vertical links join every row between these two, on the left of the column.
-pub(crate) fn same_group(lines: &[&[u8]], column: usize, row: usize, other: usize) -> bool
+pub fn same_group(lines: &[&[u8]], column: usize, row: usize, other: usize) -> bool
     requires rows { (row < ROWS) × (other < ROWS) }
     requires columns { column < COLUMNS }
     ensures { IsTrue result ↔ SameGroup (map (λ l. l.now) lines.now) column row other }

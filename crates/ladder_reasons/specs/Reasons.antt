@@ -5,8 +5,8 @@ use Rattle.std.specs.Option.{option_map_or}
 use Rattle.ladder_grid.specs.declared.fault.GridFault.{GridFault}
 use Rattle.ladder_grid.specs.declared.fault.GridFault.TheVariants.{Grid, Vars}
 use Rattle.ladder_page.specs.Bytes.{line_feed, space}
-use Rattle.ladder_page.specs.declared.fault.GridRule.{GridRule}
-use Rattle.ladder_page.specs.declared.fault.GridRule.TheVariants as rule
+use Rattle.ladder_rules.specs.declared.fault.GridRule.{GridRule}
+use Rattle.ladder_rules.specs.declared.fault.GridRule.TheVariants as rule
 use Rattle.ladder_page.specs.declared.geometry.TheConstants.{CELL, PITCH}
 use Rattle.ladder_reasons.specs.declared.quote.Marks.{Marks}
 use Rattle.ladder_reasons.specs.declared.quote.TheConstants.{DIGITS, WIDEST, WIDTH}

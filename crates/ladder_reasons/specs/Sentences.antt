@@ -2,8 +2,8 @@
 use Rattle.std.specs.Prelude.{ℕ, List, codes}
 use Rattle.ladder_vars.specs.declared.fault.VarRule.{VarRule}
 use Rattle.ladder_vars.specs.declared.fault.VarRule.TheVariants as var
-use Rattle.ladder_page.specs.declared.fault.GridRule.{GridRule}
-use Rattle.ladder_page.specs.declared.fault.GridRule.TheVariants as rule
+use Rattle.ladder_rules.specs.declared.fault.GridRule.{GridRule}
+use Rattle.ladder_rules.specs.declared.fault.GridRule.TheVariants as rule
 
 -- the rules of the declarations
 abbrev pub var_sentence : VarRule → List ℕ

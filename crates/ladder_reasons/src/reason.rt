@@ -9,8 +9,8 @@ ghost use Rattle.ladder_reasons.specs.Reasons.{MayStand, is_of_joints, marks_in,
 use crate::quote::{Marks, add_near};
 use crate::sentence::{grid_sentence, var_sentence};
 use ladder_grid::GridFault;
-use ladder_page::GridRule;
 use ladder_page::geometry::{CELL, PITCH};
+use ladder_rules::GridRule;
 use ladder_text::{Block, Sink, WriteFault};
 
 /// The columns of a drawing.

@@ -3,7 +3,7 @@
 ghost use Rattle.std.specs.Prelude.{◌≡◌};
 ghost use Rattle.ladder_reasons.specs.Sentences.{grid_sentence, var_sentence};
 
-use ladder_page::GridRule;
+use ladder_rules::GridRule;
 use ladder_vars::VarRule;
 
 /// The sentence of a rule of the declarations.

@@ -4,7 +4,7 @@ use crate::requests::written;
 use ladder_calls::memory::{ENDS, End, with_room};
 use ladder_causes::CauseFault;
 use ladder_grid::GridFault;
-use ladder_page::GridRule;
+use ladder_rules::GridRule;
 use ladder_sim::{ReadFault, SimFault, StateFault, WriteFault};
 use ladder_tool::{TextKind, ToolFault, write_fault};
 use ladder_vars::{VarFault, VarRule};

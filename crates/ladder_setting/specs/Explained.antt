@@ -3,7 +3,7 @@ use Rattle.std.specs.Prelude.{◌++◌, ℕ, Bool, true, false, List, Option, So
 use Rattle.ladder_questions.specs.declared.fault.CauseFault.{CauseFault}
 use Rattle.ladder_questions.specs.declared.fault.CauseFault.TheVariants as cause
 use Rattle.ladder_grid.specs.declared.fault.GridFault.TheVariants.{Grid}
-use Rattle.ladder_page.specs.Columns.{IsColumnOf}
+use Rattle.ladder_rules.specs.Columns.{IsColumnOf}
 use Rattle.ladder_reasons.specs.Reasons.{reason_text}
 use Rattle.ladder_state.specs.declared.fault.StateFault.{StateFault}
 use Rattle.ladder_state.specs.declared.fault.StateFault.TheVariants as state

@@ -3,8 +3,8 @@ use Rattle.std.specs.Prelude.{◌++◌, ℕ, List, codes, decimal}
 use Rattle.ladder_vars.specs.declared.fault.VarRule.{VarRule}
 use Rattle.ladder_vars.specs.declared.fault.VarRule.TheVariants as var
 use Rattle.ladder_grid.specs.declared.fault.GridFault.TheVariants as grid
-use Rattle.ladder_page.specs.declared.fault.GridRule.{GridRule}
-use Rattle.ladder_page.specs.declared.fault.GridRule.TheVariants as rule
+use Rattle.ladder_rules.specs.declared.fault.GridRule.{GridRule}
+use Rattle.ladder_rules.specs.declared.fault.GridRule.TheVariants as rule
 use Rattle.ladder_questions.specs.declared.fault.CauseFault.{CauseFault}
 use Rattle.ladder_questions.specs.declared.fault.CauseFault.TheVariants as cause
 use Rattle.ladder_text.specs.declared.fault.ReadFault.TheVariants as read

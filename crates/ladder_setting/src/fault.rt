@@ -6,8 +6,8 @@ ghost use Rattle.ladder_setting.specs.FaultLine.{cause_number, fault_line, grid_
 ghost use Rattle.ladder_setting.specs.declared.fault.ToolFault.TheVariants.{Read, Sim};
 
 use ladder_grid::GridFault;
-use ladder_page::GridRule;
 use ladder_questions::CauseFault;
+use ladder_rules::GridRule;
 use ladder_state::StateFault;
 use ladder_text::{Piece, ReadFault, Sink, WriteFault, put, put_pieces};
 use ladder_trace::SimFault;

@@ -18,7 +18,7 @@ fn column_of(alloc: Global, text: &[u8], fault: &ToolFault) -> Option<usize>
 {
     match *fault {
         ToolFault::Grid(GridFault::Grid { rule, rung, line }) => {
-            ladder_page::column_of(alloc, text, rule, rung, line)
+            ladder_rules::column_of(alloc, text, rule, rung, line)
         }
         _ => None,
     }

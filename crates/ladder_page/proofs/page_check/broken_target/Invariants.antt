@@ -1,9 +1,0 @@
-use Rattle.std.proofs.Common.{◌≡◌, ℕ, ◌<◌, ◌/◌, ◌%◌, map, true}
-use Rattle.ladder_page.specs.Page.{labels_of, form_at}
-use Rattle.ladder_page.specs.Seen.{seen}
-use Rattle.ladder_page.specs.Checks.{leads_nowhere}
-use Rattle.ladder_page.proofs.page_check.broken_target.Given as goal
-
-abbrev pub invariant-loop-n : goal.invariant-loop-n
-invariant-loop-n l = (m : ℕ) → m < l.n
-    → leads_nowhere (labels_of (map (λ x. x.now) l.page.lines.now) l.page.parts.now) l.rung (form_at (seen l.page) l.rung (m / 10) (m % 10)) ≡ true → ⊥

@@ -1,0 +1,25 @@
+-- Where jumps lead to, as the code finds it.
+use Rattle.std.proofs.Common.{◌≡◌, ℕ, true, List, Option, Some, None, is_none, refl, sym, ap, ◌∙◌}
+use Rattle.ladder_page.specs.declared.form.Form.{Form}
+use Rattle.ladder_page.specs.declared.form.Form.TheVariants.{Empty, Wire, Contact, Coil, Block, Lower, Jump, Return}
+use Rattle.ladder_page.specs.Gap.{Labels}
+use Rattle.ladder_rules.specs.PageRules.{target_of}
+use Rattle.ladder_rules.specs.Checks.{jump_label, target_to, leads_nowhere}
+
+pub target_is : (labels : Labels) (k : ℕ) (form : Option Form) → target_of labels k form ≡ target_to labels k (jump_label form)
+target_is labels k None = refl
+target_is labels k (Some Empty) = refl
+target_is labels k (Some Wire) = refl
+target_is labels k (Some (Contact m)) = refl
+target_is labels k (Some (Coil m)) = refl
+target_is labels k (Some (Block kind)) = refl
+target_is labels k (Some (Lower pin linked)) = refl
+target_is labels k (Some (Jump label)) = refl
+target_is labels k (Some Return) = refl
+
+pub target_told : (labels : Labels) (k : ℕ) (form : Option Form) (label : Option (List ℕ)) → label ≡ jump_label form → target_to labels k label ≡ target_of labels k form
+target_told labels k form label is = ap (target_to labels k) is ∙ sym (target_is labels k form)
+
+pub nowhere_so : (labels : Labels) (k : ℕ) (form : Option Form) (label : List ℕ) → form ≡ Some (Jump label) → target_of labels k form ≡ None
+    → leads_nowhere labels k form ≡ true
+nowhere_so labels k form label is none = rw is (ap is_none (ap (target_of labels k) (sym is) ∙ none))

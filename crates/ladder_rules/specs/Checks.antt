@@ -1,0 +1,81 @@
+-- Private: parts of the rules, as the code has them in functions of their own.
+use Rattle.std.specs.Prelude.{ℕ, ◌+◌, ◌-◌, ◌*◌, ◌==◌, ◌&&◌, ◌||◌, ◌≡◌, ◌<◌, ◌≤◌, Bool, true, not, nat_le, List, drop, Option, Some, None, is_some, is_none, option_and_then, position, if◌then◌else◌, nat_lt}
+use Rattle.std.specs.List.{list_any}
+use Rattle.ladder_page.specs.declared.geometry.TheConstants.{ROWS, COLUMNS, PITCH, RAIL}
+use Rattle.ladder_page.specs.declared.lines.Part.{Part}
+use Rattle.ladder_page.specs.Bytes.{space, bar, is_upright}
+use Rattle.ladder_page.specs.Picture.{Lines, line_at, half_line, ch, has_text, joint}
+use Rattle.ladder_page.specs.Gap.{Labels, is_named, label_in, label_before}
+use Rattle.ladder_vars.specs.Decls.{Declared}
+use Rattle.ladder_page.specs.declared.form.Form.{Form}
+use Rattle.ladder_page.specs.declared.form.Form.TheVariants.{Jump}
+use Rattle.ladder_page.specs.declared.operand.Reference.{Reference}
+use Rattle.ladder_page.specs.declared.picture.Half.{Half}
+use Rattle.ladder_rules.specs.declared.fault.GridRule.{GridRule}
+use Rattle.ladder_page.specs.Operand.{MayHave}
+use Rattle.ladder_page.specs.Page.{Page}
+use Rattle.ladder_rules.specs.PageRules.{target_of}
+use Rattle.ladder_rules.specs.Rules.{HoldsBefore, IsDrawnAt, BreaksAt, wants_name}
+
+-- the label of a rung
+abbrev pub label_of : Lines → Part → Option (List ℕ)
+label_of lines p = label_before lines p.from (p.start - p.from)
+
+abbrev pub is_used : Labels → List ℕ → Bool
+is_used labels word = list_any (is_named word) labels
+
+abbrev pub has_odd_byte : List ℕ → Bool
+has_odd_byte text = list_any (λ b. not (b == 9 || (nat_le space b && nat_le b 126))) text
+
+abbrev pub is_label_line : Lines → ℕ → Bool
+is_label_line lines line = is_some (label_in (line_at lines line))
+
+abbrev pub is_dirty : List ℕ → Bool
+is_dirty line = list_any (λ b. not (nat_le space b && nat_le b 126)) line
+
+abbrev pub is_dirty_at : Lines → ℕ → Bool
+is_dirty_at rung line = is_dirty (line_at rung line)
+
+abbrev pub is_wide : List ℕ → Bool
+is_wide line = has_text (drop (RAIL + 1) line)
+
+abbrev pub is_wide_at : Lines → ℕ → Bool
+is_wide_at rung line = is_wide (line_at rung line)
+
+-- the name is none that the symbol may have
+abbrev pub IsOdd : Declared → Option Form → Option Reference → Type 0
+IsOdd decls form name = (wants_name form ≡ true) × (x : Reference) × (name ≡ Some x) × ¬ (MayHave decls form x.symbol x.output)
+
+abbrev pub IsDrawnBefore : Page → ℕ → ℕ → ℕ → ℕ → Type 0
+IsDrawnBefore page inst k r c = HoldsBefore (IsDrawnAt page inst) k r c
+
+-- on a line of a row, and on a line of the rung
+abbrev pub IsBrokenAlong : GridRule → Page → ℕ → ℕ → Half → Type 0
+IsBrokenAlong rule page k r h = (c : ℕ) × (c ≤ COLUMNS) × BreaksAt rule page k r h c
+
+abbrev pub IsBrokenOn : GridRule → Page → ℕ → ℕ → Type 0
+IsBrokenOn rule page k line = (r : ℕ) × (h : Half) × (r < ROWS) × (line ≡ half_line r h) × IsBrokenAlong rule page k r h
+
+-- nowhere in the rung
+abbrev pub IsKept : Page → ℕ → GridRule → Type 0
+IsKept page k rule = (r : ℕ) → r < ROWS → (h : Half) → IsBrokenAlong rule page k r h → ⊥
+
+abbrev pub jump_label : Option Form → Option (List ℕ)
+jump_label (Some (Jump label)) = Some label
+jump_label form = None
+
+-- the target, where it comes after the rung k
+abbrev pub later : ℕ → Option ℕ → Option ℕ
+later k target = option_and_then (λ t. if nat_lt k t then Some t else None) target
+
+abbrev pub target_to : Labels → ℕ → Option (List ℕ) → Option ℕ
+target_to labels k None = None
+target_to labels k (Some label) = later k (position (is_named label) labels)
+
+-- a jump has no target
+abbrev pub leads_nowhere : Labels → ℕ → Option Form → Bool
+leads_nowhere labels k form = is_some (jump_label form) && is_none (target_of labels k form)
+
+-- a bar on the name line of the row has a loose end
+abbrev pub is_loose : Lines → ℕ → ℕ → Bool
+is_loose rung r c = ch rung (2 * r) (PITCH * c) == bar && (r == 0 || (not (is_upright (joint rung (r - 1) c)) || not (is_upright (joint rung r c))))

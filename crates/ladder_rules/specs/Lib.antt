@@ -1,0 +1,9 @@
+pub mod Gap
+pub mod Feeding
+pub mod Rules
+pub mod Shapes
+pub mod Rung
+pub mod PageRules
+pub mod Checks
+pub mod Stops
+pub mod Columns

@@ -1,0 +1,112 @@
+//! In which column of its line a rule is broken.
+
+ghost use Rattle.std.specs.Prelude.{◌≡◌, ◌/◌, ◌≤◌, length, IfOk, IfSome};
+ghost use Rattle.ladder_rules.specs.Columns.{IsColumnIn, IsColumnOf};
+ghost use Rattle.ladder_page.specs.Lines.{line_feeds};
+ghost use Rattle.ladder_page.specs.Picture.{half_line};
+ghost use Rattle.ladder_page.specs.ReadLines.{page_of};
+ghost use Rattle.ladder_page.specs.Seen.{seen};
+
+use crate::fault::GridRule;
+use crate::firsts::firsts;
+use crate::rules::broken_column;
+use ladder_page::geometry::{LINES, RUNGS};
+use ladder_page::lines::{blanked, lines, parts, unclosed_line};
+use ladder_page::outline::behind;
+use ladder_page::page::{forms, overs, part_at};
+use ladder_page::{Half, PageView};
+use ladder_vars::{Decls, read_decls};
+use std::alloc::{AllocError, Global};
+
+/// Which line of its row a line of a rung is.
+fn half_of(line: usize) -> Half
+    ensures { half_line (line / 2) result ≡ line }
+{
+    if line % 2 == 0 {
+        Half::Name
+    } else {
+        Half::Wire
+    }
+}
+
+/// The first column in which a rung breaks the rule on this line of the page.
+fn column_in(page: PageView<'_, '_>, rule: GridRule, rung: usize, line: usize) -> Option<usize>
+    ensures { IfSome result (IsColumnIn (seen page.entry) rule rung line) }
+{
+    if rung >= page.parts.len() || rung >= RUNGS {
+        return None;
+    }
+    let start = part_at(page, rung).start;
+    if line < start || line - start >= LINES {
+        return None;
+    }
+    let at = line - start;
+    broken_column(rule, page, rung, at / 2, half_of(at))
+}
+
+/// The same on the page that a text after END_VAR reads as.
+fn column_after(
+    alloc: Global,
+    decls: &Decls,
+    text: &[u8],
+    rule: GridRule,
+    rung: usize,
+    line: usize,
+) -> Result<Option<usize>, AllocError>
+    ensures { IfOk result (λ found. IfSome found (IsColumnIn (page_of decls.now text.now) rule rung line)) }
+{
+    let shown = blanked(alloc, text)?;
+    let lines = lines(alloc, &shown)?;
+    let parts = parts(alloc, &lines)?;
+    let forms = forms(alloc, &lines, &parts)?;
+    let overs = overs(alloc, decls, &lines, &parts)?;
+    let firsts = firsts(alloc, decls, parts.len().min(RUNGS), &forms, &overs)?;
+    let page = PageView {
+        decls,
+        lines: &lines,
+        unclosed: unclosed_line(text),
+        parts: &parts,
+        forms: &forms,
+        overs: &overs,
+        firsts: &firsts,
+    };
+    Ok(column_in(page, rule, rung, line))
+}
+
+fn line_feeds(text: &[u8]) -> usize
+    ensures value { result ≡ line_feeds text.now }
+    ensures few { result ≤ length text.now }
+{
+    text.iter().filter(|b| **b == b'\n').count()
+}
+
+/// The first column in which the rule is broken on a line of the text, with the rung and the line as a fault has them. None where the rule
+/// isn't one of places, where it isn't broken there, or when out of memory.
+pub fn column_of(
+    alloc: Global,
+    text: &[u8],
+    rule: GridRule,
+    rung: usize,
+    line: usize,
+) -> Option<usize>
+    ensures { IfSome result (IsColumnOf text.now rule rung line) }
+{
+    let Ok((decls, place)) = read_decls(alloc, text) else {
+        return None;
+    };
+    let before = line_feeds(&text[..place]);
+    if rung == 0 || line <= before {
+        return None;
+    }
+    match column_after(
+        alloc,
+        &decls,
+        behind(text, place),
+        rule,
+        rung - 1,
+        line - before - 1,
+    ) {
+        Ok(column) => column,
+        Err(_) => None,
+    }
+}

@@ -1,0 +1,559 @@
+//! The rules of cells, joints and names.
+
+ghost use Rattle.std.specs.Prelude.{◌≡◌, ◌≤◌, ◌<◌, ◌*◌, ◌↔◌, ℕ, length, map, Some, true, false, IsTrue, IfSome, IfNone};
+ghost use Rattle.ladder_page.specs.declared.geometry.TheConstants.{RUNGS, ROWS, COLUMNS, LINES, PITCH};
+ghost use Rattle.std.specs.List.{AllByRecursion};
+ghost use Rattle.ladder_page.specs.Seen.{seen};
+ghost use Rattle.ladder_page.specs.Bytes.{is_upright};
+ghost use Rattle.ladder_page.specs.AllPlaces.{reading_place};
+ghost use Rattle.ladder_rules.specs.Rules.{is_joint, fits_joint, wants_name, IsTorn, IsDrawnAt, CellBreaks, BreaksAt};
+ghost use Rattle.ladder_page.specs.Picture.{has_text, ch, half_line};
+ghost use Rattle.ladder_page.specs.Form.{leaps};
+ghost use Rattle.ladder_rules.specs.Checks.{is_loose, IsDrawnBefore, IsBrokenAlong, IsBrokenOn, IsKept};
+ghost use Rattle.ladder_rules.specs.Shapes.{same_pin, is_lower_for, takes_second, is_block_for, lacks_lower, is_apart, form_above, form_below};
+ghost use Rattle.ladder_page.specs.Page.{rung_at, form_at, name_over};
+ghost use Rattle.ladder_page.specs.Texts.{text_over};
+ghost use Rattle.ladder_rules.specs.declared.fault.GridRule.{GridRule};
+ghost use Rattle.ladder_rules.specs.declared.fault.GridRule.TheVariants as rule;
+ghost use Rattle.ladder_page.specs.declared.picture.Half.TheVariants as half;
+
+use crate::fault::GridRule;
+use crate::feeding::{is_unfed, right_link};
+use crate::firsts::{first_of, is_before};
+use ladder_page::geometry::{COLUMNS, PITCH, ROWS, reading_place};
+use ladder_page::operand::{block_drawn, is_odd};
+use ladder_page::page::{form_at, is_written_over, name_over, rung_at};
+use ladder_page::picture::{ch, half_line, joint};
+use ladder_page::{Form, Half, PageView};
+use ladder_vars::Pin;
+
+/// Whether a character that is no space may stand between two cells.
+fn is_joint(half: Half, linked: bool, b: u8, right: u8) -> bool
+    ensures { result ≡ is_joint half linked b right }
+{
+    match half {
+        Half::Name => b == b'|',
+        Half::Wire => {
+            b == b'+'
+                || if linked {
+                    b == b'-'
+                } else {
+                    b == b'|' && right != b'-'
+                }
+        }
+    }
+}
+
+/// Whether what stands at a joint's place, or at the right rail, may stand there.
+fn fits_joint(
+    page: PageView<'_, '_>,
+    rung: usize,
+    row: usize,
+    half: Half,
+    column: usize,
+    b: u8,
+) -> bool
+    requires rungs { rung < length page.parts.now }
+    requires rows { row < ROWS }
+    requires columns { column ≤ COLUMNS }
+    ensures { result ≡ fits_joint (seen page.entry) rung row half column b }
+{
+    if b == b' ' {
+        return true;
+    }
+    if column == COLUMNS {
+        is_branch(b)
+    } else {
+        is_joint(
+            half,
+            right_link(page, rung, row, column.saturating_sub(1)),
+            b,
+            ch(
+                rung_at(page, rung),
+                half_line(row, half),
+                PITCH * column + 1,
+            ),
+        )
+    }
+}
+
+fn is_odd_joint(page: PageView<'_, '_>, rung: usize, row: usize, half: Half, column: usize) -> bool
+    requires rungs { rung < length page.parts.now }
+    requires rows { row < ROWS }
+    requires columns { column ≤ COLUMNS }
+    ensures { IsTrue result ↔ (fits_joint (seen page.entry) rung row half column (ch (rung_at (seen page.entry) rung) (half_line row half) (PITCH * column)) ≡ false) }
+{
+    !fits_joint(
+        page,
+        rung,
+        row,
+        half,
+        column,
+        ch(rung_at(page, rung), half_line(row, half), PITCH * column),
+    )
+}
+
+fn is_branch(b: u8) -> bool
+    ensures { result ≡ is_upright b }
+{
+    b == b'|' || b == b'+'
+}
+
+/// Whether a bar on the name line of the row has a loose end.
+fn is_loose(lines: &[&[u8]], row: usize, column: usize) -> bool
+    requires rows { row < ROWS }
+    requires columns { column < COLUMNS }
+    ensures { result ≡ is_loose (map (λ l. l.now) lines.now) row column }
+{
+    ch(lines, 2 * row, PITCH * column) == b'|'
+        && (row == 0
+            || !is_branch(joint(lines, row - 1, column))
+            || !is_branch(joint(lines, row, column)))
+}
+
+fn wants_name(form: Option<Form>) -> bool
+    ensures { result ≡ wants_name form }
+{
+    match form {
+        Some(Form::Contact(_) | Form::Coil(_) | Form::Block(_)) => true,
+        None | Some(Form::Empty | Form::Wire | Form::Lower(_, _) | Form::Jump(_) | Form::Return) =>
+            false,
+    }
+}
+
+fn lacks_name(page: PageView<'_, '_>, rung: usize, row: usize, column: usize) -> bool
+    requires rungs { rung < length page.parts.now }
+    requires few { rung < RUNGS }
+    requires rows { row < ROWS }
+    requires columns { column < COLUMNS }
+    ensures { IsTrue result ↔ CellBreaks rule.NameMissing half.Name (seen page.entry) rung row column }
+{
+    wants_name(form_at(page, rung, row, column)) && !is_written_over(page, rung, row, column)
+}
+
+fn has_idle_text(page: PageView<'_, '_>, rung: usize, row: usize, column: usize) -> bool
+    requires rungs { rung < length page.parts.now }
+    requires few { rung < RUNGS }
+    requires rows { row < ROWS }
+    requires columns { column < COLUMNS }
+    ensures { IsTrue result ↔ CellBreaks rule.NameWithoutSymbol half.Name (seen page.entry) rung row column }
+{
+    !wants_name(form_at(page, rung, row, column)) && is_written_over(page, rung, row, column)
+}
+
+fn is_undeclared(page: PageView<'_, '_>, rung: usize, row: usize, column: usize) -> bool
+    requires rungs { rung < length page.parts.now }
+    requires few { rung < RUNGS }
+    requires rows { row < ROWS }
+    requires columns { column < COLUMNS }
+    ensures { IsTrue result ↔ CellBreaks rule.Undeclared half.Name (seen page.entry) rung row column }
+{
+    wants_name(form_at(page, rung, row, column))
+        && is_written_over(page, rung, row, column)
+        && name_over(page, rung, row, column).is_none()
+}
+
+fn has_odd_name(page: PageView<'_, '_>, rung: usize, row: usize, column: usize) -> bool
+    requires rungs { rung < length page.parts.now }
+    requires few { rung < RUNGS }
+    requires rows { row < ROWS }
+    requires columns { column < COLUMNS }
+    ensures { IsTrue result ↔ CellBreaks rule.WrongKind half.Name (seen page.entry) rung row column }
+{
+    is_odd(
+        page.decls,
+        form_at(page, rung, row, column),
+        name_over(page, rung, row, column),
+    )
+}
+
+fn same_pin(a: Pin, b: Pin) -> bool
+    ensures { result ≡ same_pin a b }
+{
+    a == b
+}
+
+fn is_lower_for(pin: Option<Pin>, form: Option<Form>) -> bool
+    ensures { result ≡ is_lower_for pin form }
+{
+    match form {
+        Some(Form::Lower(other, _)) => takes_second(other, pin),
+        None
+        | Some(
+            Form::Empty
+            | Form::Wire
+            | Form::Contact(_)
+            | Form::Coil(_)
+            | Form::Block(_)
+            | Form::Jump(_)
+            | Form::Return,
+        ) => false,
+    }
+}
+
+fn takes_second(other: Pin, pin: Option<Pin>) -> bool
+    ensures { result ≡ takes_second other pin }
+{
+    match pin {
+        Some(p) => same_pin(p, other),
+        None => false,
+    }
+}
+
+fn is_block_for(other: Pin, form: Option<Form>) -> bool
+    ensures { result ≡ is_block_for other form }
+{
+    match form {
+        Some(Form::Block(kind)) => takes_second(other, kind.traits().second_input),
+        None
+        | Some(
+            Form::Empty
+            | Form::Wire
+            | Form::Contact(_)
+            | Form::Coil(_)
+            | Form::Lower(_, _)
+            | Form::Jump(_)
+            | Form::Return,
+        ) => false,
+    }
+}
+
+fn lacks_lower(pin: Option<Pin>, below: Option<Form>) -> bool
+    ensures { result ≡ lacks_lower pin below }
+{
+    match pin {
+        Some(_) => !is_lower_for(pin, below),
+        None => false,
+    }
+}
+
+fn is_apart(above: Option<Form>, form: Option<Form>, below: Option<Form>) -> bool
+    ensures { result ≡ is_apart above form below }
+{
+    match form {
+        Some(Form::Block(kind)) => lacks_lower(kind.traits().second_input, below),
+        Some(Form::Lower(other, _)) => !is_block_for(other, above),
+        None
+        | Some(
+            Form::Empty
+            | Form::Wire
+            | Form::Contact(_)
+            | Form::Coil(_)
+            | Form::Jump(_)
+            | Form::Return,
+        ) => false,
+    }
+}
+
+fn form_above(page: PageView<'_, '_>, rung: usize, row: usize, column: usize) -> Option<Form>
+    requires rungs { rung < length page.parts.now }
+    requires rows { row < ROWS }
+    requires columns { column < COLUMNS }
+    ensures { result ≡ form_above (seen page.entry) rung row column }
+{
+    if row == 0 {
+        None
+    } else {
+        form_at(page, rung, row - 1, column)
+    }
+}
+
+fn form_below(page: PageView<'_, '_>, rung: usize, row: usize, column: usize) -> Option<Form>
+    requires rungs { rung < length page.parts.now }
+    requires rows { row < ROWS }
+    requires columns { column < COLUMNS }
+    ensures { result ≡ form_below (seen page.entry) rung row column }
+{
+    if row + 1 == ROWS {
+        None
+    } else {
+        form_at(page, rung, row + 1, column)
+    }
+}
+
+fn is_torn(page: PageView<'_, '_>, rung: usize, row: usize, column: usize) -> bool
+    requires rungs { rung < length page.parts.now }
+    requires rows { row < ROWS }
+    requires columns { column < COLUMNS }
+    ensures { IsTrue result ↔ IsTorn (seen page.entry) rung row column }
+{
+    is_apart(
+        form_above(page, rung, row, column),
+        form_at(page, rung, row, column),
+        form_below(page, rung, row, column),
+    )
+}
+
+/// Whether a block before the place is the instance.
+fn is_drawn_before(
+    page: PageView<'_, '_>,
+    inst: usize,
+    rung: usize,
+    row: usize,
+    column: usize,
+) -> bool
+    requires rungs { rung < length page.parts.now }
+    requires rows { row < ROWS }
+    requires columns { column < COLUMNS }
+    requires few { rung < RUNGS }
+    ensures { IsTrue result ↔ IsDrawnBefore (seen page.entry) inst rung row column }
+{
+    is_before(
+        first_of(page.firsts, inst),
+        reading_place(rung, row, column),
+    )
+}
+
+/// The instance of which there is a block at the place.
+fn drawn_at(page: PageView<'_, '_>, rung: usize, row: usize, column: usize) -> Option<usize>
+    requires rungs { rung < length page.parts.now }
+    requires few { rung < RUNGS }
+    requires rows { row < ROWS }
+    requires columns { column < COLUMNS }
+    ensures { (inst : ℕ) → (result ≡ Some inst) ↔ IsDrawnAt (seen page.entry) inst rung row column }
+{
+    let name = name_over(page, rung, row, column);
+    block_drawn(page.decls, &form_at(page, rung, row, column), &name)
+}
+
+fn is_drawn_twice(page: PageView<'_, '_>, rung: usize, row: usize, column: usize) -> bool
+    requires rungs { rung < length page.parts.now }
+    requires few { rung < RUNGS }
+    requires rows { row < ROWS }
+    requires columns { column < COLUMNS }
+    ensures { IsTrue result ↔ CellBreaks rule.DrawnTwice half.Name (seen page.entry) rung row column }
+{
+    match drawn_at(page, rung, row, column) {
+        Some(inst) => is_drawn_before(page, inst, rung, row, column),
+        None => false,
+    }
+}
+
+fn leaps(form: Option<Form>) -> bool
+    ensures { result ≡ leaps form }
+{
+    match form {
+        Some(Form::Jump(_) | Form::Return) => true,
+        None
+        | Some(
+            Form::Empty
+            | Form::Wire
+            | Form::Contact(_)
+            | Form::Coil(_)
+            | Form::Block(_)
+            | Form::Lower(_, _),
+        ) => false,
+    }
+}
+
+fn is_second_jump(page: PageView<'_, '_>, rung: usize, row: usize, column: usize) -> bool
+    requires rungs { rung < length page.parts.now }
+    requires rows { row < ROWS }
+    requires columns { column < COLUMNS }
+    ensures { IsTrue result ↔ CellBreaks rule.TwoJumps half.Wire (seen page.entry) rung row column }
+{
+    if !leaps(form_at(page, rung, row, column)) {
+        return false;
+    }
+    for n in 0..COLUMNS * row + column {
+        if leaps(form_at(page, rung, n / COLUMNS, n % COLUMNS)) {
+            return true;
+        }
+    }
+    false
+}
+
+/// Whether the cell at the place breaks the rule on its wire line.
+fn wire_breaks(
+    rule: GridRule,
+    page: PageView<'_, '_>,
+    rung: usize,
+    row: usize,
+    column: usize,
+) -> bool
+    requires rungs { rung < length page.parts.now }
+    requires few { rung < RUNGS }
+    requires rows { row < ROWS }
+    requires columns { column < COLUMNS }
+    ensures { IsTrue result ↔ CellBreaks rule half.Wire (seen page.entry) rung row column }
+{
+    match rule {
+        GridRule::BadCell => form_at(page, rung, row, column).is_none(),
+        GridRule::Unfed => is_unfed(page, rung, row, column),
+        GridRule::BlockShape => is_torn(page, rung, row, column),
+        GridRule::TwoJumps => is_second_jump(page, rung, row, column),
+        GridRule::TooWide
+        | GridRule::TooTall
+        | GridRule::BadJoint
+        | GridRule::BrokenVertical
+        | GridRule::NameMissing
+        | GridRule::NameWithoutSymbol
+        | GridRule::Undeclared
+        | GridRule::WrongKind
+        | GridRule::DrawnTwice
+        | GridRule::LabelFault
+        | GridRule::TooManyRungs => false,
+    }
+}
+
+/// Whether what is over the cell at the place, or the bar on its left, breaks the rule on the name line.
+fn name_breaks(
+    rule: GridRule,
+    page: PageView<'_, '_>,
+    rung: usize,
+    row: usize,
+    column: usize,
+) -> bool
+    requires rungs { rung < length page.parts.now }
+    requires few { rung < RUNGS }
+    requires rows { row < ROWS }
+    requires columns { column < COLUMNS }
+    ensures { IsTrue result ↔ CellBreaks rule half.Name (seen page.entry) rung row column }
+{
+    match rule {
+        GridRule::BrokenVertical => column >= 1 && is_loose(rung_at(page, rung), row, column),
+        GridRule::NameMissing => lacks_name(page, rung, row, column),
+        GridRule::NameWithoutSymbol => has_idle_text(page, rung, row, column),
+        GridRule::Undeclared => is_undeclared(page, rung, row, column),
+        GridRule::WrongKind => has_odd_name(page, rung, row, column),
+        GridRule::DrawnTwice => is_drawn_twice(page, rung, row, column),
+        GridRule::TooWide
+        | GridRule::TooTall
+        | GridRule::BadCell
+        | GridRule::BadJoint
+        | GridRule::Unfed
+        | GridRule::BlockShape
+        | GridRule::TwoJumps
+        | GridRule::LabelFault
+        | GridRule::TooManyRungs => false,
+    }
+}
+
+/// Whether the rule is broken at the place.
+fn breaks(
+    rule: GridRule,
+    page: PageView<'_, '_>,
+    rung: usize,
+    row: usize,
+    half: Half,
+    column: usize,
+) -> bool
+    requires rungs { rung < length page.parts.now }
+    requires rows { row < ROWS }
+    requires columns { column ≤ COLUMNS }
+    requires few { rung < RUNGS }
+    ensures { IsTrue result ↔ BreaksAt rule (seen page.entry) rung row half column }
+{
+    if rule == GridRule::BadJoint {
+        return column >= 1 && is_odd_joint(page, rung, row, half, column);
+    }
+    column < COLUMNS
+        && match half {
+            Half::Wire => wire_breaks(rule, page, rung, row, column),
+            Half::Name => name_breaks(rule, page, rung, row, column),
+        }
+}
+
+/// The first column in which the rule is broken on this line of a row.
+pub(crate) fn broken_column(
+    rule: GridRule,
+    page: PageView<'_, '_>,
+    rung: usize,
+    row: usize,
+    half: Half,
+) -> Option<usize>
+    requires rungs { rung < length page.parts.now }
+    requires rows { row < ROWS }
+    requires few { rung < RUNGS }
+    ensures some { IfSome result (λ c. BreaksAt rule (seen page.entry) rung row half c) }
+    ensures near { IfSome result (λ c. c ≤ COLUMNS) }
+    ensures none { IfNone result (IsBrokenAlong rule (seen page.entry) rung row half → ⊥) }
+{
+    for column in 0..COLUMNS + 1 {
+        if breaks(rule, page, rung, row, half, column) {
+            return Some(column);
+        }
+    }
+    None
+}
+
+/// Whether the rule is broken on this line of a row.
+fn is_broken_along(
+    rule: GridRule,
+    page: PageView<'_, '_>,
+    rung: usize,
+    row: usize,
+    half: Half,
+) -> bool
+    requires rungs { rung < length page.parts.now }
+    requires rows { row < ROWS }
+    requires few { rung < RUNGS }
+    ensures { IsTrue result ↔ IsBrokenAlong rule (seen page.entry) rung row half }
+{
+    broken_column(rule, page, rung, row, half).is_some()
+}
+
+/// The first line of the rung on which the rule is broken.
+fn broken_line(rule: GridRule, page: PageView<'_, '_>, rung: usize) -> Option<usize>
+    requires rungs { rung < length page.parts.now }
+    requires few { rung < RUNGS }
+    ensures some { IfSome result (λ line. IsBrokenOn rule (seen page.entry) rung line) }
+    ensures near { IfSome result (λ line. line < LINES) }
+    ensures none { IfNone result (IsKept (seen page.entry) rung rule) }
+{
+    for row in 0..ROWS {
+        if is_broken_along(rule, page, rung, row, Half::Name) {
+            return Some(half_line(row, Half::Name));
+        }
+        if is_broken_along(rule, page, rung, row, Half::Wire) {
+            return Some(half_line(row, Half::Wire));
+        }
+    }
+    None
+}
+
+/// The rules of places, in the order in which a fault is looked for.
+const ORDER: [GridRule; 11] = [
+    GridRule::BadCell,
+    GridRule::BadJoint,
+    GridRule::BrokenVertical,
+    GridRule::Unfed,
+    GridRule::NameMissing,
+    GridRule::NameWithoutSymbol,
+    GridRule::Undeclared,
+    GridRule::WrongKind,
+    GridRule::BlockShape,
+    GridRule::DrawnTwice,
+    GridRule::TwoJumps,
+];
+
+fn first_broken(
+    mut rules: &[GridRule],
+    page: PageView<'_, '_>,
+    rung: usize,
+) -> Option<(GridRule, usize)>
+    requires rungs { rung < length page.parts.now }
+    requires few { rung < RUNGS }
+    ensures some { IfSome result (λ x. IsBrokenOn x.0 (seen page.entry) rung x.1) }
+    ensures near { IfSome result (λ x. x.1 < LINES) }
+    ensures none { IfNone result (AllByRecursion (IsKept (seen page.entry) rung) rules.entry.now) }
+{
+    while let [rule, rest @ ..] = rules {
+        if let Some(line) = broken_line(*rule, page, rung) {
+            return Some((*rule, line));
+        }
+        rules = rest;
+    }
+    None
+}
+
+/// The first rule of places that the rung breaks, and its line.
+pub(crate) fn broken_place(page: PageView<'_, '_>, rung: usize) -> Option<(GridRule, usize)>
+    requires rungs { rung < length page.parts.now }
+    requires few { rung < RUNGS }
+    ensures some { IfSome result (λ x. IsBrokenOn x.0 (seen page.entry) rung x.1) }
+    ensures near { IfSome result (λ x. x.1 < LINES) }
+    ensures none { IfNone result ((rule : GridRule) → IsKept (seen page.entry) rung rule) }
+{
+    first_broken(&ORDER, page, rung)
+}

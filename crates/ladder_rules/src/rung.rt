@@ -1,0 +1,87 @@
+//! The rules of one rung.
+
+ghost use Rattle.std.specs.Prelude.{◌≡◌, ◌<◌, ◌+◌, ℕ, length, map, IfSome, IfNone, [], true, drop};
+ghost use Rattle.ladder_page.specs.declared.geometry.TheConstants.{RUNGS, LINES};
+ghost use Rattle.ladder_page.specs.Seen.{seen, part_at};
+ghost use Rattle.ladder_rules.specs.Checks.{is_dirty, is_dirty_at, is_wide, is_wide_at};
+ghost use Rattle.ladder_rules.specs.Rung.{RungBreaks, IsSoundRung};
+
+use crate::fault::{GridRule, Rule};
+use crate::rules::broken_place;
+use ladder_page::PageView;
+use ladder_page::geometry::{LINES, RAIL};
+use ladder_page::page::rung_at;
+use ladder_page::picture::{has_text, line_at};
+
+/// The first place past the right rail.
+const PAST_RAIL: usize = RAIL + 1;
+
+fn is_dirty(line: &[u8]) -> bool
+    ensures { result ≡ is_dirty line.now }
+{
+    line.iter().any(|b| !(b' ' <= *b && *b <= b'~'))
+}
+
+fn past(line: &[u8], place: usize) -> &[u8]
+    ensures { result.now ≡ drop place line.now }
+{
+    if place < line.len() {
+        &line[place..]
+    } else {
+        &[]
+    }
+}
+
+fn is_wide(line: &[u8]) -> bool
+    ensures { result ≡ is_wide line.now }
+{
+    has_text(past(line, PAST_RAIL))
+}
+
+fn dirty_line(lines: &[&[u8]]) -> Option<usize>
+    ensures some { IfSome result (λ line. (line < length lines.now) × (is_dirty_at (map (λ l. l.now) lines.now) line ≡ true)) }
+    ensures none { IfNone result ((line : ℕ) → line < length lines.now → is_dirty_at (map (λ l. l.now) lines.now) line ≡ true → ⊥) }
+{
+    for line in 0..lines.len() {
+        if is_dirty(line_at(lines, line)) {
+            return Some(line);
+        }
+    }
+    None
+}
+
+fn wide_line(lines: &[&[u8]]) -> Option<usize>
+    ensures some { IfSome result (λ line. (line < length lines.now) × (is_wide_at (map (λ l. l.now) lines.now) line ≡ true)) }
+    ensures none { IfNone result ((line : ℕ) → line < length lines.now → is_wide_at (map (λ l. l.now) lines.now) line ≡ true → ⊥) }
+{
+    for line in 0..lines.len() {
+        if is_wide(line_at(lines, line)) {
+            return Some(line);
+        }
+    }
+    None
+}
+
+/// The first rule that the rung breaks, and the line of the rung.
+pub(crate) fn broken_rule(page: PageView<'_, '_>, rung: usize) -> Option<(Rule, usize)>
+    requires rungs { rung < length page.parts.now }
+    requires few { rung < RUNGS }
+    ensures some { IfSome result (λ x. RungBreaks x.0 (seen page.entry) rung x.1) }
+    ensures near { IfSome result (λ x. (part_at (seen page.entry) rung).start + x.1 < (part_at (seen page.entry) rung).end + LINES) }
+    ensures none { IfNone result (IsSoundRung (seen page.entry) rung) }
+{
+    let lines = rung_at(page, rung);
+    if let Some(line) = dirty_line(lines) {
+        return Some((Rule::BadByte, line));
+    }
+    if lines.len() > LINES {
+        return Some((Rule::Grid(GridRule::TooTall), LINES));
+    }
+    if let Some(line) = wide_line(lines) {
+        return Some((Rule::Grid(GridRule::TooWide), line));
+    }
+    match broken_place(page, rung) {
+        Some((rule, line)) => Some((Rule::Grid(rule), line)),
+        None => None,
+    }
+}
