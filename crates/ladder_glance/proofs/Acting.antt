@@ -3,6 +3,7 @@ use Rattle.std.proofs.Common.{◌≡◌, ℕ, ◌+◌, ◌<◌, ◌≤◌, false
 use Rattle.std.proofs.lemmas.Bool.{cases_Bool}
 use Rattle.std.proofs.lemmas.List.{drop_more, drop_all}
 use Rattle.std.proofs.lemmas.Option.{get_or_from_slice_get, slice_get_read}
+use Rattle.ladder_page.specs.declared.geometry.TheConstants.{PLACES}
 use Rattle.ladder_grid.specs.declared.cell.Cell.{Cell}
 use Rattle.ladder_grid.specs.declared.cell.Cell.TheVariants.{Empty, Wire, Contact, Coil, Block, Lower, Jump, Return}
 use Rattle.ladder_grid.specs.declared.gates.Action.{Action}
@@ -66,13 +67,13 @@ module _ {S B : Type 0} (o : Algebra S) (w : Keeping S B) (p : Drawing) (now j :
     abbrev links : ℕ → S
     links = link_in o w (diagram_of p) now j from
 
-    change_is : (e : ℕ) → e < 60 → (k : Known S B) → changed (cell_of p j e) (among o R (left_of p j e)) (among o R (below_of p j e)) k
+    change_is : (e : ℕ) → e < PLACES → (k : Known S B) → changed (cell_of p j e) (among o R (left_of p j e)) (among o R (below_of p j e)) k
         ≡ changed ((diagram_of p).cell j e) (links e) (second o (diagram_of p) j links e) k
     change_is e lt k =
         ap (λ c. changed c (among o R (left_of p j e)) (among o R (below_of p j e)) k) (sym (cell_is p j e lt))
         ∙ ap₂ (λ x y. changed ((diagram_of p).cell j e) x y k) (are.left e lt) (are.below e lt)
 
-    changes_along : (n : ℕ) → n ≤ 60 → (k : Known S B)
+    changes_along : (n : ℕ) → n ≤ PLACES → (k : Known S B)
         → changes_by o w (diagram_of p) now start guard R (actions_before p j n) k ≡ changes_in o w (diagram_of p) now j start guard links n k
     unfolding changes_by changes_in actions_before
     changes_along zero lt k = refl
@@ -89,9 +90,9 @@ module _ {S B : Type 0} (o : Algebra S) (w : Keeping S B) (p : Drawing) (now j :
           ∙ sym (still ((diagram_of p).cell j n) (links n) (second o (diagram_of p) j links n) _ (ap acts (cell_is p j n (omega arith)) ∙ t))
     ]
 
-    all_changes : (k : Known S B) → changes_by o w (diagram_of p) now start guard R (actions_of p j) k ≡ changes_in o w (diagram_of p) now j start guard links 60 k
+    all_changes : (k : Known S B) → changes_by o w (diagram_of p) now start guard R (actions_of p j) k ≡ changes_in o w (diagram_of p) now j start guard links PLACES k
     unfolding actions_of
-    all_changes k = changes_along 60 (omega arith) k
+    all_changes k = changes_along PLACES (omega arith) k
 
 pub by_actions : {S B : Type 0} (o : Algebra S) (w : Keeping S B) (p : Drawing) (now j : ℕ) (guard : S) (k next : Known S B) (start : Frame S) (links : List S) → start ≡ frame_in w k
     → AreLinksIn o w p now j k links → next ≡ changes_by o w (diagram_of p) now start guard links (actions_of p j) k
@@ -99,4 +100,4 @@ pub by_actions : {S B : Type 0} (o : Algebra S) (w : Keeping S B) (p : Drawing) 
 by_actions o w p now j guard k next start links s are e =
     e
     ∙ all_changes o w p now j start guard k links are k
-    ∙ ap (λ (f : Frame _). changes_in o w (diagram_of p) now j f guard (link_in o w (diagram_of p) now j k) 60 k) s
+    ∙ ap (λ (f : Frame _). changes_in o w (diagram_of p) now j f guard (link_in o w (diagram_of p) now j k) PLACES k) s

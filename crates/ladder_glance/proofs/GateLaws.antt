@@ -3,8 +3,10 @@ use Rattle.std.proofs.Common.{◌≡◌, ℕ, ◌+◌, ◌-◌, ◌*◌, ◌/◌
 use Rattle.std.proofs.lemmas.Bool.Decides.{nat_tests}
 use Rattle.std.proofs.lemmas.Bool.{cases_eq, cases_Bool}
 use Rattle.std.proofs.lemmas.List.{drop_more, drop_all}
+use Rattle.ladder_page.specs.declared.geometry.TheConstants.{ROWS, COLUMNS, PLACES}
 use Rattle.ladder_page.specs.declared.mode.Mode.{Mode}
 use Rattle.ladder_page.specs.declared.mode.Mode.TheVariants.{Plain, Negated, Rising, Falling}
+use Rattle.ladder_grid.specs.declared.gates.TheConstants.{ON, OFF, LINKS}
 use Rattle.ladder_grid.specs.declared.cell.Operand.{Operand}
 use Rattle.ladder_grid.specs.declared.cell.Operand.TheVariants.{Var, Output}
 use Rattle.ladder_grid.specs.declared.cell.Cell.{Cell}
@@ -69,16 +71,16 @@ is_less a b h = grind (arith, nat_tests)
 less_is : (a b : ℕ) → nat_lt a b ≡ true → a < b
 less_is a b h = grind (arith, nat_tests)
 
-the_column : (column row : ℕ) → row < 6 → (6 * column + row) / 6 ≡ column
+the_column : (column row : ℕ) → row < ROWS → (ROWS * column + row) / ROWS ≡ column
 the_column column row h = omega arith
 
-the_row : (column row : ℕ) → row < 6 → (6 * column + row) % 6 ≡ row
+the_row : (column row : ℕ) → row < ROWS → (ROWS * column + row) % ROWS ≡ row
 the_row column row h = omega arith
 
-place_is : (e : ℕ) → 6 * (e / 6) + e % 6 ≡ e
+place_is : (e : ℕ) → ROWS * (e / ROWS) + e % ROWS ≡ e
 place_is e = omega arith
 
-row_small : (e : ℕ) → e % 6 < 6
+row_small : (e : ℕ) → e % ROWS < ROWS
 row_small e = omega arith
 
 both_true : (a b : Bool) → (a && b) ≡ true → (a ≡ true) × (b ≡ true)
@@ -91,12 +93,12 @@ feeds_is : (p : Drawing) (j row column q : ℕ) → (diagram_of p).feeds j row c
 unfolding diagram_of
 feeds_is p j row column q = refl
 
-linked_is : (p : Drawing) (j e : ℕ) → e < 60 → (diagram_of p).linked j e ≡ (nat_lt (e % 6 + 1) 6 && is_linked (cell_of p j (e + 1)))
+linked_is : (p : Drawing) (j e : ℕ) → e < PLACES → (diagram_of p).linked j e ≡ (nat_lt (e % ROWS + 1) ROWS && is_linked (cell_of p j (e + 1)))
 unfolding diagram_of
-linked_is p j e h = elim (cases_Bool (nat_lt (e % 6 + 1) 6)) [
+linked_is p j e h = elim (cases_Bool (nat_lt (e % ROWS + 1) ROWS)) [
   | inl t ↦
-      let k : e % 6 + 1 < 6 = less_is _ _ t in
-      ap (λ (c : Cell). nat_lt (e % 6 + 1) 6 && is_linked c) (cond_true (nat_lt (e + 1) 60) (cell_of p j (e + 1)) Empty (is_less (e + 1) 60 (omega arith)))
+      let k : e % ROWS + 1 < ROWS = less_is _ _ t in
+      ap (λ (c : Cell). nat_lt (e % ROWS + 1) ROWS && is_linked c) (cond_true (nat_lt (e + 1) PLACES) (cell_of p j (e + 1)) Empty (is_less (e + 1) PLACES (omega arith)))
   | inr t ↦ ap (λ b. b && is_linked (cell_at p j (e + 1))) t ∙ sym (ap (λ b. b && is_linked (cell_of p j (e + 1))) t)
 ]
 
@@ -113,33 +115,33 @@ module _ {S B : Type 0} (o : Algebra S) (V : S → Type 0) (l : LatticeLaws S V 
 
   -- the second input of a cell
   abbrev low : ℕ → ℕ → S
-  low column q = lower o ((diagram_of p).linked j (6 * column + q)) (lk (q + 1) column)
+  low column q = lower o ((diagram_of p).linked j (ROWS * column + q)) (lk (q + 1) column)
 
   -- the right link of a cell
   abbrev right : ℕ → ℕ → S
-  right column q = own_in o w (diagram_of p) now f k (cl (6 * column + q)) (lk q column) (low column q)
+  right column q = own_in o w (diagram_of p) now f k (cl (ROWS * column + q)) (lk q column) (low column q)
 
   -- the OR of what comes from the rows above into the group on the right
   abbrev above : ℕ → ℕ → S
-  above column row = cond (nat_lt (column + 1) 10) (join_where o (feeds p j row (column + 1)) (right column) row) (o.known false)
+  above column row = cond (nat_lt (column + 1) COLUMNS) (join_where o (feeds p j row (column + 1)) (right column) row) (o.known false)
 
   abbrev here : ℕ → S
-  here e = right (e / 6) (e % 6)
+  here e = right (e / ROWS) (e % ROWS)
 
   abbrev want : ℕ → S
-  want e = o.join (here e) (above (e / 6) (e % 6))
+  want e = o.join (here e) (above (e / ROWS) (e % ROWS))
 
   lk_value : (row column : ℕ) → V (lk row column)
   lk_value row column = link_value o V l w K keeps p now j k sure row column
 
   low_value : (column q : ℕ) → V (low column q)
-  low_value column q = either_value o V l ((diagram_of p).linked j (6 * column + q)) _ _ (lk_value (q + 1) column) (l.known_value false)
+  low_value column q = either_value o V l ((diagram_of p).linked j (ROWS * column + q)) _ _ (lk_value (q + 1) column) (l.known_value false)
 
   right_value : (column q : ℕ) → V (right column q)
   right_value column q =
-      either_value o V l (is_block (cl (6 * column + q))) _ _
-      (q_is o V l w K keeps p now j k sure (cl (6 * column + q)) _ _ (lk_value q column) (low_value column q))
-      (l.meet_value _ _ (lk_value q column) (closed_is o V l w K keeps p now j k sure (cl (6 * column + q))))
+      either_value o V l (is_block (cl (ROWS * column + q))) _ _
+      (q_is o V l w K keeps p now j k sure (cl (ROWS * column + q)) _ _ (lk_value q column) (low_value column q))
+      (l.meet_value _ _ (lk_value q column) (closed_is o V l w K keeps p now j k sure (cl (ROWS * column + q))))
 
   joined_value : (t : ℕ → Bool) (g : ℕ → S) (n : ℕ) → ((q : ℕ) → V (g q)) → V (join_where o t g n)
   unfolding join_where
@@ -174,110 +176,110 @@ module _ {S B : Type 0} (o : Algebra S) (V : S → Type 0) (l : LatticeLaws S V 
   -- ---- links so far
   -- The gates of the cells before place n gave what they must.
   record Good (n : ℕ) (R : List S) : Type 0 where
-    long : length R ≡ 122
-    on : get_or R 60 (o.known false) ≡ o.known true
-    off : get_or R 61 (o.known false) ≡ o.known false
+    long : length R ≡ LINKS
+    on : get_or R ON (o.known false) ≡ o.known true
+    off : get_or R OFF (o.known false) ≡ o.known false
     fed : (e : ℕ) → e < n → feeds_on p j e ≡ true → get_or R e (o.known false) ≡ want e
 
-  want_is : (column q : ℕ) → column + 1 < 10 → q < 6 → want (6 * column + q) ≡ o.join (right column q) (join_where o (feeds p j q (column + 1)) (right column) q)
+  want_is : (column q : ℕ) → column + 1 < COLUMNS → q < ROWS → want (ROWS * column + q) ≡ o.join (right column q) (join_where o (feeds p j q (column + 1)) (right column) q)
   want_is column q c h =
       ap₂ (λ a b. o.join (right a b) (above a b)) (the_column column q h) (the_row column q h)
-      ∙ ap (o.join (right column q)) (cond_true (nat_lt (column + 1) 10) _ _ (is_less (column + 1) 10 c))
+      ∙ ap (o.join (right column q)) (cond_true (nat_lt (column + 1) COLUMNS) _ _ (is_less (column + 1) COLUMNS c))
 
-  feeds_there : (row column q : ℕ) → row < 6 → column + 1 < 10 → q < 6 → feeds p j row (column + 1) q ≡ true → feeds_on p j (6 * column + q) ≡ true
+  feeds_there : (row column q : ℕ) → row < ROWS → column + 1 < COLUMNS → q < ROWS → feeds p j row (column + 1) q ≡ true → feeds_on p j (ROWS * column + q) ≡ true
   feeds_there row column q r c h fed =
-      ap₂ (λ a b. nat_lt (a + 1) 10 && feeds p j b (a + 1) b) (the_column column q h) (the_row column q h)
-      ∙ ap (λ b. b && feeds p j q (column + 1) q) (is_less (column + 1) 10 c)
+      ap₂ (λ a b. nat_lt (a + 1) COLUMNS && feeds p j b (a + 1) b) (the_column column q h) (the_row column q h)
+      ∙ ap (λ b. b && feeds p j q (column + 1) q) (is_less (column + 1) COLUMNS c)
       ∙ fed_on p j column row q r h fed
 
   -- The last of the first n rows that feeds a cell has the OR over these rows.
-  at_last : (row column n : ℕ) → row < 6 → column + 1 < 10 → n ≤ 6 → (m : ℕ) → 6 * column + n ≤ m → (R : List S) → Good m R
-      → get_or R (last_of (feeds p j row (column + 1)) (6 * (column + 1 - 1)) n) (o.known false) ≡ join_where o (feeds p j row (column + 1)) (right column) n
+  at_last : (row column n : ℕ) → row < ROWS → column + 1 < COLUMNS → n ≤ ROWS → (m : ℕ) → ROWS * column + n ≤ m → (R : List S) → Good m R
+      → get_or R (last_of (feeds p j row (column + 1)) (ROWS * (column + 1 - 1)) n) (o.known false) ≡ join_where o (feeds p j row (column + 1)) (right column) n
   unfolding last_of join_where
   at_last row column zero r c h m le R good = good.off
   at_last row column (suc n) r c h m le R good = elim (cases_Bool (feeds p j row (column + 1) n)) [
     | inl b ↦
-        let base : 6 * (column + 1 - 1) + n ≡ 6 * column + n = omega arith in
-        ap (λ e. get_or R e (o.known false)) (cond_true (feeds p j row (column + 1) n) (6 * (column + 1 - 1) + n) _ b)
+        let base : ROWS * (column + 1 - 1) + n ≡ ROWS * column + n = omega arith in
+        ap (λ e. get_or R e (o.known false)) (cond_true (feeds p j row (column + 1) n) (ROWS * (column + 1 - 1) + n) _ b)
         ∙ ap (λ e. get_or R e (o.known false)) base
-        ∙ good.fed (6 * column + n) (omega arith) (feeds_there row column n r c (omega arith) b)
+        ∙ good.fed (ROWS * column + n) (omega arith) (feeds_there row column n r c (omega arith) b)
         ∙ want_is column n c (omega arith)
         ∙ ap (o.join (right column n)) (fed_same o V l (feeds p j n (column + 1)) (feeds p j row (column + 1)) (right column) (right column) n (λ q lt. group p j column row n r (omega arith) b q (omega arith)) (λ q lt t. refl))
         ∙ l.join_comm _ _ (right_value column n) (joined_value (feeds p j row (column + 1)) (right column) n (λ q. right_value column q))
         ∙ sym (cond_true (feeds p j row (column + 1) n) (o.join (join_where o (feeds p j row (column + 1)) (right column) n) (right column n)) _ b)
     | inr b ↦
-        ap (λ e. get_or R e (o.known false)) (cond_false (feeds p j row (column + 1) n) (6 * (column + 1 - 1) + n) _ b)
+        ap (λ e. get_or R e (o.known false)) (cond_false (feeds p j row (column + 1) n) (ROWS * (column + 1 - 1) + n) _ b)
         ∙ at_last row column n r c (omega arith) m (omega arith) R good
         ∙ sym (cond_false (feeds p j row (column + 1) n) (o.join (join_where o (feeds p j row (column + 1)) (right column) n) (right column n)) _ b)
   ]
 
   -- ---- what a gate looks at
-  left_is : (e : ℕ) → e < 60 → (m : ℕ) → 6 * (e / 6) ≤ m → (R : List S) → Good m R → get_or R (left_of p j e) (o.known false) ≡ lk (e % 6) (e / 6)
-  left_is e h m le R good = elim (cases_Bool (nat_eq (e / 6) 0)) [
+  left_is : (e : ℕ) → e < PLACES → (m : ℕ) → ROWS * (e / ROWS) ≤ m → (R : List S) → Good m R → get_or R (left_of p j e) (o.known false) ≡ lk (e % ROWS) (e / ROWS)
+  left_is e h m le R good = elim (cases_Bool (nat_eq (e / ROWS) 0)) [
     | inl b ↦
-        let none : e / 6 ≡ 0 = same_number (e / 6) 0 b in
-        ap (λ n. get_or R n (o.known false)) (cond_true (nat_eq (e / 6) 0) 60 (last_feeder p j (e % 6) (e / 6) 6) b) ∙ good.on
+        let none : e / ROWS ≡ 0 = same_number (e / ROWS) 0 b in
+        ap (λ n. get_or R n (o.known false)) (cond_true (nat_eq (e / ROWS) 0) ON (last_feeder p j (e % ROWS) (e / ROWS) ROWS) b) ∙ good.on
         ∙ sym (first_column o V l w K keeps p now j k sure e (omega (arith, none)))
     | inr b ↦
-        let some : 1 ≤ e / 6 = grind (arith, nat_tests) in
-        let column = e / 6 - 1 in
-        let there : column + 1 ≡ e / 6 = omega arith in
-        let next : suc column ≡ e / 6 = omega arith in
-        ap (λ n. get_or R n (o.known false)) (cond_false (nat_eq (e / 6) 0) 60 (last_feeder p j (e % 6) (e / 6) 6) b)
-        ∙ ap (λ c. get_or R (last_feeder p j (e % 6) c 6) (o.known false)) (sym there)
-        ∙ at_last (e % 6) column 6 (row_small e) (omega arith) (omega arith) m (omega arith) R good
-        ∙ ap (λ c. join_where o (feeds p j (e % 6) c) (right column) 6) (there ∙ sym next)
-        ∙ sym (fed_same o V l ((diagram_of p).feeds j (e % 6) (suc column)) (feeds p j (e % 6) (suc column)) (right column) (right column) 6 (λ q lt. feeds_is p j (e % 6) (suc column) q) (λ q lt t. refl))
-        ∙ sym (column_next o V l w K keeps p now j k sure (e % 6) column)
-        ∙ ap (λ c. lk (e % 6) c) next
+        let some : 1 ≤ e / ROWS = grind (arith, nat_tests) in
+        let column = e / ROWS - 1 in
+        let there : column + 1 ≡ e / ROWS = omega arith in
+        let next : suc column ≡ e / ROWS = omega arith in
+        ap (λ n. get_or R n (o.known false)) (cond_false (nat_eq (e / ROWS) 0) ON (last_feeder p j (e % ROWS) (e / ROWS) ROWS) b)
+        ∙ ap (λ c. get_or R (last_feeder p j (e % ROWS) c ROWS) (o.known false)) (sym there)
+        ∙ at_last (e % ROWS) column ROWS (row_small e) (omega arith) (omega arith) m (omega arith) R good
+        ∙ ap (λ c. join_where o (feeds p j (e % ROWS) c) (right column) ROWS) (there ∙ sym next)
+        ∙ sym (fed_same o V l ((diagram_of p).feeds j (e % ROWS) (suc column)) (feeds p j (e % ROWS) (suc column)) (right column) (right column) ROWS (λ q lt. feeds_is p j (e % ROWS) (suc column) q) (λ q lt t. refl))
+        ∙ sym (column_next o V l w K keeps p now j k sure (e % ROWS) column)
+        ∙ ap (λ c. lk (e % ROWS) c) next
   ]
 
-  other_is : (e : ℕ) → e < 60 → (R : List S) → Good e R → get_or R (other_of p j e) (o.known false) ≡ above (e / 6) (e % 6)
-  other_is e h R good = elim (cases_Bool (nat_lt (e / 6 + 1) 10)) [
+  other_is : (e : ℕ) → e < PLACES → (R : List S) → Good e R → get_or R (other_of p j e) (o.known false) ≡ above (e / ROWS) (e % ROWS)
+  other_is e h R good = elim (cases_Bool (nat_lt (e / ROWS + 1) COLUMNS)) [
     | inl b ↦
-        ap (λ n. get_or R n (o.known false)) (cond_true (nat_lt (e / 6 + 1) 10) (last_feeder p j (e % 6) (e / 6 + 1) (e % 6)) 61 b)
-        ∙ at_last (e % 6) (e / 6) (e % 6) (row_small e) (less_is _ _ b) (omega arith) e (omega arith) R good
-        ∙ sym (cond_true (nat_lt (e / 6 + 1) 10) _ _ b)
+        ap (λ n. get_or R n (o.known false)) (cond_true (nat_lt (e / ROWS + 1) COLUMNS) (last_feeder p j (e % ROWS) (e / ROWS + 1) (e % ROWS)) OFF b)
+        ∙ at_last (e % ROWS) (e / ROWS) (e % ROWS) (row_small e) (less_is _ _ b) (omega arith) e (omega arith) R good
+        ∙ sym (cond_true (nat_lt (e / ROWS + 1) COLUMNS) _ _ b)
     | inr b ↦
-        ap (λ n. get_or R n (o.known false)) (cond_false (nat_lt (e / 6 + 1) 10) (last_feeder p j (e % 6) (e / 6 + 1) (e % 6)) 61 b)
-        ∙ good.off ∙ sym (cond_false (nat_lt (e / 6 + 1) 10) _ _ b)
+        ap (λ n. get_or R n (o.known false)) (cond_false (nat_lt (e / ROWS + 1) COLUMNS) (last_feeder p j (e % ROWS) (e / ROWS + 1) (e % ROWS)) OFF b)
+        ∙ good.off ∙ sym (cond_false (nat_lt (e / ROWS + 1) COLUMNS) _ _ b)
   ]
 
-  below_is : (e : ℕ) → e < 60 → (m : ℕ) → 6 * (e / 6) ≤ m → (R : List S) → Good m R → get_or R (below_of p j e) (o.known false) ≡ lower o ((diagram_of p).linked j e) (lk (e % 6 + 1) (e / 6))
-  below_is e h m le R good = elim (cases_Bool (nat_lt (e % 6 + 1) 6 && is_linked (cell_of p j (e + 1)))) [
+  below_is : (e : ℕ) → e < PLACES → (m : ℕ) → ROWS * (e / ROWS) ≤ m → (R : List S) → Good m R → get_or R (below_of p j e) (o.known false) ≡ lower o ((diagram_of p).linked j e) (lk (e % ROWS + 1) (e / ROWS))
+  below_is e h m le R good = elim (cases_Bool (nat_lt (e % ROWS + 1) ROWS && is_linked (cell_of p j (e + 1)))) [
     | inl b ↦
-        let row : e % 6 + 1 < 6 = less_is _ _ (both_true _ _ b).0 in
-        let next_row : (e + 1) % 6 ≡ e % 6 + 1 = omega arith in
-        let same_column : (e + 1) / 6 ≡ e / 6 = omega arith in
-        ap (λ n. get_or R n (o.known false)) (cond_true _ (left_of p j (e + 1)) 61 b)
+        let row : e % ROWS + 1 < ROWS = less_is _ _ (both_true _ _ b).0 in
+        let next_row : (e + 1) % ROWS ≡ e % ROWS + 1 = omega arith in
+        let same_column : (e + 1) / ROWS ≡ e / ROWS = omega arith in
+        ap (λ n. get_or R n (o.known false)) (cond_true _ (left_of p j (e + 1)) OFF b)
         ∙ left_is (e + 1) (omega arith) m (omega (arith, same_column)) R good
         ∙ ap₂ lk next_row same_column
-        ∙ sym (cond_true ((diagram_of p).linked j e) (lk (e % 6 + 1) (e / 6)) (o.known false) (linked_is p j e h ∙ b))
+        ∙ sym (cond_true ((diagram_of p).linked j e) (lk (e % ROWS + 1) (e / ROWS)) (o.known false) (linked_is p j e h ∙ b))
     | inr b ↦
-        ap (λ n. get_or R n (o.known false)) (cond_false _ (left_of p j (e + 1)) 61 b)
+        ap (λ n. get_or R n (o.known false)) (cond_false _ (left_of p j (e + 1)) OFF b)
         ∙ good.off
-        ∙ sym (cond_false ((diagram_of p).linked j e) (lk (e % 6 + 1) (e / 6)) (o.known false) (linked_is p j e h ∙ b))
+        ∙ sym (cond_false ((diagram_of p).linked j e) (lk (e % ROWS + 1) (e / ROWS)) (o.known false) (linked_is p j e h ∙ b))
   ]
 
   -- ---- one gate
-  same_place : (e : ℕ) (g : ℕ → S) → g (6 * (e / 6) + e % 6) ≡ g e
+  same_place : (e : ℕ) (g : ℕ → S) → g (ROWS * (e / ROWS) + e % ROWS) ≡ g e
   same_place e g = ap g (place_is e)
 
-  gate_is : (e : ℕ) → e < 60 → (R : List S) → Good e R → let_in o w (diagram_of p) now j f k R (gate_at p j e) ≡ here e
+  gate_is : (e : ℕ) → e < PLACES → (R : List S) → Good e R → let_in o w (diagram_of p) now j f k R (gate_at p j e) ≡ here e
   gate_is e h R good =
       ap (λ c. through_in o w (diagram_of p) now f k (literal_of c) (cl e) (get_or R (left_of p j e) (o.known false)) (get_or R (below_of p j e) (o.known false))) (sym (cell_is p j e h))
       ∙ ap₂ (λ x y. through_in o w (diagram_of p) now f k (literal_of (cl e)) (cl e) x y) (left_is e h e (omega arith) R good) (below_is e h e (omega arith) R good)
-      ∙ cell_through (cl e) (lk (e % 6) (e / 6)) (lower o ((diagram_of p).linked j e) (lk (e % 6 + 1) (e / 6)))
-      ∙ sym (same_place e (λ i. own_in o w (diagram_of p) now f k (cl i) (lk (e % 6) (e / 6)) (lower o ((diagram_of p).linked j i) (lk (e % 6 + 1) (e / 6)))))
+      ∙ cell_through (cl e) (lk (e % ROWS) (e / ROWS)) (lower o ((diagram_of p).linked j e) (lk (e % ROWS + 1) (e / ROWS)))
+      ∙ sym (same_place e (λ i. own_in o w (diagram_of p) now f k (cl i) (lk (e % ROWS) (e / ROWS)) (lower o ((diagram_of p).linked j i) (lk (e % ROWS + 1) (e / ROWS)))))
 
-  one_gate : (e : ℕ) → e < 60 → (R : List S) → Good e R → Good (suc e) (passed_in o w (diagram_of p) now j f k R (gate_at p j e))
+  one_gate : (e : ℕ) → e < PLACES → (R : List S) → Good e R → Good (suc e) (passed_in o w (diagram_of p) now j f k R (gate_at p j e))
   one_gate e h R good =
       let x : S = o.join (let_in o w (diagram_of p) now j f k R (gate_at p j e)) (get_or R (other_of p j e) (o.known false)) in
       let long : e < length R = omega (arith, good.long) in
       record {
         long = length-set R e x ∙ good.long;
-        on = get_or-set_other R e 60 x (o.known false) (λ t. omega arith) ∙ good.on;
-        off = get_or-set_other R e 61 x (o.known false) (λ t. omega arith) ∙ good.off;
+        on = get_or-set_other R e ON x (o.known false) (λ t. omega arith) ∙ good.on;
+        off = get_or-set_other R e OFF x (o.known false) (λ t. omega arith) ∙ good.off;
         fed = λ i lt t. elim (cases_eq i e) [
           | inl same ↦
               ap (λ n. get_or (set R e x) n (o.known false)) same ∙ get_or-set_same R e x (o.known false) long
@@ -286,7 +288,7 @@ module _ {S B : Type 0} (o : Algebra S) (V : S → Type 0) (l : LatticeLaws S V 
         ];
       }
 
-  no_gate : (e : ℕ) → e < 60 → has_gate p j e ≡ false → (R : List S) → Good e R → Good (suc e) R
+  no_gate : (e : ℕ) → e < PLACES → has_gate p j e ≡ false → (R : List S) → Good e R → Good (suc e) R
   no_gate e h none R good =
       let silent : feeds_on p j e ≡ false = (either_test (is_block (cell_of p j e)) (feeds_on p j e) none).1 in
       record {
@@ -304,7 +306,7 @@ module _ {S B : Type 0} (o : Algebra S) (V : S → Type 0) (l : LatticeLaws S V 
   ran_append [] hs R = refl
   ran_append (g ∷ gs) hs R = ran_append gs hs _
 
-  all_good : (n : ℕ) → n ≤ 60 → (R : List S) → length R ≡ 122 → get_or R 60 (o.known false) ≡ o.known true → get_or R 61 (o.known false) ≡ o.known false
+  all_good : (n : ℕ) → n ≤ PLACES → (R : List S) → length R ≡ LINKS → get_or R ON (o.known false) ≡ o.known true → get_or R OFF (o.known false) ≡ o.known false
       → Good n (ran_in o w (diagram_of p) now j f k (gates_before p j n) R)
   unfolding gates_before ran_in
   all_good zero h R long on off = record { long = long; on = on; off = off; fed = λ e lt t. absurd (omega arith) }
@@ -317,22 +319,22 @@ module _ {S B : Type 0} (o : Algebra S) (V : S → Type 0) (l : LatticeLaws S V 
       ]
 
   -- ---- all gates
-  second_is : (e : ℕ) → e < 60 → second o (diagram_of p) j (link_in o w (diagram_of p) now j k) e ≡ lower o ((diagram_of p).linked j e) (lk (e % 6 + 1) (e / 6))
+  second_is : (e : ℕ) → e < PLACES → second o (diagram_of p) j (link_in o w (diagram_of p) now j k) e ≡ lower o ((diagram_of p).linked j e) (lk (e % ROWS + 1) (e / ROWS))
   second_is e h = elim (cases_Bool ((diagram_of p).linked j e)) [
     | inl b ↦
-        let row : e % 6 + 1 < 6 = less_is _ _ (both_true _ _ (sym (linked_is p j e h) ∙ b)).0 in
-        let next_row : (e + 1) % 6 ≡ e % 6 + 1 = omega arith in
-        let same_column : (e + 1) / 6 ≡ e / 6 = omega arith in
+        let row : e % ROWS + 1 < ROWS = less_is _ _ (both_true _ _ (sym (linked_is p j e h) ∙ b)).0 in
+        let next_row : (e + 1) % ROWS ≡ e % ROWS + 1 = omega arith in
+        let same_column : (e + 1) / ROWS ≡ e / ROWS = omega arith in
         ap (lower o ((diagram_of p).linked j e)) (ap₂ lk next_row same_column)
     | inr b ↦ cond_false ((diagram_of p).linked j e) _ (o.known false) b ∙ sym (cond_false ((diagram_of p).linked j e) _ (o.known false) b)
   ]
 
-  pub links_are : (R : List S) → length R ≡ 122 → get_or R 60 (o.known false) ≡ o.known true → get_or R 61 (o.known false) ≡ o.known false
+  pub links_are : (R : List S) → length R ≡ LINKS → get_or R ON (o.known false) ≡ o.known true → get_or R OFF (o.known false) ≡ o.known false
       → AreLinksIn o w p now j k (ran_in o w (diagram_of p) now j f k (gates_of p j) R)
   unfolding gates_of
   links_are R long on off =
-      let good = all_good 60 (omega arith) R long on off in
+      let good = all_good PLACES (omega arith) R long on off in
       record {
-        left = λ e h. left_is e h 60 (omega arith) _ good;
-        below = λ e h. below_is e h 60 (omega arith) _ good ∙ sym (second_is e h);
+        left = λ e h. left_is e h PLACES (omega arith) _ good;
+        below = λ e h. below_is e h PLACES (omega arith) _ good ∙ sym (second_is e h);
       }

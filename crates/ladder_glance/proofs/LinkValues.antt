@@ -1,5 +1,6 @@
 -- What is known of a rung gives values of the signal, and the left links of a column by those of the column before.
 use Rattle.std.proofs.Common.{◌≡◌, ℕ, ◌+◌, ◌*◌, ◌/◌, ◌%◌, ◌<◌, true, false, List, [], ◌∷◌, Option, Some, None, map, get_or, zero, suc, nat_eq, ap, ◌∙◌, arith}
+use Rattle.ladder_page.specs.declared.geometry.TheConstants.{ROWS}
 use Rattle.ladder_grid.specs.declared.cell.Cell.{Cell}
 use Rattle.ladder_grid.specs.declared.cell.Cell.TheVariants.{Empty, Wire, Contact, Coil, Block, Lower, Jump, Return}
 use Rattle.ladder_grid.specs.Program.{Drawing, memory_in}
@@ -37,7 +38,7 @@ module _ {S : Type 0} (o : Algebra S) (V : S → Type 0) (l : LatticeLaws S V o)
   left_is_value row column = join_all-value o V l _ (route_is _ (ends_are column)) (routes g.feeds g.is_block row column)
 
 -- ---- of a rung over what is known
-no_column : (e : ℕ) → e < 6 → e / 6 ≡ 0
+no_column : (e : ℕ) → e < ROWS → e / ROWS ≡ 0
 no_column e h = omega arith
 
 module _ {S B : Type 0} (o : Algebra S) (V : S → Type 0) (l : LatticeLaws S V o) (w : Keeping S B) (K : B → Type 0) (keeps : KeepsValues V K w) (p : Drawing)
@@ -68,23 +69,23 @@ module _ {S B : Type 0} (o : Algebra S) (V : S → Type 0) (l : LatticeLaws S V 
   q_is Return x y vx vy = l.known_value false
 
   through_block : (row column : ℕ) (x y : S) → V x → V y
-      → V (q_in o w (diagram_of p) now k ((diagram_of p).cell j (6 * column + row)) x (lower o ((diagram_of p).linked j (6 * column + row)) y))
+      → V (q_in o w (diagram_of p) now k ((diagram_of p).cell j (ROWS * column + row)) x (lower o ((diagram_of p).linked j (ROWS * column + row)) y))
   through_block row column x y vx vy =
-      q_is ((diagram_of p).cell j (6 * column + row)) x _ vx (either_value o V l ((diagram_of p).linked j (6 * column + row)) _ _ vy (l.known_value false))
+      q_is ((diagram_of p).cell j (ROWS * column + row)) x _ vx (either_value o V l ((diagram_of p).linked j (ROWS * column + row)) _ _ vy (l.known_value false))
 
   pub link_value : (row column : ℕ) → V (left_link o (circuit_in o w (diagram_of p) now j k) row column)
   link_value row column =
-      left_is_value o V l (circuit_in o w (diagram_of p) now j k) (λ r c. closed_is ((diagram_of p).cell j (6 * c + r))) through_block row column
+      left_is_value o V l (circuit_in o w (diagram_of p) now j k) (λ r c. closed_is ((diagram_of p).cell j (ROWS * c + r))) through_block row column
 
   pub column_next : (row column : ℕ) → left_link o (circuit_in o w (diagram_of p) now j k) row (suc column) ≡
-      join_where o ((diagram_of p).feeds j row (suc column)) (λ q. own_in o w (diagram_of p) now (frame_in w k) k ((diagram_of p).cell j (6 * column + q))
+      join_where o ((diagram_of p).feeds j row (suc column)) (λ q. own_in o w (diagram_of p) now (frame_in w k) k ((diagram_of p).cell j (ROWS * column + q))
       (left_link o (circuit_in o w (diagram_of p) now j k) q column)
-      (lower o ((diagram_of p).linked j (6 * column + q)) (left_link o (circuit_in o w (diagram_of p) now j k) (q + 1) column))) 6
+      (lower o ((diagram_of p).linked j (ROWS * column + q)) (left_link o (circuit_in o w (diagram_of p) now j k) (q + 1) column))) ROWS
   column_next row column =
-      left_link-next o V l (circuit_in o w (diagram_of p) now j k) (λ r c. closed_is ((diagram_of p).cell j (6 * c + r))) through_block row column
+      left_link-next o V l (circuit_in o w (diagram_of p) now j k) (λ r c. closed_is ((diagram_of p).cell j (ROWS * c + r))) through_block row column
 
-  pub first_column : (e : ℕ) → e < 6 → link_in o w (diagram_of p) now j k e ≡ o.known true
+  pub first_column : (e : ℕ) → e < ROWS → link_in o w (diagram_of p) now j k e ≡ o.known true
   unfolding routes route_value join_all
   first_column e h =
-      ap (λ c. left_link o (circuit_in o w (diagram_of p) now j k) (e % 6) c) (no_column e h)
+      ap (λ c. left_link o (circuit_in o w (diagram_of p) now j k) (e % ROWS) c) (no_column e h)
       ∙ l.join_comm (o.known true) (o.known false) (l.known_value true) (l.known_value false) ∙ l.join_off (o.known true) (l.known_value true)

@@ -1,6 +1,7 @@
 -- Rung by rung: guards by the jumps so far, what a rung leaves, and how long the lists stay.
 use Rattle.std.proofs.Common.{◌≡◌, ℕ, ◌+◌, ◌<◌, Bool, false, cond, List, [], ◌∷◌, ◌++◌, map, take, length, set, zero, suc, add-one, refl, sym, ap, ap₂, subst, ◌∙◌, arith, Option, Some, None}
 use Rattle.std.proofs.lemmas.List.{get_or-take, length-map, length-set, take_more_set}
+use Rattle.ladder_page.specs.declared.geometry.TheConstants.{PLACES}
 use Rattle.ladder_grid.specs.declared.cell.Cell.{Cell}
 use Rattle.ladder_grid.specs.declared.cell.Cell.TheVariants.{Empty, Wire, Contact, Coil, Block, Lower, Jump, Return}
 use Rattle.ladder_vars.specs.Decls.{is_input}
@@ -41,7 +42,7 @@ module _ {S B : Type 0} (o : Algebra S) (w : Keeping S B) (d : Diagram) (now : �
       long_then (one_long start guard (d.cell j n) (links n) (second o d j links n) (changes_in o w d now j start guard links n k)) (changes_long j start guard links n k)
 
   pub rung_long : (j : ℕ) (guard : S) (k : Known S B) → AreAsLong (evaluated_in o w d now j guard k) k
-  rung_long j guard k = changes_long j (frame_in w k) guard (link_in o w d now j k) 60 k
+  rung_long j guard k = changes_long j (frame_in w k) guard (link_in o w d now j k) PLACES k
 
 -- what contacts saw has the sizes of what the rung leaves
 pub rung_lengths : {S B : Type 0} (o : Algebra S) (w : Keeping S B) (d : Diagram) (now j : ℕ) (guard : S) (k next : Known S B) → next ≡ evaluated_in o w d now j guard k → AreAsLong next k

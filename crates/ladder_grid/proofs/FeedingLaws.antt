@@ -3,6 +3,7 @@ use Rattle.std.proofs.Common.{◌≡◌, ℕ, zero, suc, ◌+◌, ◌-◌, ◌*�
 use Rattle.std.specs.List.{list_all}
 use Rattle.std.proofs.lemmas.Bool.{cases_lt, ne_eqb, and_parts, or_cases, leb-true, le-leb, eqb-true, true≢false}
 use Rattle.ladder_vars.specs.Text.{begins_with}
+use Rattle.ladder_page.specs.declared.geometry.TheConstants.{RUNGS, ROWS, COLUMNS, PITCH}
 use Rattle.ladder_page.specs.Bytes.{space, dash, plus, bar}
 use Rattle.ladder_page.specs.declared.form.Form.{Form}
 use Rattle.ladder_page.specs.declared.form.Form.TheVariants.{Empty, Wire, Contact, Coil, Block, Lower, Jump, Return}
@@ -41,20 +42,20 @@ takes_joint b =
     ] refl
 
 module _ (page : Page) (d : Drawing) (drawn : IsDrawn page d) where
-  vertical_is : (k r c : ℕ) → k < d.rungs → r < 6 → c < 10 → (site_at d k r c).vertical ≡ vertical (rung_at page k) r c
+  vertical_is : (k r c : ℕ) → k < d.rungs → r < ROWS → c < COLUMNS → (site_at d k r c).vertical ≡ vertical (rung_at page k) r c
   vertical_is k r c below rows columns = ap (λ s. s.vertical) (drawn.sites k r c below rows columns)
 
-  link_is : (k r c : ℕ) → k < d.rungs → r < 6 → c < 10 → (site_at d k r c).right_link ≡ right_link page k r c
+  link_is : (k r c : ℕ) → k < d.rungs → r < ROWS → c < COLUMNS → (site_at d k r c).right_link ≡ right_link page k r c
   link_is k r c below rows columns = ap (λ s. s.right_link) (drawn.sites k r c below rows columns)
 
-  joint_is : (k r c : ℕ) → k < d.rungs → r < 6 → c < 10
+  joint_is : (k r c : ℕ) → k < d.rungs → r < ROWS → c < COLUMNS
       → takes_power (site_at d k r c).joint ≡ (joint (rung_at page k) r c == dash || joint (rung_at page k) r c == plus)
   joint_is k r c below rows columns =
       ap (λ s. takes_power s.joint) (drawn.sites k r c below rows columns) ∙ takes_joint (joint (rung_at page k) r c)
 
   -- ---- groups
 
-  joined_links : (k c row n : ℕ) → k < d.rungs → c < 10 → row + n ≤ 6 → joined d k row c n ≡ true
+  joined_links : (k c row n : ℕ) → k < d.rungs → c < COLUMNS → row + n ≤ ROWS → joined d k row c n ≡ true
       → (m : ℕ) → row ≤ m → m < row + n → vertical (rung_at page k) m c ≡ true
   unfolding joined
   joined_links k c row zero below columns rows h m from to = absurd (omega (arith, from, to))
@@ -64,16 +65,16 @@ module _ (page : Page) (d : Drawing) (drawn : IsDrawn page d) where
         | inl before ↦ joined_links k c row n below columns (omega (arith, rows)) parts.0 m from before
         | inr past ↦
             let here : row + n ≡ m = omega (arith, past, to) in
-            let inside : row + n < 6 = omega (arith, rows) in
+            let inside : row + n < ROWS = omega (arith, rows) in
             subst (λ x. vertical (rung_at page k) x c ≡ true) here (sym (vertical_is k (row + n) c below inside columns) ∙ parts.1)
       ]
 
-  links_joined : (k c row n : ℕ) → k < d.rungs → c < 10 → row + n ≤ 6
+  links_joined : (k c row n : ℕ) → k < d.rungs → c < COLUMNS → row + n ≤ ROWS
       → ((m : ℕ) → row ≤ m → m < row + n → vertical (rung_at page k) m c ≡ true) → joined d k row c n ≡ true
   unfolding joined
   links_joined k c row zero below columns rows h = refl
   links_joined k c row (suc n) below columns rows h =
-      let inside : row + n < 6 = omega (arith, rows) in
+      let inside : row + n < ROWS = omega (arith, rows) in
       let before : joined d k row c n ≡ true
       = links_joined k c row n below columns (omega (arith, rows)) (λ m from to. h m from (omega (arith, to))) in
       let last : (site_at d k (row + n) c).vertical ≡ true
@@ -82,7 +83,7 @@ module _ (page : Page) (d : Drawing) (drawn : IsDrawn page d) where
 
   pub same_groups : SameGroups page d
   same_groups k r q c below rows other_rows columns =
-      let size : min r q + (max r q - min r q) ≤ 6 = omega (arith, rows, other_rows) in (
+      let size : min r q + (max r q - min r q) ≤ ROWS = omega (arith, rows, other_rows) in (
         λ h m from to. joined_links k c (min r q) (max r q - min r q) below columns size h m from (omega (arith, to)),
         λ h. links_joined k c (min r q) (max r q - min r q) below columns size (λ m from to. h m from (omega (arith, to))),
       )
@@ -91,7 +92,7 @@ module _ (page : Page) (d : Drawing) (drawn : IsDrawn page d) where
 
   pub same_feeding : SameFeeding page d
   same_feeding k r c q below rows columns other_rows =
-      let before : c - 1 < 10 = omega (arith, columns) in
+      let before : c - 1 < COLUMNS = omega (arith, columns) in
       let link = link_is k q (c - 1) below other_rows before in
       let takes = joint_is k q c below other_rows columns in
       let groups = same_groups k r q c below rows other_rows columns in (
@@ -141,7 +142,7 @@ module _ (page : Page) (d : Drawing) (drawn : IsDrawn page d) where
   ]
 
   -- G4 holds at a joint
-  never_odd_joint : (k r c : ℕ) → k < d.rungs → r < 6 → 1 ≤ c → c < 10 → fits_joint page k r half.Wire c (joint (rung_at page k) r c) ≡ true
+  never_odd_joint : (k r c : ℕ) → k < d.rungs → r < ROWS → 1 ≤ c → c < COLUMNS → fits_joint page k r half.Wire c (joint (rung_at page k) r c) ≡ true
   unfolding PartBreaks
   never_odd_joint k r c below rows some columns =
       elim (fits_joint page k r half.Wire c (joint (rung_at page k) r c)) as
@@ -149,8 +150,8 @@ module _ (page : Page) (d : Drawing) (drawn : IsDrawn page d) where
         | true ↦ λ e. refl
         | false ↦ λ e.
             let inside : k < length page.parts = omega (arith, below, drawn.rungs) in
-            let judged : k < 100 = omega (arith, below, drawn.rungs, few_rungs page drawn.sound) in
-            let high : c ≤ 10 = omega (arith, columns) in
+            let judged : k < RUNGS = omega (arith, below, drawn.rungs, few_rungs page drawn.sound) in
+            let high : c ≤ COLUMNS = omega (arith, columns) in
             absurd (drawn.sound (Grid rule.BadJoint) k ((part_at page k).start + (2 * r + 1)) (inl (
               inside,
               inr (inr (
@@ -163,13 +164,13 @@ module _ (page : Page) (d : Drawing) (drawn : IsDrawn page d) where
       ] refl
 
   -- G6 holds at a cell that begins with a dash
-  never_unfed : (k r c : ℕ) → k < d.rungs → r < 6 → 1 ≤ c → c < 10 → ch (rung_at page k) (2 * r + 1) (12 * c + 1) ≡ dash
+  never_unfed : (k r c : ℕ) → k < d.rungs → r < ROWS → 1 ≤ c → c < COLUMNS → ch (rung_at page k) (2 * r + 1) (PITCH * c + 1) ≡ dash
       → (joint (rung_at page k) r c ≡ space) ⊎ ((joint (rung_at page k) r c ≡ plus) × ¬ (IsFed page k r c)) → ⊥
   unfolding PartBreaks
   never_unfed k r c below rows some columns dashed unfed =
       let inside : k < length page.parts = omega (arith, below, drawn.rungs) in
-      let judged : k < 100 = omega (arith, below, drawn.rungs, few_rungs page drawn.sound) in
-      let high : c ≤ 10 = omega (arith, columns) in
+      let judged : k < RUNGS = omega (arith, below, drawn.rungs, few_rungs page drawn.sound) in
+      let high : c ≤ COLUMNS = omega (arith, columns) in
       drawn.sound (Grid rule.Unfed) k ((part_at page k).start + (2 * r + 1)) (inl (
         inside,
         inr (inr (
@@ -182,14 +183,14 @@ module _ (page : Page) (d : Drawing) (drawn : IsDrawn page d) where
 
   pub feeds_dashes : FeedsDashes page d
   feeds_dashes k r c below rows some columns dashed =
-      elim (find_below (feeds d k r c) 6) [
+      elim (find_below (feeds d k r c) ROWS) [
         | inl found ↦ found
         | inr none ↦
             let no_feed : IsFed page k r c → ⊥ = λ (f : IsFed page k r c).
             none f.0 f.1 ((same_feeding k r c f.0 below rows columns f.1).1 (some, f.2, f.3)) in
             let linked : Bool = right_link page k r (c - 1) in
-            let inner : (c == 10) ≡ false = ne_eqb c 10 (λ is. absurd (omega (arith, is, columns))) in
-            let fits : (joint (rung_at page k) r c == space || is_joint half.Wire linked (joint (rung_at page k) r c) (ch (rung_at page k) (2 * r + 1) (12 * c + 1))) ≡ true
+            let inner : (c == COLUMNS) ≡ false = ne_eqb c COLUMNS (λ is. absurd (omega (arith, is, columns))) in
+            let fits : (joint (rung_at page k) r c == space || is_joint half.Wire linked (joint (rung_at page k) r c) (ch (rung_at page k) (2 * r + 1) (PITCH * c + 1))) ≡ true
             = rw inner at (never_odd_joint k r c below rows some columns) in
             let dashes : (joint (rung_at page k) r c == space || is_joint half.Wire linked (joint (rung_at page k) r c) dash) ≡ true
             = ap (λ x. joint (rung_at page k) r c == space || is_joint half.Wire linked (joint (rung_at page k) r c) x) (sym dashed) ∙ fits in
@@ -258,14 +259,14 @@ form_wants n (Some (Lower pin linked)) name (Some inst) target h = (Lower pin li
 form_wants n (Some (Jump label)) name above target h = (Jump label, refl, refl)
 form_wants n (Some Return) name above target h = (Return, refl, refl)
 
-first_dash : (rung : Lines) (r c : ℕ) → begins_with dash (cell_text rung r c) ≡ true → ch rung (2 * r + 1) (12 * c + 1) ≡ dash
+first_dash : (rung : Lines) (r c : ℕ) → begins_with dash (cell_text rung r c) ≡ true → ch rung (2 * r + 1) (PITCH * c + 1) ≡ dash
 unfolding text_at
-first_dash rung r c h = eqb-true (ch rung (2 * r + 1) (12 * c + 1)) dash h
+first_dash rung r c h = eqb-true (ch rung (2 * r + 1) (PITCH * c + 1)) dash h
 
 pub feeds_cells : (text : List ℕ) (d : Drawing) → IsProgram text d → FeedsCells d
 feeds_cells text d p k r c below rows some columns linked =
     let page : Page = p.page in
-    let inside : k < min (length page.parts) 100 = omega (arith, below, p.drawn.rungs, few_rungs page p.drawn.sound) in
+    let inside : k < min (length page.parts) RUNGS = omega (arith, below, p.drawn.rungs, few_rungs page p.drawn.sound) in
     let f = form_wants _ (form_at page k r c) _ _ _ (ap (λ s. has_left_link s.cell) (sym (p.drawn.sites k r c below rows columns)) ∙ linked) in
     let has : HasForm (cell_text (rung_at page k) r c) f.0
     = (p.reads.forms k r c inside rows columns f.0).0 f.1 in

@@ -2,6 +2,7 @@
 use Rattle.std.proofs.Common.{◌≡◌, ℕ, ◌*◌, ◌<◌, List, drop, sym, ap, subst, ◌∙◌}
 use Rattle.ladder_vars.specs.Decls.{Declared}
 use Rattle.ladder_vars.specs.Grammar.{HasDecls}
+use Rattle.ladder_page.specs.declared.geometry.TheConstants.{PLACES}
 use Rattle.ladder_page.specs.Page.{Page, ReadsAs}
 use Rattle.ladder_grid.specs.Program.{Drawing, drawing}
 use Rattle.ladder_grid.specs.Sheet.{blank_site}
@@ -15,7 +16,7 @@ one_drawing page d e h g =
     let rungs : d.rungs ≡ e.rungs = h.rungs ∙ sym g.rungs in
     let up = λ (k : ℕ) (b : k < d.rungs). subst (λ n. k < n) rungs b in
     let decls : d.decls ≡ e.decls = h.declared ∙ sym g.declared in
-    let sites : d.sites ≡ e.sites = same_list blank_site d.rungs d.sites e.sites h.size (g.size ∙ ap (λ n. 60 * n) (sym rungs))
+    let sites : d.sites ≡ e.sites = same_list blank_site d.rungs d.sites e.sites h.size (g.size ∙ ap (λ n. PLACES * n) (sym rungs))
     (λ k r c b x y. h.sites k r c b x y ∙ sym (g.sites k r c (up k b) x y)) in
     ap (λ x. drawing x d.rungs d.sites) decls ∙ ap (λ x. drawing e.decls x d.sites) rungs ∙ ap (λ x. drawing e.decls e.rungs x) sites
 

@@ -7,6 +7,7 @@ use Rattle.std.proofs.lemmas.List.{get_or_past, length-map}
 use Rattle.ladder_vars.specs.declared.kind.BlockKind.{BlockKind}
 use Rattle.ladder_vars.specs.declared.decls.Symbol.{Symbol}
 use Rattle.ladder_vars.specs.declared.decls.Symbol.TheVariants.{Var, Instance}
+use Rattle.ladder_page.specs.declared.geometry.TheConstants.{RUNGS, ROWS, COLUMNS, PLACES}
 use Rattle.ladder_page.specs.declared.mode.Mode.{Mode}
 use Rattle.ladder_page.specs.declared.mode.CoilMode.{CoilMode}
 use Rattle.ladder_grid.specs.declared.cell.Cell.{Cell}
@@ -214,12 +215,12 @@ module _ (page : Page) (rungs : ℕ) (sites : List Site)
     (sound : IsSoundPage page)
     (same : sites ≡ sites_of page)
     (count : rungs ≡ length page.parts)
-    (few : rungs ≤ 100) where
+    (few : rungs ≤ RUNGS) where
   cell_i : ℕ → Cell
   cell_i i = (get_or sites i blank_site).cell
 
-  whole : length sites ≡ 60 * rungs
-  whole = ap length same ∙ length-all_places (site_drawn page) (length page.parts) ∙ ap (λ n. 60 * n) (sym count)
+  whole : length sites ≡ PLACES * rungs
+  whole = ap length same ∙ length-all_places (site_drawn page) (length page.parts) ∙ ap (λ n. PLACES * n) (sym count)
 
   -- what is a cell's at the place i
   record Stands (i : ℕ) (P : ℕ → ℕ → ℕ → Type 0) : Type 0 where
@@ -227,30 +228,30 @@ module _ (page : Page) (rungs : ℕ) (sites : List Site)
     row : ℕ
     column : ℕ
     below : rung < rungs
-    in_rung : row < 6
-    in_row : column < 10
+    in_rung : row < ROWS
+    in_row : column < COLUMNS
     at : i ≡ place rung row column
     holds : P rung row column
 
-  cell_is : (i : ℕ) → i < 60 * rungs → cell_i i ≡ numbered (memories_before page i) (at_place (cell_drawn page 0) i)
+  cell_is : (i : ℕ) → i < PLACES * rungs → cell_i i ≡ numbered (memories_before page i) (at_place (cell_drawn page 0) i)
   unfolding cell_i
   cell_is i below =
-      let within : i < 60 * length page.parts = omega (arith, below, count) in
-      let here : place (i / 60) (i % 60 % 6) (i % 60 / 6) ≡ i = omega arith in
+      let within : i < PLACES * length page.parts = omega (arith, below, count) in
+      let here : place (i / PLACES) (i % PLACES % ROWS) (i % PLACES / ROWS) ≡ i = omega arith in
       ap (λ ss. (get_or ss i blank_site).cell) same
-      ∙ ap (λ x. x.cell) (first_places-at (at_place (site_drawn page)) (60 * length page.parts) i blank_site within)
-      ∙ drawn_numbered page (memories_before page (place (i / 60) (i % 60 % 6) (i % 60 / 6))) (i / 60) (i % 60 % 6) (i % 60 / 6)
+      ∙ ap (λ x. x.cell) (first_places-at (at_place (site_drawn page)) (PLACES * length page.parts) i blank_site within)
+      ∙ drawn_numbered page (memories_before page (place (i / PLACES) (i % PLACES % ROWS) (i % PLACES / ROWS))) (i / PLACES) (i % PLACES % ROWS) (i % PLACES / ROWS)
       ∙ ap (λ n. numbered (memories_before page n) (at_place (cell_drawn page 0) i)) here
 
-  past_end : (i : ℕ) → 60 * rungs ≤ i → cell_i i ≡ cell.Empty
+  past_end : (i : ℕ) → PLACES * rungs ≤ i → cell_i i ≡ cell.Empty
   unfolding cell_i
   past_end i past = ap (λ x. x.cell) (get_or_past sites i blank_site (omega (arith, past, whole)))
 
   -- a memory has the number of those before it
-  memory_is : (i number : ℕ) → memory_in (cell_i i) ≡ Some number → (i < 60 * rungs) × (memories_before page i ≡ number)
+  memory_is : (i number : ℕ) → memory_in (cell_i i) ≡ Some number → (i < PLACES * rungs) × (memories_before page i ≡ number)
       × (memories_before page (suc i) ≡ number + 1)
   memory_is i number h =
-      elim (cases_lt i (60 * rungs)) [
+      elim (cases_lt i (PLACES * rungs)) [
         | inl below ↦
             let n = number_is (memories_before page i) number (at_place (cell_drawn page 0) i) (ap memory_in (sym (cell_is i below)) ∙ h) in
             (below, n.0, before_yes page i n.1 ∙ ap (λ m. m + 1) n.0)
@@ -272,24 +273,24 @@ module _ (page : Page) (rungs : ℕ) (sites : List Site)
   memories_below : (number i : ℕ) → memory_in (cell_i i) ≡ Some number → number < count_by (λ (s : Site). has_memory s.cell) sites
   memories_below number i h =
       let a = memory_is i number h in
-      let all : count_by (λ (s : Site). has_memory s.cell) sites ≡ memories_before page (60 * length page.parts)
-      = ap (count_by (λ (s : Site). has_memory s.cell)) same ∙ count-sites page (60 * length page.parts) in
-      omega (arith, all, a.2, before_more page (60 * length page.parts) (suc i) (omega (arith, a.0, count)))
+      let all : count_by (λ (s : Site). has_memory s.cell) sites ≡ memories_before page (PLACES * length page.parts)
+      = ap (count_by (λ (s : Site). has_memory s.cell)) same ∙ count-sites page (PLACES * length page.parts) in
+      omega (arith, all, a.2, before_more page (PLACES * length page.parts) (suc i) (omega (arith, a.0, count)))
 
   -- what a part of the cells says, that numbering doesn't change and that nothing has past the end
   stands : (f : Cell → Option ℕ) → ((n : ℕ) (c : Cell) → f (numbered n c) ≡ f c) → f cell.Empty ≡ None
       → (i number : ℕ) → f (cell_i i) ≡ Some number → Stands i (λ k r c. f (cell_drawn page 0 k r c) ≡ Some number)
   stands f kept empty i number h =
-      elim (cases_lt i (60 * rungs)) [
+      elim (cases_lt i (PLACES * rungs)) [
         | inl below ↦
-            let rung : i / 60 < rungs = omega arith in
-            let row : i % 60 % 6 < 6 = omega arith in
-            let column : i % 60 / 6 < 10 = omega arith in
-            let is : i ≡ place (i / 60) (i % 60 % 6) (i % 60 / 6) = omega arith in
+            let rung : i / PLACES < rungs = omega arith in
+            let row : i % PLACES % ROWS < ROWS = omega arith in
+            let column : i % PLACES / ROWS < COLUMNS = omega arith in
+            let is : i ≡ place (i / PLACES) (i % PLACES % ROWS) (i % PLACES / ROWS) = omega arith in
             record {
-              rung = i / 60;
-              row = i % 60 % 6;
-              column = i % 60 / 6;
+              rung = i / PLACES;
+              row = i % PLACES % ROWS;
+              column = i % PLACES / ROWS;
               below = rung;
               in_rung = row;
               in_row = column;
@@ -302,15 +303,15 @@ module _ (page : Page) (rungs : ℕ) (sites : List Site)
       ]
 
   -- G10: no name is one that its symbol can't have
-  never_odd : (k r c : ℕ) → k < rungs → r < 6 → c < 10 → is_odd page.decls (form_at page k r c) (name_over page k r c) ≡ false
+  never_odd : (k r c : ℕ) → k < rungs → r < ROWS → c < COLUMNS → is_odd page.decls (form_at page k r c) (name_over page k r c) ≡ false
   unfolding PartBreaks
   never_odd k r c below rows columns =
       elim (is_odd page.decls (form_at page k r c) (name_over page k r c)) as (λ b. is_odd page.decls (form_at page k r c) (name_over page k r c) ≡ b → b ≡ false) [
         | false ↦ λ _. refl
         | true ↦ λ odd.
-            let high : c ≤ 10 = omega arith in
+            let high : c ≤ COLUMNS = omega arith in
             let inside : k < length page.parts = omega (arith, below, count) in
-            let judged : k < 100 = omega (arith, below, few) in
+            let judged : k < RUNGS = omega (arith, below, few) in
             absurd (sound (Grid rule.WrongKind) k ((part_at page k).start + 2 * r) (inl (
               inside,
               inr (inr (
@@ -323,18 +324,18 @@ module _ (page : Page) (rungs : ℕ) (sites : List Site)
       ] refl
 
   -- a block is drawn by a name that it may have
-  drawn_at : (k r c inst : ℕ) → k < rungs → r < 6 → c < 10 → instance_at page k r c ≡ Some inst → IsDrawnAt page inst k r c
+  drawn_at : (k r c inst : ℕ) → k < rungs → r < ROWS → c < COLUMNS → instance_at page k r c ≡ Some inst → IsDrawnAt page inst k r c
   unfolding instance_at
   drawn_at k r c inst below rows columns h = block_may page.decls (form_at page k r c) (name_over page k r c) inst h (never_odd k r c below rows columns)
 
   -- G12: an instance is drawn once
-  never_twice : (number k r c j q b : ℕ) → k < rungs → r < 6 → c < 10 → j < rungs → q < 6 → b < 10
+  never_twice : (number k r c j q b : ℕ) → k < rungs → r < ROWS → c < COLUMNS → j < rungs → q < ROWS → b < COLUMNS
       → instance_at page k r c ≡ Some number → instance_at page j q b ≡ Some number → reading_place j q b < reading_place k r c → ⊥
   unfolding PartBreaks
   never_twice number k r c j q b below rows columns other_below other_rows other_columns here there less =
-      let high : c ≤ 10 = omega arith in
+      let high : c ≤ COLUMNS = omega arith in
       let inside : k < length page.parts = omega (arith, below, count) in
-      let judged : k < 100 = omega (arith, below, few) in
+      let judged : k < RUNGS = omega (arith, below, few) in
       sound (Grid rule.DrawnTwice) k ((part_at page k).start + 2 * r) (inl (
         inside,
         inr (inr (
@@ -363,13 +364,13 @@ module _ (page : Page) (rungs : ℕ) (sites : List Site)
       ))
 
   -- G14: a rung has one jump
-  never_two : (k r c q b : ℕ) → k < rungs → r < 6 → c < 10 → q < 6 → b < 10
-      → leaps (form_at page k r c) ≡ true → leaps (form_at page k q b) ≡ true → 10 * q + b < 10 * r + c → ⊥
+  never_two : (k r c q b : ℕ) → k < rungs → r < ROWS → c < COLUMNS → q < ROWS → b < COLUMNS
+      → leaps (form_at page k r c) ≡ true → leaps (form_at page k q b) ≡ true → COLUMNS * q + b < COLUMNS * r + c → ⊥
   unfolding PartBreaks
   never_two k r c q b below rows columns other_rows other_columns here there less =
-      let high : c ≤ 10 = omega arith in
+      let high : c ≤ COLUMNS = omega arith in
       let inside : k < length page.parts = omega (arith, below, count) in
-      let judged : k < 100 = omega (arith, below, few) in
+      let judged : k < RUNGS = omega (arith, below, few) in
       let before : reading_place k q b < reading_place k r c = omega (arith, less) in
       sound (Grid rule.TwoJumps) k ((part_at page k).start + (2 * r + 1)) (inl (
         inside,
@@ -407,11 +408,11 @@ module _ (page : Page) (rungs : ℕ) (sites : List Site)
           | inr less ↦
               let e : reading_place a.rung a.row a.column ≡ reading_place b.rung b.row b.column = omega (arith, more, less) in
               let rung : a.rung ≡ b.rung
-              = sym (rung_of_place a.rung a.row a.column a.in_rung a.in_row) ∙ ap (λ n. n / 60) e ∙ rung_of_place b.rung b.row b.column b.in_rung b.in_row in
+              = sym (rung_of_place a.rung a.row a.column a.in_rung a.in_row) ∙ ap (λ n. n / PLACES) e ∙ rung_of_place b.rung b.row b.column b.in_rung b.in_row in
               let row : a.row ≡ b.row
-              = sym (row_of_place a.rung a.row a.column a.in_rung a.in_row) ∙ ap (λ n. n % 60 / 10) e ∙ row_of_place b.rung b.row b.column b.in_rung b.in_row in
+              = sym (row_of_place a.rung a.row a.column a.in_rung a.in_row) ∙ ap (λ n. n % PLACES / COLUMNS) e ∙ row_of_place b.rung b.row b.column b.in_rung b.in_row in
               let column : a.column ≡ b.column
-              = sym (column_of_place a.rung a.row a.column a.in_rung a.in_row) ∙ ap (λ n. n % 60 % 10) e ∙ column_of_place b.rung b.row b.column b.in_rung b.in_row in
+              = sym (column_of_place a.rung a.row a.column a.in_rung a.in_row) ∙ ap (λ n. n % PLACES % COLUMNS) e ∙ column_of_place b.rung b.row b.column b.in_rung b.in_row in
               omega (arith, a.at, b.at, rung, row, column)
         ]
       ]
@@ -439,24 +440,24 @@ module _ (page : Page) (rungs : ℕ) (sites : List Site)
         holds = (g.0, bounds.0, bounds.1);
       }
 
-  jumps_down : (rung i target : ℕ) → i < 60 → goes_to rungs (cell_i (60 * rung + i)) ≡ Some target → (rung < target) × (target ≤ rungs)
+  jumps_down : (rung i target : ℕ) → i < PLACES → goes_to rungs (cell_i (PLACES * rung + i)) ≡ Some target → (rung < target) × (target ≤ rungs)
   jumps_down rung i target within h =
-      let s = jump_place (60 * rung + i) target h in
+      let s = jump_place (PLACES * rung + i) target h in
       let here : s.rung ≡ rung = omega (arith, s.at, s.in_rung, s.in_row, within) in
       (omega (arith, here, s.holds.1), s.holds.2)
 
-  one_jump : (rung i j s t : ℕ) → i < 60 → j < 60 → goes_to rungs (cell_i (60 * rung + i)) ≡ Some s
-      → goes_to rungs (cell_i (60 * rung + j)) ≡ Some t → i ≡ j
+  one_jump : (rung i j s t : ℕ) → i < PLACES → j < PLACES → goes_to rungs (cell_i (PLACES * rung + i)) ≡ Some s
+      → goes_to rungs (cell_i (PLACES * rung + j)) ≡ Some t → i ≡ j
   one_jump rung i j s t i_within j_within h k =
-      let a = jump_place (60 * rung + i) s h in
-      let b = jump_place (60 * rung + j) t k in
+      let a = jump_place (PLACES * rung + i) s h in
+      let b = jump_place (PLACES * rung + j) t k in
       let a_here : a.rung ≡ rung = omega (arith, a.at, a.in_rung, a.in_row, i_within) in
       let b_here : b.rung ≡ rung = omega (arith, b.at, b.in_rung, b.in_row, j_within) in
       let together : a.rung ≡ b.rung = a_here ∙ sym b_here in
-      elim (cases_lt (10 * a.row + a.column) (10 * b.row + b.column)) [
+      elim (cases_lt (COLUMNS * a.row + a.column) (COLUMNS * b.row + b.column)) [
         | inl first ↦ absurd (never_two b.rung b.row b.column a.row a.column b.below b.in_rung b.in_row a.in_rung a.in_row b.holds.0
             (subst (λ x. leaps (form_at page x a.row a.column) ≡ true) together a.holds.0) first)
-        | inr more ↦ elim (cases_lt (10 * b.row + b.column) (10 * a.row + a.column)) [
+        | inr more ↦ elim (cases_lt (COLUMNS * b.row + b.column) (COLUMNS * a.row + a.column)) [
           | inl second ↦ absurd (never_two a.rung a.row a.column b.row b.column a.below a.in_rung a.in_row b.in_rung b.in_row a.holds.0
               (subst (λ x. leaps (form_at page x b.row b.column) ≡ true) (sym together) b.holds.0) second)
           | inr less ↦
@@ -493,25 +494,25 @@ module _ (page : Page) (rungs : ℕ) (sites : List Site)
             (some, same)
       ] refl h
 
-  block_cell : (k r c inst : ℕ) → k < rungs → r < 6 → c < 10 → instance_at page k r c ≡ Some inst → cell_i (place k r c) ≡ cell.Block inst
+  block_cell : (k r c inst : ℕ) → k < rungs → r < ROWS → c < COLUMNS → instance_at page k r c ≡ Some inst → cell_i (place k r c) ≡ cell.Block inst
   unfolding instance_at
   block_cell k r c inst below rows columns h =
-      let within : place k r c < 60 * rungs = omega arith in
-      let rung : place k r c / 60 ≡ k = omega arith in
-      let row : place k r c % 60 % 6 ≡ r = omega arith in
-      let column : place k r c % 60 / 6 ≡ c = omega arith in
+      let within : place k r c < PLACES * rungs = omega arith in
+      let rung : place k r c / PLACES ≡ k = omega arith in
+      let row : place k r c % PLACES % ROWS ≡ r = omega arith in
+      let column : place k r c % PLACES / ROWS ≡ c = omega arith in
       let drawn : block_in (cell_drawn page 0 k r c) ≡ Some inst = drawn_block (form_at page k r c) (name_over page k r c) _ _ ∙ h in
       let read : block_in (at_place (cell_drawn page 0) (place k r c)) ≡ Some inst = rw (rung, row, column) drawn in
       cell_is (place k r c) within
       ∙ ap (numbered (memories_before page (place k r c))) (is_block (at_place (cell_drawn page 0) (place k r c)) inst read)
 
   under_block : (i inst : ℕ) (linked : Bool) → cell_i i ≡ cell.Lower inst linked
-      → (1 ≤ i % 6) × (cell_i (i - 1) ≡ cell.Block inst)
+      → (1 ≤ i % ROWS) × (cell_i (i - 1) ≡ cell.Block inst)
   unfolding lower_in
   under_block i inst linked h =
       let s = lower_place i inst (ap lower_in h) in
       let up = above_is s.rung s.row s.column inst s.holds in
-      let row : s.row - 1 < 6 = omega (arith, s.in_rung) in
+      let row : s.row - 1 < ROWS = omega (arith, s.in_rung) in
       let before : i - 1 ≡ place s.rung (s.row - 1) s.column = omega (arith, s.at, up.0) in
       (omega (arith, s.at, up.0, s.in_rung), ap cell_i before ∙ block_cell s.rung (s.row - 1) s.column inst s.below row s.in_row up.1)
 
@@ -526,29 +527,29 @@ module _ (page : Page) (rungs : ℕ) (sites : List Site)
 
   fits : (i : ℕ) → Fits page.decls (cell_i i)
   fits i =
-      elim (cases_lt i (60 * rungs)) [
+      elim (cases_lt i (PLACES * rungs)) [
         | inl below ↦
-            let rung : i / 60 < rungs = omega arith in
-            let row : i % 60 % 6 < 6 = omega arith in
-            let column : i % 60 / 6 < 10 = omega arith in
+            let rung : i / PLACES < rungs = omega arith in
+            let row : i % PLACES % ROWS < ROWS = omega arith in
+            let column : i % PLACES / ROWS < COLUMNS = omega arith in
             subst (Fits page.decls) (sym (cell_is i below)) (fits_numbered page.decls (memories_before page i) (at_place (cell_drawn page 0) i)
-            (cell_fits page.decls _ _ _ _ (name_fits (i / 60) (i % 60 % 6) (i % 60 / 6)) (over_fits (i / 60) (i % 60 % 6) (i % 60 / 6))
-            (never_odd (i / 60) (i % 60 % 6) (i % 60 / 6) rung row column)))
+            (cell_fits page.decls _ _ _ _ (name_fits (i / PLACES) (i % PLACES % ROWS) (i % PLACES / ROWS)) (over_fits (i / PLACES) (i % PLACES % ROWS) (i % PLACES / ROWS))
+            (never_odd (i / PLACES) (i % PLACES % ROWS) (i % PLACES / ROWS) rung row column)))
         | inr past ↦ subst (Fits page.decls) (sym (past_end i past)) tt
       ]
 
   -- G11: a block has its lower cell
-  never_apart : (k r c : ℕ) → k < rungs → r < 6 → c < 10 → is_apart (form_above page k r c) (form_at page k r c) (form_below page k r c) ≡ false
+  never_apart : (k r c : ℕ) → k < rungs → r < ROWS → c < COLUMNS → is_apart (form_above page k r c) (form_at page k r c) (form_below page k r c) ≡ false
   unfolding PartBreaks
   never_apart k r c below rows columns =
       elim (is_apart (form_above page k r c) (form_at page k r c) (form_below page k r c)) as
       (λ b. is_apart (form_above page k r c) (form_at page k r c) (form_below page k r c) ≡ b → b ≡ false) [
         | false ↦ λ _. refl
         | true ↦ λ apart_here.
-            let high : c ≤ 10 = omega arith in
+            let high : c ≤ COLUMNS = omega arith in
             let inside : k < length page.parts = omega (arith, below, count) in
-            let judged : k < 100 = omega (arith, below, few) in
-            let judged : k < 100 = omega (arith, below, few) in
+            let judged : k < RUNGS = omega (arith, below, few) in
+            let judged : k < RUNGS = omega (arith, below, few) in
             absurd (sound (Grid rule.BlockShape) k ((part_at page k).start + (2 * r + 1)) (inl (
               inside,
               inr (inr (
@@ -560,25 +561,25 @@ module _ (page : Page) (rungs : ℕ) (sites : List Site)
             )))
       ] refl
 
-  below_is : (k r c : ℕ) (form : Form) → r < 6 → form_below page k r c ≡ Some form → (r < 5) × (form_at page k (r + 1) c ≡ Some form)
+  below_is : (k r c : ℕ) (form : Form) → r < ROWS → form_below page k r c ≡ Some form → (r + 1 < ROWS) × (form_at page k (r + 1) c ≡ Some form)
   below_is k r c form rows h =
-      elim (r + 1 == 6) as (λ b. (r + 1 == 6) ≡ b → cond b None (form_at page k (r + 1) c) ≡ Some form → (r < 5) × (form_at page k (r + 1) c ≡ Some form)) [
+      elim (r + 1 == ROWS) as (λ b. (r + 1 == ROWS) ≡ b → cond b None (form_at page k (r + 1) c) ≡ Some form → (r + 1 < ROWS) × (form_at page k (r + 1) c ≡ Some form)) [
         | true ↦ λ test same. absurd (none_some same)
         | false ↦ λ test same.
-            let less : r < 5 = elim (cases_lt r 5) [
+            let less : r + 1 < ROWS = elim (cases_lt (r + 1) ROWS) [
               | inl below ↦ below
-              | inr last ↦ absurd (eqb-false (r + 1) 6 test (omega (arith, last, rows)))
+              | inr last ↦ absurd (eqb-false (r + 1) ROWS test (omega (arith, last, rows)))
             ] in
             (less, same)
       ] refl h
 
-  lower_cell : (k r c inst : ℕ) (q : Pin) (linked : Bool) → k < rungs → r < 5 → c < 10 → instance_at page k r c ≡ Some inst
+  lower_cell : (k r c inst : ℕ) (q : Pin) (linked : Bool) → k < rungs → r + 1 < ROWS → c < COLUMNS → instance_at page k r c ≡ Some inst
       → form_at page k (r + 1) c ≡ Some (Lower q linked) → cell_i (place k (r + 1) c) ≡ cell.Lower inst linked
   lower_cell k r c inst q linked below rows columns here form =
-      let within : place k (r + 1) c < 60 * rungs = omega arith in
-      let rung : place k (r + 1) c / 60 ≡ k = omega arith in
-      let row : place k (r + 1) c % 60 % 6 ≡ r + 1 = omega arith in
-      let column : place k (r + 1) c % 60 / 6 ≡ c = omega arith in
+      let within : place k (r + 1) c < PLACES * rungs = omega arith in
+      let rung : place k (r + 1) c / PLACES ≡ k = omega arith in
+      let row : place k (r + 1) c % PLACES % ROWS ≡ r + 1 = omega arith in
+      let column : place k (r + 1) c % PLACES / ROWS ≡ c = omega arith in
       let test : (r + 1 == 0) ≡ false = ne_eqb (r + 1) 0 (λ e. absurd (omega (arith, e))) in
       let up : r + 1 - 1 ≡ r = omega arith in
       let above : instance_above page k (r + 1) c ≡ Some inst = rw (test, up) here in
@@ -589,7 +590,7 @@ module _ (page : Page) (rungs : ℕ) (sites : List Site)
       cell_is (place k (r + 1) c) within ∙ ap (numbered (memories_before page (place k (r + 1) c))) read
 
   has_lower : (i inst : ℕ) → cell_i i ≡ cell.Block inst → has_second (slice_get page.decls.instances inst) ≡ true
-      → (linked : Bool) × (i % 6 + 1 < 6) × (cell_i (i + 1) ≡ cell.Lower inst linked)
+      → (linked : Bool) × (i % ROWS + 1 < ROWS) × (cell_i (i + 1) ≡ cell.Lower inst linked)
   unfolding instance_at
   has_lower i inst h second =
       let s = block_place i inst (ap block_in h) in

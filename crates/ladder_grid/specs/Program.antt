@@ -1,5 +1,5 @@
 -- A program: its declarations, and what its drawing has at each place.
--- Rungs, rows and columns are counted from 0. The place of a cell in its rung is 6 * column + row.
+-- Rungs, rows and columns are counted from 0. The place of a cell in its rung is ROWS * column + row.
 use Rattle.std.specs.Prelude.{◌≡◌, ℕ, zero, suc, ◌+◌, ◌-◌, ◌*◌, ◌/◌, ◌%◌, ◌<◌, ◌≤◌, min, max, nat_le, Bool, true, false, ◌&&◌, ◌==◌, List, length, count_by, slice_get, slice_index_or, Option, Some, None, is_some, option_map}
 use Rattle.std.specs.Option.{option_or}
 use Rattle.std.specs.List.{list_any}

@@ -2,6 +2,7 @@
 use Rattle.std.proofs.Common.{◌≡◌, ◌∙◌, ℕ, ◌+◌, ◌*◌, ◌<◌, ◌==◌, Bool, true, false, ◌&&◌, ◌||◌, cond, not, List, inl, inr, suc, zero, ap, arith, refl, subst, sym, nat_lt}
 use Rattle.std.proofs.lemmas.Bool.{and_from, cases_lt}
 use Rattle.std.proofs.lemmas.Bool.Decides.{nat_tests}
+use Rattle.ladder_page.specs.declared.geometry.TheConstants.{ROWS, PLACES}
 use Rattle.ladder_grid.specs.Program.{Drawing, cell_of, feeds, is_block}
 use Rattle.ladder_scan.specs.declared.seen.Mark.{Mark}
 use Rattle.ladder_scan.specs.Cells.{Diagram}
@@ -106,13 +107,13 @@ module _ (p : Drawing) (j : ℕ) (marks others : List Mark) where
   abbrev AreCut : ℕ → Type 0
   AreCut at = (n : ℕ) → any_to (is_ended n p marks j) p j at ≡ true → is_cut (mark_at others j n) (cell_of p j n) ≡ true
 
-  cuts_past : (column row : ℕ) → row < 6
-      → (any_to (is_live p marks j) p j (6 * column + row) ≡ false → AreCut (6 * column + row) → any_to (is_live p others j) p j (6 * column + row) ≡ false)
+  cuts_past : (column row : ℕ) → row < ROWS
+      → (any_to (is_live p marks j) p j (ROWS * column + row) ≡ false → AreCut (ROWS * column + row) → any_to (is_live p others j) p j (ROWS * column + row) ≡ false)
       → any_past (is_live p marks j) p j row column ≡ false
       → ((n : ℕ) → any_past (is_ended n p marks j) p j row column ≡ true → is_cut (mark_at others j n) (cell_of p j n) ≡ true)
       → any_past (is_live p others j) p j row column ≡ false
   cuts_past column row rows before dead ends =
-      let place = 6 * column + row in
+      let place = ROWS * column + row in
       let cell = cell_of p j place in
       let m = mark_at marks j place in
       let o = mark_at others j place in
@@ -125,21 +126,21 @@ module _ (p : Drawing) (j : ℕ) (marks others : List Mark) where
       (λ n e. ends n (past_ended p marks j n row column m cell (is_block cell) live (ended n) rows refl refl refl refl refl ∙ e))
       (λ b none cut. before none cut)
 
-  cuts_to : (column row : ℕ) → row < 6 → any_to (is_live p marks j) p j (6 * column + row) ≡ false → AreCut (6 * column + row)
-      → any_to (is_live p others j) p j (6 * column + row) ≡ false
+  cuts_to : (column row : ℕ) → row < ROWS → any_to (is_live p marks j) p j (ROWS * column + row) ≡ false → AreCut (ROWS * column + row)
+      → any_to (is_live p others j) p j (ROWS * column + row) ≡ false
   cuts_to zero row rows dead cut =
-      let first : 6 * 0 + row < 6 = omega (arith, rows) in
-      let power = live_first p marks j (6 * 0 + row) first in
+      let first : ROWS * 0 + row < ROWS = omega (arith, rows) in
+      let power = live_first p marks j (ROWS * 0 + row) first in
       cc
   cuts_to (suc column) row rows dead cut =
       to_place (is_live p others j) p j row (suc column) rows
       ∙ any_before (is_live p others j) p j row column
-      ∙ none_below (λ from. feeds p j row (suc column) from && any_past (is_live p marks j) p j from column) _ 6
+      ∙ none_below (λ from. feeds p j row (suc column) from && any_past (is_live p marks j) p j from column) _ ROWS
       (λ from lt. fed_only (feeds p j row (suc column) from) _ _ (λ fed none.
       cuts_past column from lt (cuts_to column from lt) none (λ n ended.
       cut n (to_place (is_ended n p marks j) p j row (suc column) rows
       ∙ any_before (is_ended n p marks j) p j row column
-      ∙ found_below (λ q. feeds p j row (suc column) q && any_past (is_ended n p marks j) p j q column) 6 from lt (and_from _ _ fed ended)))))
+      ∙ found_below (λ q. feeds p j row (suc column) q && any_past (is_ended n p marks j) p j q column) ROWS from lt (and_from _ _ fed ended)))))
       (sym (to_place (is_live p marks j) p j row (suc column) rows ∙ any_before (is_live p marks j) p j row column) ∙ dead)
 
 -- ---- at a place
@@ -155,7 +156,7 @@ none_left d now j s place h = dead_unless (nat_lt j s.resume) (mark_passed s.hel
 
 -- A rung that is passed over has no power.
 unless_evaluated : (p : Drawing) → IsSound (diagram_of p) → (now : ℕ) (inputs : List Bool) (h : Held) (marks : List Mark) → AreMarks (diagram_of p) now inputs h marks
-    → (j place : ℕ) → j < p.rungs → place < 60 → ((mark_at marks j place).evaluated ≡ true → (mark_at marks j place).left ≡ false)
+    → (j place : ℕ) → j < p.rungs → place < PLACES → ((mark_at marks j place).evaluated ≡ true → (mark_at marks j place).left ≡ false)
     → (mark_at marks j place).left ≡ false
 unless_evaluated p sound now inputs h marks seen j place below within e =
     let is = told p sound now inputs h marks seen j place below within in
@@ -165,8 +166,8 @@ unless_evaluated p sound now inputs h marks seen j place below within e =
 
 pub cuts_hold : (p : Drawing) → IsSound (diagram_of p) → CutsHold p
 cuts_hold p sound = λ now inputs h marks seen other_now other_inputs other_h others other_seen rung row column below rows columns is dead cut.
-    let place = 6 * column + row in
-    let within : place < 60 = omega (arith, rows, columns) in
+    let place = ROWS * column + row in
+    let within : place < PLACES = omega (arith, rows, columns) in
     let before = power_at p sound now inputs h marks seen rung row column below rows columns is in
     unless_evaluated p sound other_now other_inputs other_h others other_seen rung place below within (λ evaluated.
     power_at p sound other_now other_inputs other_h others other_seen rung row column below rows columns evaluated

@@ -3,6 +3,7 @@ use Rattle.std.proofs.Common.{◌≡◌, ◌∙◌, ◌+◌, ◌*◌, ◌%◌, �
 use Rattle.std.specs.Prelude.{◌==◌, ◌||◌, nat_le, not, slice_index_or, slice_range}
 use Rattle.std.specs.List.{list_all}
 use Rattle.std.proofs.lemmas.Bool.Decides.{nat_tests}
+use Rattle.ladder_page.specs.declared.geometry.TheConstants.{PITCH, RAIL}
 use Rattle.ladder_scan.specs.declared.seen.Mark.{Mark}
 use Rattle.ladder_power.specs.Show.{IsErased, cell_char, joint_char, link_char, mark_in, symbol_char, unlinked, unmarked, wire_char}
 
@@ -54,5 +55,5 @@ back_by false false false m front b h = cell_back m front b h
 
 pub marks_erased : (marks : List Mark) (rung line : ℕ) (text : List ℕ) → IsErased marks rung line text
 marks_erased marks rung line text = λ h at lt.
-    back_by (at == 0 || nat_le 120 at) (line % 2 == 0) (at % 12 == 0) (mark_in marks rung (line / 2) (at / 12))
-    (list_all (λ c. c == 45) (slice_range text (12 * (at / 12) + 1) at)) (slice_index_or text at 32) (h at lt)
+    back_by (at == 0 || nat_le RAIL at) (line % 2 == 0) (at % PITCH == 0) (mark_in marks rung (line / 2) (at / PITCH))
+    (list_all (λ c. c == 45) (slice_range text (PITCH * (at / PITCH) + 1) at)) (slice_index_or text at 32) (h at lt)

@@ -4,6 +4,7 @@ use Rattle.std.specs.Prelude.{flat_map, map}
 use Rattle.std.specs.List.{range_with_len}
 use Rattle.std.proofs.lemmas.Bool.{cases_lt}
 use Rattle.std.proofs.lemmas.List.Elements.{filter_agree}
+use Rattle.ladder_page.specs.declared.geometry.TheConstants.{ROWS, PLACES}
 use Rattle.ladder_grid.specs.Program.{Drawing, feeds, joined, site_at, takes_power}
 use Rattle.ladder_elements.specs.Truth.{plain}
 use Rattle.ladder_scan.specs.declared.seen.Mark.{Mark}
@@ -74,21 +75,21 @@ unfolding routes
 routes_same feeds is_block row other zero h = refl
 routes_same feeds is_block row other (suc column) h =
     let onto = λ (from : ℕ). cond (is_block from column) (block_end from column ∷ []) (map (λ (r : Route). through r from column) (routes feeds is_block from column)) in
-    ap (flat_map onto) (filter_agree (feeds row (suc column)) (feeds other (suc column)) h (range_with_len 0 6))
+    ap (flat_map onto) (filter_agree (feeds row (suc column)) (feeds other (suc column)) h (range_with_len 0 ROWS))
 
 -- the left links at two places, by the routes to them
-link_same : (d : Diagram) (now j : ℕ) (h : Held) (row other column : ℕ) → row < 6 → other < 6 → ((from : ℕ) → d.feeds j row column from ≡ d.feeds j other column from)
-    → link_at d now j h (6 * column + row) ≡ link_at d now j h (6 * column + other)
+link_same : (d : Diagram) (now j : ℕ) (h : Held) (row other column : ℕ) → row < ROWS → other < ROWS → ((from : ℕ) → d.feeds j row column from ≡ d.feeds j other column from)
+    → link_at d now j h (ROWS * column + row) ≡ link_at d now j h (ROWS * column + other)
 link_same d now j h row other column rows others same =
     let g = circuit plain d h.kept now j (frame_of h) in
-    let a : (6 * column + row) % 6 ≡ row = omega arith in
-    let b : (6 * column + row) / 6 ≡ column = omega arith in
-    let c : (6 * column + other) % 6 ≡ other = omega arith in
-    let e : (6 * column + other) / 6 ≡ column = omega arith in
-    ap (λ r. left_link plain g r ((6 * column + row) / 6)) a
+    let a : (ROWS * column + row) % ROWS ≡ row = omega arith in
+    let b : (ROWS * column + row) / ROWS ≡ column = omega arith in
+    let c : (ROWS * column + other) % ROWS ≡ other = omega arith in
+    let e : (ROWS * column + other) / ROWS ≡ column = omega arith in
+    ap (λ r. left_link plain g r ((ROWS * column + row) / ROWS)) a
     ∙ ap (left_link plain g row) b
     ∙ ap (λ rs. join_all plain (map (route_value plain g (ends_below plain g column)) rs)) (routes_same g.feeds g.is_block row other column same)
-    ∙ sym (ap (λ r. left_link plain g r ((6 * column + other) / 6)) c ∙ ap (left_link plain g other) e)
+    ∙ sym (ap (λ r. left_link plain g r ((ROWS * column + other) / ROWS)) c ∙ ap (left_link plain g other) e)
 
 -- ---- and the marks have one left link
 
@@ -105,9 +106,9 @@ pub linked_ends : (p : Drawing) → IsSound (diagram_of p) → LinkedEndsAgree p
 linked_ends p sound = λ now inputs h marks seen rung row column below rows columns link.
     let d = diagram_of p in
     let s = scanned d now (begun p inputs h) rung in
-    let one : 6 * column + row < 60 = omega (arith, rows, columns) in
-    let other : 6 * column + (row + 1) < 60 = omega (arith, rows, columns) in
+    let one : ROWS * column + row < PLACES = omega (arith, rows, columns) in
+    let other : ROWS * column + (row + 1) < PLACES = omega (arith, rows, columns) in
     let same = λ (from : ℕ). fed_same p rung row column from link in
-    ap (λ (m : Mark). m.left) (told p sound now inputs h marks seen rung (6 * column + row) below one)
-    ∙ left_same d now rung s (6 * column + row) (6 * column + (row + 1)) (link_same d now rung s.held row (row + 1) column (omega (arith, rows)) (omega (arith, rows)) same)
-    ∙ sym (ap (λ (m : Mark). m.left) (told p sound now inputs h marks seen rung (6 * column + (row + 1)) below other))
+    ap (λ (m : Mark). m.left) (told p sound now inputs h marks seen rung (ROWS * column + row) below one)
+    ∙ left_same d now rung s (ROWS * column + row) (ROWS * column + (row + 1)) (link_same d now rung s.held row (row + 1) column (omega (arith, rows)) (omega (arith, rows)) same)
+    ∙ sym (ap (λ (m : Mark). m.left) (told p sound now inputs h marks seen rung (ROWS * column + (row + 1)) below other))

@@ -2,6 +2,7 @@
 use Rattle.std.proofs.Common.{◌≡◌, ◌∙◌, ℕ, ◌+◌, ◌*◌, ◌<◌, ◌≤◌, ◌&&◌, inl, inr, Bool, true, false, cond, not, List, Option, ap, arith, get_or, get_or-set_other, get_or-set_same, length, refl, subst, sym, suc, zero, nat_lt}
 use Rattle.std.proofs.lemmas.Bool.{cases_lt, eqb-false}
 use Rattle.std.proofs.lemmas.Bool.Decides.{nat_tests}
+use Rattle.ladder_page.specs.declared.geometry.TheConstants.{PLACES}
 use Rattle.ladder_page.specs.declared.mode.CoilMode.{CoilMode}
 use Rattle.ladder_page.specs.declared.mode.CoilMode.TheVariants as coil
 use Rattle.ladder_grid.specs.declared.cell.Cell.{Cell}
@@ -66,8 +67,8 @@ abbrev IsStored : CoilMode → Bool → Bool → Type 0
 IsStored mode link value = (m : Bool) × (old : Bool) × (value ≡ stored_by plain mode link m old)
 
 after_coil : (d : Diagram) (now j : ℕ) (start : Frame Bool) (links : ℕ → Bool) (h : Held) (place var : ℕ) (mode : CoilMode) (memory : Option ℕ) (n : ℕ)
-    → d.cell j place ≡ Coil mode var memory → ((other : ℕ) → other < 60 → (other ≡ place → ⊥) → is_coil_of var (d.cell j other) ≡ false)
-    → var < length h.values → place < n → n ≤ 60 → IsStored mode (links place) (get_or (values_after d now j start links h n) var false)
+    → d.cell j place ≡ Coil mode var memory → ((other : ℕ) → other < PLACES → (other ≡ place → ⊥) → is_coil_of var (d.cell j other) ≡ false)
+    → var < length h.values → place < n → n ≤ PLACES → IsStored mode (links place) (get_or (values_after d now j start links h n) var false)
 unfolding written_at values_after
 after_coil d now j start links h place var mode memory zero e alone within below most = absurd (omega arith)
 after_coil d now j start links h place var mode memory (suc n) e alone within below most =
@@ -105,17 +106,17 @@ comes_sizes d now first _ _ (goes_on j start comes) =
 is_less : (a b : ℕ) → a < b → nat_lt a b ≡ true
 is_less a b h = grind (arith, nat_tests)
 
-cell_back : (p : Drawing) (j place : ℕ) → place < 60 → (diagram_of p).cell j place ≡ cell_of p j place
+cell_back : (p : Drawing) (j place : ℕ) → place < PLACES → (diagram_of p).cell j place ≡ cell_of p j place
 unfolding diagram_of
-cell_back p j place within = ap (λ b. cond b (cell_of p j place) Empty) (is_less place 60 within)
+cell_back p j place within = ap (λ b. cond b (cell_of p j place) Empty) (is_less place PLACES within)
 
 -- a coil in a rung that is evaluated from a state
 obeys_here : (d : Diagram) (now j : ℕ) (start : Held) (place var : ℕ) (mode : CoilMode) (memory : Option ℕ) → d.cell j place ≡ Coil mode var memory
-    → ((other : ℕ) → other < 60 → (other ≡ place → ⊥) → is_coil_of var (d.cell j other) ≡ false) → var < length start.values → place < 60
+    → ((other : ℕ) → other < PLACES → (other ≡ place → ⊥) → is_coil_of var (d.cell j other) ≡ false) → var < length start.values → place < PLACES
     → Obeys mode (mark_in d now j start place)
 unfolding values_after
 obeys_here d now j start place var mode memory e alone held within =
-    let i = after_coil d now j (frame_of start) (link_at d now j start) start place var mode memory 60 e alone held within (omega arith) in
+    let i = after_coil d now j (frame_of start) (link_at d now j start) start place var mode memory PLACES e alone held within (omega arith) in
     let closed = closed plain (frame_of start) (memory_of start.kept (d.cell j place)) (d.cell j place) in
     obeys mode (mark_in d now j start place) (i.0, i.1, ap (is_on closed (evaluated d now j start)) e ∙ i.2)
 
@@ -123,7 +124,7 @@ pub lone_coils : (p : Drawing) → IsWellFormed p → LoneCoilsObey p
 lone_coils p well = λ now inputs h marks sized seen rung place var mode memory below within is alone done.
     let d = diagram_of p in
     let first : Held = record { values = given d.inputs inputs h.values; kept = h.kept } in
-    let declared : var < length p.decls.vars = (subst (Fits p.decls) is (well.fits (60 * rung + place))).0 in
+    let declared : var < length p.decls.vars = (subst (Fits p.decls) is (well.fits (PLACES * rung + place))).0 in
     elim (seen.each rung place (subst (λ (n : ℕ). rung < n) (rungs_back p) below) within) [
       | inl (start, comes, e) ↦
           let held : var < length start.values = omega (arith, declared, sized, comes_sizes d now first rung start comes, size-given d.inputs inputs h.values) in

@@ -1,6 +1,7 @@
 -- There is power where it ends nowhere on one of the routes.
 use Rattle.std.proofs.Common.{◌≡◌, ◌∙◌, ℕ, ◌+◌, ◌*◌, ◌/◌, ◌%◌, ◌<◌, Bool, true, false, ◌&&◌, ◌||◌, cond, List, [], ◌∷◌, Option, Some, None, suc, zero, refl, ap, ap₂, sym, arith, is_none, nat_lt}
 use Rattle.std.specs.List.{list_any}
+use Rattle.ladder_page.specs.declared.geometry.TheConstants.{ROWS, COLUMNS, PLACES}
 use Rattle.ladder_grid.specs.declared.cell.Cell.{Cell}
 use Rattle.ladder_grid.specs.declared.cell.Cell.TheVariants.{Empty, Wire, Contact, Coil, Block, Lower, Jump, Return}
 use Rattle.ladder_grid.specs.Program.{Drawing, feeds, is_block}
@@ -25,17 +26,17 @@ use Rattle.ladder_power.proofs.Told.{begun, told}
 
 -- ---- places
 
-same_row : (row column : ℕ) → row < 6 → (6 * column + row) % 6 ≡ row
+same_row : (row column : ℕ) → row < ROWS → (ROWS * column + row) % ROWS ≡ row
 same_row row column h = omega arith
 
-same_column : (row column : ℕ) → row < 6 → (6 * column + row) / 6 ≡ column
+same_column : (row column : ℕ) → row < ROWS → (ROWS * column + row) / ROWS ≡ column
 same_column row column h = omega arith
 
 -- ---- a rung that is evaluated
 
 -- The marks of rung j are those of its evaluation from the state `start`.
 abbrev pub AreOf : Drawing → ℕ → ℕ → Held → List Mark → Type 0
-AreOf p now j start marks = (place : ℕ) → place < 60 → mark_at marks j place ≡ mark_in (diagram_of p) now j start place
+AreOf p now j start marks = (place : ℕ) → place < PLACES → mark_at marks j place ≡ mark_in (diagram_of p) now j start place
 
 is_evaluated : (b : Bool) (passed seen : Mark) → passed.evaluated ≡ false → (cond b passed seen).evaluated ≡ true → b ≡ false
 is_evaluated true passed seen is_not is = cc
@@ -49,7 +50,7 @@ evaluated_all : (d : Diagram) (now j : ℕ) (s : Scanned) (place : ℕ) → nat_
 evaluated_all d now j s place reached = ap (λ b. cond b (mark_passed s.held (d.cell j place)) (mark_in d now j s.held place)) reached
 
 pub evaluated_from : (p : Drawing) → IsSound (diagram_of p) → (now : ℕ) (inputs : List Bool) (h : Held) (marks : List Mark) → AreMarks (diagram_of p) now inputs h marks
-    → (j place : ℕ) → j < p.rungs → place < 60 → (mark_at marks j place).evaluated ≡ true → (start : Held) × AreOf p now j start marks
+    → (j place : ℕ) → j < p.rungs → place < PLACES → (mark_at marks j place).evaluated ≡ true → (start : Held) × AreOf p now j start marks
 evaluated_from p sound now inputs h marks seen j place below within is =
     let d = diagram_of p in
     let s = scanned d now (begun p inputs h) j in
@@ -110,48 +111,48 @@ module _ (p : Drawing) (sound : IsSound (diagram_of p)) (now j : ℕ) (start : H
   abbrev left : ℕ → ℕ → Bool
   left row column = left_link plain (circuit plain d start.kept now j (frame_of start)) row column
 
-  left_is : (row column : ℕ) → row < 6 → link_at d now j start (6 * column + row) ≡ left row column
+  left_is : (row column : ℕ) → row < ROWS → link_at d now j start (ROWS * column + row) ≡ left row column
   left_is row column rows = ap₂ left (same_row row column rows) (same_column row column rows)
 
-  second_is : (row column : ℕ) → row < 6 → second plain d j (link_at d now j start) (6 * column + row) ≡ lower plain (d.linked j (6 * column + row)) (left (row + 1) column)
+  second_is : (row column : ℕ) → row < ROWS → second plain d j (link_at d now j start) (ROWS * column + row) ≡ lower plain (d.linked j (ROWS * column + row)) (left (row + 1) column)
   second_is row column rows =
-      where_linked (d.linked j (6 * column + row)) _ _ (λ linked.
-      let next = (sound.linked j (6 * column + row) linked).0 in
-      let row_below : (6 * column + row + 1) % 6 ≡ row + 1 = omega (arith, rows, next) in
-      let column_below : (6 * column + row + 1) / 6 ≡ column = omega (arith, rows, next) in
+      where_linked (d.linked j (ROWS * column + row)) _ _ (λ linked.
+      let next = (sound.linked j (ROWS * column + row) linked).0 in
+      let row_below : (ROWS * column + row + 1) % ROWS ≡ row + 1 = omega (arith, rows, next) in
+      let column_below : (ROWS * column + row + 1) / ROWS ≡ column = omega (arith, rows, next) in
       ap₂ left row_below column_below)
 
   -- what a cell lets through
-  past_is : (column row : ℕ) → row < 6
-      → cond (is_block (d.cell j (6 * column + row)))
-      (q_here plain d start.kept now (d.cell j (6 * column + row)) (left row column) (lower plain (d.linked j (6 * column + row)) (left (row + 1) column)))
-      (left row column && closed plain (frame_of start) (memory_of start.kept (d.cell j (6 * column + row))) (d.cell j (6 * column + row)))
-      ≡ lets_through d now j start (6 * column + row)
+  past_is : (column row : ℕ) → row < ROWS
+      → cond (is_block (d.cell j (ROWS * column + row)))
+      (q_here plain d start.kept now (d.cell j (ROWS * column + row)) (left row column) (lower plain (d.linked j (ROWS * column + row)) (left (row + 1) column)))
+      (left row column && closed plain (frame_of start) (memory_of start.kept (d.cell j (ROWS * column + row))) (d.cell j (ROWS * column + row)))
+      ≡ lets_through d now j start (ROWS * column + row)
   past_is column row rows =
-      let cell = d.cell j (6 * column + row) in
+      let cell = d.cell j (ROWS * column + row) in
       let passes = closed plain (frame_of start) (memory_of start.kept cell) cell in
       ap₂ (λ x y. cond (is_block cell) (q_here plain d start.kept now cell x y) (x && passes)) (sym (left_is row column rows)) (sym (second_is row column rows))
 
-  live_past : (column row : ℕ) → row < 6 → column < 10 → link_at d now j start (6 * column + row) ≡ any_to (is_live p marks j) p j (6 * column + row)
-      → any_past (is_live p marks j) p j row column ≡ lets_through d now j start (6 * column + row)
+  live_past : (column row : ℕ) → row < ROWS → column < COLUMNS → link_at d now j start (ROWS * column + row) ≡ any_to (is_live p marks j) p j (ROWS * column + row)
+      → any_past (is_live p marks j) p j row column ≡ lets_through d now j start (ROWS * column + row)
   live_past column row rows columns e =
-      let place = 6 * column + row in
-      let within : place < 60 = omega (arith, rows, columns) in
+      let place = ROWS * column + row in
+      let within : place < PLACES = omega (arith, rows, columns) in
       let cell = d.cell j place in
       let m = mark_in d now j start place in
       past_live p marks j row column m cell (is_block cell) (link_at d now j start place) rows (cell_is p j place within) (sym (seen place within)) refl e
       ∙ pick_same (is_block cell) _ _ _ (ap (λ b. link_at d now j start place && b) (sym (closed_is (frame_of start) (memory_of start.kept cell) (evaluated d now j start) cell m refl)))
 
-  pub by_routes : (column : ℕ) → column < 10 → (row : ℕ) → row < 6 → link_at d now j start (6 * column + row) ≡ any_to (is_live p marks j) p j (6 * column + row)
+  pub by_routes : (column : ℕ) → column < COLUMNS → (row : ℕ) → row < ROWS → link_at d now j start (ROWS * column + row) ≡ any_to (is_live p marks j) p j (ROWS * column + row)
   by_routes zero columns row rows =
-      let first : 6 * 0 + row < 6 = omega (arith, rows) in
-      first_column plain AnyBool plain_lattice d start.kept now j (frame_of start) (any_values (frame_of start)) (6 * 0 + row) first
-      ∙ live_first p marks j (6 * 0 + row) first
+      let first : ROWS * 0 + row < ROWS = omega (arith, rows) in
+      first_column plain AnyBool plain_lattice d start.kept now j (frame_of start) (any_values (frame_of start)) (ROWS * 0 + row) first
+      ∙ live_first p marks j (ROWS * 0 + row) first
   by_routes (suc column) columns row rows =
-      let before : column < 10 = omega (arith, columns) in
+      let before : column < COLUMNS = omega (arith, columns) in
       left_is row (suc column) rows
       ∙ column_next plain AnyBool plain_lattice d start.kept now j (frame_of start) (any_values (frame_of start)) row column
-      ∙ column_same (d.feeds j row (suc column)) (feeds p j row (suc column)) _ (λ from. any_past (is_live p marks j) p j from column) 6 (feeds_is p j row (suc column))
+      ∙ column_same (d.feeds j row (suc column)) (feeds p j row (suc column)) _ (λ from. any_past (is_live p marks j) p j from column) ROWS (feeds_is p j row (suc column))
       (λ from lt. past_is column from lt ∙ sym (live_past column from lt before (by_routes column before from lt)))
       ∙ sym (any_before (is_live p marks j) p j row column)
       ∙ sym (to_place (is_live p marks j) p j row (suc column) rows)
@@ -168,12 +169,12 @@ live_none p marks j (r ∷ rs) = ap₂ (λ a b. a || b) (nowhere_is (end_of p ma
 
 -- There is power exactly where one of the routes is live.
 pub power_at : (p : Drawing) → IsSound (diagram_of p) → (now : ℕ) (inputs : List Bool) (h : Held) (marks : List Mark) → AreMarks (diagram_of p) now inputs h marks
-    → (j row column : ℕ) → j < p.rungs → row < 6 → column < 10 → (mark_at marks j (6 * column + row)).evaluated ≡ true
-    → (mark_at marks j (6 * column + row)).left ≡ any_to (is_live p marks j) p j (6 * column + row)
+    → (j row column : ℕ) → j < p.rungs → row < ROWS → column < COLUMNS → (mark_at marks j (ROWS * column + row)).evaluated ≡ true
+    → (mark_at marks j (ROWS * column + row)).left ≡ any_to (is_live p marks j) p j (ROWS * column + row)
 power_at p sound now inputs h marks seen j row column below rows columns is =
-    let within : 6 * column + row < 60 = omega (arith, rows, columns) in
-    let from = evaluated_from p sound now inputs h marks seen j (6 * column + row) below within is in
-    ap (λ (m : Mark). m.left) (from.1 (6 * column + row) within) ∙ by_routes p sound now j from.0 marks from.1 column columns row rows
+    let within : ROWS * column + row < PLACES = omega (arith, rows, columns) in
+    let from = evaluated_from p sound now inputs h marks seen j (ROWS * column + row) below within is in
+    ap (λ (m : Mark). m.left) (from.1 (ROWS * column + row) within) ∙ by_routes p sound now j from.0 marks from.1 column columns row rows
 
 pub power_comes : (p : Drawing) → IsSound (diagram_of p) → PowerComesByRoutes p
 power_comes p sound = λ now inputs h marks seen rung row column below rows columns is.

@@ -1,11 +1,13 @@
 -- The routes to a place, by those to the column before.
-use Rattle.std.proofs.Common.{◌≡◌, ◌∙◌, ℕ, ◌+◌, ◌-◌, ◌*◌, ◌/◌, ◌%◌, ◌<◌, ◌≤◌, Bool, true, false, ◌&&◌, ◌||◌, ◌==◌, cond, not, List, [], ◌∷◌, map, Option, Some, None, suc, inl, inr, add-one, length, length-set, slice_set, refl, ap, sym, arith}
+use Rattle.std.proofs.Common.{◌≡◌, ◌∙◌, ℕ, ◌+◌, ◌-◌, ◌*◌, ◌/◌, ◌%◌, ◌<◌, ◌≤◌, Bool, true, false, ◌&&◌, ◌||◌, ◌==◌, cond, not, List, [], ◌∷◌, map, Option, Some, None, suc, inl, inr, add-one, length, length-set, slice_set, refl, ap, ap₂, sym, zero, arith}
 use Rattle.std.specs.List.{filter, flat_map, list_any, range_with_len}
 use Rattle.std.specs.Option.{option_or}
+use Rattle.std.proofs.Math.Bool.{or_assoc}
 use Rattle.std.proofs.lemmas.Bool.{cases_lt}
 use Rattle.std.proofs.lemmas.List.{get_or-set_other}
 use Rattle.std.proofs.lemmas.Grind.{get_or-set_at}
 use Rattle.std.proofs.lemmas.List.Folds.{list_any-append}
+use Rattle.ladder_page.specs.declared.geometry.TheConstants.{ROWS, PLACES}
 use Rattle.ladder_grid.specs.Program.{Drawing, feeds, is_block, joined, site_at}
 use Rattle.ladder_grid.specs.declared.cell.Cell.{Cell}
 use Rattle.ladder_scan.specs.declared.seen.Mark.{Mark}
@@ -29,18 +31,27 @@ any_filter test p (x ∷ xs) = pick (p x) (any_filter test p xs)
     pick true e = ap (λ b. test x || b) e
     pick false e = e
 
-six : (a b c d e f : Bool) → (a || (b || (c || (d || (e || (f || false)))))) ≡ ((((((false || a) || b) || c) || d) || e) || f)
-six true b c d e f = refl
-six false true c d e f = refl
-six false false true d e f = refl
-six false false false true e f = refl
-six false false false false true f = refl
-six false false false false false true = refl
-six false false false false false false = refl
-
-any_row : (f : ℕ → Bool) → list_any f (range_with_len 0 6) ≡ any_below f 6
+any_first : (f : ℕ → Bool) (n : ℕ) → any_below f (suc n) ≡ (f 0 || any_below (λ i. f (suc i)) n)
 unfolding any_below
-any_row f = six (f 0) (f 1) (f 2) (f 3) (f 4) (f 5)
+any_first f zero = last (f 0)
+  where
+    last : (b : Bool) → b ≡ (b || false)
+    last true = refl
+    last false = refl
+any_first f (suc n) = ap (λ b. b || f (suc n)) (any_first f n) ∙ or_assoc (f 0) (any_below (λ i. f (suc i)) n) (f (suc n))
+
+any_from : (f g : ℕ → Bool) (a n : ℕ) → ((i : ℕ) → f (a + i) ≡ g i) → list_any f (range_with_len a n) ≡ any_below g n
+unfolding any_below
+any_from f g a zero same = refl
+any_from f g a (suc n) same =
+    let here : a ≡ a + 0 = omega arith in
+    let next : (i : ℕ) → a + 1 + i ≡ a + suc i = λ i. omega arith in
+    ap₂ (λ x y. x || y) (ap f here ∙ same 0) (any_from f (λ i. g (suc i)) (a + 1) n (λ i. ap f (next i) ∙ same (suc i))) ∙ sym (any_first g n)
+
+any_row : (f : ℕ → Bool) → list_any f (range_with_len 0 ROWS) ≡ any_below f ROWS
+any_row f =
+    let same : (i : ℕ) → 0 + i ≡ i = λ i. omega arith in
+    any_from f f 0 ROWS (λ i. ap f (same i))
 
 -- ---- past a cell
 
@@ -104,25 +115,25 @@ ended_through p marks j n row column (r ∷ rs) =
     ∙ ap (λ b. (is_some_of n o || ((is_nowhere o && not c) && h)) || b) (ended_through p marks j n row column rs)
     ∙ ended_more (is_some_of n o) (is_nowhere o) rest (list_any (is_live p marks j) rs) (not c) h
 
-row_of : (row column : ℕ) → row < 6 → (6 * column + row) % 6 ≡ row
+row_of : (row column : ℕ) → row < ROWS → (ROWS * column + row) % ROWS ≡ row
 row_of row column h = omega arith
 
-column_of : (row column : ℕ) → row < 6 → (6 * column + row) / 6 ≡ column
+column_of : (row column : ℕ) → row < ROWS → (ROWS * column + row) / ROWS ≡ column
 column_of row column h = omega arith
 
-pub to_place : (test : Route → Bool) (p : Drawing) (j row column : ℕ) → row < 6 → any_to test p j (6 * column + row) ≡ list_any test (routes_to p j row column)
+pub to_place : (test : Route → Bool) (p : Drawing) (j row column : ℕ) → row < ROWS → any_to test p j (ROWS * column + row) ≡ list_any test (routes_to p j row column)
 to_place test p j row column h =
-    ap (λ r. list_any test (routes_to p j r ((6 * column + row) / 6))) (row_of row column h)
+    ap (λ r. list_any test (routes_to p j r ((ROWS * column + row) / ROWS))) (row_of row column h)
     ∙ ap (λ c. list_any test (routes_to p j row c)) (column_of row column h)
 
 or_false : (b : Bool) → (b || false) ≡ b
 or_false true = refl
 or_false false = refl
 
-live_past : (p : Drawing) (marks : List Mark) (j row column : ℕ) → row < 6
+live_past : (p : Drawing) (marks : List Mark) (j row column : ℕ) → row < ROWS
     → any_past (is_live p marks j) p j row column
     ≡ cond (is_block (site_at p j row column).cell) (mark_in marks j row column).right
-    (any_to (is_live p marks j) p j (6 * column + row) && is_closed (mark_in marks j row column) (site_at p j row column).cell)
+    (any_to (is_live p marks j) p j (ROWS * column + row) && is_closed (mark_in marks j row column) (site_at p j row column).cell)
 unfolding end_of
 live_past p marks j row column h = by (is_block (site_at p j row column).cell)
   where
@@ -132,29 +143,29 @@ live_past p marks j row column h = by (is_block (site_at p j row column).cell)
 
     by : (b : Bool) → list_any (is_live p marks j) (cond b (block_end row column ∷ []) (map (λ r. through r row column) (routes_to p j row column)))
         ≡ cond b (mark_in marks j row column).right
-        (any_to (is_live p marks j) p j (6 * column + row) && is_closed (mark_in marks j row column) (site_at p j row column).cell)
+        (any_to (is_live p marks j) p j (ROWS * column + row) && is_closed (mark_in marks j row column) (site_at p j row column).cell)
     by true = or_false _ ∙ at_block (mark_in marks j row column).right
     by false = live_through p marks j row column (routes_to p j row column)
         ∙ ap (λ b. b && is_closed (mark_in marks j row column) (site_at p j row column).cell) (sym (to_place (is_live p marks j) p j row column h))
 
-pub past_live : (p : Drawing) (marks : List Mark) (j row column : ℕ) (m : Mark) (cell : Cell) (block live : Bool) → row < 6
+pub past_live : (p : Drawing) (marks : List Mark) (j row column : ℕ) (m : Mark) (cell : Cell) (block live : Bool) → row < ROWS
     → cell ≡ (site_at p j row column).cell → m ≡ mark_in marks j row column → block ≡ is_block cell
-    → live ≡ any_to (is_live p marks j) p j (6 * column + row)
+    → live ≡ any_to (is_live p marks j) p j (ROWS * column + row)
     → any_past (is_live p marks j) p j row column ≡ cond block m.right (live && is_closed m cell)
 past_live p marks j row column m cell block live h ec em eb el =
     let right = mark_in marks j row column in
-    let to = any_to (is_live p marks j) p j (6 * column + row) in
+    let to = any_to (is_live p marks j) p j (ROWS * column + row) in
     live_past p marks j row column h
     ∙ ap (λ c. cond (is_block c) right.right (to && is_closed right c)) (sym ec)
     ∙ ap (λ b. cond b right.right (to && is_closed right cell)) (sym eb)
     ∙ ap (λ (x : Mark). cond block x.right (to && is_closed x cell)) (sym em)
     ∙ ap (λ b. cond block m.right (b && is_closed m cell)) (sym el)
 
-ended_past : (p : Drawing) (marks : List Mark) (j n row column : ℕ) → row < 6
+ended_past : (p : Drawing) (marks : List Mark) (j n row column : ℕ) → row < ROWS
     → any_past (is_ended n p marks j) p j row column
     ≡ cond (is_block (site_at p j row column).cell) (not (mark_in marks j row column).right && place_at row column == n)
-    (any_to (is_ended n p marks j) p j (6 * column + row)
-    || ((any_to (is_live p marks j) p j (6 * column + row) && not (is_closed (mark_in marks j row column) (site_at p j row column).cell)) && place_at row column == n))
+    (any_to (is_ended n p marks j) p j (ROWS * column + row)
+    || ((any_to (is_live p marks j) p j (ROWS * column + row) && not (is_closed (mark_in marks j row column) (site_at p j row column).cell)) && place_at row column == n))
 unfolding end_of
 ended_past p marks j n row column h = by (is_block (site_at p j row column).cell)
   where
@@ -170,22 +181,22 @@ ended_past p marks j n row column h = by (is_block (site_at p j row column).cell
 
     by : (b : Bool) → list_any (is_ended n p marks j) (cond b (block_end row column ∷ []) (map (λ r. through r row column) (routes_to p j row column)))
         ≡ cond b (not (mark_in marks j row column).right && here)
-        (any_to (is_ended n p marks j) p j (6 * column + row) || ((any_to (is_live p marks j) p j (6 * column + row) && c) && here))
+        (any_to (is_ended n p marks j) p j (ROWS * column + row) || ((any_to (is_live p marks j) p j (ROWS * column + row) && c) && here))
     by true = or_false _ ∙ at_block (mark_in marks j row column).right
     by false = ended_through p marks j n row column (routes_to p j row column)
         ∙ ap (λ b. b || ((list_any (is_live p marks j) (routes_to p j row column) && c) && here)) (sym (to_place (is_ended n p marks j) p j row column h))
-        ∙ ap (λ b. any_to (is_ended n p marks j) p j (6 * column + row) || ((b && c) && here)) (sym (to_place (is_live p marks j) p j row column h))
+        ∙ ap (λ b. any_to (is_ended n p marks j) p j (ROWS * column + row) || ((b && c) && here)) (sym (to_place (is_live p marks j) p j row column h))
 
-pub past_ended : (p : Drawing) (marks : List Mark) (j n row column : ℕ) (m : Mark) (cell : Cell) (block live ended : Bool) → row < 6
+pub past_ended : (p : Drawing) (marks : List Mark) (j n row column : ℕ) (m : Mark) (cell : Cell) (block live ended : Bool) → row < ROWS
     → cell ≡ (site_at p j row column).cell → m ≡ mark_in marks j row column → block ≡ is_block cell
-    → live ≡ any_to (is_live p marks j) p j (6 * column + row)
-    → ended ≡ any_to (is_ended n p marks j) p j (6 * column + row)
+    → live ≡ any_to (is_live p marks j) p j (ROWS * column + row)
+    → ended ≡ any_to (is_ended n p marks j) p j (ROWS * column + row)
     → any_past (is_ended n p marks j) p j row column
     ≡ cond block (not m.right && place_at row column == n) (ended || ((live && not (is_closed m cell)) && place_at row column == n))
 past_ended p marks j n row column m cell block live ended h ec em eb el ee =
     let right = mark_in marks j row column in
-    let to = any_to (is_live p marks j) p j (6 * column + row) in
-    let on = any_to (is_ended n p marks j) p j (6 * column + row) in
+    let to = any_to (is_live p marks j) p j (ROWS * column + row) in
+    let on = any_to (is_ended n p marks j) p j (ROWS * column + row) in
     let here = place_at row column == n in
     ended_past p marks j n row column h
     ∙ ap (λ c. cond (is_block c) (not right.right && here) (on || ((to && not (is_closed right c)) && here))) (sym ec)
@@ -220,36 +231,36 @@ joined_more p j top column row le =
 
 -- each route to a place past the first column comes past a cell of the column before
 pub any_before : (test : Route → Bool) (p : Drawing) (j row column : ℕ)
-    → list_any test (routes_to p j row (suc column)) ≡ any_below (λ from. feeds p j row (suc column) from && any_past test p j from column) 6
+    → list_any test (routes_to p j row (suc column)) ≡ any_below (λ from. feeds p j row (suc column) from && any_past test p j from column) ROWS
 unfolding routes
 any_before test p j row column =
-    any_flat test (λ from. routes_past p j from column) (filter (feeds p j row (suc column)) (range_with_len 0 6))
-    ∙ any_filter (λ from. any_past test p j from column) (feeds p j row (suc column)) (range_with_len 0 6)
+    any_flat test (λ from. routes_past p j from column) (filter (feeds p j row (suc column)) (range_with_len 0 ROWS))
+    ∙ any_filter (λ from. any_past test p j from column) (feeds p j row (suc column)) (range_with_len 0 ROWS)
     ∙ any_row (λ from. feeds p j row (suc column) from && any_past test p j from column)
 
-pub any_at : (test : Route → Bool) (p : Drawing) (j at : ℕ) → 6 ≤ at
-    → any_below (λ from. feeds p j (at % 6) (at / 6) from && any_past test p j from (at / 6 - 1)) 6 ≡ any_to test p j at
+pub any_at : (test : Route → Bool) (p : Drawing) (j at : ℕ) → ROWS ≤ at
+    → any_below (λ from. feeds p j (at % ROWS) (at / ROWS) from && any_past test p j from (at / ROWS - 1)) ROWS ≡ any_to test p j at
 any_at test p j at le =
-    ap (λ c. any_below (λ from. feeds p j (at % 6) c from && any_past test p j from (at / 6 - 1)) 6) later
-    ∙ sym (any_before test p j (at % 6) (at / 6 - 1))
-    ∙ ap (λ c. list_any test (routes_to p j (at % 6) c)) (sym later)
+    ap (λ c. any_below (λ from. feeds p j (at % ROWS) c from && any_past test p j from (at / ROWS - 1)) ROWS) later
+    ∙ sym (any_before test p j (at % ROWS) (at / ROWS - 1))
+    ∙ ap (λ c. list_any test (routes_to p j (at % ROWS) c)) (sym later)
   where
-    later : at / 6 ≡ suc (at / 6 - 1)
+    later : at / ROWS ≡ suc (at / ROWS - 1)
     later = omega (arith, le)
 
 -- at the left rail
-pub live_first : (p : Drawing) (marks : List Mark) (j at : ℕ) → at < 6 → true ≡ any_to (is_live p marks j) p j at
+pub live_first : (p : Drawing) (marks : List Mark) (j at : ℕ) → at < ROWS → true ≡ any_to (is_live p marks j) p j at
 unfolding end_of routes
-live_first p marks j at lt = ap (λ c. list_any (is_live p marks j) (routes_to p j (at % 6) c)) (sym first)
+live_first p marks j at lt = ap (λ c. list_any (is_live p marks j) (routes_to p j (at % ROWS) c)) (sym first)
   where
-    first : at / 6 ≡ 0
+    first : at / ROWS ≡ 0
     first = omega (arith, lt)
 
-pub ended_first : (p : Drawing) (marks : List Mark) (j n at : ℕ) → at < 6 → false ≡ any_to (is_ended n p marks j) p j at
+pub ended_first : (p : Drawing) (marks : List Mark) (j n at : ℕ) → at < ROWS → false ≡ any_to (is_ended n p marks j) p j at
 unfolding end_of routes
-ended_first p marks j n at lt = ap (λ c. list_any (is_ended n p marks j) (routes_to p j (at % 6) c)) (sym first)
+ended_first p marks j n at lt = ap (λ c. list_any (is_ended n p marks j) (routes_to p j (at % ROWS) c)) (sym first)
   where
-    first : at / 6 ≡ 0
+    first : at / ROWS ≡ 0
     first = omega (arith, lt)
 
 pub below_more : (f : ℕ → Bool) (n : ℕ) (found feeding past : Bool) → found ≡ any_below f n → (feeding && past) ≡ f n
@@ -264,10 +275,10 @@ none_below f = refl
 
 -- ---- answers
 
-pub answers_none : (test : Route → Bool) (p : Drawing) (j : ℕ) (xs : List Bool) → length xs ≡ 60 → AreAnswers test p j 0 xs
+pub answers_none : (test : Route → Bool) (p : Drawing) (j : ℕ) (xs : List Bool) → length xs ≡ PLACES → AreAnswers test p j 0 xs
 answers_none test p j xs size = record { size = size; each = λ at lt. absurd (omega (arith, lt)) }
 
-pub answers_more : (test : Route → Bool) (p : Drawing) (j n : ℕ) (xs : List Bool) (x : Bool) → n < 60 → x ≡ any_to test p j n → AreAnswers test p j n xs
+pub answers_more : (test : Route → Bool) (p : Drawing) (j n : ℕ) (xs : List Bool) (x : Bool) → n < PLACES → x ≡ any_to test p j n → AreAnswers test p j n xs
     → AreAnswers test p j (n + 1) (slice_set xs n x)
 answers_more test p j n xs x lt e old = record {
   size = length-set xs n x ∙ old.size;

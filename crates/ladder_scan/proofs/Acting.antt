@@ -3,6 +3,7 @@ use Rattle.std.proofs.Common.{◌≡◌, ℕ, ◌<◌, ◌≤◌, Bool, true, fa
 use Rattle.std.proofs.lemmas.Bool.{cases_Bool}
 use Rattle.std.proofs.lemmas.List.Elements.{All-append, All-nil}
 use Rattle.std.proofs.lemmas.Grind.{common_steps}
+use Rattle.ladder_page.specs.declared.geometry.TheConstants.{PLACES}
 use Rattle.ladder_grid.specs.declared.cell.Cell.{Cell}
 use Rattle.ladder_grid.specs.declared.cell.Cell.TheVariants.{Empty, Wire, Contact, Coil, Block, Lower, Jump, Return}
 use Rattle.ladder_grid.specs.declared.gates.Action.{Action}
@@ -27,7 +28,7 @@ cond_false true x y h = cc
 pub all_one : {A : Type 0} (P : A → Type 0) (x : A) → P x → All P (x ∷ [])
 all_one P x h = grind (arith, common_steps)
 
-placed_before : (p : Drawing) (j n : ℕ) → n ≤ 60 → All IsPlaced (actions_before p j n)
+placed_before : (p : Drawing) (j n : ℕ) → n ≤ PLACES → All IsPlaced (actions_before p j n)
 unfolding actions_before
 placed_before p j zero h = All-nil _
 placed_before p j (suc n) h = elim (cases_Bool (acts (cell_of p j n))) [
@@ -39,7 +40,7 @@ placed_before p j (suc n) h = elim (cases_Bool (acts (cell_of p j n))) [
 
 pub places : (p : Drawing) (j : ℕ) → All IsPlaced (actions_of p j)
 unfolding actions_of
-places p j = placed_before p j 60 (omega arith)
+places p j = placed_before p j PLACES (omega arith)
 
 -- ---- the effects
 module _ (p : Drawing) (now j : ℕ) (start : Frame Bool) where
@@ -67,13 +68,13 @@ module _ (p : Drawing) (now j : ℕ) (start : Frame Bool) where
     abbrev lb : ℕ → Bool
     lb = link plain (diagram_of p) k now j start
 
-    change_is : (e : ℕ) → e < 60 → (h : Held) → changed (diagram_of p) now start (cell_of p j e) (among plain R (left_of p j e)) (among plain R (below_of p j e)) h
+    change_is : (e : ℕ) → e < PLACES → (h : Held) → changed (diagram_of p) now start (cell_of p j e) (among plain R (left_of p j e)) (among plain R (below_of p j e)) h
         ≡ changed (diagram_of p) now start ((diagram_of p).cell j e) (lb e) (second plain (diagram_of p) j lb e) h
     change_is e lt h =
         ap (λ c. changed (diagram_of p) now start c (among plain R (left_of p j e)) (among plain R (below_of p j e)) h) (sym (cell_is p j e lt))
         ∙ ap₂ (λ x y. changed (diagram_of p) now start ((diagram_of p).cell j e) x y h) (are.left e lt) (are.below e lt)
 
-    changes_along : (n : ℕ) → n ≤ 60 → (h : Held) → changes_of (diagram_of p) now start R (actions_before p j n) h ≡ changes (diagram_of p) now j start lb n h
+    changes_along : (n : ℕ) → n ≤ PLACES → (h : Held) → changes_of (diagram_of p) now start R (actions_before p j n) h ≡ changes (diagram_of p) now j start lb n h
     unfolding changes_of changes actions_before
     changes_along zero lt h = refl
     changes_along (suc n) lt h = elim (cases_Bool (acts (cell_of p j n))) [
@@ -89,9 +90,9 @@ module _ (p : Drawing) (now j : ℕ) (start : Frame Bool) where
           ∙ sym (still ((diagram_of p).cell j n) (lb n) (second plain (diagram_of p) j lb n) _ (ap acts (cell_is p j n (omega arith)) ∙ t))
     ]
 
-    all_changes : (h : Held) → changes_of (diagram_of p) now start R (actions_of p j) h ≡ changes (diagram_of p) now j start lb 60 h
+    all_changes : (h : Held) → changes_of (diagram_of p) now start R (actions_of p j) h ≡ changes (diagram_of p) now j start lb PLACES h
     unfolding actions_of
-    all_changes h = changes_along 60 (omega arith) h
+    all_changes h = changes_along PLACES (omega arith) h
 
 pub by_actions : (p : Drawing) (now j : ℕ) (h next : Held) (start : Frame Bool) (links : List Bool) → start ≡ frame_of h →
     AreLinks plain p h.kept now j start links → next ≡ changes_of (diagram_of p) now start links (actions_of p j) h →
@@ -99,4 +100,4 @@ pub by_actions : (p : Drawing) (now j : ℕ) (h next : Held) (start : Frame Bool
 by_actions p now j h next start links s are e =
     e
     ∙ all_changes p now j start h.kept links are h
-    ∙ ap (λ (f : Frame Bool). changes (diagram_of p) now j f (link plain (diagram_of p) h.kept now j f) 60 h) s
+    ∙ ap (λ (f : Frame Bool). changes (diagram_of p) now j f (link plain (diagram_of p) h.kept now j f) PLACES h) s

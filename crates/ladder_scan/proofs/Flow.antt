@@ -6,6 +6,7 @@ use Rattle.std.proofs.lemmas.List.{map-append, append-nil}
 use Rattle.std.proofs.lemmas.List.Elements.{filter-append}
 use Rattle.std.proofs.lemmas.Grind.{flat_map-append}
 use Rattle.std.proofs.lemmas.Bool.Decides.{nat_tests}
+use Rattle.ladder_page.specs.declared.geometry.TheConstants.{ROWS}
 use Rattle.ladder_elements.specs.Algebra.{Algebra, LatticeLaws}
 use Rattle.ladder_scan.specs.Gating.{join_where}
 use Rattle.ladder_scan.specs.Routes.{join_all, Route, rail, block_end, through, Circuit, routes, route_value, link_with, ends_below, left_link}
@@ -104,11 +105,11 @@ module _ {S : Type 0} (o : Algebra S) (V : S → Type 0) (l : LatticeLaws S V o)
     unfolding routes route_value
     routes_same e d zero h row = refl
     routes_same e d (suc n) h row =
-        ap (map (route_value o g e)) (gather_is (g.feeds row (suc n)) (onto n) 6)
-        ∙ map_gather (route_value o g e) _ 6
-        ∙ gather_same _ _ (λ q. onto_same (g.feeds row (suc n) q) (g.is_block q n) e d q n (routes g.feeds g.is_block q n) (h q n (omega arith)) (routes_same e d n (λ r c k. h r c (omega arith)) q)) 6
-        ∙ sym (map_gather (route_value o g d) _ 6)
-        ∙ sym (ap (map (route_value o g d)) (gather_is (g.feeds row (suc n)) (onto n) 6))
+        ap (map (route_value o g e)) (gather_is (g.feeds row (suc n)) (onto n) ROWS)
+        ∙ map_gather (route_value o g e) _ ROWS
+        ∙ gather_same _ _ (λ q. onto_same (g.feeds row (suc n) q) (g.is_block q n) e d q n (routes g.feeds g.is_block q n) (h q n (omega arith)) (routes_same e d n (λ r c k. h r c (omega arith)) q)) ROWS
+        ∙ sym (map_gather (route_value o g d) _ ROWS)
+        ∙ sym (ap (map (route_value o g d)) (gather_is (g.feeds row (suc n)) (onto n) ROWS))
 
     ends_kept : (n row column : ℕ) → column < n → ends_below o g (suc n) row column ≡ ends_below o g n row column
     unfolding ends_below
@@ -131,8 +132,8 @@ module _ {S : Type 0} (o : Algebra S) (V : S → Type 0) (l : LatticeLaws S V o)
         ∙ ap (λ xs. o.meet (join_all o xs) (g.closed row n)) (routes_same (ends_below o g (suc n)) (ends_below o g n) n (λ r c h. ends_kept n r c h) row)
 
     -- what the code computes, one column after the other
-    pub left_link-next : (row n : ℕ) → left_link o g row (suc n) ≡ join_where o (g.feeds row (suc n)) (λ q. cond (g.is_block q n) (g.q q n (left_link o g q n) (left_link o g (q + 1) n)) (o.meet (left_link o g q n) (g.closed q n))) 6
+    pub left_link-next : (row n : ℕ) → left_link o g row (suc n) ≡ join_where o (g.feeds row (suc n)) (λ q. cond (g.is_block q n) (g.q q n (left_link o g q n) (left_link o g (q + 1) n)) (o.meet (left_link o g q n) (g.closed q n))) ROWS
     unfolding routes
     left_link-next row n =
-        ap (λ rs. join_all o (map (route_value o g (ends_below o g (suc n))) rs)) (gather_is (g.feeds row (suc n)) (onto n) 6)
-        ∙ gathered (route_value o g (ends_below o g (suc n))) (route-value _ (ends-value (suc n))) (g.feeds row (suc n)) (onto n) _ (λ q. given (g.is_block q n) n q) 6
+        ap (λ rs. join_all o (map (route_value o g (ends_below o g (suc n))) rs)) (gather_is (g.feeds row (suc n)) (onto n) ROWS)
+        ∙ gathered (route_value o g (ends_below o g (suc n))) (route-value _ (ends-value (suc n))) (g.feeds row (suc n)) (onto n) _ (λ q. given (g.is_block q n) n q) ROWS

@@ -5,8 +5,10 @@ use Rattle.std.proofs.lemmas.Bool.{cases_eq, cases_Bool}
 use Rattle.std.proofs.lemmas.List.{drop_more, drop_all}
 use Rattle.std.proofs.lemmas.List.Elements.{All-append, All-nil}
 use Rattle.std.proofs.lemmas.Grind.{common_steps}
+use Rattle.ladder_page.specs.declared.geometry.TheConstants.{ROWS, COLUMNS, PLACES}
 use Rattle.ladder_page.specs.declared.mode.Mode.{Mode}
 use Rattle.ladder_page.specs.declared.mode.Mode.TheVariants.{Plain, Negated, Rising, Falling}
+use Rattle.ladder_grid.specs.declared.gates.TheConstants.{ON, OFF, OWN, LINKS}
 use Rattle.ladder_grid.specs.declared.cell.Operand.{Operand}
 use Rattle.ladder_grid.specs.declared.cell.Operand.TheVariants.{Var, Output}
 use Rattle.ladder_grid.specs.declared.cell.Cell.{Cell}
@@ -67,53 +69,53 @@ is_less a b h = grind (arith, nat_tests)
 less_is : (a b : ℕ) → nat_lt a b ≡ true → a < b
 less_is a b h = grind (arith, nat_tests)
 
-the_column : (column row : ℕ) → row < 6 → (6 * column + row) / 6 ≡ column
+the_column : (column row : ℕ) → row < ROWS → (ROWS * column + row) / ROWS ≡ column
 the_column column row h = omega arith
 
-the_row : (column row : ℕ) → row < 6 → (6 * column + row) % 6 ≡ row
+the_row : (column row : ℕ) → row < ROWS → (ROWS * column + row) % ROWS ≡ row
 the_row column row h = omega arith
 
-place_is : (e : ℕ) → 6 * (e / 6) + e % 6 ≡ e
+place_is : (e : ℕ) → ROWS * (e / ROWS) + e % ROWS ≡ e
 place_is e = omega arith
 
-row_small : (e : ℕ) → e % 6 < 6
+row_small : (e : ℕ) → e % ROWS < ROWS
 row_small e = omega arith
 
 -- ---- where the links of gates are
-last_inside : (f : ℕ → Bool) (base n : ℕ) → base + n ≤ 60 → last_of f base n < 62
+last_inside : (f : ℕ → Bool) (base n : ℕ) → base + n ≤ PLACES → last_of f base n < OWN
 unfolding last_of
 last_inside f base zero h = omega arith
 last_inside f base (suc n) h = elim (cases_Bool (f n)) [
-  | inl t ↦ subst (λ (x : ℕ). x < 62) (sym (cond_true (f n) (base + n) (last_of f base n) t)) (omega arith)
-  | inr t ↦ subst (λ (x : ℕ). x < 62) (sym (cond_false (f n) (base + n) (last_of f base n) t)) (last_inside f base n (omega arith))
+  | inl t ↦ subst (λ (x : ℕ). x < OWN) (sym (cond_true (f n) (base + n) (last_of f base n) t)) (omega arith)
+  | inr t ↦ subst (λ (x : ℕ). x < OWN) (sym (cond_false (f n) (base + n) (last_of f base n) t)) (last_inside f base n (omega arith))
 ]
 
-either_inside : (b : Bool) (x y : ℕ) → (b ≡ true → x < 62) → y < 62 → cond b x y < 62
+either_inside : (b : Bool) (x y : ℕ) → (b ≡ true → x < OWN) → y < OWN → cond b x y < OWN
 either_inside true x y h k = h refl
 either_inside false x y h k = k
 
-pub left_inside : (p : Drawing) (rung e : ℕ) → e < 60 → left_of p rung e < 62
-left_inside p rung e h = either_inside (nat_eq (e / 6) 0) 60 _ (λ t. omega arith) (last_inside (feeds p rung (e % 6) (e / 6)) (6 * (e / 6 - 1)) 6 (omega arith))
+pub left_inside : (p : Drawing) (rung e : ℕ) → e < PLACES → left_of p rung e < OWN
+left_inside p rung e h = either_inside (nat_eq (e / ROWS) 0) ON _ (λ t. omega arith) (last_inside (feeds p rung (e % ROWS) (e / ROWS)) (ROWS * (e / ROWS - 1)) ROWS (omega arith))
 
-other_inside : (p : Drawing) (rung e : ℕ) → e < 60 → other_of p rung e < 62
+other_inside : (p : Drawing) (rung e : ℕ) → e < PLACES → other_of p rung e < OWN
 other_inside p rung e h =
-    either_inside (nat_lt (e / 6 + 1) 10) _ 61
-    (λ t. let k : e / 6 + 1 < 10 = less_is _ _ t in last_inside (feeds p rung (e % 6) (e / 6 + 1)) (6 * (e / 6 + 1 - 1)) (e % 6) (omega arith)) (omega arith)
+    either_inside (nat_lt (e / ROWS + 1) COLUMNS) _ OFF
+    (λ t. let k : e / ROWS + 1 < COLUMNS = less_is _ _ t in last_inside (feeds p rung (e % ROWS) (e / ROWS + 1)) (ROWS * (e / ROWS + 1 - 1)) (e % ROWS) (omega arith)) (omega arith)
 
 both_true : (a b : Bool) → (a && b) ≡ true → (a ≡ true) × (b ≡ true)
 both_true true true h = (refl, refl)
 both_true true false h = cc
 both_true false b h = cc
 
-pub below_inside : (p : Drawing) (rung e : ℕ) → e < 60 → below_of p rung e < 62
+pub below_inside : (p : Drawing) (rung e : ℕ) → e < PLACES → below_of p rung e < OWN
 below_inside p rung e h =
-    either_inside (nat_lt (e % 6 + 1) 6 && is_linked (cell_of p rung (e + 1))) _ 61
-    (λ t. let k : e % 6 + 1 < 6 = less_is _ _ (both_true _ _ t).0 in left_inside p rung (e + 1) (omega arith)) (omega arith)
+    either_inside (nat_lt (e % ROWS + 1) ROWS && is_linked (cell_of p rung (e + 1))) _ OFF
+    (λ t. let k : e % ROWS + 1 < ROWS = less_is _ _ (both_true _ _ t).0 in left_inside p rung (e + 1) (omega arith)) (omega arith)
 
 all_one : {A : Type 0} (P : A → Type 0) (x : A) → P x → All P (x ∷ [])
 all_one P x h = grind (arith, common_steps)
 
-inside_before : (p : Drawing) (rung n : ℕ) → n ≤ 60 → All IsInside (gates_before p rung n)
+inside_before : (p : Drawing) (rung n : ℕ) → n ≤ PLACES → All IsInside (gates_before p rung n)
 unfolding gates_before
 inside_before p rung zero h = All-nil _
 inside_before p rung (suc n) h = elim (cases_Bool (has_gate p rung n)) [
@@ -125,31 +127,31 @@ inside_before p rung (suc n) h = elim (cases_Bool (has_gate p rung n)) [
 
 pub gates_inside : (p : Drawing) (rung : ℕ) → All IsInside (gates_of p rung)
 unfolding gates_of
-gates_inside p rung = inside_before p rung 60 (omega arith)
+gates_inside p rung = inside_before p rung PLACES (omega arith)
 
 -- ---- the diagram of a drawing
-pub cell_is : (p : Drawing) (j place : ℕ) → place < 60 → (diagram_of p).cell j place ≡ cell_of p j place
+pub cell_is : (p : Drawing) (j place : ℕ) → place < PLACES → (diagram_of p).cell j place ≡ cell_of p j place
 unfolding diagram_of
-cell_is p j place h = cond_true (nat_lt place 60) (cell_of p j place) Empty (is_less place 60 h)
+cell_is p j place h = cond_true (nat_lt place PLACES) (cell_of p j place) Empty (is_less place PLACES h)
 
 feeds_is : (p : Drawing) (j row column q : ℕ) → (diagram_of p).feeds j row column q ≡ feeds p j row column q
 unfolding diagram_of
 feeds_is p j row column q = refl
 
-linked_is : (p : Drawing) (j e : ℕ) → e < 60 → (diagram_of p).linked j e ≡ (nat_lt (e % 6 + 1) 6 && is_linked (cell_of p j (e + 1)))
+linked_is : (p : Drawing) (j e : ℕ) → e < PLACES → (diagram_of p).linked j e ≡ (nat_lt (e % ROWS + 1) ROWS && is_linked (cell_of p j (e + 1)))
 unfolding diagram_of
-linked_is p j e h = elim (cases_Bool (nat_lt (e % 6 + 1) 6)) [
+linked_is p j e h = elim (cases_Bool (nat_lt (e % ROWS + 1) ROWS)) [
   | inl t ↦
-      let k : e % 6 + 1 < 6 = less_is _ _ t in
-      ap (λ (c : Cell). nat_lt (e % 6 + 1) 6 && is_linked c) (cond_true (nat_lt (e + 1) 60) (cell_of p j (e + 1)) Empty (is_less (e + 1) 60 (omega arith)))
+      let k : e % ROWS + 1 < ROWS = less_is _ _ t in
+      ap (λ (c : Cell). nat_lt (e % ROWS + 1) ROWS && is_linked c) (cond_true (nat_lt (e + 1) PLACES) (cell_of p j (e + 1)) Empty (is_less (e + 1) PLACES (omega arith)))
   | inr t ↦ ap (λ b. b && is_linked (cell_at p j (e + 1))) t ∙ sym (ap (λ b. b && is_linked (cell_of p j (e + 1))) t)
 ]
 
 -- ON and OFF are where the gates look for them.
 pub record AreRailed {S : Type 0} (o : Algebra S) (R : List S) : Type 0 where
-  pub long : length R ≡ 122
-  pub on : get_or R 60 (o.known false) ≡ o.known true
-  pub off : get_or R 61 (o.known false) ≡ o.known false
+  pub long : length R ≡ LINKS
+  pub on : get_or R ON (o.known false) ≡ o.known true
+  pub off : get_or R OFF (o.known false) ≡ o.known false
 
 module _ {S : Type 0} (o : Algebra S) (V : S → Type 0) (l : LatticeLaws S V o) (p : Drawing) (k : Kept) (now j : ℕ) (f : Frame S) (vs : AreValues o V f) where
   abbrev lk : ℕ → ℕ → S
@@ -160,33 +162,33 @@ module _ {S : Type 0} (o : Algebra S) (V : S → Type 0) (l : LatticeLaws S V o)
 
   -- the second input of a cell
   abbrev low : ℕ → ℕ → S
-  low column q = lower o ((diagram_of p).linked j (6 * column + q)) (lk (q + 1) column)
+  low column q = lower o ((diagram_of p).linked j (ROWS * column + q)) (lk (q + 1) column)
 
   -- the right link of a cell
   abbrev right : ℕ → ℕ → S
-  right column q = own o (diagram_of p) k now f (cl (6 * column + q)) (lk q column) (low column q)
+  right column q = own o (diagram_of p) k now f (cl (ROWS * column + q)) (lk q column) (low column q)
 
   -- the OR of what comes from the rows above into the group on the right
   abbrev above : ℕ → ℕ → S
-  above column row = cond (nat_lt (column + 1) 10) (join_where o (feeds p j row (column + 1)) (right column) row) (o.known false)
+  above column row = cond (nat_lt (column + 1) COLUMNS) (join_where o (feeds p j row (column + 1)) (right column) row) (o.known false)
 
   abbrev here : ℕ → S
-  here e = right (e / 6) (e % 6)
+  here e = right (e / ROWS) (e % ROWS)
 
   abbrev want : ℕ → S
-  want e = o.join (here e) (above (e / 6) (e % 6))
+  want e = o.join (here e) (above (e / ROWS) (e % ROWS))
 
   lk_value : (row column : ℕ) → V (lk row column)
   lk_value row column = left_value o V l (diagram_of p) k now j f vs row column
 
   low_value : (column q : ℕ) → V (low column q)
-  low_value column q = either_value o V l ((diagram_of p).linked j (6 * column + q)) _ _ (lk_value (q + 1) column) (l.known_value false)
+  low_value column q = either_value o V l ((diagram_of p).linked j (ROWS * column + q)) _ _ (lk_value (q + 1) column) (l.known_value false)
 
   right_value : (column q : ℕ) → V (right column q)
   right_value column q =
-      either_value o V l (is_block (cl (6 * column + q))) _ _
-      (q-value o V l (diagram_of p) k now (cl (6 * column + q)) _ _ (lk_value q column) (low_value column q))
-      (l.meet_value _ _ (lk_value q column) (closed-value o V l f vs _ (l.known_value _) (cl (6 * column + q))))
+      either_value o V l (is_block (cl (ROWS * column + q))) _ _
+      (q-value o V l (diagram_of p) k now (cl (ROWS * column + q)) _ _ (lk_value q column) (low_value column q))
+      (l.meet_value _ _ (lk_value q column) (closed-value o V l f vs _ (l.known_value _) (cl (ROWS * column + q))))
 
   joined_value : (t : ℕ → Bool) (g : ℕ → S) (n : ℕ) → ((q : ℕ) → V (g q)) → V (join_where o t g n)
   unfolding join_where
@@ -232,128 +234,128 @@ module _ {S : Type 0} (o : Algebra S) (V : S → Type 0) (l : LatticeLaws S V o)
   -- ---- links so far
   -- The gates of the cells before place n gave what they must.
   record Good (n : ℕ) (R : List S) : Type 0 where
-    long : length R ≡ 122
-    on : get_or R 60 (o.known false) ≡ o.known true
-    off : get_or R 61 (o.known false) ≡ o.known false
+    long : length R ≡ LINKS
+    on : get_or R ON (o.known false) ≡ o.known true
+    off : get_or R OFF (o.known false) ≡ o.known false
     fed : (e : ℕ) → e < n → feeds_on p j e ≡ true → get_or R e (o.known false) ≡ want e
-    alone : (e : ℕ) → e < n → is_block (cl e) ≡ true → get_or R (62 + e) (o.known false) ≡ here e
+    alone : (e : ℕ) → e < n → is_block (cl e) ≡ true → get_or R (OWN + e) (o.known false) ≡ here e
 
-  want_is : (column q : ℕ) → column + 1 < 10 → q < 6 → want (6 * column + q) ≡ o.join (right column q) (join_where o (feeds p j q (column + 1)) (right column) q)
+  want_is : (column q : ℕ) → column + 1 < COLUMNS → q < ROWS → want (ROWS * column + q) ≡ o.join (right column q) (join_where o (feeds p j q (column + 1)) (right column) q)
   want_is column q c h =
       ap₂ (λ a b. o.join (right a b) (above a b)) (the_column column q h) (the_row column q h)
-      ∙ ap (o.join (right column q)) (cond_true (nat_lt (column + 1) 10) _ _ (is_less (column + 1) 10 c))
+      ∙ ap (o.join (right column q)) (cond_true (nat_lt (column + 1) COLUMNS) _ _ (is_less (column + 1) COLUMNS c))
 
-  feeds_there : (row column q : ℕ) → row < 6 → column + 1 < 10 → q < 6 → feeds p j row (column + 1) q ≡ true → feeds_on p j (6 * column + q) ≡ true
+  feeds_there : (row column q : ℕ) → row < ROWS → column + 1 < COLUMNS → q < ROWS → feeds p j row (column + 1) q ≡ true → feeds_on p j (ROWS * column + q) ≡ true
   feeds_there row column q r c h fed =
-      ap₂ (λ a b. nat_lt (a + 1) 10 && feeds p j b (a + 1) b) (the_column column q h) (the_row column q h)
-      ∙ ap (λ b. b && feeds p j q (column + 1) q) (is_less (column + 1) 10 c)
+      ap₂ (λ a b. nat_lt (a + 1) COLUMNS && feeds p j b (a + 1) b) (the_column column q h) (the_row column q h)
+      ∙ ap (λ b. b && feeds p j q (column + 1) q) (is_less (column + 1) COLUMNS c)
       ∙ fed_on p j column row q r h fed
 
   -- The last of the first n rows that feeds a cell has the OR over these rows.
-  at_last : (row column n : ℕ) → row < 6 → column + 1 < 10 → n ≤ 6 → (m : ℕ) → 6 * column + n ≤ m → (R : List S) → Good m R
-      → get_or R (last_of (feeds p j row (column + 1)) (6 * (column + 1 - 1)) n) (o.known false) ≡ join_where o (feeds p j row (column + 1)) (right column) n
+  at_last : (row column n : ℕ) → row < ROWS → column + 1 < COLUMNS → n ≤ ROWS → (m : ℕ) → ROWS * column + n ≤ m → (R : List S) → Good m R
+      → get_or R (last_of (feeds p j row (column + 1)) (ROWS * (column + 1 - 1)) n) (o.known false) ≡ join_where o (feeds p j row (column + 1)) (right column) n
   unfolding last_of join_where
   at_last row column zero r c h m le R good = good.off
   at_last row column (suc n) r c h m le R good = elim (cases_Bool (feeds p j row (column + 1) n)) [
     | inl b ↦
-        let base : 6 * (column + 1 - 1) + n ≡ 6 * column + n = omega arith in
-        ap (λ e. get_or R e (o.known false)) (cond_true (feeds p j row (column + 1) n) (6 * (column + 1 - 1) + n) _ b)
+        let base : ROWS * (column + 1 - 1) + n ≡ ROWS * column + n = omega arith in
+        ap (λ e. get_or R e (o.known false)) (cond_true (feeds p j row (column + 1) n) (ROWS * (column + 1 - 1) + n) _ b)
         ∙ ap (λ e. get_or R e (o.known false)) base
-        ∙ good.fed (6 * column + n) (omega arith) (feeds_there row column n r c (omega arith) b)
+        ∙ good.fed (ROWS * column + n) (omega arith) (feeds_there row column n r c (omega arith) b)
         ∙ want_is column n c (omega arith)
         ∙ ap (o.join (right column n)) (fed_same o V l (feeds p j n (column + 1)) (feeds p j row (column + 1)) (right column) (right column) n (λ q lt. group p j column row n r (omega arith) b q (omega arith)) (λ q lt t. refl))
         ∙ l.join_comm _ _ (right_value column n) (joined_value (feeds p j row (column + 1)) (right column) n (λ q. right_value column q))
         ∙ sym (cond_true (feeds p j row (column + 1) n) (o.join (join_where o (feeds p j row (column + 1)) (right column) n) (right column n)) _ b)
     | inr b ↦
-        ap (λ e. get_or R e (o.known false)) (cond_false (feeds p j row (column + 1) n) (6 * (column + 1 - 1) + n) _ b)
+        ap (λ e. get_or R e (o.known false)) (cond_false (feeds p j row (column + 1) n) (ROWS * (column + 1 - 1) + n) _ b)
         ∙ at_last row column n r c (omega arith) m (omega arith) R good
         ∙ sym (cond_false (feeds p j row (column + 1) n) (o.join (join_where o (feeds p j row (column + 1)) (right column) n) (right column n)) _ b)
   ]
 
   -- ---- what a gate looks at
-  left_is : (e : ℕ) → e < 60 → (m : ℕ) → 6 * (e / 6) ≤ m → (R : List S) → Good m R → get_or R (left_of p j e) (o.known false) ≡ lk (e % 6) (e / 6)
-  left_is e h m le R good = elim (cases_Bool (nat_eq (e / 6) 0)) [
+  left_is : (e : ℕ) → e < PLACES → (m : ℕ) → ROWS * (e / ROWS) ≤ m → (R : List S) → Good m R → get_or R (left_of p j e) (o.known false) ≡ lk (e % ROWS) (e / ROWS)
+  left_is e h m le R good = elim (cases_Bool (nat_eq (e / ROWS) 0)) [
     | inl b ↦
-        let none : e / 6 ≡ 0 = same_number (e / 6) 0 b in
-        ap (λ n. get_or R n (o.known false)) (cond_true (nat_eq (e / 6) 0) 60 (last_feeder p j (e % 6) (e / 6) 6) b) ∙ good.on
+        let none : e / ROWS ≡ 0 = same_number (e / ROWS) 0 b in
+        ap (λ n. get_or R n (o.known false)) (cond_true (nat_eq (e / ROWS) 0) ON (last_feeder p j (e % ROWS) (e / ROWS) ROWS) b) ∙ good.on
         ∙ sym (first_column o V l (diagram_of p) k now j f vs e (omega (arith, none)))
     | inr b ↦
-        let some : 1 ≤ e / 6 = grind (arith, nat_tests) in
-        let column = e / 6 - 1 in
-        let there : column + 1 ≡ e / 6 = omega arith in
-        let next : suc column ≡ e / 6 = omega arith in
-        ap (λ n. get_or R n (o.known false)) (cond_false (nat_eq (e / 6) 0) 60 (last_feeder p j (e % 6) (e / 6) 6) b)
-        ∙ ap (λ c. get_or R (last_feeder p j (e % 6) c 6) (o.known false)) (sym there)
-        ∙ at_last (e % 6) column 6 (row_small e) (omega arith) (omega arith) m (omega arith) R good
-        ∙ ap (λ c. join_where o (feeds p j (e % 6) c) (right column) 6) (there ∙ sym next)
-        ∙ sym (fed_same o V l ((diagram_of p).feeds j (e % 6) (suc column)) (feeds p j (e % 6) (suc column)) (right column) (right column) 6 (λ q lt. feeds_is p j (e % 6) (suc column) q) (λ q lt t. refl))
-        ∙ sym (column_next o V l (diagram_of p) k now j f vs (e % 6) column)
-        ∙ ap (λ c. lk (e % 6) c) next
+        let some : 1 ≤ e / ROWS = grind (arith, nat_tests) in
+        let column = e / ROWS - 1 in
+        let there : column + 1 ≡ e / ROWS = omega arith in
+        let next : suc column ≡ e / ROWS = omega arith in
+        ap (λ n. get_or R n (o.known false)) (cond_false (nat_eq (e / ROWS) 0) ON (last_feeder p j (e % ROWS) (e / ROWS) ROWS) b)
+        ∙ ap (λ c. get_or R (last_feeder p j (e % ROWS) c ROWS) (o.known false)) (sym there)
+        ∙ at_last (e % ROWS) column ROWS (row_small e) (omega arith) (omega arith) m (omega arith) R good
+        ∙ ap (λ c. join_where o (feeds p j (e % ROWS) c) (right column) ROWS) (there ∙ sym next)
+        ∙ sym (fed_same o V l ((diagram_of p).feeds j (e % ROWS) (suc column)) (feeds p j (e % ROWS) (suc column)) (right column) (right column) ROWS (λ q lt. feeds_is p j (e % ROWS) (suc column) q) (λ q lt t. refl))
+        ∙ sym (column_next o V l (diagram_of p) k now j f vs (e % ROWS) column)
+        ∙ ap (λ c. lk (e % ROWS) c) next
   ]
 
-  other_is : (e : ℕ) → e < 60 → (R : List S) → Good e R → get_or R (other_of p j e) (o.known false) ≡ above (e / 6) (e % 6)
-  other_is e h R good = elim (cases_Bool (nat_lt (e / 6 + 1) 10)) [
+  other_is : (e : ℕ) → e < PLACES → (R : List S) → Good e R → get_or R (other_of p j e) (o.known false) ≡ above (e / ROWS) (e % ROWS)
+  other_is e h R good = elim (cases_Bool (nat_lt (e / ROWS + 1) COLUMNS)) [
     | inl b ↦
-        ap (λ n. get_or R n (o.known false)) (cond_true (nat_lt (e / 6 + 1) 10) (last_feeder p j (e % 6) (e / 6 + 1) (e % 6)) 61 b)
-        ∙ at_last (e % 6) (e / 6) (e % 6) (row_small e) (less_is _ _ b) (omega arith) e (omega arith) R good
-        ∙ sym (cond_true (nat_lt (e / 6 + 1) 10) _ _ b)
+        ap (λ n. get_or R n (o.known false)) (cond_true (nat_lt (e / ROWS + 1) COLUMNS) (last_feeder p j (e % ROWS) (e / ROWS + 1) (e % ROWS)) OFF b)
+        ∙ at_last (e % ROWS) (e / ROWS) (e % ROWS) (row_small e) (less_is _ _ b) (omega arith) e (omega arith) R good
+        ∙ sym (cond_true (nat_lt (e / ROWS + 1) COLUMNS) _ _ b)
     | inr b ↦
-        ap (λ n. get_or R n (o.known false)) (cond_false (nat_lt (e / 6 + 1) 10) (last_feeder p j (e % 6) (e / 6 + 1) (e % 6)) 61 b)
-        ∙ good.off ∙ sym (cond_false (nat_lt (e / 6 + 1) 10) _ _ b)
+        ap (λ n. get_or R n (o.known false)) (cond_false (nat_lt (e / ROWS + 1) COLUMNS) (last_feeder p j (e % ROWS) (e / ROWS + 1) (e % ROWS)) OFF b)
+        ∙ good.off ∙ sym (cond_false (nat_lt (e / ROWS + 1) COLUMNS) _ _ b)
   ]
 
-  below_is : (e : ℕ) → e < 60 → (m : ℕ) → 6 * (e / 6) ≤ m → (R : List S) → Good m R → get_or R (below_of p j e) (o.known false) ≡ lower o ((diagram_of p).linked j e) (lk (e % 6 + 1) (e / 6))
-  below_is e h m le R good = elim (cases_Bool (nat_lt (e % 6 + 1) 6 && is_linked (cell_of p j (e + 1)))) [
+  below_is : (e : ℕ) → e < PLACES → (m : ℕ) → ROWS * (e / ROWS) ≤ m → (R : List S) → Good m R → get_or R (below_of p j e) (o.known false) ≡ lower o ((diagram_of p).linked j e) (lk (e % ROWS + 1) (e / ROWS))
+  below_is e h m le R good = elim (cases_Bool (nat_lt (e % ROWS + 1) ROWS && is_linked (cell_of p j (e + 1)))) [
     | inl b ↦
-        let row : e % 6 + 1 < 6 = less_is _ _ (both_true _ _ b).0 in
-        let next_row : (e + 1) % 6 ≡ e % 6 + 1 = omega arith in
-        let same_column : (e + 1) / 6 ≡ e / 6 = omega arith in
-        ap (λ n. get_or R n (o.known false)) (cond_true _ (left_of p j (e + 1)) 61 b)
+        let row : e % ROWS + 1 < ROWS = less_is _ _ (both_true _ _ b).0 in
+        let next_row : (e + 1) % ROWS ≡ e % ROWS + 1 = omega arith in
+        let same_column : (e + 1) / ROWS ≡ e / ROWS = omega arith in
+        ap (λ n. get_or R n (o.known false)) (cond_true _ (left_of p j (e + 1)) OFF b)
         ∙ left_is (e + 1) (omega arith) m (omega (arith, same_column)) R good
         ∙ ap₂ lk next_row same_column
-        ∙ sym (cond_true ((diagram_of p).linked j e) (lk (e % 6 + 1) (e / 6)) (o.known false) (linked_is p j e h ∙ b))
+        ∙ sym (cond_true ((diagram_of p).linked j e) (lk (e % ROWS + 1) (e / ROWS)) (o.known false) (linked_is p j e h ∙ b))
     | inr b ↦
-        ap (λ n. get_or R n (o.known false)) (cond_false _ (left_of p j (e + 1)) 61 b)
+        ap (λ n. get_or R n (o.known false)) (cond_false _ (left_of p j (e + 1)) OFF b)
         ∙ good.off
-        ∙ sym (cond_false ((diagram_of p).linked j e) (lk (e % 6 + 1) (e / 6)) (o.known false) (linked_is p j e h ∙ b))
+        ∙ sym (cond_false ((diagram_of p).linked j e) (lk (e % ROWS + 1) (e / ROWS)) (o.known false) (linked_is p j e h ∙ b))
   ]
 
   -- ---- one gate
-  same_place : (e : ℕ) (g : ℕ → S) → g (6 * (e / 6) + e % 6) ≡ g e
+  same_place : (e : ℕ) (g : ℕ → S) → g (ROWS * (e / ROWS) + e % ROWS) ≡ g e
   same_place e g = ap g (place_is e)
 
-  gate_is : (e : ℕ) → e < 60 → (R : List S) → Good e R → let_through o (diagram_of p) k now j f R (gate_at p j e) ≡ here e
+  gate_is : (e : ℕ) → e < PLACES → (R : List S) → Good e R → let_through o (diagram_of p) k now j f R (gate_at p j e) ≡ here e
   gate_is e h R good =
       ap (λ c. through o (diagram_of p) k now f (literal_of c) (cl e) (get_or R (left_of p j e) (o.known false)) (get_or R (below_of p j e) (o.known false))) (sym (cell_is p j e h))
       ∙ ap₂ (λ x y. through o (diagram_of p) k now f (literal_of (cl e)) (cl e) x y) (left_is e h e (omega arith) R good) (below_is e h e (omega arith) R good)
-      ∙ cell_through (cl e) (lk (e % 6) (e / 6)) (lower o ((diagram_of p).linked j e) (lk (e % 6 + 1) (e / 6)))
-      ∙ sym (same_place e (λ i. own o (diagram_of p) k now f (cl i) (lk (e % 6) (e / 6)) (lower o ((diagram_of p).linked j i) (lk (e % 6 + 1) (e / 6)))))
+      ∙ cell_through (cl e) (lk (e % ROWS) (e / ROWS)) (lower o ((diagram_of p).linked j e) (lk (e % ROWS + 1) (e / ROWS)))
+      ∙ sym (same_place e (λ i. own o (diagram_of p) k now f (cl i) (lk (e % ROWS) (e / ROWS)) (lower o ((diagram_of p).linked j i) (lk (e % ROWS + 1) (e / ROWS)))))
 
-  first_other : (b : Bool) (R : List S) (e i : ℕ) (x : S) → (i ≡ 62 + e → ⊥) → get_or (cond b (set R (62 + e) x) R) i (o.known false) ≡ get_or R i (o.known false)
-  first_other true R e i x h = get_or-set_other R (62 + e) i x (o.known false) h
+  first_other : (b : Bool) (R : List S) (e i : ℕ) (x : S) → (i ≡ OWN + e → ⊥) → get_or (cond b (set R (OWN + e) x) R) i (o.known false) ≡ get_or R i (o.known false)
+  first_other true R e i x h = get_or-set_other R (OWN + e) i x (o.known false) h
   first_other false R e i x h = refl
 
-  first_same : (b : Bool) (R : List S) (e : ℕ) (x : S) → b ≡ true → 62 + e < length R → get_or (cond b (set R (62 + e) x) R) (62 + e) (o.known false) ≡ x
-  first_same true R e x h lt = get_or-set_same R (62 + e) x (o.known false) lt
+  first_same : (b : Bool) (R : List S) (e : ℕ) (x : S) → b ≡ true → OWN + e < length R → get_or (cond b (set R (OWN + e) x) R) (OWN + e) (o.known false) ≡ x
+  first_same true R e x h lt = get_or-set_same R (OWN + e) x (o.known false) lt
   first_same false R e x h lt = cc
 
-  first_length : (b : Bool) (R : List S) (e : ℕ) (x : S) → length (cond b (set R (62 + e) x) R) ≡ length R
-  first_length true R e x = length-set R (62 + e) x
+  first_length : (b : Bool) (R : List S) (e : ℕ) (x : S) → length (cond b (set R (OWN + e) x) R) ≡ length R
+  first_length true R e x = length-set R (OWN + e) x
   first_length false R e x = refl
 
-  one_gate : (e : ℕ) → e < 60 → (R : List S) → Good e R → Good (suc e) (passed o (diagram_of p) k now j f R (gate_at p j e))
+  one_gate : (e : ℕ) → e < PLACES → (R : List S) → Good e R → Good (suc e) (passed o (diagram_of p) k now j f R (gate_at p j e))
   one_gate e h R good =
       let b = is_other (literal_of (cell_of p j e)) in
       let x : S = let_through o (diagram_of p) k now j f R (gate_at p j e) in
       let y : S = o.join x (get_or R (other_of p j e) (o.known false)) in
-      let R1 : List S = cond b (set R (62 + e) x) R in
-      let length1 : length R1 ≡ 122 = first_length b R e x ∙ good.long in
+      let R1 : List S = cond b (set R (OWN + e) x) R in
+      let length1 : length R1 ≡ LINKS = first_length b R e x ∙ good.long in
       let long1 : e < length R1 = omega (arith, length1) in
-      let long : 62 + e < length R = omega (arith, good.long) in
+      let long : OWN + e < length R = omega (arith, good.long) in
       record {
         long = length-set R1 e y ∙ length1;
-        on = get_or-set_other R1 e 60 y (o.known false) (λ t. omega arith) ∙ first_other b R e 60 x (λ t. omega arith) ∙ good.on;
-        off = get_or-set_other R1 e 61 y (o.known false) (λ t. omega arith) ∙ first_other b R e 61 x (λ t. omega arith) ∙ good.off;
+        on = get_or-set_other R1 e ON y (o.known false) (λ t. omega arith) ∙ first_other b R e ON x (λ t. omega arith) ∙ good.on;
+        off = get_or-set_other R1 e OFF y (o.known false) (λ t. omega arith) ∙ first_other b R e OFF x (λ t. omega arith) ∙ good.off;
         fed = λ i lt t. elim (cases_eq i e) [
           | inl same ↦
               ap (λ n. get_or (set R1 e y) n (o.known false)) same ∙ get_or-set_same R1 e y (o.known false) long1
@@ -364,16 +366,16 @@ module _ {S : Type 0} (o : Algebra S) (V : S → Type 0) (l : LatticeLaws S V o)
         alone = λ i lt t. elim (cases_eq i e) [
           | inl same ↦
               let block : is_block (cl e) ≡ true = ap (λ n. is_block (cl n)) (sym same) ∙ t in
-              ap (λ n. get_or (set R1 e y) (62 + n) (o.known false)) same
-              ∙ get_or-set_other R1 e (62 + e) y (o.known false) (λ t. omega arith)
+              ap (λ n. get_or (set R1 e y) (OWN + n) (o.known false)) same
+              ∙ get_or-set_other R1 e (OWN + e) y (o.known false) (λ t. omega arith)
               ∙ first_same b R e x (ap (λ c. is_other (literal_of c)) (sym (cell_is p j e h)) ∙ block_other (cl e) block) long
               ∙ gate_is e h R good ∙ ap here (sym same)
           | inr other ↦
-              get_or-set_other R1 e (62 + i) y (o.known false) (λ t. omega arith) ∙ first_other b R e (62 + i) x (λ t. omega (arith, other)) ∙ good.alone i (omega (arith, other)) t
+              get_or-set_other R1 e (OWN + i) y (o.known false) (λ t. omega arith) ∙ first_other b R e (OWN + i) x (λ t. omega (arith, other)) ∙ good.alone i (omega (arith, other)) t
         ];
       }
 
-  no_gate : (e : ℕ) → e < 60 → has_gate p j e ≡ false → (R : List S) → Good e R → Good (suc e) R
+  no_gate : (e : ℕ) → e < PLACES → has_gate p j e ≡ false → (R : List S) → Good e R → Good (suc e) R
   no_gate e h none R good =
       let w = either_test (is_block (cell_of p j e)) (feeds_on p j e) none in
       record {
@@ -395,7 +397,7 @@ module _ {S : Type 0} (o : Algebra S) (V : S → Type 0) (l : LatticeLaws S V o)
   ran_append [] hs R = refl
   ran_append (g ∷ gs) hs R = ran_append gs hs _
 
-  all_good : (n : ℕ) → n ≤ 60 → (R : List S) → length R ≡ 122 → get_or R 60 (o.known false) ≡ o.known true → get_or R 61 (o.known false) ≡ o.known false
+  all_good : (n : ℕ) → n ≤ PLACES → (R : List S) → length R ≡ LINKS → get_or R ON (o.known false) ≡ o.known true → get_or R OFF (o.known false) ≡ o.known false
       → Good n (ran o (diagram_of p) k now j f (gates_before p j n) R)
   unfolding gates_before ran
   all_good zero h R long on off = record { long = long; on = on; off = off; fed = λ e lt t. absurd (omega arith); alone = λ e lt t. absurd (omega arith) }
@@ -408,34 +410,34 @@ module _ {S : Type 0} (o : Algebra S) (V : S → Type 0) (l : LatticeLaws S V o)
       ]
 
   -- ---- all gates
-  second_is : (e : ℕ) → e < 60 → second o (diagram_of p) j (link o (diagram_of p) k now j f) e ≡ lower o ((diagram_of p).linked j e) (lk (e % 6 + 1) (e / 6))
+  second_is : (e : ℕ) → e < PLACES → second o (diagram_of p) j (link o (diagram_of p) k now j f) e ≡ lower o ((diagram_of p).linked j e) (lk (e % ROWS + 1) (e / ROWS))
   second_is e h = elim (cases_Bool ((diagram_of p).linked j e)) [
     | inl b ↦
-        let row : e % 6 + 1 < 6 = less_is _ _ (both_true _ _ (sym (linked_is p j e h) ∙ b)).0 in
-        let next_row : (e + 1) % 6 ≡ e % 6 + 1 = omega arith in
-        let same_column : (e + 1) / 6 ≡ e / 6 = omega arith in
+        let row : e % ROWS + 1 < ROWS = less_is _ _ (both_true _ _ (sym (linked_is p j e h) ∙ b)).0 in
+        let next_row : (e + 1) % ROWS ≡ e % ROWS + 1 = omega arith in
+        let same_column : (e + 1) / ROWS ≡ e / ROWS = omega arith in
         ap (lower o ((diagram_of p).linked j e)) (ap₂ lk next_row same_column)
     | inr b ↦ cond_false ((diagram_of p).linked j e) _ (o.known false) b ∙ sym (cond_false ((diagram_of p).linked j e) _ (o.known false) b)
   ]
 
-  pub links_are : (R : List S) → length R ≡ 122 → get_or R 60 (o.known false) ≡ o.known true → get_or R 61 (o.known false) ≡ o.known false
+  pub links_are : (R : List S) → length R ≡ LINKS → get_or R ON (o.known false) ≡ o.known true → get_or R OFF (o.known false) ≡ o.known false
       → AreLinks o p k now j f (ran o (diagram_of p) k now j f (gates_of p j) R)
   unfolding gates_of
   links_are R long on off =
-      let good = all_good 60 (omega arith) R long on off in
+      let good = all_good PLACES (omega arith) R long on off in
       record {
-        left = λ e h. left_is e h 60 (omega arith) _ good;
-        below = λ e h. below_is e h 60 (omega arith) _ good ∙ sym (second_is e h);
+        left = λ e h. left_is e h PLACES (omega arith) _ good;
+        below = λ e h. below_is e h PLACES (omega arith) _ good ∙ sym (second_is e h);
         own = λ e h block.
             good.alone e h block
-            ∙ same_place e (λ i. own o (diagram_of p) k now f (cl i) (lk (e % 6) (e / 6)) (lower o ((diagram_of p).linked j i) (lk (e % 6 + 1) (e / 6))))
+            ∙ same_place e (λ i. own o (diagram_of p) k now f (cl i) (lk (e % ROWS) (e / ROWS)) (lower o ((diagram_of p).linked j i) (lk (e % ROWS + 1) (e / ROWS))))
             ∙ cond_true (is_block (cl e)) _ _ block
-            ∙ ap (q_here o (diagram_of p) k now (cl e) (lk (e % 6) (e / 6))) (sym (second_is e h));
+            ∙ ap (q_here o (diagram_of p) k now (cl e) (lk (e % ROWS) (e / ROWS))) (sym (second_is e h));
       }
 
   -- the gates leave the rails as they are
   pub rails_stay : (R : List S) → AreRailed o R → AreRailed o (ran o (diagram_of p) k now j f (gates_of p j) R)
   unfolding gates_of
   rails_stay R rails =
-      let good = all_good 60 (omega arith) R rails.long rails.on rails.off in
+      let good = all_good PLACES (omega arith) R rails.long rails.on rails.off in
       record { long = good.long; on = good.on; off = good.off }

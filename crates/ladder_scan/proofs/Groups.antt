@@ -1,6 +1,7 @@
 -- Cells that one group joins are fed alike.
 use Rattle.std.proofs.Common.{◌≡◌, ℕ, ◌+◌, ◌-◌, ◌<◌, ◌≤◌, ◌&&◌, Bool, true, false, min, max, zero, suc, nat_le, refl, sym, ap, ap₂, ◌∙◌, arith, inl, inr}
 use Rattle.std.proofs.lemmas.Bool.{cases_lt}
+use Rattle.ladder_page.specs.declared.geometry.TheConstants.{ROWS}
 use Rattle.ladder_grid.specs.Program.{Drawing, feeds, joined, site_at, takes_power}
 
 both_true : (a b : Bool) → (a && b) ≡ true → (a ≡ true) × (b ≡ true)
@@ -83,7 +84,7 @@ module _ (p : Drawing) (j column : ℕ) where
         ]
   ]
 
-pub group : (p : Drawing) (j column row q : ℕ) → row < 6 → q < 6 → feeds p j row (column + 1) q ≡ true → (x : ℕ) → x < 6
+pub group : (p : Drawing) (j column row q : ℕ) → row < ROWS → q < ROWS → feeds p j row (column + 1) q ≡ true → (x : ℕ) → x < ROWS
     → feeds p j q (column + 1) x ≡ feeds p j row (column + 1) x
 group p j column row q r h fed x lt =
     let from = site_at p j q (column + 1 - 1) in
@@ -96,5 +97,5 @@ group p j column row q r h fed x lt =
     (joins_alike p j (column + 1) row q x c.1)
 
 -- a cell that feeds a group feeds that of its own joint
-pub fed_on : (p : Drawing) (j column row q : ℕ) → row < 6 → q < 6 → feeds p j row (column + 1) q ≡ true → feeds p j q (column + 1) q ≡ true
+pub fed_on : (p : Drawing) (j column row q : ℕ) → row < ROWS → q < ROWS → feeds p j row (column + 1) q ≡ true → feeds p j q (column + 1) q ≡ true
 fed_on p j column row q r h fed = group p j column row q r h fed q h ∙ fed

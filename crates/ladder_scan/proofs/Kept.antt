@@ -7,6 +7,7 @@ use Rattle.ladder_scan.specs.Routes.{join_all, Route, rail, block_end, through, 
 use Rattle.ladder_vars.specs.declared.kind.BlockKind.{BlockKind}
 use Rattle.ladder_vars.specs.declared.kind.BlockKind.TheVariants.{Ton}
 use Rattle.ladder_elements.specs.declared.block.Stored.{Stored}
+use Rattle.ladder_page.specs.declared.geometry.TheConstants.{ROWS}
 use Rattle.ladder_page.specs.declared.mode.Mode.{Mode}
 use Rattle.ladder_page.specs.declared.mode.Mode.TheVariants.{Plain, Negated, Rising, Falling}
 use Rattle.ladder_grid.specs.declared.cell.Operand.{Operand}
@@ -114,7 +115,7 @@ module _ {A B : Type 0} (a : Algebra A) (b : Algebra B) (R : A → B → Type 0)
   pub left_kept : (d : Diagram) (p h : Kept) (now j : ℕ) → Alike d j p h → (f : Frame A) (g : Frame B) → BothFrames R f g → (row column : ℕ) →
       R (left_link a (circuit a d p now j f) row column) (left_link b (circuit b d h now j g) row column)
   left_kept d p h now j al f g r row column =
-      left_link_kept (d.feeds j) (λ row column. is_block (d.cell j (6 * column + row))) _ _ _ _
-      (λ row column. cell_kept f g r _ _ (known_same _ _ (al (6 * column + row)).0) (d.cell j (6 * column + row)))
-      (λ row column x y u v s t. q_kept d p h now (d.cell j (6 * column + row)) (al (6 * column + row)) x _ u _ s (either (d.linked j (6 * column + row)) _ _ _ _ t (k.known false)))
+      left_link_kept (d.feeds j) (λ row column. is_block (d.cell j (ROWS * column + row))) _ _ _ _
+      (λ row column. cell_kept f g r _ _ (known_same _ _ (al (ROWS * column + row)).0) (d.cell j (ROWS * column + row)))
+      (λ row column x y u v s t. q_kept d p h now (d.cell j (ROWS * column + row)) (al (ROWS * column + row)) x _ u _ s (either (d.linked j (ROWS * column + row)) _ _ _ _ t (k.known false)))
       row column

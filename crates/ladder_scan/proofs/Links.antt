@@ -1,6 +1,7 @@
 -- The left links of a column by those of the column before, over any signal and from its laws alone.
 use Rattle.std.proofs.Common.{◌≡◌, ℕ, ◌+◌, ◌*◌, ◌/◌, ◌%◌, ◌<◌, Bool, true, false, cond, zero, suc, refl, ap, ◌∙◌, arith}
 use Rattle.ladder_vars.specs.declared.kind.BlockKind.{BlockKind}
+use Rattle.ladder_page.specs.declared.geometry.TheConstants.{ROWS}
 use Rattle.ladder_page.specs.declared.mode.Mode.{Mode}
 use Rattle.ladder_page.specs.declared.mode.Mode.TheVariants.{Plain, Negated, Rising, Falling}
 use Rattle.ladder_grid.specs.declared.cell.Operand.{Operand}
@@ -16,13 +17,13 @@ use Rattle.ladder_scan.specs.Rung.{lower, circuit, link}
 use Rattle.ladder_scan.specs.Gating.{join_where, AreValues}
 use Rattle.ladder_scan.proofs.Flow.{left_link-next}
 
-the_column : (row column : ℕ) → row < 6 → (6 * column + row) / 6 ≡ column
+the_column : (row column : ℕ) → row < ROWS → (ROWS * column + row) / ROWS ≡ column
 the_column row column h = omega arith
 
-the_row : (row column : ℕ) → row < 6 → (6 * column + row) % 6 ≡ row
+the_row : (row column : ℕ) → row < ROWS → (ROWS * column + row) % ROWS ≡ row
 the_row row column h = omega arith
 
-no_column : (e : ℕ) → e < 6 → e / 6 ≡ 0
+no_column : (e : ℕ) → e < ROWS → e / ROWS ≡ 0
 no_column e h = omega arith
 
 module _ {S : Type 0} (o : Algebra S) (V : S → Type 0) (l : LatticeLaws S V o) where
@@ -79,17 +80,17 @@ module _ {S : Type 0} (o : Algebra S) (V : S → Type 0) (l : LatticeLaws S V o)
 
   module _ (d : Diagram) (k : Kept) (now j : ℕ) (f : Frame S) (vs : AreValues o V f) where
     pub column_next : (row column : ℕ) → left_link o (circuit o d k now j f) row (suc column) ≡
-        join_where o (d.feeds j row (suc column)) (λ q. cond (is_block (d.cell j (6 * column + q)))
-        (q_here o d k now (d.cell j (6 * column + q)) (left_link o (circuit o d k now j f) q column) (lower o (d.linked j (6 * column + q)) (left_link o (circuit o d k now j f) (q + 1) column)))
-        (o.meet (left_link o (circuit o d k now j f) q column) (closed o f (o.known (memory_of k (d.cell j (6 * column + q)))) (d.cell j (6 * column + q))))) 6
+        join_where o (d.feeds j row (suc column)) (λ q. cond (is_block (d.cell j (ROWS * column + q)))
+        (q_here o d k now (d.cell j (ROWS * column + q)) (left_link o (circuit o d k now j f) q column) (lower o (d.linked j (ROWS * column + q)) (left_link o (circuit o d k now j f) (q + 1) column)))
+        (o.meet (left_link o (circuit o d k now j f) q column) (closed o f (o.known (memory_of k (d.cell j (ROWS * column + q)))) (d.cell j (ROWS * column + q))))) ROWS
     column_next row column =
         left_link-next o V l (circuit o d k now j f)
-        (λ r c. closed-value f vs _ (l.known_value _) (d.cell j (6 * c + r)))
-        (λ r c x y vx vy. q-value d k now (d.cell j (6 * c + r)) x _ vx (either_value (d.linked j (6 * c + r)) _ _ vy (l.known_value false)))
+        (λ r c. closed-value f vs _ (l.known_value _) (d.cell j (ROWS * c + r)))
+        (λ r c x y vx vy. q-value d k now (d.cell j (ROWS * c + r)) x _ vx (either_value (d.linked j (ROWS * c + r)) _ _ vy (l.known_value false)))
         row column
 
-    pub first_column : (e : ℕ) → e < 6 → link o d k now j f e ≡ o.known true
+    pub first_column : (e : ℕ) → e < ROWS → link o d k now j f e ≡ o.known true
     unfolding routes route_value join_all
     first_column e h =
-        ap (λ c. left_link o (circuit o d k now j f) (e % 6) c) (no_column e h)
+        ap (λ c. left_link o (circuit o d k now j f) (e % ROWS) c) (no_column e h)
         ∙ l.join_comm (o.known true) (o.known false) (l.known_value true) (l.known_value false) ∙ l.join_off (o.known true) (l.known_value true)

@@ -4,6 +4,7 @@ use Rattle.std.proofs.lemmas.Bool.{cases_lt}
 use Rattle.std.proofs.lemmas.Bool.Decides.{nat_tests}
 use Rattle.std.proofs.lemmas.List.{get_or_append_left, get_or-append_right}
 use Rattle.ladder_vars.specs.Decls.{is_input}
+use Rattle.ladder_page.specs.declared.geometry.TheConstants.{ROWS, PLACES}
 use Rattle.ladder_page.specs.AllPlaces.{first_places}
 use Rattle.ladder_page.proofs.PlaceLaws.{first_places-at, length-first_places, same_list}
 use Rattle.ladder_grid.specs.Program.{Drawing}
@@ -48,49 +49,49 @@ at_one_more f old now next n x i e h =
 
 -- the marks of a rung by whether it is passed over
 by_case : Diagram → ℕ → ℕ → Scanned → Bool → List Mark
-by_case d now j s b = first_places (λ place. cond b (mark_passed s.held (d.cell j place)) (mark_in d now j s.held place)) 60
+by_case d now j s b = first_places (λ place. cond b (mark_passed s.held (d.cell j place)) (mark_in d now j s.held place)) PLACES
 
 pub marks_first : (d : Diagram) (now : ℕ) (h : Held) → marks_below d now h 0 ≡ []
 unfolding marks_below
 marks_first d now h = refl
 
 pub marks_passed : (d : Diagram) (now : ℕ) (h : Held) (j : ℕ) → j < (scanned d now h j).resume
-    → marks_below d now h (j + 1) ≡ marks_below d now h j ++ first_places (λ place. mark_passed (scanned d now h j).held (d.cell j place)) 60
+    → marks_below d now h (j + 1) ≡ marks_below d now h j ++ first_places (λ place. mark_passed (scanned d now h j).held (d.cell j place)) PLACES
 unfolding marks_below by_case
 marks_passed d now h j lt =
     ap (marks_below d now h) (add-one j)
     ∙ ap (λ b. marks_below d now h j ++ by_case d now j (scanned d now h j) b) (is_less j _ lt)
 
 pub marks_seen : (d : Diagram) (now : ℕ) (h : Held) (j : ℕ) → (scanned d now h j).resume ≤ j
-    → marks_below d now h (j + 1) ≡ marks_below d now h j ++ first_places (mark_in d now j (scanned d now h j).held) 60
+    → marks_below d now h (j + 1) ≡ marks_below d now h j ++ first_places (mark_in d now j (scanned d now h j).held) PLACES
 unfolding marks_below by_case
 marks_seen d now h j le =
     ap (marks_below d now h) (add-one j)
     ∙ ap (λ b. marks_below d now h j ++ by_case d now j (scanned d now h j) b) (is_not_less j _ le)
 
-marks_length : (d : Diagram) (now : ℕ) (h : Held) (n : ℕ) → length (marks_below d now h n) ≡ 60 * n
+marks_length : (d : Diagram) (now : ℕ) (h : Held) (n : ℕ) → length (marks_below d now h n) ≡ PLACES * n
 unfolding marks_below
 marks_length d now h zero = refl
 marks_length d now h (suc n) =
     let f = mark_of d now n (scanned d now h n) in
-    omega (arith, marks_length d now h n, length-append {A = Mark} (marks_below d now h n) (first_places f 60), length-first_places f 60)
+    omega (arith, marks_length d now h n, length-append {A = Mark} (marks_below d now h n) (first_places f PLACES), length-first_places f PLACES)
 
-marks_there : (d : Diagram) (now : ℕ) (h : Held) (n j p : ℕ) (z : Mark) → j < n → p < 60
-    → get_or (marks_below d now h n) (60 * j + p) z ≡ mark_of d now j (scanned d now h j) p
+marks_there : (d : Diagram) (now : ℕ) (h : Held) (n j p : ℕ) (z : Mark) → j < n → p < PLACES
+    → get_or (marks_below d now h n) (PLACES * j + p) z ≡ mark_of d now j (scanned d now h j) p
 unfolding marks_below
 marks_there d now h zero j p z below place = absurd (omega arith)
 marks_there d now h (suc n) j p z below place =
     let f = mark_of d now n (scanned d now h n) in
     elim (cases_lt j n) [
       | inl before ↦
-          get_or_append_left (marks_below d now h n) (first_places f 60) z (60 * j + p) (omega (arith, before, place, marks_length d now h n))
+          get_or_append_left (marks_below d now h n) (first_places f PLACES) z (PLACES * j + p) (omega (arith, before, place, marks_length d now h n))
           ∙ marks_there d now h n j p z before place
       | inr past ↦
           let here : n ≡ j = omega arith in
-          let back : 60 * j + p - 60 * n ≡ p = omega (arith, here) in
-          get_or-append_right (marks_below d now h n) (first_places f 60) (60 * n) (60 * j + p) z (marks_length d now h n) (omega (arith, here))
-          ∙ ap (λ i. get_or (first_places f 60) i z) back
-          ∙ first_places-at f 60 p z place
+          let back : PLACES * j + p - PLACES * n ≡ p = omega (arith, here) in
+          get_or-append_right (marks_below d now h n) (first_places f PLACES) (PLACES * n) (PLACES * j + p) z (marks_length d now h n) (omega (arith, here))
+          ∙ ap (λ i. get_or (first_places f PLACES) i z) back
+          ∙ first_places-at f PLACES p z place
           ∙ ap (λ k. mark_of d now k (scanned d now h k) p) here
     ]
 
@@ -250,6 +251,6 @@ pub one_sight : (d : Diagram) → Forward d → OneSight d
 one_sight d forward = λ now inputs h a b p q.
     let first : Held = record { values = given d.inputs inputs h.values; kept = h.kept } in
     same_list (record { evaluated = false; left = false; right = false; on = false }) d.rungs a b p.as_many q.as_many (λ k r c below rows columns.
-    let within : 6 * c + r < 60 = omega (arith, rows, columns) in
-    told d forward now first k (6 * c + r) _ (p.each k (6 * c + r) below within)
-    ∙ sym (told d forward now first k (6 * c + r) _ (q.each k (6 * c + r) below within)))
+    let within : ROWS * c + r < PLACES = omega (arith, rows, columns) in
+    told d forward now first k (ROWS * c + r) _ (p.each k (ROWS * c + r) below within)
+    ∙ sym (told d forward now first k (ROWS * c + r) _ (q.each k (ROWS * c + r) below within)))

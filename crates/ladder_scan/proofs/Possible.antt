@@ -5,6 +5,7 @@ use Rattle.std.specs.Int.{w16}
 use Rattle.std.proofs.lemmas.Int.{ints}
 use Rattle.std.proofs.lemmas.Bool.Decides.{nat_tests}
 use Rattle.std.proofs.lemmas.List.{length-map}
+use Rattle.ladder_page.specs.declared.geometry.TheConstants.{PLACES}
 use Rattle.ladder_vars.specs.declared.kind.BlockKind.{BlockKind}
 use Rattle.ladder_vars.specs.declared.kind.BlockKind.TheVariants.{Ton, Tof, Tp, Ctu, Ctd, Sr, Rs}
 use Rattle.ladder_vars.specs.declared.decls.Instance.{Instance}
@@ -293,11 +294,11 @@ next d now n s = record { held = evaluated d now n s.held; resume = next_rung d 
 
 either_possible : (d : Diagram) → IsSound d → (now n : ℕ) (s : Scanned) (b : Bool) → ArePossible now s.held.kept.blocks → ArePossible now (cond b s (next d now n s)).held.kept.blocks
 either_possible d w now n s true t = t
-either_possible d w now n s false t = changes_possible d w now n (frame_of s.held) (link_at d now n s.held) 60 s.held t
+either_possible d w now n s false t = changes_possible d w now n (frame_of s.held) (link_at d now n s.held) PLACES s.held t
 
 either_shapes : (d : Diagram) (now n : ℕ) (s : Scanned) (b : Bool) → map shape (cond b s (next d now n s)).held.kept.blocks ≡ map shape s.held.kept.blocks
 either_shapes d now n s true = refl
-either_shapes d now n s false = changes_shapes d now n (frame_of s.held) (link_at d now n s.held) 60 s.held
+either_shapes d now n s false = changes_shapes d now n (frame_of s.held) (link_at d now n s.held) PLACES s.held
 
 pub scanned_possible : (d : Diagram) → IsSound d → (now : ℕ) (h : Held) → ArePossible now h.kept.blocks → (n : ℕ) → ArePossible now (scanned d now h n).held.kept.blocks
 unfolding scanned

@@ -1,6 +1,7 @@
 -- A scan keeps the numbers of variables, memories and instances.
 use Rattle.std.proofs.Common.{length, ◌≡◌, ℕ, Bool, true, false, cond, List, [], ◌∷◌, zero, suc, nat_lt, subst, sym, ap, ◌∙◌, refl, Option, Some, None}
 use Rattle.std.proofs.lemmas.List.{length-map, length-set}
+use Rattle.ladder_page.specs.declared.geometry.TheConstants.{PLACES}
 use Rattle.ladder_grid.specs.Program.{block_in, memory_in}
 use Rattle.ladder_elements.specs.Truth.{plain}
 use Rattle.ladder_elements.specs.Blocks.{q_of}
@@ -37,7 +38,7 @@ size_changes d now j start links (suc n) h =
 -- what contacts saw has the sizes of what the rung leaves
 pub rung_sizes : (d : Diagram) (now j : ℕ) (h next : Held) (start : Frame Bool) → start ≡ frame_of h → next ≡ evaluated d now j h → SameSizes start next
 rung_sizes d now j h next start s e =
-    let t = size_changes d now j (frame_of h) (link_at d now j h) 60 h in
+    let t = size_changes d now j (frame_of h) (link_at d now j h) PLACES h in
     record {
       values = ap (λ (f : Frame Bool). length f.values) s ∙ sym (ap (λ (x : Held). length x.values) e ∙ t.values);
       ends =
@@ -54,7 +55,7 @@ sizes_same e n s = record {
 
 size_either : (d : Diagram) (now n : ℕ) (s : Scanned) (b : Bool) → SameLengths (cond b s (record { held = evaluated d now n s.held; resume = next_rung d now n s.held })).held s.held
 size_either d now n s true = record { values = refl; memories = refl; blocks = refl }
-size_either d now n s false = size_changes d now n (frame_of s.held) (link_at d now n s.held) 60 s.held
+size_either d now n s false = size_changes d now n (frame_of s.held) (link_at d now n s.held) PLACES s.held
 
 size_then : {f g h : Held} → SameLengths f g → SameLengths g h → SameLengths f h
 size_then a b = record { values = a.values ∙ b.values; memories = a.memories ∙ b.memories; blocks = a.blocks ∙ b.blocks }

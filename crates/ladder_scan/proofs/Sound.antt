@@ -9,6 +9,7 @@ use Rattle.ladder_vars.specs.declared.decls.Instance.{Instance}
 use Rattle.ladder_vars.specs.Decls.{AreInRange}
 use Rattle.ladder_vars.specs.Kind.{largest_preset}
 use Rattle.std.proofs.lemmas.Option.{get_or_from_slice_get, slice_get_within}
+use Rattle.ladder_page.specs.declared.geometry.TheConstants.{ROWS, COLUMNS, PLACES}
 use Rattle.ladder_grid.specs.declared.cell.Cell.{Cell}
 use Rattle.ladder_grid.specs.declared.cell.Cell.TheVariants.{Empty, Wire, Contact, Coil, Block, Lower, Jump, Return}
 use Rattle.ladder_grid.specs.Program.{Drawing, cell_of, goes_to, jump_before, jump_of, memory_in, block_in, IsWellFormed, is_linked}
@@ -28,36 +29,36 @@ none_some : {A : Type 0} {x : A} → None ≡ Some x → ⊥
 none_some h = cc
 
 -- ---- a cell that has a memory or an instance stands within its rung
-within : (e : ℕ) → nat_lt e 60 ≡ true → e < 60
+within : (e : ℕ) → nat_lt e PLACES ≡ true → e < PLACES
 within e h = grind (arith, nat_tests)
 
 -- what holds of a place where something stands
-memory_here : (p : Drawing) (j e i : ℕ) (b : Bool) → nat_lt e 60 ≡ b → memory_in (cond b (cell_of p j e) Empty) ≡ Some i → (e < 60) × (memory_in (cell_of p j e) ≡ Some i)
+memory_here : (p : Drawing) (j e i : ℕ) (b : Bool) → nat_lt e PLACES ≡ b → memory_in (cond b (cell_of p j e) Empty) ≡ Some i → (e < PLACES) × (memory_in (cell_of p j e) ≡ Some i)
 memory_here p j e i true t h = (within e t, h)
 memory_here p j e i false t h = absurd (none_some h)
 
-block_here : (p : Drawing) (j e i : ℕ) (b : Bool) → nat_lt e 60 ≡ b → block_in (cond b (cell_of p j e) Empty) ≡ Some i → (e < 60) × (block_in (cell_of p j e) ≡ Some i)
+block_here : (p : Drawing) (j e i : ℕ) (b : Bool) → nat_lt e PLACES ≡ b → block_in (cond b (cell_of p j e) Empty) ≡ Some i → (e < PLACES) × (block_in (cell_of p j e) ≡ Some i)
 block_here p j e i true t h = (within e t, h)
 block_here p j e i false t h = absurd (none_some h)
 
-same_rung : (j e h g : ℕ) → e < 60 → g < 60 → 60 * j + e ≡ 60 * h + g → (j ≡ h) × (e ≡ g)
+same_rung : (j e h g : ℕ) → e < PLACES → g < PLACES → PLACES * j + e ≡ PLACES * h + g → (j ≡ h) × (e ≡ g)
 same_rung j e h g e60 g60 s = (omega arith, omega arith)
 
 once : (p : Drawing) → IsWellFormed p → Once (diagram_of p)
 unfolding diagram_of
 once p w = record {
   memory = λ i j e h g a b.
-      let x : (e < 60) × (memory_in (cell_of p j e) ≡ Some i) = memory_here p j e i (nat_lt e 60) refl a in
-      let y : (g < 60) × (memory_in (cell_of p h g) ≡ Some i) = memory_here p h g i (nat_lt g 60) refl b in
-      same_rung j e h g x.0 y.0 (w.one_memory i (60 * j + e) (60 * h + g) x.1 y.1);
+      let x : (e < PLACES) × (memory_in (cell_of p j e) ≡ Some i) = memory_here p j e i (nat_lt e PLACES) refl a in
+      let y : (g < PLACES) × (memory_in (cell_of p h g) ≡ Some i) = memory_here p h g i (nat_lt g PLACES) refl b in
+      same_rung j e h g x.0 y.0 (w.one_memory i (PLACES * j + e) (PLACES * h + g) x.1 y.1);
   block = λ i j e h g a b.
-      let x : (e < 60) × (block_in (cell_of p j e) ≡ Some i) = block_here p j e i (nat_lt e 60) refl a in
-      let y : (g < 60) × (block_in (cell_of p h g) ≡ Some i) = block_here p h g i (nat_lt g 60) refl b in
-      same_rung j e h g x.0 y.0 (w.one_block i (60 * j + e) (60 * h + g) x.1 y.1);
+      let x : (e < PLACES) × (block_in (cell_of p j e) ≡ Some i) = block_here p j e i (nat_lt e PLACES) refl a in
+      let y : (g < PLACES) × (block_in (cell_of p h g) ≡ Some i) = block_here p h g i (nat_lt g PLACES) refl b in
+      same_rung j e h g x.0 y.0 (w.one_block i (PLACES * j + e) (PLACES * h + g) x.1 y.1);
 }
 
 -- ---- linked lower cells
-row_is : (e : ℕ) → nat_lt (e % 6 + 1) 6 ≡ true → e % 6 + 1 < 6
+row_is : (e : ℕ) → nat_lt (e % ROWS + 1) ROWS ≡ true → e % ROWS + 1 < ROWS
 row_is e h = grind (arith, nat_tests)
 
 linked_filled : (c : Cell) → is_linked c ≡ true → is_filled c ≡ true
@@ -70,9 +71,9 @@ linked_filled (Lower inst linked) h = refl
 linked_filled (Jump target) h = refl
 linked_filled Return h = refl
 
-linked : (p : Drawing) (j e : ℕ) → (nat_lt (e % 6 + 1) 6 && is_linked (cell_at p j (e + 1))) ≡ true → (e % 6 + 1 < 6) × (is_filled (cell_at p j (e + 1)) ≡ true)
+linked : (p : Drawing) (j e : ℕ) → (nat_lt (e % ROWS + 1) ROWS && is_linked (cell_at p j (e + 1))) ≡ true → (e % ROWS + 1 < ROWS) × (is_filled (cell_at p j (e + 1)) ≡ true)
 linked p j e h =
-    let w : (nat_lt (e % 6 + 1) 6 ≡ true) × (is_linked (cell_at p j (e + 1)) ≡ true) = both_true _ _ h in
+    let w : (nat_lt (e % ROWS + 1) ROWS ≡ true) × (is_linked (cell_at p j (e + 1)) ≡ true) = both_true _ _ h in
     (row_is e w.0, linked_filled (cell_at p j (e + 1)) w.1)
 
 -- ---- jumps
@@ -82,14 +83,14 @@ placed jump = option_map (λ j. (place_at j.0 j.1, j.2)) jump
 
 -- what a cell that leads to this target puts in place of another jump
 abbrev jump_in : Option ℕ → ℕ → Option (ℕ × ℕ × ℕ) → Option (ℕ × ℕ × ℕ)
-jump_in target at other = option_or (option_map (λ t. (at % 6, at / 6, t)) target) other
+jump_in target at other = option_or (option_map (λ t. (at % ROWS, at / ROWS, t)) target) other
 
 -- the jump, if any, is at a place below n whose cell leads to its target
 abbrev LeadsAt : Drawing → ℕ → ℕ → Option (ℕ × ℕ) → Type 0
 LeadsAt p j n None = Unit {0}
 LeadsAt p j n (Some (place, target)) = (place < n) × (goes_to p.rungs (cell_of p j place) ≡ Some target)
 
-place_is : (e : ℕ) → 6 * (e / 6) + e % 6 ≡ e
+place_is : (e : ℕ) → ROWS * (e / ROWS) + e % ROWS ≡ e
 place_is e = omega arith
 
 later_jump : (p : Drawing) (j n : ℕ) (found : Option (ℕ × ℕ)) → LeadsAt p j n found → LeadsAt p j (suc n) found
@@ -107,27 +108,27 @@ jump_found p j zero = tt
 jump_found p j (suc n) = jump_more p j n (goes_to p.rungs (cell_of p j n)) (jump_before p j n) refl (jump_found p j n)
 
 jump_at : (p : Drawing) (j place target : ℕ) → (diagram_of p).jump j ≡ Some (place, target)
-    → (place < 60) × (goes_to p.rungs (cell_of p j place) ≡ Some target)
+    → (place < PLACES) × (goes_to p.rungs (cell_of p j place) ≡ Some target)
 unfolding diagram_of jump_of
-jump_at p j place target e = subst (λ (x : Option (ℕ × ℕ)). LeadsAt p j 60 x) e (jump_found p j 60)
+jump_at p j place target e = subst (λ (x : Option (ℕ × ℕ)). LeadsAt p j PLACES x) e (jump_found p j PLACES)
 
 abbrev IsSmall : Option (ℕ × ℕ × ℕ) → Type 0
 IsSmall None = Unit {0}
-IsSmall (Some t) = (t.0 < 6) × (t.1 < 10)
+IsSmall (Some t) = (t.0 < ROWS) × (t.1 < COLUMNS)
 
-small_more : (n : ℕ) → n < 60 → (goal : Option ℕ) (found : Option (ℕ × ℕ × ℕ)) → IsSmall found → IsSmall (jump_in goal n found)
+small_more : (n : ℕ) → n < PLACES → (goal : Option ℕ) (found : Option (ℕ × ℕ × ℕ)) → IsSmall found → IsSmall (jump_in goal n found)
 small_more n h None found s = s
 small_more n h (Some target) found s = (omega arith, omega arith)
 
-jump_small : (p : Drawing) (j n : ℕ) → n ≤ 60 → IsSmall (jump_before p j n)
+jump_small : (p : Drawing) (j n : ℕ) → n ≤ PLACES → IsSmall (jump_before p j n)
 unfolding jump_before
 jump_small p j zero h = tt
 jump_small p j (suc n) h = small_more n (omega arith) (goes_to p.rungs (cell_of p j n)) (jump_before p j n) (jump_small p j n (omega arith))
 
 -- the row and the column of a jump
-pub jump_place : (p : Drawing) (j row column target : ℕ) → jump_of p j ≡ Some (row, column, target) → (row < 6) × (column < 10)
+pub jump_place : (p : Drawing) (j row column target : ℕ) → jump_of p j ≡ Some (row, column, target) → (row < ROWS) × (column < COLUMNS)
 unfolding jump_of
-jump_place p j row column target e = subst (λ (x : Option (ℕ × ℕ × ℕ)). IsSmall x) e (jump_small p j 60 (omega arith))
+jump_place p j row column target e = subst (λ (x : Option (ℕ × ℕ × ℕ)). IsSmall x) e (jump_small p j PLACES (omega arith))
 
 forward : (p : Drawing) → IsWellFormed p → Forward (diagram_of p)
 forward p w j place target e =
@@ -145,7 +146,7 @@ leads_filled rungs target (Jump to) h = refl
 leads_filled rungs target Return h = refl
 
 jumps : (p : Drawing) (j place target : ℕ) → (diagram_of p).jump j ≡ Some (place, target)
-    → (place < 60) × (is_filled ((diagram_of p).cell j place) ≡ true)
+    → (place < PLACES) × (is_filled ((diagram_of p).cell j place) ≡ true)
 unfolding diagram_of
 jumps p j place target e =
     let at = jump_at p j place target e in

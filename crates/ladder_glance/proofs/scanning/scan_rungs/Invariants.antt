@@ -1,4 +1,5 @@
 use Rattle.std.proofs.Common.{◌≡◌, length, take}
+use Rattle.ladder_grid.specs.declared.gates.TheConstants.{LINKS}
 use Rattle.ladder_scan.specs.Programs.{diagram_of}
 use Rattle.ladder_known.specs.KnownScan.{passed}
 use Rattle.ladder_glance.specs.Sizes.{AreAsLong, AreRoomy}
@@ -13,5 +14,5 @@ invariant-loop-rung g l =
       rungs : length l.taken ≡ l.program.rungs;
       start : AreRoomy l.start l.known;
       lengths : AreAsLong l.known l.fn.known;
-      links : length l.links ≡ 122;
+      links : length l.links ≡ LINKS;
     }

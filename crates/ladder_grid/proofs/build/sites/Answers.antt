@@ -1,6 +1,7 @@
 use Rattle.std.proofs.Common.{◌≡◌, ℕ, suc, ◌+◌, ◌/◌, ◌%◌, ap, sym, ◌∙◌, arith, add-one, refl, if◌then◌else◌}
 use Rattle.ladder_grid.specs.declared.cell.Cell.{Cell}
 use Rattle.ladder_grid.specs.declared.site.Site.{Site}
+use Rattle.ladder_page.specs.declared.geometry.TheConstants.{ROWS, PLACES}
 use Rattle.ladder_page.specs.Page.{Page}
 use Rattle.ladder_grid.specs.Program.{has_memory}
 use Rattle.ladder_page.specs.Geometry.{place}
@@ -21,14 +22,14 @@ site_with page cell k r c = record (site_drawn page k r c) { cell = cell }
 site_is : (page : Page) (n next : ℕ) (cell : Cell) → next ≡ memories_before page n → cell ≡ at_place (cell_drawn page next) n
     → at_place (site_with page cell) n ≡ at_place (site_drawn page) n
 site_is page n next cell number is =
-    let here : place (n / 60) (n % 60 % 6) (n % 60 / 6) ≡ n = omega arith in
+    let here : place (n / PLACES) (n % PLACES % ROWS) (n % PLACES / ROWS) ≡ n = omega arith in
     ap (λ c. at_place (site_with page c) n) (is ∙ ap (λ m. at_place (cell_drawn page m) n) (number ∙ ap (memories_before page) (sym here)))
 
 next_is : (page : Page) (n next after : ℕ) (cell : Cell) → next ≡ memories_before page n → cell ≡ at_place (cell_drawn page next) n
     → after ≡ (if has_memory cell then next + 1 else next) → after ≡ memories_before page (n + 1)
 unfolding memories_before
 next_is page n next after cell number is value =
-    let test : has_memory cell ≡ has_memory (at_place (cell_drawn page 0) n) = ap has_memory is ∙ drawn_test page next (n / 60) (n % 60 % 6) (n % 60 / 6) in
+    let test : has_memory cell ≡ has_memory (at_place (cell_drawn page 0) n) = ap has_memory is ∙ drawn_test page next (n / PLACES) (n % PLACES % ROWS) (n % PLACES / ROWS) in
     let same : (if has_memory cell then next + 1 else next) ≡ memories_before page (suc n) = rw (test, number) refl in
     value ∙ same ∙ ap (memories_before page) (sym (add-one n))
 

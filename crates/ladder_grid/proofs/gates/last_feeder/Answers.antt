@@ -1,10 +1,12 @@
 use Rattle.std.proofs.Common.{◌≡◌, ℕ, ◌+◌, ◌-◌, ◌*◌, Bool, add-one, refl, ◌∙◌, if◌then◌else◌}
+use Rattle.ladder_page.specs.declared.geometry.TheConstants.{ROWS}
+use Rattle.ladder_grid.specs.declared.gates.TheConstants.{OFF}
 use Rattle.ladder_grid.specs.Program.{feeds}
 use Rattle.ladder_grid.specs.Gates.{last_of}
 use Rattle.ladder_grid.specs.Sheet.{drawing_of}
 use Rattle.ladder_grid.proofs.gates.last_feeder.Goals as goal
 
-none_yet : (f : ℕ → Bool) (base : ℕ) → 61 ≡ last_of f base 0
+none_yet : (f : ℕ → Bool) (base : ℕ) → OFF ≡ last_of f base 0
 unfolding last_of
 none_yet f base = refl
 
@@ -17,5 +19,5 @@ loop-from-init c = none_yet _ _
 
 pub loop-from-preserved : goal.loop-from-preserved
 loop-from-preserved c =
-    one_more (feeds (drawing_of c.args.sheet) c.args.rung c.args.row c.args.column) (6 * (c.args.column - 1)) c.loop-from.from c.loop-from.last _ _
+    one_more (feeds (drawing_of c.args.sheet) c.args.rung c.args.row c.args.column) (ROWS * (c.args.column - 1)) c.loop-from.from c.loop-from.last _ _
     c.loop-from.invariant c.feeds.ensures c.later-last.ensures

@@ -1,4 +1,5 @@
 use Rattle.std.proofs.Common.{◌≡◌, refl, subst, arith}
+use Rattle.ladder_page.specs.declared.geometry.TheConstants.{PLACES}
 use Rattle.ladder_power.specs.Ends.{AreAnswers, is_ended, of_rung}
 use Rattle.ladder_power.proofs.RouteEnds.{answers_none, answers_more}
 use Rattle.ladder_power.proofs.ends.ended_places.Goals as goal
@@ -12,5 +13,5 @@ loop-at-preserved c =
 
 pub returns : goal.returns
 returns c =
-    let at_end : c.loop-at.at ≡ 60 = omega (arith, c.loop-at-test.false, c.loop-at.auto.at-end) in
+    let at_end : c.loop-at.at ≡ PLACES = omega (arith, c.loop-at-test.false, c.loop-at.auto.at-end) in
     subst (λ n. AreAnswers (of_rung (is_ended c.args.end) c.args.rung) c.args.rung.program.now c.args.rung.number n c.loop-at.ended) at_end c.loop-at.invariant

@@ -1,4 +1,5 @@
 use Rattle.std.proofs.Common.{◌++◌, ◌%◌, ◌/◌, [], refl, ap, sym}
+use Rattle.ladder_page.specs.declared.geometry.TheConstants.{ROWS}
 use Rattle.ladder_text.proofs.Sending.{sends_prefix, sends_last, sends_none, sends_err}
 use Rattle.ladder_scan.specs.declared.seen.Mark.{Mark}
 use Rattle.ladder_power.specs.Show.{mark_in}
@@ -9,7 +10,7 @@ pub returns-in_err-add_coil_head : goal.returns-in_err-add_coil_head
 returns-in_err-add_coil_head g c = sends_err _ _ _ _ _ _ c.from_residual.ensures.0
     (let x = c.args.rung in
     let head = coil_head x.program.now c.args.var x.number c.args.at in
-    let notes = power_notes x.program.now x.marks.now x.number c.args.at (mark_in x.marks.now x.number (c.args.at % 6) (c.args.at / 6)) in
+    let notes = power_notes x.program.now x.marks.now x.number c.args.at (mark_in x.marks.now x.number (c.args.at % ROWS) (c.args.at / ROWS)) in
     sends_prefix _ _ _ c.args.block.now c.args.block.now (head ++ notes) [] head notes refl (sends_none _ c.args.block.now) c.in_err-add_coil_head.ensures)
 
 pub returns : goal.returns
@@ -17,5 +18,5 @@ returns g c =
     let x = c.args.rung in
     let head = coil_head x.program.now c.args.var x.number c.args.at in
     let notes = λ (m : Mark). power_notes x.program.now x.marks.now x.number c.args.at m in
-    sends_last _ _ _ _ _ _ (head ++ notes (mark_in x.marks.now x.number (c.args.at % 6) (c.args.at / 6))) head (notes c.mark_in-mark.result) _
+    sends_last _ _ _ _ _ _ (head ++ notes (mark_in x.marks.now x.number (c.args.at % ROWS) (c.args.at / ROWS))) head (notes c.mark_in-mark.result) _
     (ap (λ m. head ++ notes m) (sym c.mark_in-mark.ensures)) c.in_ok-add_coil_head.ensures c.add_power_notes.ensures
