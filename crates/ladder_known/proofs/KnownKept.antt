@@ -1,5 +1,6 @@
 -- The scan over what is known keeps the relations that its operations and steps keep.
 use Rattle.std.proofs.Common.{ℕ, ◌+◌, ◌*◌, ◌/◌, ◌%◌, false, List, [], ◌∷◌, map, set, zero, suc}
+use Rattle.ladder_page.specs.declared.geometry.TheConstants.{ROWS, PLACES}
 use Rattle.ladder_elements.specs.Algebra.{Algebra}
 use Rattle.ladder_elements.specs.Relations.{IsKept, Both}
 use Rattle.ladder_vars.specs.declared.kind.BlockKind.TheVariants.{Ton}
@@ -57,11 +58,11 @@ module _ {S T B C : Type 0} (a : Algebra S) (b : Algebra T) (v : Keeping S B) (w
 
   link_both : (j : ℕ) (k : Known S B) (l : Known T C) → BothKnown R Q k l → (e : ℕ) → R (link_in a v d now j k e) (link_in b w d then j l e)
   link_both j k l h e =
-      left_link_kept a b R o (d.feeds j) (λ row column. is_block (d.cell j (6 * column + row))) _ _ _ _
+      left_link_kept a b R o (d.feeds j) (λ row column. is_block (d.cell j (ROWS * column + row))) _ _ _ _
       (λ row column. cell_kept a b R o (frame_in v k) (frame_in w l) (frames_both k l h) _ _
-      (at_kept a b R o k.memories l.memories h.memories (memory_in (d.cell j (6 * column + row)))) (d.cell j (6 * column + row)))
-      (λ row column x y s t e f. q_both k l h (d.cell j (6 * column + row)) x _ s _ e (either a b R o (d.linked j (6 * column + row)) _ _ _ _ f (o.known false)))
-      (e % 6) (e / 6)
+      (at_kept a b R o k.memories l.memories h.memories (memory_in (d.cell j (ROWS * column + row)))) (d.cell j (ROWS * column + row)))
+      (λ row column x y s t e f. q_both k l h (d.cell j (ROWS * column + row)) x _ s _ e (either a b R o (d.linked j (ROWS * column + row)) _ _ _ _ f (o.known false)))
+      (e % ROWS) (e / ROWS)
 
   changed_both : (f : Frame S) (g : Frame T) → BothFrames R f g → (m : S) (n : T) → R m n → (c : Cell) (x y : S) (s t : T) → R x s → R y t
       → (k : Known S B) (l : Known T C) → BothKnown R Q k l → BothKnown R Q (changed_in a v d now f m c x y k) (changed_in b w d then g n c s t l)
@@ -108,7 +109,7 @@ module _ {S T B C : Type 0} (a : Algebra S) (b : Algebra T) (v : Keeping S B) (w
       let e = passed_both k l h n in
       let guard = guard_kept a b R o d _ _ e.1 n in
       let links = link_both n _ _ e.0 in (
-        changes_both n _ _ (frames_both _ _ e.0) _ _ guard _ _ links 60 _ _ e.0,
+        changes_both n _ _ (frames_both _ _ e.0) _ _ guard _ _ links PLACES _ _ e.0,
         push_both R _ _ e.1 _ _ (taken_kept a b R o (d.jump n) _ _ guard _ _ links),
       )
 

@@ -2,6 +2,7 @@
 use Rattle.std.proofs.Common.{◌≡◌, ℕ, ◌+◌, ◌*◌, ◌≤◌, ◌/◌, ◌%◌, Bool, true, false, not, cond, List, ◌&&◌, get_or, length, zero, suc, nat_lt, refl, sym, ap, ap₂, ◌∙◌, arith}
 use Rattle.std.proofs.lemmas.List.{length-append, set-get_or}
 use Rattle.std.proofs.lemmas.Bool.Decides.{nat_tests}
+use Rattle.ladder_page.specs.declared.geometry.TheConstants.{ROWS, PLACES}
 use Rattle.ladder_elements.specs.Truth.{plain}
 use Rattle.ladder_elements.specs.declared.block.Stored.{Stored}
 use Rattle.ladder_vars.specs.declared.kind.BlockKind.{BlockKind}
@@ -49,10 +50,10 @@ q_same d now h Return x y s t e f = refl
 
 link_same : (d : Diagram) (now j : ℕ) (h : Held) (e : ℕ) → link_in plain plainly d now j (known_of h) e ≡ link_at d now j h e
 link_same d now j h e =
-    left_link_kept plain plain (λ x y. x ≡ y) (same_kept plain) (d.feeds j) (λ row column. is_block (d.cell j (6 * column + row))) _ _ _ _
+    left_link_kept plain plain (λ x y. x ≡ y) (same_kept plain) (d.feeds j) (λ row column. is_block (d.cell j (ROWS * column + row))) _ _ _ _
     (λ row column. refl)
-    (λ row column x y s t p q. q_same d now h (d.cell j (6 * column + row)) x _ s _ p (ap (lower plain (d.linked j (6 * column + row))) q))
-    (e % 6) (e / 6)
+    (λ row column x y s t p q. q_same d now h (d.cell j (ROWS * column + row)) x _ s _ p (ap (lower plain (d.linked j (ROWS * column + row))) q))
+    (e % ROWS) (e / ROWS)
 
 -- ---- one cell
 changed_on : (d : Diagram) (now : ℕ) (start : Frame Bool) (c : Cell) (x y : Bool) (h : Held)
@@ -102,8 +103,8 @@ changes_off d now j start links (suc n) k =
 -- the rung evaluated, or passed over
 next_known : (d : Diagram) (now n : ℕ) (s : Scanned) (b : Bool)
     → evaluated_in plain plainly d now n (not b) (known_of s.held) ≡ known_of (cond b s (record { held = evaluated d now n s.held; resume = next_rung d now n s.held })).held
-next_known d now n s true = changes_off d now n (frame_of s.held) (link_in plain plainly d now n (known_of s.held)) 60 (known_of s.held)
-next_known d now n s false = changes_on d now n (frame_of s.held) (link_in plain plainly d now n (known_of s.held)) (link_at d now n s.held) (link_same d now n s.held) 60 s.held
+next_known d now n s true = changes_off d now n (frame_of s.held) (link_in plain plainly d now n (known_of s.held)) PLACES (known_of s.held)
+next_known d now n s false = changes_on d now n (frame_of s.held) (link_in plain plainly d now n (known_of s.held)) (link_at d now n s.held) (link_same d now n s.held) PLACES s.held
 
 -- ---- all rungs
 length_passed : (d : Diagram) (now : ℕ) (k : Known Bool Stored) (n : ℕ) → length (passed plain plainly d now k n).taken ≡ n

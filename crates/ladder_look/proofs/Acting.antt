@@ -2,6 +2,7 @@
 use Rattle.std.proofs.Common.{◌≡◌, ℕ, ◌+◌, ◌<◌, ◌≤◌, true, false, List, [], ◌∷◌, ◌++◌, set, get_or, zero, suc, refl, sym, ap, subst, ◌∙◌, arith, All, inl, inr}
 use Rattle.std.proofs.lemmas.Bool.{cases_Bool}
 use Rattle.std.proofs.lemmas.List.Elements.{All-append, All-nil}
+use Rattle.ladder_page.specs.declared.geometry.TheConstants.{PLACES}
 use Rattle.ladder_grid.specs.declared.cell.Cell.{Cell}
 use Rattle.ladder_grid.specs.declared.cell.Cell.TheVariants.{Empty, Wire, Contact, Coil, Block, Lower, Jump, Return}
 use Rattle.ladder_grid.specs.declared.gates.Action.{Action}
@@ -21,7 +22,7 @@ use Rattle.ladder_scan.proofs.Acting.{cond_true, cond_false, all_one}
 abbrev pub HasCell : Drawing → ℕ → Action → Type 0
 HasCell p j a = (diagram_of p).cell j a.place ≡ a.cell
 
-cells_before : (p : Drawing) (j n : ℕ) → n ≤ 60 → All (HasCell p j) (actions_before p j n)
+cells_before : (p : Drawing) (j n : ℕ) → n ≤ PLACES → All (HasCell p j) (actions_before p j n)
 unfolding actions_before
 cells_before p j zero h = All-nil _
 cells_before p j (suc n) h = elim (cases_Bool (acts (cell_of p j n))) [
@@ -32,7 +33,7 @@ cells_before p j (suc n) h = elim (cases_Bool (acts (cell_of p j n))) [
 
 pub action_cells : (p : Drawing) (j : ℕ) → All (HasCell p j) (actions_of p j)
 unfolding actions_of
-action_cells p j = cells_before p j 60 (omega arith)
+action_cells p j = cells_before p j PLACES (omega arith)
 
 module _ {S : Type 0} (o : Algebra S) (p : Drawing) (k : Kept) (now j : ℕ) (guard : S) where
   -- a cell that does not act writes nothing
@@ -71,12 +72,12 @@ module _ {S : Type 0} (o : Algebra S) (p : Drawing) (k : Kept) (now j : ℕ) (gu
     abbrev lk : ℕ → S
     lk = link o (diagram_of p) k now j f
 
-    action_is : (e : ℕ) → e < 60 → (g : Frame S) → acted o k guard R (action_at p j e) g ≡ written o (diagram_of p) k now guard ((diagram_of p).cell j e) (lk e) (second o (diagram_of p) j lk e) g
+    action_is : (e : ℕ) → e < PLACES → (g : Frame S) → acted o k guard R (action_at p j e) g ≡ written o (diagram_of p) k now guard ((diagram_of p).cell j e) (lk e) (second o (diagram_of p) j lk e) g
     action_is e h g =
         ap (λ c. acted o k guard R (record { cell = c; place = e; left = left_of p j e; below = below_of p j e }) g) (sym (cell_is p j e h))
         ∙ one ((diagram_of p).cell j e) e (left_of p j e) (below_of p j e) R (lk e) (second o (diagram_of p) j lk e) g (are.left e h) (are.own e h)
 
-    along : (n : ℕ) → n ≤ 60 → (g : Frame S) → effects_of o k guard R (actions_before p j n) g ≡ effects o (diagram_of p) k now j guard lk n g
+    along : (n : ℕ) → n ≤ PLACES → (g : Frame S) → effects_of o k guard R (actions_before p j n) g ≡ effects o (diagram_of p) k now j guard lk n g
     unfolding effects_of effects actions_before
     along zero h g = refl
     along (suc n) h g = elim (cases_Bool (acts (cell_of p j n))) [
@@ -94,4 +95,4 @@ module _ {S : Type 0} (o : Algebra S) (p : Drawing) (k : Kept) (now j : ℕ) (gu
 
     pub rung_along : effects_of o k guard R (actions_of p j) f ≡ after_rung o (diagram_of p) k now j guard f
     unfolding actions_of
-    rung_along = along 60 (omega arith) f
+    rung_along = along PLACES (omega arith) f

@@ -1,5 +1,6 @@
 -- The relational law, from the power flow of one rung to a whole look.
 use Rattle.std.proofs.Common.{ℕ, ◌+◌, ◌/◌, ◌%◌, ◌<◌, Bool, true, false, List, [], ◌∷◌, ◌++◌, map, set, zero, suc, Option, Some, None, refl, arith}
+use Rattle.ladder_page.specs.declared.geometry.TheConstants.{ROWS, PLACES}
 use Rattle.ladder_elements.specs.Algebra.{Algebra}
 use Rattle.ladder_elements.specs.Relations.{IsKept, Both}
 use Rattle.ladder_page.specs.declared.mode.CoilMode.{CoilMode}
@@ -59,7 +60,7 @@ module _ {A B : Type 0} (a : Algebra A) (b : Algebra B) (R : A → B → Type 0)
 
   -- ---- one rung
   pub link_kept : (d : Diagram) (p h : Kept) (now j : ℕ) → Alike d j p h → (f : Frame A) (g : Frame B) → BothFrames R f g → (e : ℕ) → R (link a d p now j f e) (link b d h now j g e)
-  link_kept d p h now j al f g r e = left_kept a b R k d p h now j al f g r (e % 6) (e / 6)
+  link_kept d p h now j al f g r e = left_kept a b R k d p h now j al f g r (e % ROWS) (e / ROWS)
 
   written_kept : (d : Diagram) (p h : Kept) (now : ℕ) (c : Cell) → AlikeCell p h c → (m : A) (n : B) → R m n → (x y : A) (u v : B) → R x u → R y v →
       (f : Frame A) (g : Frame B) → BothFrames R f g → BothFrames R (written a d p now m c x y f) (written b d h now n c u v g)
@@ -82,7 +83,7 @@ module _ {A B : Type 0} (a : Algebra A) (b : Algebra B) (R : A → B → Type 0)
       BothFrames R (after_rung a d p now j m f) (after_rung b d h now j n g)
   rung_kept d p h now j al m n r f g w =
       let links = link_kept d p h now j al f g w in
-      effects_kept d p h now j al m n r _ _ 60 (λ e e_lt. (links e, either a b R k (d.linked j e) _ _ _ _ (links (e + 1)) (k.known false))) f g w
+      effects_kept d p h now j al m n r _ _ PLACES (λ e e_lt. (links e, either a b R k (d.linked j e) _ _ _ _ (links (e + 1)) (k.known false))) f g w
 
   -- ---- the look
   meet_kept : (p : ℕ → Bool) (f : ℕ → A) (g : ℕ → B) → ((i : ℕ) → R (f i) (g i)) → (n : ℕ) → R (meet_where a p f n) (meet_where b p g n)

@@ -2,6 +2,7 @@
 use Rattle.std.proofs.Common.{◌≡◌, ℕ, ◌+◌, ◌<◌, ◌≤◌, Bool, true, false, not, cond, List, [], ◌∷◌, ◌++◌, get_or, length, zero, suc, nat_lt, refl, sym, ap, ◌∙◌, arith, ◌&&◌, Option, Some, None}
 use Rattle.std.proofs.lemmas.List.{get_or_push, get_or_append_left, length-append}
 use Rattle.std.proofs.lemmas.Bool.Decides.{nat_tests}
+use Rattle.ladder_page.specs.declared.geometry.TheConstants.{PLACES}
 use Rattle.ladder_elements.specs.Algebra.{Algebra}
 use Rattle.ladder_elements.specs.Truth.{plain}
 use Rattle.ladder_scan.specs.Cells.{Diagram, Frame, Kept}
@@ -82,7 +83,7 @@ next_later : (d : Diagram) → Once d → (k : Kept) (now n : ℕ) (s : Scanned)
 next_later d once k now n s true j h al = al
 next_later d once k now n s false j h al =
     joined k s.held.kept (evaluated d now n s.held).kept d j al
-    (λ e. cell_stays d once now n (frame_of s.held) (link_at d now n s.held) s.held 60 j e (λ e0 lt a b. absurd (omega arith)))
+    (λ e. cell_stays d once now n (frame_of s.held) (link_at d now n s.held) s.held PLACES j e (λ e0 lt a b. absurd (omega arith)))
 
 next_resume : (d : Diagram) (now n : ℕ) (s : Scanned) (b : Bool) →
     (cond b s (record { held = evaluated d now n s.held; resume = next_rung d now n s.held })).resume ≡ cond b s.resume (next_rung d now n s.held)

@@ -1,6 +1,7 @@
 -- Over truth values a rung's effects on the frame are those of the rung evaluated, whose memories and blocks change too.
 use Rattle.std.proofs.Common.{◌≡◌, ℕ, ◌<◌, Bool, true, false, List, [], ◌∷◌, map, get_or, set, zero, suc, Option, Some, None, refl, sym, ap, ap₂, ◌∙◌, arith, get_or-set_other}
 use Rattle.std.proofs.lemmas.List.{map-set, set-get_or}
+use Rattle.ladder_page.specs.declared.geometry.TheConstants.{PLACES}
 use Rattle.ladder_elements.specs.Algebra.{Algebra}
 use Rattle.ladder_elements.specs.Truth.{plain}
 use Rattle.ladder_elements.specs.Relations.{IsKept, Both}
@@ -123,7 +124,7 @@ rung_same d p h now j al g f =
     frames _ _ _ _ (both_same _ _ w.0) (both_same _ _ w.1)
 
 pub rung_evaluated : (d : Diagram) → Once d → (k : Kept) (now j : ℕ) (h : Held) → Alike d j k h.kept → after_rung plain d k now j true (frame_of h) ≡ frame_of (evaluated d now j h)
-rung_evaluated d once k now j h al = rung_same d k h.kept now j al true (frame_of h) ∙ in_rung d once now j (link_at d now j h) h 60
+rung_evaluated d once k now j h al = rung_same d k h.kept now j al true (frame_of h) ∙ in_rung d once now j (link_at d now j h) h PLACES
 
 -- with the guard off nothing is written
 put_same : {A : Type 0} (xs : List A) (m : Option ℕ) (d : A) → put_in xs m (at xs m d) ≡ xs
@@ -140,4 +141,4 @@ unwritten d k now j links (suc n) f =
     ∙ unwritten d k now j links n f
 
 pub rung_passed : (d : Diagram) (k : Kept) (now j : ℕ) (f : Frame Bool) → after_rung plain d k now j false f ≡ f
-rung_passed d k now j f = unwritten d k now j (link plain d k now j f) 60 f
+rung_passed d k now j f = unwritten d k now j (link plain d k now j f) PLACES f

@@ -1,6 +1,7 @@
 -- A look keeps the numbers of variables and instances.
 use Rattle.std.proofs.Common.{length, ◌≡◌, ℕ, List, map, zero, suc, ap, ◌∙◌, refl}
 use Rattle.std.proofs.lemmas.List.{length-map}
+use Rattle.ladder_page.specs.declared.geometry.TheConstants.{PLACES}
 use Rattle.ladder_grid.specs.Program.{block_in}
 use Rattle.ladder_elements.specs.Algebra.{Algebra}
 use Rattle.ladder_elements.specs.Blocks.{q_of}
@@ -25,14 +26,14 @@ module _ {S : Type 0} (o : Algebra S) (d : Diagram) (k : Kept) (now : ℕ) where
   size_looked_values f zero = refl
   size_looked_values f (suc n) =
       let s = looked o d k now f n in
-      size_effects_values n (guard_of o d s.taken n) (link o d k now n s.frame) 60 s.frame ∙ size_looked_values f n
+      size_effects_values n (guard_of o d s.taken n) (link o d k now n s.frame) PLACES s.frame ∙ size_looked_values f n
 
   size_looked_ends : (f : Frame S) (n : ℕ) → length (looked o d k now f n).frame.ends ≡ length f.ends
   unfolding looked
   size_looked_ends f zero = refl
   size_looked_ends f (suc n) =
       let s = looked o d k now f n in
-      size_effects_ends n (guard_of o d s.taken n) (link o d k now n s.frame) 60 s.frame ∙ size_looked_ends f n
+      size_effects_ends n (guard_of o d s.taken n) (link o d k now n s.frame) PLACES s.frame ∙ size_looked_ends f n
 
 pub look_sizes : {S : Type 0} (o : Algebra S) (d : Diagram) (now : ℕ) (inputs : List S) (h : Held) (f next : Frame S) (n : ℕ) → f ≡ look_frame o d inputs h
     → next ≡ (looked o d h.kept now f n).frame → SameSizes next h

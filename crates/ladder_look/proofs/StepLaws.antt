@@ -4,6 +4,7 @@ use Rattle.std.specs.List.{cons_option}
 use Rattle.std.proofs.lemmas.Bool.{cases_Bool}
 use Rattle.std.proofs.lemmas.List.Elements.{All-append, All-nil}
 use Rattle.std.proofs.lemmas.Grind.{common_steps}
+use Rattle.ladder_page.specs.declared.geometry.TheConstants.{ROWS, PLACES}
 use Rattle.ladder_page.specs.declared.mode.Mode.{Mode}
 use Rattle.ladder_page.specs.declared.mode.Mode.TheVariants as mode
 use Rattle.ladder_page.specs.declared.mode.CoilMode.{CoilMode}
@@ -90,7 +91,7 @@ module _ {S : Type 0} (o : Algebra S) (p : Drawing) (k : Kept) (now n : ℕ) (f 
     by_literal (literal.Not var) c h = refl
     by_literal literal.Other c h = by_step c h
 
-    one_gate : g.place < 60 → gone o p k now (gate_step p n g) (after links) ≡ after (passed o d_ k now n f links g)
+    one_gate : g.place < PLACES → gone o p k now (gate_step p n g) (after links) ≡ after (passed o d_ k now n f links g)
     one_gate h =
         let same = cell_is p n g.place h in
         by_literal g.literal (cell_of p n g.place) same
@@ -217,7 +218,7 @@ module _ (p : Drawing) (formed : IsWellFormed p) (rung : ℕ) where
   known_before zero = All-nil _
   known_before (suc n) = elim (cases_Bool (has_gate p rung n)) [
     | inl t ↦ subst (λ (xs : List Gate). All Knows xs) (sym (cond_on (has_gate p rung n) _ _ t))
-        (All-append Knows (gates_before p rung n) _ (known_before n) (all_one Knows (gate_at p rung n) (literal_var p.decls (cell_of p rung n) (formed.fits (60 * rung + n)))))
+        (All-append Knows (gates_before p rung n) _ (known_before n) (all_one Knows (gate_at p rung n) (literal_var p.decls (cell_of p rung n) (formed.fits (PLACES * rung + n)))))
     | inr t ↦ subst (λ (xs : List Gate). All Knows xs) (sym (cond_off (has_gate p rung n) _ _ t)) (known_before n)
   ]
 
@@ -229,17 +230,17 @@ module _ (p : Drawing) (formed : IsWellFormed p) (rung : ℕ) where
   there_before zero = All-nil _
   there_before (suc n) = elim (cases_Bool (acts (cell_of p rung n))) [
     | inl t ↦ subst (λ (xs : List Action). All Writes xs) (sym (cond_on (acts (cell_of p rung n)) _ _ t))
-        (All-append Writes (actions_before p rung n) _ (there_before n) (all_one Writes (action_at p rung n) (coil_var p.decls (cell_of p rung n) (formed.fits (60 * rung + n)))))
+        (All-append Writes (actions_before p rung n) _ (there_before n) (all_one Writes (action_at p rung n) (coil_var p.decls (cell_of p rung n) (formed.fits (PLACES * rung + n)))))
     | inr t ↦ subst (λ (xs : List Action). All Writes xs) (sym (cond_off (acts (cell_of p rung n)) _ _ t)) (there_before n)
   ]
 
   pub all_there : All Writes (actions_of p rung)
   unfolding actions_of
-  all_there = there_before 60
+  all_there = there_before PLACES
 
   pub all_known : All Knows (gates_of p rung)
   unfolding gates_of
-  all_known = known_before 60
+  all_known = known_before PLACES
 
 module _ (rungs vars n : ℕ) (lt : n < rungs) where
   one_of : (b : Bool) (s t : Rare) → IsWithin rungs vars (step.Rare s) → IsWithin rungs vars (step.Rare t) → IsWithin rungs vars (step.Rare (cond b s t))
@@ -315,11 +316,11 @@ module _ (rungs vars n : ℕ) (lt : n < rungs) where
   turn_within true = all_one (IsWithin rungs vars) (step.Rare (Turn n)) tt
   turn_within false = All-nil _
 
-  by_jump : (p : Drawing) (jump : Option (ℕ × ℕ × ℕ)) → ((place target : ℕ) → placed jump ≡ Some (place, target) → place < 60)
+  by_jump : (p : Drawing) (jump : Option (ℕ × ℕ × ℕ)) → ((place target : ℕ) → placed jump ≡ Some (place, target) → place < PLACES)
       → All (IsWithin rungs vars) (exit_steps n (exit_by p n jump))
   by_jump p None h = All-nil _
   by_jump p (Some (row, column, target)) h =
-      all_one (IsWithin rungs vars) (step.Rare (Leave n (left_of p n (6 * column + row)))) (lt, left_inside p n (6 * column + row) (h (6 * column + row) target refl))
+      all_one (IsWithin rungs vars) (step.Rare (Leave n (left_of p n (ROWS * column + row)))) (lt, left_inside p n (ROWS * column + row) (h (ROWS * column + row) target refl))
 
   exit_within : (p : Drawing) → IsSound (diagram_of p) → All (IsWithin rungs vars) (exit_steps n (exit_of p n))
   exit_within p sound = by_jump p (jump_of p n) (λ place target h. (sound.jumps n place target (sym (jump_is p n) ∙ h)).0)
