@@ -16,7 +16,7 @@ use crate::sheet::has_memory;
 use crate::site::{Site, cell_drawn, site_with};
 use ladder_page::PageView;
 use ladder_page::geometry::{PLACES, ROWS, RUNGS};
-use ladder_page::lines::{blanked, lines, parts, unclosed_line};
+use ladder_page::lines::{lines, parts, shown_text};
 use ladder_page::page::{forms, overs};
 use ladder_rules::Stop;
 use ladder_rules::firsts::firsts;
@@ -76,9 +76,8 @@ fn read_sites(alloc: Global, decls: &Decls, text: &[u8]) -> Result<(usize, Vec<S
     ensures broken { IfErr result (IsBrokenIn (page_of decls.now text.now)) }
     ensures small { IfErr result IsSmall }
 {
-    let unclosed = unclosed_line(text);
-    let shown = blanked(alloc, text)?;
-    let lines = lines(alloc, &shown)?;
+    let shown = shown_text(alloc, text)?;
+    let lines = lines(alloc, &shown.text)?;
     let parts = parts(alloc, &lines)?;
     let forms = forms(alloc, &lines, &parts)?;
     let overs = overs(alloc, decls, &lines, &parts)?;
@@ -89,7 +88,7 @@ fn read_sites(alloc: Global, decls: &Decls, text: &[u8]) -> Result<(usize, Vec<S
         PageView {
             decls,
             lines: &lines,
-            unclosed,
+            unclosed: shown.unclosed,
             parts: &parts,
             forms: &forms,
             overs: &overs,

@@ -126,54 +126,62 @@ fn is_closing(inside: Inside) -> bool
     inside == Inside::Closing
 }
 
-fn shown_byte(inside: Inside, b: u8, after: &[u8]) -> u8
+/// What the lines show of a byte, where `next` is what the next one stands in.
+fn shown_byte(inside: Inside, next: Inside, b: u8, after: &[u8]) -> u8
+    requires { next ≡ next_inside inside b after.now }
     ensures { result ≡ shown_byte inside b after.now }
 {
     if b == b'\n' {
         b'\n'
     } else if b == b'\r' && begins_with(b'\n', after) {
         b' '
-    } else if is_shown(inside) && is_shown(next_inside(inside, b, after)) {
+    } else if is_shown(inside) && is_shown(next) {
         b
     } else {
         b' '
     }
 }
 
-/// The text with its comments taken as spaces.
-pub fn blanked(alloc: Global, mut text: &[u8]) -> Result<Vec<u8>, AllocError>
-    ensures { IfOk result (λ v. v.items ≡ blanked_from inside.Plain text.entry.now) }
-{
-    let mut seen = Vec::new(alloc);
-    let mut inside = Inside::Plain;
-    while let [b, rest @ ..] = text {
-        seen.push(shown_byte(inside, *b, rest))?;
-        inside = next_inside(inside, *b, rest);
-        text = rest;
-    }
-    Ok(seen)
+/// A text as its lines show it.
+#[derive(Drop)]
+pub struct Shown {
+    /// The text with its comments taken as spaces.
+    pub text: Vec<u8>,
+    /// The line on which a comment begins that never ends.
+    pub unclosed: Option<usize>,
 }
 
-/// The line on which a comment begins that never ends.
-pub fn unclosed_line(mut text: &[u8]) -> Option<usize>
-    ensures { result ≡ unclosed_line text.entry.now }
+/// What the lines of a text show, and whether a comment in it never ends.
+///
+/// # Errors
+///
+/// `AllocError` when out of memory.
+pub fn shown_text(alloc: Global, mut text: &[u8]) -> Result<Shown, AllocError>
+    ensures text { IfOk result (λ s. s.text.items ≡ blanked_from inside.Plain text.entry.now) }
+    ensures unclosed { IfOk result (λ s. s.unclosed ≡ unclosed_line text.entry.now) }
 {
+    let mut seen = Vec::with_capacity(alloc, text.len())?;
     let mut inside = Inside::Plain;
     let mut line = 0;
-    let mut since = None;
+    let mut unclosed = None;
     while let [b, rest @ ..] = text {
-        inside = next_inside(inside, *b, rest);
-        if is_opening(inside) {
-            since = Some(line);
-        } else if is_closing(inside) {
-            since = None;
+        let next = next_inside(inside, *b, rest);
+        seen.push(shown_byte(inside, next, *b, rest))?;
+        if is_opening(next) {
+            unclosed = Some(line);
+        } else if is_closing(next) {
+            unclosed = None;
         }
         if *b == b'\n' {
             line += 1;
         }
+        inside = next;
         text = rest;
     }
-    since
+    Ok(Shown {
+        text: seen,
+        unclosed,
+    })
 }
 
 /// The lines between the line feeds.

@@ -6,7 +6,7 @@ ghost use Rattle.ladder_vars.specs.Rules.{BreaksOn};
 ghost use Rattle.ladder_page.specs.Outline.{HasOutline, IsOnlyOutline};
 ghost use Rattle.ladder_page.specs.ReadLines.{lines_of, parts_of};
 
-use crate::lines::{Part, blanked, lines, parts};
+use crate::lines::{Part, lines, parts, shown_text};
 use ladder_vars::{VarFault, VarRule, read_decls};
 use std::alloc::{AllocError, Global};
 
@@ -20,8 +20,8 @@ pub struct Outline {
 fn rung_parts(alloc: Global, text: &[u8]) -> Result<Vec<Part>, AllocError>
     ensures { IfOk result (λ v. v.items ≡ parts_of (lines_of text.now)) }
 {
-    let shown = blanked(alloc, text)?;
-    let lines = lines(alloc, &shown)?;
+    let shown = shown_text(alloc, text)?;
+    let lines = lines(alloc, &shown.text)?;
     parts(alloc, &lines)
 }
 

@@ -11,7 +11,7 @@ use crate::fault::GridRule;
 use crate::firsts::firsts;
 use crate::rules::broken_column;
 use ladder_page::geometry::{LINES, RUNGS};
-use ladder_page::lines::{blanked, lines, parts, unclosed_line};
+use ladder_page::lines::{lines, parts, shown_text};
 use ladder_page::outline::behind;
 use ladder_page::page::{forms, overs, part_at};
 use ladder_page::{Half, PageView};
@@ -55,8 +55,8 @@ fn column_after(
 ) -> Result<Option<usize>, AllocError>
     ensures { IfOk result (λ found. IfSome found (IsColumnIn (page_of decls.now text.now) rule rung line)) }
 {
-    let shown = blanked(alloc, text)?;
-    let lines = lines(alloc, &shown)?;
+    let shown = shown_text(alloc, text)?;
+    let lines = lines(alloc, &shown.text)?;
     let parts = parts(alloc, &lines)?;
     let forms = forms(alloc, &lines, &parts)?;
     let overs = overs(alloc, decls, &lines, &parts)?;
@@ -64,7 +64,7 @@ fn column_after(
     let page = PageView {
         decls,
         lines: &lines,
-        unclosed: unclosed_line(text),
+        unclosed: shown.unclosed,
         parts: &parts,
         forms: &forms,
         overs: &overs,

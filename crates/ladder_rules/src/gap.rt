@@ -3,6 +3,7 @@
 ghost use Rattle.std.specs.Prelude.{◌≡◌, ◌≤◌, ◌<◌, ◌+◌, ℕ, length, map, IfSome, IfNone, IfOk, IfErr, true};
 ghost use Rattle.std.specs.Option.{option_or};
 ghost use Rattle.ladder_page.specs.Gap.{label_in, label_before};
+ghost use Rattle.ladder_page.specs.Picture.{line_at};
 ghost use Rattle.ladder_rules.specs.Gap.{bad_label, GapBreaks, IsSoundGap};
 ghost use Rattle.ladder_rules.specs.Checks.{is_used, has_odd_byte, is_label_line};
 ghost use Rattle.ladder_rules.specs.declared.fault.Rule.{Rule};
@@ -28,54 +29,56 @@ fn has_odd_byte(text: &[u8]) -> bool
 fn bad_label(
     before: Option<Name>,
     labels: &[Option<Name>],
-    label: Option<Name>,
+    label: &Option<Name>,
     text: &[u8],
 ) -> bool
-    ensures { result ≡ bad_label before labels.now label text.now }
+    ensures { result ≡ bad_label before labels.now label.now text.now }
 {
     match label {
         None => !is_blank_line(text),
         Some(word) => match before {
-            None => is_used(labels, &word),
+            None => is_used(labels, word),
             Some(_) => true,
         },
     }
 }
 
-fn first_of(before: &Option<Name>, text: &[u8]) -> Option<Name>
-    ensures { result ≡ option_or before.now (label_in text.now) }
+fn first_of(before: &Option<Name>, label: Option<Name>) -> Option<Name>
+    ensures { result ≡ option_or before.now label }
 {
     match before {
-        Some(label) => Some(*label),
-        None => label_in(text),
+        Some(first) => Some(*first),
+        None => label,
     }
 }
 
-/// The first rule that the n-th line of the gap breaks, `before` being the gap's label so far.
-fn broken_rule(
+/// The label that the n-th line of the gap is, or the first rule that it breaks, `before` being the gap's label so far.
+fn label_on(
     lines: &[&[u8]],
     from: usize,
     unclosed: Option<usize>,
     labels: &[Option<Name>],
     n: usize,
     before: Option<Name>,
-) -> Option<Rule>
+) -> Result<Option<Name>, Rule>
     requires known { before ≡ label_before (map (λ l. l.now) lines.now) from n }
     requires within { from + n ≤ length lines.now }
-    ensures some { IfSome result (λ r. GapBreaks r (map (λ l. l.now) lines.now) from unclosed labels.now n) }
-    ensures none { IfNone result ((r : Rule) → GapBreaks r (map (λ l. l.now) lines.now) from unclosed labels.now n → ⊥) }
+    ensures label { IfOk result (λ x. x ≡ label_in (line_at (map (λ l. l.now) lines.now) (from + n))) }
+    ensures kept { IfOk result (λ _. (r : Rule) → GapBreaks r (map (λ l. l.now) lines.now) from unclosed labels.now n → ⊥) }
+    ensures broken { IfErr result (λ r. GapBreaks r (map (λ l. l.now) lines.now) from unclosed labels.now n) }
 {
     let text = line_at(lines, from + n);
     if has_odd_byte(text) {
-        return Some(Rule::BadByte);
+        return Err(Rule::BadByte);
     }
     if unclosed == Some(from + n) {
-        return Some(Rule::Unfinished);
+        return Err(Rule::Unfinished);
     }
-    if bad_label(before, labels, label_in(text), text) {
-        return Some(Rule::Grid(GridRule::LabelFault));
+    let label = label_in(text);
+    if bad_label(before, labels, &label, text) {
+        return Err(Rule::Grid(GridRule::LabelFault));
     }
-    None
+    Ok(label)
 }
 
 /// The label in the gap of `count` lines, or the first rule that is broken there, with the line of the gap.
@@ -93,11 +96,13 @@ pub(crate) fn read_gap(
 {
     let mut label: Option<Name> = None;
     for n in 0..count {
-        if let Some(rule) = broken_rule(lines, from, unclosed, labels, n, label) {
-            return Err((rule, n));
+        match label_on(lines, from, unclosed, labels, n, label) {
+            Ok(own) => {
+                let first = first_of(&label, own);
+                label = first;
+            }
+            Err(rule) => return Err((rule, n)),
         }
-        let next = first_of(&label, line_at(lines, from + n));
-        label = next;
     }
     Ok(label)
 }

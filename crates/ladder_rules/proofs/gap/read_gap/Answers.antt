@@ -18,6 +18,6 @@ loop-n-init c = record { known = none_yet _ _; kept = λ k below. absurd (omega 
 
 pub loop-n-preserved : goal.loop-n-preserved
 loop-n-preserved c = record {
-  known = c.first_of-next.ensures ∙ ap (λ t. option_or c.loop-n.label (label_in t)) c.line_at.ensures ∙ one_more _ _ _ _ c.loop-n.invariant.known;
-  kept = below_more _ _ c.loop-n.invariant.kept c.in_default.ensures.none;
+  known = c.first_of-first.ensures ∙ ap (option_or c.loop-n.label) c.in-Ok.ensures.label ∙ one_more _ _ _ _ c.loop-n.invariant.known;
+  kept = below_more _ _ c.loop-n.invariant.kept c.in-Ok.ensures.kept;
 }
