@@ -3,7 +3,7 @@
 
 The gate has those of the calls that the definitions speak of (crates/*/must-fail); those of tests/mutants turn what another mutant,
 or a crate above, carries too. Each must be refused as well. Needs the toolchain; half a minute each over a crate that `rt check`
-has proved, and all crates where none is named. With `--where` only that the text that each turns stands in its file once.
+has proved, and all crates where none is named. With `--where` only that the text that each turns stands in its file once, and that of each wrong body.
 """
 import pathlib
 import shutil
@@ -14,6 +14,7 @@ import tempfile
 HERE = pathlib.Path(__file__).resolve().parent
 ROOT = HERE.parent
 MUTANTS = HERE / "mutants"
+BODIES = HERE / "wrong_bodies"
 
 
 def places_missed(names):
@@ -26,6 +27,16 @@ def places_missed(names):
                 path = ROOT / "crates" / edit.parent.name / text
             elif key == "old" and path.read_text("utf-8").count(text) != 1:
                 missed.append(edit.relative_to(ROOT))
+    return missed
+
+
+def bodies_missed():
+    """The edits of tests/wrong_bodies whose old text doesn't stand in their file exactly once."""
+    missed = []
+    for edit in sorted(BODIES.iterdir()):
+        told = dict(line.split(": ", 1) for line in edit.read_text("utf-8").splitlines())
+        if (ROOT / told["file"]).read_text("utf-8").count(told["old"]) != 1:
+            missed.append(edit.relative_to(ROOT))
     return missed
 
 
@@ -45,11 +56,12 @@ def main():
     if unknown:
         sys.exit(f"no mutants of {', '.join(unknown)}")
     if "--where" in words:
-        missed = places_missed(names)
-        for edit in missed:
+        missed, astray = places_missed(names), bodies_missed()
+        for edit in missed + astray:
             print(f"{edit}: what it turns isn't there once")
-        print(f"{sum(len(list((MUTANTS / name).iterdir())) for name in names) - len(missed)} of the further mutants have their place")
-        return 1 if missed else 0
+        print(f"{sum(len(list((MUTANTS / name).iterdir())) for name in names) - len(missed)} of the further mutants have their place, "
+              f"and {len(list(BODIES.iterdir())) - len(astray)} wrong bodies")
+        return 1 if missed or astray else 0
     with tempfile.TemporaryDirectory() as folder:
         root = pathlib.Path(folder)
         copy(root, names)
