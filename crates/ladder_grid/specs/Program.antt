@@ -1,8 +1,7 @@
 -- A program: its declarations, and what its drawing has at each place.
 -- Rungs, rows and columns are counted from 0. The place of a cell in its rung is ROWS * column + row.
 use Rattle.std.specs.Prelude.{◌≡◌, ℕ, zero, suc, ◌+◌, ◌-◌, ◌*◌, ◌/◌, ◌%◌, ◌<◌, ◌≤◌, min, max, nat_le, Bool, true, false, ◌&&◌, ◌==◌, List, length, count_by, slice_get, slice_index_or, Option, Some, None, is_some, option_map}
-use Rattle.std.specs.Option.{option_or}
-use Rattle.std.specs.List.{list_any}
+use Rattle.std.specs.List.{filter_map, list_any, range_with_len}
 use Rattle.ladder_vars.specs.Decls.{Declared}
 use Rattle.ladder_vars.specs.declared.decls.Instance.{Instance}
 use Rattle.ladder_vars.specs.declared.kind.Pin.{Pin}
@@ -64,14 +63,10 @@ is_empty other = false
 abbrev pub goes_to : ℕ → Cell → Option ℕ
 goes_to rungs c = elim c [ cell.Jump target ↦ Some target | cell.Return ↦ Some rungs | _ ↦ None ]
 
--- the last of the first places of a rung whose cell leads out of it: its row and column, and where to
-unfoldable pub jump_before : Drawing → ℕ → ℕ → Option (ℕ × ℕ × ℕ)
-jump_before d rung zero = None
-jump_before d rung (suc at) = option_or (option_map (λ target. (at % ROWS, at / ROWS, target)) (goes_to d.rungs (cell_of d rung at))) (jump_before d rung at)
-
 -- The row and the column of the rung's jump or return, and its target. A rung has at most one.
 unfoldable pub jump_of : Drawing → ℕ → Option (ℕ × ℕ × ℕ)
-jump_of d rung = jump_before d rung PLACES
+jump_of d rung =
+    slice_get (filter_map (λ at. option_map (λ target. (at % ROWS, at / ROWS, target)) (goes_to d.rungs (cell_of d rung at))) (range_with_len 0 PLACES)) 0
 
 abbrev pub memory_in : Cell → Option ℕ
 memory_in c = elim c [ cell.Contact mode operand memory ↦ memory | cell.Coil mode var memory ↦ memory | _ ↦ None ]
