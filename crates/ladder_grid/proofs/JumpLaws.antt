@@ -1,11 +1,12 @@
 -- Where the jump of a rung is.
-use Rattle.std.proofs.Common.{◌≡◌, ℕ, ◌+◌, ◌*◌, ◌/◌, ◌%◌, ◌<◌, ◌≤◌, ◌++◌, List, [], ◌∷◌, Option, Some, None, zero, suc, slice_get, arith, add-one, refl, sym, ap, subst, ◌∙◌}
+use Rattle.std.proofs.Common.{◌≡◌, ℕ, ◌+◌, ◌*◌, ◌/◌, ◌%◌, ◌<◌, ◌≤◌, ◌++◌, List, [], ◌∷◌, Option, Some, None, zero, suc, slice_get, arith, refl, sym, ap, subst, ◌∙◌}
 use Rattle.std.specs.Prelude.{option_map}
 use Rattle.std.specs.Option.{option_or}
 use Rattle.std.specs.List.{cons_option, filter_map, range_with_len}
 use Rattle.std.proofs.lemmas.List.Elements.{filter_map-append}
 use Rattle.ladder_page.specs.declared.geometry.TheConstants.{ROWS, COLUMNS, PLACES}
 use Rattle.ladder_grid.specs.Program.{Drawing, cell_of, goes_to, jump_of}
+use Rattle.ladder_grid.proofs.Ranges.{range_more}
 
 -- where the cell at a place leads
 abbrev pub jump_at : Drawing → ℕ → ℕ → Option (ℕ × ℕ × ℕ)
@@ -16,12 +17,6 @@ abbrev pub first_jump : Drawing → ℕ → ℕ → Option (ℕ × ℕ × ℕ)
 first_jump d rung n = slice_get (filter_map (jump_at d rung) (range_with_len 0 n)) 0
 
 -- ---- one place more
-
-range_more : (a n : ℕ) → range_with_len a (suc n) ≡ range_with_len a n ++ (a + n) ∷ []
-range_more a zero = let none : a ≡ a + 0 = omega arith in ap (λ x. x ∷ []) none
-range_more a (suc n) =
-    let same : a + 1 + n ≡ a + suc n = omega arith in
-    ap (λ xs. a ∷ xs) (range_more (a + 1) n ∙ ap (λ x. range_with_len (a + 1) n ++ x ∷ []) same)
 
 first_of : {A : Type 0} (xs : List A) (o : Option A) → slice_get (xs ++ cons_option o []) 0 ≡ option_or (slice_get xs 0) o
 first_of [] None = refl

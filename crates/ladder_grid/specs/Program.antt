@@ -1,7 +1,7 @@
 -- A program: its declarations, and what its drawing has at each place.
 -- Rungs, rows and columns are counted from 0. The place of a cell in its rung is ROWS * column + row.
 use Rattle.std.specs.Prelude.{◌≡◌, ℕ, zero, suc, ◌+◌, ◌-◌, ◌*◌, ◌/◌, ◌%◌, ◌<◌, ◌≤◌, min, max, nat_le, Bool, true, false, ◌&&◌, ◌==◌, List, length, count_by, slice_get, slice_index_or, Option, Some, None, is_some, option_map}
-use Rattle.std.specs.List.{filter_map, list_any, range_with_len}
+use Rattle.std.specs.List.{filter_map, list_all, list_any, range_with_len}
 use Rattle.ladder_vars.specs.Decls.{Declared}
 use Rattle.ladder_vars.specs.declared.decls.Instance.{Instance}
 use Rattle.ladder_vars.specs.declared.kind.Pin.{Pin}
@@ -46,8 +46,7 @@ takes_power j = elim j [ joint.Dash ↦ true | joint.Plus ↦ true | _ ↦ false
 
 -- vertical links on the left of the column join the n + 1 rows from this one on
 unfoldable pub joined : Drawing → ℕ → ℕ → ℕ → ℕ → Bool
-joined d rung row column zero = true
-joined d rung row column (suc n) = joined d rung row column n && (site_at d rung (row + n) column).vertical
+joined d rung row column n = list_all (λ r. (site_at d rung r column).vertical) (range_with_len row n)
 
 -- The right link of the row `from` in the column before enters the group of the row's joint.
 abbrev pub feeds : Drawing → ℕ → ℕ → ℕ → ℕ → Bool
@@ -85,7 +84,7 @@ is_coil_of var c = elim c [ cell.Coil mode v memory ↦ v == var | _ ↦ false ]
 abbrev pub has_coil : ℕ → Drawing → Bool
 has_coil var d = list_any (λ s. is_coil_of var s.cell) d.sites
 
--- There are at most a hundred rungs, of sixty places each.
+-- There are at most `RUNGS` rungs, each of `PLACES` places.
 pub record IsWhole (d : Drawing) : Type 0 where
   pub few : d.rungs ≤ RUNGS
   pub size : length d.sites ≡ PLACES * d.rungs
