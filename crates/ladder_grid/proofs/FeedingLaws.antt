@@ -24,6 +24,7 @@ use Rattle.ladder_rules.specs.Rules.{is_joint, fits_joint}
 use Rattle.ladder_rules.specs.PageRules.{PartBreaks}
 use Rattle.ladder_grid.specs.Program.{Drawing, takes_power, site_at, joined, feeds}
 use Rattle.ladder_grid.specs.Reading.{joint_of, cell_with, IsDrawn, IsProgram}
+use Rattle.ladder_grid.proofs.JoinLaws.{joined_more, joined_none}
 use Rattle.ladder_grid.specs.Agreement.{SameGroups, SameFeeding, FeedsDashes, has_left_link, FeedsCells}
 
 off_on : false ≡ true → ⊥
@@ -57,10 +58,9 @@ module _ (page : Page) (d : Drawing) (drawn : IsDrawn page d) where
 
   joined_links : (k c row n : ℕ) → k < d.rungs → c < COLUMNS → row + n ≤ ROWS → joined d k row c n ≡ true
       → (m : ℕ) → row ≤ m → m < row + n → vertical (rung_at page k) m c ≡ true
-  unfolding joined
   joined_links k c row zero below columns rows h m from to = absurd (omega (arith, from, to))
   joined_links k c row (suc n) below columns rows h m from to =
-      let parts = and_parts (joined d k row c n) (site_at d k (row + n) c).vertical h in
+      let parts = and_parts (joined d k row c n) (site_at d k (row + n) c).vertical (sym (joined_more d k row c n) ∙ h) in
       elim (cases_lt m (row + n)) [
         | inl before ↦ joined_links k c row n below columns (omega (arith, rows)) parts.0 m from before
         | inr past ↦
@@ -71,15 +71,14 @@ module _ (page : Page) (d : Drawing) (drawn : IsDrawn page d) where
 
   links_joined : (k c row n : ℕ) → k < d.rungs → c < COLUMNS → row + n ≤ ROWS
       → ((m : ℕ) → row ≤ m → m < row + n → vertical (rung_at page k) m c ≡ true) → joined d k row c n ≡ true
-  unfolding joined
-  links_joined k c row zero below columns rows h = refl
+  links_joined k c row zero below columns rows h = sym (joined_none d k row c)
   links_joined k c row (suc n) below columns rows h =
       let inside : row + n < ROWS = omega (arith, rows) in
       let before : joined d k row c n ≡ true
       = links_joined k c row n below columns (omega (arith, rows)) (λ m from to. h m from (omega (arith, to))) in
       let last : (site_at d k (row + n) c).vertical ≡ true
       = vertical_is k (row + n) c below inside columns ∙ h (row + n) (omega arith) (omega arith) in
-      rw (before, last) refl
+      joined_more d k row c n ∙ rw (before, last) refl
 
   pub same_groups : SameGroups page d
   same_groups k r q c below rows other_rows columns =

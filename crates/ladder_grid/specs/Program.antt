@@ -1,8 +1,7 @@
 -- A program: its declarations, and what its drawing has at each place.
 -- Rungs, rows and columns are counted from 0. The place of a cell in its rung is ROWS * column + row.
 use Rattle.std.specs.Prelude.{◌≡◌, ℕ, zero, suc, ◌+◌, ◌-◌, ◌*◌, ◌/◌, ◌%◌, ◌<◌, ◌≤◌, min, max, nat_le, Bool, true, false, ◌&&◌, ◌==◌, List, length, count_by, slice_get, slice_index_or, Option, Some, None, is_some, option_map}
-use Rattle.std.specs.Option.{option_or}
-use Rattle.std.specs.List.{list_any}
+use Rattle.std.specs.List.{filter_map, list_all, list_any, range_with_len}
 use Rattle.ladder_vars.specs.Decls.{Declared}
 use Rattle.ladder_vars.specs.declared.decls.Instance.{Instance}
 use Rattle.ladder_vars.specs.declared.kind.Pin.{Pin}
@@ -47,8 +46,7 @@ takes_power j = elim j [ joint.Dash ↦ true | joint.Plus ↦ true | _ ↦ false
 
 -- vertical links on the left of the column join the n + 1 rows from this one on
 unfoldable pub joined : Drawing → ℕ → ℕ → ℕ → ℕ → Bool
-joined d rung row column zero = true
-joined d rung row column (suc n) = joined d rung row column n && (site_at d rung (row + n) column).vertical
+joined d rung row column n = list_all (λ r. (site_at d rung r column).vertical) (range_with_len row n)
 
 -- The right link of the row `from` in the column before enters the group of the row's joint.
 abbrev pub feeds : Drawing → ℕ → ℕ → ℕ → ℕ → Bool
@@ -64,14 +62,10 @@ is_empty other = false
 abbrev pub goes_to : ℕ → Cell → Option ℕ
 goes_to rungs c = elim c [ cell.Jump target ↦ Some target | cell.Return ↦ Some rungs | _ ↦ None ]
 
--- the last of the first places of a rung whose cell leads out of it: its row and column, and where to
-unfoldable pub jump_before : Drawing → ℕ → ℕ → Option (ℕ × ℕ × ℕ)
-jump_before d rung zero = None
-jump_before d rung (suc at) = option_or (option_map (λ target. (at % ROWS, at / ROWS, target)) (goes_to d.rungs (cell_of d rung at))) (jump_before d rung at)
-
 -- The row and the column of the rung's jump or return, and its target. A rung has at most one.
 unfoldable pub jump_of : Drawing → ℕ → Option (ℕ × ℕ × ℕ)
-jump_of d rung = jump_before d rung PLACES
+jump_of d rung =
+    slice_get (filter_map (λ at. option_map (λ target. (at % ROWS, at / ROWS, target)) (goes_to d.rungs (cell_of d rung at))) (range_with_len 0 PLACES)) 0
 
 abbrev pub memory_in : Cell → Option ℕ
 memory_in c = elim c [ cell.Contact mode operand memory ↦ memory | cell.Coil mode var memory ↦ memory | _ ↦ None ]
@@ -90,7 +84,7 @@ is_coil_of var c = elim c [ cell.Coil mode v memory ↦ v == var | _ ↦ false ]
 abbrev pub has_coil : ℕ → Drawing → Bool
 has_coil var d = list_any (λ s. is_coil_of var s.cell) d.sites
 
--- There are at most a hundred rungs, of sixty places each.
+-- There are at most `RUNGS` rungs, each of `PLACES` places.
 pub record IsWhole (d : Drawing) : Type 0 where
   pub few : d.rungs ≤ RUNGS
   pub size : length d.sites ≡ PLACES * d.rungs

@@ -6,6 +6,7 @@ use Rattle.std.proofs.lemmas.Bool.{cases_lt}
 use Rattle.std.proofs.lemmas.List.Elements.{filter_agree}
 use Rattle.ladder_page.specs.declared.geometry.TheConstants.{ROWS, PLACES}
 use Rattle.ladder_grid.specs.Program.{Drawing, feeds, joined, site_at, takes_power}
+use Rattle.ladder_grid.proofs.JoinLaws.{joined_more}
 use Rattle.ladder_elements.specs.Truth.{plain}
 use Rattle.ladder_scan.specs.declared.seen.Mark.{Mark}
 use Rattle.ladder_scan.specs.Cells.{Diagram}
@@ -20,24 +21,18 @@ use Rattle.ladder_power.proofs.Told.{begun, told}
 
 -- ---- the rows that feed one end feed the other
 
--- the uppermost of some links, and the rows below it
-upper : (d : Drawing) (j row column n : ℕ) → (site_at d j row column).vertical ≡ true → joined d j row column (suc n) ≡ joined d j (row + 1) column n
-unfolding joined
-upper d j row column zero h =
-    let here : row + 0 ≡ row = omega arith in ap (λ r. (site_at d j r column).vertical) here ∙ h
-upper d j row column (suc n) h =
-    let here : row + suc n ≡ row + 1 + n = omega arith in
-    ap (λ b. b && (site_at d j (row + suc n) column).vertical) (upper d j row column n h)
-    ∙ ap (λ r. joined d j (row + 1) column n && (site_at d j r column).vertical) here
-
 and_true : (a b : Bool) → b ≡ true → (a && b) ≡ a
 and_true true b h = h
 and_true false b h = refl
 
+-- the uppermost of some links, and the rows below it
+upper : (d : Drawing) (j row column n : ℕ) → (site_at d j row column).vertical ≡ true → joined d j row column (suc n) ≡ joined d j (row + 1) column n
+unfolding joined
+upper d j row column n h = ap (λ b. b && joined d j (row + 1) column n) h
+
 -- the lowest of some links, and the rows above it
 lower : (d : Drawing) (j row column n : ℕ) → (site_at d j (row + n) column).vertical ≡ true → joined d j row column (suc n) ≡ joined d j row column n
-unfolding joined
-lower d j row column n h = and_true (joined d j row column n) _ h
+lower d j row column n h = joined_more d j row column n ∙ and_true (joined d j row column n) _ h
 
 -- the links from one end to a row, and from the other
 group_same : (d : Drawing) (j row column from : ℕ) → (site_at d j row column).vertical ≡ true

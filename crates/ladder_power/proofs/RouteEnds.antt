@@ -10,6 +10,7 @@ use Rattle.std.proofs.lemmas.List.Folds.{list_any-append}
 use Rattle.ladder_page.specs.declared.geometry.TheConstants.{ROWS, PLACES}
 use Rattle.ladder_grid.specs.Program.{Drawing, feeds, is_block, joined, site_at}
 use Rattle.ladder_grid.specs.declared.cell.Cell.{Cell}
+use Rattle.ladder_grid.proofs.JoinLaws as joins
 use Rattle.ladder_scan.specs.declared.seen.Mark.{Mark}
 use Rattle.ladder_scan.specs.Cells.{place_at}
 use Rattle.ladder_scan.specs.Routes.{Route, block_end, routes, through}
@@ -208,17 +209,16 @@ past_ended p marks j n row column m cell block live ended h ec em eb el ee =
 -- ---- vertical links
 
 pub joined_none : (p : Drawing) (j top column : ℕ) → true ≡ joined p j top column (top - top)
-unfolding joined
-joined_none p j top column = ap (joined p j top column) (sym zero_less)
+joined_none p j top column = joins.joined_none p j top column ∙ ap (joined p j top column) (sym zero_less)
   where
     zero_less : top - top ≡ 0
     zero_less = omega arith
 
 pub joined_more : (p : Drawing) (j top column row : ℕ) → top ≤ row
     → (joined p j top column (row - top) && (site_at p j row column).vertical) ≡ joined p j top column (row + 1 - top)
-unfolding joined
 joined_more p j top column row le =
     ap (λ r. joined p j top column (row - top) && (site_at p j r column).vertical) here
+    ∙ sym (joins.joined_more p j top column (row - top))
     ∙ ap (joined p j top column) next
   where
     here : row ≡ top + (row - top)

@@ -1,8 +1,9 @@
 -- Cells that one group joins are fed alike.
-use Rattle.std.proofs.Common.{◌≡◌, ℕ, ◌+◌, ◌-◌, ◌<◌, ◌≤◌, ◌&&◌, Bool, true, false, min, max, zero, suc, nat_le, refl, sym, ap, ap₂, ◌∙◌, arith, inl, inr}
+use Rattle.std.proofs.Common.{◌≡◌, ℕ, ◌+◌, ◌-◌, ◌<◌, ◌≤◌, ◌&&◌, Bool, true, false, min, max, nat_le, refl, sym, ap, ap₂, ◌∙◌, arith, inl, inr}
 use Rattle.std.proofs.lemmas.Bool.{cases_lt}
 use Rattle.ladder_page.specs.declared.geometry.TheConstants.{ROWS}
 use Rattle.ladder_grid.specs.Program.{Drawing, feeds, joined, site_at, takes_power}
+use Rattle.ladder_grid.proofs.JoinLaws.{joined_parts}
 
 both_true : (a b : Bool) → (a && b) ≡ true → (a ≡ true) × (b ≡ true)
 both_true true true h = (refl, refl)
@@ -18,23 +19,7 @@ on_left : (a b : Bool) → a ≡ true → (a && b) ≡ b
 on_left true b h = refl
 on_left false b h = cc
 
-and_assoc : (a b c : Bool) → ((a && b) && c) ≡ (a && (b && c))
-and_assoc true b c = refl
-and_assoc false b c = refl
-
 module _ (p : Drawing) (j column : ℕ) where
-  joined_split : (a m n : ℕ) → joined p j a column (m + n) ≡ (joined p j a column m && joined p j (a + m) column n)
-  unfolding joined
-  joined_split a m zero =
-      let none : m + 0 ≡ m = omega arith in
-      ap (joined p j a column) none ∙ sym (on_right (joined p j a column m) true refl)
-  joined_split a m (suc n) =
-      let next : m + suc n ≡ suc (m + n) = omega arith in
-      let same : a + (m + n) ≡ a + m + n = omega arith in
-      ap (joined p j a column) next
-      ∙ ap₂ (λ x y. x && (site_at p j y column).vertical) (joined_split a m n) same
-      ∙ and_assoc (joined p j a column m) (joined p j (a + m) column n) _
-
   -- vertical links join all rows from the upper one to the lower one
   abbrev Joins : ℕ → ℕ → Bool
   Joins a b = joined p j (min a b) column (max a b - min a b)
@@ -55,7 +40,7 @@ module _ (p : Drawing) (j column : ℕ) where
   along a b c h k =
       let whole : c - a ≡ (b - a) + (c - b) = omega arith in
       let middle : a + (b - a) ≡ b = omega arith in
-      ap (joined p j a column) whole ∙ joined_split a (b - a) (c - b) ∙ ap (λ x. joined p j a column (b - a) && joined p j x column (c - b)) middle
+      ap (joined p j a column) whole ∙ joined_parts p j a column (b - a) (c - b) ∙ ap (λ x. joined p j a column (b - a) && joined p j x column (c - b)) middle
 
   -- a row that is joined to one of two joined rows is joined to the other
   joins_alike : (a b x : ℕ) → Joins a b ≡ true → Joins b x ≡ Joins a x

@@ -1,20 +1,20 @@
 -- What the rules of a drawing make sure of holds for the scan.
-use Rattle.std.proofs.Common.{◌≡◌, ℕ, ◌+◌, ◌*◌, ◌/◌, ◌%◌, ◌<◌, ◌≤◌, Bool, true, false, cond, ◌&&◌, slice_get, zero, suc, nat_lt, Option, Some, None, refl, ap, ◌∙◌, arith, subst}
+use Rattle.std.proofs.Common.{◌≡◌, ℕ, ◌+◌, ◌*◌, ◌/◌, ◌%◌, ◌<◌, ◌≤◌, Bool, true, false, cond, ◌&&◌, slice_get, zero, suc, nat_lt, Option, Some, None, refl, sym, ap, ◌∙◌, arith, subst}
 use Rattle.std.proofs.lemmas.Bool.Decides.{nat_tests}
 use Rattle.std.specs.Prelude.{option_map, unwrap_or}
-use Rattle.std.specs.Option.{option_or}
 use Rattle.ladder_vars.specs.declared.kind.BlockKind.TheVariants.{Ton}
 use Rattle.ladder_scan.specs.Cells.{place_at}
 use Rattle.ladder_vars.specs.declared.decls.Instance.{Instance}
 use Rattle.ladder_vars.specs.Decls.{AreInRange}
 use Rattle.ladder_vars.specs.Kind.{largest_preset}
 use Rattle.std.proofs.lemmas.Option.{get_or_from_slice_get, slice_get_within}
-use Rattle.ladder_page.specs.declared.geometry.TheConstants.{ROWS, COLUMNS, PLACES}
+use Rattle.ladder_page.specs.declared.geometry.TheConstants.{ROWS, PLACES}
 use Rattle.ladder_grid.specs.declared.cell.Cell.{Cell}
 use Rattle.ladder_grid.specs.declared.cell.Cell.TheVariants.{Empty, Wire, Contact, Coil, Block, Lower, Jump, Return}
-use Rattle.ladder_grid.specs.Program.{Drawing, cell_of, goes_to, jump_before, jump_of, memory_in, block_in, IsWellFormed, is_linked}
+use Rattle.ladder_grid.specs.Program.{Drawing, cell_of, goes_to, jump_of, memory_in, block_in, IsWellFormed, is_linked}
 use Rattle.ladder_scan.specs.Laws.{Once, Forward}
 use Rattle.ladder_scan.specs.Programs.{cell_at, diagram_of, is_filled, IsSound}
+use Rattle.ladder_grid.proofs.JumpLaws.{jump_placed}
 use Rattle.ladder_scan.proofs.GateLaws.{cell_is}
 
 both_true : (a b : Bool) → (a && b) ≡ true → (a ≡ true) × (b ≡ true)
@@ -81,54 +81,22 @@ linked p j e h =
 abbrev pub placed : Option (ℕ × ℕ × ℕ) → Option (ℕ × ℕ)
 placed jump = option_map (λ j. (place_at j.0 j.1, j.2)) jump
 
--- what a cell that leads to this target puts in place of another jump
-abbrev jump_in : Option ℕ → ℕ → Option (ℕ × ℕ × ℕ) → Option (ℕ × ℕ × ℕ)
-jump_in target at other = option_or (option_map (λ t. (at % ROWS, at / ROWS, t)) target) other
+same_parts : (a b : ℕ × ℕ) → Some a ≡ Some b → (a.0 ≡ b.0) × (a.1 ≡ b.1)
+same_parts a b h = (cc, cc)
 
--- the jump, if any, is at a place below n whose cell leads to its target
-abbrev LeadsAt : Drawing → ℕ → ℕ → Option (ℕ × ℕ) → Type 0
-LeadsAt p j n None = Unit {0}
-LeadsAt p j n (Some (place, target)) = (place < n) × (goes_to p.rungs (cell_of p j place) ≡ Some target)
-
-place_is : (e : ℕ) → ROWS * (e / ROWS) + e % ROWS ≡ e
-place_is e = omega arith
-
-later_jump : (p : Drawing) (j n : ℕ) (found : Option (ℕ × ℕ)) → LeadsAt p j n found → LeadsAt p j (suc n) found
-later_jump p j n None h = tt
-later_jump p j n (Some (place, target)) h = (omega (arith, h.0), h.1)
-
-jump_more : (p : Drawing) (j n : ℕ) (goal : Option ℕ) (found : Option (ℕ × ℕ × ℕ)) → goes_to p.rungs (cell_of p j n) ≡ goal
-    → LeadsAt p j n (placed found) → LeadsAt p j (suc n) (placed (jump_in goal n found))
-jump_more p j n None found e h = later_jump p j n (placed found) h
-jump_more p j n (Some target) found e h = (omega arith, ap (λ m. goes_to p.rungs (cell_of p j m)) (place_is n) ∙ e)
-
-jump_found : (p : Drawing) (j n : ℕ) → LeadsAt p j n (placed (jump_before p j n))
-unfolding jump_before
-jump_found p j zero = tt
-jump_found p j (suc n) = jump_more p j n (goes_to p.rungs (cell_of p j n)) (jump_before p j n) refl (jump_found p j n)
+-- the jump is at a place whose cell leads to its target
+jump_found : (p : Drawing) (j : ℕ) (found : Option (ℕ × ℕ × ℕ)) (place target : ℕ) → jump_of p j ≡ found → placed found ≡ Some (place, target)
+    → (place < PLACES) × (goes_to p.rungs (cell_of p j place) ≡ Some target)
+jump_found p j None place target is e = absurd (none_some e)
+jump_found p j (Some k) place target is e =
+    let stands = jump_placed p j k is in
+    let same = same_parts (place_at k.0 k.1, k.2) (place, target) e in
+    (omega (arith, same.0, stands.0, stands.1), ap (λ n. goes_to p.rungs (cell_of p j n)) (sym same.0) ∙ stands.2 ∙ ap Some same.1)
 
 jump_at : (p : Drawing) (j place target : ℕ) → (diagram_of p).jump j ≡ Some (place, target)
     → (place < PLACES) × (goes_to p.rungs (cell_of p j place) ≡ Some target)
-unfolding diagram_of jump_of
-jump_at p j place target e = subst (λ (x : Option (ℕ × ℕ)). LeadsAt p j PLACES x) e (jump_found p j PLACES)
-
-abbrev IsSmall : Option (ℕ × ℕ × ℕ) → Type 0
-IsSmall None = Unit {0}
-IsSmall (Some t) = (t.0 < ROWS) × (t.1 < COLUMNS)
-
-small_more : (n : ℕ) → n < PLACES → (goal : Option ℕ) (found : Option (ℕ × ℕ × ℕ)) → IsSmall found → IsSmall (jump_in goal n found)
-small_more n h None found s = s
-small_more n h (Some target) found s = (omega arith, omega arith)
-
-jump_small : (p : Drawing) (j n : ℕ) → n ≤ PLACES → IsSmall (jump_before p j n)
-unfolding jump_before
-jump_small p j zero h = tt
-jump_small p j (suc n) h = small_more n (omega arith) (goes_to p.rungs (cell_of p j n)) (jump_before p j n) (jump_small p j n (omega arith))
-
--- the row and the column of a jump
-pub jump_place : (p : Drawing) (j row column target : ℕ) → jump_of p j ≡ Some (row, column, target) → (row < ROWS) × (column < COLUMNS)
-unfolding jump_of
-jump_place p j row column target e = subst (λ (x : Option (ℕ × ℕ × ℕ)). IsSmall x) e (jump_small p j PLACES (omega arith))
+unfolding diagram_of
+jump_at p j place target e = jump_found p j (jump_of p j) place target refl e
 
 forward : (p : Drawing) → IsWellFormed p → Forward (diagram_of p)
 forward p w j place target e =
