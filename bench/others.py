@@ -1,8 +1,10 @@
 #!/usr/bin/env python3
-"""The list of a circuit by other means, to compare with: others.py filter|clingo CIRCUIT COIL INPUT...
+"""The list of a circuit by other means, to compare with: others.py filter|clingo|diagram CIRCUIT COIL INPUT...
 
 `filter` writes a program in C that scans once for each number and prints the rows; `clingo` writes an answer set program, one answer
-for each cause. Both know wires, plain and negated contacts and plain coils, which the circuits without blocks here are made of.
+for each cause; `diagram` writes a program in C that makes the coil's binary decision diagram with BuDDy (Debian's libbdd-dev; `-lbdd`)
+and prints a row for each path to ON, as `causes --grouped` does. All know wires, plain and negated contacts and plain coils, which the
+circuits without blocks here are made of.
 """
 import re
 import sys
@@ -91,11 +93,53 @@ def as_clingo(text, coil, listed):
     return "\n".join([*rules, f":- not {value[coil]}.", "#show i/1."])
 
 
+# what prints the paths to ON, before the program that makes the diagram
+PATHS = """#include <bdd.h>
+#include <stdint.h>
+#include <stdio.h>
+static char buffer[1 << 16], cells[2 * LISTED + 2];
+static void paths(BDD node, int level, int dashes) {
+    if (node == bddfalse) return;
+    int next = node == bddtrue ? LISTED : bdd_var(node);
+    for (; level < next; level++, dashes++) cells[2 * level + 1] = '-';
+    if (node == bddtrue) { printf("%llu%s", 1ull << dashes, cells); return; }
+    cells[2 * level + 1] = '0';
+    paths(bdd_low(node), level + 1, dashes);
+    cells[2 * level + 1] = '1';
+    paths(bdd_high(node), level + 1, dashes);
+}
+int main(void) {
+    setvbuf(stdout, buffer, _IOFBF, sizeof buffer);
+    for (int i = 0; i < LISTED; i++) cells[2 * i] = ',';
+    cells[2 * LISTED] = 10;
+    bdd_init(NODES, NODES / 10);
+    bdd_setvarnum(LISTED);"""
+
+
+def as_diagram(text, coil, listed):
+    lines = [f"#define LISTED {len(listed)}", "#define NODES 100000", PATHS]
+    lines += [f"BDD {name} = {f'bdd_ithvar({listed.index(name)})' if name in listed else 'bddfalse'};" for name in variables(text)]
+    for number, (names, wires) in enumerate(rungs(text)):
+        writes = []
+        for (row, column), feeding, drawn, name in links(names, wires):
+            place = f"l{number}_{row}_{column}"
+            left = "bddtrue" if feeding is None else "bddfalse"
+            for r, c in feeding or []:
+                left = f"bdd_or({left}, l{number}_{r}_{c})"
+            held = literal(drawn, name)
+            through = left if held is None else f"bdd_and({left}, {held[0] if held[1] else f'bdd_not({held[0]})'})"
+            lines.append(f"BDD {place} = bdd_addref({through});")
+            if "( )" in drawn:
+                writes.append(f"{name} = {place};")
+        lines += writes
+    return "\n".join([*lines, f"paths({coil}, 0, 0);", "return 0;", "}"])
+
+
 def main():
     kind, circuit, coil, *listed = sys.argv[1:]
     with open(circuit, encoding="ascii") as file:
         text = file.read()
-    print({"filter": as_filter, "clingo": as_clingo}[kind](text, coil, listed))
+    print({"filter": as_filter, "clingo": as_clingo, "diagram": as_diagram}[kind](text, coil, listed))
 
 
 if __name__ == "__main__":
