@@ -113,6 +113,7 @@ int main(void) {
     for (int i = 0; i < LISTED; i++) cells[2 * i] = ',';
     cells[2 * LISTED] = 10;
     bdd_init(NODES, NODES / 10);
+    bdd_gbc_hook(NULL);
     bdd_setvarnum(LISTED);"""
 
 
