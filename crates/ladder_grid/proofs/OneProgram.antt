@@ -1,8 +1,8 @@
 -- A page has one drawing, and a text is one program.
 use Rattle.std.proofs.Common.{◌≡◌, ℕ, ◌*◌, ◌<◌, List, drop, sym, ap, subst, ◌∙◌}
+use Rattle.ladder_page.specs.declared.geometry.TheConstants.{PLACES}
 use Rattle.ladder_vars.specs.Decls.{Declared}
 use Rattle.ladder_vars.specs.Grammar.{HasDecls}
-use Rattle.ladder_page.specs.declared.geometry.TheConstants.{PLACES}
 use Rattle.ladder_page.specs.Page.{Page, ReadsAs}
 use Rattle.ladder_grid.specs.Program.{Drawing, drawing}
 use Rattle.ladder_grid.specs.Sheet.{blank_site}

@@ -1,6 +1,6 @@
 -- A program: its declarations, and what its drawing has at each place.
 -- Rungs, rows and columns are counted from 0. The place of a cell in its rung is ROWS * column + row.
-use Rattle.std.specs.Prelude.{◌≡◌, ℕ, zero, suc, ◌+◌, ◌-◌, ◌*◌, ◌/◌, ◌%◌, ◌<◌, ◌≤◌, min, max, nat_le, Bool, true, false, ◌&&◌, ◌==◌, List, length, count_by, slice_get, slice_index_or, Option, Some, None, is_some, option_map}
+use Rattle.std.specs.Prelude.{◌≡◌, ℕ, ◌+◌, ◌-◌, ◌*◌, ◌/◌, ◌%◌, ◌<◌, ◌≤◌, min, max, nat_le, Bool, true, false, ◌&&◌, ◌==◌, List, length, count_by, slice_get, slice_index_or, Option, Some, None, is_some, option_map}
 use Rattle.std.specs.List.{filter_map, list_all, list_any, range_with_len}
 use Rattle.ladder_vars.specs.Decls.{Declared}
 use Rattle.ladder_vars.specs.declared.decls.Instance.{Instance}

@@ -6,6 +6,7 @@ use Rattle.ladder_page.specs.declared.geometry.TheConstants.{PLACES}
 use Rattle.ladder_grid.specs.declared.cell.Cell.{Cell}
 use Rattle.ladder_grid.specs.declared.cell.Cell.TheVariants.{Empty, Wire, Contact, Coil, Block, Lower, Jump, Return}
 use Rattle.ladder_grid.specs.declared.gates.Action.{Action}
+use Rattle.ladder_grid.specs.declared.gates.TheConstants.{OWN}
 use Rattle.ladder_grid.specs.Program.{Drawing, cell_of, is_block}
 use Rattle.ladder_grid.specs.Gates.{left_of, below_of, acts, action_at, actions_before, actions_of}
 use Rattle.ladder_elements.specs.Algebra.{Algebra}
@@ -48,7 +49,7 @@ module _ {S : Type 0} (o : Algebra S) (p : Drawing) (k : Kept) (now j : ℕ) (gu
   quiet Return x y f h = refl
 
   one : (c : Cell) (place left below : ℕ) (R : List S) (x y : S) (f : Frame S) → among o R left ≡ x
-      → (is_block c ≡ true → among o R (62 + place) ≡ q_here o (diagram_of p) k now c x y)
+      → (is_block c ≡ true → among o R (OWN + place) ≡ q_here o (diagram_of p) k now c x y)
       → acted o k guard R (record { cell = c; place = place; left = left; below = below }) f ≡ written o (diagram_of p) k now guard c x y f
   one Empty place left below R x y f h q = refl
   one Wire place left below R x y f h q = refl

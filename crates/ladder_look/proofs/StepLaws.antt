@@ -13,6 +13,7 @@ use Rattle.ladder_grid.specs.declared.cell.Operand.{Operand}
 use Rattle.ladder_grid.specs.declared.cell.Operand.TheVariants as operand
 use Rattle.ladder_grid.specs.declared.cell.Cell.{Cell}
 use Rattle.ladder_grid.specs.declared.cell.Cell.TheVariants as cell
+use Rattle.ladder_grid.specs.declared.gates.TheConstants.{OWN}
 use Rattle.ladder_grid.specs.declared.gates.Gate.{Gate}
 use Rattle.ladder_grid.specs.declared.gates.Action.{Action}
 use Rattle.ladder_grid.specs.declared.gates.Literal.{Literal}
@@ -86,7 +87,7 @@ module _ {S : Type 0} (o : Algebra S) (p : Drawing) (k : Kept) (now n : ℕ) (f 
 
     by_literal : (t : Literal) (c : Cell) → d_.cell n g.place ≡ c
         → gone o p k now (literal_step n g c t) (after links)
-        ≡ after (set (cond (is_other t) (set links (62 + g.place) (through o d_ k now f t c x y)) links) g.place (o.join (through o d_ k now f t c x y) (among o links g.other)))
+        ≡ after (set (cond (is_other t) (set links (OWN + g.place) (through o d_ k now f t c x y)) links) g.place (o.join (through o d_ k now f t c x y) (among o links g.other)))
     by_literal (literal.Is var) c h = refl
     by_literal (literal.Not var) c h = refl
     by_literal literal.Other c h = by_step c h

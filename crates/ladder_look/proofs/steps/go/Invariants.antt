@@ -1,4 +1,5 @@
 use Rattle.std.proofs.Common.{◌≡◌, drop, length, true}
+use Rattle.ladder_grid.specs.declared.gates.TheConstants.{LINKS}
 use Rattle.ladder_look.specs.Stepping.{going, all_gone}
 use Rattle.ladder_look.proofs.steps.go.Given as goal
 
@@ -9,7 +10,7 @@ invariant-loop-step g l =
     let k = l.base.storage.now.kept in
     record {
       values : length l.seen.values ≡ length p.decls.vars;
-      links : length l.links ≡ 122;
+      links : length l.links ≡ LINKS;
       taken : length l.taken ≡ p.rungs;
       gone : all_gone o p k l.base.now (drop l.step-index l.steps) (going l.seen l.taken l.links l.guard)
           ≡ all_gone o p k l.base.now l.steps (going l.fn.seen l.fn.taken l.fn.links (o.known true));
