@@ -3,7 +3,7 @@ PREFIX ?= /usr/local
 PROGRAM := crates/ladder/out/ladder
 SOURCES := crates.txt $(shell find crates -path '*/out' -prune -o -type f -print)
 
-.PHONY: all run test stress mutants browser bench install clean
+.PHONY: all run test stress mutants browser samples bench install clean
 
 all: bin/ladder
 
@@ -45,6 +45,11 @@ mutants: bin/ladder
 # Pages of HTML in a real browser, in light and dark; passed over where there is none.
 browser: bin/ladder
 	python3 tests/browser.py bin/ladder bin/pages
+
+# The sample projects of LinuxCNC, imported, and four of them beside its engine; fetches a Debian package, and is passed over without it.
+samples: bin/ladder
+	python3 tests/samples.py bin/ladder --kept=bin/linuxcnc
+	python3 tests/engine.py bin/ladder --kept=bin/linuxcnc
 
 # Timings; they prove nothing and fail nothing.
 bench: bin/ladder
