@@ -130,7 +130,7 @@ def compared(program, package, writes):
         kept = found
     wrong = sorted(key for key in {*found, *kept} if found.get(key) != kept.get(key))
     for key in wrong:
-        print(f"{key}: {found.get(key, 'not asked')}, not {kept.get(key, 'stored')}")
+        print(f"{key}: {found.get(key, 'not asked')[:14]}, not {kept.get(key, 'stored')[:14]}")
     whole, projects = carried(found)
     print(f"samples: {whole} of {projects} projects are carried over; {len(found) - len(wrong)} of {len(found)} answers are as stored")
     return 1 if wrong or not found else 0
