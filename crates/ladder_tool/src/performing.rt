@@ -6,6 +6,7 @@ ghost use Rattle.ladder_tool.specs.Performs.{IsDone, IsFailed};
 ghost use Rattle.ladder_setting.specs.Setting.{given_by};
 
 use ladder_carry::carry;
+use ladder_clp::Reading;
 use ladder_held::Scans;
 use ladder_lists::{
     list_causes, list_groups, list_held, list_never, list_part, list_possible, list_progress,
@@ -78,7 +79,15 @@ pub fn perform<O: Sink, S: Sink, E: Sink>(
         Request::Film(stimulus) => film(alloc, stimulus, texts, out, err),
         Request::Watch(watched) => watch(alloc, watched, texts, out, save, err),
         Request::Waves(waves) => wave(alloc, texts, waves.every, out, err),
-        Request::Import { .. } => carry(alloc, texts.why, &texts.program, hal_of(texts), out, err),
+        Request::Import { .. } => carry(
+            alloc,
+            Reading::Strict,
+            texts.why,
+            &texts.program,
+            hal_of(texts),
+            out,
+            err,
+        ),
         Request::Sim(sim) => { trace(alloc, texts, sim.every, sim.save.is_some(), out, save, err) }
     }
 }
