@@ -34,7 +34,7 @@ _ladder() {
         sim) options='--state --save --every --watch --watch-all --vcd --why --help' ;;
         check) options='--warn --why --help' ;;
         uses) options='--why --help' ;;
-        import) options='--hal --why --help' ;;
+        import) options='--open --hal --why --help' ;;
         never) options='--state --off --pairs --quiet --why --help' ;;
         explain) options='--help' ;;
         help)

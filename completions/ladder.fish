@@ -77,6 +77,7 @@ complete -c ladder -n '__ladder_at causes,never more 0' -l quiet -d 'No line of 
 complete -c ladder -n '__ladder_at never more 0' -l off -d 'What can never go OFF'
 complete -c ladder -n '__ladder_at never more 0' -l pairs -d 'Pairs that are never both ON'
 complete -c ladder -n '__ladder_at causes,show,sim,never more 0' -l state -r -F -d 'The state to begin in'
+complete -c ladder -n '__ladder_at import more 0' -l open -d 'Compares and steps have any value'
 complete -c ladder -n '__ladder_at import more 0' -l hal -r -F -d 'A HAL file with names'
 complete -c ladder -n '__ladder_at causes,show more 0' -l at -x -d 'The moment of the scan in ms'
 complete -c ladder -n '__ladder_at causes more 0' -l after -x -d 'Causes with a greater number only'

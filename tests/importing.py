@@ -4,7 +4,8 @@
 Each project is made at random, as the editor of ClassicLadder allows one: outputs in the last column, blocks of two rows and columns.
 It is refused by lines that name an element each, or it is written; then the text must be a program (`ladder check`), and each scan
 of a random stimulus must give the outputs that the elements give here, read straight from the project: column by column, and in a
-column from above. A few projects are made by hand first, one for each thing that is refused.
+column from above. Each second project has compares, contacts on steps and operates too, and is imported with `--open`: then the inputs
+that stand for these have random values here and there. A few projects are made by hand first, one for each thing that is refused.
 """
 import os
 import pathlib
@@ -16,9 +17,9 @@ import tempfile
 from collections import Counter
 
 COLUMNS, ROWS = 10, 6
-NOTHING, PART, WIRE, TIMER, MONOSTABLE, IEC_TIMER, JUMP = 0, 99, 9, 10, 11, 13, 54
+NOTHING, PART, WIRE, TIMER, MONOSTABLE, IEC_TIMER, JUMP, COMPARE, OPERATE = 0, 99, 9, 10, 11, 13, 54, 20, 60
 CONTACTS, COILS = (1, 2, 3, 4), (50, 51, 52, 53)
-INPUT, OUTPUT, BIT = 50, 60, 0
+INPUT, OUTPUT, BIT, STEP = 50, 60, 0, 30
 DONE = {10: TIMER, 20: MONOSTABLE, 15: IEC_TIMER}
 BASES = {0: 60000, 1: 1000, 2: 100}
 INPUTS, OUTPUTS, BITS, BLOCKS = 6, 8, 6, 8
@@ -50,6 +51,7 @@ class Project:
             rows = [" , ".join("%d-%d-%d/%d" % place for place in row) for row in self.rungs[number]]
             part(f"rung_{number}.csv", ["#VER=2.0", f"#LABEL=L{number}", "#COMMENT=made *) by chance", f"#NEXTRUNG={after}", *rows])
         part("sections.csv", ["#VER=1.0", "#NAME000=Main", *(",".join(map(str, section)) for section in self.sections)])
+        part("arithmetic_expressions.csv", ["#VER=2.0", "0000,@200/0@>5", "0001,@200/1@=@200/0@+1", "0002,@0/1@=1"])
         part("symbols.csv", ["%I0,E-STOP,first *) input", "%Q0,TON,", "%B1,much_too_long_a_name,"])
         return "\n".join([*lines, "_/FILES_CLASSICLADDER", ""])
 
@@ -63,11 +65,11 @@ class Engine:
     def __init__(self, project):
         self.project = project
         self.values = Counter()
-        self.edges, self.blocks = {}, {}
+        self.edges, self.blocks, self.opened = {}, {}, {}
         self.now = 0
 
-    def scan(self, now, inputs):
-        self.now = now
+    def scan(self, now, inputs, opened):
+        self.now, self.opened = now, opened
         for number, value in enumerate(inputs):
             self.values[INPUT, number] = value
         numbers = sorted(self.project.rungs)
@@ -101,9 +103,13 @@ class Engine:
                 if kind in (TIMER, MONOSTABLE, IEC_TIMER):
                     power.update(self.block(grid, power, row, column))
                     continue
+                if kind == COMPARE:
+                    power[row, column] = self.left(grid, power, row, column - 2) and self.opened[number, row, column]
+                    continue
                 here = self.left(grid, power, row, column)
                 if kind in CONTACTS:
-                    closed = self.contact(number, row, column, kind, self.value(sort, index))
+                    value = self.opened[number, row, column] if sort == STEP else self.value(sort, index)
+                    closed = self.contact(number, row, column, kind, value)
                     power[row, column] = here and closed
                 elif kind == WIRE:
                     power[row, column] = here
@@ -151,7 +157,9 @@ class Engine:
 # ---- projects
 
 
-def operand(chance):
+def operand(chance, opened):
+    if opened and chance.random() < 0.15:
+        return STEP, chance.randrange(3)
     sort = chance.choice([INPUT] * 5 + [OUTPUT] * 2 + [BIT] * 2 + list(DONE))
     return sort, chance.randrange({INPUT: INPUTS, OUTPUT: OUTPUTS, BIT: BITS}.get(sort, BLOCKS))
 
@@ -173,25 +181,51 @@ def place_block(chance, grid, busy, left, row, column):
     return True
 
 
-def draw(chance, number, rungs, left):
+def place_compare(grid, busy, row, column, link):
+    """Draws a compare whose element is two columns behind the place, where there is room."""
+    room = {(row, column + more) for more in range(3)}
+    if column + 3 >= COLUMNS or room & busy:
+        return False
+    busy |= room
+    grid[row][column] = element(PART, link)
+    grid[row][column + 1] = element(PART)
+    grid[row][column + 2] = element(COMPARE)
+    return True
+
+
+def place_operate(grid, busy, row):
+    """Draws an operate in the last column, where there is room."""
+    room = {(row, COLUMNS - more) for more in (1, 2, 3)}
+    if not room & busy:
+        busy |= room
+        for column in (COLUMNS - 3, COLUMNS - 2):
+            grid[row][column] = element(PART)
+        grid[row][COLUMNS - 1] = element(OPERATE, 0, 0, 1)
+
+
+def draw(chance, number, rungs, left, opened):
     grid = [[element(NOTHING) for _ in range(COLUMNS)] for _ in range(ROWS)]
     busy, rows = set(), chance.randint(1, ROWS)
     for row in range(rows):
+        if opened and chance.random() < 0.2:
+            place_operate(grid, busy, row)
         for column in range(COLUMNS - 1):
             if (row, column) in busy:
                 continue
             link, dice = int(row > 0 and chance.random() < 0.25), chance.random()
             if dice < 0.04 and column + 2 < COLUMNS and place_block(chance, grid, busy, left, row, column + 1):
                 continue
+            if opened and dice < 0.1 and place_compare(grid, busy, row, column, link):
+                continue
             if dice < 0.45:
-                grid[row][column] = element(chance.choice((1, 1, 1, 2, 2, 3, 4)), link, *operand(chance))
+                grid[row][column] = element(chance.choice((1, 1, 1, 2, 2, 3, 4)), link, *operand(chance, opened))
             elif dice < (0.93 if column else 0.55):
                 grid[row][column] = element(WIRE, link)
             else:
                 grid[row][column] = element(NOTHING, link)
         if (row, COLUMNS - 1) not in busy:
             link, dice = int(row > 0 and chance.random() < 0.15), chance.random()
-            fed = grid[row][COLUMNS - 2][0] in (*CONTACTS, WIRE)
+            fed = grid[row][COLUMNS - 2][0] in (*CONTACTS, WIRE, COMPARE)
             sort = chance.choice((OUTPUT, OUTPUT, BIT))
             if fed and dice < 0.85:
                 coil = element(chance.choice((50, 50, 51, 52, 53)), link, sort, chance.randrange(OUTPUTS if sort == OUTPUT else BITS))
@@ -221,12 +255,15 @@ def without_power(grid):
     return [row for row in range(ROWS) if grid[row][COLUMNS - 1][0] in COILS and (row, COLUMNS - 1) not in come]
 
 
-def random_project(chance):
+def random_project(chance, opened):
     presets = {kind: [(2, chance.randint(0, 4)) for _ in range(BLOCKS)] for kind in (TIMER, MONOSTABLE)}
     presets[IEC_TIMER] = [(2, chance.randint(0, 4), chance.randrange(3)) for _ in range(BLOCKS)]
     left = {kind: chance.sample(range(BLOCKS), BLOCKS) for kind in presets}
     rungs = chance.randint(1, 4)
-    return Project({number: draw(chance, number, rungs, left) for number in range(rungs)}, presets)
+    sections = [(0, 0, -1, 0, rungs - 1, 0)]
+    if opened and chance.random() < 0.5:
+        sections.append((1, 1, -1, 0, 0, 0))
+    return Project({number: draw(chance, number, rungs, left, opened) for number in range(rungs)}, presets, sections)
 
 
 def one_row(*elements):
@@ -256,6 +293,22 @@ MADE = (
     (one_row(CLOSED, element(PART), element(MONOSTABLE, 0, 0, 1), COIL), "no_preset"),
 )
 
+# made by hand, and imported with `--open`
+OPENED = (
+    (one_row(element(1, 0, STEP, 0), COIL), None),
+    (one_row(CLOSED, element(PART), element(PART), element(COMPARE), COIL), None),
+    (one_row(CLOSED, element(WIRE), element(PART), element(COMPARE), COIL), "unknown_element"),
+    (one_row(CLOSED, element(PART), element(PART, 1), element(COMPARE), COIL), "out_of_place"),
+    (one_row(element(PART), element(COMPARE), COIL), "out_of_place"),
+    (one_row(CLOSED, element(OPERATE, 0, 0, 1)), None),
+    (one_row(CLOSED, element(OPERATE, 0, 0, 2)), "operate"),
+    (one_row(CLOSED, element(OPERATE, 0, 0, 3)), "operate"),
+    (one_row(element(OPERATE, 0, 0, 1), COIL), "out_of_place"),
+    (one_row(CLOSED, element(50, 0, STEP, 0)), "other_coil"),
+    (one_row(CLOSED, element(55)), "call"),
+    (one_row(CLOSED, element(PART), element(12), COIL), "counter"),
+)
+
 
 # ---- the comparison
 
@@ -265,11 +318,11 @@ def call(program, *words):
     return done.returncode, done.stdout.decode(errors="replace"), done.stderr.decode(errors="replace")
 
 
-def imported(program, folder, project):
+def imported(program, folder, project, *options):
     """The text, or the lines that refuse it."""
     path = folder / "project.clp"
     path.write_text(project.text())
-    status, out, err = call(program, "import", str(path))
+    status, out, err = call(program, "import", *options, str(path))
     if status == 0:
         return out, []
     assert not out, f"text beside a refusal:\n{out}"
@@ -278,28 +331,43 @@ def imported(program, folder, project):
     return None, lines
 
 
+class Freely(dict):
+    """The values of what is opened; what no power reaches has no input, and is OFF."""
+
+    def __missing__(self, place):
+        return False
+
+
 def has_same_scans(program, folder, project, text, chance):
     """Whether each scan of a random stimulus gives the outputs that the elements give."""
     (folder / "program.ld").write_text(text)
     status, out, err = call(program, "check", str(folder / "program.ld"))
     assert status == 0, f"no program: {err}\n{text}"
     inputs = dict(re.findall(r"^  (\w+) AT %IX(\d+) ", text, re.M))
+    places = re.findall(r"^  (\w+) AT %IX(\d+)\.(\d+) ", text, re.M)
+    opened = {name: (sorted(project.rungs)[int(rung) - 1], int(place) // 100 - 1, int(place) % 100 - 1) for name, rung, place in places}
+    told = re.match(r"\(\* Opened: (\d+) inputs .*; operates left out: (\d+)\.", text)
+    operates = sum(place[0] == OPERATE for grid in project.rungs.values() for row in grid for place in row)
+    assert (int(told[1]), int(told[2])) == (len(opened), operates) if told else not opened and not operates, text
     outputs = dict(re.findall(r"^  (\w+) AT %QX(\d+) ", text, re.M))
     records, now, values = [], 0, [0] * INPUTS
     for _ in range(60):
         values = [value ^ int(chance.random() < 0.3) for value in values]
-        records.append((now, list(values)))
+        records.append((now, list(values), {place: chance.random() < 0.5 for place in opened.values()}))
         now += 100
-    head = "moment" + "".join(f",{name}" for name in inputs)
-    lines = [",".join(map(str, [moment, *(row[int(number)] for number in inputs.values())])) for moment, row in records]
+    head = "moment" + "".join(f",{name}" for name in [*inputs, *opened])
+    lines = []
+    for moment, row, freely in records:
+        read = [row[int(number)] for number in inputs.values()] + [int(freely[place]) for place in opened.values()]
+        lines.append(",".join(map(str, [moment, *read])))
     (folder / "stimulus.csv").write_text("\n".join([head, *lines, ""]))
     status, out, err = call(program, "sim", str(folder / "program.ld"), str(folder / "stimulus.csv"))
     assert status == 0, f"no trace: {err}\n{text}"
     engine = Engine(project)
     rows = out.splitlines()
     names = rows[0].split(",")[1:]
-    for (moment, row), line in zip(records, rows[1:]):
-        expected = engine.scan(moment, row)
+    for (moment, row, freely), line in zip(records, rows[1:]):
+        expected = engine.scan(moment, row, Freely(freely))
         wanted = [str(int(expected[int(outputs[name])])) for name in names]
         if line.split(",")[1:] != wanted:
             return f"at {moment}: {dict(zip(names, line.split(',')[1:]))}, not {dict(zip(names, wanted))}"
@@ -313,19 +381,25 @@ def main():
     met = Counter()
     with tempfile.TemporaryDirectory() as name:
         folder = pathlib.Path(name)
-        for grid, refusal in MADE:
-            text, lines = imported(program, folder, Project({0: grid}, PRESETS))
+        made = [(grid, refusal, ()) for grid, refusal in MADE] + [(grid, refusal, ("--open",)) for grid, refusal in OPENED]
+        for grid, refusal, options in made:
+            text, lines = imported(program, folder, Project({0: grid}, PRESETS), *options)
             if (text is None) != (refusal is not None) or refusal and not any(line.endswith(f" {refusal}") for line in lines):
                 print(f"made by hand, {refusal}: {lines or text}")
                 return 1
             met["made by hand"] += 1
         for number in range(count):
             chance = random.Random(f"{seed} {number}")
-            project = random_project(chance)
-            text, lines = imported(program, folder, project)
+            opened = number % 2 == 1
+            project = random_project(chance, opened)
+            text, lines = imported(program, folder, project, *["--open"] * opened)
             if text is None:
                 met["refused"] += 1
                 continue
+            if opened and not text.startswith("(*"):
+                strictly = imported(program, folder, project)[0] if len(project.sections) == 1 else None
+                assert strictly in (None, text), "another text with --open"
+            met["opened"] += text.startswith("(*")
             difference = has_same_scans(program, folder, project, text, chance)
             if difference:
                 print(f"project {seed} {number}: {difference}\n{project.text()}\n{text}")

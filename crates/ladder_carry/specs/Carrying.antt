@@ -3,6 +3,7 @@ use Rattle.std.specs.Prelude.{◌≡◌, ◌⊎◌, All, ℕ, Bool, List}
 use Rattle.ladder_clp.specs.Project.{IsProject, IsRight}
 use Rattle.ladder_clp.specs.declared.fault.ClpFault.{ClpFault}
 use Rattle.ladder_clp.specs.declared.project.Project.{Project}
+use Rattle.ladder_clp.specs.declared.reading.Reading.{Reading}
 use Rattle.ladder_import.specs.Import.{HasText, IsFault}
 use Rattle.ladder_import.specs.Refusals.{IsThere}
 use Rattle.ladder_import.specs.declared.importing.ImportFault.{ImportFault}
@@ -12,34 +13,34 @@ use Rattle.ladder_setting.specs.declared.fault.ToolFault.TheVariants as fault
 use Rattle.ladder_text.specs.Log.{PutsAll, PutsPrefix, WriteLog}
 use Rattle.ladder_carry.specs.Lines.{import_text, project_text, refusals_text}
 
--- The text is that of a project, and a program text of it is written, whole or as far as `Written` says.
-pub record Carries (text : List ℕ) (Written : List ℕ → Type 0) : Type 0 where
+-- The text is that of a project, as it is read, and a program text of it is written, whole or as far as `Written` says.
+pub record Carries (reading : Reading) (text : List ℕ) (Written : List ℕ → Type 0) : Type 0 where
   pub project : Project
-  pub is : IsProject text project
+  pub is : IsProject reading text project
   pub drawn : List ℕ
-  pub has : HasText project drawn
+  pub has : HasText reading project drawn
   pub written : Written drawn
 
 -- What is said where there is no program text: why the text is no project.
-abbrev pub IsNoProject : Bool → List ℕ → List ℕ → Type 0
-IsNoProject why text said = (f : ClpFault) × IsRight text f × (said ≡ project_text why f)
+abbrev pub IsNoProject : Reading → Bool → List ℕ → List ℕ → Type 0
+IsNoProject reading why text said = (f : ClpFault) × IsRight reading text f × (said ≡ project_text why f)
 
 -- Or which elements of the project can't be carried over: each of them is there, with its reason.
-abbrev pub IsRefused : Bool → List ℕ → List ℕ → Type 0
-IsRefused why text said =
-    (p : Project) × (refusals : List Refusal) × IsProject text p × All (IsThere p.rungs.items) refusals × (said ≡ refusals_text why refusals)
+abbrev pub IsRefused : Reading → Bool → List ℕ → List ℕ → Type 0
+IsRefused reading why text said =
+    (p : Project) × (refusals : List Refusal) × IsProject reading text p × All (IsThere reading p.rungs.items) refusals × (said ≡ refusals_text why refusals)
 
 -- Or why it has none though no element is refused.
-abbrev pub HasNone : Bool → List ℕ → List ℕ → Type 0
-HasNone why text said = (p : Project) × (f : ImportFault) × IsProject text p × IsFault p f × (said ≡ import_text why f)
+abbrev pub HasNone : Reading → Bool → List ℕ → List ℕ → Type 0
+HasNone reading why text said = (p : Project) × (f : ImportFault) × IsProject reading text p × IsFault reading p f × (said ≡ import_text why f)
 
 -- This is said, or a prefix of it before the writer failed.
-pub record Says (why : Bool) (text : List ℕ) (old new : WriteLog) : Type 0 where
+pub record Says (reading : Reading) (why : Bool) (text : List ℕ) (old new : WriteLog) : Type 0 where
   pub said : List ℕ
-  pub is : IsNoProject why text said ⊎ (IsRefused why text said ⊎ HasNone why text said)
+  pub is : IsNoProject reading why text said ⊎ (IsRefused reading why text said ⊎ HasNone reading why text said)
   pub written : PutsAll old new said ⊎ PutsPrefix old new said
 
 -- Status 1: there is no program text, and nothing is on `out`; or `out` failed.
-abbrev pub BreaksCarrying : Bool → List ℕ → WriteLog → WriteLog → WriteLog → WriteLog → Type 0
-BreaksCarrying why text out out' err err' =
-    ((out' ≡ out) × Says why text err err') ⊎ (Carries text (PutsPrefix out out') × IsReported (unread why) err err' fault.Write)
+abbrev pub BreaksCarrying : Reading → Bool → List ℕ → WriteLog → WriteLog → WriteLog → WriteLog → Type 0
+BreaksCarrying reading why text out out' err err' =
+    ((out' ≡ out) × Says reading why text err err') ⊎ (Carries reading text (PutsPrefix out out') × IsReported (unread why) err err' fault.Write)

@@ -6,7 +6,7 @@ ghost use Rattle.ladder_text.specs.Log.{PutsAll};
 ghost use Rattle.ladder_carry.specs.Carrying.{BreaksCarrying, Carries};
 
 use crate::faults::{write_import_fault, write_project_fault, write_refusals};
-use ladder_clp::{Project, read_project};
+use ladder_clp::{Project, Reading, read_project};
 use ladder_hal::{Link, joined, links_in};
 use ladder_import::{ImportFault, import, refusals};
 use ladder_setting::{ToolFault, report_unread};
@@ -26,6 +26,7 @@ fn told(written: Result<(), WriteFault>) -> u8
 /// Writes the program text of a project none of whose elements is refused.
 fn carry_whole<O: Sink, E: Sink>(
     alloc: Global,
+    reading: Reading,
     why: bool,
     text: &[u8],
     project: &Project<'_>,
@@ -33,12 +34,12 @@ fn carry_whole<O: Sink, E: Sink>(
     out: &mut O,
     err: &mut E,
 ) -> u8
-    requires { IsProject text.now project.now }
+    requires { IsProject reading text.now project.now }
     ensures status { result ≤ 1 }
-    ensures done { result ≡ 0 → Carries text.now (PutsAll (O.log out.old) (O.log out.new)) × (E.log err.new ≡ E.log err.old) }
-    ensures failed { result ≡ 1 → BreaksCarrying why text.now (O.log out.old) (O.log out.new) (E.log err.old) (E.log err.new) }
+    ensures done { result ≡ 0 → Carries reading text.now (PutsAll (O.log out.old) (O.log out.new)) × (E.log err.new ≡ E.log err.old) }
+    ensures failed { result ≡ 1 → BreaksCarrying reading why text.now (O.log out.old) (O.log out.new) (E.log err.old) (E.log err.new) }
 {
-    match import(alloc, project, links) {
+    match import(alloc, reading, project, links) {
         Ok(drawn) => match put(out, &drawn) {
             Ok(()) => 0,
             Err(_) => report_unread(why, &ToolFault::Write, err),
@@ -50,6 +51,7 @@ fn carry_whole<O: Sink, E: Sink>(
 /// Writes the program text of a project none of whose elements is refused, with names from a HAL file.
 fn carry_named<O: Sink, E: Sink>(
     alloc: Global,
+    reading: Reading,
     why: bool,
     text: &[u8],
     project: &Project<'_>,
@@ -57,16 +59,16 @@ fn carry_named<O: Sink, E: Sink>(
     out: &mut O,
     err: &mut E,
 ) -> u8
-    requires { IsProject text.now project.now }
+    requires { IsProject reading text.now project.now }
     ensures status { result ≤ 1 }
-    ensures done { result ≡ 0 → Carries text.now (PutsAll (O.log out.old) (O.log out.new)) × (E.log err.new ≡ E.log err.old) }
-    ensures failed { result ≡ 1 → BreaksCarrying why text.now (O.log out.old) (O.log out.new) (E.log err.old) (E.log err.new) }
+    ensures done { result ≡ 0 → Carries reading text.now (PutsAll (O.log out.old) (O.log out.new)) × (E.log err.new ≡ E.log err.old) }
+    ensures failed { result ≡ 1 → BreaksCarrying reading why text.now (O.log out.old) (O.log out.new) (E.log err.old) (E.log err.new) }
 {
     let Ok(lines) = joined(alloc, hal) else {
         return told(write_import_fault(why, ImportFault::Memory, err));
     };
     match links_in(alloc, &lines) {
-        Ok(links) => carry_whole(alloc, why, text, project, &links, out, err),
+        Ok(links) => carry_whole(alloc, reading, why, text, project, &links, out, err),
         Err(_) => told(write_import_fault(why, ImportFault::Memory, err)),
     }
 }
@@ -74,6 +76,7 @@ fn carry_named<O: Sink, E: Sink>(
 /// Writes the program text of the project, or what is refused of it.
 fn carry_project<O: Sink, E: Sink>(
     alloc: Global,
+    reading: Reading,
     why: bool,
     text: &[u8],
     project: &Project<'_>,
@@ -81,15 +84,15 @@ fn carry_project<O: Sink, E: Sink>(
     out: &mut O,
     err: &mut E,
 ) -> u8
-    requires { IsProject text.now project.now }
+    requires { IsProject reading text.now project.now }
     ensures status { result ≤ 1 }
-    ensures done { result ≡ 0 → Carries text.now (PutsAll (O.log out.old) (O.log out.new)) × (E.log err.new ≡ E.log err.old) }
-    ensures failed { result ≡ 1 → BreaksCarrying why text.now (O.log out.old) (O.log out.new) (E.log err.old) (E.log err.new) }
+    ensures done { result ≡ 0 → Carries reading text.now (PutsAll (O.log out.old) (O.log out.new)) × (E.log err.new ≡ E.log err.old) }
+    ensures failed { result ≡ 1 → BreaksCarrying reading why text.now (O.log out.old) (O.log out.new) (E.log err.old) (E.log err.new) }
 {
-    match refusals(alloc, project) {
+    match refusals(alloc, reading, project) {
         Ok(refused) => {
             if refused.is_empty() {
-                return carry_named(alloc, why, text, project, hal, out, err);
+                return carry_named(alloc, reading, why, text, project, hal, out, err);
             }
             told(write_refusals(why, &refused, err))
         }
@@ -102,6 +105,7 @@ fn carry_project<O: Sink, E: Sink>(
 /// there is none, gives names to inputs and outputs. Returns the status: 0 where the whole text was written, or 1.
 pub fn carry<O: Sink, E: Sink>(
     alloc: Global,
+    reading: Reading,
     why: bool,
     text: &[u8],
     hal: &[u8],
@@ -109,11 +113,11 @@ pub fn carry<O: Sink, E: Sink>(
     err: &mut E,
 ) -> u8
     ensures status { result ≤ 1 }
-    ensures done { result ≡ 0 → Carries text.now (PutsAll (O.log out.old) (O.log out.new)) × (E.log err.new ≡ E.log err.old) }
-    ensures failed { result ≡ 1 → BreaksCarrying why text.now (O.log out.old) (O.log out.new) (E.log err.old) (E.log err.new) }
+    ensures done { result ≡ 0 → Carries reading text.now (PutsAll (O.log out.old) (O.log out.new)) × (E.log err.new ≡ E.log err.old) }
+    ensures failed { result ≡ 1 → BreaksCarrying reading why text.now (O.log out.old) (O.log out.new) (E.log err.old) (E.log err.new) }
 {
-    match read_project(alloc, text) {
-        Ok(project) => carry_project(alloc, why, text, &project, hal, out, err),
+    match read_project(alloc, reading, text) {
+        Ok(project) => carry_project(alloc, reading, why, text, &project, hal, out, err),
         Err(fault) => told(write_project_fault(why, fault, err)),
     }
 }

@@ -1,4 +1,5 @@
 pub mod Format
+pub mod Openness
 pub mod Order
 pub mod Project
 pub mod RungFault

@@ -1,8 +1,10 @@
 -- The order in which the rungs are scanned: section by section, and in each from its first rung by the next ones to its last.
-use Rattle.std.specs.Prelude.{◌≡◌, ◌==◌, ◌++◌, ◌∷◌, [], ℕ, zero, suc, Bool, true, false, List, length, find, Option, Some, None, option_map, is_none, Result, Ok, Err, if◌then◌else◌}
+use Rattle.std.specs.Prelude.{◌≡◌, ◌==◌, ◌&&◌, ◌++◌, ◌∷◌, [], ℕ, zero, suc, Bool, true, false, List, length, find, Option, Some, None, option_map, is_none, Result, Ok, Err, if◌then◌else◌}
 use Rattle.ladder_clp.specs.declared.rung.Rung.{Rung}
 use Rattle.ladder_clp.specs.declared.order.Placed.{Placed}
 use Rattle.ladder_clp.specs.declared.table.Section.{Section}
+use Rattle.ladder_clp.specs.declared.reading.Reading.{Reading}
+use Rattle.ladder_clp.specs.Openness.{is_open}
 use Rattle.ladder_clp.specs.declared.fault.ClpFault.{ClpFault}
 use Rattle.ladder_clp.specs.declared.fault.ClpFault.TheVariants.{Memory, NotLadder, BrokenWay}
 
@@ -26,18 +28,22 @@ abbrev pub behind_rungs : List Placed → Result (List Placed) ClpFault → Resu
 behind_rungs front (Ok placed) = Ok (front ++ placed)
 behind_rungs front (Err fault) = Err fault
 
+-- A sequential chart writes numbers and its own steps alone. Where these are opened it is left out.
+abbrev pub is_left_out : Reading → Section → Bool
+is_left_out reading s = is_open reading && s.language == 1
+
 -- A section that is called by its number isn't scanned by itself.
-abbrev pub with_section : List Rung → Section → Result (List Placed) ClpFault → Result (List Placed) ClpFault
-with_section rungs s others =
+abbrev pub with_section : Reading → List Rung → Section → Result (List Placed) ClpFault → Result (List Placed) ClpFault
+with_section reading rungs s others =
     if s.language == 0 then (if is_none s.subroutine
     then elim (way s.number s.last rungs (length rungs) s.first) [ Some placed ↦ behind_rungs placed others | None ↦ Err (BrokenWay s.number) ]
     else others)
-    else Err (NotLadder s.number)
+    else (if is_left_out reading s then others else Err (NotLadder s.number))
 
 -- the rungs in the order of the scan, or the first fault of a section
-abbrev pub arranged : List Rung → List Section → Result (List Placed) ClpFault
-arranged rungs [] = Ok []
-arranged rungs (s ∷ ss) = with_section rungs s (arranged rungs ss)
+abbrev pub arranged : Reading → List Rung → List Section → Result (List Placed) ClpFault
+arranged reading rungs [] = Ok []
+arranged reading rungs (s ∷ ss) = with_section reading rungs s (arranged reading rungs ss)
 
 -- Out of memory, or the first fault of a section.
 abbrev pub IsOrderFault : Result (List Placed) ClpFault → ClpFault → Type 0

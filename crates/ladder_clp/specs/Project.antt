@@ -6,12 +6,13 @@ use Rattle.ladder_clp.specs.declared.fault.ClpFault.{ClpFault}
 use Rattle.ladder_clp.specs.declared.fault.ClpFault.TheVariants.{Memory, NoProject, BadRung, BadTable, NotLadder, BrokenWay}
 use Rattle.ladder_clp.specs.declared.order.Placed.{Placed}
 use Rattle.ladder_clp.specs.declared.project.Project.{Project}
+use Rattle.ladder_clp.specs.declared.reading.Reading.{Reading}
 use Rattle.ladder_clp.specs.declared.rung.Rung.{Rung}
 use Rattle.ladder_clp.specs.declared.table.Section.{Section}
 use Rattle.ladder_clp.specs.Format.{is_line, lines_of, part_of}
 use Rattle.ladder_clp.specs.Order.{arranged}
 use Rattle.ladder_clp.specs.Rungs.{read_of, rungs_in}
-use Rattle.ladder_clp.specs.Tables.{presets_in, sections_in, symbol_of, symbols_in}
+use Rattle.ladder_clp.specs.Tables.{expression_of, expressions_in, presets_in, sections_in, symbol_of, symbols_in}
 
 -- the first line of a project
 abbrev pub is_headed : List (List ℕ) → Bool
@@ -29,22 +30,23 @@ head_of table.IecTimers = codes "_FILE-timers_iec.csv"
 head_of table.Sections = sections_head
 
 -- The rungs of the parts in the order of the sections are these, or have this fault.
-abbrev pub HasRungs : List (List ℕ) → Result (List Placed) ClpFault → Type 0
-HasRungs lines order =
+abbrev pub HasRungs : Reading → List (List ℕ) → Result (List Placed) ClpFault → Type 0
+HasRungs reading lines order =
     (rungs : List Rung) × (sections : List Section) × (rungs_in lines ≡ Ok (map read_of rungs))
-    × (sections_in (part_of sections_head lines) ≡ Some sections) × (arranged rungs sections ≡ order)
+    × (sections_in (part_of sections_head lines) ≡ Some sections) × (arranged reading rungs sections ≡ order)
 
 -- What a project has is what its lines say.
-pub record AreOfProject (lines : List (List ℕ)) (p : Project) : Type 0 where
+pub record AreOfProject (reading : Reading) (lines : List (List ℕ)) (p : Project) : Type 0 where
   pub headed : is_headed lines ≡ true
-  pub rungs : HasRungs lines (Ok p.rungs.items)
+  pub rungs : HasRungs reading lines (Ok p.rungs.items)
   pub timers : presets_in (part_of (head_of table.Timers) lines) ≡ Some p.timers.items
   pub monostables : presets_in (part_of (head_of table.Monostables) lines) ≡ Some p.monostables.items
   pub iec_timers : presets_in (part_of (head_of table.IecTimers) lines) ≡ Some p.iec_timers.items
   pub symbols : map symbol_of p.symbols.items ≡ symbols_in (part_of (codes "_FILE-symbols.csv") lines)
+  pub expressions : map expression_of p.expressions.items ≡ expressions_in (part_of (codes "_FILE-arithmetic_expressions.csv") lines)
 
-abbrev pub IsProject : List ℕ → Project → Type 0
-IsProject text p = AreOfProject (lines_of text) p
+abbrev pub IsProject : Reading → List ℕ → Project → Type 0
+IsProject reading text p = AreOfProject reading (lines_of text) p
 
 -- ---- faults
 
@@ -53,14 +55,14 @@ abbrev pub IsTableFault : {A : Type 0} → Table → Option (List A) → ClpFaul
 IsTableFault t read fault = (fault ≡ Memory) ⊎ ((fault ≡ BadTable t) × (read ≡ None))
 
 -- The lines have the fault that is named.
-abbrev pub IsFaultOf : List (List ℕ) → ClpFault → Type 0
-IsFaultOf lines Memory = Unit {0}
-IsFaultOf lines NoProject = is_headed lines ≡ false
-IsFaultOf lines (BadRung number) = rungs_in lines ≡ Err number
-IsFaultOf lines (BadTable table.Sections) = sections_in (part_of sections_head lines) ≡ None
-IsFaultOf lines (BadTable other) = presets_in (part_of (head_of other) lines) ≡ None
-IsFaultOf lines (NotLadder section) = HasRungs lines (Err (NotLadder section))
-IsFaultOf lines (BrokenWay section) = HasRungs lines (Err (BrokenWay section))
+abbrev pub IsFaultOf : Reading → List (List ℕ) → ClpFault → Type 0
+IsFaultOf reading lines Memory = Unit {0}
+IsFaultOf reading lines NoProject = is_headed lines ≡ false
+IsFaultOf reading lines (BadRung number) = rungs_in lines ≡ Err number
+IsFaultOf reading lines (BadTable table.Sections) = sections_in (part_of sections_head lines) ≡ None
+IsFaultOf reading lines (BadTable other) = presets_in (part_of (head_of other) lines) ≡ None
+IsFaultOf reading lines (NotLadder section) = HasRungs reading lines (Err (NotLadder section))
+IsFaultOf reading lines (BrokenWay section) = HasRungs reading lines (Err (BrokenWay section))
 
-abbrev pub IsRight : List ℕ → ClpFault → Type 0
-IsRight text fault = IsFaultOf (lines_of text) fault
+abbrev pub IsRight : Reading → List ℕ → ClpFault → Type 0
+IsRight reading text fault = IsFaultOf reading (lines_of text) fault

@@ -1,8 +1,10 @@
 -- The tables of a project. Each line with data is an entry, and its fields have commas (44) between them.
-use Rattle.std.specs.Prelude.{ℕ, List, [], ◌∷◌, Option, Some, None, if◌then◌else◌}
+use Rattle.std.specs.Prelude.{ℕ, ◌==◌, ◌&&◌, ◌||◌, nat_eq, not, Bool, false, List, [], ◌∷◌, codes, Option, Some, None, if◌then◌else◌}
+use Rattle.std.specs.List.{list_all, list_any, starts_with}
 use Rattle.ladder_clp.specs.declared.table.Preset.{Preset}
 use Rattle.ladder_clp.specs.declared.table.Section.{Section}
 use Rattle.ladder_clp.specs.declared.table.Symbol.{Symbol}
+use Rattle.ladder_clp.specs.declared.table.Expression.{Expression}
 use Rattle.ladder_clp.specs.Format.{number_in, other_in, before, behind, is_data}
 use Rattle.ladder_clp.specs.Rungs.{with_first}
 
@@ -53,3 +55,38 @@ symbol_in line = record { variable = before 44 line; name = before 44 (behind 44
 abbrev pub symbols_in : List (List ℕ) → List SymbolRead
 symbols_in [] = []
 symbols_in (l ∷ ls) = if is_data l then symbol_in l ∷ symbols_in ls else symbols_in ls
+
+-- What a compare or an operate computes, and its number, where the line has one.
+pub record ExpressionRead : Type 0 where
+  pub number : Option ℕ
+  pub text : List ℕ
+
+abbrev pub expression_of : Expression → ExpressionRead
+expression_of e = record { number = e.number; text = e.text.now }
+
+abbrev pub expression_in : List ℕ → ExpressionRead
+expression_in line = record { number = number_in (before 44 line); text = behind 44 line }
+
+abbrev pub expressions_in : List (List ℕ) → List ExpressionRead
+expressions_in [] = []
+expressions_in (l ∷ ls) = if is_data l then expression_in l ∷ expressions_in ls else expressions_in ls
+
+-- An operate is `@class/number@=..`. It writes a number in memory (class 200), or a whole number or another one for the machine
+-- (280, 310), and so no bit and no preset.
+abbrev pub is_assignment_of_number : List ℕ → Bool
+is_assignment_of_number text =
+    starts_with nat_eq text (codes "@200/") || (starts_with nat_eq text (codes "@280/") || starts_with nat_eq text (codes "@310/"))
+
+abbrev pub is_number : ℕ → Option ℕ → Bool
+is_number n (Some m) = m == n
+is_number n None = false
+
+abbrev pub has_number : ℕ → Expression → Bool
+has_number n e = is_number n e.number
+
+abbrev pub is_harmless : ℕ → Expression → Bool
+is_harmless n e = not (has_number n e) || is_assignment_of_number e.text.now
+
+-- There is an expression with the number, and it writes a number.
+abbrev pub writes_number : List Expression → ℕ → Bool
+writes_number expressions n = list_any (has_number n) expressions && list_all (is_harmless n) expressions

@@ -7,6 +7,7 @@ mod lines;
 mod number;
 mod order;
 mod project;
+mod reading;
 mod rung;
 mod table;
 
@@ -15,5 +16,6 @@ pub use fault::{ClpFault, Table};
 pub use number::number_in;
 pub use order::Placed;
 pub use project::{Project, read_project};
+pub use reading::{Reading, is_open};
 pub use rung::{ELEMENTS, Rung};
-pub use table::{Preset, Section, Symbol};
+pub use table::{Expression, Preset, Section, Symbol, writes_number};

@@ -1,9 +1,10 @@
 //! The rungs in the order in which they are scanned.
 
-ghost use Rattle.std.specs.Prelude.{◌≡◌, ◌==◌, IfErr, IfOk, find, length};
-ghost use Rattle.ladder_clp.specs.Order.{arranged, arranged_so, IsOrderFault, way};
+ghost use Rattle.std.specs.Prelude.{◌≡◌, ◌==◌, ◌&&◌, IfErr, IfOk, find, length};
+ghost use Rattle.ladder_clp.specs.Order.{arranged, arranged_so, is_left_out, IsOrderFault, way};
 
 use crate::fault::ClpFault;
+use crate::reading::{Reading, is_open};
 use crate::rung::Rung;
 use crate::table::Section;
 use std::alloc::{AllocError, Global};
@@ -55,24 +56,33 @@ fn add_way<'a>(
     Ok(false)
 }
 
+/// Whether the section is a sequential chart that is left out.
+fn is_left_out(reading: Reading, section: Section) -> bool
+    ensures { result ≡ is_left_out reading section }
+{
+    is_open(reading) && section.language == 1
+}
+
 /// The rungs of all sections that are scanned, one section after the other.
 pub(crate) fn arranged<'a>(
     alloc: Global,
+    reading: Reading,
     rungs: &[Rung<'a>],
     mut sections: &[Section],
 ) -> Result<Vec<Placed<'a>>, ClpFault>
-    ensures found { IfOk result (λ v. arranged rungs.now sections.entry.now ≡ Ok v.items) }
-    ensures none { IfErr result (λ e. IsOrderFault (arranged rungs.now sections.entry.now) e) }
+    ensures found { IfOk result (λ v. arranged reading rungs.now sections.entry.now ≡ Ok v.items) }
+    ensures none { IfErr result (λ e. IsOrderFault (arranged reading rungs.now sections.entry.now) e) }
 {
     let mut placed = Vec::new(alloc);
     while let [section, rest @ ..] = sections {
-        if section.language != 0 {
+        if section.language == 0 {
+            if section.subroutine.is_none() && !add_way(rungs, *section, &mut placed)? {
+                return Err(ClpFault::BrokenWay {
+                    section: section.number,
+                });
+            }
+        } else if !is_left_out(reading, *section) {
             return Err(ClpFault::NotLadder {
-                section: section.number,
-            });
-        }
-        if section.subroutine.is_none() && !add_way(rungs, *section, &mut placed)? {
-            return Err(ClpFault::BrokenWay {
                 section: section.number,
             });
         }

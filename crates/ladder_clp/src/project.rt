@@ -9,11 +9,15 @@ ghost use Rattle.ladder_clp.specs.Project.{is_headed, sections_head, AreOfProjec
 use crate::fault::{ClpFault, Table};
 use crate::lines::{is_line, lines_of, part_of};
 use crate::order::{Placed, arranged};
+use crate::reading::Reading;
 use crate::rung::{Rung, rungs_in};
-use crate::table::{Preset, Section, Symbol, presets_in, sections_in, symbols_in};
+use crate::table::{
+    Expression, Preset, Section, Symbol, expressions_in, presets_in, sections_in, symbols_in,
+};
 use std::alloc::Global;
 
-/// What a project says, as it stands there: the rungs in the order of the scan, the presets by number, and the symbols.
+/// What a project says, as it stands there: the rungs in the order of the scan, the presets by number, the symbols, and what
+/// compares and operates compute.
 #[derive(Drop)]
 pub struct Project<'a> {
     pub rungs: Vec<Placed<'a>>,
@@ -21,6 +25,7 @@ pub struct Project<'a> {
     pub monostables: Vec<Preset>,
     pub iec_timers: Vec<Preset>,
     pub symbols: Vec<Symbol<'a>>,
+    pub expressions: Vec<Expression<'a>>,
 }
 
 /// The presets of the table that begins with this line.
@@ -53,13 +58,17 @@ fn section_table(alloc: Global, lines: &[&[u8]]) -> Result<Vec<Section>, ClpFaul
 }
 
 /// The rungs in the order of the scan.
-fn rungs_of<'a>(alloc: Global, lines: &[&'a [u8]]) -> Result<Vec<Placed<'a>>, ClpFault>
-    ensures found { IfOk result (λ v. HasRungs (map (λ l. l.now) lines.now) (Ok v.items)) }
-    ensures none { IfErr result (λ e. IsFaultOf (map (λ l. l.now) lines.now) e) }
+fn rungs_of<'a>(
+    alloc: Global,
+    reading: Reading,
+    lines: &[&'a [u8]],
+) -> Result<Vec<Placed<'a>>, ClpFault>
+    ensures found { IfOk result (λ v. HasRungs reading (map (λ l. l.now) lines.now) (Ok v.items)) }
+    ensures none { IfErr result (λ e. IsFaultOf reading (map (λ l. l.now) lines.now) e) }
 {
     let rungs = rungs_in(alloc, lines)?;
     let sections = section_table(alloc, lines)?;
-    arranged(alloc, &rungs, &sections)
+    arranged(alloc, reading, &rungs, &sections)
 }
 
 fn is_headed(lines: &[&[u8]]) -> bool
@@ -72,24 +81,30 @@ fn is_headed(lines: &[&[u8]]) -> bool
 }
 
 /// The project of these lines.
-fn project_in<'a>(alloc: Global, lines: &[&'a [u8]]) -> Result<Project<'a>, ClpFault>
-    ensures found { IfOk result (λ p. AreOfProject (map (λ l. l.now) lines.now) p) }
-    ensures none { IfErr result (λ e. IsFaultOf (map (λ l. l.now) lines.now) e) }
+fn project_in<'a>(
+    alloc: Global,
+    reading: Reading,
+    lines: &[&'a [u8]],
+) -> Result<Project<'a>, ClpFault>
+    ensures found { IfOk result (λ p. AreOfProject reading (map (λ l. l.now) lines.now) p) }
+    ensures none { IfErr result (λ e. IsFaultOf reading (map (λ l. l.now) lines.now) e) }
 {
     if !is_headed(lines) {
         return Err(ClpFault::NoProject);
     }
-    let rungs = rungs_of(alloc, lines)?;
+    let rungs = rungs_of(alloc, reading, lines)?;
     let timers = preset_table(alloc, Table::Timers, b"_FILE-timers.csv", lines)?;
     let monostables = preset_table(alloc, Table::Monostables, b"_FILE-monostables.csv", lines)?;
     let iec_timers = preset_table(alloc, Table::IecTimers, b"_FILE-timers_iec.csv", lines)?;
     let symbols = symbols_in(alloc, part_of(b"_FILE-symbols.csv", lines))?;
+    let expressions = expressions_in(alloc, part_of(b"_FILE-arithmetic_expressions.csv", lines))?;
     Ok(Project {
         rungs,
         timers,
         monostables,
         iec_timers,
         symbols,
+        expressions,
     })
 }
 
@@ -98,10 +113,14 @@ fn project_in<'a>(alloc: Global, lines: &[&'a [u8]]) -> Result<Project<'a>, ClpF
 /// # Errors
 ///
 /// What of the text is no project; `Memory` when out of memory.
-pub fn read_project<'a>(alloc: Global, text: &'a [u8]) -> Result<Project<'a>, ClpFault>
-    ensures found { IfOk result (λ p. IsProject text.entry.now p) }
-    ensures none { IfErr result (λ e. IsRight text.entry.now e) }
+pub fn read_project<'a>(
+    alloc: Global,
+    reading: Reading,
+    text: &'a [u8],
+) -> Result<Project<'a>, ClpFault>
+    ensures found { IfOk result (λ p. IsProject reading text.entry.now p) }
+    ensures none { IfErr result (λ e. IsRight reading text.entry.now e) }
 {
     let lines = lines_of(alloc, text)?;
-    project_in(alloc, &lines)
+    project_in(alloc, reading, &lines)
 }

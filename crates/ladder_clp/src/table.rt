@@ -1,7 +1,8 @@
 //! The tables of a project: presets, sections and symbols, a line each.
 
-ghost use Rattle.std.specs.Prelude.{◌≡◌, IfOk, map, option_map};
-ghost use Rattle.ladder_clp.specs.Tables.{mode_in, preset_in, preset_with, presets_in, section_in, section_with, sections_in, symbol_of, symbols_in};
+ghost use Rattle.std.specs.Prelude.{◌≡◌, ◌||◌, IfOk, map, not, option_map};
+ghost use Rattle.std.specs.List.{list_all, list_any};
+ghost use Rattle.ladder_clp.specs.Tables.{expression_of, expressions_in, has_number, is_number, is_assignment_of_number, is_harmless, mode_in, preset_in, preset_with, presets_in, section_in, section_with, sections_in, symbol_of, symbols_in, writes_number};
 
 use crate::lines::is_data;
 use crate::number::{before, behind, number_in, other_in};
@@ -34,6 +35,13 @@ pub struct Symbol<'a> {
     pub variable: &'a [u8],
     pub name: &'a [u8],
     pub comment: &'a [u8],
+}
+
+/// What a compare or an operate computes, as it stands in the project.
+#[derive(Clone, Copy)]
+pub struct Expression<'a> {
+    pub number: Option<u32>,
+    pub text: &'a [u8],
 }
 
 fn preset_with(base: Option<u32>, count: Option<u32>, mode: Option<u32>) -> Option<Preset>
@@ -165,4 +173,70 @@ pub(crate) fn symbols_in<'a>(
         lines = rest;
     }
     Ok(symbols)
+}
+
+/// The expressions, one in each line with data.
+pub(crate) fn expressions_in<'a>(
+    alloc: Global,
+    mut lines: &[&'a [u8]],
+) -> Result<Vec<Expression<'a>>, AllocError>
+    ensures { IfOk result (λ v. map expression_of v.items ≡ expressions_in (map (λ l. l.now) lines.entry.now)) }
+{
+    let mut expressions = Vec::new(alloc);
+    while let [line, rest @ ..] = lines {
+        if is_data(line) {
+            expressions.push(Expression {
+                number: number_in(before(b',', line)),
+                text: behind(b',', line),
+            })?;
+        }
+        lines = rest;
+    }
+    Ok(expressions)
+}
+
+fn is_assignment_of_number(text: &[u8]) -> bool
+    ensures { result ≡ is_assignment_of_number text.now }
+{
+    text.starts_with(b"@200/") || text.starts_with(b"@280/") || text.starts_with(b"@310/")
+}
+
+fn is_number(number: u32, found: Option<u32>) -> bool
+    ensures { result ≡ is_number number found }
+{
+    match found {
+        Some(other) => other == number,
+        None => false,
+    }
+}
+
+fn has_number(number: u32, expression: Expression<'_>) -> bool
+    ensures { result ≡ has_number number expression.entry }
+{
+    is_number(number, expression.number)
+}
+
+fn is_harmless(number: u32, expression: Expression<'_>) -> bool
+    ensures { result ≡ is_harmless number expression.entry }
+{
+    !has_number(number, expression) || is_assignment_of_number(expression.text)
+}
+
+fn some_has_number(expressions: &[Expression<'_>], number: u32) -> bool
+    ensures { result ≡ list_any (has_number number) expressions.now }
+{
+    expressions.iter().any(|e| has_number(number, *e))
+}
+
+fn are_harmless(expressions: &[Expression<'_>], number: u32) -> bool
+    ensures { result ≡ list_all (is_harmless number) expressions.now }
+{
+    expressions.iter().all(|e| is_harmless(number, *e))
+}
+
+/// Whether there is an expression with the number, and it writes a number alone.
+pub fn writes_number(expressions: &[Expression<'_>], number: u32) -> bool
+    ensures { result ≡ writes_number expressions.now number }
+{
+    some_has_number(expressions, number) && are_harmless(expressions, number)
 }

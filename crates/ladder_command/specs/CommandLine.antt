@@ -83,7 +83,7 @@ sim_app = taking (codes "sim") (
     )
 
 abbrev pub import_app : App
-import_app = taking (codes "import") (text_rule (codes "hal") ∷ flag_rule (codes "why") ∷ place_rule (codes "file") ∷ [])
+import_app = taking (codes "import") (flag_rule (codes "open") ∷ text_rule (codes "hal") ∷ flag_rule (codes "why") ∷ place_rule (codes "file") ∷ [])
 
 abbrev pub explain_app : App
 explain_app = taking (codes "explain") (list_rule (codes "codes") ∷ [])

@@ -74,6 +74,8 @@ pub(crate) const FILE_HELP: &str = "The program: declarations and rungs; at most
 pub(crate) const PROJECT_HELP: &str =
     "The ClassicLadder project, a .clp file; at most 1048576 bytes";
 
+pub(crate) const OPEN_HELP: &str = "Compares and steps of charts may have any value";
+
 pub(crate) const HAL_HELP: &str =
     "A HAL file: inputs and outputs without a name in the project are named after its signals";
 

@@ -1,7 +1,8 @@
 -- A program has what a project has: each rung in its place in the scan, and each element in its row and column with its meaning.
-use Rattle.std.specs.Prelude.{◌≡◌, ◌⊎◌, ℕ, ◌<◌, ◌&&◌, ◌==◌, not, Bool, true, false, List, [], ◌∷◌, length, slice_get, Some, None, option_map}
+use Rattle.std.specs.Prelude.{◌≡◌, ◌⊎◌, ℕ, ◌+◌, ◌*◌, ◌<◌, ◌&&◌, ◌||◌, ◌==◌, not, Bool, true, false, List, [], ◌∷◌, length, slice_get, Some, None, option_map}
 use Rattle.std.specs.List.{list_all, list_any}
 use Rattle.ladder_vars.specs.Decls.{Declared}
+use Rattle.ladder_vars.specs.declared.decls.Address.{Address}
 use Rattle.ladder_vars.specs.declared.decls.Instance.{Instance}
 use Rattle.ladder_page.specs.declared.geometry.TheConstants.{ROWS, COLUMNS}
 use Rattle.ladder_page.specs.declared.mode.Mode.{Mode}
@@ -16,6 +17,9 @@ use Rattle.ladder_grid.specs.Program.{Drawing, site_at, feeds, has_coil, is_empt
 use Rattle.ladder_clp.specs.declared.element.Element.{Element}
 use Rattle.ladder_clp.specs.declared.order.Placed.{Placed}
 use Rattle.ladder_clp.specs.declared.project.Project.{Project}
+use Rattle.ladder_clp.specs.declared.reading.Reading.{Reading}
+use Rattle.ladder_clp.specs.declared.table.Expression.{Expression}
+use Rattle.ladder_clp.specs.Tables.{writes_number}
 use Rattle.ladder_sheet.specs.declared.meaning.BlockSort.TheVariants as sort
 use Rattle.ladder_sheet.specs.declared.meaning.BlockRef.{BlockRef}
 use Rattle.ladder_sheet.specs.declared.meaning.Meaning.{Meaning}
@@ -27,10 +31,17 @@ use Rattle.ladder_sheet.specs.Sheets.{element_at, fed, is_idle, meaning_at, reac
 
 -- ---- variables and blocks
 
+abbrev pub IsDeclaredAt : Declared → Address → ℕ → Type 0
+IsDeclaredAt decls address var = option_map (λ v. v.address) (slice_get decls.vars var) ≡ Some (Some address)
+
 -- the variable that is declared at an address of this letter, with this one number
 abbrev pub IsVar : Declared → ℕ → ℕ → ℕ → Type 0
-IsVar decls letter number var =
-    option_map (λ v. v.address) (slice_get decls.vars var) ≡ Some (Some (record { letter = letter; first = number; second = None }))
+IsVar decls letter number var = IsDeclaredAt decls (record { letter = letter; first = number; second = None }) var
+
+-- The input that stands for what is opened at a place: %I (73) with the number of its rung, and those of its row and its column, each
+-- counted from 1. As each place has one of its own, and elements have addresses of one number, it may have any value.
+abbrev pub opened_at : ℕ → ℕ → ℕ → Address
+opened_at k r c = record { letter = 73; first = k + 1; second = Some (100 * (r + 1) + (c + 1)) }
 
 -- No coil writes the variable, and it is no input: as all variables begin as OFF, it is always OFF.
 abbrev pub IsNever : Drawing → ℕ → Type 0
@@ -92,50 +103,64 @@ abbrev pub IsBlockOf : List BlockRef → BlockRef → Cell → Type 0
 IsBlockOf blocks block (cell.Block inst) = slice_get blocks inst ≡ Some block
 IsBlockOf blocks block other = ⊥
 
--- What stands at the place of an element with this meaning.
-abbrev pub IsCell : Drawing → List Placed → List BlockRef → ℕ → Element → Meaning → Cell → Type 0
-IsCell d rungs blocks section e meaning.Blank at = is_empty at ≡ true
-IsCell d rungs blocks section e meaning.Wire at = at ≡ cell.Wire
-IsCell d rungs blocks section e (meaning.Contact m) at = IsContactOn d blocks m (source_of e.class) e.number at
-IsCell d rungs blocks section e (meaning.Coil m) at = IsCoilOn d m (source_of e.class) e.number at
-IsCell d rungs blocks section e meaning.Jump at = IsJumpTo rungs section e.number at
-IsCell d rungs blocks section e (meaning.Block s) at = IsBlockOf blocks (record { sort = s; number = e.number }) at
-IsCell d rungs blocks section e meaning.Off at = IsContactOn d blocks mode.Plain (source.Done sort.Timer) e.number at
-IsCell d rungs blocks section e meaning.Other at = ⊥
+abbrev pub IsContactAt : Drawing → Mode → Address → Cell → Type 0
+IsContactAt d m address (cell.Contact n (operand.Var var) memory) = (n ≡ m) × IsDeclaredAt d.decls address var
+IsContactAt d m address other = ⊥
+
+-- What stands at the place of an element with this meaning; the input with the address stands for what is opened there.
+abbrev pub IsCell : Drawing → List Placed → List BlockRef → ℕ → Address → Element → Meaning → Cell → Type 0
+IsCell d rungs blocks section address e meaning.Blank at = is_empty at ≡ true
+IsCell d rungs blocks section address e meaning.Wire at = at ≡ cell.Wire
+IsCell d rungs blocks section address e (meaning.Contact m) at = IsContactOn d blocks m (source_of e.class) e.number at
+IsCell d rungs blocks section address e (meaning.Opened m) at = IsContactAt d m address at
+IsCell d rungs blocks section address e (meaning.Coil m) at = IsCoilOn d m (source_of e.class) e.number at
+IsCell d rungs blocks section address e meaning.Jump at = IsJumpTo rungs section e.number at
+IsCell d rungs blocks section address e (meaning.Block s) at = IsBlockOf blocks (record { sort = s; number = e.number }) at
+IsCell d rungs blocks section address e meaning.Off at = IsContactOn d blocks mode.Plain (source.Done sort.Timer) e.number at
+IsCell d rungs blocks section address e meaning.Operate at = is_empty at ≡ true
+IsCell d rungs blocks section address e meaning.Other at = ⊥
 
 -- No power comes to the element, it does nothing then, and nothing is at its place.
-abbrev pub IsLeftOut : List Element → ℕ → ℕ → Cell → Type 0
-IsLeftOut es r c at = (reached es c r ≡ false) × (is_idle (meaning_at es r c) ≡ true) × (at ≡ cell.Empty)
+abbrev pub IsLeftOut : Reading → List Element → ℕ → ℕ → Cell → Type 0
+IsLeftOut reading es r c at = (reached reading es c r ≡ false) × (is_idle (meaning_at reading es r c) ≡ true) × (at ≡ cell.Empty)
 
 -- The cell is fed from the same rows.
-abbrev pub IsFedAlike : Drawing → ℕ → List Element → ℕ → ℕ → Type 0
-IsFedAlike d k es r c = (q : ℕ) → q < ROWS → feeds d k r c q ≡ fed es r c q
+abbrev pub IsFedAlike : Reading → Drawing → ℕ → List Element → ℕ → ℕ → Type 0
+IsFedAlike reading d k es r c = (q : ℕ) → q < ROWS → feeds d k r c q ≡ fed reading es r c q
 
 -- A cell is fed as its element is, which stands where it means the same in a program and reads no block before it in its rung.
-pub record IsAlike (d : Drawing) (k : ℕ) (es : List Element) (r c : ℕ) : Type 0 where
-  pub fed : IsFedAlike d k es r c
-  pub stands : stands es r c ≡ true
-  pub early : reads_late es r c ≡ false
+pub record IsAlike (reading : Reading) (d : Drawing) (k : ℕ) (es : List Element) (r c : ℕ) : Type 0 where
+  pub fed : IsFedAlike reading d k es r c
+  pub stands : stands reading es r c ≡ true
+  pub early : reads_late reading es r c ≡ false
 
 -- A place of rung k has what the project has there.
-pub record IsPlaceCarried (d : Drawing) (rungs : List Placed) (blocks : List BlockRef) (k : ℕ) (x : Placed) (r c : ℕ) : Type 0 where
-  pub same : IsCell d rungs blocks x.section (element_at x.rung.elements r c) (meaning_at x.rung.elements r c) (site_at d k r c).cell
-      ⊎ IsLeftOut x.rung.elements r c (site_at d k r c).cell
-  pub alike : is_empty (site_at d k r c).cell ≡ false → IsAlike d k x.rung.elements r c
+pub record IsPlaceCarried (reading : Reading) (d : Drawing) (rungs : List Placed) (blocks : List BlockRef) (k : ℕ) (x : Placed) (r c : ℕ) : Type 0 where
+  pub same : IsCell d rungs blocks x.section (opened_at k r c) (element_at x.rung.elements r c) (meaning_at reading x.rung.elements r c) (site_at d k r c).cell
+      ⊎ IsLeftOut reading x.rung.elements r c (site_at d k r c).cell
+  pub alike : is_empty (site_at d k r c).cell ≡ false → IsAlike reading d k x.rung.elements r c
 
-abbrev pub IsRungCarried : Drawing → List Placed → List BlockRef → ℕ → Placed → Type 0
-IsRungCarried d rungs blocks k x = (r c : ℕ) → r < ROWS → c < COLUMNS → IsPlaceCarried d rungs blocks k x r c
+abbrev pub IsRungCarried : Reading → Drawing → List Placed → List BlockRef → ℕ → Placed → Type 0
+IsRungCarried reading d rungs blocks k x = (r c : ℕ) → r < ROWS → c < COLUMNS → IsPlaceCarried reading d rungs blocks k x r c
 
 -- Each rung of the scan is the rung with the same number in the program.
-abbrev pub AreCarried : Drawing → List Placed → List BlockRef → Type 0
-AreCarried d rungs blocks = (k : ℕ) → k < length rungs → (x : Placed) → slice_get rungs k ≡ Some x → IsRungCarried d rungs blocks k x
+abbrev pub AreCarried : Reading → Drawing → List Placed → List BlockRef → Type 0
+AreCarried reading d rungs blocks = (k : ℕ) → k < length rungs → (x : Placed) → slice_get rungs k ≡ Some x → IsRungCarried reading d rungs blocks k x
+
+-- An operate (60), which is left out, writes a number and so no bit.
+abbrev pub is_unseen : List Expression → Element → Bool
+is_unseen expressions e = not (e.kind == 60) || writes_number expressions e.number
+
+abbrev pub are_unseen : List Expression → Placed → Bool
+are_unseen expressions x = list_all (is_unseen expressions) x.rung.elements
 
 -- A program is a project carried over: instance i stands for one of the project's blocks, each for another one; all variables
--- begin as OFF; and the rungs are those of the scan.
-pub record IsCarriedOver (p : Project) (d : Drawing) : Type 0 where
+-- begin as OFF; the rungs are those of the scan; and what the operates write, no rung reads.
+pub record IsCarriedOver (reading : Reading) (p : Project) (d : Drawing) : Type 0 where
   pub blocks : List BlockRef
   pub apart : AreApart blocks
   pub instances : AreInstances p blocks d.decls.instances
   pub off : list_all (λ v. not v.initial) d.decls.vars ≡ true
+  pub unseen : list_all (are_unseen p.expressions.items) p.rungs.items ≡ true
   pub count : d.rungs ≡ length p.rungs.items
-  pub rungs : AreCarried d p.rungs.items blocks
+  pub rungs : AreCarried reading d p.rungs.items blocks

@@ -1,6 +1,6 @@
 //! Whether a program has what a project has.
 
-ghost use Rattle.std.specs.Prelude.{◌≡◌, ◌+◌, ◌-◌, ◌/◌, ◌%◌, ◌&&◌, ◌<◌, ◌≤◌, ℕ, Some, length, not, slice_get, true};
+ghost use Rattle.std.specs.Prelude.{◌≡◌, ◌+◌, ◌-◌, ◌/◌, ◌%◌, ◌&&◌, ◌||◌, ◌<◌, ◌≤◌, ℕ, Some, length, not, slice_get, true};
 ghost use Rattle.std.specs.List.{list_all, list_any};
 ghost use Rattle.ladder_page.specs.declared.geometry.TheConstants.{COLUMNS, PLACES, ROWS};
 ghost use Rattle.ladder_grid.specs.Program.{feeds, is_empty, joined, site_at, takes_power};
@@ -10,9 +10,9 @@ ghost use Rattle.ladder_grid.specs.declared.cell.Cell.TheVariants as cells;
 ghost use Rattle.ladder_page.specs.Operand.{is_input_at};
 ghost use Rattle.ladder_sheet.specs.Reach.{AreReached, IsPower};
 ghost use Rattle.ladder_sheet.specs.Sheets.{fed};
-ghost use Rattle.ladder_faithful.specs.Carried.{AreApart, AreCarried, AreInstances, IsAlike, IsCarriedOver, IsBlockOf, IsCell, IsCoilOn, IsContactOn, IsFedAlike, IsInstance, IsJumpTo, IsLeftOut, IsNever, IsOperand, IsPlaceCarried, IsRungCarried, IsTarget, IsVar, IsWritten, same_block};
+ghost use Rattle.ladder_faithful.specs.Carried.{AreApart, AreCarried, AreInstances, IsAlike, IsCarriedOver, IsBlockOf, IsCell, IsCoilOn, IsContactOn, IsFedAlike, IsInstance, IsJumpTo, IsLeftOut, IsNever, IsOperand, IsPlaceCarried, IsRungCarried, IsTarget, IsVar, IsWritten, IsContactAt, IsDeclaredAt, are_unseen, is_unseen, opened_at, same_block};
 
-use ladder_clp::{Element, Placed, Project};
+use ladder_clp::{Element, Expression, Placed, Project, Reading, writes_number};
 use ladder_grid::{Cell, Joint, Operand, Program};
 use ladder_page::geometry::{COLUMNS, PLACES, ROWS};
 use ladder_page::{CoilMode, Mode};
@@ -108,6 +108,30 @@ fn is_var(decls: &Decls, letter: char, number: u32, var: usize) -> bool
             },
         ),
         None => false,
+    }
+}
+
+fn is_declared_at(decls: &Decls, address: Address, var: usize) -> bool
+    ensures { result ≡ true → IsDeclaredAt decls.now address var }
+{
+    match decls.vars().get(var) {
+        Some(v) => is_at(v.address, address),
+        None => false,
+    }
+}
+
+/// The address of the input that stands for what is opened at a place.
+fn opened_at(program: &Program, rung: usize, row: usize, column: usize) -> Address
+    requires rungs { rung < program.now.rungs }
+    requires places { (row < ROWS) × (column < COLUMNS) }
+    ensures { result ≡ opened_at rung row column }
+{
+    // The lesser of both is the rung itself.
+    let number = rung.min(program.rungs()) as u32;
+    Address {
+        letter: 'I',
+        first: number + 1,
+        second: Some(100 * (row as u32 + 1) + (column as u32 + 1)),
     }
 }
 
@@ -224,6 +248,30 @@ fn is_contact_on(
     }
 }
 
+/// Whether the cell is a contact of this mode on the variable with an address.
+fn is_contact_at(program: &Program, mode: Mode, address: Address, cell: Cell) -> bool
+    ensures { result ≡ true → IsContactAt program.now mode address cell }
+{
+    match cell {
+        Cell::Contact {
+            mode: drawn,
+            operand: Operand::Var(var),
+            ..
+        } => drawn == mode && is_declared_at(program.decls(), address, var),
+        Cell::Contact {
+            operand: Operand::Output(_),
+            ..
+        }
+        | Cell::Empty
+        | Cell::Wire
+        | Cell::Coil { .. }
+        | Cell::Block { .. }
+        | Cell::Lower { .. }
+        | Cell::Jump { .. }
+        | Cell::Return => false,
+    }
+}
+
 /// Whether the cell is a coil of this mode on the variable.
 fn is_coil_on(program: &Program, mode: CoilMode, source: Source, number: u32, cell: Cell) -> bool
     ensures { result ≡ true → IsCoilOn program.now mode source number cell }
@@ -289,24 +337,26 @@ fn is_block_of(blocks: &[BlockRef], block: BlockRef, cell: Cell) -> bool
     }
 }
 
-/// Whether the cell is what the element means.
+/// Whether the cell is what the element means; the input with the address stands for what is opened there.
 fn is_cell(
     program: &Program,
     rungs: &[Placed<'_>],
     blocks: &[BlockRef],
     section: u32,
+    address: Address,
     element: Element,
     meaning: Meaning,
     cell: Cell,
 ) -> bool
-    ensures { result ≡ true → IsCell program.now rungs.now blocks.now section element meaning cell }
+    ensures { result ≡ true → IsCell program.now rungs.now blocks.now section address element meaning cell }
 {
     let source = source_of(element.class);
     let number = element.number;
     match meaning {
-        Meaning::Blank => is_empty(cell),
+        Meaning::Blank | Meaning::Operate => is_empty(cell),
         Meaning::Wire => is_wire(cell),
         Meaning::Contact(mode) => is_contact_on(program, blocks, mode, source, number, cell),
+        Meaning::Opened(mode) => is_contact_at(program, mode, address, cell),
         Meaning::Coil(mode) => is_coil_on(program, mode, source, number, cell),
         Meaning::Jump => is_jump_to(rungs, section, number, cell),
         Meaning::Block(sort) => is_block_of(blocks, BlockRef { sort, number }, cell),
@@ -319,17 +369,25 @@ fn is_cell(
 }
 
 /// Whether no power comes to the element, and it does nothing then.
-fn is_left_out(elements: &[Element], power: &Power, row: usize, column: usize, cell: Cell) -> bool
+fn is_left_out(
+    reading: Reading,
+    elements: &[Element],
+    power: &Power,
+    row: usize,
+    column: usize,
+    cell: Cell,
+) -> bool
     requires rows { row < ROWS }
     requires columns { column < COLUMNS }
-    requires power { IsPower elements.now power.now }
-    ensures { result ≡ true → IsLeftOut elements.now row column cell }
+    requires power { IsPower reading elements.now power.now }
+    ensures { result ≡ true → IsLeftOut reading elements.now row column cell }
 {
-    is_empty(cell) && !power[column][row] && is_idle(meaning_at(elements, row, column))
+    is_empty(cell) && !power[column][row] && is_idle(meaning_at(reading, elements, row, column))
 }
 
 /// Whether the cell is fed from the row as the element is; `before`: where power can come to in the column before.
 fn is_fed_alike(
+    reading: Reading,
     program: &Program,
     rung: usize,
     elements: &[Element],
@@ -341,14 +399,15 @@ fn is_fed_alike(
     requires rungs { rung < program.now.rungs }
     requires rows { (row < ROWS) × (from < ROWS) }
     requires columns { column < COLUMNS }
-    requires before { AreReached elements.now (column - 1) before.now }
-    ensures { result ≡ true → feeds program.now rung row column from ≡ fed elements.now row column from }
+    requires before { AreReached reading elements.now (column - 1) before.now }
+    ensures { result ≡ true → feeds program.now rung row column from ≡ fed reading elements.now row column from }
 {
-    feeds(program, rung, row, column, from) == fed(elements, row, column, from, before)
+    feeds(program, rung, row, column, from) == fed(reading, elements, row, column, from, before)
 }
 
 /// Whether the cell is fed from the same rows.
 fn are_fed_alike(
+    reading: Reading,
     program: &Program,
     rung: usize,
     elements: &[Element],
@@ -359,12 +418,12 @@ fn are_fed_alike(
     requires rungs { rung < program.now.rungs }
     requires rows { row < ROWS }
     requires columns { column < COLUMNS }
-    requires power { IsPower elements.now power.now }
-    ensures { result ≡ true → IsFedAlike program.now rung elements.now row column }
+    requires power { IsPower reading elements.now power.now }
+    ensures { result ≡ true → IsFedAlike reading program.now rung elements.now row column }
 {
     let before = power[column.saturating_sub(1)];
     for from in 0..ROWS {
-        if !is_fed_alike(program, rung, elements, row, column, from, &before) {
+        if !is_fed_alike(reading, program, rung, elements, row, column, from, &before) {
             return false;
         }
     }
@@ -373,6 +432,7 @@ fn are_fed_alike(
 
 /// Whether a cell is fed as its element is, which stands where it means the same.
 fn is_alike(
+    reading: Reading,
     program: &Program,
     rung: usize,
     elements: &[Element],
@@ -383,16 +443,17 @@ fn is_alike(
     requires rungs { rung < program.now.rungs }
     requires rows { row < ROWS }
     requires columns { column < COLUMNS }
-    requires power { IsPower elements.now power.now }
-    ensures { result ≡ true → IsAlike program.now rung elements.now row column }
+    requires power { IsPower reading elements.now power.now }
+    ensures { result ≡ true → IsAlike reading program.now rung elements.now row column }
 {
-    stands(elements, row, column)
-        && !reads_late(elements, row, column)
-        && are_fed_alike(program, rung, elements, power, row, column)
+    stands(reading, elements, row, column)
+        && !reads_late(reading, elements, row, column)
+        && are_fed_alike(reading, program, rung, elements, power, row, column)
 }
 
 /// Whether a place, which are numbered row by row, has what the project has there.
 fn is_place_carried(
+    reading: Reading,
     program: &Program,
     rungs: &[Placed<'_>],
     blocks: &[BlockRef],
@@ -403,27 +464,29 @@ fn is_place_carried(
 ) -> bool
     requires numbers { rung < program.now.rungs }
     requires places { place < PLACES }
-    requires power { IsPower placed.now.rung.elements power.now }
-    ensures { result ≡ true → IsPlaceCarried program.now rungs.now blocks.now rung placed.now (place / COLUMNS) (place % COLUMNS) }
+    requires power { IsPower reading placed.now.rung.elements power.now }
+    ensures { result ≡ true → IsPlaceCarried reading program.now rungs.now blocks.now rung placed.now (place / COLUMNS) (place % COLUMNS) }
 {
     let (row, column) = (place / COLUMNS, place % COLUMNS);
     let cell = program.cell(rung, row, column);
     let elements = placed.rung.elements.as_slice();
     let element = element_at(elements, row, column);
-    let meaning = meaning_at(elements, row, column);
+    let meaning = meaning_at(reading, elements, row, column);
     (is_cell(
         program,
         rungs,
         blocks,
         placed.section,
+        opened_at(program, rung, row, column),
         element,
         meaning,
         cell,
-    ) || is_left_out(elements, power, row, column, cell))
-        && (is_empty(cell) || is_alike(program, rung, elements, power, row, column))
+    ) || is_left_out(reading, elements, power, row, column, cell))
+        && (is_empty(cell) || is_alike(reading, program, rung, elements, power, row, column))
 }
 
 fn is_rung_carried(
+    reading: Reading,
     program: &Program,
     rungs: &[Placed<'_>],
     blocks: &[BlockRef],
@@ -431,11 +494,11 @@ fn is_rung_carried(
     placed: &Placed<'_>,
 ) -> bool
     requires { rung < program.now.rungs }
-    ensures { result ≡ true → IsRungCarried program.now rungs.now blocks.now rung placed.now }
+    ensures { result ≡ true → IsRungCarried reading program.now rungs.now blocks.now rung placed.now }
 {
-    let power = power_of(placed.rung.elements.as_slice());
+    let power = power_of(reading, placed.rung.elements.as_slice());
     for place in 0..PLACES {
-        if !is_place_carried(program, rungs, blocks, rung, placed, &power, place) {
+        if !is_place_carried(reading, program, rungs, blocks, rung, placed, &power, place) {
             return false;
         }
     }
@@ -443,23 +506,34 @@ fn is_rung_carried(
 }
 
 /// Whether the rung with a number has what the project has.
-fn is_carried_at(program: &Program, rungs: &[Placed<'_>], blocks: &[BlockRef], rung: usize) -> bool
+fn is_carried_at(
+    reading: Reading,
+    program: &Program,
+    rungs: &[Placed<'_>],
+    blocks: &[BlockRef],
+    rung: usize,
+) -> bool
     requires { rung < program.now.rungs }
-    ensures { result ≡ true → (x : Placed) → slice_get rungs.now rung ≡ Some x → IsRungCarried program.now rungs.now blocks.now rung x }
+    ensures { result ≡ true → (x : Placed) → slice_get rungs.now rung ≡ Some x → IsRungCarried reading program.now rungs.now blocks.now rung x }
 {
     match rungs.get(rung) {
-        Some(placed) => is_rung_carried(program, rungs, blocks, rung, placed),
+        Some(placed) => is_rung_carried(reading, program, rungs, blocks, rung, placed),
         None => false,
     }
 }
 
 /// Whether each rung has what the project has.
-fn are_carried(program: &Program, rungs: &[Placed<'_>], blocks: &[BlockRef]) -> bool
+fn are_carried(
+    reading: Reading,
+    program: &Program,
+    rungs: &[Placed<'_>],
+    blocks: &[BlockRef],
+) -> bool
     requires { program.now.rungs ≡ length rungs.now }
-    ensures { result ≡ true → AreCarried program.now rungs.now blocks.now }
+    ensures { result ≡ true → AreCarried reading program.now rungs.now blocks.now }
 {
     for rung in 0..rungs.len() {
-        if !is_carried_at(program, rungs, blocks, rung) {
+        if !is_carried_at(reading, program, rungs, blocks, rung) {
             return false;
         }
     }
@@ -520,6 +594,34 @@ fn are_instances(project: &Project<'_>, mut blocks: &[BlockRef], mut instances: 
     instances.is_empty()
 }
 
+/// Whether the element is no operate, or writes a number.
+fn is_unseen(expressions: &[Expression<'_>], element: Element) -> bool
+    ensures { result ≡ is_unseen expressions.now element }
+{
+    element.kind != 60 || writes_number(expressions, element.number)
+}
+
+fn are_unseen_in(expressions: &[Expression<'_>], elements: &[Element]) -> bool
+    ensures { result ≡ list_all (is_unseen expressions.now) elements.now }
+{
+    elements
+        .iter()
+        .all(|element| is_unseen(expressions, *element))
+}
+
+fn are_unseen(expressions: &[Expression<'_>], placed: &Placed<'_>) -> bool
+    ensures { result ≡ are_unseen expressions.now placed.now }
+{
+    are_unseen_in(expressions, placed.rung.elements.as_slice())
+}
+
+/// Whether no operate writes a bit.
+fn all_unseen(expressions: &[Expression<'_>], rungs: &[Placed<'_>]) -> bool
+    ensures { result ≡ list_all (are_unseen expressions.now) rungs.now }
+{
+    rungs.iter().all(|placed| are_unseen(expressions, placed))
+}
+
 /// Whether all variables begin as OFF.
 fn are_off(decls: &Decls) -> bool
     ensures { result ≡ list_all (λ v. not v.initial) decls.now.vars }
@@ -528,8 +630,13 @@ fn are_off(decls: &Decls) -> bool
 }
 
 /// Whether a program is a project carried over, with the blocks in the order of the instances.
-pub fn is_carried_over(project: &Project<'_>, blocks: &[BlockRef], program: &Program) -> bool
-    ensures { result ≡ true → IsCarriedOver project.now program.now }
+pub fn is_carried_over(
+    reading: Reading,
+    project: &Project<'_>,
+    blocks: &[BlockRef],
+    program: &Program,
+) -> bool
+    ensures { result ≡ true → IsCarriedOver reading project.now program.now }
 {
     let decls = program.decls();
     if program.rungs() != project.rungs.len() {
@@ -544,5 +651,8 @@ pub fn is_carried_over(project: &Project<'_>, blocks: &[BlockRef], program: &Pro
     if !are_off(decls) {
         return false;
     }
-    are_carried(program, &project.rungs, blocks)
+    if !all_unseen(&project.expressions, &project.rungs) {
+        return false;
+    }
+    are_carried(reading, program, &project.rungs, blocks)
 }

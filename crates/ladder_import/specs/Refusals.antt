@@ -3,6 +3,7 @@ use Rattle.std.specs.Prelude.{◌≡◌, ℕ, ◌-◌, ◌≤◌, ◌==◌, ◌&
 use Rattle.ladder_page.specs.declared.geometry.TheConstants.{ROWS, COLUMNS}
 use Rattle.ladder_clp.specs.declared.element.Element.{Element}
 use Rattle.ladder_clp.specs.declared.order.Placed.{Placed}
+use Rattle.ladder_clp.specs.declared.reading.Reading.{Reading}
 use Rattle.ladder_sheet.specs.declared.meaning.Meaning.{Meaning}
 use Rattle.ladder_sheet.specs.declared.meaning.Meaning.TheVariants as meaning
 use Rattle.ladder_sheet.specs.declared.meaning.Source.{Source}
@@ -23,35 +24,35 @@ abbrev pub is_no_source : Source → Bool
 is_no_source s = elim s [ source.Other ↦ true | _ ↦ false ]
 
 -- What a reason says of the element at a place.
-abbrev pub holds : Reason → List Element → ℕ → ℕ → Bool
-holds reason.Counter es r c = (element_at es r c).kind == 12
-holds reason.Compare es r c = (element_at es r c).kind == 20
-holds reason.Operate es r c = (element_at es r c).kind == 60
-holds reason.Call es r c = (element_at es r c).kind == 55
-holds reason.Unknown es r c = is_other (meaning_at es r c)
-holds reason.Step es r c = is_contact (meaning_at es r c) && (element_at es r c).class == 30
-holds reason.RunningContact es r c = is_contact (meaning_at es r c) && (element_at es r c).class == 11
-holds reason.OtherContact es r c = is_contact (meaning_at es r c) && is_no_source (source_of (element_at es r c).class)
-holds reason.WritesInput es r c = is_coil (meaning_at es r c) && (element_at es r c).class == 50
-holds reason.OtherCoil es r c = is_coil (meaning_at es r c)
-holds reason.LargeNumber es r c = nat_lt 99999 (element_at es r c).number
-holds reason.OutOfPlace es r c = not (stands es r c)
-holds reason.BelowJump es r c = not (ends_rung es r c)
-holds reason.BlockPlaces es r c = is_block (meaning_of (element_at es r c).kind) && not (has_places es r c)
-holds reason.Switched es r c = (element_at es r c).kind == 10 && not (stands es r c)
-holds reason.NoPreset es r c = is_block (meaning_of (element_at es r c).kind)
-holds reason.Twice es r c = is_block (meaning_of (element_at es r c).kind)
-holds reason.ReadsLate es r c = reads_late es r c
-holds reason.NoPower es r c = not (reached es c r) && not (is_idle (meaning_at es r c))
-holds reason.Running es r c = some_below (is_run es r c) ROWS
-holds reason.Elsewhere es r c = (element_at es r c).kind == 54
+abbrev pub holds : Reading → Reason → List Element → ℕ → ℕ → Bool
+holds reading reason.Counter es r c = (element_at es r c).kind == 12
+holds reading reason.Compare es r c = (element_at es r c).kind == 20
+holds reading reason.Operate es r c = (element_at es r c).kind == 60
+holds reading reason.Call es r c = (element_at es r c).kind == 55
+holds reading reason.Unknown es r c = is_other (meaning_at reading es r c)
+holds reading reason.Step es r c = is_contact (meaning_at reading es r c) && (element_at es r c).class == 30
+holds reading reason.RunningContact es r c = is_contact (meaning_at reading es r c) && (element_at es r c).class == 11
+holds reading reason.OtherContact es r c = is_contact (meaning_at reading es r c) && is_no_source (source_of (element_at es r c).class)
+holds reading reason.WritesInput es r c = is_coil (meaning_at reading es r c) && (element_at es r c).class == 50
+holds reading reason.OtherCoil es r c = is_coil (meaning_at reading es r c)
+holds reading reason.LargeNumber es r c = nat_lt 99999 (element_at es r c).number
+holds reading reason.OutOfPlace es r c = not (stands reading es r c)
+holds reading reason.BelowJump es r c = not (ends_rung reading es r c)
+holds reading reason.BlockPlaces es r c = is_block (meaning_of (element_at es r c).kind) && not (has_places reading es r c)
+holds reading reason.Switched es r c = (element_at es r c).kind == 10 && not (stands reading es r c)
+holds reading reason.NoPreset es r c = is_block (meaning_of (element_at es r c).kind)
+holds reading reason.Twice es r c = is_block (meaning_of (element_at es r c).kind)
+holds reading reason.ReadsLate es r c = reads_late reading es r c
+holds reading reason.NoPower es r c = not (reached reading es c r) && not (is_idle (meaning_at reading es r c))
+holds reading reason.Running es r c = some_below (is_run reading es r c) ROWS
+holds reading reason.Elsewhere es r c = (element_at es r c).kind == 54
 
 -- The reason holds of the element in the row and the column, both counted from 1, of a rung with this number.
-pub record IsThere (rungs : List Placed) (f : Refusal) : Type 0 where
+pub record IsThere (reading : Reading) (rungs : List Placed) (f : Refusal) : Type 0 where
   pub at : ℕ
   pub placed : Placed
   pub rung : slice_get rungs at ≡ Some placed
   pub number : placed.rung.number ≡ f.rung
   pub row : (1 ≤ f.row) × (f.row ≤ ROWS)
   pub column : (1 ≤ f.column) × (f.column ≤ COLUMNS)
-  pub said : holds f.reason placed.rung.elements (f.row - 1) (f.column - 1) ≡ true
+  pub said : holds reading f.reason placed.rung.elements (f.row - 1) (f.column - 1) ≡ true

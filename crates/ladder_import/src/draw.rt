@@ -5,14 +5,12 @@ ghost use Rattle.ladder_page.specs.declared.geometry.TheConstants.{COLUMNS, ROWS
 
 use crate::bytes::{add, add_line, add_number, add_remark, fill, trimmed};
 use crate::drawn::Sheet;
-use crate::names::{Named, Used, letters, name_in, signal_of, symbol_of};
-use ladder_clp::{Placed, Project};
+use crate::names::{Named, Opened, Used, letters, name_in, signal_of, symbol_of, used_at};
+use ladder_clp::{Expression, Placed, Project};
 use ladder_hal::Link;
 use ladder_page::geometry::{CELL, COLUMNS, ROWS};
 use ladder_page::{CoilMode, Mode};
-use ladder_sheet::{
-    BlockSort, Meaning, Source, element_at, entry_of, meaning_at, source_of, timed_as,
-};
+use ladder_sheet::{Meaning, Source, element_at, entry_of, timed_as};
 use ladder_vars::BlockKind;
 use std::alloc::{AllocError, Global};
 
@@ -40,6 +38,12 @@ fn add_duration(text: &mut Vec<u8>, millis: u32) -> Result<(), AllocError> {
 
 /// Adds the address of a variable, which one that stands for a block hasn't.
 fn add_address(text: &mut Vec<u8>, used: Used) -> Result<(), AllocError> {
+    if let Some(opened) = used.opened {
+        add(text, b" AT %IX")?;
+        add_number(text, opened.rung)?;
+        add(text, b".")?;
+        return add_number(text, opened.place);
+    }
     match used.source {
         Source::Input => add(text, b" AT %IX")?,
         Source::Output => add(text, b" AT %QX")?,
@@ -71,6 +75,35 @@ fn add_type(text: &mut Vec<u8>, project: &Project<'_>, used: Used) -> Result<(),
     add(text, b");")
 }
 
+fn expression_of<'a>(expressions: &[Expression<'a>], number: u32) -> Option<&'a [u8]> {
+    for expression in expressions {
+        if expression.number == Some(number) {
+            return Some(expression.text);
+        }
+    }
+    None
+}
+
+/// Adds what is opened: a step with its number, or a compare as it stands in the project.
+fn add_opened(
+    text: &mut Vec<u8>,
+    project: &Project<'_>,
+    opened: Opened,
+    number: u32,
+) -> Result<(), AllocError> {
+    if opened.is_step {
+        add(text, b"(* step ")?;
+        add_number(text, number)?;
+    } else {
+        add(text, b"(* compare ")?;
+        match expression_of(&project.expressions, number) {
+            Some(words) => add_remark(text, words)?,
+            None => add_number(text, number)?,
+        }
+    }
+    add(text, b", any value *)\n")
+}
+
 /// Adds what the project says of it, and the signal that is connected with its pin.
 fn add_origin(
     alloc: Global,
@@ -79,6 +112,9 @@ fn add_origin(
     links: &[Link<'_>],
     named: Named,
 ) -> Result<(), AllocError> {
+    if let Some(opened) = named.used.opened {
+        return add_opened(text, project, opened, named.used.number);
+    }
     add(text, b"(* %")?;
     add(text, letters(named.used.source))?;
     add_number(text, named.used.number)?;
@@ -158,9 +194,9 @@ fn add_cell(
     number: u32,
 ) -> Result<(), AllocError> {
     match meaning {
-        Meaning::Blank | Meaning::Other => add(text, b"           "),
+        Meaning::Blank | Meaning::Operate | Meaning::Other => add(text, b"           "),
         Meaning::Wire => add(text, b"-----------"),
-        Meaning::Contact(mode) => add(text, contact_cell(mode)),
+        Meaning::Contact(mode) | Meaning::Opened(mode) => add(text, contact_cell(mode)),
         Meaning::Off => add(text, contact_cell(Mode::Plain)),
         Meaning::Coil(mode) => add(text, coil_cell(mode)),
         Meaning::Jump => {
@@ -176,22 +212,19 @@ fn add_cell(
     }
 }
 
+fn named_as(named: &[Named], used: Option<Used>) -> Option<Named> {
+    name_in(named, used?)
+}
+
 /// Adds the name over a cell, in its middle.
 fn add_name(
     text: &mut Vec<u8>,
     named: &[Named],
     meaning: Meaning,
-    class: u32,
-    number: u32,
+    used: Option<Used>,
 ) -> Result<(), AllocError> {
     let start = text.len();
-    let source = match meaning {
-        Meaning::Block(sort) => Source::Done(sort),
-        Meaning::Off => Source::Done(BlockSort::Timer),
-        Meaning::Contact(_) | Meaning::Coil(_) => source_of(class),
-        Meaning::Blank | Meaning::Wire | Meaning::Jump | Meaning::Other => Source::Other,
-    };
-    if let Some(found) = name_in(named, Used { source, number }) {
+    if let Some(found) = named_as(named, used) {
         let spelling = found.name.bytes();
         for _ in 0..CELL.saturating_sub(spelling.len()) / 2 {
             text.push(b' ')?;
@@ -244,13 +277,12 @@ fn add_name_line(
                 b' '
             })?;
         }
-        let element = element_at(sheet.elements, row, column);
-        let meaning = if sheet.is_drawn(row, column) {
-            meaning_at(sheet.elements, row, column)
+        if sheet.is_drawn(row, column) {
+            let used = used_at(sheet, row, column);
+            add_name(&mut line, named, sheet.meaning(row, column), used)?;
         } else {
-            Meaning::Blank
-        };
-        add_name(&mut line, named, meaning, element.class, element.number)?;
+            add_name(&mut line, named, Meaning::Blank, None)?;
+        }
     }
     add_line(text, &line)
 }
@@ -272,7 +304,7 @@ fn add_wire_line(
         }
         let element = element_at(sheet.elements, row, column);
         let meaning = if sheet.is_drawn(row, column) {
-            meaning_at(sheet.elements, row, column)
+            sheet.meaning(row, column)
         } else {
             Meaning::Blank
         };
@@ -339,6 +371,55 @@ fn add_rows(
     Ok(())
 }
 
+fn is_operate(meaning: Meaning) -> bool {
+    match meaning {
+        Meaning::Operate => true,
+        Meaning::Blank
+        | Meaning::Wire
+        | Meaning::Contact(_)
+        | Meaning::Opened(_)
+        | Meaning::Coil(_)
+        | Meaning::Jump
+        | Meaning::Block(_)
+        | Meaning::Off
+        | Meaning::Other => false,
+    }
+}
+
+/// How many operates a rung has; they are in the last column.
+fn operates_in(sheet: &Sheet<'_>) -> u32 {
+    let mut count = 0u32;
+    for row in 0..ROWS {
+        if is_operate(sheet.meaning(row, COLUMNS - 1)) {
+            count = count.saturating_add(1);
+        }
+    }
+    count
+}
+
+/// Adds how much is opened, where something is.
+fn add_head(text: &mut Vec<u8>, sheets: &[Sheet<'_>], named: &[Named]) -> Result<(), AllocError> {
+    let opened = named.iter().filter(|n| n.used.opened.is_some()).count();
+    let mut operates = 0u32;
+    for sheet in sheets {
+        operates = operates.saturating_add(operates_in(sheet));
+    }
+    if opened == 0 && operates == 0 {
+        return Ok(());
+    }
+    add(text, b"(* Opened: ")?;
+    add_number(text, u32::try_from(opened).unwrap_or(u32::MAX))?;
+    add(
+        text,
+        b" inputs of any value stand for compares and steps; operates left out: ",
+    )?;
+    add_number(text, operates)?;
+    add(
+        text,
+        b".\n   The program can do all that the project can, and perhaps more. *)\n",
+    )
+}
+
 /// The text of a program, with these names.
 pub(crate) fn drawing(
     alloc: Global,
@@ -348,6 +429,7 @@ pub(crate) fn drawing(
     named: &[Named],
 ) -> Result<Vec<u8>, AllocError> {
     let mut text = Vec::new(alloc);
+    add_head(&mut text, sheets, named)?;
     add(&mut text, b"VAR\n")?;
     for other in named {
         add_declaration(alloc, &mut text, project, links, *other)?;

@@ -3,7 +3,7 @@
 ghost use Rattle.std.specs.Prelude.{◌<◌, ◌≤◌};
 ghost use Rattle.ladder_page.specs.declared.geometry.TheConstants.{COLUMNS, ROWS};
 
-use ladder_clp::{Element, Project};
+use ladder_clp::{Element, Project, Reading};
 use ladder_page::geometry::{COLUMNS, PLACES, ROWS};
 use ladder_sheet::{Meaning, is_linked, meaning_at, passes, power_of};
 use std::alloc::{AllocError, Global};
@@ -11,15 +11,20 @@ use std::alloc::{AllocError, Global};
 /// The elements of a rung, and which of them are drawn: those that mean something, and that power can come to.
 #[derive(Clone, Copy)]
 pub(crate) struct Sheet<'a> {
+    pub(crate) reading: Reading,
+    /// The number of its rung in the program.
+    pub(crate) rung: u32,
     pub(crate) elements: &'a [Element],
     drawn: [bool; PLACES],
 }
 
+/// Whether nothing is drawn in its place.
 fn is_blank(meaning: Meaning) -> bool {
     match meaning {
-        Meaning::Blank => true,
+        Meaning::Blank | Meaning::Operate => true,
         Meaning::Wire
         | Meaning::Contact(_)
+        | Meaning::Opened(_)
         | Meaning::Coil(_)
         | Meaning::Jump
         | Meaning::Block(_)
@@ -29,29 +34,44 @@ fn is_blank(meaning: Meaning) -> bool {
 }
 
 /// The elements with what is drawn of them.
-fn sheet_of(elements: &[Element]) -> Sheet<'_> {
-    let power = power_of(elements);
+fn sheet_of(reading: Reading, rung: u32, elements: &[Element]) -> Sheet<'_> {
+    let power = power_of(reading, elements);
     let mut drawn = [false; PLACES];
     for place in 0..PLACES {
         let (row, column) = (place / COLUMNS, place % COLUMNS);
-        drawn[place] = power[column][row] && !is_blank(meaning_at(elements, row, column));
+        drawn[place] = power[column][row] && !is_blank(meaning_at(reading, elements, row, column));
     }
-    Sheet { elements, drawn }
+    Sheet {
+        reading,
+        rung,
+        elements,
+        drawn,
+    }
 }
 
 /// A sheet for each rung, in the order of the scan.
 pub(crate) fn sheets_of<'a>(
     alloc: Global,
+    reading: Reading,
     project: &'a Project<'_>,
 ) -> Result<Vec<Sheet<'a>>, AllocError> {
     let mut sheets = Vec::new(alloc);
+    let mut rung = 0u32;
     for placed in &project.rungs {
-        sheets.push(sheet_of(placed.rung.elements.as_slice()))?;
+        rung = rung.saturating_add(1);
+        sheets.push(sheet_of(reading, rung, placed.rung.elements.as_slice()))?;
     }
     Ok(sheets)
 }
 
 impl Sheet<'_> {
+    /// What the element at a place means.
+    pub(crate) fn meaning(&self, row: usize, column: usize) -> Meaning
+        requires { (row < ROWS) × (column < COLUMNS) }
+    {
+        meaning_at(self.reading, self.elements, row, column)
+    }
+
     /// Whether the element is drawn.
     pub(crate) fn is_drawn(&self, row: usize, column: usize) -> bool
         requires { (row < ROWS) × (column < COLUMNS) }
@@ -63,9 +83,7 @@ impl Sheet<'_> {
     pub(crate) fn is_left(&self, row: usize, column: usize) -> bool
         requires { (row < ROWS) × (column < COLUMNS) }
     {
-        column >= 1
-            && self.is_drawn(row, column - 1)
-            && passes(meaning_at(self.elements, row, column - 1))
+        column >= 1 && self.is_drawn(row, column - 1) && passes(self.meaning(row, column - 1))
     }
 
     fn is_used(&self, row: usize, column: usize) -> bool

@@ -2,6 +2,7 @@
 
 ghost use Rattle.std.specs.Prelude.{◌≡◌, All, IfErr, IfOk};
 ghost use Rattle.ladder_clp.specs.declared.project.Project.{Project};
+ghost use Rattle.ladder_clp.specs.declared.reading.Reading.{Reading};
 ghost use Rattle.ladder_import.specs.Import.{HasText, IsFault};
 ghost use Rattle.ladder_import.specs.Refusals.{IsThere};
 
@@ -9,7 +10,7 @@ use crate::draw::drawing;
 use crate::drawn::sheets_of;
 use crate::names::{blocks_in, drawn_blocks, names_of, used_in};
 use crate::refusal::{Refusal, refusals};
-use ladder_clp::Project;
+use ladder_clp::{Project, Reading};
 use ladder_faithful::is_carried_over;
 use ladder_grid::{GridFault, read_program};
 use ladder_hal::Link;
@@ -50,7 +51,7 @@ impl From<AllocError> for ImportFault {
 }
 
 fn fault_of(fault: GridFault) -> ImportFault
-    ensures { (p : Project) → IsFault p result }
+    ensures { (reading : Reading) (p : Project) → IsFault reading p result }
 {
     match fault {
         GridFault::Vars(fault) if fault.rule == VarRule::Memory => ImportFault::Memory,
@@ -61,16 +62,17 @@ fn fault_of(fault: GridFault) -> ImportFault
 /// The text, where it is a program that has what the project has.
 fn checked(
     alloc: Global,
+    reading: Reading,
     project: &Project<'_>,
     blocks: &[BlockRef],
     text: Vec<u8>,
 ) -> Result<Vec<u8>, ImportFault>
-    ensures text { IfOk result (λ v. HasText project.now v.items) }
-    ensures fault { IfErr result (λ e. IsFault project.now e) }
+    ensures text { IfOk result (λ v. HasText reading project.now v.items) }
+    ensures fault { IfErr result (λ e. IsFault reading project.now e) }
 {
     match read_program(alloc, &text) {
         Ok(program) => {
-            if is_carried_over(project, blocks, &program) {
+            if is_carried_over(reading, project, blocks, &program) {
                 Ok(text)
             } else {
                 Err(ImportFault::NotFaithful)
@@ -81,11 +83,16 @@ fn checked(
 }
 
 /// The text as it is drawn, and then checked.
-fn drawn(alloc: Global, project: &Project<'_>, links: &[Link<'_>]) -> Result<Vec<u8>, ImportFault>
-    ensures text { IfOk result (λ v. HasText project.now v.items) }
-    ensures fault { IfErr result (λ e. IsFault project.now e) }
+fn drawn(
+    alloc: Global,
+    reading: Reading,
+    project: &Project<'_>,
+    links: &[Link<'_>],
+) -> Result<Vec<u8>, ImportFault>
+    ensures text { IfOk result (λ v. HasText reading project.now v.items) }
+    ensures fault { IfErr result (λ e. IsFault reading project.now e) }
 {
-    let sheets = sheets_of(alloc, project)?;
+    let sheets = sheets_of(alloc, reading, project)?;
     let used = used_in(alloc, &sheets)?;
     let blocks = blocks_in(alloc, &used, &drawn_blocks(alloc, &sheets)?)?;
     if blocks.len() > MOST_INSTANCES {
@@ -96,12 +103,16 @@ fn drawn(alloc: Global, project: &Project<'_>, links: &[Link<'_>]) -> Result<Vec
     }
     let named = names_of(alloc, project, links, &used, &blocks)?;
     let text = drawing(alloc, project, links, &sheets, &named)?;
-    checked(alloc, project, &blocks, text)
+    checked(alloc, reading, project, &blocks, text)
 }
 
-fn none_refused(project: &Project<'_>, refused: &[Refusal]) -> Result<(), ImportFault>
-    requires { All (IsThere project.now.rungs.items) refused.now }
-    ensures { IfErr result (λ e. IsFault project.now e) }
+fn none_refused(
+    reading: Reading,
+    project: &Project<'_>,
+    refused: &[Refusal],
+) -> Result<(), ImportFault>
+    requires { All (IsThere reading project.now.rungs.items) refused.now }
+    ensures { IfErr result (λ e. IsFault reading project.now e) }
 {
     if refused.len() >= 1 {
         return Err(ImportFault::Refused);
@@ -109,7 +120,7 @@ fn none_refused(project: &Project<'_>, refused: &[Refusal]) -> Result<(), Import
     Ok(())
 }
 
-/// The program text of a project: it reads as a program, and that has what the project has. An input or an output whose symbol is no
+/// The program text of a project: it reads as a program, and that has what the project has, as it is read. An input or an output whose symbol is no
 /// name is called after the signal that a link connects with its pin.
 ///
 /// # Errors
@@ -118,16 +129,17 @@ fn none_refused(project: &Project<'_>, refused: &[Refusal]) -> Result<(), Import
 /// did not pass the check.
 pub fn import(
     alloc: Global,
+    reading: Reading,
     project: &Project<'_>,
     links: &[Link<'_>],
 ) -> Result<Vec<u8>, ImportFault>
-    ensures carried { IfOk result (λ v. HasText project.now v.items) }
-    ensures fault { IfErr result (λ e. IsFault project.now e) }
+    ensures carried { IfOk result (λ v. HasText reading project.now v.items) }
+    ensures fault { IfErr result (λ e. IsFault reading project.now e) }
 {
-    let refused = refusals(alloc, project)?;
-    none_refused(project, &refused)?;
+    let refused = refusals(alloc, reading, project)?;
+    none_refused(reading, project, &refused)?;
     if project.rungs.len() > RUNGS {
         return Err(ImportFault::TooManyRungs);
     }
-    drawn(alloc, project, links)
+    drawn(alloc, reading, project, links)
 }

@@ -8,15 +8,37 @@ use crate::drawn::Sheet;
 use ladder_clp::{Project, Symbol};
 use ladder_hal::{Link, Pin};
 use ladder_page::geometry::{COLUMNS, ROWS};
-use ladder_sheet::{BlockRef, BlockSort, Meaning, Source, element_at, meaning_at, source_of};
+use ladder_sheet::{BlockRef, BlockSort, Meaning, Source, element_at, source_of};
 use ladder_vars::Name;
 use std::alloc::{AllocError, Global};
+
+/// What is opened: a compare, or a contact on a step of a sequential chart.
+#[derive(Clone, Copy, Debug, PartialEq, Eq, PartialOrd, Ord)]
+pub(crate) struct Opened {
+    /// The number of the rung in the program.
+    pub(crate) rung: u32,
+    /// A hundred times the row, and the column; both are counted from 1.
+    pub(crate) place: u32,
+    pub(crate) is_step: bool,
+}
 
 /// A variable or a block that the program has, in the order of declaration.
 #[derive(Clone, Copy, Debug, PartialEq, Eq, PartialOrd, Ord)]
 pub(crate) struct Used {
     pub(crate) source: Source,
+    /// What the variable stands for where that is opened: then it is an input.
+    pub(crate) opened: Option<Opened>,
     pub(crate) number: u32,
+}
+
+impl Used {
+    fn new(source: Source, number: u32) -> Used {
+        Used {
+            source,
+            opened: None,
+            number,
+        }
+    }
 }
 
 /// What it is called.
@@ -41,6 +63,31 @@ pub(crate) fn letters(source: Source) -> &'static [u8] {
     }
 }
 
+/// What the element at a place uses.
+pub(crate) fn used_at(sheet: &Sheet<'_>, row: usize, column: usize) -> Option<Used>
+    requires { (row < ROWS) × (column < COLUMNS) }
+{
+    let element = element_at(sheet.elements, row, column);
+    match sheet.meaning(row, column) {
+        Meaning::Contact(_) | Meaning::Coil(_) => match source_of(element.class) {
+            Source::Other => None,
+            source => Some(Used::new(source, element.number)),
+        },
+        Meaning::Opened(_) => Some(Used {
+            source: Source::Input,
+            opened: Some(Opened {
+                rung: sheet.rung,
+                place: 100 * (row as u32 + 1) + (column as u32 + 1),
+                is_step: element.class == 30 && element.kind != 20,
+            }),
+            number: element.number,
+        }),
+        Meaning::Block(sort) => Some(Used::new(Source::Done(sort), element.number)),
+        Meaning::Off => Some(Used::new(Source::Done(BlockSort::Timer), element.number)),
+        Meaning::Blank | Meaning::Wire | Meaning::Jump | Meaning::Operate | Meaning::Other => None,
+    }
+}
+
 /// How many come before it in order.
 fn place_of(used: &[Used], new: Used) -> usize
     ensures { result ≤ length used.now }
@@ -58,54 +105,14 @@ fn add_used(used: &mut Vec<Used>, new: Used) -> Result<(), AllocError> {
     Ok(())
 }
 
-/// Adds what an element that is drawn uses.
-fn add_element(
-    used: &mut Vec<Used>,
-    meaning: Meaning,
-    class: u32,
-    number: u32,
-) -> Result<(), AllocError> {
-    match meaning {
-        Meaning::Contact(_) | Meaning::Coil(_) => match source_of(class) {
-            Source::Input | Source::Output | Source::Memory | Source::Done(_) => add_used(
-                used,
-                Used {
-                    source: source_of(class),
-                    number,
-                },
-            ),
-            Source::Other => Ok(()),
-        },
-        Meaning::Block(sort) => add_used(
-            used,
-            Used {
-                source: Source::Done(sort),
-                number,
-            },
-        ),
-        Meaning::Off => add_used(
-            used,
-            Used {
-                source: Source::Done(BlockSort::Timer),
-                number,
-            },
-        ),
-        Meaning::Blank | Meaning::Wire | Meaning::Jump | Meaning::Other => Ok(()),
-    }
-}
-
 fn add_row(used: &mut Vec<Used>, sheet: &Sheet<'_>, row: usize) -> Result<(), AllocError>
     requires { row < ROWS }
 {
     for column in 0..COLUMNS {
         if sheet.is_drawn(row, column) {
-            let element = element_at(sheet.elements, row, column);
-            add_element(
-                used,
-                meaning_at(sheet.elements, row, column),
-                element.class,
-                element.number,
-            )?;
+            if let Some(new) = used_at(sheet, row, column) {
+                add_used(used, new)?;
+            }
         }
     }
     Ok(())
@@ -149,6 +156,9 @@ pub(crate) fn symbol_of<'a>(
     project: &Project<'a>,
     used: Used,
 ) -> Result<Option<Symbol<'a>>, AllocError> {
+    if used.opened.is_some() {
+        return Ok(None);
+    }
     let mut variable = Vec::new(alloc);
     add(&mut variable, b"%")?;
     add(&mut variable, letters(used.source))?;
@@ -197,10 +207,19 @@ fn free_name(named: &[Named], is_block: bool, bytes: &[u8]) -> Option<Name> {
     Some(name)
 }
 
+/// What a plain name begins with.
+fn letters_of(used: Used) -> &'static [u8] {
+    match used.opened {
+        Some(opened) if opened.is_step => b"X",
+        Some(_) => b"CMP",
+        None => letters(used.source),
+    }
+}
+
 /// The letters and the number, and behind them the count of such a name, where it isn't the first.
 fn plain(alloc: Global, used: Used, ending: &[u8], count: u32) -> Result<Vec<u8>, AllocError> {
     let mut name = Vec::new(alloc);
-    add(&mut name, letters(used.source))?;
+    add(&mut name, letters_of(used))?;
     add_number(&mut name, used.number)?;
     add(&mut name, ending)?;
     if count > 0 {
@@ -237,6 +256,9 @@ fn symbol_name(
 
 /// The signal that is connected with the pin of an input or an output, the first where there are several.
 pub(crate) fn signal_of<'a>(links: &[Link<'a>], used: Used) -> Option<&'a [u8]> {
+    if used.opened.is_some() {
+        return None;
+    }
     let pin = match used.source {
         Source::Input => Pin::Input(used.number),
         Source::Output => Pin::Output(used.number),
@@ -335,7 +357,7 @@ fn add_blocks(blocks: &mut Vec<BlockRef>, sheet: &Sheet<'_>, row: usize) -> Resu
 {
     for column in 0..COLUMNS {
         if sheet.is_drawn(row, column) {
-            if let Meaning::Block(sort) = meaning_at(sheet.elements, row, column) {
+            if let Meaning::Block(sort) = sheet.meaning(row, column) {
                 let number = element_at(sheet.elements, row, column).number;
                 blocks.push(BlockRef { sort, number })?;
             }

@@ -7,7 +7,7 @@ ghost use Rattle.ladder_import.specs.Refusals.{IsThere, holds, is_coil, is_no_so
 
 use crate::drawn::sheets_of;
 use crate::names::drawn_blocks;
-use ladder_clp::{Element, Placed, Project};
+use ladder_clp::{Element, Placed, Project, Reading, is_open, writes_number};
 use ladder_page::geometry::{COLUMNS, ROWS};
 use ladder_sheet::{
     BlockRef, BlockSort, Meaning, Power, Source, element_at, ends_rung, entry_of, has_places,
@@ -82,10 +82,12 @@ fn is_other(meaning: Meaning) -> bool
         Meaning::Blank
         | Meaning::Wire
         | Meaning::Contact(_)
+        | Meaning::Opened(_)
         | Meaning::Coil(_)
         | Meaning::Jump
         | Meaning::Block(_)
-        | Meaning::Off => false,
+        | Meaning::Off
+        | Meaning::Operate => false,
     }
 }
 
@@ -97,9 +99,11 @@ fn is_coil(meaning: Meaning) -> bool
         Meaning::Blank
         | Meaning::Wire
         | Meaning::Contact(_)
+        | Meaning::Opened(_)
         | Meaning::Jump
         | Meaning::Block(_)
         | Meaning::Off
+        | Meaning::Operate
         | Meaning::Other => false,
     }
 }
@@ -114,14 +118,21 @@ fn is_no_source(source: Source) -> bool
 }
 
 /// Whether the reason holds of the element at a place.
-fn holds(reason: Reason, elements: &[Element], power: &Power, row: usize, column: usize) -> bool
+fn holds(
+    reading: Reading,
+    reason: Reason,
+    elements: &[Element],
+    power: &Power,
+    row: usize,
+    column: usize,
+) -> bool
     requires rows { row < ROWS }
     requires columns { column < COLUMNS }
-    requires power { IsPower elements.now power.now }
-    ensures { result ≡ holds reason elements.now row column }
+    requires power { IsPower reading elements.now power.now }
+    ensures { result ≡ holds reading reason elements.now row column }
 {
     let element = element_at(elements, row, column);
-    let meaning = meaning_at(elements, row, column);
+    let meaning = meaning_at(reading, elements, row, column);
     let source = source_of(element.class);
     match reason {
         Reason::Counter => element.kind == 12,
@@ -135,21 +146,22 @@ fn holds(reason: Reason, elements: &[Element], power: &Power, row: usize, column
         Reason::WritesInput => is_coil(meaning) && element.class == 50,
         Reason::OtherCoil => is_coil(meaning),
         Reason::LargeNumber => element.number > 99999,
-        Reason::OutOfPlace => !stands(elements, row, column),
-        Reason::BelowJump => !ends_rung(elements, row, column),
+        Reason::OutOfPlace => !stands(reading, elements, row, column),
+        Reason::BelowJump => !ends_rung(reading, elements, row, column),
         Reason::BlockPlaces => is_block(meaning_of(element.kind))
-            && !has_places(elements, row, column),
-        Reason::Switched => element.kind == 10 && !stands(elements, row, column),
+            && !has_places(reading, elements, row, column),
+        Reason::Switched => element.kind == 10 && !stands(reading, elements, row, column),
         Reason::NoPreset | Reason::Twice => is_block(meaning_of(element.kind)),
-        Reason::ReadsLate => reads_late(elements, row, column),
+        Reason::ReadsLate => reads_late(reading, elements, row, column),
         Reason::NoPower => !power[column][row] && !is_idle(meaning),
-        Reason::Running => is_run_by_any(elements, power, row, column),
+        Reason::Running => is_run_by_any(reading, elements, power, row, column),
         Reason::Elsewhere => element.kind == 54,
     }
 }
 
 /// The reason as a refusal, where it holds.
 fn refused(
+    reading: Reading,
     rungs: &[Placed<'_>],
     rung: usize,
     row: usize,
@@ -158,11 +170,18 @@ fn refused(
 ) -> Option<Refusal>
     requires rows { row < ROWS }
     requires columns { column < COLUMNS }
-    ensures { IfSome result (λ f. IsThere rungs.now f) }
+    ensures { IfSome result (λ f. IsThere reading rungs.now f) }
 {
     let placed = rungs.get(rung)?;
     let elements = placed.rung.elements.as_slice();
-    if holds(reason, elements, &power_of(elements), row, column) {
+    if holds(
+        reading,
+        reason,
+        elements,
+        &power_of(reading, elements),
+        row,
+        column,
+    ) {
         Some(Refusal {
             rung: placed.rung.number,
             row: row + 1,
@@ -174,12 +193,16 @@ fn refused(
     }
 }
 
-fn kind_reason(kind: u32) -> Option<Reason> {
+/// What keeps an element from being carried over by its kind alone.
+fn kind_reason(reading: Reading, project: &Project<'_>, element: Element) -> Option<Reason> {
+    let kind = element.kind;
     if kind == 12 {
         Some(Reason::Counter)
-    } else if kind == 20 {
+    } else if kind == 20 && !is_open(reading) {
         Some(Reason::Compare)
-    } else if kind == 60 {
+    } else if kind == 60
+        && !(is_open(reading) && writes_number(&project.expressions, element.number))
+    {
         Some(Reason::Operate)
     } else if kind == 55 {
         Some(Reason::Call)
@@ -270,6 +293,7 @@ fn block_reason(
 
 /// What keeps an element from standing where it is.
 fn place_reason(
+    reading: Reading,
     elements: &[Element],
     power: &Power,
     row: usize,
@@ -278,12 +302,12 @@ fn place_reason(
 ) -> Option<Reason>
     requires rows { row < ROWS }
     requires columns { column < COLUMNS }
-    requires power { IsPower elements.now power.now }
+    requires power { IsPower reading elements.now power.now }
 {
-    if stands(elements, row, column) {
-        if reads_late(elements, row, column) {
+    if stands(reading, elements, row, column) {
+        if reads_late(reading, elements, row, column) {
             Some(Reason::ReadsLate)
-        } else if is_run_by_any(elements, power, row, column) {
+        } else if is_run_by_any(reading, elements, power, row, column) {
             Some(Reason::Running)
         } else {
             None
@@ -291,9 +315,13 @@ fn place_reason(
     } else {
         match meaning {
             Meaning::Jump if column + 1 == COLUMNS => Some(Reason::BelowJump),
-            Meaning::Block(_) if has_places(elements, row, column) => Some(Reason::Switched),
+            Meaning::Block(_) if has_places(reading, elements, row, column) => Some(
+                Reason::Switched,
+            ),
             Meaning::Block(_) => Some(Reason::BlockPlaces),
-            Meaning::Off if !has_places(elements, row, column) => Some(Reason::BlockPlaces),
+            Meaning::Off if !has_places(reading, elements, row, column) => Some(
+                Reason::BlockPlaces,
+            ),
             _ => Some(Reason::OutOfPlace),
         }
     }
@@ -309,6 +337,7 @@ fn drawn_reason(
 ) -> Option<Reason> {
     match meaning {
         Meaning::Contact(_) => contact_reason(element),
+        Meaning::Opened(_) => large_number(element),
         Meaning::Coil(_) => coil_reason(element),
         Meaning::Jump => jump_reason(project, rung, element),
         Meaning::Block(sort) => block_reason(project, blocks, sort, element),
@@ -320,7 +349,7 @@ fn drawn_reason(
                 None
             }
         }
-        Meaning::Blank | Meaning::Wire => None,
+        Meaning::Blank | Meaning::Wire | Meaning::Operate => None,
     }
 }
 
@@ -329,24 +358,25 @@ fn is_blank(meaning: Meaning) -> bool {
         Meaning::Blank => true,
         Meaning::Wire
         | Meaning::Contact(_)
+        | Meaning::Opened(_)
         | Meaning::Coil(_)
         | Meaning::Jump
         | Meaning::Block(_)
         | Meaning::Off
+        | Meaning::Operate
         | Meaning::Other => false,
     }
 }
 
 /// Whether an element of the rung is of a kind that can't be carried over. Where power comes from there isn't known, so that others
 /// behind it may have it.
-fn has_refused_kind(elements: &[Element]) -> bool {
-    elements
-        .iter()
-        .any(|element| kind_reason(element.kind).is_some())
+fn has_refused_kind(reading: Reading, project: &Project<'_>, elements: &[Element]) -> bool {
+    elements.iter().any(|element| kind_reason(reading, project, *element).is_some())
 }
 
 /// Why the element at a place can't be carried over.
 fn reason_at(
+    reading: Reading,
     project: &Project<'_>,
     blocks: &[BlockRef],
     rung: usize,
@@ -357,11 +387,11 @@ fn reason_at(
 ) -> Option<Reason>
     requires rows { row < ROWS }
     requires columns { column < COLUMNS }
-    requires power { IsPower elements.now power.now }
+    requires power { IsPower reading elements.now power.now }
 {
     let element = element_at(elements, row, column);
-    let meaning = meaning_at(elements, row, column);
-    if let Some(reason) = kind_reason(element.kind) {
+    let meaning = meaning_at(reading, elements, row, column);
+    if let Some(reason) = kind_reason(reading, project, element) {
         return Some(reason);
     }
     if is_other(meaning) {
@@ -374,18 +404,19 @@ fn reason_at(
         if is_idle(meaning) {
             return None;
         }
-        if !has_refused_kind(elements) {
+        if !has_refused_kind(reading, project, elements) {
             return Some(Reason::NoPower);
         }
     }
     match drawn_reason(project, blocks, rung, element, meaning) {
         Some(reason) => Some(reason),
-        None => place_reason(elements, power, row, column, meaning),
+        None => place_reason(reading, elements, power, row, column, meaning),
     }
 }
 
 /// Adds the refusals of a row.
 fn add_row(
+    reading: Reading,
     project: &Project<'_>,
     blocks: &[BlockRef],
     rung: usize,
@@ -395,13 +426,15 @@ fn add_row(
     refusals: &mut Vec<Refusal>,
 ) -> Result<(), AllocError>
     requires rows { row < ROWS }
-    requires power { IsPower elements.now power.now }
-    requires before { All (IsThere project.now.rungs.items) refusals.old.items }
-    ensures { IfOk result (λ _. All (IsThere project.now.rungs.items) refusals.new.items) }
+    requires power { IsPower reading elements.now power.now }
+    requires before { All (IsThere reading project.now.rungs.items) refusals.old.items }
+    ensures { IfOk result (λ _. All (IsThere reading project.now.rungs.items) refusals.new.items) }
 {
     for column in 0..COLUMNS {
-        if let Some(reason) = reason_at(project, blocks, rung, elements, power, row, column) {
-            if let Some(refusal) = refused(&project.rungs, rung, row, column, reason) {
+        if let Some(reason) = reason_at(
+            reading, project, blocks, rung, elements, power, row, column,
+        ) {
+            if let Some(refusal) = refused(reading, &project.rungs, rung, row, column, reason) {
                 refusals.push(refusal)?;
             }
         }
@@ -411,21 +444,24 @@ fn add_row(
 
 /// Adds the refusals of a rung.
 fn add_rung(
+    reading: Reading,
     project: &Project<'_>,
     blocks: &[BlockRef],
     rung: usize,
     refusals: &mut Vec<Refusal>,
 ) -> Result<(), AllocError>
-    requires before { All (IsThere project.now.rungs.items) refusals.old.items }
-    ensures { IfOk result (λ _. All (IsThere project.now.rungs.items) refusals.new.items) }
+    requires before { All (IsThere reading project.now.rungs.items) refusals.old.items }
+    ensures { IfOk result (λ _. All (IsThere reading project.now.rungs.items) refusals.new.items) }
 {
     let Some(placed) = project.rungs.get(rung) else {
         return Ok(());
     };
     let elements = placed.rung.elements.as_slice();
-    let power = power_of(elements);
+    let power = power_of(reading, elements);
     for row in 0..ROWS {
-        add_row(project, blocks, rung, elements, &power, row, refusals)?;
+        add_row(
+            reading, project, blocks, rung, elements, &power, row, refusals,
+        )?;
     }
     Ok(())
 }
@@ -435,13 +471,17 @@ fn add_rung(
 /// # Errors
 ///
 /// An error when out of memory.
-pub fn refusals(alloc: Global, project: &Project<'_>) -> Result<Vec<Refusal>, AllocError>
-    ensures { IfOk result (λ v. All (IsThere project.now.rungs.items) v.items) }
+pub fn refusals(
+    alloc: Global,
+    reading: Reading,
+    project: &Project<'_>,
+) -> Result<Vec<Refusal>, AllocError>
+    ensures { IfOk result (λ v. All (IsThere reading project.now.rungs.items) v.items) }
 {
-    let blocks = drawn_blocks(alloc, &sheets_of(alloc, project)?)?;
+    let blocks = drawn_blocks(alloc, &sheets_of(alloc, reading, project)?)?;
     let mut refusals = Vec::new(alloc);
     for rung in 0..project.rungs.len() {
-        add_rung(project, &blocks, rung, &mut refusals)?;
+        add_rung(reading, project, &blocks, rung, &mut refusals)?;
     }
     Ok(refusals)
 }

@@ -6,7 +6,10 @@ use Rattle.ladder_page.specs.declared.mode.Mode.{Mode}
 use Rattle.ladder_page.specs.declared.mode.Mode.TheVariants as mode
 use Rattle.ladder_page.specs.declared.mode.CoilMode.{CoilMode}
 use Rattle.ladder_page.specs.declared.mode.CoilMode.TheVariants as coil
+use Rattle.ladder_clp.specs.declared.element.Element.{Element}
 use Rattle.ladder_clp.specs.declared.project.Project.{Project}
+use Rattle.ladder_clp.specs.declared.reading.Reading.{Reading}
+use Rattle.ladder_clp.specs.declared.reading.Reading.TheVariants as reading
 use Rattle.ladder_clp.specs.declared.table.Preset.{Preset}
 use Rattle.ladder_sheet.specs.declared.meaning.BlockSort.{BlockSort}
 use Rattle.ladder_sheet.specs.declared.meaning.BlockSort.TheVariants as sort
@@ -53,6 +56,27 @@ unlike_contact k = elim (coil_of k) [ Some m ↦ meaning.Coil m | None ↦ elim 
 
 abbrev pub meaning_of : ℕ → Meaning
 meaning_of k = elim (contact_of k) [ Some m ↦ meaning.Contact m | None ↦ unlike_contact k ]
+
+-- ---- what is opened
+
+abbrev pub is_compare_kind : ℕ → Bool
+is_compare_kind k = k == 20
+
+-- a contact on a step of a sequential chart
+abbrev pub step_as : Meaning → Meaning
+step_as (meaning.Contact m) = meaning.Opened m
+step_as m = m
+
+-- A compare is a contact on a value that may be any, and so is a contact on a step (class 30). An operate computes a number.
+abbrev pub opened_as : Element → Meaning
+opened_as e =
+    if is_compare_kind e.kind then meaning.Opened mode.Plain
+    else (if e.kind == 60 then meaning.Operate
+    else (if e.class == 30 then step_as (meaning_of e.kind) else meaning_of e.kind))
+
+abbrev pub element_meaning : Reading → Element → Meaning
+element_meaning reading.Strict e = meaning_of e.kind
+element_meaning reading.Open e = opened_as e
 
 -- ---- sorts of variables
 

@@ -1,9 +1,9 @@
 //! Which element of ClassicLadder means what.
 
 ghost use Rattle.std.specs.Prelude.{◌≡◌, ◌≤◌, IfSome, option_map};
-ghost use Rattle.ladder_sheet.specs.Meanings.{block_of, coil_of, contact_of, entry_of, is_blank_kind, kind_of_mode, kind_of_sort, meaning_of, millis_of, plain_of, source_of, timed_as, unlike_contact};
+ghost use Rattle.ladder_sheet.specs.Meanings.{block_of, coil_of, contact_of, element_meaning, entry_of, is_blank_kind, is_compare_kind, kind_of_mode, kind_of_sort, meaning_of, millis_of, opened_as, plain_of, source_of, step_as, timed_as, unlike_contact};
 
-use ladder_clp::{Preset, Project};
+use ladder_clp::{Element, Preset, Project, Reading};
 use ladder_page::{CoilMode, Mode};
 use ladder_vars::BlockKind;
 
@@ -32,11 +32,15 @@ pub enum Meaning {
     Blank,
     Wire,
     Contact(Mode),
+    /// A contact on a value that may be any: a compare, or a contact on a step of a sequential chart.
+    Opened(Mode),
     Coil(CoilMode),
     Jump,
     Block(BlockSort),
     /// The output of an old timer whose time never passes: always OFF.
     Off,
+    /// It computes a number.
+    Operate,
     /// It isn't carried over.
     Other,
 }
@@ -141,6 +145,54 @@ pub fn meaning_of(kind: u32) -> Meaning
     match contact_of(kind) {
         Some(mode) => Meaning::Contact(mode),
         None => unlike_contact(kind),
+    }
+}
+
+pub(crate) fn is_compare_kind(kind: u32) -> bool
+    ensures { result ≡ is_compare_kind kind }
+{
+    kind == 20
+}
+
+/// What a contact on a step of a sequential chart is.
+fn step_as(meaning: Meaning) -> Meaning
+    ensures { result ≡ step_as meaning }
+{
+    match meaning {
+        Meaning::Contact(mode) => Meaning::Opened(mode),
+        Meaning::Blank
+        | Meaning::Wire
+        | Meaning::Opened(_)
+        | Meaning::Coil(_)
+        | Meaning::Jump
+        | Meaning::Block(_)
+        | Meaning::Off
+        | Meaning::Operate
+        | Meaning::Other => meaning,
+    }
+}
+
+fn opened_as(element: Element) -> Meaning
+    ensures { result ≡ opened_as element }
+{
+    if is_compare_kind(element.kind) {
+        Meaning::Opened(Mode::Plain)
+    } else if element.kind == 60 {
+        Meaning::Operate
+    } else if element.class == 30 {
+        step_as(meaning_of(element.kind))
+    } else {
+        meaning_of(element.kind)
+    }
+}
+
+/// What an element means by itself, as a project is read.
+pub(crate) fn element_meaning(reading: Reading, element: Element) -> Meaning
+    ensures { result ≡ element_meaning reading element }
+{
+    match reading {
+        Reading::Strict => meaning_of(element.kind),
+        Reading::Open => opened_as(element),
     }
 }
 

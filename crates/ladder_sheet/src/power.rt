@@ -7,7 +7,7 @@ ghost use Rattle.ladder_sheet.specs.Sheets.{are_tied, brings, fed, is_run, passe
 
 use crate::meaning::Meaning;
 use crate::sheet::{either, is_linked, is_running, meaning_at};
-use ladder_clp::Element;
+use ladder_clp::{Element, Reading};
 use ladder_page::geometry::{COLUMNS, ROWS};
 
 /// For each column to which of its rows power can come.
@@ -24,8 +24,13 @@ pub fn passes(meaning: Meaning) -> bool
     ensures { result ≡ passes meaning }
 {
     match meaning {
-        Meaning::Wire | Meaning::Contact(_) | Meaning::Block(_) | Meaning::Off => true,
-        Meaning::Blank | Meaning::Coil(_) | Meaning::Jump | Meaning::Other => false,
+        Meaning::Wire
+        | Meaning::Contact(_)
+        | Meaning::Opened(_)
+        | Meaning::Block(_)
+        | Meaning::Off => true,
+        Meaning::Blank | Meaning::Coil(_) | Meaning::Jump | Meaning::Operate | Meaning::Other =>
+            false,
     }
 }
 
@@ -55,22 +60,36 @@ fn are_tied(elements: &[Element], row: usize, column: usize, from: usize) -> boo
 }
 
 /// Whether power can leave the place on its right; `here` and `above`: whether it can come to it and to the one above.
-fn brings(elements: &[Element], row: usize, column: usize, here: bool, above: bool) -> bool
+fn brings(
+    reading: Reading,
+    elements: &[Element],
+    row: usize,
+    column: usize,
+    here: bool,
+    above: bool,
+) -> bool
     requires { (row < ROWS) × (column < COLUMNS) }
-    ensures { result ≡ brings elements.now row column here above }
+    ensures { result ≡ brings reading elements.now row column here above }
 {
-    passes(meaning_at(elements, row, column)) && here || is_running(elements, row, column) && above
+    passes(meaning_at(reading, elements, row, column)) && here
+        || is_running(elements, row, column) && above
 }
 
 /// From which rows of the column power can go on to the next one; `here`: to which it can come.
-fn leaving(elements: &[Element], column: usize, here: &[bool; ROWS]) -> [bool; ROWS]
+fn leaving(
+    reading: Reading,
+    elements: &[Element],
+    column: usize,
+    here: &[bool; ROWS],
+) -> [bool; ROWS]
     requires columns { column < COLUMNS }
-    requires here { AreReached elements.now column here.now }
-    ensures { AreLeaving elements.now column result }
+    requires here { AreReached reading elements.now column here.now }
+    ensures { AreLeaving reading elements.now column result }
 {
     let mut leaving = [false; ROWS];
     for row in 0..ROWS {
         leaving[row] = brings(
+            reading,
             elements,
             row,
             column,
@@ -91,11 +110,17 @@ fn comes(elements: &[Element], row: usize, column: usize, from: usize, leaves: b
 }
 
 /// Whether power can come to the row in the next column; `leaving`: from which rows it can leave this one.
-fn reaches(elements: &[Element], row: usize, column: usize, leaving: &[bool; ROWS]) -> bool
+fn reaches(
+    reading: Reading,
+    elements: &[Element],
+    row: usize,
+    column: usize,
+    leaving: &[bool; ROWS],
+) -> bool
     requires rows { row < ROWS }
     requires columns { column + 1 < COLUMNS }
-    requires leaving { AreLeaving elements.now column leaving.now }
-    ensures { result ≡ reached elements.now (column + 1) row }
+    requires leaving { AreLeaving reading elements.now column leaving.now }
+    ensures { result ≡ reached reading elements.now (column + 1) row }
 {
     let mut found = false;
     for from in 0..ROWS {
@@ -104,32 +129,38 @@ fn reaches(elements: &[Element], row: usize, column: usize, leaving: &[bool; ROW
     found
 }
 
-fn reached_next(elements: &[Element], column: usize, before: &[bool; ROWS]) -> [bool; ROWS]
+fn reached_next(
+    reading: Reading,
+    elements: &[Element],
+    column: usize,
+    before: &[bool; ROWS],
+) -> [bool; ROWS]
     requires columns { column + 1 < COLUMNS }
-    requires before { AreReached elements.now column before.now }
-    ensures { AreReached elements.now (column + 1) result }
+    requires before { AreReached reading elements.now column before.now }
+    ensures { AreReached reading elements.now (column + 1) result }
 {
-    let leaving = leaving(elements, column, before);
+    let leaving = leaving(reading, elements, column, before);
     let mut reached = [false; ROWS];
     for row in 0..ROWS {
-        reached[row] = reaches(elements, row, column, &leaving);
+        reached[row] = reaches(reading, elements, row, column, &leaving);
     }
     reached
 }
 
 /// Where power can come to, found column by column.
-pub fn power_of(elements: &[Element]) -> Power
-    ensures { IsPower elements.now result }
+pub fn power_of(reading: Reading, elements: &[Element]) -> Power
+    ensures { IsPower reading elements.now result }
 {
     let mut power = [[true; ROWS]; COLUMNS];
     for column in 0..COLUMNS - 1 {
-        power[column + 1] = reached_next(elements, column, &power[column]);
+        power[column + 1] = reached_next(reading, elements, column, &power[column]);
     }
     power
 }
 
 /// Whether power can come to the left of the element from the row; `before`: where it can come to in the column before.
 pub fn fed(
+    reading: Reading,
     elements: &[Element],
     row: usize,
     column: usize,
@@ -138,17 +169,19 @@ pub fn fed(
 ) -> bool
     requires rows { (row < ROWS) × (from < ROWS) }
     requires columns { column < COLUMNS }
-    requires before { AreReached elements.now (column - 1) before.now }
-    ensures { result ≡ fed elements.now row column from }
+    requires before { AreReached reading elements.now (column - 1) before.now }
+    ensures { result ≡ fed reading elements.now row column from }
 {
     if column == 0 {
         return false;
     }
     let (here, above) = (before[from], before[from.saturating_sub(1)]);
-    brings(elements, from, column - 1, here, above) && are_tied(elements, row, column, from)
+    brings(reading, elements, from, column - 1, here, above)
+        && are_tied(elements, row, column, from)
 }
 
 fn is_run(
+    reading: Reading,
     elements: &[Element],
     row: usize,
     column: usize,
@@ -157,23 +190,30 @@ fn is_run(
 ) -> bool
     requires rows { (row < ROWS) × (from < ROWS) }
     requires columns { column < COLUMNS }
-    requires before { AreReached elements.now (column - 1) before.now }
-    ensures { result ≡ is_run elements.now row column from }
+    requires before { AreReached reading elements.now (column - 1) before.now }
+    ensures { result ≡ is_run reading elements.now row column from }
 {
-    fed(elements, row, column, from, before) && is_running(elements, from, column.saturating_sub(1))
+    fed(reading, elements, row, column, from, before)
+        && is_running(elements, from, column.saturating_sub(1))
 }
 
 /// Whether power comes to the element from the second output of an old timer.
-pub fn is_run_by_any(elements: &[Element], power: &Power, row: usize, column: usize) -> bool
+pub fn is_run_by_any(
+    reading: Reading,
+    elements: &[Element],
+    power: &Power,
+    row: usize,
+    column: usize,
+) -> bool
     requires rows { row < ROWS }
     requires columns { column < COLUMNS }
-    requires power { IsPower elements.now power.now }
-    ensures { result ≡ some_below (is_run elements.now row column) ROWS }
+    requires power { IsPower reading elements.now power.now }
+    ensures { result ≡ some_below (is_run reading elements.now row column) ROWS }
 {
     let before = power[column.saturating_sub(1)];
     let mut found = false;
     for from in 0..ROWS {
-        found = either(found, is_run(elements, row, column, from, &before));
+        found = either(found, is_run(reading, elements, row, column, from, &before));
     }
     found
 }

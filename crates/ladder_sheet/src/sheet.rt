@@ -4,10 +4,13 @@ ghost use Rattle.std.specs.Prelude.{◌≡◌, ◌+◌, ◌-◌, ◌*◌, ◌<�
 ghost use Rattle.ladder_page.specs.declared.geometry.TheConstants.{COLUMNS, ROWS, PLACES};
 ghost use Rattle.ladder_sheet.specs.Meanings.{source_of};
 ghost use Rattle.ladder_sheet.specs.declared.meaning.BlockSort.{BlockSort};
-ghost use Rattle.ladder_sheet.specs.Sheets.{element_at, ends_rung, has_places, is_bare, is_blank_at, is_block, is_contact, is_effect, is_effect_below, is_idle, is_left_half, is_linked, is_read_by, is_running, is_tied, meaning_at, reads_late, reads_place, same_sort, some_below, source_is, stands, stands_as, is_stopped, stopped_as};
+ghost use Rattle.ladder_sheet.specs.Sheets.{element_at, ends_rung, has_places, has_row, is_bare, is_before_block, is_before_compare, is_blank_at, is_block, is_compare_at, is_contact, is_effect, is_effect_below, is_idle, is_left_half, is_linked, is_read_by, is_running, is_tied, meaning_at, reads_late, reads_place, same_sort, some_below, source_is, stands, stands_as, is_stopped, stopped_as};
 
-use crate::meaning::{BlockSort, Meaning, Source, is_blank_kind, meaning_of, source_of};
-use ladder_clp::Element;
+use crate::meaning::{
+    BlockSort, Meaning, Source, element_meaning, is_blank_kind, is_compare_kind, meaning_of,
+    source_of,
+};
+use ladder_clp::{Element, Reading, is_open};
 use ladder_page::CoilMode;
 use ladder_page::geometry::{COLUMNS, ROWS};
 
@@ -60,18 +63,44 @@ pub fn is_block(meaning: Meaning) -> bool
         Meaning::Blank
         | Meaning::Wire
         | Meaning::Contact(_)
+        | Meaning::Opened(_)
         | Meaning::Coil(_)
         | Meaning::Jump
         | Meaning::Off
+        | Meaning::Operate
         | Meaning::Other => false,
     }
 }
 
-fn is_left_half(elements: &[Element], row: usize, column: usize) -> bool
+fn is_compare_at(elements: &[Element], row: usize, column: usize) -> bool
+    requires { (row ≤ ROWS) × (column ≤ COLUMNS + 1) }
+    ensures { result ≡ is_compare_at elements.now row column }
+{
+    column < COLUMNS && is_compare_kind(element_at(elements, row, column).kind)
+}
+
+/// Whether the place is one of the first two of a compare.
+fn is_before_compare(reading: Reading, elements: &[Element], row: usize, column: usize) -> bool
     requires { (row ≤ ROWS) × (column < COLUMNS) }
-    ensures { result ≡ is_left_half elements.now row column }
+    ensures { result ≡ is_before_compare reading elements.now row column }
+{
+    is_open(reading)
+        && (is_compare_at(elements, row, column + 1) || is_compare_at(elements, row, column + 2))
+}
+
+fn is_before_block(elements: &[Element], row: usize, column: usize) -> bool
+    requires { (row ≤ ROWS) × (column < COLUMNS) }
+    ensures { result ≡ is_before_block elements.now row column }
 {
     column + 1 < COLUMNS && is_block(meaning_of(element_at(elements, row, column + 1).kind))
+}
+
+/// Whether the place is a part of an element whose place is to the right.
+fn is_left_half(reading: Reading, elements: &[Element], row: usize, column: usize) -> bool
+    requires { (row ≤ ROWS) × (column < COLUMNS) }
+    ensures { result ≡ is_left_half reading elements.now row column }
+{
+    is_before_block(elements, row, column) || is_before_compare(reading, elements, row, column)
 }
 
 /// Whether the second output of an old timer is there.
@@ -83,34 +112,40 @@ pub(crate) fn is_running(elements: &[Element], row: usize, column: usize) -> boo
 }
 
 /// Whether nothing is there from which power could go on.
-fn is_bare(elements: &[Element], row: usize, column: usize) -> bool
+fn is_bare(reading: Reading, elements: &[Element], row: usize, column: usize) -> bool
     requires { (row ≤ ROWS) × (column < COLUMNS) }
-    ensures { result ≡ is_bare elements.now row column }
+    ensures { result ≡ is_bare reading elements.now row column }
 {
     is_blank_at(elements, row, column)
-        && !is_left_half(elements, row, column)
+        && !is_left_half(reading, elements, row, column)
         && !is_running(elements, row, column)
 }
 
 /// Whether nothing is drawn to the second input of an old timer.
-fn is_stopped(elements: &[Element], row: usize, column: usize) -> bool
+fn is_stopped(reading: Reading, elements: &[Element], row: usize, column: usize) -> bool
     requires { (row ≤ ROWS) × (column < COLUMNS) }
-    ensures { result ≡ is_stopped elements.now row column }
+    ensures { result ≡ is_stopped reading elements.now row column }
 {
     column >= 2
         && row + 1 < ROWS
         && !is_linked(elements, row + 1, column - 1)
         && !is_linked(elements, row + 2, column - 1)
-        && is_bare(elements, row + 1, column - 2)
+        && is_bare(reading, elements, row + 1, column - 2)
 }
 
-fn stopped_as(elements: &[Element], row: usize, column: usize, meaning: Meaning) -> Meaning
+fn stopped_as(
+    reading: Reading,
+    elements: &[Element],
+    row: usize,
+    column: usize,
+    meaning: Meaning,
+) -> Meaning
     requires { (row ≤ ROWS) × (column < COLUMNS) }
-    ensures { result ≡ stopped_as elements.now row column meaning }
+    ensures { result ≡ stopped_as reading elements.now row column meaning }
 {
     match meaning {
         Meaning::Block(BlockSort::Timer) => {
-            if is_stopped(elements, row, column) {
+            if is_stopped(reading, elements, row, column) {
                 Meaning::Off
             } else {
                 Meaning::Block(BlockSort::Timer)
@@ -120,27 +155,29 @@ fn stopped_as(elements: &[Element], row: usize, column: usize, meaning: Meaning)
         | Meaning::Blank
         | Meaning::Wire
         | Meaning::Contact(_)
+        | Meaning::Opened(_)
         | Meaning::Coil(_)
         | Meaning::Jump
         | Meaning::Off
+        | Meaning::Operate
         | Meaning::Other => meaning,
     }
 }
 
 /// What the element at a place means.
-pub fn meaning_at(elements: &[Element], row: usize, column: usize) -> Meaning
+pub fn meaning_at(reading: Reading, elements: &[Element], row: usize, column: usize) -> Meaning
     requires { (row ≤ ROWS) × (column < COLUMNS) }
-    ensures { result ≡ meaning_at elements.now row column }
+    ensures { result ≡ meaning_at reading elements.now row column }
 {
-    if is_left_half(elements, row, column) {
+    if is_left_half(reading, elements, row, column) {
         if is_blank_at(elements, row, column) {
             Meaning::Wire
         } else {
             Meaning::Other
         }
     } else {
-        let meaning = meaning_of(element_at(elements, row, column).kind);
-        stopped_as(elements, row, column, meaning)
+        let meaning = element_meaning(reading, element_at(elements, row, column));
+        stopped_as(reading, elements, row, column, meaning)
     }
 }
 
@@ -152,27 +189,38 @@ fn is_effect(meaning: Meaning) -> bool
         Meaning::Blank
         | Meaning::Wire
         | Meaning::Contact(_)
+        | Meaning::Opened(_)
         | Meaning::Block(_)
         | Meaning::Off
+        | Meaning::Operate
         | Meaning::Other => false,
     }
 }
 
-fn is_effect_below(elements: &[Element], row: usize, column: usize, lower: usize) -> bool
+fn is_effect_below(
+    reading: Reading,
+    elements: &[Element],
+    row: usize,
+    column: usize,
+    lower: usize,
+) -> bool
     requires { (lower < ROWS) × (column < COLUMNS) }
-    ensures { result ≡ is_effect_below elements.now row column lower }
+    ensures { result ≡ is_effect_below reading elements.now row column lower }
 {
-    row < lower && is_effect(meaning_at(elements, lower, column))
+    row < lower && is_effect(meaning_at(reading, elements, lower, column))
 }
 
 /// Whether nothing that writes or leads out of the rung is below.
-pub fn ends_rung(elements: &[Element], row: usize, column: usize) -> bool
+pub fn ends_rung(reading: Reading, elements: &[Element], row: usize, column: usize) -> bool
     requires { (row < ROWS) × (column < COLUMNS) }
-    ensures { result ≡ ends_rung elements.now row column }
+    ensures { result ≡ ends_rung reading elements.now row column }
 {
     let mut found = false;
     for lower in 0..ROWS {
-        found = either(found, is_effect_below(elements, row, column, lower));
+        found = either(
+            found,
+            is_effect_below(reading, elements, row, column, lower),
+        );
     }
     !found
 }
@@ -189,9 +237,9 @@ fn is_tied(elements: &[Element], row: usize, column: usize, sort: BlockSort) -> 
 }
 
 /// Whether a block has its four places.
-pub fn has_places(elements: &[Element], row: usize, column: usize) -> bool
+pub fn has_places(reading: Reading, elements: &[Element], row: usize, column: usize) -> bool
     requires { (row < ROWS) × (column < COLUMNS) }
-    ensures { result ≡ has_places elements.now row column }
+    ensures { result ≡ has_places reading elements.now row column }
 {
     column >= 1
         && row + 1 < ROWS
@@ -199,31 +247,59 @@ pub fn has_places(elements: &[Element], row: usize, column: usize) -> bool
         && !is_linked(elements, row + 1, column)
         && is_blank_at(elements, row + 1, column - 1)
         && is_blank_at(elements, row + 1, column)
-        && !is_left_half(elements, row + 1, column)
+        && !is_left_half(reading, elements, row + 1, column)
 }
 
-fn stands_as(elements: &[Element], row: usize, column: usize, meaning: Meaning) -> bool
+/// Whether a compare has its three places.
+fn has_row(elements: &[Element], row: usize, column: usize) -> bool
     requires { (row < ROWS) × (column < COLUMNS) }
-    ensures { result ≡ stands_as elements.now row column meaning }
+    ensures { result ≡ has_row elements.now row column }
+{
+    column >= 2
+        && !is_linked(elements, row, column)
+        && !is_linked(elements, row, column - 1)
+        && !is_linked(elements, row + 1, column)
+        && !is_linked(elements, row + 1, column - 1)
+}
+
+fn stands_as(
+    reading: Reading,
+    elements: &[Element],
+    row: usize,
+    column: usize,
+    meaning: Meaning,
+) -> bool
+    requires { (row < ROWS) × (column < COLUMNS) }
+    ensures { result ≡ stands_as reading elements.now row column meaning }
 {
     match meaning {
         Meaning::Contact(_) => column + 1 < COLUMNS,
-        Meaning::Coil(_) => column + 1 == COLUMNS,
-        Meaning::Jump => column + 1 == COLUMNS && ends_rung(elements, row, column),
-        Meaning::Block(sort) => {
-            has_places(elements, row, column) && is_tied(elements, row, column, sort)
+        Meaning::Opened(_) => {
+            column + 1 < COLUMNS
+                && (!is_compare_at(elements, row, column) || has_row(elements, row, column))
         }
-        Meaning::Off => has_places(elements, row, column) && column + 1 < COLUMNS,
+        Meaning::Coil(_) | Meaning::Operate => column + 1 == COLUMNS,
+        Meaning::Jump => column + 1 == COLUMNS && ends_rung(reading, elements, row, column),
+        Meaning::Block(sort) => {
+            has_places(reading, elements, row, column) && is_tied(elements, row, column, sort)
+        }
+        Meaning::Off => has_places(reading, elements, row, column) && column + 1 < COLUMNS,
         Meaning::Blank | Meaning::Wire | Meaning::Other => true,
     }
 }
 
 /// Whether the element stands where it means the same in a program.
-pub fn stands(elements: &[Element], row: usize, column: usize) -> bool
+pub fn stands(reading: Reading, elements: &[Element], row: usize, column: usize) -> bool
     requires { (row < ROWS) × (column < COLUMNS) }
-    ensures { result ≡ stands elements.now row column }
+    ensures { result ≡ stands reading elements.now row column }
 {
-    stands_as(elements, row, column, meaning_at(elements, row, column))
+    stands_as(
+        reading,
+        elements,
+        row,
+        column,
+        meaning_at(reading, elements, row, column),
+    )
 }
 
 pub fn same_sort(a: BlockSort, b: BlockSort) -> bool
@@ -264,9 +340,11 @@ fn is_read_by(reader: Element, block: Element, meaning: Meaning) -> bool
         Meaning::Blank
         | Meaning::Wire
         | Meaning::Contact(_)
+        | Meaning::Opened(_)
         | Meaning::Coil(_)
         | Meaning::Jump
         | Meaning::Off
+        | Meaning::Operate
         | Meaning::Other => false,
     }
 }
@@ -278,23 +356,25 @@ pub fn is_contact(meaning: Meaning) -> bool
         Meaning::Contact(_) => true,
         Meaning::Blank
         | Meaning::Wire
+        | Meaning::Opened(_)
         | Meaning::Coil(_)
         | Meaning::Jump
         | Meaning::Block(_)
         | Meaning::Off
+        | Meaning::Operate
         | Meaning::Other => false,
     }
 }
 
-fn reads_place(elements: &[Element], reader: Element, place: usize) -> bool
+fn reads_place(reading: Reading, elements: &[Element], reader: Element, place: usize) -> bool
     requires { place < PLACES }
-    ensures { result ≡ reads_place elements.now reader place }
+    ensures { result ≡ reads_place reading elements.now reader place }
 {
     let (row, column) = (place % ROWS, place / ROWS);
     is_read_by(
         reader,
         element_at(elements, row, column),
-        meaning_at(elements, row, column),
+        meaning_at(reading, elements, row, column),
     )
 }
 
@@ -308,27 +388,28 @@ fn reads_none(reader: Element) -> bool
     }
 }
 
-fn reads_before(elements: &[Element], reader: Element, count: usize) -> bool
+fn reads_before(reading: Reading, elements: &[Element], reader: Element, count: usize) -> bool
     requires { count ≤ PLACES }
-    ensures { result ≡ some_below (reads_place elements.now reader) count }
+    ensures { result ≡ some_below (reads_place reading elements.now reader) count }
 {
     if reads_none(reader) {
         return false;
     }
     let mut found = false;
     for place in 0..count {
-        found = either(found, reads_place(elements, reader, place));
+        found = either(found, reads_place(reading, elements, reader, place));
     }
     found
 }
 
 /// Whether a contact reads a block that comes before it in its rung.
-pub fn reads_late(elements: &[Element], row: usize, column: usize) -> bool
+pub fn reads_late(reading: Reading, elements: &[Element], row: usize, column: usize) -> bool
     requires { (row < ROWS) × (column < COLUMNS) }
-    ensures { result ≡ reads_late elements.now row column }
+    ensures { result ≡ reads_late reading elements.now row column }
 {
-    is_contact(meaning_at(elements, row, column))
+    is_contact(meaning_at(reading, elements, row, column))
         && reads_before(
+            reading,
             elements,
             element_at(elements, row, column),
             ROWS * column + row,
@@ -347,8 +428,10 @@ pub fn is_idle(meaning: Meaning) -> bool
         Meaning::Blank
         | Meaning::Wire
         | Meaning::Contact(_)
+        | Meaning::Opened(_)
         | Meaning::Jump
         | Meaning::Block(_)
-        | Meaning::Off => true,
+        | Meaning::Off
+        | Meaning::Operate => true,
     }
 }

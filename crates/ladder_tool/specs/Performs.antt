@@ -1,5 +1,5 @@
 -- How a request ends: all is written, or a fault stops it.
-use Rattle.std.specs.Prelude.{◌≡◌, ◌⊎◌, None, Some, is_some}
+use Rattle.std.specs.Prelude.{◌≡◌, ◌⊎◌, Bool, true, false, None, Some, is_some}
 use Rattle.ladder_text.specs.Log.{PutsAll, PutsPrefix}
 use Rattle.ladder_uses.specs.Uses.{uses_text}
 use Rattle.ladder_setting.specs.declared.fault.ToolFault.{ToolFault}
@@ -9,9 +9,16 @@ use Rattle.ladder_words.specs.declared.request.Request.TheVariants.{Causes, Chec
 use Rattle.ladder_words.specs.declared.request.Request.TheVariants as request
 use Rattle.ladder_setting.specs.Setting.{Given, HasProgramFault, HasSettingFault}
 use Rattle.ladder_setting.specs.Reports.{IsReported, Logs, Refuses}
+use Rattle.ladder_clp.specs.declared.reading.Reading.{Reading}
+use Rattle.ladder_clp.specs.declared.reading.Reading.TheVariants as reading
 use Rattle.ladder_carry.specs.Carrying.{BreaksCarrying, Carries}
 use Rattle.ladder_lists.specs.Lists.{BreaksGroups, BreaksHeldBy, BreaksList, BreaksNever, BreaksPart, BreaksPossibleBy, BreaksProgress, BreaksRelevant, CountsGroups, CountsHeldBy, CountsList, CountsNever, CountsPart, CountsPossibleBy, CountsProgress, CountsRelevant, HasHeldFaultBy, HasListFault, HasNeverFault, HasPartFault, HasPossibleFaultBy, HasProgressFault, HasRelevantFault, after_for, scans_of}
 use Rattle.ladder_views.specs.Views.{BreaksFilm, BreaksTrace, BreaksWatch, BreaksWaves, HasFilmFault, HasShowFault, HasWatchFault, IsFilmed, IsTraced, IsWatched, IsWaved, Prints, Shows, check_text}
+
+-- how the project of an import is read
+abbrev pub reading_of : Bool → Reading
+reading_of true = reading.Open
+reading_of false = reading.Strict
 
 -- Status 0. Only a simulation writes on `save`, and only a list on `err`.
 abbrev pub IsDone : Request → Given → Logs → Logs → Type 0
@@ -30,7 +37,7 @@ IsDone (Sim r) g old new = IsTraced g r.every (is_some r.save) old new
 IsDone (request.Watch r) g old new = IsWatched g r old new
 IsDone (request.Waves r) g old new = IsWaved g r.every old.out new.out × (new.save ≡ old.save) × (new.err ≡ old.err)
 IsDone (Uses file) g old new = Prints uses_text g.program (PutsAll old.out new.out) × (new.save ≡ old.save) × (new.err ≡ old.err)
-IsDone (Import file hal) g old new = Carries g.program (PutsAll old.out new.out) × (new.save ≡ old.save) × (new.err ≡ old.err)
+IsDone (Import opened file hal) g old new = Carries (reading_of opened) g.program (PutsAll old.out new.out) × (new.save ≡ old.save) × (new.err ≡ old.err)
 
 -- the faults that the texts and arguments of a request can have
 abbrev pub HasFault : Request → Given → ToolFault → Type 0
@@ -49,7 +56,7 @@ HasFault (Sim r) g = HasSettingFault g
 HasFault (request.Watch r) g = HasWatchFault g r
 HasFault (request.Waves r) g = HasSettingFault g
 HasFault (Uses file) g = HasProgramFault g.program
-HasFault (Import file hal) g = λ f. ⊥
+HasFault (Import opened file hal) g = λ f. ⊥
 
 -- Status 1, by a fault while running.
 abbrev pub Breaks : Request → Given → Logs → Logs → Type 0
@@ -70,7 +77,7 @@ Breaks (request.Watch r) g old new = BreaksWatch g r old new
 Breaks (request.Waves r) g old new = BreaksWaves g r.every old new × (new.save ≡ old.save)
 Breaks (Uses file) g old new =
     Prints uses_text g.program (PutsPrefix old.out new.out) × (new.save ≡ old.save) × IsReported g old.err new.err fault.Write
-Breaks (Import file hal) g old new = BreaksCarrying g.why g.program old.out new.out old.err new.err × (new.save ≡ old.save)
+Breaks (Import opened file hal) g old new = BreaksCarrying (reading_of opened) g.why g.program old.out new.out old.err new.err × (new.save ≡ old.save)
 
 -- Status 1.
 abbrev pub IsFailed : Request → Given → Logs → Logs → Type 0

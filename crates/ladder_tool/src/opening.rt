@@ -114,7 +114,7 @@ pub(crate) fn readers_of<'a>(
 ) -> Readers<Reading<NamedFile<'a>>> {
     match request {
         Request::Check { file, .. } | Request::Uses { file } => alone(rt, file.as_str()),
-        Request::Import { file, hal } => imported(rt, file.as_str(), hal),
+        Request::Import { file, hal, .. } => imported(rt, file.as_str(), hal),
         Request::Causes { list, .. }
         | Request::Progress { list, .. }
         | Request::Held { list, .. }

@@ -2,10 +2,11 @@
 
 ghost use Rattle.std.specs.Prelude.{◌≡◌, ◌≤◌, [], option_map, unwrap_or, vec_items};
 ghost use Rattle.ladder_setting.specs.Reports.{logs};
-ghost use Rattle.ladder_tool.specs.Performs.{IsDone, IsFailed};
+ghost use Rattle.ladder_tool.specs.Performs.{IsDone, IsFailed, reading_of};
 ghost use Rattle.ladder_setting.specs.Setting.{given_by};
 
 use ladder_carry::carry;
+use ladder_clp::Reading;
 use ladder_held::Scans;
 use ladder_lists::{
     list_causes, list_groups, list_held, list_never, list_part, list_possible, list_progress,
@@ -24,6 +25,17 @@ fn hal_of(texts: &Texts) -> &[u8]
     match &texts.hal {
         Some(text) => text.as_slice(),
         None => &[],
+    }
+}
+
+/// How the project of an import is read.
+fn reading_of(opened: bool) -> Reading
+    ensures { result ≡ reading_of opened }
+{
+    if opened {
+        Reading::Open
+    } else {
+        Reading::Strict
     }
 }
 
@@ -78,7 +90,18 @@ pub fn perform<O: Sink, S: Sink, E: Sink>(
         Request::Film(stimulus) => film(alloc, stimulus, texts, out, err),
         Request::Watch(watched) => watch(alloc, watched, texts, out, save, err),
         Request::Waves(waves) => wave(alloc, texts, waves.every, out, err),
-        Request::Import { .. } => carry(alloc, texts.why, &texts.program, hal_of(texts), out, err),
+        Request::Import { opened, .. } => {
+            let reading = reading_of(*opened);
+            carry(
+                alloc,
+                reading,
+                texts.why,
+                &texts.program,
+                hal_of(texts),
+                out,
+                err,
+            )
+        }
         Request::Sim(sim) => { trace(alloc, texts, sim.every, sim.save.is_some(), out, save, err) }
     }
 }

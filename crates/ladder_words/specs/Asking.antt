@@ -282,7 +282,8 @@ Asks name rows (Waves r) = (name ≡ codes "sim")
     × HasText (codes "stimulus") rows (string_bytes r.stimulus)
     × HasWatched rows false []
 Asks name rows (Uses file) = (name ≡ codes "uses") × HasText (codes "file") rows (string_bytes file)
-Asks name rows (Import file hal) = (name ≡ codes "import")
+Asks name rows (Import opened file hal) = (name ≡ codes "import")
+    × HasSwitch (codes "open") rows opened
     × HasText (codes "file") rows (string_bytes file)
     × HasOption (codes "hal") rows (option_map string_bytes hal)
 

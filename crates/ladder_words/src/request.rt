@@ -258,6 +258,8 @@ pub enum Request {
     Never(NeverRequest),
     /// The program text of a ClassicLadder project.
     Import {
+        /// Whether numbers and sequential charts are opened.
+        opened: bool,
         /// The file of the project.
         file: String,
         /// The HAL file after whose signals inputs and outputs are named.

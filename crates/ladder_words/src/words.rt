@@ -170,9 +170,10 @@ fn import_request(alloc: Global, found: &ArgMatches<'_>) -> Result<Request, Word
     ensures ok { IfOk result (Asks (codes "import") (rows_of (found_of found.now))) }
     ensures err { IfErr result (UsageWhere (AsksNone (codes "import") (rows_of (found_of found.now)))) }
 {
+    let opened = is_set(found, "open");
     let hal = optional(alloc, found, "hal")?;
     let file = text(alloc, found, "file")?;
-    Ok(Request::Import { file, hal })
+    Ok(Request::Import { opened, file, hal })
 }
 
 /// What the flags ask to be shut out for ever.

@@ -1,6 +1,7 @@
 use Rattle.std.proofs.Common.{◌≡◌, ℕ, List, map, Some, Ok, Err, IfErr, Result}
 use Rattle.ladder_clp.specs.declared.fault.ClpFault.{ClpFault}
 use Rattle.ladder_clp.specs.declared.fault.ClpFault.TheVariants.{Memory, NoProject, BadRung, BadTable, NotLadder, BrokenWay}
+use Rattle.ladder_clp.specs.declared.reading.Reading.{Reading}
 use Rattle.ladder_clp.specs.declared.rung.Rung.{Rung}
 use Rattle.ladder_clp.specs.declared.table.Section.{Section}
 use Rattle.ladder_clp.specs.Format.{part_of}
@@ -10,22 +11,22 @@ use Rattle.ladder_clp.specs.Rungs.{read_of, rungs_in}
 use Rattle.ladder_clp.specs.Tables.{sections_in}
 use Rattle.ladder_clp.proofs.project.rungs_of.Goals as goal
 
-order_fault : (lines : List (List ℕ)) (rungs : List Rung) (sections : List Section) → rungs_in lines ≡ Ok (map read_of rungs)
-    → sections_in (part_of sections_head lines) ≡ Some sections → (fault : ClpFault) → IsOrderFault (arranged rungs sections) fault → IsFaultOf lines fault
-order_fault lines rungs sections read listed Memory is = tt
-order_fault lines rungs sections read listed NoProject is = absurd is
-order_fault lines rungs sections read listed (BadRung number) is = absurd is
-order_fault lines rungs sections read listed (BadTable t) is = absurd is
-order_fault lines rungs sections read listed (NotLadder section) is = (rungs, sections, read, listed, is)
-order_fault lines rungs sections read listed (BrokenWay section) is = (rungs, sections, read, listed, is)
+order_fault : (reading : Reading) (lines : List (List ℕ)) (rungs : List Rung) (sections : List Section) → rungs_in lines ≡ Ok (map read_of rungs)
+    → sections_in (part_of sections_head lines) ≡ Some sections → (fault : ClpFault) → IsOrderFault (arranged reading rungs sections) fault → IsFaultOf reading lines fault
+order_fault reading lines rungs sections read listed Memory is = tt
+order_fault reading lines rungs sections read listed NoProject is = absurd is
+order_fault reading lines rungs sections read listed (BadRung number) is = absurd is
+order_fault reading lines rungs sections read listed (BadTable t) is = absurd is
+order_fault reading lines rungs sections read listed (NotLadder section) is = (rungs, sections, read, listed, is)
+order_fault reading lines rungs sections read listed (BrokenWay section) is = (rungs, sections, read, listed, is)
 
-any_fault : {T : Type 0} (lines : List (List ℕ)) (rungs : List Rung) (sections : List Section) → rungs_in lines ≡ Ok (map read_of rungs)
-    → sections_in (part_of sections_head lines) ≡ Some sections → (r : Result T ClpFault) → IfErr r (λ e. IsOrderFault (arranged rungs sections) e)
-    → IfErr r (λ e. IsFaultOf lines e)
-any_fault lines rungs sections read listed (Ok x) is = tt
-any_fault lines rungs sections read listed (Err fault) is = order_fault lines rungs sections read listed fault is
+any_fault : {T : Type 0} (reading : Reading) (lines : List (List ℕ)) (rungs : List Rung) (sections : List Section) → rungs_in lines ≡ Ok (map read_of rungs)
+    → sections_in (part_of sections_head lines) ≡ Some sections → (r : Result T ClpFault) → IfErr r (λ e. IsOrderFault (arranged reading rungs sections) e)
+    → IfErr r (λ e. IsFaultOf reading lines e)
+any_fault reading lines rungs sections read listed (Ok x) is = tt
+any_fault reading lines rungs sections read listed (Err fault) is = order_fault reading lines rungs sections read listed fault is
 
 pub returns-clause-none : goal.returns-clause-none
 returns-clause-none c =
-    any_fault (map (λ l. l.now) c.args.lines.now) c.in_ok-rungs.rungs.items c.in_ok-sections.sections.items c.in_ok-rungs.ensures.found c.in_ok-sections.ensures.found
+    any_fault c.args.reading (map (λ l. l.now) c.args.lines.now) c.in_ok-rungs.rungs.items c.in_ok-sections.sections.items c.in_ok-rungs.ensures.found c.in_ok-sections.ensures.found
     c.arranged.result (rw (c.deref.ensures.value, c.deref-2.ensures.value) at c.arranged.ensures.none)

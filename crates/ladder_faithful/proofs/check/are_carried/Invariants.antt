@@ -5,4 +5,4 @@ use Rattle.ladder_faithful.specs.Carried.{IsRungCarried}
 use Rattle.ladder_faithful.proofs.check.are_carried.Given as goal
 
 abbrev pub invariant-loop-rung : goal.invariant-loop-rung
-invariant-loop-rung l = (k : ℕ) → k < l.rung → (x : Placed) → slice_get l.rungs k ≡ Some x → IsRungCarried l.program l.rungs l.blocks k x
+invariant-loop-rung l = (k : ℕ) → k < l.rung → (x : Placed) → slice_get l.rungs k ≡ Some x → IsRungCarried l.reading l.program l.rungs l.blocks k x

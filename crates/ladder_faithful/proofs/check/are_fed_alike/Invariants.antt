@@ -4,4 +4,4 @@ use Rattle.ladder_sheet.specs.Sheets.{fed}
 use Rattle.ladder_faithful.proofs.check.are_fed_alike.Given as goal
 
 abbrev pub invariant-loop-from : goal.invariant-loop-from
-invariant-loop-from l = (q : ℕ) → q < l.from → feeds l.program l.rung l.row l.column q ≡ fed l.elements l.row l.column q
+invariant-loop-from l = (q : ℕ) → q < l.from → feeds l.program l.rung l.row l.column q ≡ fed l.reading l.elements l.row l.column q

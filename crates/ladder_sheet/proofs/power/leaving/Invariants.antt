@@ -5,5 +5,5 @@ use Rattle.ladder_sheet.proofs.power.leaving.Given as goal
 
 abbrev pub invariant-loop-row : goal.invariant-loop-row
 invariant-loop-row l =
-    ((k : ℕ) → k < l.row → slice_index_or l.leaving k false ≡ brings l.elements k l.column (reached l.elements l.column k) (reached l.elements l.column (k - 1)))
+    ((k : ℕ) → k < l.row → slice_index_or l.leaving k false ≡ brings l.reading l.elements k l.column (reached l.reading l.elements l.column k) (reached l.reading l.elements l.column (k - 1)))
     × (length l.leaving ≡ ROWS)

@@ -9,6 +9,6 @@ loop-row-preserved c =
     let inv = c.loop-row.invariant in
     let reach = c.loop-row.reached in
     let i = c.loop-row.row in (
-      set_more (reached c.args.elements.now (c.args.column + 1)) reach i c.reaches.result (omega (arith, inv.1, c.loop-row-test.true)) c.reaches.ensures inv.0,
+      set_more (reached c.args.reading c.args.elements.now (c.args.column + 1)) reach i c.reaches.result (omega (arith, inv.1, c.loop-row-test.true)) c.reaches.ensures inv.0,
       length-set reach i c.reaches.result ∙ inv.1,
     )
