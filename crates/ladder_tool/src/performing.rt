@@ -2,6 +2,8 @@
 
 ghost use Rattle.std.specs.Prelude.{◌≡◌, ◌≤◌, [], option_map, unwrap_or, vec_items};
 ghost use Rattle.ladder_setting.specs.Reports.{logs};
+ghost use Rattle.ladder_text.specs.Log.{PutsAll};
+ghost use Rattle.ladder_carry.specs.Carrying.{BreaksCarrying, Carries};
 ghost use Rattle.ladder_tool.specs.Performs.{IsDone, IsFailed, reading_of};
 ghost use Rattle.ladder_setting.specs.Setting.{given_by};
 
@@ -37,6 +39,23 @@ fn reading_of(opened: bool) -> Reading
     } else {
         Reading::Strict
     }
+}
+
+/// Writes the program text of a project, whose numbers and charts are opened or not.
+fn import_project<O: Sink, E: Sink>(
+    alloc: Global,
+    opened: bool,
+    texts: &Texts,
+    out: &mut O,
+    err: &mut E,
+) -> u8
+    ensures status { result ≤ 1 }
+    ensures done { result ≡ 0 → Carries (reading_of opened) (given_by texts.now).program (PutsAll (O.log out.old) (O.log out.new)) × (E.log err.new ≡ E.log err.old) }
+    ensures failed { result ≡ 1 → BreaksCarrying (reading_of opened) (given_by texts.now).why (given_by texts.now).program (O.log out.old) (O.log out.new) (E.log err.old) (E.log err.new) }
+{
+    let reading = reading_of(opened);
+    let hal = hal_of(texts);
+    carry(alloc, reading, texts.why, &texts.program, hal, out, err)
 }
 
 /// Performs a request on its texts: its text on `out`, the line of counts on `err`, and the state that is to be saved on `save`.
@@ -90,18 +109,7 @@ pub fn perform<O: Sink, S: Sink, E: Sink>(
         Request::Film(stimulus) => film(alloc, stimulus, texts, out, err),
         Request::Watch(watched) => watch(alloc, watched, texts, out, save, err),
         Request::Waves(waves) => wave(alloc, texts, waves.every, out, err),
-        Request::Import { opened, .. } => {
-            let reading = reading_of(*opened);
-            carry(
-                alloc,
-                reading,
-                texts.why,
-                &texts.program,
-                hal_of(texts),
-                out,
-                err,
-            )
-        }
+        Request::Import { opened, .. } => import_project(alloc, *opened, texts, out, err),
         Request::Sim(sim) => { trace(alloc, texts, sim.every, sim.save.is_some(), out, save, err) }
     }
 }

@@ -43,7 +43,7 @@ pub returns-in-Waves-clause-failed : goal.returns-in-Waves-clause-failed
 returns-in-Waves-clause-failed g c = λ status. rw c.in-Waves.is (with_third refl (c.wave.ensures.failed (g.S.Sink.log c.args.save.now) status))
 
 pub returns-in-Import-clause-failed : goal.returns-in-Import-clause-failed
-returns-in-Import-clause-failed g c = λ status. rw c.in-Import.is (inr (rw c.deref.ensures.value at (c.carry.ensures.failed status), refl))
+returns-in-Import-clause-failed g c = λ status. rw c.in-Import.is (inr (c.import_project.ensures.failed status, refl))
 
 pub returns-in-Relevant-clause-failed : goal.returns-in-Relevant-clause-failed
 returns-in-Relevant-clause-failed g c = λ status. rw c.in-Relevant.is (with_third refl (c.list_relevant.ensures.failed (g.S.Sink.log c.args.save.now) status))
