@@ -19,6 +19,7 @@ import time
 
 HERE = pathlib.Path(__file__).resolve().parent
 MOST = 1_048_576
+RUNGS, ROWS, COLUMNS = 100, 6, 10
 # what came out wrong
 WRONG = []
 
@@ -199,18 +200,18 @@ def declared(blocks):
 
 
 def full_row(first, names):
-    """A row of ten cells, joined to the row above it at each column."""
-    over = "|" + "".join(f"{name:^11}" + (" " if first else "|") for name in names[:9]) + f"{names[9]:^11}"
-    wire = "|" + "+".join(["-|IN TON Q|" if name[0] == "T" else "----| |----" for name in names[:9]]) + "+----( )----"
+    """A row of full cells, joined to the row above it at each column."""
+    over = "|" + "".join(f"{name:^11}" + (" " if first else "|") for name in names[:-1]) + f"{names[-1]:^11}"
+    wire = "|" + "+".join(["-|IN TON Q|" if name[0] == "T" else "----| |----" for name in names[:-1]]) + "+----( )----"
     return f"{over}\n{wire}\n"
 
 
 def full_rungs(blocks):
-    """100 rungs of 6 full rows; the last rungs have a block in each row."""
+    """As many rungs as there may be, of full rows; the last rungs have a block in each row."""
     rungs = []
-    for rung in range(100):
-        first = (rung - 100) * 6 + blocks + 2
-        rows = [["A"] * 8 + [f"T{first + row}" if 0 <= first + row < blocks else "A"] + ["Y"] for row in range(6)]
+    for rung in range(RUNGS):
+        first = (rung - RUNGS) * ROWS + blocks + 2
+        rows = [["A"] * (COLUMNS - 2) + [f"T{first + row}" if 0 <= first + row < blocks else "A"] + ["Y"] for row in range(ROWS)]
         rungs.append("".join(full_row(row == 0, names) for row, names in enumerate(rows)))
     return (declared(blocks) + "\n".join(rungs)).encode()
 
@@ -227,8 +228,8 @@ def bars():
 
 
 def fifty_rungs():
-    """50 rungs of one full row: nine contacts and a coil."""
-    rows = "\n".join(full_row(True, list(itertools.islice(itertools.cycle(["A", "B", "C"]), 9)) + ["Y"]) for _ in range(50))
+    """50 rungs of one full row: contacts and a coil."""
+    rows = "\n".join(full_row(True, list(itertools.islice(itertools.cycle(["A", "B", "C"]), COLUMNS - 1)) + ["Y"]) for _ in range(50))
     return f"VAR\n  A AT %IX0 : BOOL;\n  B AT %IX1 : BOOL;\n  C AT %IX2 : BOOL;\n  Y AT %QX0 : BOOL;\nEND_VAR\n\n{rows}"
 
 
@@ -249,7 +250,7 @@ def peak_of(pid):
 
 def simulation(program):
     """A million records on 50 rungs: how long a record and a cell take, and the peak of memory."""
-    records, cells = 1_000_000, 500
+    records, cells = 1_000_000, 50 * COLUMNS
     with tempfile.TemporaryDirectory() as folder:
         circuit, texts = os.path.join(folder, "fifty.ld"), os.path.join(folder, "stimulus.csv")
         pathlib.Path(circuit).write_text(fifty_rungs(), "ascii")

@@ -9,14 +9,14 @@ circuits without blocks here are made of.
 import re
 import sys
 
-PITCH = 12
+COLUMNS, PITCH = 10, 12
 
 
 def rungs(text):
     """The wire lines of each rung, with the name lines over them."""
     drawing = text.split("END_VAR", 1)[1]
     for block in re.split(r"\n\s*\n", drawing.strip("\n")):
-        lines = [line.ljust(PITCH * 10 + 1) for line in block.split("\n")]
+        lines = [line.ljust(PITCH * COLUMNS + 1) for line in block.split("\n")]
         yield lines[0::2], lines[1::2]
 
 
@@ -36,7 +36,7 @@ def groups(names, wires, column):
 
 def links(names, wires):
     """For each cell by column and row: its place, the places that feed it, and what is drawn there."""
-    for column in range(10):
+    for column in range(COLUMNS):
         joined = groups(names, wires, column) if column else [None] * len(wires)
         for row in range(len(wires)):
             drawn = cell(wires, row, column)

@@ -25,7 +25,8 @@ LOWERS = {lead + cell for cell in LOWER.values() for lead in "- "}
 SYMBOL = re.compile(r"-+(\|[ /PN]\||\([ /SRPN]\))(?:-*| *)")
 LEAP = re.compile(r"-+(?:>>([A-Za-z0-9_]+)|<RETURN>) *")
 LABEL = re.compile(r"\s*([A-Za-z0-9_]+)\s*:\s*")
-ROWS, COLUMNS, PITCH, RAIL = 6, 10, 12, 120
+RUNGS, ROWS, COLUMNS, PITCH = 100, 6, 10, 12
+RAIL = PITCH * COLUMNS
 
 
 def is_name(word, most):
@@ -290,7 +291,7 @@ def broken(text):
                 waiting.append(word)
                 labels[word] = len(rungs)
     found |= {"G13"} if waiting else set()
-    found |= {"G15"} if len(rungs) > 100 else set()
+    found |= {"G15"} if len(rungs) > RUNGS else set()
     for number, rung in enumerate(rungs):
         found |= rung.broken(variables, instances)
         for row, column in itertools.product(range(1, ROWS + 1), range(1, COLUMNS + 1)):

@@ -46,7 +46,7 @@ def widened(text):
     lines, found = text.split(b"\n"), []
     for number, line in enumerate(lines):
         if line[:1] in (b"|", b"+"):
-            for place in range(len(line), 123):
+            for place in range(len(line), picture.RAIL + 3):
                 changed = [*lines[:number], line.ljust(place) + b"-", *lines[number + 1:]]
                 found.append((f"line {number + 1} to place {place}", b"\n".join(changed)))
     return found
