@@ -32,7 +32,7 @@ pub fn stored_by<S: Operations>(mode: CoilMode, link: S, memory: S, old: S) -> S
 }
 
 /// What one action changes, over truth values; `start` is what contacts see, from the rung's start on.
-fn change(
+pub fn change(
     scene: Scene<'_>,
     start: &Signals<bool>,
     links: &[bool],

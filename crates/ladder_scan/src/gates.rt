@@ -203,7 +203,7 @@ pub fn set_rails<S: Operations>(links: &mut [S])
 
 /// Finds the links of a rung.
 #[inline(always)]
-pub(crate) fn find_links<S: Signal>(
+pub fn find_links<S: Signal>(
     scene: Scene<'_>,
     storage: &Storage,
     seen: &Signals<S>,

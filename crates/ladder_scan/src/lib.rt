@@ -8,7 +8,7 @@ pub mod gates;
 mod inputs;
 pub mod laws;
 mod memory;
-mod scanning;
+pub mod scanning;
 pub mod scene;
 mod seen;
 pub mod signals;

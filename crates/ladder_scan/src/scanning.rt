@@ -26,7 +26,7 @@ use ladder_grid::gates::LINKS;
 pub struct MomentBack;
 
 /// The rung after an evaluated one, by the left links that it had.
-fn rung_after(program: &Program, rung: usize, links: &[bool]) -> usize
+pub fn rung_after(program: &Program, rung: usize, links: &[bool]) -> usize
     requires rung { rung < program.now.rungs }
     requires few { rung < RUNGS }
     ensures { result ≡ rung_after rung ((diagram_of program.now).jump rung) (λ place. among plain links.now (left_of program.now rung place)) }

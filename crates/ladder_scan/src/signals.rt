@@ -79,7 +79,8 @@ impl<S: Operations> Signals<S> {
         }
     }
 
-    pub(crate) fn operand(&self, operand: Operand) -> S
+    /// The signal of what a contact reads.
+    pub fn operand(&self, operand: Operand) -> S
         ensures { result ≡ operand_value S.algebra self.now operand }
     {
         match operand {
@@ -118,7 +119,7 @@ fn know_each<S: Operations>(stored: &[bool], signals: &mut [S])
 }
 
 /// What contacts see from the start of a rung on.
-pub(crate) fn copy_start(storage: &Storage, start: &mut Signals<bool>)
+pub fn copy_start(storage: &Storage, start: &mut Signals<bool>)
     requires { SameSizes start.old storage.now }
     ensures { start.new ≡ frame_of storage.now }
 {

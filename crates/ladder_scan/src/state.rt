@@ -22,11 +22,13 @@ use std::marker::Model;
 /// start 0.
 #[derive(Drop)]
 pub struct State {
-    pub(crate) storage: Storage,
+    /// What a scan changes.
+    pub storage: Storage,
     pub(crate) kinds: Vec<BlockKind>,
-    pub(crate) moment: u64,
-    // a buffer for what contacts see from a rung's start on
-    pub(crate) start: Signals<bool>,
+    /// The moment of the last scan.
+    pub moment: u64,
+    /// A buffer for what contacts see from a rung's start on.
+    pub start: Signals<bool>,
 }
 
 impl Model for State {

@@ -107,14 +107,14 @@ impl Storage {
     }
 
     /// Gives the input variables their values, in order of declaration.
-    pub(crate) fn give(&mut self, decls: &Decls, inputs: &[bool])
+    pub fn give(&mut self, decls: &Decls, inputs: &[bool])
         ensures { self.new ≡ record self.old { values = given (map is_input decls.now.vars) inputs.now self.old.values } }
     {
         give(decls, inputs, &mut self.values);
     }
 
     /// The value of a variable, and OFF past the last one.
-    pub(crate) fn value(&self, var: usize) -> bool
+    pub fn value(&self, var: usize) -> bool
         ensures { result ≡ slice_index_or self.now.values var false }
     {
         match self.values.get(var) {

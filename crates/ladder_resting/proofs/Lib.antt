@@ -1,0 +1,6 @@
+pub mod Frames
+pub mod Actions
+pub mod Rung
+pub mod Evaluating
+pub mod Giving
+pub mod Marking
