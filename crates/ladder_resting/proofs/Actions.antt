@@ -2,7 +2,9 @@
 use Rattle.std.proofs.Common.{◌≡◌, ℕ, Bool, true, false, List, [], ◌∷◌, map, get_or, set, zero, suc, Option, Some, None, refl, sym, ap, ◌∙◌, subst, get_or-set_other}
 use Rattle.ladder_grid.specs.declared.cell.Cell.{Cell}
 use Rattle.ladder_grid.specs.Program.{memory_in, block_in}
-use Rattle.ladder_elements.specs.Blocks.{q_of}
+use Rattle.ladder_elements.specs.Blocks.{q_of, new_block}
+use Rattle.ladder_vars.specs.declared.kind.BlockKind.TheVariants.{Ton}
+use Rattle.ladder_scan.proofs.Kept.{stored_of}
 use Rattle.ladder_scan.specs.Cells.{Diagram, Frame, at, put_in, var_in, memory_of}
 use Rattle.ladder_scan.specs.Rung.{Held, changed, SameLengths}
 use Rattle.ladder_scan.specs.Laws.{Once}
@@ -43,6 +45,13 @@ other_memories d once now j e i f start x y h apart =
     ∙ at_same _ h.kept.memories (memory_in (d.cell i f)) false (λ k is. put_other h.kept.memories (memory_in (d.cell j e)) _ false k
     (λ has. apart (once.memory k i f j e is has).0))
 
+other_blocks : (d : Diagram) → Once d → (now j e i f : ℕ) (start : Frame Bool) (x y : Bool) (h : Held) → (i ≡ j → ⊥)
+    → stored_of (changed d now start (d.cell j e) x y h).kept (d.cell i f) ≡ stored_of h.kept (d.cell i f)
+other_blocks d once now j e i f start x y h apart =
+    ap (λ (z : Held). stored_of z.kept (d.cell i f)) (changed_is d now start (d.cell j e) x y h)
+    ∙ at_same _ h.kept.blocks (block_in (d.cell i f)) (new_block Ton) (λ k is. put_other h.kept.blocks (block_in (d.cell j e)) _ (new_block Ton) k
+    (λ has. apart (once.block k i f j e is has).0))
+
 -- An action that leaves what a rung uses, by the marks, doesn't disturb it.
 pub undisturbed : (d : Diagram) → Once d → (u : UsedBy) (now j e i : ℕ) (start : Frame Bool) (x y : Bool) (h g : Held) → g ≡ changed d now start (d.cell j e) x y h → (i ≡ j → ⊥)
     → ((v : ℕ) → marked u.variables v i ≡ true → get_or g.values v false ≡ get_or h.values v false)
@@ -53,4 +62,5 @@ undisturbed d once u now j e i start x y h g is apart values outputs = record {
   values = values;
   outputs = outputs;
   memories = λ f. ap (λ (z : Held). memory_of z.kept (d.cell i f)) is ∙ other_memories d once now j e i f start x y h apart;
+  blocks = λ f. ap (λ (z : Held). stored_of z.kept (d.cell i f)) is ∙ other_blocks d once now j e i f start x y h apart;
 }

@@ -22,8 +22,8 @@ module _ (p : Drawing) (sound : IsSound (diagram_of p)) (now j : ℕ) (h : Held)
       ∙ after_same j ((diagram_of p).jump j) (λ place. among plain links (left_of p j place)) (link_at (diagram_of p) now j h) (λ place target e.
       are.left place (sound.jumps j place target e).0 ∙ ap (λ (f : Frame Bool). link plain (diagram_of p) h.kept now j f place) s)
 
-  pub rest_from : All (IsStill (diagram_of p) now start links h) (actions_of p j) → (next : List (Option ℕ)) → j < p.rungs → AllRest (diagram_of p) h next
-      → AllRest (diagram_of p) h (set next j (Some after))
+  pub rest_from : All (IsStill (diagram_of p) now start links h) (actions_of p j) → (next : List (Option ℕ)) → j < p.rungs → AllRest (diagram_of p) now h next
+      → AllRest (diagram_of p) now h (set next j (Some after))
   rest_from all next lt r =
-      put_to_rest (diagram_of p) h j after next (subst (λ (n : ℕ). j < n) (rungs_back p) lt)
-      (subst (λ (n : ℕ). Rests (diagram_of p) h j n) (sym after_is) (at_rest p now j h start links s are all)) r
+      put_to_rest (diagram_of p) now h j after next (subst (λ (n : ℕ). j < n) (rungs_back p) lt)
+      (subst (λ (n : ℕ). Rests (diagram_of p) now h j n) (sym after_is) (at_rest p now j h start links s are all)) r

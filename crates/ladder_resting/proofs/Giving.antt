@@ -12,25 +12,27 @@ use Rattle.ladder_scan.specs.Programs.{diagram_of, IsSound}
 use Rattle.ladder_scan.proofs.ByList.{scanned_is}
 use Rattle.ladder_scan.proofs.Scanned.{rungs_back}
 use Rattle.ladder_scan.proofs.Sizes.{size-given}
-use Rattle.ladder_resting.specs.Resting.{UsedBy, AreUsers, AllRest, marked, known_next}
-use Rattle.ladder_resting.proofs.Frames.{rests_on}
+use Rattle.ladder_scan.proofs.Kept.{stored_of}
+use Rattle.ladder_resting.specs.Resting.{UsedBy, Memory, IsTrueOf, AreUsers, AllRest, marked, known_next}
+use Rattle.ladder_resting.proofs.Frames.{rests_on, rests_later}
 
-pub given_rest : (d : Diagram) (u : UsedBy) → AreUsers d u → (flags inputs : List Bool) (h g : Held) (old new : List (Option ℕ)) → g ≡ record h { values = given flags inputs h.values }
+pub given_rest : (d : Diagram) → IsSound d → (u : UsedBy) → AreUsers d u → (moment now : ℕ) → moment ≤ now → (flags inputs : List Bool) (h g : Held) (old new : List (Option ℕ)) → g ≡ record h { values = given flags inputs h.values }
     → ((j n : ℕ) → known_next new j ≡ Some n → known_next old j ≡ Some n)
     → ((j n v : ℕ) → known_next new j ≡ Some n → marked u.variables v j ≡ true → get_or g.values v false ≡ get_or h.values v false)
-    → AllRest d h old → AllRest d g new
-given_rest d u users flags inputs h g old new e known same all = record {
+    → AllRest d moment h old → AllRest d now g new
+given_rest d sound u users moment now le flags inputs h g old new e known same all = record {
   within = λ j n k. all.within j n (known j n k);
-  rests = λ j n k. rests_on d u users j n (all.within j n (known j n k)) h g (record {
+  rests = λ j n k. rests_on d sound u users now j n (all.within j n (known j n k)) h g (record {
     lengths = subst (λ (z : Held). SameLengths z h) (sym e) (record { values = size-given flags inputs h.values; memories = refl; blocks = refl });
     values = λ v. same j n v k;
     outputs = λ i on. ap (λ (z : Held). get_or (map q_of z.kept.blocks) i false) e;
     memories = λ f. ap (λ (z : Held). memory_of z.kept (d.cell j f)) e;
-  }) (all.rests j n (known j n k));
+    blocks = λ f. ap (λ (z : Held). stored_of z.kept (d.cell j f)) e;
+  }) (rests_later d moment now j n h le (all.rests j n (known j n k)));
 }
 
-pub rest_same : (d : Diagram) {h g : Held} {next known : List (Option ℕ)} → g ≡ h → next ≡ known → AllRest d h known → AllRest d g next
-rest_same d {h} {g} {next} {known} e n all = subst (λ (z : Held). AllRest d z next) (sym e) (subst (λ (xs : List (Option ℕ)). AllRest d h xs) (sym n) all)
+pub rest_same : (d : Diagram) (now : ℕ) {h g : Held} {next known : List (Option ℕ)} → g ≡ h → next ≡ known → AllRest d now h known → AllRest d now g next
+rest_same d now {h} {g} {next} {known} e n all = subst (λ (z : Held). AllRest d now z next) (sym e) (subst (λ (xs : List (Option ℕ)). AllRest d now h xs) (sym n) all)
 
 pub by_rungs : (p : Drawing) → IsSound (diagram_of p) → (now : ℕ) (inputs : List Bool) (h begun next : Held)
     → begun ≡ record h { values = given (diagram_of p).inputs inputs h.values } → next ≡ (scanned (diagram_of p) now begun p.rungs).held
@@ -60,3 +62,12 @@ same_past xs ys v n lx ly h = elim (cases_Bool (nat_lt v n)) [
       let le : n ≤ v = is_past v n t in
       past xs v (omega arith) ∙ sym (past ys v (omega arith))
 ]
+
+pub true_later : (d : Diagram) (moment now : ℕ) (h : Held) (m : Memory) → moment ≤ now → IsTrueOf d moment h m → IsTrueOf d now h m
+true_later d moment now h m le t = record {
+  users = t.users;
+  all_rest = record {
+    within = t.all_rest.within;
+    rests = λ j n k. rests_later d moment now j n h le (t.all_rest.rests j n k);
+  };
+}

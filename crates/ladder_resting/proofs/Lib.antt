@@ -1,4 +1,5 @@
 pub mod Frames
+pub mod Settled
 pub mod Actions
 pub mod Rung
 pub mod Evaluating

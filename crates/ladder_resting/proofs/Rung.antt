@@ -1,5 +1,5 @@
 -- The actions of a rung, and what they wake.
-use Rattle.std.proofs.Common.{◌≡◌, ℕ, ◌+◌, ◌<◌, ◌≤◌, Bool, true, false, cond, List, [], ◌∷◌, length, map, get_or, set, zero, suc, Option, Some, None, refl, sym, ap, ap₂, ◌∙◌, subst, get_or-set_other, drop, take, take_all, ◌≢◌, nat_lt, nat_eq, arith, All, inl, inr}
+use Rattle.std.proofs.Common.{◌≡◌, ℕ, ◌+◌, ◌<◌, ◌≤◌, Bool, true, false, cond, List, [], ◌∷◌, length, map, get_or, set, zero, suc, Option, Some, None, refl, sym, ap, ◌∙◌, subst, get_or-set_other, drop, take, take_all, ◌≢◌, nat_lt, nat_eq, arith, All, inl, inr}
 use Rattle.std.proofs.lemmas.Bool.{cases_Bool}
 use Rattle.std.proofs.lemmas.Bool.Decides.{nat_tests}
 use Rattle.std.proofs.lemmas.List.{map-set}
@@ -8,22 +8,21 @@ use Rattle.ladder_page.specs.declared.geometry.TheConstants.{PLACES}
 use Rattle.ladder_grid.specs.declared.cell.Cell.{Cell}
 use Rattle.ladder_grid.specs.declared.cell.Cell.TheVariants.{Empty, Wire, Contact, Coil, Block, Lower, Jump, Return}
 use Rattle.ladder_grid.specs.declared.gates.Action.{Action}
-use Rattle.ladder_grid.specs.Program.{Drawing, cell_of, is_block}
-use Rattle.ladder_grid.specs.Gates.{acts, action_at, actions_before, actions_of}
+use Rattle.ladder_grid.specs.Program.{Drawing, cell_of}
+use Rattle.ladder_grid.specs.Gates.{below_of, acts, action_at, actions_before, actions_of}
 use Rattle.ladder_vars.specs.declared.kind.BlockKind.TheVariants.{Ton}
 use Rattle.ladder_elements.specs.declared.block.Stored.{Stored}
 use Rattle.ladder_elements.specs.Truth.{plain}
 use Rattle.ladder_elements.specs.Blocks.{q_of, step, new_block}
 use Rattle.ladder_scan.specs.Cells.{Diagram, Frame}
 use Rattle.ladder_scan.specs.Rung.{Held, changed, link_at, second, frame_of}
-use Rattle.ladder_scan.specs.Laws.{Once}
-use Rattle.ladder_scan.specs.Programs.{diagram_of}
+use Rattle.ladder_scan.specs.Programs.{diagram_of, IsSound}
 use Rattle.ladder_scan.specs.Gating.{among, changes_of, AreLinks}
 use Rattle.ladder_scan.specs.Scan.{next_rung}
 use Rattle.ladder_scan.proofs.Turns.{changes_more}
 use Rattle.ladder_scan.proofs.Acting.{cond_true, cond_false, all_one}
 use Rattle.ladder_scan.proofs.GateLaws.{cell_is}
-use Rattle.ladder_resting.specs.Resting.{UsedBy, AreUsers, AreWoken, AllRest, IsStill, IsWoken, marked, known_next, Rests}
+use Rattle.ladder_resting.specs.Resting.{UsedBy, AreUsers, AreWoken, AllRest, IsStill, Stays, IsWoken, marked, known_next, Rests}
 use Rattle.ladder_resting.proofs.Frames.{rests_on, comes_to_rest}
 use Rattle.ladder_resting.proofs.Actions.{set_quiet, undisturbed}
 
@@ -120,13 +119,13 @@ no_more (Some n) h = absurd (h n refl)
 pub still_awake : (u : UsedBy) (h g : Held) (old new : List (Option ℕ)) (j : ℕ) → AreWoken u h g old new → known_next old j ≡ None → known_next new j ≡ None
 still_awake u h g old new j w off = no_more (known_next new j) (λ n on. none_some (sym off ∙ w.known j n on))
 
-pub still_rest : (d : Diagram) → Once d → (u : UsedBy) → AreUsers d u → (now j e : ℕ) (start : Frame Bool) (c : Cell) (x y : Bool) (h g : Held) (old new : List (Option ℕ))
-    → c ≡ d.cell j e → g ≡ changed d now start c x y h → AreWoken u h g old new → known_next old j ≡ None → AllRest d h old → AllRest d g new
-still_rest d once u users now j e start c x y h g old new at is w off r = record {
+pub still_rest : (d : Diagram) → IsSound d → (u : UsedBy) → AreUsers d u → (now j e : ℕ) (start : Frame Bool) (c : Cell) (x y : Bool) (h g : Held) (old new : List (Option ℕ))
+    → c ≡ d.cell j e → g ≡ changed d now start c x y h → AreWoken u h g old new → known_next old j ≡ None → AllRest d now h old → AllRest d now g new
+still_rest d sound u users now j e start c x y h g old new at is w off r = record {
   within = λ i n k. r.within i n (w.known i n k);
   rests = λ i n k.
-      rests_on d u users i n (r.within i n (w.known i n k)) h g
-      (undisturbed d once u now j e i start x y h g (is ∙ ap (λ (z : Cell). changed d now start z x y h) at)
+      rests_on d sound u users now i n (r.within i n (w.known i n k)) h g
+      (undisturbed d sound.once u now j e i start x y h g (is ∙ ap (λ (z : Cell). changed d now start z x y h) at)
       (λ same. none_some (sym off ∙ sym (ap (known_next old) same) ∙ w.known i n k)) (λ v. w.variables i n v k) (λ v. w.outputs i n v k))
       (r.rests i n (w.known i n k));
 }
@@ -157,18 +156,18 @@ unfolding actions_of
 from_rung p j = from_before p j PLACES (omega arith)
 
 -- one action of a rung
-pub acted : (p : Drawing) → Once (diagram_of p) → (u : UsedBy) → AreUsers (diagram_of p) u → (now j : ℕ) (start : Frame Bool) (links : List Bool) (xs : List Action)
+pub acted : (p : Drawing) → IsSound (diagram_of p) → (u : UsedBy) → AreUsers (diagram_of p) u → (now j : ℕ) (start : Frame Bool) (links : List Bool) (xs : List Action)
     → xs ≡ actions_of p j → (i : ℕ) (a : Action) → i < length xs → (h g : Held) (old new : List (Option ℕ))
     → g ≡ changed (diagram_of p) now start (get_or xs i a).cell (among plain links (get_or xs i a).left) (among plain links (get_or xs i a).below) h
-    → AreWoken u h g old new → known_next old j ≡ None → AllRest (diagram_of p) h old
+    → AreWoken u h g old new → known_next old j ≡ None → AllRest (diagram_of p) now h old
     → (changes_of (diagram_of p) now start links (drop (i + 1) (actions_of p j)) g ≡ changes_of (diagram_of p) now start links (drop i (actions_of p j)) h)
-    × (known_next new j ≡ None) × AllRest (diagram_of p) g new
-acted p once u users now j start links xs is i a lt h g old new e w off r =
+    × (known_next new j ≡ None) × AllRest (diagram_of p) now g new
+acted p sound u users now j start links xs is i a lt h g old new e w off r =
     let from : IsFrom p j (get_or xs i a) = All-get_or (IsFrom p j) xs i a lt (subst (λ (ys : List Action). All (IsFrom p j) ys) (sym is) (from_rung p j)) in (
       subst (λ (ys : List Action). changes_of (diagram_of p) now start links (drop (i + 1) ys) g ≡ changes_of (diagram_of p) now start links (drop i ys) h) is
           (changes_more (diagram_of p) now start links h g xs i a lt e),
       still_awake u h g old new j w off,
-      still_rest (diagram_of p) once u users now j from.0 start (get_or xs i a).cell _ _ h g old new from.1 e w off r,
+      still_rest (diagram_of p) sound u users now j from.0 start (get_or xs i a).cell _ _ h g old new from.1 e w off r,
     )
 
 -- ---- where each action leaves all as it is, each cell does
@@ -190,24 +189,23 @@ cell_back p j e = refl
 
 module _ (p : Drawing) (now j : ℕ) (h : Held) (links : List Bool) (are : AreLinks plain p h.kept now j (frame_of h) links) where
   abbrev IsStillAt : Cell → ℕ → Type 0
-  IsStillAt c e = (is_block c ≡ false) × (changed (diagram_of p) now (frame_of h) c (link_at (diagram_of p) now j h e) (second plain (diagram_of p) j (link_at (diagram_of p) now j h) e) h ≡ h)
+  IsStillAt c e = (later : ℕ) → now ≤ later → Stays (diagram_of p) later (frame_of h) h c (link_at (diagram_of p) now j h e) (second plain (diagram_of p) j (link_at (diagram_of p) now j h) e)
 
   no_act : (c : Cell) (e : ℕ) → acts c ≡ false → IsStillAt c e
-  no_act Empty e t = (refl, refl)
-  no_act Wire e t = (refl, refl)
-  no_act (Contact mode operand None) e t = (refl, refl)
+  no_act Empty e t = λ later le. refl
+  no_act Wire e t = λ later le. refl
+  no_act (Contact mode operand None) e t = λ later le. refl
   no_act (Contact mode operand (Some memory)) e t = absurd cc
   no_act (Coil mode var memory) e t = absurd cc
   no_act (Block inst) e t = absurd cc
-  no_act (Lower inst linked) e t = (refl, refl)
-  no_act (Jump target) e t = (refl, refl)
-  no_act Return e t = (refl, refl)
+  no_act (Lower inst linked) e t = λ later le. refl
+  no_act (Jump target) e t = λ later le. refl
+  no_act Return e t = λ later le. refl
 
   by_action : (e : ℕ) → e < PLACES → IsStill (diagram_of p) now (frame_of h) links h (action_at p j e) → IsStillAt (cell_of p j e) e
-  by_action e lt s = (
-    s.0,
-    ap₂ (λ x y. changed (diagram_of p) now (frame_of h) (cell_of p j e) x y h) (sym (are.left e lt)) (sym (are.below e lt)) ∙ s.1,
-  )
+  by_action e lt s = λ later le.
+      subst (λ y. Stays (diagram_of p) later (frame_of h) h (cell_of p j e) (link_at (diagram_of p) now j h e) y) (are.below e lt)
+      (subst (λ x. Stays (diagram_of p) later (frame_of h) h (cell_of p j e) x (among plain links (below_of p j e))) (are.left e lt) (s later le))
 
   last_or_before : (n e : ℕ) → e < suc n → ((e < n) → IsStillAt (cell_of p j e) e) → IsStillAt (cell_of p j n) n → IsStillAt (cell_of p j e) e
   last_or_before n e lt before last = elim (cases_Bool (nat_lt e n)) [
@@ -231,7 +229,7 @@ module _ (p : Drawing) (now j : ℕ) (h : Held) (links : List Bool) (are : AreLi
 
   cell_either : (e : ℕ) (b : Bool) → nat_lt e PLACES ≡ b → ((e < PLACES) → IsStillAt (cell_of p j e) e) → IsStillAt (cond b (cell_of p j e) Empty) e
   cell_either e true t h = h (is_below e PLACES t)
-  cell_either e false t h = (refl, refl)
+  cell_either e false t h = λ later le. refl
 
   pub all_still : All (IsStill (diagram_of p) now (frame_of h) links h) (actions_of p j) → (e : ℕ) → IsStillAt ((diagram_of p).cell j e) e
   unfolding actions_of
@@ -240,25 +238,25 @@ module _ (p : Drawing) (now j : ℕ) (h : Held) (links : List Bool) (are : AreLi
 
 -- where each action leaves all as it is, the rung is evaluated to what it was, and rests
 pub at_rest : (p : Drawing) (now j : ℕ) (h : Held) (start : Frame Bool) (links : List Bool) → start ≡ frame_of h → AreLinks plain p h.kept now j start links
-    → All (IsStill (diagram_of p) now start links h) (actions_of p j) → Rests (diagram_of p) h j (next_rung (diagram_of p) now j h)
+    → All (IsStill (diagram_of p) now start links h) (actions_of p j) → Rests (diagram_of p) now h j (next_rung (diagram_of p) now j h)
 at_rest p now j h start links s are all =
     let are' : AreLinks plain p h.kept now j (frame_of h) links = subst (λ (f : Frame Bool). AreLinks plain p h.kept now j f links) s are in
     let all' : All (IsStill (diagram_of p) now (frame_of h) links h) (actions_of p j) = subst (λ (f : Frame Bool). All (IsStill (diagram_of p) now f links h) (actions_of p j)) s all in
-    comes_to_rest (diagram_of p) now j h (λ e. (all_still p now j h links are' all' e).0) (λ e. (all_still p now j h links are' all' e).1)
+    comes_to_rest (diagram_of p) now j h (all_still p now j h links are' all')
 
 set_read : (xs : List (Option ℕ)) (j n m : ℕ) → get_or (set xs j (Some n)) j None ≡ Some m → n ≡ m
 set_read [] j n m e = absurd (none_some e)
 set_read (x ∷ xs) zero n m e = cc
 set_read (x ∷ xs) (suc j) n m e = set_read xs j n m e
 
-pub put_to_rest : (d : Diagram) (h : Held) (j n : ℕ) (next : List (Option ℕ)) → j < d.rungs → Rests d h j n → AllRest d h next → AllRest d h (set next j (Some n))
-put_to_rest d h j n next lt r all = record {
+pub put_to_rest : (d : Diagram) (now : ℕ) (h : Held) (j n : ℕ) (next : List (Option ℕ)) → j < d.rungs → Rests d now h j n → AllRest d now h next → AllRest d now h (set next j (Some n))
+put_to_rest d now h j n next lt r all = record {
   within = λ i m k. elim (cases_Bool (nat_eq i j)) [
     | inl t ↦ subst (λ (x : ℕ). x < d.rungs) (sym (is_same i j t)) lt
     | inr t ↦ all.within i m (sym (get_or-set_other next j i (Some n) None (is_apart i j t)) ∙ k)
   ];
   rests = λ i m k. elim (cases_Bool (nat_eq i j)) [
-    | inl t ↦ subst (λ (x : ℕ). Rests d h x m) (sym (is_same i j t)) (subst (λ (x : ℕ). Rests d h j x) (set_read next j n m (sym (ap (known_next (set next j (Some n))) (is_same i j t)) ∙ k)) r)
+    | inl t ↦ subst (λ (x : ℕ). Rests d now h x m) (sym (is_same i j t)) (subst (λ (x : ℕ). Rests d now h j x) (set_read next j n m (sym (ap (known_next (set next j (Some n))) (is_same i j t)) ∙ k)) r)
     | inr t ↦ all.rests i m (sym (get_or-set_other next j i (Some n) None (is_apart i j t)) ∙ k)
   ];
 }

@@ -1,12 +1,15 @@
 -- When a rung rests, so that a scan may pass over its evaluation, and what is remembered of it from scan to scan.
-use Rattle.std.specs.Prelude.{◌≡◌, ℕ, ◌<◌, Bool, true, false, ◌==◌, List, [], map, Option, Some, None, slice_index_or}
+use Rattle.std.specs.Prelude.{◌≡◌, ℕ, ◌<◌, ◌≤◌, Bool, true, false, not, ◌||◌, ◌&&◌, ◌==◌, List, [], map, Option, Some, None, slice_index_or}
 use Rattle.ladder_grid.specs.declared.cell.Operand.{Operand}
 use Rattle.ladder_grid.specs.declared.cell.Operand.TheVariants.{Var, Output}
 use Rattle.ladder_grid.specs.declared.cell.Cell.{Cell}
-use Rattle.ladder_grid.specs.declared.cell.Cell.TheVariants.{Contact, Coil}
-use Rattle.ladder_grid.specs.Program.{is_block}
+use Rattle.ladder_grid.specs.declared.cell.Cell.TheVariants.{Contact, Coil, Block}
+use Rattle.ladder_vars.specs.declared.kind.BlockKind.{BlockKind}
+use Rattle.ladder_vars.specs.declared.kind.BlockKind.TheVariants.{Ton}
+use Rattle.ladder_elements.specs.declared.block.Stored.{Stored}
+use Rattle.ladder_elements.specs.declared.block.Stored.TheVariants.{Timer}
 use Rattle.ladder_elements.specs.Truth.{plain}
-use Rattle.ladder_elements.specs.Blocks.{q_of}
+use Rattle.ladder_elements.specs.Blocks.{step, q_of, new_block}
 use Rattle.ladder_grid.specs.declared.gates.Action.{Action}
 use Rattle.ladder_scan.specs.Cells.{Diagram, Frame}
 use Rattle.ladder_scan.specs.Gating.{among}
@@ -15,11 +18,28 @@ use Rattle.ladder_scan.specs.Scan.{next_rung}
 
 -- ---- rest
 
--- Rung j rests: it has no block, and whatever the moment, none of its cells changes anything, and `after` is the rung after it.
-pub record Rests (d : Diagram) (h : Held) (j after : ℕ) : Type 0 where
-  pub no_block : (e : ℕ) → is_block (d.cell j e) ≡ false
-  pub still : (now e : ℕ) → changed d now (frame_of h) (d.cell j e) (link_at d now j h e) (second plain d j (link_at d now j h) e) h ≡ h
-  pub next : (now : ℕ) → next_rung d now j h ≡ after
+-- At this moment a cell, with left link x and second input y, changes nothing; `start` is what contacts saw.
+abbrev pub Stays : Diagram → ℕ → Frame Bool → Held → Cell → Bool → Bool → Type 0
+Stays d now start h (Block inst) x y =
+    let stored = slice_index_or h.kept.blocks inst (new_block Ton) in
+    step (d.kind inst) (d.preset inst) stored x y now ≡ stored
+Stays d now start h other x y = changed d now start other x y h ≡ h
+
+-- Rung j rests at a moment: from some moment on, not after this one, none of its cells changes anything, and `after` is the rung after it.
+pub record Rests (d : Diagram) (moment : ℕ) (h : Held) (j after : ℕ) : Type 0 where
+  pub since : ℕ
+  pub begun : since ≤ moment
+  pub still : (now e : ℕ) → since ≤ now → Stays d now (frame_of h) h (d.cell j e) (link_at d since j h e) (second plain d j (link_at d since j h) e)
+  pub next : next_rung d since j h ≡ after
+
+-- What an instance stores changes at no later moment, where its step leaves it as it is: it is no timer that runs, save an on-delay that is over.
+abbrev pub is_on_delay : BlockKind → Bool
+is_on_delay Ton = true
+is_on_delay other = false
+
+abbrev pub is_settled : BlockKind → Stored → Bool
+is_settled kind (Timer last running start q) = not running || (is_on_delay kind && q)
+is_settled kind other = true
 
 -- ---- what a rung uses
 
@@ -87,17 +107,17 @@ pub record AreWoken (u : UsedBy) (h g : Held) (old new : List (Option ℕ)) : Ty
   pub outputs : (j n i : ℕ) → known_next new j ≡ Some n → marked u.outputs i j ≡ true
       → slice_index_or (map q_of g.kept.blocks) i false ≡ slice_index_or (map q_of h.kept.blocks) i false
 
--- An action leaves all as it is, and is no block's.
+-- From now on an action leaves all as it is.
 abbrev pub IsStill : Diagram → ℕ → Frame Bool → List Bool → Held → Action → Type 0
 IsStill d now start links h a =
-    (is_block a.cell ≡ false) × (changed d now start a.cell (among plain links a.left) (among plain links a.below) h ≡ h)
+    (later : ℕ) → now ≤ later → Stays d later start h a.cell (among plain links a.left) (among plain links a.below)
 
 -- Each rung that is known to rest does.
-pub record AllRest (d : Diagram) (h : Held) (next : List (Option ℕ)) : Type 0 where
+pub record AllRest (d : Diagram) (moment : ℕ) (h : Held) (next : List (Option ℕ)) : Type 0 where
   pub within : (j n : ℕ) → known_next next j ≡ Some n → j < d.rungs
-  pub rests : (j n : ℕ) → known_next next j ≡ Some n → Rests d h j n
+  pub rests : (j n : ℕ) → known_next next j ≡ Some n → Rests d moment h j n
 
--- What is remembered is true of the program where this is stored.
-pub record IsTrueOf (d : Diagram) (h : Held) (m : Memory) : Type 0 where
+-- What is remembered is true of the program, where this is stored at the moment.
+pub record IsTrueOf (d : Diagram) (moment : ℕ) (h : Held) (m : Memory) : Type 0 where
   pub users : AreUsers d m.users
-  pub all_rest : AllRest d h m.next
+  pub all_rest : AllRest d moment h m.next

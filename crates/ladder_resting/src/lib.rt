@@ -7,5 +7,4 @@ mod marks;
 mod scanning;
 mod waking;
 
-pub use marks::Users;
 pub use scanning::{Resting, scan};

@@ -13,7 +13,7 @@ use std::marker::Model;
 
 /// For each variable, and for each instance's output, a mark for each rung that uses it.
 #[derive(Drop)]
-pub struct Users {
+pub(crate) struct Users {
     variables: Vec<Vec<bool>>,
     outputs: Vec<Vec<bool>>,
 }
@@ -72,7 +72,7 @@ impl Users {
     /// # Errors
     ///
     /// `AllocError` when out of memory.
-    pub fn new(alloc: Global, program: &Program) -> Result<Users, AllocError>
+    pub(crate) fn new(alloc: Global, program: &Program) -> Result<Users, AllocError>
         ensures { IfOk result (λ u. AreUsers (diagram_of program.now) u) }
     {
         let (decls, rungs) = (program.decls(), program.rungs());
@@ -127,14 +127,14 @@ impl Users {
     }
 
     /// The marks of the rungs that use a variable. What has no mark counts as marked.
-    pub fn of_variable(&self, var: usize) -> &[bool]
+    pub(crate) fn of_variable(&self, var: usize) -> &[bool]
         ensures { result.now ≡ slice_index_or self.now.variables var [] }
     {
         marks_of(&self.variables, var)
     }
 
     /// The marks of the rungs that read the output of an instance. What has no mark counts as marked.
-    pub fn of_output(&self, inst: usize) -> &[bool]
+    pub(crate) fn of_output(&self, inst: usize) -> &[bool]
         ensures { result.now ≡ slice_index_or self.now.outputs inst [] }
     {
         marks_of(&self.outputs, inst)

@@ -47,7 +47,7 @@ impl Resting {
     ///
     /// `AllocError` when out of memory.
     pub fn new(alloc: Global, program: &Program) -> Result<Resting, AllocError>
-        ensures { IfOk result (λ r. (h : Held) → IsTrueOf (diagram_of program.now) h r) }
+        ensures { IfOk result (λ r. (moment : ℕ) (h : Held) → IsTrueOf (diagram_of program.now) moment h r) }
     {
         Ok(Resting {
             users: Users::new(alloc, program)?,
@@ -57,7 +57,7 @@ impl Resting {
 
     /// Forgets which rungs rest, so that it is true of every state of the program, whatever has changed this one.
     pub fn forget(&mut self)
-        ensures { (d : Diagram) → AreUsers d self.old.users → (h : Held) → IsTrueOf d h self.new }
+        ensures { (d : Diagram) → AreUsers d self.old.users → (moment : ℕ) (h : Held) → IsTrueOf d moment h self.new }
     {
         wake_all(&mut self.next);
     }
@@ -79,12 +79,12 @@ fn evaluate(
     requires sizes { SameSizes start.old storage.old }
     requires users { AreUsers (diagram_of scene.program.now) users.now }
     requires awake { known_next next.old scene.rung ≡ None }
-    requires rest { AllRest (diagram_of scene.program.now) storage.old next.old }
+    requires rest { AllRest (diagram_of scene.program.now) scene.now storage.old next.old }
     ensures held { storage.new ≡ evaluated (diagram_of scene.entry.program.now) scene.entry.now scene.entry.rung storage.old }
     ensures after { result ≡ next_rung (diagram_of scene.entry.program.now) scene.entry.now scene.entry.rung storage.old }
     ensures sizes { SameSizes start.new storage.new }
     ensures links { length links.new ≡ LINKS }
-    ensures rest { AllRest (diagram_of scene.entry.program.now) storage.new next.new }
+    ensures rest { AllRest (diagram_of scene.entry.program.now) scene.entry.now storage.new next.new }
 {
     copy_start(storage, start);
     find_links(scene, storage, start, links);
@@ -112,12 +112,12 @@ fn pass(
     requires program { IsSound (diagram_of scene.program.now) }
     requires sizes { SameSizes start.old storage.old }
     requires users { AreUsers (diagram_of scene.program.now) users.now }
-    requires rest { AllRest (diagram_of scene.program.now) storage.old next.old }
+    requires rest { AllRest (diagram_of scene.program.now) scene.now storage.old next.old }
     ensures held { storage.new ≡ evaluated (diagram_of scene.entry.program.now) scene.entry.now scene.entry.rung storage.old }
     ensures after { result ≡ next_rung (diagram_of scene.entry.program.now) scene.entry.now scene.entry.rung storage.old }
     ensures sizes { SameSizes start.new storage.new }
     ensures links { length links.new ≡ LINKS }
-    ensures rest { AllRest (diagram_of scene.entry.program.now) storage.new next.new }
+    ensures rest { AllRest (diagram_of scene.entry.program.now) scene.entry.now storage.new next.new }
 {
     match known_next(next, scene.rung) {
         Some(after) => after,
@@ -137,10 +137,10 @@ fn scan_rungs(
     requires program { IsSound (diagram_of program.now) }
     requires sizes { SameSizes start.old storage.old }
     requires users { AreUsers (diagram_of program.now) users.now }
-    requires rest { AllRest (diagram_of program.now) storage.old next.old }
+    requires rest { AllRest (diagram_of program.now) now storage.old next.old }
     ensures held { storage.new ≡ (scanned (diagram_of program.now) now storage.old program.now.rungs).held }
     ensures sizes { SameSizes start.new storage.new }
-    ensures rest { AllRest (diagram_of program.now) storage.new next.new }
+    ensures rest { AllRest (diagram_of program.now) now storage.new next.new }
 {
     let mut links = [false; LINKS];
     let mut resume = 0;
@@ -169,18 +169,20 @@ fn wake_changed(storage: &Storage, before: &[bool], users: &Users, next: &mut [O
 /// Gives the inputs.
 fn give(
     program: &Program,
+    now: u64,
     inputs: &[bool],
     storage: &mut Storage,
     start: &mut Signals<bool>,
     users: &Users,
     next: &mut [Option<usize>],
 )
+    requires program { IsSound (diagram_of program.now) }
     requires sizes { SameSizes start.old storage.old }
     requires users { AreUsers (diagram_of program.now) users.now }
-    requires rest { AllRest (diagram_of program.now) storage.old next.old }
+    requires rest { AllRest (diagram_of program.now) now storage.old next.old }
     ensures given { storage.new ≡ record storage.old { values = given (diagram_of program.now).inputs inputs.now storage.old.values } }
     ensures sizes { SameSizes start.new storage.new }
-    ensures rest { AllRest (diagram_of program.now) storage.new next.new }
+    ensures rest { AllRest (diagram_of program.now) now storage.new next.new }
 {
     copy_start(storage, start);
     storage.give(program.decls(), inputs);
@@ -198,16 +200,17 @@ fn scan_storage(
 )
     requires program { IsSound (diagram_of program.now) }
     requires sizes { SameSizes start.old storage.old }
-    requires resting { IsTrueOf (diagram_of program.now) storage.old resting.old }
+    requires resting { IsTrueOf (diagram_of program.now) now storage.old resting.old }
     ensures held { storage.new ≡ after_scan (diagram_of program.now) now inputs.now storage.old }
     ensures sizes { SameSizes start.new storage.new }
     ensures lengths { SameLengths storage.new storage.old }
     ensures shapes { map shape storage.new.kept.blocks ≡ map shape storage.old.kept.blocks }
     ensures possible { ArePossible now storage.old.kept.blocks → ArePossible now storage.new.kept.blocks }
-    ensures resting { IsTrueOf (diagram_of program.now) storage.new resting.new }
+    ensures resting { IsTrueOf (diagram_of program.now) now storage.new resting.new }
 {
     give(
         program,
+        now,
         inputs,
         storage,
         start,
@@ -237,7 +240,7 @@ pub fn scan(
     inputs: &[bool],
     now: u64,
 ) -> Result<(), MomentBack>
-    requires resting { IsTrueOf (diagram_of program.now) state.old.held resting.old }
+    requires resting { IsTrueOf (diagram_of program.now) state.old.moment state.old.held resting.old }
     ensures done { IfOk result (λ _. state.new ≡ record {
       held = after_scan (diagram_of program.now) now inputs.now state.old.held;
       kinds = state.old.kinds;
@@ -246,7 +249,7 @@ pub fn scan(
     ensures fits { Fits program.now state.old → Fits program.now state.new }
     ensures refused { OnErr result (state.new ≡ state.old) }
     ensures back { IsErr result ↔ (now < state.old.moment) }
-    ensures resting { IsTrueOf (diagram_of program.now) state.new.held resting.new }
+    ensures resting { IsTrueOf (diagram_of program.now) state.new.moment state.new.held resting.new }
 {
     if now < state.moment {
         return Err(MomentBack);

@@ -30,7 +30,7 @@ fn wake(marks: &[bool], next: &mut [Option<usize>])
 
 /// Wakes all rungs.
 pub(crate) fn wake_all(next: &mut [Option<usize>])
-    ensures { (d : Diagram) (h : Held) → AllRest d h next.new }
+    ensures { (d : Diagram) (moment : ℕ) (h : Held) → AllRest d moment h next.new }
 {
     wake(&[], next);
 }

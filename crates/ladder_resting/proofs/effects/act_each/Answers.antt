@@ -10,7 +10,7 @@ loop-action-preserved c =
     let s = c.args.scene in
     let i = c.loop-action.invariant in
     let step =
-    acted s.program.now c.requires.program.once c.args.users.now c.requires.users s.now s.rung c.args.start.now c.args.links.now c.actions-action-items.result.now
+    acted s.program.now c.requires.program c.args.users.now c.requires.users s.now s.rung c.args.start.now c.args.links.now c.actions-action-items.result.now
     c.actions-action-items.ensures c.loop-action.action-index _ c.loop-action-test.true c.loop-action.storage c.act.new.storage c.loop-action.next c.act.new.next
     c.act.ensures.stored c.act.ensures.woken i.awake i.rest in
     record { stored = step.0 ∙ i.stored; awake = step.1; rest = step.2 }

@@ -13,5 +13,5 @@ invariant-loop-action l =
     record {
       stored : changes_of d s.now l.start l.links (drop l.action-index actions) l.storage ≡ changes_of d s.now l.start l.links actions l.fn.storage;
       awake : known_next l.next s.rung ≡ None;
-      rest : AllRest d l.storage l.next;
+      rest : AllRest d s.now l.storage l.next;
     }

@@ -1,4 +1,4 @@
-use Rattle.std.proofs.Common.{sym, subst, List, Option, ℕ, rules}
+use Rattle.std.proofs.Common.{sym, subst, List, Option, ℕ, rules, ◌≤◌, arith}
 use Rattle.ladder_scan.specs.Programs.{diagram_of}
 use Rattle.ladder_scan.proofs.Acting.{places, by_actions}
 use Rattle.ladder_scan.proofs.Sizes.{rung_sizes}
@@ -14,7 +14,8 @@ are_still-requires-clause-places c = places c.args.scene.program.now c.args.scen
 pub returns-then-are_still-clause-held : goal.returns-then-are_still-clause-held
 returns-then-are_still-clause-held c =
     let s = c.args.scene in
-    sym (rest_is_still (diagram_of s.program.now) s.now s.rung _ c.args.storage.now
+    let least : s.now ≤ s.now = omega arith in
+    sym (rest_is_still (diagram_of s.program.now) c.requires.program s.now s.now s.rung _ c.args.storage.now least
     (at_rest s.program.now s.now s.rung c.args.storage.now c.copy_start.new.start c.find_links.new.links c.copy_start.ensures c.find_links.ensures.links (c.are_still.ensures (search rules))))
 
 pub returns-then-are_still-clause-after : goal.returns-then-are_still-clause-after
@@ -25,7 +26,7 @@ returns-then-are_still-clause-after c =
 pub returns-then-are_still-clause-rest : goal.returns-then-are_still-clause-rest
 returns-then-are_still-clause-rest c =
     let s = c.args.scene in
-    subst (λ (xs : List (Option ℕ)). AllRest (diagram_of s.program.now) c.args.storage.now xs) (sym c.put_to_rest.ensures)
+    subst (λ (xs : List (Option ℕ)). AllRest (diagram_of s.program.now) s.now c.args.storage.now xs) (sym c.put_to_rest.ensures)
     (rest_from s.program.now c.requires.program s.now s.rung c.args.storage.now c.copy_start.new.start c.find_links.new.links c.copy_start.ensures c.find_links.ensures.links _ c.rung_after-after.ensures
     (c.are_still.ensures (search rules)) c.args.next.now c.requires.rung c.requires.rest)
 

@@ -1,4 +1,4 @@
-use Rattle.std.proofs.Common.{◌∙◌, Bool, List, ap, sym, length, map, get_or, false}
+use Rattle.std.proofs.Common.{arith, ◌∙◌, Bool, List, ap, sym, length, map, get_or, false}
 use Rattle.std.proofs.lemmas.List.{length-map}
 use Rattle.ladder_vars.specs.Decls.{Declared, is_input}
 use Rattle.ladder_elements.specs.Blocks.{q_of}
@@ -36,6 +36,6 @@ returns-clause-sizes c = record {
 
 pub returns-clause-rest : goal.returns-clause-rest
 returns-clause-rest c =
-    given_rest (diagram_of c.args.program.now) c.args.users.now c.requires.users (map is_input c.decls.result.now.vars) c.args.inputs.now c.args.storage.now c.give.new.self
+    given_rest (diagram_of c.args.program.now) c.requires.program c.args.users.now c.requires.users c.args.now c.args.now (omega arith) (map is_input c.decls.result.now.vars) c.args.inputs.now c.args.storage.now c.give.new.self
     c.args.next.now c.wake_changed.new.next c.give.ensures c.wake_changed.ensures.known
     (λ j n v k on. c.wake_changed.ensures.same j n v k on ∙ ap (λ (xs : List Bool). get_or xs v false) c.deref.ensures.value ∙ ap (λ (f : Frame Bool). get_or f.values v false) c.start.view_is ∙ ap (λ (f : Frame Bool). get_or f.values v false) c.copy_start.ensures) c.requires.rest

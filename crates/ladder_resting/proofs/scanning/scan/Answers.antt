@@ -1,6 +1,9 @@
-use Rattle.std.proofs.Common.{◌∙◌, ap, arith, length}
+use Rattle.std.proofs.Common.{sym, subst, ◌∙◌, ap, arith, length}
 use Rattle.ladder_scan.specs.Standing.{Standing}
 use Rattle.ladder_scan.proofs.Possible.{after_sound}
+use Rattle.ladder_scan.specs.Programs.{diagram_of}
+use Rattle.ladder_resting.specs.Resting.{IsTrueOf}
+use Rattle.ladder_resting.proofs.Giving.{true_later}
 use Rattle.ladder_resting.proofs.scanning.scan.Goals as goal
 
 pub returns-clause-fits : goal.returns-clause-fits
@@ -15,3 +18,9 @@ invariant_of-state c = (
   c.scan_storage.ensures.sizes,
   after_sound c.state.inside.moment c.args.now _ _ _ c.state.invariant.1 (omega (arith, c.if-now-state.false)) c.scan_storage.ensures.shapes c.scan_storage.ensures.possible,
 )
+
+pub scan_storage-requires-clause-resting : goal.scan_storage-requires-clause-resting
+scan_storage-requires-clause-resting c =
+    let d = diagram_of c.args.program.now in
+    true_later d c.state.inside.moment c.args.now _ c.args.resting.now c.if-now-state.false
+    (subst (λ (s : Standing). IsTrueOf d s.moment s.held c.args.resting.now) (sym c.state.view_is) c.requires.resting)

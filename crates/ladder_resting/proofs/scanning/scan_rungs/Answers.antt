@@ -31,7 +31,7 @@ loop-rung-preserved c =
             state = w.storage-is ∙ w.pass-resume.ensures.held ∙ ap (evaluated d now j) c.loop-rung.invariant.state ∙ sym (ap (λ (x : Scanned). x.held) (gone_through d now h j on));
             resume = w.resume-is ∙ w.pass-resume.ensures.after ∙ ap (next_rung d now j) c.loop-rung.invariant.state ∙ sym (ap (λ (x : Scanned). x.resume) (gone_through d now h j on));
             sizes = sizes_same w.start-is w.storage-is w.pass-resume.ensures.sizes;
-            rest = rest_same d w.storage-is w.next-is w.pass-resume.ensures.rest;
+            rest = rest_same d now w.storage-is w.next-is w.pass-resume.ensures.rest;
           }
       | else-resume-rung w ↦
           let off : j < s.resume = omega (arith, c.loop-rung.invariant.resume, w.if-resume-rung.false) in
@@ -39,6 +39,6 @@ loop-rung-preserved c =
             state = w.storage-is ∙ c.loop-rung.invariant.state ∙ sym (ap (λ (x : Scanned). x.held) (passed_over d now h j off));
             resume = w.resume-is ∙ c.loop-rung.invariant.resume ∙ sym (ap (λ (x : Scanned). x.resume) (passed_over d now h j off));
             sizes = sizes_same w.start-is w.storage-is c.loop-rung.invariant.sizes;
-            rest = rest_same d w.storage-is w.next-is c.loop-rung.invariant.rest;
+            rest = rest_same d now w.storage-is w.next-is c.loop-rung.invariant.rest;
           }
     ]

@@ -10,5 +10,5 @@ invariant-loop-rung l = record {
   state : l.storage ≡ (scanned (diagram_of l.program) l.now l.fn.storage l.rung).held;
   resume : l.resume ≡ (scanned (diagram_of l.program) l.now l.fn.storage l.rung).resume;
   sizes : SameSizes l.start l.storage;
-  rest : AllRest (diagram_of l.program) l.storage l.next;
+  rest : AllRest (diagram_of l.program) l.now l.storage l.next;
 }
