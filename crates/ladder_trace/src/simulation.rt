@@ -5,6 +5,8 @@ ghost use Rattle.csv.specs.Records.{fields_of};
 ghost use Rattle.ladder_grid.specs.Reading.{IsProgram};
 ghost use Rattle.ladder_records.specs.Left.{Fields, Left};
 ghost use Rattle.ladder_records.specs.Text.{records_of};
+ghost use Rattle.ladder_resting.specs.Resting.{IsTrueOf};
+ghost use Rattle.ladder_scan.specs.Programs.{diagram_of};
 ghost use Rattle.ladder_scan.specs.Standing.{Fits};
 ghost use Rattle.ladder_text.specs.Log.{Puts, WriteLog};
 ghost use Rattle.ladder_vars.specs.Decls.{is_input};
@@ -26,7 +28,8 @@ use crate::watching::{write_watched_header, write_watched_row};
 use csv::ByteRecord;
 use ladder_grid::Program;
 use ladder_records::next;
-use ladder_scan::{State, scan};
+use ladder_resting::{Resting, scan};
+use ladder_scan::State;
 use ladder_show::{Scan, ShowFault, write_drawing, write_film_start};
 use ladder_text::{Block, Sink, WriteFault};
 use ladder_waves::{write_changes, write_start};
@@ -39,12 +42,13 @@ const MOST: u64 = 1_000_000;
 const MOST_DRAWN: u64 = 1_000;
 
 /// What a simulation allocates before its first write, beside its records: the input image, the buffer for a row of the trace, and a
-/// state for what a waveform compares with.
+/// state for what a waveform compares with. With it goes what is remembered from scan to scan.
 #[derive(Drop)]
 struct Room {
     image: Vec<bool>,
     block: Block,
     before: State,
+    resting: Resting,
 }
 
 /// A program, and what is written of its scans.
@@ -98,11 +102,13 @@ fn trace_scan<W: Sink>(
 ) -> Result<(), SimFault>
     requires fits { Fits program.now state.old }
     requires ready { IsReady program.now room.old.image.items room.old.block room.old.before }
+    requires rest { IsTrueOf (diagram_of program.now) state.old.moment state.old.held room.old.resting }
     ensures fits { Fits program.now state.new }
     ensures ready { OnOk result (IsReady program.now room.new.image.items room.new.block room.new.before) }
+    ensures rest { OnOk result (IsTrueOf (diagram_of program.now) state.new.moment state.new.held room.new.resting) }
     ensures scans { ScansTo Recording.Trace program.now number state.old moment room.old.image.items state.new (W.log writer.old) (W.log writer.new) result }
 {
-    let Ok(()) = scan(program, state, &room.image, moment) else {
+    let Ok(()) = scan(program, state, &mut room.resting, &room.image, moment) else {
         return Err(SimFault::MomentBack { row: number });
     };
     let Ok(()) = write_row(program, state, &mut room.block, writer) else {
@@ -123,11 +129,13 @@ fn watch_scan<W: Sink>(
 ) -> Result<(), SimFault>
     requires fits { Fits program.now state.old }
     requires ready { IsReady program.now room.old.image.items room.old.block room.old.before }
+    requires rest { IsTrueOf (diagram_of program.now) state.old.moment state.old.held room.old.resting }
     ensures fits { Fits program.now state.new }
     ensures ready { OnOk result (IsReady program.now room.new.image.items room.new.block room.new.before) }
+    ensures rest { OnOk result (IsTrueOf (diagram_of program.now) state.new.moment state.new.held room.new.resting) }
     ensures scans { ScansTo (Recording.Watched watched.entry) program.now number state.old moment room.old.image.items state.new (W.log writer.old) (W.log writer.new) result }
 {
-    match scan(program, state, &room.image, moment) {
+    match scan(program, state, &mut room.resting, &room.image, moment) {
         Ok(()) => (),
         Err(_) => return Err(SimFault::MomentBack { row: number }),
     }
@@ -191,12 +199,14 @@ fn wave_scan<W: Sink>(
 ) -> Result<(), SimFault>
     requires fits { Fits run.program.now state.old }
     requires ready { IsReady run.program.now room.old.image.items room.old.block room.old.before }
+    requires rest { IsTrueOf (diagram_of run.program.now) state.old.moment state.old.held room.old.resting }
     ensures fits { Fits run.entry.program.now state.new }
     ensures ready { OnOk result (IsReady run.entry.program.now room.new.image.items room.new.block room.new.before) }
+    ensures rest { OnOk result (IsTrueOf (diagram_of run.entry.program.now) state.new.moment state.new.held room.new.resting) }
     ensures scans { ScansTo Recording.Waves run.entry.program.now number state.old moment room.old.image.items state.new (W.log writer.old) (W.log writer.new) result }
 {
     keep(run.program, state, &mut room.before);
-    let Ok(()) = scan(run.program, state, &room.image, moment) else {
+    let Ok(()) = scan(run.program, state, &mut room.resting, &room.image, moment) else {
         return Err(SimFault::MomentBack { row: number });
     };
     let Ok(()) = write_changes(run.program, &room.before, state, &mut room.block, writer) else {
@@ -218,10 +228,12 @@ fn step<W: Sink>(
     requires recorded { CanRecord run.recording run.program.now }
     requires fits { Fits run.program.now state.old }
     requires ready { IsReady run.program.now room.old.image.items room.old.block room.old.before }
+    requires rest { IsTrueOf (diagram_of run.program.now) state.old.moment state.old.held room.old.resting }
     requires below { All (λ c. c < count_by is_input run.program.now.decls.vars) columns.now }
     requires wide { IfSome taken.moment (λ m. length (fields_of row.now) ≡ length columns.now + 1) }
     ensures fits { Fits run.entry.program.now state.new }
     ensures ready { OnOk result (IsReady run.entry.program.now room.new.image.items room.new.block room.new.before) }
+    ensures rest { OnOk result (IsTrueOf (diagram_of run.entry.program.now) state.new.moment state.new.held room.new.resting) }
     ensures steps { (fields : Fields) → Gives columns.now taken.moment (fields_of row.now) fields
         → StepsTo run.entry.recording run.entry.program.now columns.now taken.number state.old fields state.new (W.log writer.old) (W.log writer.new) result }
 {
@@ -237,7 +249,10 @@ fn step<W: Sink>(
         Recording::Watched(watched) => {
             watch_scan(program, watched, moment, number, room, state, writer)
         }
-        Recording::Film(film) => draw_scan(run, film, moment, number, &room.image, state, writer),
+        Recording::Film(film) => {
+            room.resting.forget();
+            draw_scan(run, film, moment, number, &room.image, state, writer)
+        }
         Recording::Waves => wave_scan(run, moment, number, room, state, writer),
     }
 }
@@ -256,6 +271,7 @@ fn follow_rows<W: Sink>(
     requires first { filling.old.number ≡ 2 }
     requires fits { Fits run.program.now state.old }
     requires ready { IsReady run.program.now room.old.image.items room.old.block room.old.before }
+    requires rest { IsTrueOf (diagram_of run.program.now) state.old.moment state.old.held room.old.resting }
     requires below { All (λ c. c < count_by is_input run.program.now.decls.vars) columns.now }
     ensures fits { Fits run.entry.program.now state.new }
     ensures ends { (all : List Numbered) (log : WriteLog)
@@ -292,6 +308,7 @@ fn follow_records<W: Sink>(
     requires fresh { IsFresh filling.old }
     requires fits { Fits run.program.now state.old }
     requires ready { IsReady run.program.now room.old.image.items room.old.block room.old.before }
+    requires rest { IsTrueOf (diagram_of run.program.now) state.old.moment state.old.held room.old.resting }
     ensures fits { Fits run.entry.program.now state.new }
     ensures ends { (rows : List Fields) → Left filling.old.records rows
         → Ends run.entry.recording run.entry.program.now state.old (filled filling.old.every rows) state.new (W.log writer.old) (W.log writer.new) result }
@@ -332,10 +349,14 @@ fn follow<W: Sink>(
     let Ok(before) = state.copy(alloc) else {
         return Err(SimFault::Memory);
     };
+    let Ok(resting) = Resting::new(alloc, program) else {
+        return Err(SimFault::Memory);
+    };
     let mut room = Room {
         image,
         block: Block::new(),
         before,
+        resting,
     };
     follow_records(run, &mut filling, &mut room, state, writer)
 }

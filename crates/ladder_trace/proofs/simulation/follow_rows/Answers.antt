@@ -15,6 +15,7 @@ loop-done-preserved g c =
           let h = c.loop-done.invariant.5 all log going in
           going_more c.args.run.recording c.args.run.program.now c.args.columns.now c.args.state.now c.loop-done.state c.step.new.state all c.in-Some.taken _ _ _ c.loop-done.done c.loop-done.filling c.take.new.filling
           h (subst (λ o. Takes c.args.columns.now (drop (c.loop-done.done + 1) all) o c.take.new.filling) c.in-Some.is (c.in-Ok.ensures.takes (drop (c.loop-done.done + 1) all) h.left)) ok.steps,
+      ok.rest,
     )
 
 pub returns-in_default-clause-ends : goal.returns-in_default-clause-ends

@@ -1,4 +1,6 @@
 use Rattle.std.specs.Prelude.{◌≤◌, ◌+◌, List}
+use Rattle.ladder_resting.specs.Resting.{IsTrueOf}
+use Rattle.ladder_scan.specs.Programs.{diagram_of}
 use Rattle.ladder_scan.specs.Standing.{Fits}
 use Rattle.ladder_text.specs.Log.{WriteLog}
 use Rattle.ladder_trace.specs.Coming.{IsSound}
@@ -17,3 +19,4 @@ invariant-loop-done g l =
     × (l.filling.number ≤ l.done + 2)
     × ((all : List Numbered) (log : WriteLog) → IsGoing l.run.recording l.run.program.now l.columns l.fn.state all 0 l.fn.state log (g.W.Sink.log l.fn.writer) l.fn.filling
     → IsGoing l.run.recording l.run.program.now l.columns l.fn.state all l.done l.state log (g.W.Sink.log l.writer) l.filling)
+    × IsTrueOf (diagram_of l.run.program.now) l.state.moment l.state.held l.room.resting
