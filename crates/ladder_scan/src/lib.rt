@@ -1,7 +1,6 @@
 //! The scan of a ladder diagram: how power flows through a rung, what its cells do, and what one scan leaves.
 //!
 //! The modules `effects`, `gates`, `scene`, `signals` and `storage` are public for looks, which evaluate the same cells over any signal.
-//! These, `scanning` and the fields of `State` are so too for `ladder_resting`, which makes the same scan and passes over rungs at rest.
 #![tactic(auto)]
 
 pub mod effects;
