@@ -145,6 +145,34 @@ def record(moment, number, length):
     return ",".join(map(str, [moment, *bits_of(number, length)]))
 
 
+def sparse_records(chance, listed):
+    """Many records, few of which change an input, with gaps in which timers end."""
+    moment, number, records = chance.choice([0, 3, 1000]), chance.randrange(2 ** len(listed)), []
+    for _ in range(chance.randint(10, 60)):
+        records.append((moment, number))
+        moment += chance.choice([0, 1, 10, 100, 500, 700, 3000])
+        if listed and chance.random() < 0.3:
+            number ^= 1 << chance.randrange(len(listed))
+    return records
+
+
+def compare_trace(trial):
+    """A trace has the outputs after each scan, one after the other."""
+    model, records = Running(Program(trial.text)), sparse_records(trial.chance, trial.listed)
+    lines = [",".join(["moment", *trial.listed]), *(record(*one, len(trial.listed)) for one in records)]
+    trial.write("stimulus.csv", "\n".join(lines) + "\n")
+    outputs = re.findall(r"^\s*(\w+) AT %QX", trial.text, re.MULTILINE)
+    rows, before = [",".join(["moment", *outputs])], None
+    for moment, number in records:
+        model.scan(trial.inputs(number), moment)
+        bits = [str(int(model.values[name.upper()])) for name in outputs]
+        rows.append(",".join([str(moment), *bits]))
+        trial.tally["records"] += 1
+        trial.tally["records with other outputs than the one before"] += before not in (None, bits)
+        before = bits
+    return differences(trial.ask("sim", "program.ld", "stimulus.csv"), ("".join(f"{row}\n" for row in rows).encode(), b"", 0))
+
+
 def compare_film(trial):
     """A film is that of its scans, each shown by itself from the state that the one before it has left."""
     records = stimulus(trial.chance, trial.listed)
@@ -513,7 +541,7 @@ def compare_relevant(trial):
 
 
 ALL = (compare_lists, compare_parts, compare_shown, compare_film, compare_held, compare_never, compare_random_states)
-ALONE = {"parts": compare_parts, "groups": compare_groups, "show": compare_shown, "held": compare_many_held, "never": compare_never,
+ALONE = {"parts": compare_parts, "groups": compare_groups, "show": compare_shown, "sim": compare_trace, "held": compare_many_held, "never": compare_never,
          "pairs": compare_pairs,
          "possible": compare_possible, "off": compare_off, "must": compare_must, "off_must": compare_off_must,
          "reachable": compare_reachable, "relevant": compare_relevant}

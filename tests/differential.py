@@ -45,7 +45,7 @@ class Size(NamedTuple):
 
 LARGE, SMALL = Size(5, ROWS, COLUMNS), Size(3, 4, 5)
 # How many inputs are listed at least and at most where one kind is compared alone.
-INPUTS_LISTED = {"groups": (1, 7), "held": (1, 6), "show": (1, 9), "never": (0, 0), "possible": (0, 4), "off": (0, 4),
+INPUTS_LISTED = {"groups": (1, 7), "held": (1, 6), "show": (1, 9), "sim": (4, INPUTS), "never": (0, 0), "possible": (0, 4), "off": (0, 4),
                  "must": (0, 4), "off_must": (0, 4), "reachable": (0, 4), "relevant": (INPUTS, INPUTS), "pairs": (0, 0)}
 # What goes through every state, so that a drawing has few bits.
 EVERY_STATE = ("never", "pairs", "possible", "off", "must", "off_must", "reachable")
