@@ -77,11 +77,11 @@ pub accepts : (a : Declared) (d : Decl) (ds : List Decl) → AreKept (joined a (
 accepts a d ds kept =
     elim d.body as (λ b. d.body ≡ b → refusal a d.name d.body ≡ None) [
       | body.Var kind address initial ↦ λ e.
-          let v : Var = record { name = d.name; kind = kind; address = address; initial = initial } in
+          let v : Var = record { name = d.name; title = d.name; kind = kind; address = address; initial = initial } in
           let k : AreKept (record { vars = a.vars ++ v ∷ (declared_by ds).vars; instances = a.instances ++ (declared_by ds).instances }) = rw e at kept in
           rw e (accepts_var a v (declared_by ds).vars (declared_by ds).instances k)
       | body.Instance kind preset ↦ λ e.
-          let i : Instance = record { name = d.name; kind = kind; preset = preset } in
+          let i : Instance = record { name = d.name; title = d.name; kind = kind; preset = preset } in
           let k : AreKept (record { vars = a.vars ++ (declared_by ds).vars; instances = a.instances ++ i ∷ (declared_by ds).instances }) = rw e at kept in
           rw e (accepts_instance a i (declared_by ds).vars (declared_by ds).instances k)
     ] refl

@@ -27,7 +27,7 @@ use Rattle.ladder_vars.proofs.Meeting.{Meets, is_due, meets_breaks, misplaced, m
 
 -- ---- a whole declaration that is refused
 
-names-any : (d : Declared) (name : List ℕ) → list_any (same_letters name) (names_of d) ≡ is_declared d name
+pub names-any : (d : Declared) (name : List ℕ) → list_any (same_letters name) (names_of d) ≡ is_declared d name
 names-any d name =
     list_any-append (same_letters name) (map (λ v. v.name) d.vars) (map (λ i. i.name) d.instances)
     ∙ rw (list_any-map (same_letters name) (λ v. v.name) d.vars, list_any-map (same_letters name) (λ i. i.name) d.instances) refl

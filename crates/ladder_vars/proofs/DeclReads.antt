@@ -80,10 +80,10 @@ joined-more : (a : Declared) (d : Decl) (ds : List Decl) → joined (with_decl a
 joined-more a d ds =
     elim d.body as (λ b. d.body ≡ b → joined (with_decl a d.name d.body) ds ≡ joined a (d ∷ ds)) [
       | body.Var kind address initial ↦ λ e.
-          let v : Var = record { name = d.name; kind = kind; address = address; initial = initial } in
+          let v : Var = record { name = d.name; title = d.name; kind = kind; address = address; initial = initial } in
           rw e (ap (λ vs. record { vars = vs; instances = a.instances ++ (declared_by ds).instances }) (append_assoc a.vars (v ∷ []) (declared_by ds).vars))
       | body.Instance kind preset ↦ λ e.
-          let i : Instance = record { name = d.name; kind = kind; preset = preset } in
+          let i : Instance = record { name = d.name; title = d.name; kind = kind; preset = preset } in
           rw e (ap (λ is. record { vars = a.vars ++ (declared_by ds).vars; instances = is }) (append_assoc a.instances (i ∷ []) (declared_by ds).instances))
     ] refl
 

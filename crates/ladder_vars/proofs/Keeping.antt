@@ -158,7 +158,7 @@ AreFew-decl d name (body.Var kind address initial) few accepted =
           | inl full ↦ absurd cc
           | inr room ↦
               let below : length d.vars < 256 = leb-false 256 (length d.vars) room.0 in
-              let v : Var = record { name = name; kind = kind; address = address; initial = initial } in
+              let v : Var = record { name = name; title = name; kind = kind; address = address; initial = initial } in
               record { vars = omega (arith, length-append {A = Var} d.vars (v ∷ [])); instances = few.instances }
         ]
       ]
@@ -172,7 +172,7 @@ AreFew-decl d name (body.Instance kind preset) few accepted =
           | inl full ↦ absurd cc
           | inr room ↦
               let below : length d.instances < 64 = leb-false 64 (length d.instances) room.0 in
-              let i : Instance = record { name = name; kind = kind; preset = preset } in
+              let i : Instance = record { name = name; title = name; kind = kind; preset = preset } in
               record { vars = few.vars; instances = omega (arith, length-append {A = Instance} d.instances (i ∷ [])) }
         ]
       ]
@@ -180,6 +180,6 @@ AreFew-decl d name (body.Instance kind preset) few accepted =
 
 pub AreInRange-decl : (d : Declared) (name : List ℕ) (b : Body) → AreInRange d → refusal d name b ≡ None → PresetFits b → AreInRange (with_decl d name b)
 AreInRange-decl d name (body.Var kind address initial) kept accepted fits =
-    AreInRange-var d (record { name = name; kind = kind; address = address; initial = initial }) kept accepted
+    AreInRange-var d (record { name = name; title = name; kind = kind; address = address; initial = initial }) kept accepted
 AreInRange-decl d name (body.Instance kind preset) kept accepted fits =
-    AreInRange-instance d (record { name = name; kind = kind; preset = preset }) kept accepted fits
+    AreInRange-instance d (record { name = name; title = name; kind = kind; preset = preset }) kept accepted fits

@@ -6,6 +6,7 @@ pub mod Numbers
 mod Keeping
 mod Leading
 mod Lists
+mod TitleLaws
 mod DeclLoop
 mod WordLaws
 mod Bodies
@@ -20,3 +21,6 @@ mod States
 mod Meeting
 mod DeclFaults
 mod LoopFaults
+mod Retitling
+mod TitleLoop
+mod Titling

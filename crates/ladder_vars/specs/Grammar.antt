@@ -97,10 +97,10 @@ AreDecls ts (d ∷ ds) = (behind back : List (List ℕ)) × (ts ≡ d.name ∷ (
 
 -- the variables among declarations, and the instances
 abbrev pub declared_var : Decl → Option Var
-declared_var d = elim d.body [ body.Var kind address initial ↦ Some (record { name = d.name; kind = kind; address = address; initial = initial }) | _ ↦ None ]
+declared_var d = elim d.body [ body.Var kind address initial ↦ Some (record { name = d.name; title = d.name; kind = kind; address = address; initial = initial }) | _ ↦ None ]
 
 abbrev pub declared_instance : Decl → Option Instance
-declared_instance d = elim d.body [ body.Instance kind preset ↦ Some (record { name = d.name; kind = kind; preset = preset }) | _ ↦ None ]
+declared_instance d = elim d.body [ body.Instance kind preset ↦ Some (record { name = d.name; title = d.name; kind = kind; preset = preset }) | _ ↦ None ]
 
 abbrev pub declared_by : List Decl → Declared
 declared_by ds = record { vars = filter_map declared_var ds; instances = filter_map declared_instance ds }

@@ -1,5 +1,7 @@
 pub mod Name
 pub mod NameView
+pub mod Title
+pub mod TitleView
 pub mod Kind
 pub mod Decls
 pub mod Text
@@ -8,3 +10,5 @@ pub mod Rules
 pub mod ReadText
 pub mod ReadWords
 pub mod ReadDecls
+pub mod Titles
+pub mod TakeTitles

@@ -176,8 +176,8 @@ with_instance declared i = record { vars = declared.vars; instances = declared.i
 
 abbrev pub with_decl : Declared → List ℕ → Body → Declared
 with_decl declared name (body.Var kind address initial) =
-    with_var declared (record { name = name; kind = kind; address = address; initial = initial })
-with_decl declared name (body.Instance kind preset) = with_instance declared (record { name = name; kind = kind; preset = preset })
+    with_var declared (record { name = name; title = name; kind = kind; address = address; initial = initial })
+with_decl declared name (body.Instance kind preset) = with_instance declared (record { name = name; title = name; kind = kind; preset = preset })
 
 abbrev pub refused : {A : Type 0} → Option VarRule → ℕ → A → Result A Fault
 refused (Some r) left x = Err (record { rule = r; left = left })

@@ -1,15 +1,18 @@
 //! The declarations of a text.
 
-ghost use Rattle.std.specs.Prelude.{◌≡◌, ◌≤◌, OnOk, IsNone, position, count_by};
+ghost use Rattle.std.specs.Prelude.{◌≡◌, ◌≤◌, ◌<◌, ◌||◌, length, OnOk, IsNone, position, count_by};
 ghost use Rattle.std.specs.List.{list_any, prefix_len};
 ghost use Rattle.ladder_vars.specs.Name.{same_letters};
 ghost use Rattle.ladder_vars.specs.Decls.{is_input, find, AreInRange};
+ghost use Rattle.ladder_vars.specs.TakeTitles.{is_called, SetsVar, SetsInstance};
 ghost use Rattle.ladder_vars.specs.ReadDecls.{is_there, is_declared, is_taken, refusal, nothing, added, leading_with, with_var, with_instance, with_decl, GivesInMemory, PresetFits};
 
 use crate::fault::{Fault, ReadFault, VarRule};
 use crate::kind::BlockKind;
 use crate::limits::{MOST_INSTANCES, MOST_VARS};
 use crate::name::Name;
+use crate::title::Title;
+use ladder_times::same_letters;
 use std::alloc::{AllocError, Global};
 use std::marker::Model;
 
@@ -36,6 +39,8 @@ pub struct Address {
 #[derive(Clone, Copy)]
 pub struct Var {
     pub name: Name,
+    /// What lists and traces call it: its name, or its alias where that is asked for.
+    pub title: Title,
     pub kind: VarKind,
     pub address: Option<Address>,
     /// The value in a fresh state.
@@ -55,6 +60,8 @@ impl Var {
 #[derive(Clone, Copy)]
 pub struct Instance {
     pub name: Name,
+    /// What lists and traces call it: its name, or its alias where that is asked for.
+    pub title: Title,
     pub kind: BlockKind,
     /// PT of a timer in milliseconds, PV of a counter, or 0 for a bistable.
     pub preset: u32,
@@ -159,6 +166,24 @@ fn is_used(vars: &[Var], address: Address) -> bool
     vars.iter().any(|v| is_there(v.address, address))
 }
 
+fn is_either(word: &[u8], name: &Name, title: &Title) -> bool
+    ensures { result ≡ (same_letters word.now name.now || same_letters word.now title.now) }
+{
+    same_letters(word, name.bytes()) || same_letters(word, title.bytes())
+}
+
+fn is_var_called(vars: &[Var], word: &[u8]) -> bool
+    ensures { result ≡ list_any (λ v. same_letters word.now v.name || same_letters word.now v.title) vars.now }
+{
+    vars.iter().any(|v| is_either(word, &v.name, &v.title))
+}
+
+fn is_instance_called(instances: &[Instance], word: &[u8]) -> bool
+    ensures { result ≡ list_any (λ i. same_letters word.now i.name || same_letters word.now i.title) instances.now }
+{
+    instances.iter().any(|i| is_either(word, &i.name, &i.title))
+}
+
 impl Decls {
     pub(crate) fn new(alloc: Global) -> Decls
         ensures { result ≡ nothing }
@@ -246,11 +271,17 @@ impl Decls {
                 initial,
             } => self.push_var(Var {
                 name,
+                title: Title::of(&name),
                 kind,
                 address,
                 initial,
             }),
-            Body::Instance { kind, preset } => self.push_instance(Instance { name, kind, preset }),
+            Body::Instance { kind, preset } => self.push_instance(Instance {
+                name,
+                title: Title::of(&name),
+                kind,
+                preset,
+            }),
         }
     }
 
@@ -304,5 +335,26 @@ impl Decls {
             Some(number) => Some(Symbol::Var(number)),
             None => instance_at(&self.instances, name).map(Symbol::Instance),
         }
+    }
+
+    /// Whether a declaration has the name or the title, whatever the case of its letters.
+    pub(crate) fn is_called(&self, word: &[u8]) -> bool
+        ensures { result ≡ is_called self.now word.now }
+    {
+        is_var_called(&self.vars, word) || is_instance_called(&self.instances, word)
+    }
+
+    pub(crate) fn set_var_title(&mut self, number: usize, title: Title)
+        requires { number < length self.old.vars }
+        ensures { SetsVar number title self.old self.new }
+    {
+        self.vars[number].title = title;
+    }
+
+    pub(crate) fn set_instance_title(&mut self, number: usize, title: Title)
+        requires { number < length self.old.instances }
+        ensures { SetsInstance number title self.old self.new }
+    {
+        self.instances[number].title = title;
     }
 }

@@ -12,6 +12,8 @@ pub mod limits;
 mod name;
 mod read;
 mod text;
+mod title;
+mod titles;
 mod words;
 
 pub use decls::{Address, Decls, Instance, Symbol, Var, VarKind};
@@ -20,3 +22,5 @@ pub use kind::{BlockKind, BlockTraits, Output, Parameter, Pin};
 pub use ladder_times::read_time;
 pub use name::Name;
 pub use read::read_decls;
+pub use title::Title;
+pub use titles::{TitleFault, take_aliases};

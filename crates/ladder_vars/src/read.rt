@@ -62,7 +62,7 @@ fn all_of(alloc: Global, text: &[u8]) -> Result<(Decls, &[u8]), ReadFault>
 }
 
 /// The line where so many bytes of a text are left, counted from 1.
-fn line_of(text: &[u8], left: usize) -> usize
+pub(crate) fn line_of(text: &[u8], left: usize) -> usize
     ensures { result ≡ line_of text.now left }
 {
     let mut line: usize = 1;

@@ -1,0 +1,58 @@
+-- Private to the proofs: the declarations of a text passed once more, as the code passes them.
+use Rattle.std.specs.Prelude.{◌≡◌, ℕ, ◌+◌, ◌<◌, ◌||◌, false, Bool, List, [], length, codes, slice_get, slice_set, Some, Result, Ok, Err}
+use Rattle.std.specs.List.{list_any}
+use Rattle.ladder_vars.specs.declared.decls.Var.{Var}
+use Rattle.ladder_vars.specs.declared.decls.Instance.{Instance}
+use Rattle.ladder_vars.specs.declared.decls.Body.{Body}
+use Rattle.ladder_vars.specs.declared.decls.Body.TheVariants as body
+use Rattle.ladder_vars.specs.declared.titles.Passed.{Passed}
+use Rattle.ladder_vars.specs.Name.{same_letters}
+use Rattle.ladder_vars.specs.Decls.{Declared}
+use Rattle.ladder_vars.specs.ReadText.{token_at}
+use Rattle.ladder_vars.specs.ReadDecls.{expect, body_at, decls_from}
+
+abbrev pub or_nothing : {F : Type 0} → Result (List ℕ) F → List ℕ
+or_nothing (Ok rest) = rest
+or_nothing (Err f) = []
+
+-- what follows VAR
+abbrev pub after_var : List ℕ → List ℕ
+after_var text = or_nothing (expect (codes "VAR") text)
+
+-- a declaration with this name is read at the start of the text
+abbrev pub IsNext : List ℕ → List ℕ → List ℕ → Body → List ℕ → Type 0
+IsNext text name behind b rest =
+    (token_at text ≡ Ok (name, behind)) × (same_letters name (codes "END_VAR") ≡ false) × (body_at behind ≡ Ok (b, rest))
+
+-- where reading these declarations goes on to a whole here, it is whole already
+abbrev pub IsLast : List ℕ → Type 0
+IsLast text = (n : ℕ) (read all : Declared) (rest : List ℕ) → decls_from n read text ≡ Ok (all, rest) → all ≡ read
+
+-- what a declaration is called, by its name or by its title
+abbrev pub is_called : Declared → List ℕ → Bool
+is_called d word =
+    list_any (λ v. same_letters word v.name || same_letters word v.title) d.vars
+    || list_any (λ i. same_letters word i.name || same_letters word i.title) d.instances
+
+-- the same declarations, but for the title of this variable
+abbrev pub SetsVar : ℕ → List ℕ → Declared → Declared → Type 0
+SetsVar number title d d' = (v : Var) → slice_get d.vars number ≡ Some v → d' ≡ record d { vars = slice_set d.vars number (record v { title = title }) }
+
+-- the same, of an instance
+abbrev pub SetsInstance : ℕ → List ℕ → Declared → Declared → Type 0
+SetsInstance number title d d' =
+    (i : Instance) → slice_get d.instances number ≡ Some i → d' ≡ record d { instances = slice_set d.instances number (record i { title = title }) }
+
+-- ---- by the form of a declaration that comes after so many variables and instances
+
+abbrev pub IsWithin : ℕ → ℕ → Body → Declared → Type 0
+IsWithin vars instances (body.Var kind address initial) d = vars < length d.vars
+IsWithin vars instances (body.Instance kind preset) d = instances < length d.instances
+
+abbrev pub Retitles : ℕ → ℕ → Body → List ℕ → Declared → Declared → Type 0
+Retitles vars instances (body.Var kind address initial) title d d' = SetsVar vars title d d'
+Retitles vars instances (body.Instance kind preset) title d d' = SetsInstance instances title d d'
+
+abbrev pub IsPast : Passed → Body → Passed → Type 0
+IsPast before (body.Var kind address initial) after = (after.vars ≡ before.vars + 1) × (after.instances ≡ before.instances)
+IsPast before (body.Instance kind preset) after = (after.vars ≡ before.vars) × (after.instances ≡ before.instances + 1)

@@ -1,0 +1,173 @@
+//! Titles: what lists and traces call a variable or an instance.
+
+ghost use Rattle.std.specs.Prelude.{◌≡◌, ◌≤◌, length, take, drop, true, false, IfSome, IfNone};
+ghost use Rattle.std.specs.List.{list_all, prefix_len};
+ghost use Rattle.ladder_vars.specs.Title.{is_title_byte, is_title, is_space, after_spaces, inside_comment, is_closing, title_inside, alias_behind, alias_of};
+
+use crate::limits::LONGEST_ALIAS;
+use crate::name::Name;
+use ladder_times::same_letters;
+use std::marker::Model;
+
+fn is_title_byte(b: u8) -> bool
+    ensures { result ≡ is_title_byte b }
+{
+    b.is_ascii_alphanumeric() || b == b'_' || b == b'-' || b == b'.' || b == b'/'
+}
+
+fn are_title_bytes(bytes: &[u8]) -> bool
+    ensures { result ≡ list_all is_title_byte bytes.now }
+{
+    bytes.iter().all(|b| is_title_byte(*b))
+}
+
+/// What lists and traces call a variable or an instance: its name, or its alias.
+///
+/// It has 1 to 32 characters: letters, digits, `_`, `-`, `.` and `/`.
+#[derive(Clone, Copy)]
+pub struct Title {
+    bytes: [u8; LONGEST_ALIAS],
+    len: usize,
+}
+
+impl Model for Title {
+    ghost use Rattle.std.specs.Prelude.{ℕ, List};
+
+    ghost Value = { List ℕ };
+
+    ghost use Rattle.ladder_vars.specs.TitleView.{spelling, stored, IsStored, stored-spelling};
+
+    ghost view = { spelling };
+
+    ghost invariant = { IsStored };
+
+    ghost inverse = { stored };
+
+    ghost inverse_ok = { stored-spelling };
+}
+
+impl Title {
+    /// The title that is spelled so, where there is one.
+    pub fn new(spelling: &[u8]) -> Option<Title>
+        ensures some { IfSome result (λ title. (title ≡ spelling.now) × (is_title spelling.now ≡ true)) }
+        ensures none { IfNone result (is_title spelling.now ≡ false) }
+    {
+        if !spelling.is_empty() && spelling.len() <= LONGEST_ALIAS && are_title_bytes(spelling) {
+            let mut bytes = [0; LONGEST_ALIAS];
+            bytes[..spelling.len()].copy_from_slice(spelling);
+            Some(Title {
+                bytes,
+                len: spelling.len(),
+            })
+        } else {
+            None
+        }
+    }
+
+    /// The title that is the name.
+    pub fn of(name: &Name) -> Title
+        ensures { result ≡ name.now }
+    {
+        let spelling = name.bytes();
+        let mut bytes = [0; LONGEST_ALIAS];
+        bytes[..spelling.len()].copy_from_slice(spelling);
+        Title {
+            bytes,
+            len: spelling.len(),
+        }
+    }
+
+    /// How the title is spelled.
+    pub fn bytes(&self) -> &[u8]
+        ensures spelling { result.now ≡ self.now }
+        ensures formed { is_title self.now ≡ true }
+    {
+        &self.bytes[..self.len]
+    }
+}
+
+fn is_space(b: u8) -> bool
+    ensures { result ≡ is_space b }
+{
+    b == b' ' || b == b'\t'
+}
+
+fn space_len(text: &[u8]) -> usize
+    ensures value { result ≡ prefix_len is_space text.now }
+    ensures within { result ≤ length text.now }
+{
+    text.iter().take_while(|b| is_space(**b)).count()
+}
+
+fn title_len(text: &[u8]) -> usize
+    ensures value { result ≡ prefix_len is_title_byte text.now }
+    ensures within { result ≤ length text.now }
+{
+    text.iter().take_while(|b| is_title_byte(**b)).count()
+}
+
+fn front(text: &[u8], len: usize) -> &[u8]
+    requires { len ≤ length text.now }
+    ensures { result.now ≡ take len text.now }
+{
+    &text[..len]
+}
+
+fn behind(text: &[u8], len: usize) -> &[u8]
+    requires { len ≤ length text.now }
+    ensures { result.now ≡ drop len text.now }
+{
+    &text[len..]
+}
+
+/// The text behind the spaces and tabs at its start.
+fn after_spaces(text: &[u8]) -> &[u8]
+    ensures { result.now ≡ after_spaces text.now }
+{
+    behind(text, space_len(text))
+}
+
+/// What follows `(*` at the start of a text; nothing where no comment begins there.
+fn inside_comment(text: &[u8]) -> &[u8]
+    ensures { result.now ≡ inside_comment text.now }
+{
+    match text {
+        [b'(', b'*', rest @ ..] => rest,
+        _ => &[],
+    }
+}
+
+fn is_closing(text: &[u8]) -> bool
+    ensures { result ≡ is_closing text.now }
+{
+    matches!(text, [b'*', b')', ..])
+}
+
+/// The title at the start of a text, where the comment ends behind it.
+fn title_inside(text: &[u8]) -> Option<Title>
+    ensures { result ≡ title_inside text.now }
+{
+    let len = title_len(text);
+    if is_closing(after_spaces(behind(text, len))) {
+        Title::new(front(text, len))
+    } else {
+        None
+    }
+}
+
+/// The alias that the text behind a name begins with, in a comment that holds nothing else.
+fn alias_behind(text: &[u8]) -> Option<Title>
+    ensures { result ≡ alias_behind text.now }
+{
+    title_inside(after_spaces(inside_comment(after_spaces(text))))
+}
+
+/// The alias of a name, in the text behind it: another word than the name.
+pub(crate) fn alias_of(name: &[u8], text: &[u8]) -> Option<Title>
+    ensures { result ≡ alias_of name.now text.now }
+{
+    match alias_behind(text) {
+        Some(alias) if !same_letters(name, alias.bytes()) => Some(alias),
+        _ => None,
+    }
+}
