@@ -5,7 +5,7 @@ use Rattle.std.proofs.lemmas.Bool.{leb-true, le-leb}
 use Rattle.std.specs.Char.{is_ascii_alphabetic, is_ascii_alphanumeric}
 use Rattle.std.specs.Int.{is_in_range}
 use Rattle.ladder_vars.specs.Name.{is_name_byte, has_name_form, is_name}
-use Rattle.ladder_vars.specs.Title.{is_title_byte, is_title}
+use Rattle.ladder_titles.specs.Title.{is_title_byte, is_title}
 
 and_parts : (a b : Bool) → (a && b) ≡ true → (a ≡ true) × (b ≡ true)
 and_parts true b h = (refl, h)

@@ -16,7 +16,7 @@ use Rattle.ladder_vars.specs.declared.decls.Body.{Body}
 use Rattle.ladder_vars.specs.declared.decls.Body.TheVariants as body
 use Rattle.ladder_vars.specs.declared.titles.Passed.{Passed}
 use Rattle.ladder_vars.specs.Name.{same_letters}
-use Rattle.ladder_vars.specs.Title.{alias_of}
+use Rattle.ladder_titles.specs.Title.{alias_of}
 use Rattle.ladder_vars.specs.Decls.{Declared, AreKept, names_of}
 use Rattle.ladder_vars.specs.Text.{AreTokens}
 use Rattle.ladder_vars.specs.Grammar.{Decl, declared_by, HasDecls}

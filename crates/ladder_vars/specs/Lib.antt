@@ -1,7 +1,5 @@
 pub mod Name
 pub mod NameView
-pub mod Title
-pub mod TitleView
 pub mod Kind
 pub mod Decls
 pub mod Text

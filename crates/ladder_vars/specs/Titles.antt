@@ -5,7 +5,7 @@ use Rattle.ladder_vars.specs.declared.decls.Var.{Var}
 use Rattle.ladder_vars.specs.declared.decls.Instance.{Instance}
 use Rattle.ladder_vars.specs.declared.decls.Body.{Body}
 use Rattle.ladder_vars.specs.Name.{same_letters}
-use Rattle.ladder_vars.specs.Title.{alias_of}
+use Rattle.ladder_titles.specs.Title.{alias_of}
 use Rattle.ladder_vars.specs.Decls.{Declared, names_of}
 use Rattle.ladder_vars.specs.Grammar.{Decl, HasDecls}
 use Rattle.ladder_vars.specs.Rules.{DeclDue, line_of}

@@ -11,8 +11,8 @@ use crate::fault::{Fault, ReadFault, VarRule};
 use crate::kind::BlockKind;
 use crate::limits::{MOST_INSTANCES, MOST_VARS};
 use crate::name::Name;
-use crate::title::Title;
 use ladder_times::same_letters;
+use ladder_titles::Title;
 use std::alloc::{AllocError, Global};
 use std::marker::Model;
 
@@ -166,6 +166,14 @@ fn is_used(vars: &[Var], address: Address) -> bool
     vars.iter().any(|v| is_there(v.address, address))
 }
 
+/// The title that is the name.
+#[tactic(auto, using(crate::proofs::TitleLaws::name_is_title))]
+fn title_of(name: &Name) -> Title
+    ensures { result ≡ name.now }
+{
+    Title::spelled(name.bytes())
+}
+
 fn is_either(word: &[u8], name: &Name, title: &Title) -> bool
     ensures { result ≡ (same_letters word.now name.now || same_letters word.now title.now) }
 {
@@ -271,14 +279,14 @@ impl Decls {
                 initial,
             } => self.push_var(Var {
                 name,
-                title: Title::of(&name),
+                title: title_of(&name),
                 kind,
                 address,
                 initial,
             }),
             Body::Instance { kind, preset } => self.push_instance(Instance {
                 name,
-                title: Title::of(&name),
+                title: title_of(&name),
                 kind,
                 preset,
             }),

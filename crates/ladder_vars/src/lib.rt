@@ -12,7 +12,6 @@ pub mod limits;
 mod name;
 mod read;
 mod text;
-mod title;
 mod titles;
 mod words;
 
@@ -20,7 +19,7 @@ pub use decls::{Address, Decls, Instance, Symbol, Var, VarKind};
 pub use fault::{VarFault, VarRule};
 pub use kind::{BlockKind, BlockTraits, Output, Parameter, Pin};
 pub use ladder_times::read_time;
+pub use ladder_titles::Title;
 pub use name::Name;
 pub use read::read_decls;
-pub use title::Title;
 pub use titles::{TitleFault, take_aliases};

@@ -9,9 +9,6 @@ pub const MOST_INSTANCES: usize = 64;
 /// The characters of the longest name.
 pub const LONGEST_NAME: usize = 11;
 
-/// The characters of the longest alias, by which lists and traces can call a variable.
-pub const LONGEST_ALIAS: usize = 32;
-
 /// The characters of the longest name of a timer or a counter: with `.Q` after it, it is as long as the longest name.
 pub const LONGEST_INSTANCE: usize = LONGEST_NAME - 2;
 

@@ -8,8 +8,8 @@ use crate::declaration::{body_at, expect};
 use crate::decls::{Body, Decls};
 use crate::read::line_of;
 use crate::text::token;
-use crate::title::{Title, alias_of};
 use ladder_times::same_letters;
+use ladder_titles::{Title, alias_of};
 use thiserror::Error;
 
 /// A1: on the line, counted from 1, a name has an alias that is the name or the alias of another declaration.

@@ -1,5 +1,5 @@
 use Rattle.std.proofs.Common.{◌≡◌, true, false, Some, None, sym, ap, ◌∙◌, arith}
-use Rattle.ladder_vars.specs.Title.{alias_of}
+use Rattle.ladder_titles.specs.Title.{alias_of}
 use Rattle.ladder_vars.specs.TakeTitles.{is_called}
 use Rattle.ladder_vars.proofs.Titling.{starts, ends, few, taken, within, with_alias, without_alias}
 use Rattle.ladder_vars.proofs.titles.take_aliases.Goals as goal

@@ -3,16 +3,16 @@
 use Rattle.std.specs.Prelude.{ℕ, Bool, false, ◌&&◌, ◌||◌, ◌==◌, nat_le, List, [], ◌∷◌, length, take, drop, Option, Some, None, if◌then◌else◌}
 use Rattle.std.specs.List.{prefix_len, list_all}
 use Rattle.std.specs.Char.{is_ascii_alphanumeric}
-use Rattle.ladder_vars.specs.declared.limits.TheConstants.{LONGEST_ALIAS}
-use Rattle.ladder_vars.specs.Name.{same_letters}
+use Rattle.std.specs.Str.{str_eq_ignore_ascii_case}
+use Rattle.ladder_titles.specs.declared.title.TheConstants.{LONGEST_TITLE}
 
 -- A letter, a digit, or one of `_` (95), `-` (45), `.` (46) and `/` (47).
 abbrev pub is_title_byte : ℕ → Bool
 is_title_byte b = is_ascii_alphanumeric b || (b == 95 || (b == 45 || (b == 46 || b == 47)))
 
--- what is at least a character long and at most as long as the longest alias
+-- one to 32 of them
 abbrev pub is_title : List ℕ → Bool
-is_title word = nat_le 1 (length word) && (nat_le (length word) LONGEST_ALIAS && list_all is_title_byte word)
+is_title word = nat_le 1 (length word) && (nat_le (length word) LONGEST_TITLE && list_all is_title_byte word)
 
 -- a space or a tab
 abbrev pub is_space : ℕ → Bool
@@ -41,6 +41,6 @@ title_inside text =
 abbrev pub alias_behind : List ℕ → Option (List ℕ)
 alias_behind text = title_inside (after_spaces (inside_comment (after_spaces text)))
 
--- The alias of a name, in the text behind it: another word than the name.
+-- The alias of a name, in the text behind it: another word than the name, whatever the case of its letters.
 abbrev pub alias_of : List ℕ → List ℕ → Option (List ℕ)
-alias_of name behind = elim (alias_behind behind) [ Some alias ↦ if same_letters name alias then None else Some alias | None ↦ None ]
+alias_of name behind = elim (alias_behind behind) [ Some alias ↦ if str_eq_ignore_ascii_case name alias then None else Some alias | None ↦ None ]

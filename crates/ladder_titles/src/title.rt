@@ -2,12 +2,12 @@
 
 ghost use Rattle.std.specs.Prelude.{◌≡◌, ◌≤◌, length, take, drop, true, false, IfSome, IfNone};
 ghost use Rattle.std.specs.List.{list_all, prefix_len};
-ghost use Rattle.ladder_vars.specs.Title.{is_title_byte, is_title, is_space, after_spaces, inside_comment, is_closing, title_inside, alias_behind, alias_of};
+ghost use Rattle.ladder_titles.specs.Title.{is_title_byte, is_title, is_space, after_spaces, inside_comment, is_closing, title_inside, alias_behind, alias_of};
 
-use crate::limits::LONGEST_ALIAS;
-use crate::name::Name;
-use ladder_times::same_letters;
 use std::marker::Model;
+
+/// The characters of the longest title.
+pub const LONGEST_TITLE: usize = 32;
 
 fn is_title_byte(b: u8) -> bool
     ensures { result ≡ is_title_byte b }
@@ -23,10 +23,10 @@ fn are_title_bytes(bytes: &[u8]) -> bool
 
 /// What lists and traces call a variable or an instance: its name, or its alias.
 ///
-/// It has 1 to 32 characters: letters, digits, `_`, `-`, `.` and `/`.
+/// A title has 1 to 32 characters: letters, digits, `_`, `-`, `.` and `/`.
 #[derive(Clone, Copy)]
 pub struct Title {
-    bytes: [u8; LONGEST_ALIAS],
+    bytes: [u8; LONGEST_TITLE],
     len: usize,
 }
 
@@ -35,7 +35,7 @@ impl Model for Title {
 
     ghost Value = { List ℕ };
 
-    ghost use Rattle.ladder_vars.specs.TitleView.{spelling, stored, IsStored, stored-spelling};
+    ghost use Rattle.ladder_titles.specs.TitleView.{spelling, stored, IsStored, stored-spelling};
 
     ghost view = { spelling };
 
@@ -52,24 +52,19 @@ impl Title {
         ensures some { IfSome result (λ title. (title ≡ spelling.now) × (is_title spelling.now ≡ true)) }
         ensures none { IfNone result (is_title spelling.now ≡ false) }
     {
-        if !spelling.is_empty() && spelling.len() <= LONGEST_ALIAS && are_title_bytes(spelling) {
-            let mut bytes = [0; LONGEST_ALIAS];
-            bytes[..spelling.len()].copy_from_slice(spelling);
-            Some(Title {
-                bytes,
-                len: spelling.len(),
-            })
+        if !spelling.is_empty() && spelling.len() <= LONGEST_TITLE && are_title_bytes(spelling) {
+            Some(Title::spelled(spelling))
         } else {
             None
         }
     }
 
-    /// The title that is the name.
-    pub fn of(name: &Name) -> Title
-        ensures { result ≡ name.now }
+    /// The title that is spelled so.
+    pub fn spelled(spelling: &[u8]) -> Title
+        requires { is_title spelling.now ≡ true }
+        ensures { result ≡ spelling.now }
     {
-        let spelling = name.bytes();
-        let mut bytes = [0; LONGEST_ALIAS];
+        let mut bytes = [0; LONGEST_TITLE];
         bytes[..spelling.len()].copy_from_slice(spelling);
         Title {
             bytes,
@@ -163,11 +158,11 @@ fn alias_behind(text: &[u8]) -> Option<Title>
 }
 
 /// The alias of a name, in the text behind it: another word than the name.
-pub(crate) fn alias_of(name: &[u8], text: &[u8]) -> Option<Title>
+pub fn alias_of(name: &[u8], text: &[u8]) -> Option<Title>
     ensures { result ≡ alias_of name.now text.now }
 {
     match alias_behind(text) {
-        Some(alias) if !same_letters(name, alias.bytes()) => Some(alias),
+        Some(alias) if !name.eq_ignore_ascii_case(alias.bytes()) => Some(alias),
         _ => None,
     }
 }

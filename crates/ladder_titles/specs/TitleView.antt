@@ -3,8 +3,8 @@ use Rattle.std.specs.Prelude.{◌≡◌, ℕ, ◌-◌, ◌≤◌, List, ◌++◌
 use Rattle.std.proofs.Common.{sym, ap}
 use Rattle.std.proofs.Math.Seq.{take-append_seam}
 use Rattle.std.proofs.lemmas.List.{drop-replicate}
-use Rattle.ladder_vars.specs.declared.title.Title.TheInside.{Inside}
-use Rattle.ladder_vars.specs.Title.{is_title}
+use Rattle.ladder_titles.specs.declared.title.Title.TheInside.{Inside}
+use Rattle.ladder_titles.specs.Title.{is_title}
 
 abbrev pub spelling : Inside → List ℕ
 spelling n = take n.len n.bytes
