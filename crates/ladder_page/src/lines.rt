@@ -169,7 +169,9 @@ fn run_len(inside: Inside, text: &[u8]) -> usize
 fn show_run(seen: &mut Vec<u8>, inside: Inside, run: &[u8]) -> Result<(), AllocError>
     ensures { OnOk result (seen.new.items ≡ seen.old.items ++ shown_run inside run.now) }
 {
-    if is_shown(inside) {
+    if run.is_empty() {
+        Ok(())
+    } else if is_shown(inside) {
         seen.extend_from_slice(run)
     } else {
         seen.resize(seen.len() + run.len(), b' ')
