@@ -68,7 +68,7 @@ fn label_on(
     ensures broken { IfErr result (λ r. GapBreaks r (map (λ l. l.now) lines.now) from unclosed labels.now n) }
 {
     let text = line_at(lines, from + n);
-    // Most lines are blank: there nothing else is to be looked at.
+    // A blank line, as most are, has no odd byte and is no label.
     let blank = is_blank_line(text);
     if !blank && has_odd_byte(text) {
         return Err(Rule::BadByte);
