@@ -4,6 +4,7 @@ pub mod ReadingOrder
 pub mod CutLaws
 pub mod UnclosedLaws
 pub mod CutText
+pub mod RunLaws
 pub mod PartLaws
 pub mod OverLaws
 pub mod PageLaws

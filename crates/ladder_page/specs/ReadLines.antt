@@ -1,5 +1,5 @@
 -- Private: how the reader goes through the lines, byte by byte and line by line.
-use Rattle.std.specs.Prelude.{ℕ, ◌+◌, Bool, true, false, ◌&&◌, ◌==◌, List, [], ◌∷◌, length, min, Option, Some, None, if◌then◌else◌, ◌<◌, ◌≤◌}
+use Rattle.std.specs.Prelude.{ℕ, ◌+◌, Bool, true, false, not, ◌&&◌, ◌||◌, ◌==◌, List, [], ◌∷◌, length, replicate, min, Option, Some, None, if◌then◌else◌, ◌<◌, ◌≤◌}
 use Rattle.std.specs.List.{slice_split}
 use Rattle.ladder_vars.specs.Text.{begins, begins_with}
 use Rattle.ladder_vars.specs.Decls.{Declared}
@@ -52,6 +52,20 @@ shown_byte i b bs =
 abbrev pub blanked_from : Inside → List ℕ → List ℕ
 blanked_from i [] = []
 blanked_from i (b ∷ bs) = shown_byte i b bs ∷ blanked_from (next_inside i b bs) bs
+
+-- The byte stands in the same as the next one, and is shown as it is or as a space, whatever follows it. A CR (13) may end a line.
+abbrev pub is_settled : Inside → ℕ → Bool
+is_settled inside.LineStart b = false
+is_settled inside.Plain b = not (b == line_feed || (b == 13 || (b == 40 || b == 47)))
+is_settled inside.RungLine b = not (b == line_feed || b == 13)
+is_settled inside.Opening b = false
+is_settled inside.Block b = not (b == line_feed || b == 42)
+is_settled inside.Closing b = false
+is_settled inside.LineComment b = not (b == line_feed)
+
+-- what is shown of such bytes
+abbrev pub shown_run : Inside → List ℕ → List ℕ
+shown_run i run = if is_shown i then run else replicate (length run) space
 
 abbrev pub is_opening : Inside → Bool
 is_opening inside.LineStart = false

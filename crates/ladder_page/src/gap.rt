@@ -30,7 +30,12 @@ fn after_blanks(mut text: &[u8]) -> &[u8]
 pub fn is_blank_line(text: &[u8]) -> bool
     ensures { result ≡ is_blank_line text.now }
 {
-    text.iter().all(|b| is_gap_blank(*b))
+    // Each byte is looked at, wherever the first other one is, so that many are tested at once.
+    let mut blank = true;
+    for b in text {
+        blank &= is_gap_blank(*b);
+    }
+    blank
 }
 
 /// How long the word at the start is.

@@ -1,12 +1,12 @@
 //! The lines of a drawing, and which of them are rungs.
 
-ghost use Rattle.std.specs.Prelude.{◌≡◌, ◌≤◌, ◌+◌, ◌-◌, ◌==◌, length, map, take, drop, IfOk, All, None};
-ghost use Rattle.std.specs.List.{slice_split};
+ghost use Rattle.std.specs.Prelude.{◌≡◌, ◌≤◌, ◌+◌, ◌-◌, ◌++◌, ◌==◌, length, map, take, drop, IfOk, OnOk, All, None};
+ghost use Rattle.std.specs.List.{slice_split, prefix_len};
 ghost use Rattle.ladder_page.specs.Bytes.{line_feed};
 ghost use Rattle.ladder_vars.specs.Text.{begins_with};
 ghost use Rattle.ladder_page.specs.Lines.{last_gap};
 ghost use Rattle.ladder_page.specs.Bytes.{is_upright};
-ghost use Rattle.ladder_page.specs.ReadLines.{after_plain, next_inside, is_shown, shown_byte, blanked_from, is_opening, is_closing, unclosed_line, begins_rung, parts_from, parts_of, IsWithin};
+ghost use Rattle.ladder_page.specs.ReadLines.{after_plain, next_inside, is_shown, shown_byte, blanked_from, is_opening, is_closing, unclosed_line, is_settled, shown_run, begins_rung, parts_from, parts_of, IsWithin};
 ghost use Rattle.ladder_page.specs.declared.lines.Inside.TheVariants as inside;
 
 use std::alloc::{AllocError, Global};
@@ -142,6 +142,42 @@ fn shown_byte(inside: Inside, next: Inside, b: u8, after: &[u8]) -> u8
     }
 }
 
+/// How many bytes at the start stand in the same and are shown in one way, whatever follows them.
+fn run_len(inside: Inside, text: &[u8]) -> usize
+    ensures value { result ≡ prefix_len (is_settled inside) text.now }
+    ensures within { result ≤ length text.now }
+{
+    match inside {
+        Inside::LineStart | Inside::Opening | Inside::Closing => 0,
+        Inside::Plain => text
+            .iter()
+            .take_while(|b| !(**b == b'\n' || **b == b'\r' || **b == b'(' || **b == b'/'))
+            .count(),
+        Inside::RungLine => text
+            .iter()
+            .take_while(|b| !(**b == b'\n' || **b == b'\r'))
+            .count(),
+        Inside::Block => text
+            .iter()
+            .take_while(|b| !(**b == b'\n' || **b == b'*'))
+            .count(),
+        Inside::LineComment => text.iter().take_while(|b| **b != b'\n').count(),
+    }
+}
+
+/// Adds what the lines show of a run.
+fn show_run(seen: &mut Vec<u8>, inside: Inside, run: &[u8]) -> Result<(), AllocError>
+    ensures { OnOk result (seen.new.items ≡ seen.old.items ++ shown_run inside run.now) }
+{
+    if run.is_empty() {
+        Ok(())
+    } else if is_shown(inside) {
+        seen.extend_from_slice(run)
+    } else {
+        seen.resize(seen.len() + run.len(), b' ')
+    }
+}
+
 /// A text as its lines show it.
 #[derive(Drop)]
 pub struct Shown {
@@ -175,8 +211,10 @@ pub fn shown_text(alloc: Global, mut text: &[u8]) -> Result<Shown, AllocError>
         if *b == b'\n' {
             line += 1;
         }
+        let (run, behind) = rest.split_at(run_len(next, rest));
+        show_run(&mut seen, next, run)?;
         inside = next;
-        text = rest;
+        text = behind;
     }
     Ok(Shown {
         text: seen,

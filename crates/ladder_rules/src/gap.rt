@@ -68,11 +68,16 @@ fn label_on(
     ensures broken { IfErr result (λ r. GapBreaks r (map (λ l. l.now) lines.now) from unclosed labels.now n) }
 {
     let text = line_at(lines, from + n);
-    if has_odd_byte(text) {
+    // A blank line, as most are, has no odd byte and is no label.
+    let blank = is_blank_line(text);
+    if !blank && has_odd_byte(text) {
         return Err(Rule::BadByte);
     }
     if unclosed == Some(from + n) {
         return Err(Rule::Unfinished);
+    }
+    if blank {
+        return Ok(None);
     }
     let label = label_in(text);
     if bad_label(before, labels, &label, text) {

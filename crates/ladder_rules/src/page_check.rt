@@ -87,12 +87,13 @@ fn broken_end(page: PageView<'_, '_>, labels: &[Option<Name>]) -> Option<(Rule, 
 {
     let from = last_gap(page.parts);
     let count = page.lines.len() - from;
-    if let Err((rule, n)) = read_gap(page.lines, from, page.unclosed, labels, count) {
-        return Some((rule, from + n));
-    }
-    match label_line(page.lines, from, count) {
-        Some(n) => Some((Rule::Grid(GridRule::LabelFault), from + n)),
-        None => None,
+    match read_gap(page.lines, from, page.unclosed, labels, count) {
+        Err((rule, n)) => Some((rule, from + n)),
+        Ok(None) => None,
+        Ok(Some(_)) => match label_line(page.lines, from, count) {
+            Some(n) => Some((Rule::Grid(GridRule::LabelFault), from + n)),
+            None => None,
+        },
     }
 }
 
