@@ -177,7 +177,7 @@ def operand(chance, opened):
 def place_block(chance, grid, busy, left, row, column):
     """Draws a block whose element is at the place, where there is room."""
     room = {(q, c) for q in (row, row + 1) for c in (column - 1, column)}
-    kinds = [kind for kind in left if left[kind]]
+    kinds = [kind for kind in (TIMER, TIMER, MONOSTABLE, IEC_TIMER) if left[kind]]
     if row + 1 >= ROWS or column < 1 or room & busy or not kinds:
         return False
     busy |= room
@@ -186,10 +186,10 @@ def place_block(chance, grid, busy, left, row, column):
     kind = chance.choice(kinds)
     grid[row][column] = element(kind, 0, 0, left[kind].pop())
     grid[row][column - 1] = element(PART, int(row > 0 and chance.random() < 0.2))
-    tied = kind == TIMER and chance.random() < 0.7
+    tied = kind == TIMER and chance.random() < 0.5
     grid[row + 1][column - 1] = element(PART, int(tied))
     if kind == TIMER and not tied and chance.random() < 0.8:
-        busy.add((row + 1, column - 2))
+        busy |= {(row + 1, column - 2), (row + 2, column - 1)}
     grid[row + 1][column] = element(PART)
     return True
 
@@ -226,7 +226,7 @@ def draw(chance, number, rungs, left, opened):
             if (row, column) in busy:
                 continue
             link, dice = int(row > 0 and chance.random() < 0.25), chance.random()
-            if dice < 0.04 and column + 2 < COLUMNS and place_block(chance, grid, busy, left, row, column + 1):
+            if dice < 0.05 and column + 2 < COLUMNS and place_block(chance, grid, busy, left, row, column + 1):
                 continue
             if opened and dice < 0.1 and place_compare(grid, busy, row, column, link):
                 continue

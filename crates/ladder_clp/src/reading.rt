@@ -1,6 +1,6 @@
 //! How a project is read.
 
-/// What is done with what a program can't have, or the engine never does. With neither, a program is what the engine runs.
+/// How a project is read. Where both are false, a program has what the engine runs.
 #[derive(Clone, Copy, Debug, PartialEq, Eq)]
 pub struct Reading {
     /// Whether numbers and sequential charts, which a program can't have, are opened: what they give may be any value, and what they

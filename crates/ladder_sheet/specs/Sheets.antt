@@ -60,11 +60,11 @@ abbrev pub is_uncontrolled : Reading → List Element → ℕ → ℕ → Bool
 is_uncontrolled reading es r c =
     nat_le 2 c && (nat_lt (r + 1) ROWS && (not (is_linked es (r + 1) (c - 1)) && (not (is_linked es (r + 2) (c - 1)) && is_bare reading es (r + 1) (c - 2))))
 
--- The time of such a timer never passes in the engine,
+-- The engine takes the control of such a timer as OFF: its time never passes.
 abbrev pub is_stopped : Reading → List Element → ℕ → ℕ → Bool
 is_stopped reading es r c = not reading.control_on && is_uncontrolled reading es r c
 
--- or its control is taken as ON.
+-- It may be taken as ON.
 abbrev pub is_taken_on : Reading → List Element → ℕ → ℕ → Bool
 is_taken_on reading es r c = reading.control_on && is_uncontrolled reading es r c
 
