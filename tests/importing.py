@@ -5,7 +5,8 @@ Each project is made at random, as the editor of ClassicLadder allows one: outpu
 It is refused by lines that name an element each, or it is written; then the text must be a program (`ladder check`), and each scan
 of a random stimulus must give the outputs that the elements give here, read straight from the project: column by column, and in a
 column from above. Each second project has compares, contacts on steps and operates too, and is imported with `--open`: then the inputs
-that stand for these have random values here and there. A few projects are made by hand first, one for each thing that is refused.
+that stand for these have random values here and there. Two of four are imported with `--control on`: then the engine takes the control
+of a timer as ON where nothing is drawn to it. A few projects are made by hand first, one for each thing that is refused.
 """
 import os
 import pathlib
@@ -60,10 +61,11 @@ class Project:
 
 
 class Engine:
-    """What calc.c does with the elements that are carried over, scan by scan."""
+    """What calc.c does with the elements that are carried over, scan by scan; with `control_on` as if the control of each timer to which
+    nothing is drawn were ON."""
 
-    def __init__(self, project):
-        self.project = project
+    def __init__(self, project, control_on):
+        self.project, self.control_on = project, control_on
         self.values = Counter()
         self.edges, self.blocks, self.opened = {}, {}, {}
         self.now = 0
@@ -137,7 +139,8 @@ class Engine:
         sort = {TIMER: 0, MONOSTABLE: 2, IEC_TIMER: mode}[kind]
         last, start, done = self.blocks.get((kind, index), (False, None, False))
         preset = BASES[base] * count
-        if kind == TIMER and not self.left(grid, power, row + 1, column - 1):
+        runs = self.left(grid, power, row + 1, column - 1) or self.control_on and is_uncontrolled(grid, row, column)
+        if kind == TIMER and not runs:
             done = False
             start = None
         elif sort == 0:
@@ -154,6 +157,13 @@ class Engine:
         return {(row, column): done, (row + 1, column): kind == TIMER and on and not done}
 
 
+def is_uncontrolled(grid, row, column):
+    """Whether nothing is drawn to the control of the timer at the place: no link, no element, and no second output of another timer."""
+    if column == 1 or grid[row + 1][column - 1][1] or row + 2 < ROWS and grid[row + 2][column - 1][1]:
+        return False
+    return grid[row + 1][column - 2][0] in (NOTHING, PART) and grid[row][column - 2][0] != TIMER
+
+
 # ---- projects
 
 
@@ -167,7 +177,7 @@ def operand(chance, opened):
 def place_block(chance, grid, busy, left, row, column):
     """Draws a block whose element is at the place, where there is room."""
     room = {(q, c) for q in (row, row + 1) for c in (column - 1, column)}
-    kinds = [kind for kind in left if left[kind]]
+    kinds = [kind for kind in (TIMER, TIMER, MONOSTABLE, IEC_TIMER) if left[kind]]
     if row + 1 >= ROWS or column < 1 or room & busy or not kinds:
         return False
     busy |= room
@@ -176,7 +186,10 @@ def place_block(chance, grid, busy, left, row, column):
     kind = chance.choice(kinds)
     grid[row][column] = element(kind, 0, 0, left[kind].pop())
     grid[row][column - 1] = element(PART, int(row > 0 and chance.random() < 0.2))
-    grid[row + 1][column - 1] = element(PART, int(kind == TIMER and chance.random() < 0.8))
+    tied = kind == TIMER and chance.random() < 0.5
+    grid[row + 1][column - 1] = element(PART, int(tied))
+    if kind == TIMER and not tied and chance.random() < 0.8:
+        busy |= {(row + 1, column - 2), (row + 2, column - 1)}
     grid[row + 1][column] = element(PART)
     return True
 
@@ -213,7 +226,7 @@ def draw(chance, number, rungs, left, opened):
             if (row, column) in busy:
                 continue
             link, dice = int(row > 0 and chance.random() < 0.25), chance.random()
-            if dice < 0.04 and column + 2 < COLUMNS and place_block(chance, grid, busy, left, row, column + 1):
+            if dice < 0.05 and column + 2 < COLUMNS and place_block(chance, grid, busy, left, row, column + 1):
                 continue
             if opened and dice < 0.1 and place_compare(grid, busy, row, column, link):
                 continue
@@ -272,6 +285,12 @@ def one_row(*elements):
     return [row, *[[element(NOTHING)] * COLUMNS for _ in range(ROWS - 1)]]
 
 
+def with_control(grid, *elements):
+    """The rung with these in its second row, from the left on."""
+    grid[1][: len(elements)] = elements
+    return grid
+
+
 PRESETS = {TIMER: [(2, 5)], MONOSTABLE: [(2, 5)], IEC_TIMER: [(2, 5, 1)]}
 CLOSED, COIL = element(1, 0, INPUT, 0), element(50, 0, OUTPUT, 0)
 MADE = (
@@ -291,6 +310,7 @@ MADE = (
     (one_row(element(1, 0, INPUT, 100000), COIL), "large_number"),
     (one_row(CLOSED, element(PART), element(TIMER, 0, 0, 1), COIL), None),
     (one_row(CLOSED, element(PART), element(MONOSTABLE, 0, 0, 1), COIL), "no_preset"),
+    (with_control(one_row(CLOSED, element(PART), element(TIMER), COIL), CLOSED), "switched_control"),
 )
 
 # made by hand, and imported with `--open`
@@ -307,6 +327,16 @@ OPENED = (
     (one_row(CLOSED, element(50, 0, STEP, 0)), "other_coil"),
     (one_row(CLOSED, element(55)), "call"),
     (one_row(CLOSED, element(PART), element(12), COIL), "counter"),
+)
+
+
+# made by hand, and imported with `--control on`
+CONTROLLED = (
+    (one_row(CLOSED, element(PART), element(TIMER), COIL), None),
+    (one_row(CLOSED, element(PART), element(TIMER, 0, 0, 1), COIL), "no_preset"),
+    (with_control(one_row(CLOSED, element(PART), element(TIMER), COIL), CLOSED), "switched_control"),
+    (with_control(one_row(CLOSED, element(PART), element(TIMER), COIL), element(NOTHING), element(WIRE)), "broken_block"),
+    (one_row(element(1, 0, 11, 0), COIL), "running_contact"),
 )
 
 
@@ -338,7 +368,17 @@ class Freely(dict):
         return False
 
 
-def has_same_scans(program, folder, project, text, chance):
+def has_right_notes(project, text):
+    """Whether the timers whose control is taken as ON are told: each behind its declaration, and how many they are."""
+    timers = set(re.findall(r"^  T(\d+) : TON ", text, re.M))
+    places = ((grid, row, column) for grid in project.rungs.values() for row in range(ROWS - 1) for column in range(1, COLUMNS))
+    taken = {str(grid[row][column][3]) for grid, row, column in places if grid[row][column][0] == TIMER and is_uncontrolled(grid, row, column)}
+    noted = re.findall(r"^  T(\d+) : TON .*: nothing is drawn to its control, taken as ON \*\)$", text, re.M)
+    told = re.findall(r"^\(\* Control taken as ON where nothing is drawn to it; timers: (\d+)\.$", text, re.M)
+    return sorted(noted) == sorted(taken & timers) and told == [str(len(noted))] * bool(noted)
+
+
+def has_same_scans(program, folder, project, text, chance, control_on):
     """Whether each scan of a random stimulus gives the outputs that the elements give."""
     (folder / "program.ld").write_text(text)
     status, out, err = call(program, "check", str(folder / "program.ld"))
@@ -363,7 +403,7 @@ def has_same_scans(program, folder, project, text, chance):
     (folder / "stimulus.csv").write_text("\n".join([head, *lines, ""]))
     status, out, err = call(program, "sim", str(folder / "program.ld"), str(folder / "stimulus.csv"))
     assert status == 0, f"no trace: {err}\n{text}"
-    engine = Engine(project)
+    engine = Engine(project, control_on)
     rows = out.splitlines()
     names = rows[0].split(",")[1:]
     for (moment, row, freely), line in zip(records, rows[1:]):
@@ -381,7 +421,7 @@ def main():
     met = Counter()
     with tempfile.TemporaryDirectory() as name:
         folder = pathlib.Path(name)
-        made = [(grid, refusal, ()) for grid, refusal in MADE] + [(grid, refusal, ("--open",)) for grid, refusal in OPENED]
+        made = [(*one, options) for many, options in ((MADE, ()), (OPENED, ("--open",)), (CONTROLLED, ("--control", "on"))) for one in many]
         for grid, refusal, options in made:
             text, lines = imported(program, folder, Project({0: grid}, PRESETS), *options)
             if (text is None) != (refusal is not None) or refusal and not any(line.endswith(f" {refusal}") for line in lines):
@@ -390,17 +430,20 @@ def main():
             met["made by hand"] += 1
         for number in range(count):
             chance = random.Random(f"{seed} {number}")
-            opened = number % 2 == 1
+            opened, control_on = number % 2 == 1, number % 4 >= 2
             project = random_project(chance, opened)
-            text, lines = imported(program, folder, project, *["--open"] * opened)
+            text, lines = imported(program, folder, project, *["--open"] * opened, *["--control", "on"] * control_on)
             if text is None:
                 met["refused"] += 1
                 continue
-            if opened and not text.startswith("(*"):
+            if (opened or control_on) and not text.startswith("(*"):
                 strictly = imported(program, folder, project)[0] if len(project.sections) == 1 else None
-                assert strictly in (None, text), "another text with --open"
-            met["opened"] += text.startswith("(*")
-            difference = has_same_scans(program, folder, project, text, chance)
+                assert strictly in (None, text), "another text with --open or --control on"
+            if control_on:
+                assert has_right_notes(project, text), f"other timers are told:\n{project.text()}\n{text}"
+                met["control taken as ON"] += "(* Control" in text
+            met["opened"] += text.startswith("(* Opened")
+            difference = has_same_scans(program, folder, project, text, chance, control_on)
             if difference:
                 print(f"project {seed} {number}: {difference}\n{project.text()}\n{text}")
                 return 1

@@ -1,10 +1,11 @@
 #!/usr/bin/env python3
 """Imports the sample projects of LinuxCNC: samples.py PROGRAM [--write] [--kept=FOLDER].
 
-Each project of ClassicLadder in Debian's package linuxcnc-uspace, those with the same bytes once, is imported, alone and with each HAL
-file beside it that names ClassicLadder's pins. Of a program that is written it is asked what it has (`check`), where each variable is drawn
-(`uses`), and, without a HAL file, what a stimulus gives (`sim`), and for each coil the inputs that matter and their causes in groups. The status
-and the SHA-256 of each answer must be those of samples.digest; the projects have another licence, so that nothing of their text is kept here.
+Each project of ClassicLadder in Debian's package linuxcnc-uspace, those with the same bytes once, is imported, alone, with each HAL
+file beside it that names ClassicLadder's pins, and with `--control on`, of which the import alone is kept where it is the plain one. Of
+a program that is written it is asked what it has (`check`), where each variable is drawn (`uses`), and, without a HAL file, what a
+stimulus gives (`sim`), and for each coil the inputs that matter and their causes in groups. The status and the SHA-256 of each answer
+must be those of samples.digest; the projects have another licence, so that nothing of their text is kept here.
 --write writes the digests anew. FOLDER keeps the unpacked package, which is a temporary folder otherwise. Where the package can't be had,
 or in another version, this is passed over.
 """
@@ -21,6 +22,7 @@ import linuxcnc
 DIGEST = pathlib.Path(__file__).resolve().parent / "samples.digest"
 PINS = re.compile(rb"classicladder\.0\.(?:in|out)-\d")
 ADDRESS = re.compile(r"^  (\w+) AT (%\w+) ", re.M)
+CONTROL_ON = " --control on"
 SCANS = ("sim", "--every", "10", "--watch-all", "program.ld", "stimulus.csv")
 LISTS = ("causes", "--relevant", "--grouped", "--limit", "500", "--quiet", "--all-coils", "lists", "program.ld")
 
@@ -51,8 +53,8 @@ def digest(status, *parts):
 class Answers:
     """What is asked of one project in a folder of its own, and the digest of each answer by the question."""
 
-    def __init__(self, program, folder, project, hal):
-        self.program, self.folder, self.hal = program, pathlib.Path(folder), hal
+    def __init__(self, program, folder, project, hal, options):
+        self.program, self.folder, self.hal, self.options = program, pathlib.Path(folder), hal, options
         self.digests = {}
         (self.folder / "project.clp").write_bytes(project.read_bytes())
         if hal:
@@ -67,7 +69,7 @@ class Answers:
         return done
 
     def all(self):
-        done = self.answered("import", *(("--hal", "wiring.hal") if self.hal else ()), "project.clp")
+        done = self.answered("import", *self.options, "project.clp")
         if done.returncode == 0:
             (self.folder / "program.ld").write_bytes(done.stdout)
             self.answered("check", "program.ld")
@@ -90,15 +92,25 @@ class Answers:
             self.digests[f"causes {addresses[path.stem]}"] = digest(done.returncode, path.read_bytes(), done.stderr)
 
 
+def ways(project):
+    """How a project is imported: what is said of it, the HAL file and the options. The plain way is the first."""
+    yield "", None, ()
+    for hal in wirings(project):
+        yield f" --hal {hal.name}", hal, ("--hal", "wiring.hal")
+    yield CONTROL_ON, None, ("--control", "on")
+
+
 def answers(program, samples):
-    """The digest of each answer by project, HAL file and question."""
+    """The digest of each answer by project, way and question."""
     found = {}
     for project in distinct(samples):
-        for hal in (None, *wirings(project)):
+        name = project.relative_to(samples)
+        for way, hal, options in ways(project):
             with tempfile.TemporaryDirectory() as folder:
-                asked = Answers(program, folder, project, hal).all()
-            name = f"{project.relative_to(samples)}{f' --hal {hal.name}' if hal else ''}"
-            found.update({f"{name}: {question}": told for question, told in asked.items()})
+                asked = Answers(program, folder, project, hal, options).all()
+            if way == CONTROL_ON and asked["import"] == found[f"{name}: import"]:
+                asked = {"import": asked["import"]}
+            found.update({f"{name}{way}: {question}": told for question, told in asked.items()})
     return found
 
 

@@ -1,5 +1,4 @@
 pub mod Format
-pub mod Openness
 pub mod Order
 pub mod Project
 pub mod RungFault

@@ -4,7 +4,6 @@ use Rattle.ladder_clp.specs.declared.rung.Rung.{Rung}
 use Rattle.ladder_clp.specs.declared.order.Placed.{Placed}
 use Rattle.ladder_clp.specs.declared.table.Section.{Section}
 use Rattle.ladder_clp.specs.declared.reading.Reading.{Reading}
-use Rattle.ladder_clp.specs.Openness.{is_open}
 use Rattle.ladder_clp.specs.declared.fault.ClpFault.{ClpFault}
 use Rattle.ladder_clp.specs.declared.fault.ClpFault.TheVariants.{Memory, NotLadder, BrokenWay}
 
@@ -30,7 +29,7 @@ behind_rungs front (Err fault) = Err fault
 
 -- A sequential chart writes numbers and its own steps alone. Where these are opened it is left out.
 abbrev pub is_left_out : Reading → Section → Bool
-is_left_out reading s = is_open reading && s.language == 1
+is_left_out reading s = reading.opened && s.language == 1
 
 -- A section that is called by its number isn't scanned by itself.
 abbrev pub with_section : Reading → List Rung → Section → Result (List Placed) ClpFault → Result (List Placed) ClpFault

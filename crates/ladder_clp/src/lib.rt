@@ -16,6 +16,6 @@ pub use fault::{ClpFault, Table};
 pub use number::number_in;
 pub use order::Placed;
 pub use project::{Project, read_project};
-pub use reading::{Reading, is_open};
+pub use reading::Reading;
 pub use rung::{ELEMENTS, Rung};
 pub use table::{Expression, Preset, Section, Symbol, writes_number};

@@ -4,7 +4,7 @@ ghost use Rattle.std.specs.Prelude.{◌≡◌, ◌==◌, ◌&&◌, IfErr, IfOk, 
 ghost use Rattle.ladder_clp.specs.Order.{arranged, arranged_so, is_left_out, IsOrderFault, way};
 
 use crate::fault::ClpFault;
-use crate::reading::{Reading, is_open};
+use crate::reading::Reading;
 use crate::rung::Rung;
 use crate::table::Section;
 use std::alloc::{AllocError, Global};
@@ -60,7 +60,7 @@ fn add_way<'a>(
 fn is_left_out(reading: Reading, section: Section) -> bool
     ensures { result ≡ is_left_out reading section }
 {
-    is_open(reading) && section.language == 1
+    reading.opened && section.language == 1
 }
 
 /// The rungs of all sections that are scanned, one section after the other.

@@ -1,23 +1,12 @@
 //! How a project is read.
 
-ghost use Rattle.std.specs.Prelude.{◌≡◌};
-ghost use Rattle.ladder_clp.specs.Openness.{is_open};
-
-/// How a project is read that has numbers or sequential charts, which a program can't have.
+/// How a project is read. Where both are false, a program has what the engine runs.
 #[derive(Clone, Copy, Debug, PartialEq, Eq)]
-pub enum Reading {
-    /// They are refused.
-    Strict,
-    /// What they give may be any value, and what they alone need is left out.
-    Open,
-}
-
-/// Whether numbers and charts are opened.
-pub fn is_open(reading: Reading) -> bool
-    ensures { result ≡ is_open reading }
-{
-    match reading {
-        Reading::Strict => false,
-        Reading::Open => true,
-    }
+pub struct Reading {
+    /// Whether numbers and sequential charts, which a program can't have, are opened: what they give may be any value, and what they
+    /// alone need is left out. They are refused otherwise.
+    pub opened: bool,
+    /// Whether the second input of an old timer, its control, is taken as ON where nothing is drawn to it. The engine takes it as OFF:
+    /// it never lets the time of such a timer pass.
+    pub control_on: bool,
 }

@@ -4,6 +4,7 @@ ghost use Rattle.std.specs.Prelude.{◌<◌};
 ghost use Rattle.ladder_page.specs.declared.geometry.TheConstants.{COLUMNS, ROWS};
 
 use crate::bytes::{add, add_line, add_number, add_remark, fill, trimmed};
+use crate::control::add_taken_on;
 use crate::drawn::Sheet;
 use crate::names::{Named, Opened, Used, letters, name_in, signal_of, symbol_of, used_at};
 use ladder_clp::{Expression, Placed, Project};
@@ -132,6 +133,9 @@ fn add_origin(
     }
     if let (Source::Done(_), false) = (named.used.source, named.is_block) {
         add(text, b": nothing writes it, always OFF")?;
+    }
+    if named.is_taken_on {
+        add(text, b": nothing is drawn to its control, taken as ON")?;
     }
     add(text, b" *)\n")
 }
@@ -430,6 +434,7 @@ pub(crate) fn drawing(
 ) -> Result<Vec<u8>, AllocError> {
     let mut text = Vec::new(alloc);
     add_head(&mut text, sheets, named)?;
+    add_taken_on(&mut text, named.iter().filter(|n| n.is_taken_on).count())?;
     add(&mut text, b"VAR\n")?;
     for other in named {
         add_declaration(alloc, &mut text, project, links, *other)?;

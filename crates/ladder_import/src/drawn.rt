@@ -5,7 +5,7 @@ ghost use Rattle.ladder_page.specs.declared.geometry.TheConstants.{COLUMNS, ROWS
 
 use ladder_clp::{Element, Project, Reading};
 use ladder_page::geometry::{COLUMNS, PLACES, ROWS};
-use ladder_sheet::{Meaning, is_linked, meaning_at, passes, power_of};
+use ladder_sheet::{BlockSort, Meaning, is_linked, is_taken_on, meaning_at, passes, power_of};
 use std::alloc::{AllocError, Global};
 
 /// The elements of a rung, and which of them are drawn: those that mean something, and that power can come to.
@@ -84,6 +84,15 @@ impl Sheet<'_> {
         requires { (row < ROWS) × (column < COLUMNS) }
     {
         column >= 1 && self.is_drawn(row, column - 1) && passes(self.meaning(row, column - 1))
+    }
+
+    /// Whether an old timer is drawn whose control is taken as ON.
+    pub(crate) fn is_taken_on(&self, row: usize, column: usize) -> bool
+        requires { (row < ROWS) × (column < COLUMNS) }
+    {
+        self.is_drawn(row, column)
+            && self.meaning(row, column) == Meaning::Block(BlockSort::Timer)
+            && is_taken_on(self.reading, self.elements, row, column)
     }
 
     fn is_used(&self, row: usize, column: usize) -> bool

@@ -6,6 +6,7 @@ ghost use Rattle.ladder_clp.specs.declared.reading.Reading.{Reading};
 ghost use Rattle.ladder_import.specs.Import.{HasText, IsFault};
 ghost use Rattle.ladder_import.specs.Refusals.{IsThere};
 
+use crate::control::taken_on;
 use crate::draw::drawing;
 use crate::drawn::sheets_of;
 use crate::names::{blocks_in, drawn_blocks, names_of, used_in};
@@ -101,7 +102,8 @@ fn drawn(
     if used.len().saturating_sub(blocks.len()) > MOST_VARS {
         return Err(ImportFault::TooManyVars);
     }
-    let named = names_of(alloc, project, links, &used, &blocks)?;
+    let timers = taken_on(alloc, &sheets)?;
+    let named = names_of(alloc, project, links, &used, &blocks, &timers)?;
     let text = drawing(alloc, project, links, &sheets, &named)?;
     checked(alloc, reading, project, &blocks, text)
 }

@@ -2,6 +2,7 @@
 #![tactic(auto)]
 
 mod bytes;
+mod control;
 mod draw;
 mod drawn;
 mod importing;

@@ -48,6 +48,8 @@ pub(crate) struct Named {
     pub(crate) name: Name,
     /// Whether it is a block that is drawn; another block is a variable that is always OFF.
     pub(crate) is_block: bool,
+    /// Whether it is an old timer whose control is taken as ON.
+    pub(crate) is_taken_on: bool,
 }
 
 /// What ClassicLadder writes before the number of the variable.
@@ -320,13 +322,19 @@ fn is_one_of(blocks: &[BlockRef], used: Used) -> bool {
     }
 }
 
-/// A name for each, where there is one.
+fn is_timer_among(timers: &[u32], used: Used) -> bool {
+    used.source == Source::Done(BlockSort::Timer)
+        && timers.iter().any(|number| *number == used.number)
+}
+
+/// A name for each, where there is one; `timers`: those whose control is taken as ON.
 pub(crate) fn names_of(
     alloc: Global,
     project: &Project<'_>,
     links: &[Link<'_>],
     used: &[Used],
     blocks: &[BlockRef],
+    timers: &[u32],
 ) -> Result<Vec<Named>, AllocError> {
     let mut named = Vec::new(alloc);
     for other in used {
@@ -336,6 +344,7 @@ pub(crate) fn names_of(
                 used: *other,
                 name,
                 is_block,
+                is_taken_on: is_timer_among(timers, *other),
             })?;
         }
     }

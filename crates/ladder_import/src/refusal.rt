@@ -7,7 +7,7 @@ ghost use Rattle.ladder_import.specs.Refusals.{IsThere, holds, is_coil, is_no_so
 
 use crate::drawn::sheets_of;
 use crate::names::drawn_blocks;
-use ladder_clp::{Element, Placed, Project, Reading, is_open, writes_number};
+use ladder_clp::{Element, Placed, Project, Reading, writes_number};
 use ladder_page::geometry::{COLUMNS, ROWS};
 use ladder_sheet::{
     BlockRef, BlockSort, Meaning, Power, Source, element_at, ends_rung, entry_of, has_places,
@@ -198,10 +198,10 @@ fn kind_reason(reading: Reading, project: &Project<'_>, element: Element) -> Opt
     let kind = element.kind;
     if kind == 12 {
         Some(Reason::Counter)
-    } else if kind == 20 && !is_open(reading) {
+    } else if kind == 20 && !reading.opened {
         Some(Reason::Compare)
     } else if kind == 60
-        && !(is_open(reading) && writes_number(&project.expressions, element.number))
+        && !(reading.opened && writes_number(&project.expressions, element.number))
     {
         Some(Reason::Operate)
     } else if kind == 55 {

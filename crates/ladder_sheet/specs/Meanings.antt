@@ -9,7 +9,6 @@ use Rattle.ladder_page.specs.declared.mode.CoilMode.TheVariants as coil
 use Rattle.ladder_clp.specs.declared.element.Element.{Element}
 use Rattle.ladder_clp.specs.declared.project.Project.{Project}
 use Rattle.ladder_clp.specs.declared.reading.Reading.{Reading}
-use Rattle.ladder_clp.specs.declared.reading.Reading.TheVariants as reading
 use Rattle.ladder_clp.specs.declared.table.Preset.{Preset}
 use Rattle.ladder_sheet.specs.declared.meaning.BlockSort.{BlockSort}
 use Rattle.ladder_sheet.specs.declared.meaning.BlockSort.TheVariants as sort
@@ -75,8 +74,7 @@ opened_as e =
     else (if e.class == 30 then step_as (meaning_of e.kind) else meaning_of e.kind))
 
 abbrev pub element_meaning : Reading → Element → Meaning
-element_meaning reading.Strict e = meaning_of e.kind
-element_meaning reading.Open e = opened_as e
+element_meaning reading e = if reading.opened then opened_as e else meaning_of e.kind
 
 -- ---- sorts of variables
 

@@ -5,7 +5,6 @@ use Rattle.ladder_page.specs.declared.geometry.TheConstants.{ROWS, COLUMNS}
 use Rattle.ladder_page.specs.declared.mode.CoilMode.TheVariants as coil
 use Rattle.ladder_clp.specs.declared.element.Element.{Element}
 use Rattle.ladder_clp.specs.declared.reading.Reading.{Reading}
-use Rattle.ladder_clp.specs.Openness.{is_open}
 use Rattle.ladder_sheet.specs.declared.meaning.BlockSort.{BlockSort}
 use Rattle.ladder_sheet.specs.declared.meaning.BlockSort.TheVariants as sort
 use Rattle.ladder_sheet.specs.declared.meaning.Meaning.{Meaning}
@@ -38,7 +37,7 @@ is_compare_at es r c = nat_lt c COLUMNS && is_compare_kind (element_at es r c).k
 
 -- A compare has three columns, and its element is in the last one.
 abbrev pub is_before_compare : Reading → List Element → ℕ → ℕ → Bool
-is_before_compare reading es r c = is_open reading && (is_compare_at es r (c + 1) || is_compare_at es r (c + 2))
+is_before_compare reading es r c = reading.opened && (is_compare_at es r (c + 1) || is_compare_at es r (c + 2))
 
 -- A block has two columns, and its element is in the right one.
 abbrev pub is_before_block : List Element → ℕ → ℕ → Bool
@@ -56,10 +55,18 @@ is_running es r c = nat_le 1 r && (element_at es (r - 1) c).kind == 10
 abbrev pub is_bare : Reading → List Element → ℕ → ℕ → Bool
 is_bare reading es r c = is_blank_at es r c && (not (is_left_half reading es r c) && not (is_running es r c))
 
--- Nothing is drawn to the second input of an old timer, so that its time never passes.
-abbrev pub is_stopped : Reading → List Element → ℕ → ℕ → Bool
-is_stopped reading es r c =
+-- Nothing is drawn to the second input of an old timer, its control.
+abbrev pub is_uncontrolled : Reading → List Element → ℕ → ℕ → Bool
+is_uncontrolled reading es r c =
     nat_le 2 c && (nat_lt (r + 1) ROWS && (not (is_linked es (r + 1) (c - 1)) && (not (is_linked es (r + 2) (c - 1)) && is_bare reading es (r + 1) (c - 2))))
+
+-- The engine takes the control of such a timer as OFF: its time never passes.
+abbrev pub is_stopped : Reading → List Element → ℕ → ℕ → Bool
+is_stopped reading es r c = not reading.control_on && is_uncontrolled reading es r c
+
+-- It may be taken as ON.
+abbrev pub is_taken_on : Reading → List Element → ℕ → ℕ → Bool
+is_taken_on reading es r c = reading.control_on && is_uncontrolled reading es r c
 
 -- what a block means: the output of an old timer that is stopped is always OFF
 abbrev pub stopped_as : Reading → List Element → ℕ → ℕ → Meaning → Meaning
@@ -116,10 +123,10 @@ is_effect_below reading es r c q = nat_lt r q && is_effect (meaning_at reading e
 abbrev pub ends_rung : Reading → List Element → ℕ → ℕ → Bool
 ends_rung reading es r c = not (some_below (is_effect_below reading es r c) ROWS)
 
--- The second input of an old timer, which stops its time, is joined with the first, or at the rail.
-abbrev pub is_tied : List Element → ℕ → ℕ → BlockSort → Bool
-is_tied es r c sort.Timer = c == 1 || is_linked es (r + 1) (c - 1)
-is_tied es r c s = true
+-- The control of an old timer, which stops its time, is joined with the first input, or at the rail, or taken as ON.
+abbrev pub is_tied : Reading → List Element → ℕ → ℕ → BlockSort → Bool
+is_tied reading es r c sort.Timer = c == 1 || (is_linked es (r + 1) (c - 1) || is_taken_on reading es r c)
+is_tied reading es r c s = true
 
 -- A block has its four places, which nothing else uses and no link joins with others.
 abbrev pub has_places : Reading → List Element → ℕ → ℕ → Bool
@@ -139,7 +146,7 @@ stands_as reading es r c (meaning.Opened n) = nat_lt (c + 1) COLUMNS && (not (is
 stands_as reading es r c (meaning.Coil n) = c + 1 == COLUMNS
 stands_as reading es r c meaning.Operate = c + 1 == COLUMNS
 stands_as reading es r c meaning.Jump = c + 1 == COLUMNS && ends_rung reading es r c
-stands_as reading es r c (meaning.Block s) = has_places reading es r c && is_tied es r c s
+stands_as reading es r c (meaning.Block s) = has_places reading es r c && is_tied reading es r c s
 stands_as reading es r c meaning.Off = has_places reading es r c && nat_lt (c + 1) COLUMNS
 stands_as reading es r c m = true
 

@@ -190,9 +190,10 @@ fn opened_as(element: Element) -> Meaning
 pub(crate) fn element_meaning(reading: Reading, element: Element) -> Meaning
     ensures { result ≡ element_meaning reading element }
 {
-    match reading {
-        Reading::Strict => meaning_of(element.kind),
-        Reading::Open => opened_as(element),
+    if reading.opened {
+        opened_as(element)
+    } else {
+        meaning_of(element.kind)
     }
 }
 

@@ -4,13 +4,13 @@ ghost use Rattle.std.specs.Prelude.{◌≡◌, ◌+◌, ◌-◌, ◌*◌, ◌<�
 ghost use Rattle.ladder_page.specs.declared.geometry.TheConstants.{COLUMNS, ROWS, PLACES};
 ghost use Rattle.ladder_sheet.specs.Meanings.{source_of};
 ghost use Rattle.ladder_sheet.specs.declared.meaning.BlockSort.{BlockSort};
-ghost use Rattle.ladder_sheet.specs.Sheets.{element_at, ends_rung, has_places, has_row, is_bare, is_before_block, is_before_compare, is_blank_at, is_block, is_compare_at, is_contact, is_effect, is_effect_below, is_idle, is_left_half, is_linked, is_read_by, is_running, is_tied, meaning_at, reads_late, reads_place, same_sort, some_below, source_is, stands, stands_as, is_stopped, stopped_as};
+ghost use Rattle.ladder_sheet.specs.Sheets.{element_at, ends_rung, has_places, has_row, is_bare, is_before_block, is_before_compare, is_blank_at, is_block, is_compare_at, is_contact, is_effect, is_effect_below, is_idle, is_left_half, is_linked, is_read_by, is_running, is_taken_on, is_tied, is_uncontrolled, meaning_at, reads_late, reads_place, same_sort, some_below, source_is, stands, stands_as, is_stopped, stopped_as};
 
 use crate::meaning::{
     BlockSort, Meaning, Source, element_meaning, is_blank_kind, is_compare_kind, meaning_of,
     source_of,
 };
-use ladder_clp::{Element, Reading, is_open};
+use ladder_clp::{Element, Reading};
 use ladder_page::CoilMode;
 use ladder_page::geometry::{COLUMNS, ROWS};
 
@@ -84,7 +84,7 @@ fn is_before_compare(reading: Reading, elements: &[Element], row: usize, column:
     requires { (row ≤ ROWS) × (column < COLUMNS) }
     ensures { result ≡ is_before_compare reading elements.now row column }
 {
-    is_open(reading)
+    reading.opened
         && (is_compare_at(elements, row, column + 1) || is_compare_at(elements, row, column + 2))
 }
 
@@ -122,15 +122,31 @@ fn is_bare(reading: Reading, elements: &[Element], row: usize, column: usize) ->
 }
 
 /// Whether nothing is drawn to the second input of an old timer.
-fn is_stopped(reading: Reading, elements: &[Element], row: usize, column: usize) -> bool
+fn is_uncontrolled(reading: Reading, elements: &[Element], row: usize, column: usize) -> bool
     requires { (row ≤ ROWS) × (column < COLUMNS) }
-    ensures { result ≡ is_stopped reading elements.now row column }
+    ensures { result ≡ is_uncontrolled reading elements.now row column }
 {
     column >= 2
         && row + 1 < ROWS
         && !is_linked(elements, row + 1, column - 1)
         && !is_linked(elements, row + 2, column - 1)
         && is_bare(reading, elements, row + 1, column - 2)
+}
+
+/// Whether the time of an old timer never passes.
+fn is_stopped(reading: Reading, elements: &[Element], row: usize, column: usize) -> bool
+    requires { (row ≤ ROWS) × (column < COLUMNS) }
+    ensures { result ≡ is_stopped reading elements.now row column }
+{
+    !reading.control_on && is_uncontrolled(reading, elements, row, column)
+}
+
+/// Whether the second input of an old timer is taken as ON.
+pub fn is_taken_on(reading: Reading, elements: &[Element], row: usize, column: usize) -> bool
+    requires { (row ≤ ROWS) × (column < COLUMNS) }
+    ensures { result ≡ is_taken_on reading elements.now row column }
+{
+    reading.control_on && is_uncontrolled(reading, elements, row, column)
 }
 
 fn stopped_as(
@@ -225,13 +241,23 @@ pub fn ends_rung(reading: Reading, elements: &[Element], row: usize, column: usi
     !found
 }
 
-/// Whether the second input of an old timer is joined with the first.
-fn is_tied(elements: &[Element], row: usize, column: usize, sort: BlockSort) -> bool
+/// Whether the second input of an old timer lets its time pass while the first is ON.
+fn is_tied(
+    reading: Reading,
+    elements: &[Element],
+    row: usize,
+    column: usize,
+    sort: BlockSort,
+) -> bool
     requires { (row < ROWS) × (1 ≤ column) × (column < COLUMNS) }
-    ensures { result ≡ is_tied elements.now row column sort }
+    ensures { result ≡ is_tied reading elements.now row column sort }
 {
     match sort {
-        BlockSort::Timer => column == 1 || is_linked(elements, row + 1, column - 1),
+        BlockSort::Timer => {
+            column == 1
+                || is_linked(elements, row + 1, column - 1)
+                || is_taken_on(reading, elements, row, column)
+        }
         BlockSort::Monostable | BlockSort::IecTimer => true,
     }
 }
@@ -281,7 +307,8 @@ fn stands_as(
         Meaning::Coil(_) | Meaning::Operate => column + 1 == COLUMNS,
         Meaning::Jump => column + 1 == COLUMNS && ends_rung(reading, elements, row, column),
         Meaning::Block(sort) => {
-            has_places(reading, elements, row, column) && is_tied(elements, row, column, sort)
+            has_places(reading, elements, row, column)
+                && is_tied(reading, elements, row, column, sort)
         }
         Meaning::Off => has_places(reading, elements, row, column) && column + 1 < COLUMNS,
         Meaning::Blank | Meaning::Wire | Meaning::Other => true,
