@@ -53,6 +53,8 @@ pub(crate) const WARN_HELP: &str =
 pub(crate) const EXPLAIN_HELP: &str =
     "After the line of a fault: its rule in words, and the lines of the program where it shows";
 
+pub(crate) const ALIASES_HELP: &str = "Prints the aliases of the declarations";
+
 pub(crate) const ALL_HELP: &str = "Lists all inputs, in order of declaration; not with an INPUT";
 
 pub(crate) const ALL_COILS_HELP: &str =
