@@ -291,9 +291,9 @@ Asks name rows (Import opened file hal) = (name ≡ codes "import")
 abbrev pub AsksNone : Text → List Row → Type 0
 AsksNone name rows = (r : Request) → Asks name rows r → ⊥
 
--- the request and the flag of every subcommand are what the subcommand's name and values say
+-- the request and the flags of every subcommand are what the subcommand's name and values say
 abbrev pub Says : Text → List Row → CommandLine → Type 0
-Says name rows line = Asks name rows line.request × HasSwitch (codes "why") rows line.why
+Says name rows line = Asks name rows line.request × HasSwitch (codes "aliases") rows line.aliases × HasSwitch (codes "why") rows line.why
 
 -- these names are given, and each is the code of a fault
 abbrev pub NamesCodes : List Row → List (String Global) → Type 0

@@ -278,10 +278,12 @@ pub enum Task {
     Explain(Vec<String>),
 }
 
-/// A request, with the flag of every subcommand that makes one.
+/// A request, with the flags of every subcommand that makes one.
 #[derive(Drop)]
 pub struct CommandLine {
     pub request: Request,
+    /// Whether aliases are printed in place of names; an import has none.
+    pub aliases: bool,
     /// Whether a fault is explained, after its line.
     pub why: bool,
 }

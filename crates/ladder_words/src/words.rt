@@ -127,6 +127,7 @@ fn line_of(alloc: Global, name: &str, found: &ArgMatches<'_>) -> Result<CommandL
     match request_of(alloc, name, found) {
         Ok(request) => Ok(CommandLine {
             request,
+            aliases: is_set(found, "aliases"),
             why: is_set(found, "why"),
         }),
         Err(fault) => Err(fault),
