@@ -4,7 +4,7 @@
 -- each with `--all-coils FOLDER` in place of COIL,
 -- `ladder show [--state STATE] [--at MS] [--number N] [--stimulus STIMULUS] [--html] [--coil COIL] [--all-inputs] FILE [INPUT]...`,
 -- `ladder sim [--state STATE] [--save STATE] [--every MS] [--watch NAME]... [--watch-all] [--vcd] FILE STIMULUS`, `ladder uses FILE` and `ladder never [--state STATE] [--off] [--pairs] [--quiet] FILE`, each with `[--aliases] [--why]`;
--- `ladder import [--open] [--hal FILE] [--why] PROJECT`;
+-- `ladder import [--open] [--control on] [--hal FILE] [--why] PROJECT`;
 -- and `ladder explain [CODE]...`.
 use Rattle.std.specs.Prelude.{◌≡◌, List, Some, [], ◌∷◌, codes, true, false}
 use Rattle.clap.specs.Simple.{new_shape}
@@ -84,7 +84,7 @@ sim_app = taking (codes "sim") (
     )
 
 abbrev pub import_app : App
-import_app = taking (codes "import") (flag_rule (codes "open") ∷ text_rule (codes "hal") ∷ flag_rule (codes "why") ∷ place_rule (codes "file") ∷ [])
+import_app = taking (codes "import") (flag_rule (codes "open") ∷ text_rule (codes "control") ∷ text_rule (codes "hal") ∷ flag_rule (codes "why") ∷ place_rule (codes "file") ∷ [])
 
 abbrev pub explain_app : App
 explain_app = taking (codes "explain") (list_rule (codes "codes") ∷ [])
