@@ -59,6 +59,11 @@ HasExcluded excluded.On rows = (HasFlag (codes "off") rows → ⊥) × (HasFlag 
 HasExcluded excluded.Off rows = HasFlag (codes "off") rows × (HasFlag (codes "pairs") rows → ⊥)
 HasExcluded excluded.BothOn rows = (HasFlag (codes "off") rows → ⊥) × HasFlag (codes "pairs") rows
 
+-- Timers without a control input have it ON: an option says so, by the one word that it may have.
+abbrev pub HasControl : Bool → List Row → Type 0
+HasControl true rows = HasText (codes "control") rows (codes "on")
+HasControl false rows = HasOption (codes "control") rows None
+
 -- how a drawing is to be written
 abbrev pub HasMedium : Medium → List Row → Type 0
 HasMedium medium.Text rows = HasFlag (codes "html") rows → ⊥
@@ -282,8 +287,9 @@ Asks name rows (Waves r) = (name ≡ codes "sim")
     × HasText (codes "stimulus") rows (string_bytes r.stimulus)
     × HasWatched rows false []
 Asks name rows (Uses file) = (name ≡ codes "uses") × HasText (codes "file") rows (string_bytes file)
-Asks name rows (Import opened file hal) = (name ≡ codes "import")
+Asks name rows (Import opened control_on file hal) = (name ≡ codes "import")
     × HasSwitch (codes "open") rows opened
+    × HasControl control_on rows
     × HasText (codes "file") rows (string_bytes file)
     × HasOption (codes "hal") rows (option_map string_bytes hal)
 

@@ -260,6 +260,8 @@ pub enum Request {
     Import {
         /// Whether numbers and sequential charts are opened.
         opened: bool,
+        /// Whether a timer without a control input has it ON.
+        control_on: bool,
         /// The file of the project.
         file: String,
         /// The HAL file after whose signals inputs and outputs are named.

@@ -1,12 +1,12 @@
 //! From the arguments of a command line to a request.
 
-ghost use Rattle.std.specs.Prelude.{◌≡◌, [], codes, IfSome, IsSome, OnOk, IfOk, IfErr, map, string_bytes, None, Some};
+ghost use Rattle.std.specs.Prelude.{◌≡◌, [], Bool, codes, IfSome, IsSome, OnOk, IfOk, IfErr, map, string_bytes, None, Some};
 ghost use Rattle.std.specs.List.{list_all};
 ghost use Rattle.clap.specs.Words.{Text, found_of, kind_of, rows_of, subcommand_rows_of};
 ghost use Rattle.clap.specs.Words.{fault_of as clap_fault};
 ghost use Rattle.ladder_command.specs.CommandLine.{ladder_app};
 ghost use Rattle.ladder_pages.specs.Pages.{is_fault_code};
-ghost use Rattle.ladder_words.specs.Asking.{Asks, AsksBy, AsksNone, HasExcluded, HasNoTask, HasTask, Says};
+ghost use Rattle.ladder_words.specs.Asking.{Asks, AsksBy, AsksNone, HasControl, HasExcluded, HasNoTask, HasTask, Says};
 ghost use Rattle.ladder_words.specs.Faults.{IsFaultOf, SaysOf, UsageWhere};
 
 use crate::causes::causes_request;
@@ -172,9 +172,27 @@ fn import_request(alloc: Global, found: &ArgMatches<'_>) -> Result<Request, Word
     ensures err { IfErr result (UsageWhere (AsksNone (codes "import") (rows_of (found_of found.now)))) }
 {
     let opened = is_set(found, "open");
+    let control_on = control_of(found)?;
     let hal = optional(alloc, found, "hal")?;
     let file = text(alloc, found, "file")?;
-    Ok(Request::Import { opened, file, hal })
+    Ok(Request::Import {
+        opened,
+        control_on,
+        file,
+        hal,
+    })
+}
+
+/// Whether a timer without a control input has it ON.
+fn control_of(found: &ArgMatches<'_>) -> Result<bool, WordFault>
+    ensures ok { IfOk result (λ on. HasControl on (rows_of (found_of found.now))) }
+    ensures err { IfErr result (UsageWhere ((on : Bool) → HasControl on (rows_of (found_of found.now)) → ⊥)) }
+{
+    match found.get_str("control") {
+        None => Ok(false),
+        Some("on") => Ok(true),
+        Some(_) => Err(WordFault::Usage),
+    }
 }
 
 /// What the flags ask to be shut out for ever.
