@@ -12,7 +12,7 @@ _ladder_names() {
 
 # The inputs that the program declares, where each declaration has its line.
 _ladder_inputs() {
-    sed -n 's/^[[:space:]]*\([A-Za-z_][A-Za-z0-9_]*\)[[:space:]]\{1,\}[Aa][Tt][[:space:]]\{1,\}%[Ii].*/\1/p' "$1" 2> /dev/null
+    sed -n 's/^[[:space:]]*\([A-Za-z_][A-Za-z0-9_]*\)[[:space:]]*\((\*[^*]*\*)\)\{0,1\}[[:space:]]\{1,\}[Aa][Tt][[:space:]]\{1,\}%[Ii].*/\1/p' "$1" 2> /dev/null
 }
 
 # The codes of all faults.
@@ -29,13 +29,13 @@ _ladder() {
         return
     fi
     case $subcommand in
-        causes) options='--state --at --after --upto --limit --scans --for --every --grouped --terms --st --order --any --off --must --reachable --looks --relevant --all-inputs --all-coils --progress --quiet --why --help' ;;
-        show) options='--state --at --number --html --stimulus --coil --all-inputs --why --help' ;;
-        sim) options='--state --save --every --watch --watch-all --vcd --why --help' ;;
-        check) options='--warn --why --help' ;;
-        uses) options='--why --help' ;;
-        import) options='--open --hal --why --help' ;;
-        never) options='--state --off --pairs --quiet --why --help' ;;
+        causes) options='--state --at --after --upto --limit --scans --for --every --grouped --terms --st --order --any --off --must --reachable --looks --relevant --all-inputs --all-coils --progress --quiet --aliases --why --help' ;;
+        show) options='--state --at --number --html --stimulus --coil --all-inputs --aliases --why --help' ;;
+        sim) options='--state --save --every --watch --watch-all --vcd --aliases --why --help' ;;
+        check) options='--warn --aliases --why --help' ;;
+        uses) options='--aliases --why --help' ;;
+        import) options='--open --control --hal --why --help' ;;
+        never) options='--state --off --pairs --quiet --aliases --why --help' ;;
         explain) options='--help' ;;
         help)
             mapfile -t COMPREPLY < <(compgen -W 'check causes show sim uses never import explain' -- "$word")
@@ -49,7 +49,7 @@ _ladder() {
                 ((number++))
                 every=1
                 ;;
-            --state | --at | --after | --upto | --limit | --scans | --for | --every | --looks | --order | --number | --stimulus | --coil | --save | --watch | --hal) ((number++)) ;;
+            --state | --at | --after | --upto | --limit | --scans | --for | --every | --looks | --order | --number | --stimulus | --coil | --save | --watch | --control | --hal) ((number++)) ;;
             -*) ;;
             *)
                 ((place++))
@@ -63,6 +63,7 @@ _ladder() {
         --at | --after | --upto | --limit | --scans | --for | --every | --looks | --number) ;;
         --all-coils) mapfile -t COMPREPLY < <(compgen -d -- "$word") ;;
         --order) mapfile -t COMPREPLY < <(compgen -W 'auto given' -- "$word") ;;
+        --control) mapfile -t COMPREPLY < <(compgen -W 'on' -- "$word") ;;
         --coil) mapfile -t COMPREPLY < <(compgen -W "$(_ladder_coils "$file")" -- "$word") ;;
         --watch) mapfile -t COMPREPLY < <(compgen -W "$(_ladder_names "$file")" -- "$word") ;;
         *)

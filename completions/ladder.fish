@@ -7,7 +7,7 @@ function __ladder_places
     for word in $words
         if test $due = 1
             set due 0
-        else if contains -- $word --state --at --after --upto --limit --scans --for --every --order --number --stimulus --coil --all-coils --save --watch --hal
+        else if contains -- $word --state --at --after --upto --limit --scans --for --every --order --number --stimulus --coil --all-coils --save --watch --control --hal
             set due 1
         else if not string match -q -- '-*' $word
             echo $word
@@ -47,7 +47,7 @@ end
 # The inputs that the program declares, where each declaration has its line.
 function __ladder_inputs
     set -l places (__ladder_places)
-    sed -n 's/^[[:space:]]*\([A-Za-z_][A-Za-z0-9_]*\)[[:space:]]\{1,\}[Aa][Tt][[:space:]]\{1,\}%[Ii].*/\1/p' $places[2] 2> /dev/null
+    sed -n 's/^[[:space:]]*\([A-Za-z_][A-Za-z0-9_]*\)[[:space:]]*\((\*[^*]*\*)\)\{0,1\}[[:space:]]\{1,\}[Aa][Tt][[:space:]]\{1,\}%[Ii].*/\1/p' $places[2] 2> /dev/null
 end
 
 # The codes of all faults.
@@ -69,6 +69,7 @@ complete -c ladder -n 'test (count (__ladder_places)) = 0' -a help -d 'Print hel
 complete -c ladder -n '__ladder_at help 1' -a 'check causes show sim uses never import explain'
 
 complete -c ladder -n '__ladder_at check,causes,show,sim,uses,never,import more 0' -l why -d 'Faults are explained'
+complete -c ladder -n '__ladder_at check,causes,show,sim,uses,never more 0' -l aliases -d 'Aliases in place of names'
 complete -c ladder -n '__ladder_at check more 0' -l warn -d 'What is most likely not meant'
 complete -c ladder -n '__ladder_at causes,show more 0' -l all-inputs -d 'All inputs, in order of declaration'
 complete -c ladder -n '__ladder_at causes more 0' -l all-coils -x -a '(__fish_complete_directories)' -d 'Each coil, a file for each in this folder'
@@ -78,6 +79,7 @@ complete -c ladder -n '__ladder_at never more 0' -l off -d 'What can never go OF
 complete -c ladder -n '__ladder_at never more 0' -l pairs -d 'Pairs that are never both ON'
 complete -c ladder -n '__ladder_at causes,show,sim,never more 0' -l state -r -F -d 'The state to begin in'
 complete -c ladder -n '__ladder_at import more 0' -l open -d 'Compares and steps have any value'
+complete -c ladder -n '__ladder_at import more 0' -l control -x -a on -d 'The control input of timers that have none'
 complete -c ladder -n '__ladder_at import more 0' -l hal -r -F -d 'A HAL file with names'
 complete -c ladder -n '__ladder_at causes,show more 0' -l at -x -d 'The moment of the scan in ms'
 complete -c ladder -n '__ladder_at causes more 0' -l after -x -d 'Causes with a greater number only'

@@ -17,6 +17,8 @@ SUBCOMMANDS = ["causes", "check", "explain", "import", "never", "show", "sim", "
 CIRCUIT = ROOT / "examples/emergency_stop/machine.ld"
 COILS, INPUTS = ["Enabled", "Motor"], ["EStop", "Reset", "Start", "Stop"]
 NAMES = sorted([*COILS, *INPUTS])
+# inputs with an alias, and one without
+ALIASES = "VAR\n  X1 (* door.open *) AT %IX1 : BOOL;\n  X2(*at-home*) AT %IX2 : BOOL;\n  X3 AT %IX3 : BOOL;\n  M1 (* ready *) : BOOL;\nEND_VAR\n"
 # a line, what its last word begins with, and what is to be offered
 LINES = [
     (["causes", "machine.ld"], "", COILS),
@@ -35,6 +37,8 @@ LINES = [
     (["sim", "machine.ld"], "mach", ["machine.ld"]),
     (["sim", "machine.ld", "--watch"], "", NAMES),
     (["sim", "machine.ld", "--watch"], "E", ["EStop", "Enabled"]),
+    (["show", "aliases.ld"], "", ["X1", "X2", "X3"]),
+    (["import", "--control"], "", ["on"]),
     (["help"], "s", ["show", "sim"]),
     (["explain"], "X", [f"X{number}" for number in range(1, 8)]),
     (["explain", "G4"], "us", ["usage"]),
@@ -96,6 +100,7 @@ def main():
     with tempfile.TemporaryDirectory() as tools, tempfile.TemporaryDirectory() as folder:
         os.symlink(program, pathlib.Path(tools) / "ladder")
         shutil.copy(CIRCUIT, folder)
+        (pathlib.Path(folder) / "aliases.ld").write_text(ALIASES, "ascii")
         path = f"{tools}{os.pathsep}{os.environ['PATH']}"
         for name, offered in [("bash", bash), ("fish", fish)]:
             if shutil.which(name):

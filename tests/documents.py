@@ -29,7 +29,7 @@ DOCUMENTS = ["README.md", "docs/DRAWING.md", "docs/FAULTS.md", "docs/TUTORIAL.md
              "man/ladder.1"]
 SUBCOMMANDS = ["check", "causes", "show", "sim", "uses", "never", "import", "explain"]
 # the faults that a text or a command can show, and those that have a section alone
-SHOWN = [f"V{number}" for number in range(1, 9)] + [f"G{number}" for number in range(1, 16)]
+SHOWN = [f"V{number}" for number in range(1, 9)] + ["A1"] + [f"G{number}" for number in range(1, 16)]
 SHOWN += [f"C{number}" for number in range(1, 7)] + ["C8"] + [f"X{number}" for number in range(1, 7)] + [f"P{number}" for number in range(1, 7)] + ["usage"]
 TOLD = ["V9", "C7", "S1", "X7", "P7", "P8"]
 
@@ -176,7 +176,7 @@ def transcript(name, start, words, lines, folder, tools, tally, status):
 
 def compare_sections(name, text, blocks, tally):
     """Each fault has a section; its first fault is the one of the heading, and what is corrected has none."""
-    heads = [(number, line[3:].split()[0].rstrip(":")) for number, line in enumerate(text.splitlines(), 1) if re.match(r"## ([VGCXSP]\d|usage)", line)]
+    heads = [(number, line[3:].split()[0].rstrip(":")) for number, line in enumerate(text.splitlines(), 1) if re.match(r"## ([VAGCXSP]\d|usage)", line)]
     tally.compare(f"{name}: the faults that have a section", sorted(code for _, code in heads), sorted(SHOWN + TOLD))
     ends = [number for number, _ in heads[1:]] + [len(text.splitlines()) + 1]
     for (first, code), end in zip(heads, ends):
@@ -213,11 +213,11 @@ def manual_entries(text):
 
 def fault_titles():
     """The headings of the sections of docs/FAULTS.md, but of the fault that no request has."""
-    return sorted(re.findall(r"^## ([VGCXP]\d+: .*)$", (ROOT / "docs/FAULTS.md").read_text("utf-8"), re.M))
+    return sorted(re.findall(r"^## ([VAGCXP]\d+: .*)$", (ROOT / "docs/FAULTS.md").read_text("utf-8"), re.M))
 
 
 def compare_manual(name, text, program, tally):
-    told = sorted(line for line in text.splitlines() if re.match(r"[VGCXP]\d+: ", line))
+    told = sorted(line for line in text.splitlines() if re.match(r"[VAGCXP]\d+: ", line))
     tally.compare(f"{name}: the faults, as docs/FAULTS.md has them", told, fault_titles())
     manual = manual_entries(text)
     for words in [[], *([word] for word in SUBCOMMANDS)]:

@@ -157,6 +157,13 @@ def help_is_printed(*words):
     return lambda program, folder: differences(run(program, words, folder), (..., b"", 0))
 
 
+def aliases_in_help(program, folder):
+    """What reads a program, and nothing else, has the option, also beside the one for help."""
+    told = {name: b"      --aliases  " in run(program, [name, "--help"], folder)[0] for name in (*OF_PROGRAMS, "import", "explain")}
+    ends = [run(program, [name, "--aliases", "--help"], folder)[2] for name in (*OF_PROGRAMS, "import", "explain")]
+    return differences(([name for name, has in told.items() if has], ends), (list(OF_PROGRAMS), [0] * len(OF_PROGRAMS) + [2, 2]))
+
+
 def full_device():
     return open("/dev/full", "wb")
 
@@ -246,6 +253,7 @@ def stimulus_from_a_pipe(program, folder):
         return differences(run(program, ["sim", "motor.ld", "-"], folder, stdin=stream), (TRACE, b"", 0))
 
 
+OF_PROGRAMS = ("check", "causes", "show", "sim", "uses", "never")
 CAUSES = ["causes", "motor.ld", "Motor", "Start", "Stop"]
 SIM = ["sim", "motor.ld", "stimulus.csv"]
 STATE = ["causes", "--state", "state.csv", "motor.ld", "Motor"]
@@ -287,6 +295,7 @@ SPECIAL = {
     "streams-help-on-a-full-device": on_a_stream(["--help"], "stdout", full_device, (None, b"fault X6\n", 1)),
     "check-on-a-full-device": on_a_stream(["check", "motor.ld"], "stdout", full_device, (None, b"fault X6\n", 1)),
     "check-help": help_is_printed("check", "--help"),
+    "aliases-in-help": aliases_in_help,
     "import-help": help_is_printed("import", "--help"),
     "causes-parts-of-32-inputs": parts_of_32_inputs,
     "streams-rows-on-a-full-device": on_a_stream(CAUSES, "stdout", full_device, (None, b"fault X6\n", 1)),

@@ -3,7 +3,8 @@
 -- `ladder causes --any [--off] [--must] [--reachable] [--looks N] [--limit N] [--all-inputs] [--quiet] FILE COIL [INPUT]...`,
 -- each with `--all-coils FOLDER` in place of COIL,
 -- `ladder show [--state STATE] [--at MS] [--number N] [--stimulus STIMULUS] [--html] [--coil COIL] [--all-inputs] FILE [INPUT]...`,
--- `ladder sim [--state STATE] [--save STATE] [--every MS] [--watch NAME]... [--watch-all] [--vcd] FILE STIMULUS`, `ladder uses FILE`, `ladder import PROJECT` and `ladder never [--state STATE] [--off] [--pairs] [--quiet] FILE`, each with `[--why]`;
+-- `ladder sim [--state STATE] [--save STATE] [--every MS] [--watch NAME]... [--watch-all] [--vcd] FILE STIMULUS`, `ladder uses FILE` and `ladder never [--state STATE] [--off] [--pairs] [--quiet] FILE`, each with `[--aliases] [--why]`;
+-- `ladder import [--open] [--control on] [--hal FILE] [--why] PROJECT`;
 -- and `ladder explain [CODE]...`.
 use Rattle.std.specs.Prelude.{◌≡◌, List, Some, [], ◌∷◌, codes, true, false}
 use Rattle.clap.specs.Simple.{new_shape}
@@ -54,13 +55,13 @@ abbrev pub taking : Text → List Rule → App
 taking name rules = record { top = record (new_shape name) { rules = rules }; subs = [] }
 
 abbrev pub check_app : App
-check_app = taking (codes "check") (flag_rule (codes "warn") ∷ flag_rule (codes "why") ∷ place_rule (codes "file") ∷ [])
+check_app = taking (codes "check") (flag_rule (codes "warn") ∷ flag_rule (codes "aliases") ∷ flag_rule (codes "why") ∷ place_rule (codes "file") ∷ [])
 
 abbrev pub uses_app : App
-uses_app = taking (codes "uses") (flag_rule (codes "why") ∷ place_rule (codes "file") ∷ [])
+uses_app = taking (codes "uses") (flag_rule (codes "aliases") ∷ flag_rule (codes "why") ∷ place_rule (codes "file") ∷ [])
 
 abbrev pub never_app : App
-never_app = taking (codes "never") (text_rule (codes "state") ∷ flag_rule (codes "off") ∷ flag_rule (codes "pairs") ∷ flag_rule (codes "quiet") ∷ flag_rule (codes "why") ∷ place_rule (codes "file") ∷ [])
+never_app = taking (codes "never") (text_rule (codes "state") ∷ flag_rule (codes "off") ∷ flag_rule (codes "pairs") ∷ flag_rule (codes "quiet") ∷ flag_rule (codes "aliases") ∷ flag_rule (codes "why") ∷ place_rule (codes "file") ∷ [])
 
 abbrev pub causes_app : App
 causes_app = taking (codes "causes") (
@@ -68,22 +69,22 @@ causes_app = taking (codes "causes") (
     ∷ number_rule (codes "scans") ∷ number_rule (codes "for") ∷ number_rule (codes "every") ∷ flag_rule (codes "grouped") ∷ flag_rule (codes "terms") ∷ flag_rule (codes "st") ∷ text_rule (codes "order")
     ∷ flag_rule (codes "any") ∷ flag_rule (codes "off") ∷ flag_rule (codes "must")
     ∷ flag_rule (codes "reachable") ∷ small_rule (codes "looks")
-    ∷ flag_rule (codes "relevant") ∷ flag_rule (codes "all-inputs") ∷ text_rule (codes "all-coils") ∷ flag_rule (codes "progress") ∷ flag_rule (codes "quiet") ∷ flag_rule (codes "why") ∷ place_rule (codes "file") ∷ free_place_rule (codes "coil") ∷ list_rule (codes "inputs") ∷ []
+    ∷ flag_rule (codes "relevant") ∷ flag_rule (codes "all-inputs") ∷ text_rule (codes "all-coils") ∷ flag_rule (codes "progress") ∷ flag_rule (codes "quiet") ∷ flag_rule (codes "aliases") ∷ flag_rule (codes "why") ∷ place_rule (codes "file") ∷ free_place_rule (codes "coil") ∷ list_rule (codes "inputs") ∷ []
     )
 
 abbrev pub show_app : App
 show_app = taking (codes "show") (
     text_rule (codes "state") ∷ number_rule (codes "at") ∷ number_rule (codes "number") ∷ flag_rule (codes "html")
-    ∷ text_rule (codes "stimulus") ∷ text_rule (codes "coil") ∷ flag_rule (codes "all-inputs") ∷ flag_rule (codes "why") ∷ place_rule (codes "file") ∷ list_rule (codes "inputs") ∷ []
+    ∷ text_rule (codes "stimulus") ∷ text_rule (codes "coil") ∷ flag_rule (codes "all-inputs") ∷ flag_rule (codes "aliases") ∷ flag_rule (codes "why") ∷ place_rule (codes "file") ∷ list_rule (codes "inputs") ∷ []
     )
 
 abbrev pub sim_app : App
 sim_app = taking (codes "sim") (
-    text_rule (codes "state") ∷ text_rule (codes "save") ∷ positive_rule (codes "every") ∷ texts_rule (codes "watch") ∷ flag_rule (codes "watch-all") ∷ flag_rule (codes "vcd") ∷ flag_rule (codes "why") ∷ place_rule (codes "file") ∷ place_rule (codes "stimulus") ∷ []
+    text_rule (codes "state") ∷ text_rule (codes "save") ∷ positive_rule (codes "every") ∷ texts_rule (codes "watch") ∷ flag_rule (codes "watch-all") ∷ flag_rule (codes "vcd") ∷ flag_rule (codes "aliases") ∷ flag_rule (codes "why") ∷ place_rule (codes "file") ∷ place_rule (codes "stimulus") ∷ []
     )
 
 abbrev pub import_app : App
-import_app = taking (codes "import") (flag_rule (codes "open") ∷ text_rule (codes "hal") ∷ flag_rule (codes "why") ∷ place_rule (codes "file") ∷ [])
+import_app = taking (codes "import") (flag_rule (codes "open") ∷ text_rule (codes "control") ∷ text_rule (codes "hal") ∷ flag_rule (codes "why") ∷ place_rule (codes "file") ∷ [])
 
 abbrev pub explain_app : App
 explain_app = taking (codes "explain") (list_rule (codes "codes") ∷ [])

@@ -1,7 +1,7 @@
 -- The command line as the tables of words give it.
-use Rattle.std.specs.Prelude.{◌∷◌, [], Bool, List, codes, false, map, true}
+use Rattle.std.specs.Prelude.{◌∷◌, [], List, codes, map, true}
 use Rattle.clap.specs.Simple.{new_shape}
-use Rattle.clap.specs.Words.{App, Rule, Shape}
+use Rattle.clap.specs.Words.{App, Rule, Shape, with_subcommand}
 use Rattle.ladder_command.specs.CommandLine.{flag_rule, free_place_rule, list_rule, number_rule, place_rule, positive_rule, small_rule, taking, text_rule, texts_rule}
 use Rattle.ladder_command.specs.declared.command.Subcommand.{Subcommand}
 use Rattle.ladder_command.specs.declared.command.Word.{Word}
@@ -23,13 +23,11 @@ word_rule (word.List id value help) = list_rule id.now
 abbrev pub shape_by : Subcommand → Shape
 shape_by sub = (taking sub.name.now (map word_rule sub.words.now)).top
 
-abbrev pub has_none : List Subcommand → Bool
-has_none [] = true
-has_none (first ∷ rest) = false
+-- the program before it has a subcommand
+abbrev pub bare_app : App
+bare_app = record { top = record (new_shape (codes "ladder")) { subcommand_required = true }; subs = [] }
 
--- the program with these subcommands in their order
-abbrev pub ladder_by : List Subcommand → App
-ladder_by subs = record {
-  top = record (new_shape (codes "ladder")) { is_leaf = has_none subs; subcommand_required = true };
-  subs = map shape_by subs;
-}
+-- the program with these subcommands too, in their order
+abbrev pub with_all : App → List Subcommand → App
+with_all app [] = app
+with_all app (first ∷ rest) = with_all (with_subcommand app (shape_by first)) rest

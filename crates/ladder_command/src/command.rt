@@ -1,19 +1,19 @@
 //! The command line, as `clap` takes it.
 
-ghost use Rattle.std.specs.Prelude.{◌≡◌, [], IfOk, false, map};
-ghost use Rattle.clap.specs.Words.{app_of, rule_of};
-ghost use Rattle.ladder_command.specs.CommandLine.{IsApp, ladder_app, taking};
-ghost use Rattle.ladder_command.specs.Table.{ladder_by, word_rule};
+ghost use Rattle.std.specs.Prelude.{◌≡◌, ◌∷◌, [], IfOk, false, map};
+ghost use Rattle.clap.specs.Words.{App, app_of, rule_of};
+ghost use Rattle.ladder_command.specs.CommandLine.{IsApp, causes_app, check_app, ladder_app, taking};
+ghost use Rattle.ladder_command.specs.Table.{bare_app, with_all, word_rule};
 
 use crate::help::{
-    AFTER_HELP, ALL_COILS_HELP, ALL_HELP, ANY_HELP, AT_HELP, CAUSES_ABOUT, CHECK_ABOUT, CODES_HELP,
-    COIL_HELP, EVERY_HELP, EXPLAIN_ABOUT, EXPLAIN_HELP, FAULTS, FILE_HELP, FILM_HELP, FOR_HELP,
-    GROUPED_HELP, HAL_HELP, HOLD_HELP, HTML_HELP, IMPORT_ABOUT, INPUTS_HELP, LADDER_ABOUT,
-    LIMIT_HELP, LOOKS_HELP, MUST_HELP, NEVER_ABOUT, NEVER_OFF_HELP, NUMBER_HELP, OFF_HELP,
-    OPEN_HELP, ORDER_HELP, PAIRS_HELP, PROGRESS_HELP, PROJECT_HELP, QUIET_HELP, REACHABLE_HELP,
-    RELEVANT_HELP, SAVE_HELP, SCANS_HELP, SHOW_ABOUT, SHOWN_HELP, SIM_ABOUT, STATE_HELP,
-    STATEMENT_HELP, STIMULUS_HELP, TERMS_HELP, UPTO_HELP, USES_ABOUT, WARN_HELP, WATCH_ALL_HELP,
-    WATCH_HELP, WAVES_HELP, WHY_HELP,
+    AFTER_HELP, ALIASES_HELP, ALL_COILS_HELP, ALL_HELP, ANY_HELP, AT_HELP, CAUSES_ABOUT,
+    CHECK_ABOUT, CODES_HELP, COIL_HELP, CONTROL_HELP, EVERY_HELP, EXPLAIN_ABOUT, EXPLAIN_HELP,
+    FAULTS, FILE_HELP, FILM_HELP, FOR_HELP, GROUPED_HELP, HAL_HELP, HOLD_HELP, HTML_HELP,
+    IMPORT_ABOUT, INPUTS_HELP, LADDER_ABOUT, LIMIT_HELP, LOOKS_HELP, MUST_HELP, NEVER_ABOUT,
+    NEVER_OFF_HELP, NUMBER_HELP, OFF_HELP, OPEN_HELP, ORDER_HELP, PAIRS_HELP, PROGRESS_HELP,
+    PROJECT_HELP, QUIET_HELP, REACHABLE_HELP, RELEVANT_HELP, SAVE_HELP, SCANS_HELP, SHOW_ABOUT,
+    SHOWN_HELP, SIM_ABOUT, STATE_HELP, STATEMENT_HELP, STIMULUS_HELP, TERMS_HELP, UPTO_HELP,
+    USES_ABOUT, WARN_HELP, WATCH_ALL_HELP, WATCH_HELP, WAVES_HELP, WHY_HELP,
 };
 use clap::{Arg, ArgAction, Command, value_parser};
 use std::alloc::{AllocError, Global};
@@ -49,11 +49,13 @@ struct Subcommand {
 
 const CHECK: &[Word] = &[
     Word::Flag("warn", WARN_HELP),
+    Word::Flag("aliases", ALIASES_HELP),
     Word::Flag("why", EXPLAIN_HELP),
     Word::Place("file", "FILE", FILE_HELP),
 ];
 
 const USES: &[Word] = &[
+    Word::Flag("aliases", ALIASES_HELP),
     Word::Flag("why", EXPLAIN_HELP),
     Word::Place("file", "FILE", FILE_HELP),
 ];
@@ -63,6 +65,7 @@ const NEVER: &[Word] = &[
     Word::Flag("off", NEVER_OFF_HELP),
     Word::Flag("pairs", PAIRS_HELP),
     Word::Flag("quiet", QUIET_HELP),
+    Word::Flag("aliases", ALIASES_HELP),
     Word::Flag("why", EXPLAIN_HELP),
     Word::Place("file", "FILE", FILE_HELP),
 ];
@@ -90,6 +93,7 @@ const CAUSES: &[Word] = &[
     Word::Text("all-coils", "FOLDER", ALL_COILS_HELP),
     Word::Flag("progress", PROGRESS_HELP),
     Word::Flag("quiet", QUIET_HELP),
+    Word::Flag("aliases", ALIASES_HELP),
     Word::Flag("why", EXPLAIN_HELP),
     Word::Place("file", "FILE", FILE_HELP),
     Word::FreePlace("coil", "COIL", COIL_HELP),
@@ -104,6 +108,7 @@ const SHOW: &[Word] = &[
     Word::Text("stimulus", "STIMULUS", FILM_HELP),
     Word::Text("coil", "COIL", WHY_HELP),
     Word::Flag("all-inputs", ALL_HELP),
+    Word::Flag("aliases", ALIASES_HELP),
     Word::Flag("why", EXPLAIN_HELP),
     Word::Place("file", "FILE", FILE_HELP),
     Word::List("inputs", "INPUT", SHOWN_HELP),
@@ -116,6 +121,7 @@ const SIM: &[Word] = &[
     Word::Texts("watch", "NAME", WATCH_HELP),
     Word::Flag("watch-all", WATCH_ALL_HELP),
     Word::Flag("vcd", WAVES_HELP),
+    Word::Flag("aliases", ALIASES_HELP),
     Word::Flag("why", EXPLAIN_HELP),
     Word::Place("file", "FILE", FILE_HELP),
     Word::Place("stimulus", "STIMULUS", STIMULUS_HELP),
@@ -123,6 +129,7 @@ const SIM: &[Word] = &[
 
 const IMPORT: &[Word] = &[
     Word::Flag("open", OPEN_HELP),
+    Word::Text("control", "CONTROL", CONTROL_HELP),
     Word::Text("hal", "FILE", HAL_HELP),
     Word::Flag("why", EXPLAIN_HELP),
     Word::Place("file", "PROJECT", PROJECT_HELP),
@@ -130,7 +137,8 @@ const IMPORT: &[Word] = &[
 
 const EXPLAIN: &[Word] = &[Word::List("codes", "CODE", CODES_HELP)];
 
-const SUBCOMMANDS: &[Subcommand] = &[
+/// The subcommands, in two tables: the proof of a function that names a table goes through all of it.
+const FIRST_SUBCOMMANDS: &[Subcommand] = &[
     Subcommand {
         name: "check",
         about: CHECK_ABOUT,
@@ -141,6 +149,9 @@ const SUBCOMMANDS: &[Subcommand] = &[
         about: CAUSES_ABOUT,
         words: CAUSES,
     },
+];
+
+const OTHER_SUBCOMMANDS: &[Subcommand] = &[
     Subcommand {
         name: "show",
         about: SHOW_ABOUT,
@@ -229,7 +240,7 @@ fn subcommand_of<'a>(alloc: Global, sub: &'a Subcommand) -> Result<Command<'a>, 
 
 /// The program, without its subcommands.
 fn top<'a>(alloc: Global) -> Command<'a>
-    ensures { app_of result ≡ ladder_by [] }
+    ensures { app_of result ≡ bare_app }
 {
     Command::new(alloc, "ladder")
         .subcommand_required(true)
@@ -237,15 +248,26 @@ fn top<'a>(alloc: Global) -> Command<'a>
         .after_help(FAULTS)
 }
 
-/// The program with these subcommands.
-fn with_subcommands<'a>(alloc: Global, subs: &'a [Subcommand]) -> Result<Command<'a>, AllocError>
-    ensures { IfOk result (λ c. app_of c ≡ ladder_by subs.now) }
+/// The program with these subcommands too.
+fn with_subcommands<'a>(
+    alloc: Global,
+    command: Command<'a>,
+    subs: &'a [Subcommand],
+) -> Result<Command<'a>, AllocError>
+    ensures { (app : App) → app_of command.entry ≡ app → IfOk result (λ c. app_of c ≡ with_all app subs.now) }
 {
-    let mut command = top(alloc);
+    let mut all = command;
     for sub in subs {
-        command = command.subcommand(subcommand_of(alloc, sub)?)?;
+        all = all.subcommand(subcommand_of(alloc, sub)?)?;
     }
-    Ok(command)
+    Ok(all)
+}
+
+/// The program with its first subcommands.
+fn begun<'a>(alloc: Global) -> Result<Command<'a>, AllocError>
+    ensures { IfOk result (λ c. app_of c ≡ record ladder_app { subs = check_app.top ∷ causes_app.top ∷ [] }) }
+{
+    with_subcommands(alloc, top(alloc), FIRST_SUBCOMMANDS)
 }
 
 /// The whole command line.
@@ -256,5 +278,5 @@ fn with_subcommands<'a>(alloc: Global, subs: &'a [Subcommand]) -> Result<Command
 pub fn ladder<'a>(alloc: Global) -> Result<Command<'a>, AllocError>
     ensures { IfOk result (λ c. app_of c ≡ ladder_app) }
 {
-    with_subcommands(alloc, SUBCOMMANDS)
+    with_subcommands(alloc, begun(alloc)?, OTHER_SUBCOMMANDS)
 }

@@ -6,6 +6,7 @@ pub(crate) const LADDER_ABOUT: &str =
 pub(crate) const FAULTS: &str =
     "A line `fault CODE ..` on standard error says what is wrong, and where:
   V1 to V9    the declarations break a rule on that line
+  A1          the alias on that line is a name or another alias; with --aliases alone
   G1 to G15   the drawing breaks a rule in that rung, on that line
   C1 to C8    there is no list of causes, or no scan to show, for this question
   X1 to X7    a file can't be read, or a word or record of it is bad; X6: a write failed; X7: out of memory
@@ -53,6 +54,8 @@ pub(crate) const WARN_HELP: &str =
 pub(crate) const EXPLAIN_HELP: &str =
     "After the line of a fault: its rule in words, and the lines of the program where it shows";
 
+pub(crate) const ALIASES_HELP: &str = "Prints the aliases of the declarations";
+
 pub(crate) const ALL_HELP: &str = "Lists all inputs, in order of declaration; not with an INPUT";
 
 pub(crate) const ALL_COILS_HELP: &str =
@@ -75,6 +78,8 @@ pub(crate) const PROJECT_HELP: &str =
     "The ClassicLadder project, a .clp file; at most 1048576 bytes";
 
 pub(crate) const OPEN_HELP: &str = "Compares and steps of charts may have any value";
+
+pub(crate) const CONTROL_HELP: &str = "`on`: a timer without a control input has it ON";
 
 pub(crate) const HAL_HELP: &str =
     "A HAL file: inputs and outputs without a name in the project are named after its signals";

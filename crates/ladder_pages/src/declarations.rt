@@ -215,3 +215,33 @@ V9: out of memory
 
 The system refused memory while the program was read. No text has this fault.
 ";
+
+pub(crate) const A1: &str = "\
+A1: an alias that is a name or another alias
+
+It comes with `--aliases` alone. An alias is a comment that stands alone right behind the name of a declaration, of 1 to 32 letters, digits, `_`, `-`, `.` and `/`; with `--aliases` it is printed in place of the name. So no alias is the name of a declaration, and no two are the same. The case of letters doesn't matter. Where two are the same, the line is the one of the second.
+
+```console
+$ cat a1.ld
+VAR
+  X10 (* magazine-at-home *) AT %IX10 : BOOL;
+  X11 (* Magazine-at-home *) AT %IX11 : BOOL;
+END_VAR
+$ ladder check a1.ld
+rungs 0 variables 2 instances 0
+$ ladder check --aliases a1.ld
+fault A1 line 3
+```
+
+Corrected:
+
+```console
+$ cat a1_corrected.ld
+VAR
+  X10 (* magazine-at-home *) AT %IX10 : BOOL;
+  X11 (* magazine-away *) AT %IX11 : BOOL;
+END_VAR
+$ ladder check --aliases a1_corrected.ld
+rungs 0 variables 2 instances 0
+```
+";

@@ -3,15 +3,15 @@
 use crate::{declarations, drawing, files, projects, questions, words};
 
 /// The codes, in the order of the document.
-pub(crate) const CODES: [&str; 49] = [
-    "V1", "V2", "V3", "V4", "V5", "V6", "V7", "V8", "V9", "G1", "G2", "G3", "G4", "G5", "G6", "G7",
-    "G8", "G9", "G10", "G11", "G12", "G13", "G14", "G15", "C1", "C2", "C3", "C4", "C5", "C6", "C7",
-    "C8", "S1", "X1", "X2", "X3", "X4", "X5", "X6", "X7", "P1", "P2", "P3", "P4", "P5", "P6", "P7",
-    "P8", "usage",
+pub(crate) const CODES: [&str; 50] = [
+    "V1", "V2", "V3", "V4", "V5", "V6", "V7", "V8", "V9", "A1", "G1", "G2", "G3", "G4", "G5", "G6",
+    "G7", "G8", "G9", "G10", "G11", "G12", "G13", "G14", "G15", "C1", "C2", "C3", "C4", "C5", "C6",
+    "C7", "C8", "S1", "X1", "X2", "X3", "X4", "X5", "X6", "X7", "P1", "P2", "P3", "P4", "P5", "P6",
+    "P7", "P8", "usage",
 ];
 
 /// The page of each code.
-pub(crate) const PAGES: [&str; 49] = [
+pub(crate) const PAGES: [&str; 50] = [
     declarations::V1,
     declarations::V2,
     declarations::V3,
@@ -21,6 +21,7 @@ pub(crate) const PAGES: [&str; 49] = [
     declarations::V7,
     declarations::V8,
     declarations::V9,
+    declarations::A1,
     drawing::G1,
     drawing::G2,
     drawing::G3,
@@ -74,6 +75,7 @@ V6: no preset for this block
 V7: too many variables or instances
 V8: the text ends too early
 V9: out of memory
+A1: an alias that is a name or another alias
 G1: something past the right rail
 G2: too many lines in a rung
 G3: no cell

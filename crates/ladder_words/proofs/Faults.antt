@@ -3,7 +3,7 @@ use Rattle.std.proofs.Common.{◌≡◌, ◌∙◌, ◌++◌, ℕ, Bool, true, f
 use Rattle.std.specs.List.{list_all}
 use Rattle.clap.specs.Words.{Row, Text, all_of, first_of}
 use Rattle.ladder_pages.specs.Pages.{is_fault_code}
-use Rattle.ladder_words.specs.Asking.{Asks, AsksNone, HasCoil, HasEvery, HasExcluded, HasNoTask, HasFlag, HasForm, HasInputs, HasLasting, HasNumber, HasOption, HasScans, HasSwitch, HasWatched, HasOrder, IsNamed, IsOfOneState, IsSingle, IsTable, MayGroup, MayHaveLimit, NamesCauses, NamesList, NamesTrace, input_texts, inputs_for}
+use Rattle.ladder_words.specs.Asking.{Asks, AsksNone, HasCoil, HasControl, HasEvery, HasExcluded, HasNoTask, HasFlag, HasForm, HasInputs, HasLasting, HasNumber, HasOption, HasScans, HasSwitch, HasWatched, HasOrder, IsNamed, IsOfOneState, IsSingle, IsTable, MayGroup, MayHaveLimit, NamesCauses, NamesList, NamesTrace, input_texts, inputs_for}
 use Rattle.ladder_words.specs.Parts.{HasGrouping, IsOfAnyState, IsOfOneScan, IsOfRecords, IsUncut, IsWhole, MayLast, NamesNoEnd, NamesNoStates, NamesScan, Plays}
 use Rattle.ladder_words.specs.Faults.{UsageWhere}
 use Rattle.ladder_words.specs.declared.request.Form.{Form}
@@ -65,7 +65,7 @@ explains_alone rows (Watch r) h = let other : 101 ≡ 115 = name_differs h.0 in 
 explains_alone rows (Waves r) h = let other : 101 ≡ 115 = name_differs h.0 in absurd (omega (arith, other))
 explains_alone rows (Uses file) h = let other : 101 ≡ 117 = name_differs h.0 in absurd (omega (arith, other))
 explains_alone rows (Never r) h = let other : 101 ≡ 110 = name_differs h.0 in absurd (omega (arith, other))
-explains_alone rows (Import opened file hal) h = let other : 101 ≡ 105 = name_differs h.0 in absurd (omega (arith, other))
+explains_alone rows (Import opened control_on file hal) h = let other : 101 ≡ 105 = name_differs h.0 in absurd (omega (arith, other))
 
 abbrev pub all_codes : List (String Global) → Bool
 all_codes names = list_all (λ name. is_fault_code (string_bytes name)) names
@@ -105,7 +105,7 @@ no_check rows none (Watch r) h = let other = h.0 in cc
 no_check rows none (Waves r) h = let other = h.0 in cc
 no_check rows none (Uses file) h = let other = h.0 in cc
 no_check rows none (Never r) h = let other : 99 ≡ 110 = ap (λ (name : List ℕ). get_or name 0 0) h.0 in absurd (omega (arith, other))
-no_check rows none (Import opened file hal) h = let other : 99 ≡ 105 = ap (λ (name : List ℕ). get_or name 0 0) h.0 in absurd (omega (arith, other))
+no_check rows none (Import opened control_on file hal) h = let other : 99 ≡ 105 = ap (λ (name : List ℕ). get_or name 0 0) h.0 in absurd (omega (arith, other))
 
 pub only_causes : (rows : List Row)
     → ((list : ListRequest) (after upto : Option ℕ) → NamesCauses rows list after upto → ⊥)
@@ -128,7 +128,7 @@ only_causes rows causes held groups possible relevant (Watch r) h = let other = 
 only_causes rows causes held groups possible relevant (Waves r) h = let other = h.0 in cc
 only_causes rows causes held groups possible relevant (Uses file) h = let other = h.0 in cc
 only_causes rows causes held groups possible relevant (Never r) h = let other : 99 ≡ 110 = ap (λ (name : List ℕ). get_or name 0 0) h.0 in absurd (omega (arith, other))
-only_causes rows causes held groups possible relevant (Import opened file hal) h = let other : 99 ≡ 105 = ap (λ (name : List ℕ). get_or name 0 0) h.0 in absurd (omega (arith, other))
+only_causes rows causes held groups possible relevant (Import opened control_on file hal) h = let other : 99 ≡ 105 = ap (λ (name : List ℕ). get_or name 0 0) h.0 in absurd (omega (arith, other))
 
 -- What some state switches on is asked for by a flag, and the other lists without it.
 only_possible : (rows : List Row) → HasFlag (codes "any") rows → ((r : PossibleRequest) → Asks (codes "causes") rows (Possible r) → ⊥)
@@ -167,7 +167,7 @@ only_show rows show film (Watch r) h = let other = h.0 in cc
 only_show rows show film (Waves r) h = let other = h.0 in cc
 only_show rows show film (Uses file) h = let other : 115 ≡ 117 = ap (λ (name : List ℕ). get_or name 0 0) h.0 in absurd (omega (arith, other))
 only_show rows show film (Never r) h = let other : 115 ≡ 110 = ap (λ (name : List ℕ). get_or name 0 0) h.0 in absurd (omega (arith, other))
-only_show rows show film (Import opened file hal) h = let other : 115 ≡ 105 = ap (λ (name : List ℕ). get_or name 0 0) h.0 in absurd (omega (arith, other))
+only_show rows show film (Import opened control_on file hal) h = let other : 115 ≡ 105 = ap (λ (name : List ℕ). get_or name 0 0) h.0 in absurd (omega (arith, other))
 
 pub only_sim : (rows : List Row)
     → ((r : SimRequest) → Asks (codes "sim") rows (Sim r) → ⊥)
@@ -188,7 +188,7 @@ only_sim rows sim watch waves (Watch r) h = watch r h
 only_sim rows sim watch waves (Waves r) h = waves r h
 only_sim rows sim watch waves (Uses file) h = let other : 115 ≡ 117 = ap (λ (name : List ℕ). get_or name 0 0) h.0 in absurd (omega (arith, other))
 only_sim rows sim watch waves (Never r) h = let other : 115 ≡ 110 = ap (λ (name : List ℕ). get_or name 0 0) h.0 in absurd (omega (arith, other))
-only_sim rows sim watch waves (Import opened file hal) h = let other : 115 ≡ 105 = ap (λ (name : List ℕ). get_or name 0 0) h.0 in absurd (omega (arith, other))
+only_sim rows sim watch waves (Import opened control_on file hal) h = let other : 115 ≡ 105 = ap (λ (name : List ℕ). get_or name 0 0) h.0 in absurd (omega (arith, other))
 
 pub no_uses : (rows : List Row) → first_of (codes "file") rows ≡ None → AsksNone (codes "uses") rows
 no_uses rows none (Check file warns) h = let other = h.0 in cc
@@ -205,24 +205,37 @@ no_uses rows none (Watch r) h = let other : 117 ≡ 115 = ap (λ (name : List �
 no_uses rows none (Waves r) h = let other : 117 ≡ 115 = ap (λ (name : List ℕ). get_or name 0 0) h.0 in absurd (omega (arith, other))
 no_uses rows none (Uses file) h = let some = h.1 in cc
 no_uses rows none (Never r) h = let other : 117 ≡ 110 = ap (λ (name : List ℕ). get_or name 0 0) h.0 in absurd (omega (arith, other))
-no_uses rows none (Import opened file hal) h = let other : 117 ≡ 105 = ap (λ (name : List ℕ). get_or name 0 0) h.0 in absurd (omega (arith, other))
+no_uses rows none (Import opened control_on file hal) h = let other : 117 ≡ 105 = ap (λ (name : List ℕ). get_or name 0 0) h.0 in absurd (omega (arith, other))
+
+only_import : (rows : List Row)
+    → ((opened control_on : Bool) (file : String Global) (hal : Option (String Global)) → Asks (codes "import") rows (Import opened control_on file hal) → ⊥)
+    → AsksNone (codes "import") rows
+only_import rows import (Check file warns) h = let other : 105 ≡ 99 = name_differs h.0 in absurd (omega (arith, other))
+only_import rows import (Causes list after upto) h = let other : 105 ≡ 99 = name_differs h.0 in absurd (omega (arith, other))
+only_import rows import (Progress list after upto) h = let other : 105 ≡ 99 = name_differs h.0 in absurd (omega (arith, other))
+only_import rows import (Held list scans every grouped) h = let other : 105 ≡ 99 = name_differs h.0 in absurd (omega (arith, other))
+only_import rows import (Groups list grouping) h = let other : 105 ≡ 99 = name_differs h.0 in absurd (omega (arith, other))
+only_import rows import (Possible r) h = let other : 105 ≡ 99 = name_differs h.0 in absurd (omega (arith, other))
+only_import rows import (Relevant list after grouping) h = let other : 105 ≡ 99 = name_differs h.0 in absurd (omega (arith, other))
+only_import rows import (Show r) h = let other : 105 ≡ 115 = name_differs h.0 in absurd (omega (arith, other))
+only_import rows import (Film r) h = let other : 105 ≡ 115 = name_differs h.0 in absurd (omega (arith, other))
+only_import rows import (Sim r) h = let other : 105 ≡ 115 = name_differs h.0 in absurd (omega (arith, other))
+only_import rows import (Watch r) h = let other : 105 ≡ 115 = name_differs h.0 in absurd (omega (arith, other))
+only_import rows import (Waves r) h = let other : 105 ≡ 115 = name_differs h.0 in absurd (omega (arith, other))
+only_import rows import (Uses file) h = let other : 105 ≡ 117 = name_differs h.0 in absurd (omega (arith, other))
+only_import rows import (Never r) h = let other : 105 ≡ 110 = name_differs h.0 in absurd (omega (arith, other))
+only_import rows import (Import opened control_on file hal) h = import opened control_on file hal h
 
 pub no_import : (rows : List Row) → first_of (codes "file") rows ≡ None → AsksNone (codes "import") rows
-no_import rows none (Check file warns) h = let other : 105 ≡ 99 = name_differs h.0 in absurd (omega (arith, other))
-no_import rows none (Causes list after upto) h = let other : 105 ≡ 99 = name_differs h.0 in absurd (omega (arith, other))
-no_import rows none (Progress list after upto) h = let other : 105 ≡ 99 = name_differs h.0 in absurd (omega (arith, other))
-no_import rows none (Held list scans every grouped) h = let other : 105 ≡ 99 = name_differs h.0 in absurd (omega (arith, other))
-no_import rows none (Groups list grouping) h = let other : 105 ≡ 99 = name_differs h.0 in absurd (omega (arith, other))
-no_import rows none (Possible r) h = let other : 105 ≡ 99 = name_differs h.0 in absurd (omega (arith, other))
-no_import rows none (Relevant list after grouping) h = let other : 105 ≡ 99 = name_differs h.0 in absurd (omega (arith, other))
-no_import rows none (Show r) h = let other : 105 ≡ 115 = name_differs h.0 in absurd (omega (arith, other))
-no_import rows none (Film r) h = let other : 105 ≡ 115 = name_differs h.0 in absurd (omega (arith, other))
-no_import rows none (Sim r) h = let other : 105 ≡ 115 = name_differs h.0 in absurd (omega (arith, other))
-no_import rows none (Watch r) h = let other : 105 ≡ 115 = name_differs h.0 in absurd (omega (arith, other))
-no_import rows none (Waves r) h = let other : 105 ≡ 115 = name_differs h.0 in absurd (omega (arith, other))
-no_import rows none (Uses file) h = let other : 105 ≡ 117 = name_differs h.0 in absurd (omega (arith, other))
-no_import rows none (Never r) h = let other : 105 ≡ 110 = name_differs h.0 in absurd (omega (arith, other))
-no_import rows none (Import opened file hal) h = let some = h.2 in cc
+no_import rows none = only_import rows (λ opened control_on file hal h. let some = h.3 in cc)
+
+pub no_control : (rows : List Row) → ((on : Bool) → HasControl on rows → ⊥) → AsksNone (codes "import") rows
+no_control rows none = only_import rows (λ opened control_on file hal h. none control_on h.2)
+
+-- a word that isn't the one of the option
+pub no_control_of : (rows : List Row) (text : Text) → first_of (codes "control") rows ≡ Some text → (text ≡ codes "on" → ⊥) → (on : Bool) → HasControl on rows → ⊥
+no_control_of rows text is other true h = let given : text ≡ codes "on" = let both = sym is ∙ h in cc in other given
+no_control_of rows text is other false h = let bad = sym is ∙ h in cc
 
 pub only_never : (rows : List Row)
     → ((r : NeverRequest) → Asks (codes "never") rows (Never r) → ⊥)
@@ -241,7 +254,7 @@ only_never rows never (Watch r) h = let other : 110 ≡ 115 = ap (λ (name : Lis
 only_never rows never (Waves r) h = let other : 110 ≡ 115 = ap (λ (name : List ℕ). get_or name 0 0) h.0 in absurd (omega (arith, other))
 only_never rows never (Uses file) h = let other : 110 ≡ 117 = ap (λ (name : List ℕ). get_or name 0 0) h.0 in absurd (omega (arith, other))
 only_never rows never (Never r) h = never r h
-only_never rows never (Import opened file hal) h = let other : 110 ≡ 105 = ap (λ (name : List ℕ). get_or name 0 0) h.0 in absurd (omega (arith, other))
+only_never rows never (Import opened control_on file hal) h = let other : 110 ≡ 105 = ap (λ (name : List ℕ). get_or name 0 0) h.0 in absurd (omega (arith, other))
 
 lasts : (rows : List Row) (scans every : ℕ) → HasScans scans every rows → (o : Option Lasting) × MayLast o rows
 lasts rows scans every (inl h) = (Some (Count scans), h)

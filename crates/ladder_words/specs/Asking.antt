@@ -59,6 +59,11 @@ HasExcluded excluded.On rows = (HasFlag (codes "off") rows → ⊥) × (HasFlag 
 HasExcluded excluded.Off rows = HasFlag (codes "off") rows × (HasFlag (codes "pairs") rows → ⊥)
 HasExcluded excluded.BothOn rows = (HasFlag (codes "off") rows → ⊥) × HasFlag (codes "pairs") rows
 
+-- Timers without a control input have it ON: an option says so, by the one word that it may have.
+abbrev pub HasControl : Bool → List Row → Type 0
+HasControl true rows = HasText (codes "control") rows (codes "on")
+HasControl false rows = HasOption (codes "control") rows None
+
 -- how a drawing is to be written
 abbrev pub HasMedium : Medium → List Row → Type 0
 HasMedium medium.Text rows = HasFlag (codes "html") rows → ⊥
@@ -282,8 +287,9 @@ Asks name rows (Waves r) = (name ≡ codes "sim")
     × HasText (codes "stimulus") rows (string_bytes r.stimulus)
     × HasWatched rows false []
 Asks name rows (Uses file) = (name ≡ codes "uses") × HasText (codes "file") rows (string_bytes file)
-Asks name rows (Import opened file hal) = (name ≡ codes "import")
+Asks name rows (Import opened control_on file hal) = (name ≡ codes "import")
     × HasSwitch (codes "open") rows opened
+    × HasControl control_on rows
     × HasText (codes "file") rows (string_bytes file)
     × HasOption (codes "hal") rows (option_map string_bytes hal)
 
@@ -291,9 +297,9 @@ Asks name rows (Import opened file hal) = (name ≡ codes "import")
 abbrev pub AsksNone : Text → List Row → Type 0
 AsksNone name rows = (r : Request) → Asks name rows r → ⊥
 
--- the request and the flag of every subcommand are what the subcommand's name and values say
+-- the request and the flags of every subcommand are what the subcommand's name and values say
 abbrev pub Says : Text → List Row → CommandLine → Type 0
-Says name rows line = Asks name rows line.request × HasSwitch (codes "why") rows line.why
+Says name rows line = Asks name rows line.request × HasSwitch (codes "aliases") rows line.aliases × HasSwitch (codes "why") rows line.why
 
 -- these names are given, and each is the code of a fault
 abbrev pub NamesCodes : List Row → List (String Global) → Type 0

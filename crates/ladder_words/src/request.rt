@@ -260,6 +260,8 @@ pub enum Request {
     Import {
         /// Whether numbers and sequential charts are opened.
         opened: bool,
+        /// Whether a timer without a control input has it ON.
+        control_on: bool,
         /// The file of the project.
         file: String,
         /// The HAL file after whose signals inputs and outputs are named.
@@ -278,10 +280,12 @@ pub enum Task {
     Explain(Vec<String>),
 }
 
-/// A request, with the flag of every subcommand that makes one.
+/// A request, with the flags of every subcommand that makes one.
 #[derive(Drop)]
 pub struct CommandLine {
     pub request: Request,
+    /// Whether aliases are printed in place of names; an import has none.
+    pub aliases: bool,
     /// Whether a fault is explained, after its line.
     pub why: bool,
 }

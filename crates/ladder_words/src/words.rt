@@ -1,12 +1,12 @@
 //! From the arguments of a command line to a request.
 
-ghost use Rattle.std.specs.Prelude.{◌≡◌, [], codes, IfSome, IsSome, OnOk, IfOk, IfErr, map, string_bytes, None, Some};
+ghost use Rattle.std.specs.Prelude.{◌≡◌, [], Bool, codes, IfSome, IsSome, OnOk, IfOk, IfErr, map, string_bytes, None, Some};
 ghost use Rattle.std.specs.List.{list_all};
 ghost use Rattle.clap.specs.Words.{Text, found_of, kind_of, rows_of, subcommand_rows_of};
 ghost use Rattle.clap.specs.Words.{fault_of as clap_fault};
 ghost use Rattle.ladder_command.specs.CommandLine.{ladder_app};
 ghost use Rattle.ladder_pages.specs.Pages.{is_fault_code};
-ghost use Rattle.ladder_words.specs.Asking.{Asks, AsksBy, AsksNone, HasExcluded, HasNoTask, HasTask, Says};
+ghost use Rattle.ladder_words.specs.Asking.{Asks, AsksBy, AsksNone, HasControl, HasExcluded, HasNoTask, HasTask, Says};
 ghost use Rattle.ladder_words.specs.Faults.{IsFaultOf, SaysOf, UsageWhere};
 
 use crate::causes::causes_request;
@@ -27,7 +27,7 @@ use std::alloc::Global;
 ///
 /// `Mistake` where `clap` finds a fault other than that help is asked for, with what it says of it, or `Usage` when there is no memory for that; `Usage` where a fault has none of the named codes, where groups of one scan or a list over several scans are to begin after a
 /// number, to end at one or to tell how far they are, where a list over the inputs that matter is to end at a number or to tell how far it is, where a time between scans is asked for without several scans, several scans by their number and by a time, where a form or the order `auto` is asked for without groups of one scan in one state, or both forms, or a statement with a limit, or an order that has another name, where
-/// neither a coil is named nor each meant, where inputs are named beside all of them, where those that matter are asked for and others are listed, or several scans or any state are asked of, where any state is asked of and a state, a moment, a number to begin after or to end at, lines of how far the list is, several scans, a time between scans, a form or the order `auto` is named as well, where it is said which states count, or how long a search is, and any state isn't asked of, where a stimulus is to be shown with a moment, a number or listed inputs, or a waveform to be written with a saved state or with what is watched, where names are watched beside all of them, and nowhere else; `Help` with its text where help is asked for; `Memory` when out of memory.
+/// neither a coil is named nor each meant, where inputs are named beside all of them, where those that matter are asked for and others are listed, or several scans or any state are asked of, where any state is asked of and a state, a moment, a number to begin after or to end at, lines of how far the list is, several scans, a time between scans, a form or the order `auto` is named as well, where it is said which states count, or how long a search is, and any state isn't asked of, where a stimulus is to be shown with a moment, a number or listed inputs, or a waveform to be written with a saved state or with what is watched, where names are watched beside all of them, where the control input of timers is to be anything but `on`, and nowhere else; `Help` with its text where help is asked for; `Memory` when out of memory.
 pub fn read_words(alloc: Global, words: Vec<String>) -> Result<Task, WordFault>
     ensures asks { IfOk result (AsksBy ladder_app (map string_bytes words.items)) }
 
@@ -127,6 +127,7 @@ fn line_of(alloc: Global, name: &str, found: &ArgMatches<'_>) -> Result<CommandL
     match request_of(alloc, name, found) {
         Ok(request) => Ok(CommandLine {
             request,
+            aliases: is_set(found, "aliases"),
             why: is_set(found, "why"),
         }),
         Err(fault) => Err(fault),
@@ -171,9 +172,27 @@ fn import_request(alloc: Global, found: &ArgMatches<'_>) -> Result<Request, Word
     ensures err { IfErr result (UsageWhere (AsksNone (codes "import") (rows_of (found_of found.now)))) }
 {
     let opened = is_set(found, "open");
+    let control_on = control_of(found)?;
     let hal = optional(alloc, found, "hal")?;
     let file = text(alloc, found, "file")?;
-    Ok(Request::Import { opened, file, hal })
+    Ok(Request::Import {
+        opened,
+        control_on,
+        file,
+        hal,
+    })
+}
+
+/// Whether a timer without a control input has it ON.
+fn control_of(found: &ArgMatches<'_>) -> Result<bool, WordFault>
+    ensures ok { IfOk result (λ on. HasControl on (rows_of (found_of found.now))) }
+    ensures err { IfErr result (UsageWhere ((on : Bool) → HasControl on (rows_of (found_of found.now)) → ⊥)) }
+{
+    match found.get_str("control") {
+        None => Ok(false),
+        Some("on") => Ok(true),
+        Some(_) => Err(WordFault::Usage),
+    }
 }
 
 /// What the flags ask to be shut out for ever.
