@@ -19,11 +19,11 @@ fn name_of(decls: &Decls, symbol: Symbol) -> &[u8]
 {
     match symbol {
         Symbol::Var(var) => match decls.vars().get(var) {
-            Some(var) => var.name.bytes(),
+            Some(var) => var.title.bytes(),
             None => b"",
         },
         Symbol::Instance(inst) => match decls.instances().get(inst) {
-            Some(instance) => instance.name.bytes(),
+            Some(instance) => instance.title.bytes(),
             None => b"",
         },
     }

@@ -52,10 +52,10 @@ ends_at p marks j row column n = list_any (λ r. is_some_of n (end_of p marks j 
 -- ---- what is written of it
 
 abbrev pub var_name : Declared → ℕ → List ℕ
-var_name d var = elim (slice_get d.vars var) [ None ↦ [] | Some v ↦ v.name ]
+var_name d var = elim (slice_get d.vars var) [ None ↦ [] | Some v ↦ v.title ]
 
 abbrev pub instance_name : Declared → ℕ → List ℕ
-instance_name d inst = elim (slice_get d.instances inst) [ None ↦ [] | Some i ↦ i.name ]
+instance_name d inst = elim (slice_get d.instances inst) [ None ↦ [] | Some i ↦ i.title ]
 
 -- what a contact reads, or whose output a block gives
 abbrev pub open_name : Declared → Cell → List ℕ

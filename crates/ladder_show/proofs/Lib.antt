@@ -1,6 +1,6 @@
 pub mod Fitting
 pub mod Gets
 pub mod Noted
-pub mod PlainNames
+pub mod PlainTitles
 pub mod Showings
 pub mod Untagging

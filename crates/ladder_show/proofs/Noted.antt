@@ -17,21 +17,21 @@ pub sends_as : {T E : Type 0} (a b : WriteLog) (w0 w1 : List ℕ) (r : Result T 
 sends_as a b w0 w1 r text other e p = subst (λ t. Sends a b w0 w1 r t) e p
 
 pub value_noted : (inputs : Bool) (d : Declared) (after : Standing) (number many : ℕ) (v : Var) (name : List ℕ) (value : Bool)
-    → slice_get d.vars number ≡ Some v → is_among inputs v ≡ true → many ≡ noted_before inputs d.vars number → name ≡ v.name
+    → slice_get d.vars number ≡ Some v → is_among inputs v ≡ true → many ≡ noted_before inputs d.vars number → name ≡ v.title
     → value ≡ get_or after.held.values number false → value_text many name value ≡ numbered_note inputs d after number
 value_noted inputs d after number many v name value found among before named is =
     let all = noted_before inputs d.vars number in
     ap (λ n. value_text n name value) before
     ∙ ap (λ t. value_text all t value) named
-    ∙ ap (value_text all v.name) is
-    ∙ ap (λ b. cond b (value_text all v.name (get_or after.held.values number false)) []) (sym among)
+    ∙ ap (value_text all v.title) is
+    ∙ ap (λ b. cond b (value_text all v.title (get_or after.held.values number false)) []) (sym among)
     ∙ ap (var_note inputs after all number) (sym found)
 
 pub not_among : (inputs : Bool) (d : Declared) (after : Standing) (number : ℕ) (v : Var) → slice_get d.vars number ≡ Some v → is_among inputs v ≡ false
     → [] ≡ numbered_note inputs d after number
 not_among inputs d after number v found among =
     let all = noted_before inputs d.vars number in
-    ap (λ b. cond b (value_text all v.name (get_or after.held.values number false)) []) (sym among)
+    ap (λ b. cond b (value_text all v.title (get_or after.held.values number false)) []) (sym among)
     ∙ ap (var_note inputs after all number) (sym found)
 
 pub not_declared : (inputs : Bool) (d : Declared) (after : Standing) (number : ℕ) → slice_get d.vars number ≡ None → [] ≡ numbered_note inputs d after number

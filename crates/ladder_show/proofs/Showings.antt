@@ -8,6 +8,7 @@ use Rattle.ladder_page.specs.Picture.{Lines}
 use Rattle.ladder_page.specs.declared.lines.Part.{Part}
 use Rattle.ladder_grid.specs.Program.{Drawing}
 use Rattle.ladder_grid.specs.Reading.{IsProgram}
+use Rattle.ladder_grid.specs.Titled.{without_aliases}
 use Rattle.ladder_scan.specs.declared.seen.Mark.{Mark}
 use Rattle.ladder_scan.specs.Programs.{diagram_of}
 use Rattle.ladder_scan.specs.Seen.{AreMarks}
@@ -16,7 +17,7 @@ use Rattle.ladder_show.specs.declared.picture.Style.{Style}
 use Rattle.ladder_show.specs.Showing.{IsDrawn, OneScan, state_after, whole_of}
 
 -- a program has as many rungs as the outline of its text
-pub rungs_of : (text : List ℕ) (p : Drawing) (place : ℕ) (parts ps : List Part) → IsProgram text p → IsOnlyOutline text place parts → ps ≡ parts → length ps ≡ p.rungs
+pub rungs_of : (text : List ℕ) (p : Drawing) (place : ℕ) (parts ps : List Part) → IsProgram text (without_aliases p) → IsOnlyOutline text place parts → ps ≡ parts → length ps ≡ p.rungs
 rungs_of text p place parts ps program only e =
     ap (λ (xs : List Part). length xs) (e ∙ sym (only program.page program.rest program.read program.reads).1) ∙ sym program.drawn.rungs
 

@@ -15,9 +15,9 @@ untagged false (b ∷ bs) = if b == 60 then untagged true bs else b ∷ untagged
 abbrev pub KeepsCharacters : List Mark → ℕ → ℕ → List ℕ → Type 0
 KeepsCharacters marks rung line text = untagged false (drawn_line marks rung line text) ≡ escaped_line text
 
--- Notes have names in them as they are: a name is the same escaped.
+-- Notes have titles in them as they are: a title is the same escaped.
 abbrev pub IsPlain : List ℕ → Type 0
 IsPlain text = escaped_line text ≡ text
 
-abbrev pub HasPlainNames : Declared → Type 0
-HasPlainNames declared = All (λ v. IsPlain v.name) declared.vars × All (λ i. IsPlain i.name) declared.instances
+abbrev pub HasPlainTitles : Declared → Type 0
+HasPlainTitles declared = All (λ v. IsPlain v.title) declared.vars × All (λ i. IsPlain i.title) declared.instances

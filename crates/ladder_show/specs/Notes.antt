@@ -34,7 +34,7 @@ stored_note name preset now (Bistable q) = []
 
 abbrev pub instance_note : Standing → ℕ → Option Instance → List ℕ
 instance_note after inst None = []
-instance_note after inst (Some i) = stored_note i.name i.preset after.moment (slice_index_or after.held.kept.blocks inst (new_block Ton))
+instance_note after inst (Some i) = stored_note i.title i.preset after.moment (slice_index_or after.held.kept.blocks inst (new_block Ton))
 
 -- the note of a cell
 abbrev pub cell_note : Drawing → Standing → Cell → List ℕ
@@ -72,7 +72,7 @@ value_text many name false = lead many ++ (name ++ codes "=0")
 abbrev pub var_note : Bool → Standing → ℕ → ℕ → Option Var → List ℕ
 var_note inputs after many var None = []
 var_note inputs after many var (Some v) =
-    if is_among inputs v then value_text many v.name (slice_index_or after.held.values var false) else []
+    if is_among inputs v then value_text many v.title (slice_index_or after.held.values var false) else []
 
 abbrev pub numbered_note : Bool → Declared → Standing → ℕ → List ℕ
 numbered_note inputs declared after var = var_note inputs after (noted_before inputs declared.vars var) var (slice_get declared.vars var)

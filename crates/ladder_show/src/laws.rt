@@ -2,7 +2,7 @@
 
 ghost use Rattle.std.specs.Prelude.{ℕ, All, List};
 ghost use Rattle.ladder_scan.specs.declared.seen.Mark.{Mark};
-ghost use Rattle.ladder_show.specs.Browser.{HasPlainNames, IsPlain, KeepsCharacters};
+ghost use Rattle.ladder_show.specs.Browser.{HasPlainTitles, IsPlain, KeepsCharacters};
 
 use ladder_grid::Program;
 use ladder_vars::{Instance, Var};
@@ -14,24 +14,24 @@ pub fn keeps_characters()
 
 // Looks at each name for its contract.
 fn plain_vars(vars: &[Var])
-    ensures { All (λ v. IsPlain v.name) vars.now }
+    ensures { All (λ v. IsPlain v.title) vars.now }
 {
     for number in 0..vars.len() {
-        let _name = vars[number].name.bytes();
+        let _title = vars[number].title.bytes();
     }
 }
 
 fn plain_instances(instances: &[Instance])
-    ensures { All (λ i. IsPlain i.name) instances.now }
+    ensures { All (λ i. IsPlain i.title) instances.now }
 {
     for number in 0..instances.len() {
-        let _name = instances[number].name.bytes();
+        let _title = instances[number].title.bytes();
     }
 }
 
-/// The names of a program have no character that HTML escapes.
+/// The titles of a program have no character that HTML escapes.
 pub fn plain_names(program: &Program)
-    ensures { HasPlainNames program.now.decls }
+    ensures { HasPlainTitles program.now.decls }
 {
     plain_vars(program.decls().vars());
     plain_instances(program.decls().instances());

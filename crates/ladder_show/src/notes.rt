@@ -95,7 +95,7 @@ fn add_instance_note<W: Sink>(
     match instance {
         Some(instance) => add_stored_note(
             block,
-            instance.name.bytes(),
+            instance.title.bytes(),
             instance.preset,
             after.moment(),
             after.stored(inst),
@@ -222,7 +222,7 @@ fn add_numbered_note<W: Sink>(
         Some(var) => {
             if is_among(inputs, var) {
                 let value = picture.after.value_or_off(number);
-                add_value(block, many, var.name.bytes(), value, writer)
+                add_value(block, many, var.title.bytes(), value, writer)
             } else {
                 block.add(b"", writer)
             }

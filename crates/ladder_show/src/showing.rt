@@ -2,6 +2,7 @@
 
 ghost use Rattle.std.specs.Prelude.{◌≡◌, ◌≤◌, IfErr, OnOk, drop, length};
 ghost use Rattle.ladder_grid.specs.Reading.{IsProgram};
+ghost use Rattle.ladder_grid.specs.Titled.{without_aliases};
 ghost use Rattle.ladder_scan.specs.Standing.{Fits, Standing};
 ghost use Rattle.ladder_show.specs.Pictures.{IsSeen};
 ghost use Rattle.ladder_show.specs.Showing.{Fails, IsLeft, Written, scan_of, state_after};
@@ -47,7 +48,7 @@ fn write_seen<W: Sink>(
     marks: &[Mark],
     writer: &mut W,
 ) -> Result<(), ShowFault>
-    requires { IsProgram scan.text.now scan.program.now }
+    requires { IsProgram scan.text.now (without_aliases scan.program.now) }
     ensures wrote { OnOk result ((state : Standing) → IsSeen (scan_of scan.entry state) after.now marks.now → Written style (scan_of scan.entry state) (W.log writer.old) (W.log writer.new)) }
     ensures fails { IfErr result (λ e. (state : Standing) → IsSeen (scan_of scan.entry state) after.now marks.now → Fails style (scan_of scan.entry state) (W.log writer.old) (W.log writer.new) e) }
 {
@@ -85,7 +86,7 @@ pub fn write_drawing<W: Sink>(
     state: &mut State,
     writer: &mut W,
 ) -> Result<(), ShowFault>
-    requires drawn { IsProgram scan.text.now scan.program.now }
+    requires drawn { IsProgram scan.text.now (without_aliases scan.program.now) }
     requires moment { state.old.moment ≤ scan.moment }
     ensures wrote { OnOk result (Written style (scan_of scan.entry state.old) (W.log writer.old) (W.log writer.new)) }
     ensures after { OnOk result (state.new ≡ state_after (scan_of scan.entry state.old)) }

@@ -8,9 +8,9 @@ use Rattle.ladder_grid.specs.Program.{Drawing}
 use Rattle.ladder_questions.specs.Assignment.{bit_of}
 use Rattle.ladder_causes.specs.Cursor.{Cursor, Takes}
 
--- the name of a variable, spelled as declared
+-- the title of a variable
 abbrev pub name_of : Drawing → ℕ → List ℕ
-name_of p var = unwrap_or (option_map (λ (v : Var). v.name) (slice_get p.decls.vars var)) []
+name_of p var = unwrap_or (option_map (λ (v : Var). v.title) (slice_get p.decls.vars var)) []
 
 abbrev pub header_record : Drawing → List ℕ → Fields
 header_record p listed = codes "number" ∷ map (name_of p) listed

@@ -8,7 +8,7 @@ use Rattle.ladder_questions.specs.Assignment.{bit_of}
 use Rattle.ladder_sim.specs.CauseText.{cause_record, header_record}
 
 abbrev pub name_in : Option Var → List ℕ
-name_in var = unwrap_or (option_map (λ (v : Var). v.name) var) []
+name_in var = unwrap_or (option_map (λ (v : Var). v.title) var) []
 
 abbrev pub header : Drawing → List ℕ → List ℕ
 header p listed = line_text (header_record p listed)

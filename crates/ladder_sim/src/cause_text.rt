@@ -38,7 +38,7 @@ pub(crate) fn name_bytes(decls: &Decls, var: usize) -> &[u8]
     ensures { result.now ≡ name_in (slice_get decls.now.vars var) }
 {
     match decls.vars().get(var) {
-        Some(var) => var.name.bytes(),
+        Some(var) => var.title.bytes(),
         None => b"",
     }
 }

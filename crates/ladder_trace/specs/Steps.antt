@@ -3,6 +3,7 @@ use Rattle.std.specs.Prelude.{◌≡◌, ◌<◌, ◌≤◌, ◌++◌, ◌∷◌
 use Rattle.ladder_vars.specs.Decls.{Declared}
 use Rattle.ladder_grid.specs.Program.{Drawing}
 use Rattle.ladder_grid.specs.Reading.{IsProgram}
+use Rattle.ladder_grid.specs.Titled.{without_aliases}
 use Rattle.ladder_records.specs.Left.{Fields}
 use Rattle.ladder_scan.specs.Standing.{Standing}
 use Rattle.ladder_text.specs.Log.{PutsAll, PutsPrefix, WriteLog}
@@ -20,7 +21,7 @@ use Rattle.ladder_trace.specs.Trace.{IsStep, Tells, scanned}
 abbrev pub CanRecord : Recording → Drawing → Type 0
 CanRecord recordings.Trace p = Unit {0}
 CanRecord (recordings.Watched columns) p = Unit {0}
-CanRecord (recordings.Film film) p = IsProgram film.text.now p
+CanRecord (recordings.Film film) p = IsProgram film.text.now (without_aliases p)
 CanRecord recordings.Waves p = Unit {0}
 
 -- One scan at a moment with these inputs leads from s to t, and the piece tells of it.

@@ -25,9 +25,9 @@ is_output v = elim v.kind [ kind.Output ↦ true | _ ↦ false ]
 abbrev pub values_of : (Var → Bool) → List Var → List Bool → List Bool
 values_of is_asked vars values = map (λ pair. pair.1) (filter (λ pair. is_asked pair.0) (zip vars values))
 
--- The first line of a trace is the word for the moment and the names of the outputs, as they are declared.
+-- The first line of a trace is the word for the moment and the titles of the outputs, in order of declaration.
 abbrev pub trace_header : Drawing → List ℕ
-trace_header p = line_text (codes "moment" ∷ map (λ v. v.name) (filter is_output p.decls.vars))
+trace_header p = line_text (codes "moment" ∷ map (λ v. v.title) (filter is_output p.decls.vars))
 
 -- The line of a state is its moment and its output image: the values of the outputs.
 abbrev pub trace_row : Drawing → Standing → List ℕ
@@ -35,7 +35,7 @@ trace_row p s = line_text (decimal s.moment ∷ map bit_text (values_of is_outpu
 
 -- The same with columns behind the outputs, in this order.
 abbrev pub watched_header : Drawing → List Column → List ℕ
-watched_header p columns = line_text (codes "moment" ∷ (map (λ v. v.name) (filter is_output p.decls.vars) ++ map (column_name p.decls) columns))
+watched_header p columns = line_text (codes "moment" ∷ (map (λ v. v.title) (filter is_output p.decls.vars) ++ map (column_name p.decls) columns))
 
 abbrev pub watched_row : Drawing → List Column → Standing → List ℕ
 watched_row p columns s =

@@ -3,6 +3,7 @@
 ghost use Rattle.std.specs.Prelude.{◌≡◌, ◌<◌, ◌≤◌, ◌+◌, [], All, IfSome, List, OnOk, count_by, length};
 ghost use Rattle.csv.specs.Records.{fields_of};
 ghost use Rattle.ladder_grid.specs.Reading.{IsProgram};
+ghost use Rattle.ladder_grid.specs.Titled.{without_aliases};
 ghost use Rattle.ladder_records.specs.Left.{Fields, Left};
 ghost use Rattle.ladder_records.specs.Text.{records_of};
 ghost use Rattle.ladder_resting.specs.Resting.{IsTrueOf};
@@ -155,7 +156,7 @@ fn draw_scan<W: Sink>(
     state: &mut State,
     writer: &mut W,
 ) -> Result<(), SimFault>
-    requires drawn { IsProgram film.text.now run.program.now }
+    requires drawn { IsProgram film.text.now (without_aliases run.program.now) }
     requires fits { Fits run.program.now state.old }
     ensures fits { Fits run.entry.program.now state.new }
     ensures scans { ScansTo (Recording.Film film.entry) run.entry.program.now number state.old moment image.now state.new (W.log writer.old) (W.log writer.new) result }
@@ -429,7 +430,7 @@ pub fn write_film<W: Sink>(
     stimulus: &[u8],
     writer: &mut W,
 ) -> Result<u64, SimFault>
-    requires drawn { IsProgram film.text.now program.now }
+    requires drawn { IsProgram film.text.now (without_aliases program.now) }
     requires fits { Fits program.now state.old }
     ensures fits { Fits program.now state.new }
     ensures ends { Films film.entry program.now state.old (records_of stimulus.now) state.new (W.log writer.old) (W.log writer.new) result }

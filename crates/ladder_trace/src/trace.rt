@@ -29,14 +29,14 @@ pub(crate) fn add_names<W: Sink>(
     vars: &[Var],
     writer: &mut W,
 ) -> Result<(), WriteFault>
-    ensures { Sends (W.log writer.old) (W.log writer.new) block.old block.new result (after_commas (map (λ v. v.name) (filter is_output vars.now))) }
+    ensures { Sends (W.log writer.old) (W.log writer.new) block.old block.new result (after_commas (map (λ v. v.title) (filter is_output vars.now))) }
 {
     for number in 0..vars.len() {
         let var = &vars[number];
         if !is_output(var) {
             continue;
         }
-        add_field(block, var.name.bytes(), writer)?;
+        add_field(block, var.title.bytes(), writer)?;
     }
     Ok(())
 }

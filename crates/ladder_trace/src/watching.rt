@@ -24,7 +24,7 @@ fn var_name(decls: &Decls, var: usize) -> &[u8]
     ensures { result.now ≡ var_name decls.now var }
 {
     match decls.vars().get(var) {
-        Some(var) => var.name.bytes(),
+        Some(var) => var.title.bytes(),
         None => b"",
     }
 }
@@ -33,7 +33,7 @@ fn instance_name(decls: &Decls, inst: usize) -> &[u8]
     ensures { result.now ≡ instance_name decls.now inst }
 {
     match decls.instances().get(inst) {
-        Some(instance) => instance.name.bytes(),
+        Some(instance) => instance.title.bytes(),
         None => b"",
     }
 }

@@ -60,10 +60,10 @@ or_unused name (r ∷ rows) = r ∷ rows
 
 -- ---- all names
 
--- how a symbol is spelled where it is declared
+-- the title of a symbol
 abbrev pub name_of : Declared → Symbol → List ℕ
-name_of declared (symbol.Var number) = option_map_or (λ v. v.name) (slice_get declared.vars number) []
-name_of declared (symbol.Instance number) = option_map_or (λ i. i.name) (slice_get declared.instances number) []
+name_of declared (symbol.Var number) = option_map_or (λ v. v.title) (slice_get declared.vars number) []
+name_of declared (symbol.Instance number) = option_map_or (λ i. i.title) (slice_get declared.instances number) []
 
 -- all variables, and then all instances, as they are declared
 abbrev pub symbols_of : Declared → List Symbol

@@ -232,10 +232,10 @@ warning_word NeverWritten = codes "never_written"
 warning_word NeverRead = codes "never_read"
 warning_word NeverReached = codes "never_reached"
 
--- how a variable or an instance is spelled where it is declared
+-- the title of a variable or an instance
 abbrev pub name_of : Declared → Symbol → List ℕ
-name_of declared (symbol.Var number) = option_map_or (λ v. v.name) (slice_get declared.vars number) []
-name_of declared (symbol.Instance number) = option_map_or (λ i. i.name) (slice_get declared.instances number) []
+name_of declared (symbol.Var number) = option_map_or (λ v. v.title) (slice_get declared.vars number) []
+name_of declared (symbol.Instance number) = option_map_or (λ i. i.title) (slice_get declared.instances number) []
 
 -- the name of what is read or written at a place
 abbrev pub name_at : Drawing → ℕ → List ℕ

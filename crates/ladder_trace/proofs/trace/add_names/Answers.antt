@@ -8,7 +8,7 @@ use Rattle.ladder_text.proofs.Sending.{sends_err}
 use Rattle.ladder_trace.proofs.trace.add_names.Goals as goal
 
 abbrev name_of : Var → List ℕ
-name_of v = v.name
+name_of v = v.title
 
 pub loop-number-preserved-then-not-is_output : goal.loop-number-preserved-then-not-is_output
 loop-number-preserved-then-not-is_output g c =

@@ -7,4 +7,4 @@ use Rattle.ladder_trace.proofs.trace.add_names.Given as goal
 
 abbrev pub invariant-loop-number : goal.invariant-loop-number
 invariant-loop-number g l =
-    SendsAll (g.W.Sink.log l.fn.writer) (g.W.Sink.log l.writer) l.fn.block l.block (after_commas (map (λ v. v.name) (chosen (take l.number (map is_output l.vars)) l.vars)))
+    SendsAll (g.W.Sink.log l.fn.writer) (g.W.Sink.log l.writer) l.fn.block l.block (after_commas (map (λ v. v.title) (chosen (take l.number (map is_output l.vars)) l.vars)))

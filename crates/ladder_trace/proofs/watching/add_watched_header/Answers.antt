@@ -9,7 +9,7 @@ use Rattle.ladder_trace.proofs.watching.add_watched_header.Goals as goal
 pub returns-in_err-add : goal.returns-in_err-add
 returns-in_err-add g c = sends_err _ _ _ _ _ _ c.from_residual.ensures.0
     (let p = c.args.program.now in
-    let outputs = map (λ v. v.name) (filter is_output p.decls.vars) in
+    let outputs = map (λ v. v.title) (filter is_output p.decls.vars) in
     let columns = map (column_name p.decls) c.args.watched.now in
     sends_prefix _ _ _ c.args.block.now c.args.block.now (watched_header p c.args.watched.now) [] (codes "moment") (after_commas outputs ++ (after_commas columns ++ codes "\n"))
     (parted (codes "moment") outputs columns) (sends_none _ c.args.block.now) c.in_err-add.ensures)
@@ -17,7 +17,7 @@ returns-in_err-add g c = sends_err _ _ _ _ _ _ c.from_residual.ensures.0
 pub returns-in_err-add_names : goal.returns-in_err-add_names
 returns-in_err-add_names g c = sends_err _ _ _ _ _ _ c.from_residual-in_err-add_names.ensures.0
     (let p = c.args.program.now in
-    let outputs = map (λ v. v.name) (filter is_output p.decls.vars) in
+    let outputs = map (λ v. v.title) (filter is_output p.decls.vars) in
     let columns = map (column_name p.decls) c.args.watched.now in
     sends_prefix _ _ _ _ _ (watched_header p c.args.watched.now) (codes "moment") (after_commas outputs) (after_commas columns ++ codes "\n")
     (parted (codes "moment") outputs columns) c.in_ok-add.ensures
@@ -26,7 +26,7 @@ returns-in_err-add_names g c = sends_err _ _ _ _ _ _ c.from_residual-in_err-add_
 pub returns-in_err-add_column_names : goal.returns-in_err-add_column_names
 returns-in_err-add_column_names g c = sends_err _ _ _ _ _ _ c.from_residual-in_err-add_column_names.ensures.0
     (let p = c.args.program.now in
-    let outputs = map (λ v. v.name) (filter is_output p.decls.vars) in
+    let outputs = map (λ v. v.title) (filter is_output p.decls.vars) in
     let columns = map (column_name p.decls) c.args.watched.now in
     sends_prefix _ _ _ _ _ (watched_header p c.args.watched.now) (codes "moment" ++ after_commas outputs) (after_commas columns) (codes "\n")
     (parted_between (codes "moment") outputs columns)
@@ -36,7 +36,7 @@ returns-in_err-add_column_names g c = sends_err _ _ _ _ _ _ c.from_residual-in_e
 pub returns : goal.returns
 returns g c =
     let p = c.args.program.now in
-    let outputs = map (λ v. v.name) (filter is_output p.decls.vars) in
+    let outputs = map (λ v. v.title) (filter is_output p.decls.vars) in
     let columns = map (column_name p.decls) c.args.watched.now in
     sends_last _ _ _ _ _ _ (watched_header p c.args.watched.now) ((codes "moment" ++ after_commas outputs) ++ after_commas columns) (codes "\n") _
     (parted_behind (codes "moment") outputs columns)
