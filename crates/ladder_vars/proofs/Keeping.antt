@@ -1,13 +1,13 @@
 -- Names, addresses and limits are kept by one more declaration exactly where no rule refuses it.
-use Rattle.std.proofs.Common.{◌≡◌, ℕ, ◌≤◌, ◌<◌, false, ◌||◌, ◌==◌, nat_le, nat_lt, List, [], ◌∷◌, ◌++◌, length, map, Option, Some, None, refl, sym, ap, ◌∙◌, arith, append_assoc, inl, inr}
-use Rattle.std.specs.List.{IsDistinct, list_any}
+use Rattle.std.proofs.Common.{◌≡◌, Bool, true, suc, ◌+◌, not, cond, is_some, position, ap₂, subst, ℕ, ◌≤◌, ◌<◌, false, ◌||◌, ◌==◌, nat_le, nat_lt, List, [], ◌∷◌, ◌++◌, length, map, Option, Some, None, refl, sym, ap, ◌∙◌, arith, append_assoc, inl, inr}
+use Rattle.std.specs.List.{IsDistinct, list_any, prefix_len}
 use Rattle.std.specs.Option.{option_eq}
 use Rattle.std.specs.Str.{str_to_ascii_lowercase}
 use Rattle.std.proofs.lemmas.Cmp.{nat_eq_equiv, nat_list_eq_equiv}
 use Rattle.std.proofs.lemmas.List.{append-nil, length-append, map-append}
 use Rattle.std.proofs.lemmas.List.Elements.{All-nil, All-push, filter_map-append}
 use Rattle.std.proofs.lemmas.List.Folds.{list_any-append}
-use Rattle.std.proofs.lemmas.Bool.{leb-false, ltb-false}
+use Rattle.std.proofs.lemmas.Bool.{cases_lt, le-ltb, leb-false, lt-ltb, ltb-false}
 use Rattle.ladder_vars.specs.declared.decls.Address.{Address}
 use Rattle.ladder_vars.specs.declared.decls.Var.{Var}
 use Rattle.ladder_vars.specs.declared.decls.Instance.{Instance}
@@ -46,6 +46,28 @@ pub same_address-flips : (a b : Address) → same_address a b ≡ same_address b
 same_address-flips a b = rw (nat_eq-flips a.letter b.letter, nat_eq-flips a.first b.first, same_number-flips a.second b.second) refl
 
 -- ---- what a declaration is compared with
+
+lt_next : (m n : ℕ) → nat_lt (1 + m) (suc n) ≡ nat_lt m n
+lt_next m n =
+    elim (cases_lt m n) [
+      | inl less ↦ lt-ltb (1 + m) (suc n) (omega (arith, less)) ∙ sym (lt-ltb m n less)
+      | inr more ↦ le-ltb (1 + m) (suc n) (omega (arith, more)) ∙ sym (le-ltb m n more)
+    ]
+
+any_within : {X : Type 0} (p : X → Bool) (xs : List X) → nat_lt (prefix_len (λ x. not (p x)) xs) (length xs) ≡ list_any p xs
+any_within p [] = refl
+any_within p (x ∷ xs) =
+    elim (p x) as (λ t. nat_lt (cond (not t) (1 + prefix_len (λ y. not (p y)) xs) 0) (suc (length xs)) ≡ (t || list_any p xs)) [
+      | true ↦ lt-ltb 0 (suc (length xs)) (omega arith)
+      | false ↦ lt_next (prefix_len (λ y. not (p y)) xs) (length xs) ∙ any_within p xs
+    ]
+
+some_when : {X : Type 0} (b : Bool) (x : X) → is_some (cond b (Some x) None) ≡ b
+some_when true x = refl
+some_when false x = refl
+
+pub position_any : {X : Type 0} (p : X → Bool) (xs : List X) → is_some (position p xs) ≡ list_any p xs
+position_any p xs = some_when (nat_lt (prefix_len (λ x. not (p x)) xs) (length xs)) (prefix_len (λ x. not (p x)) xs) ∙ any_within p xs
 
 pub names_none : (d : Declared) (name : List ℕ) → is_declared d name ≡ false → list_any (same_letters name) (names_of d) ≡ false
 names_none d name h =

@@ -148,18 +148,6 @@ fn leading_with(leading: usize, count: usize, kind: VarKind) -> usize
     }
 }
 
-fn is_var(vars: &[Var], name: &Name) -> bool
-    ensures { result ≡ list_any (λ v. same_letters name.now v.name) vars.now }
-{
-    vars.iter().any(|v| name.same(&v.name))
-}
-
-fn is_instance(instances: &[Instance], name: &Name) -> bool
-    ensures { result ≡ list_any (λ i. same_letters name.now i.name) instances.now }
-{
-    instances.iter().any(|i| name.same(&i.name))
-}
-
 fn is_used(vars: &[Var], address: Address) -> bool
     ensures { result ≡ list_any (λ v. is_there v.address address) vars.now }
 {
@@ -203,11 +191,12 @@ impl Decls {
         }
     }
 
+    #[tactic(auto, using(crate::proofs::Keeping::position_any))]
     fn is_declared(&self, name: &Name) -> bool
         ensures value { result ≡ is_declared self.now name.now }
         ensures kept { AreInRange self.now }
     {
-        is_var(&self.vars, name) || is_instance(&self.instances, name)
+        var_at(&self.vars, name).is_some() || instance_at(&self.instances, name).is_some()
     }
 
     fn is_taken(&self, address: Option<Address>) -> bool
