@@ -6,19 +6,15 @@ ghost use Rattle.ladder_clp.specs.declared.reading.Reading.{Reading};
 ghost use Rattle.ladder_import.specs.Import.{HasText, IsFault};
 ghost use Rattle.ladder_import.specs.Refusals.{IsThere};
 
-use crate::control::taken_on;
-use crate::draw::drawing;
-use crate::drawn::sheets_of;
-use crate::names::{blocks_in, drawn_blocks, names_of, used_in};
 use crate::refusal::{Refusal, refusals};
 use ladder_clp::{Project, Reading};
+use ladder_draft::{DraftFault, draft};
 use ladder_faithful::is_carried_over;
 use ladder_grid::{GridFault, read_program};
 use ladder_hal::Link;
 use ladder_page::geometry::RUNGS;
 use ladder_sheet::BlockRef;
 use ladder_vars::VarRule;
-use ladder_vars::limits::{MOST_INSTANCES, MOST_VARS};
 use std::alloc::{AllocError, Global};
 use thiserror::Error;
 
@@ -48,6 +44,17 @@ impl From<AllocError> for ImportFault {
 
     fn from(_error: AllocError) -> ImportFault {
         ImportFault::Memory
+    }
+}
+
+/// A fault of the draft, which says nothing of the elements.
+fn draft_fault(fault: DraftFault) -> ImportFault
+    ensures { (reading : Reading) (p : Project) → IsFault reading p result }
+{
+    match fault {
+        DraftFault::Memory => ImportFault::Memory,
+        DraftFault::TooManyVars => ImportFault::TooManyVars,
+        DraftFault::TooManyBlocks => ImportFault::TooManyBlocks,
     }
 }
 
@@ -93,19 +100,10 @@ fn drawn(
     ensures text { IfOk result (λ v. HasText reading project.now v.items) }
     ensures fault { IfErr result (λ e. IsFault reading project.now e) }
 {
-    let sheets = sheets_of(alloc, reading, project)?;
-    let used = used_in(alloc, &sheets)?;
-    let blocks = blocks_in(alloc, &used, &drawn_blocks(alloc, &sheets)?)?;
-    if blocks.len() > MOST_INSTANCES {
-        return Err(ImportFault::TooManyBlocks);
+    match draft(alloc, reading, project, links) {
+        Ok(draft) => checked(alloc, reading, project, &draft.blocks, draft.text),
+        Err(fault) => Err(draft_fault(fault)),
     }
-    if used.len().saturating_sub(blocks.len()) > MOST_VARS {
-        return Err(ImportFault::TooManyVars);
-    }
-    let timers = taken_on(alloc, &sheets)?;
-    let named = names_of(alloc, project, links, &used, &blocks, &timers)?;
-    let text = drawing(alloc, project, links, &sheets, &named)?;
-    checked(alloc, reading, project, &blocks, text)
 }
 
 fn none_refused(

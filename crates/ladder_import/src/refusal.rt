@@ -5,9 +5,8 @@ ghost use Rattle.ladder_page.specs.declared.geometry.TheConstants.{COLUMNS, ROWS
 ghost use Rattle.ladder_sheet.specs.Reach.{IsPower};
 ghost use Rattle.ladder_import.specs.Refusals.{IsThere, holds, is_coil, is_no_source, is_other};
 
-use crate::drawn::sheets_of;
-use crate::names::drawn_blocks;
 use ladder_clp::{Element, Placed, Project, Reading, writes_number};
+use ladder_draft::blocks_of;
 use ladder_page::geometry::{COLUMNS, ROWS};
 use ladder_sheet::{
     BlockRef, BlockSort, Meaning, Power, Source, element_at, ends_rung, entry_of, has_places,
@@ -478,7 +477,7 @@ pub fn refusals(
 ) -> Result<Vec<Refusal>, AllocError>
     ensures { IfOk result (λ v. All (IsThere reading project.now.rungs.items) v.items) }
 {
-    let blocks = drawn_blocks(alloc, &sheets_of(alloc, reading, project)?)?;
+    let blocks = blocks_of(alloc, reading, project)?;
     let mut refusals = Vec::new(alloc);
     for rung in 0..project.rungs.len() {
         add_rung(reading, project, &blocks, rung, &mut refusals)?;

@@ -47,11 +47,11 @@ abbrev pub HasSwitch : Text → List Row → Bool → Type 0
 HasSwitch id rows true = HasFlag id rows
 HasSwitch id rows false = HasFlag id rows → ⊥
 
--- the form that the flags ask for
+-- the form that the flags ask for; an alias is no name of Structured Text
 abbrev pub HasForm : Form → List Row → Type 0
 HasForm Table rows = (HasFlag (codes "terms") rows → ⊥) × (HasFlag (codes "st") rows → ⊥)
 HasForm Terms rows = HasFlag (codes "terms") rows × (HasFlag (codes "st") rows → ⊥)
-HasForm Statement rows = (HasFlag (codes "terms") rows → ⊥) × HasFlag (codes "st") rows
+HasForm Statement rows = (HasFlag (codes "terms") rows → ⊥) × HasFlag (codes "st") rows × (HasFlag (codes "aliases") rows → ⊥)
 
 -- What is to be shut out for ever: that a name comes ON, where no word says otherwise.
 abbrev pub HasExcluded : Excluded → List Row → Type 0

@@ -100,6 +100,8 @@ fn form_of(found: &ArgMatches<'_>) -> Result<Form, WordFault>
     match (is_set(found, "terms"), is_set(found, "st")) {
         (false, false) => Ok(Form::Table),
         (true, false) => Ok(Form::Terms),
+        // An alias is no name of Structured Text.
+        (false, true) if is_set(found, "aliases") => Err(WordFault::Usage),
         (false, true) => Ok(Form::Statement),
         (true, true) => Err(WordFault::Usage),
     }

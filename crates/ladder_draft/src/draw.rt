@@ -146,10 +146,16 @@ fn add_declaration(
     project: &Project<'_>,
     links: &[Link<'_>],
     named: Named,
+    alias: Option<&[u8]>,
 ) -> Result<(), AllocError> {
     let start = text.len();
     add(text, b"  ")?;
     add(text, named.name.bytes())?;
+    if let Some(alias) = alias {
+        add(text, b" (* ")?;
+        add(text, alias)?;
+        add(text, b" *)")?;
+    }
     if named.is_block {
         add_type(text, project, named.used)?;
     } else {
@@ -431,13 +437,14 @@ pub(crate) fn drawing(
     links: &[Link<'_>],
     sheets: &[Sheet<'_>],
     named: &[Named],
+    aliases: &[Option<&[u8]>],
 ) -> Result<Vec<u8>, AllocError> {
     let mut text = Vec::new(alloc);
     add_head(&mut text, sheets, named)?;
     add_taken_on(&mut text, named.iter().filter(|n| n.is_taken_on).count())?;
     add(&mut text, b"VAR\n")?;
-    for other in named {
-        add_declaration(alloc, &mut text, project, links, *other)?;
+    for (other, alias) in named.iter().zip(aliases) {
+        add_declaration(alloc, &mut text, project, links, *other, *alias)?;
     }
     add(&mut text, b"END_VAR\n")?;
     let mut count = 0u32;

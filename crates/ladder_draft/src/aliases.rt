@@ -1,0 +1,65 @@
+//! What lists and traces can call a variable or a block in place of its name.
+
+use crate::bytes::trimmed;
+use crate::names::{Named, signal_of, symbol_of};
+use ladder_clp::Project;
+use ladder_hal::Link;
+use ladder_vars::Title;
+use std::alloc::{AllocError, Global};
+
+/// What the project calls it, or else the signal of its pin.
+fn word_of<'a>(
+    alloc: Global,
+    project: &Project<'a>,
+    links: &[Link<'a>],
+    named: &Named,
+) -> Result<Option<&'a [u8]>, AllocError> {
+    if let Some(symbol) = symbol_of(alloc, project, named.used)? {
+        let word = trimmed(symbol.name);
+        if !word.is_empty() && !word.starts_with(b"%") {
+            return Ok(Some(word));
+        }
+    }
+    Ok(signal_of(links, named.used))
+}
+
+fn is_name(named: &[Named], word: &[u8]) -> bool {
+    named
+        .iter()
+        .any(|other| other.name.bytes().eq_ignore_ascii_case(word))
+}
+
+fn is_alias(aliases: &[Option<&[u8]>], word: &[u8]) -> bool {
+    for alias in aliases {
+        if let Some(alias) = alias {
+            if alias.eq_ignore_ascii_case(word) {
+                return true;
+            }
+        }
+    }
+    false
+}
+
+/// The alias of each: what it is called, where that is another word than its name and no other name or alias.
+pub(crate) fn aliases_of<'a>(
+    alloc: Global,
+    project: &Project<'a>,
+    links: &[Link<'a>],
+    named: &[Named],
+) -> Result<Vec<Option<&'a [u8]>>, AllocError> {
+    let mut aliases: Vec<Option<&'a [u8]>> = Vec::new(alloc);
+    for other in named {
+        let alias = match word_of(alloc, project, links, other)? {
+            Some(word)
+                if Title::new(word).is_some()
+                    && !is_name(named, word)
+                    && !is_alias(&aliases, word) =>
+            {
+                Some(word)
+            }
+            _ => None,
+        };
+        aliases.push(alias)?;
+    }
+    Ok(aliases)
+}
