@@ -53,10 +53,7 @@ pub(crate) fn aliases_of<'a>(
             Some(word)
                 if Title::new(word).is_some()
                     && !is_name(named, word)
-                    && !is_alias(&aliases, word) =>
-            {
-                Some(word)
-            }
+                    && !is_alias(&aliases, word) => { Some(word) }
             _ => None,
         };
         aliases.push(alias)?;

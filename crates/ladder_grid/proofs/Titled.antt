@@ -50,5 +50,5 @@ well_formed_too d e rungs sites same h = record {
   under_block = h.under_block;
   fits = λ i. cell_fits e (cell_in (drawing e rungs sites) i) (subst (λ x. Fits x (cell_in (drawing e rungs sites) i)) (sym same) (h.fits i));
   has_lower = λ i inst block second.
-    h.has_lower i inst block (ap (λ x. has_second (slice_get x.instances inst)) (sym same) ∙ second_alike e.instances inst ∙ second);
+      h.has_lower i inst block (ap (λ x. has_second (slice_get x.instances inst)) (sym same) ∙ second_alike e.instances inst ∙ second);
 }

@@ -72,7 +72,11 @@ fn checked_sites(alloc: Global, page: PageView<'_, '_>) -> Result<(usize, Vec<Si
 }
 
 /// The sites of the drawing in a text, for these declarations.
-pub(crate) fn read_sites(alloc: Global, decls: &Decls, text: &[u8]) -> Result<(usize, Vec<Site>), Stop>
+pub(crate) fn read_sites(
+    alloc: Global,
+    decls: &Decls,
+    text: &[u8],
+) -> Result<(usize, Vec<Site>), Stop>
     ensures found { IfOk result (λ x. AreSitesOf (page_of decls.now text.now) x.0 x.1.items) }
     ensures broken { IfErr result (IsBrokenIn (page_of decls.now text.now)) }
     ensures small { IfErr result IsSmall }
