@@ -7,8 +7,6 @@ use Rattle.ladder_text.specs.Log.{Puts, PutsAll, PutsPrefix, WriteLog}
 use Rattle.ladder_text.proofs.Puts.{prefix_after, puts_more}
 use Rattle.ladder_setting.specs.declared.fault.ToolFault.TheVariants as fault
 use Rattle.ladder_setting.specs.Reports.{HasCauseFault}
-use Rattle.ladder_setting.specs.declared.fault.ToolFault.{ToolFault}
-use Rattle.ladder_setting.specs.Setting.{HasProgramFault}
 
 pub cause_fault : (first : Option CauseFault) (f : CauseFault) → first ≡ reason f → HasCauseFault first (fault.Cause f)
 cause_fault first cause.MomentBack h = inr h
@@ -40,6 +38,3 @@ all_same a b xs ys e h = rw e at h
 
 pub prefix_same : (a b : WriteLog) (xs ys : List ℕ) → xs ≡ ys → PutsPrefix a b xs → PutsPrefix a b ys
 prefix_same a b xs ys e h = rw e at h
-
-pub program_fault : (a b : List ℕ) (f : ToolFault) → a ≡ b → HasProgramFault a f → HasProgramFault b f
-program_fault a b f e h = rw e at h

@@ -48,6 +48,7 @@ sim_sentence sim.Memory = memory_sentence
 
 -- the sentence of a fault that shows in no program text
 abbrev pub sentence : ToolFault → List ℕ
+sentence (fault.Title f) = codes "A1: this alias is the name or the alias of another declaration"
 sentence (fault.Cause f) = cause_sentence f
 sentence fault.NoScans = codes "C8: there are no such scans: none, too many, or one past the last moment"
 sentence (fault.Read kind f) = read_sentence f

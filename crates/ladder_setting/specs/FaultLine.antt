@@ -70,12 +70,13 @@ abbrev pub var_line : VarRule → ℕ → List ℕ
 var_line var.Memory line = codes "fault V9\n"
 var_line rule line = codes "fault V" ++ (decimal (var_number rule) ++ numbered (codes " line ") line)
 
--- By the letter: V and G the rules of a program text, C those of a question, and X what else stops a request. Records are counted from 1,
+-- By the letter: V, A and G the rules of a program text, C those of a question, and X what else stops a request. Records are counted from 1,
 -- a bad one is X2; X1 is a text that can't be read, X5 one that is too long, X6 a writer that failed, and X7, the rest, out of memory.
 abbrev pub fault_line : ToolFault → List ℕ
 fault_line (fault.Grid (grid.Vars f)) = var_line f.rule f.line
 fault_line (fault.Grid (grid.Grid r rung line)) =
     codes "fault G" ++ (decimal (grid_number r) ++ (codes " rung " ++ (decimal rung ++ numbered (codes " line ") line)))
+fault_line (fault.Title f) = numbered (codes "fault A1 line ") f.line
 fault_line (fault.Cause f) = numbered (codes "fault C") (cause_number f)
 fault_line fault.NoScans = codes "fault C8\n"
 fault_line (fault.Read k read.Read) = codes "fault X1 " ++ (kind_word k ++ codes "\n")

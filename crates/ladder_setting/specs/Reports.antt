@@ -1,5 +1,5 @@
 -- What is said of a fault, and how a request ends that has one.
-use Rattle.std.specs.Prelude.{◌≡◌, ◌⊎◌, ◌∷◌, ℕ, List, Bool, Option, None, Some, []}
+use Rattle.std.specs.Prelude.{◌≡◌, ◌⊎◌, ◌∷◌, ℕ, List, Bool, false, Option, None, Some, []}
 use Rattle.ladder_vars.specs.Decls.{Declared}
 use Rattle.ladder_questions.specs.declared.fault.CauseFault.{CauseFault}
 use Rattle.ladder_questions.specs.declared.fault.CauseFault.TheVariants as cause
@@ -27,7 +27,7 @@ IsReported g old new f =
 
 -- no text was read
 abbrev pub unread : Bool → Given
-unread why = record { program = []; state = None; stimulus = None; why = why }
+unread why = record { program = []; state = None; stimulus = None; why = why; aliases = false }
 
 -- Status 1, by a fault that the texts and arguments have: nothing was written but what is said of it on `err`.
 pub record Refuses (g : Given) (Has : ToolFault → Type 0) (old new : Logs) : Type 0 where

@@ -71,6 +71,7 @@ fn sentence(fault: ToolFault) -> &'static [u8]
     ensures { result.now ≡ sentence fault }
 {
     match fault {
+        ToolFault::Title(_) => { b"A1: this alias is the name or the alias of another declaration" }
         ToolFault::Cause(fault) => cause_sentence(fault),
         ToolFault::NoScans => {
             b"C8: there are no such scans: none, too many, or one past the last moment"

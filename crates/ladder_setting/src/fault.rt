@@ -11,7 +11,7 @@ use ladder_rules::GridRule;
 use ladder_state::StateFault;
 use ladder_text::{Piece, ReadFault, Sink, WriteFault, put, put_pieces};
 use ladder_trace::SimFault;
-use ladder_vars::{VarFault, VarRule};
+use ladder_vars::{TitleFault, VarFault, VarRule};
 use thiserror::Error;
 
 /// Which of the files a text is from.
@@ -29,6 +29,9 @@ pub enum ToolFault {
     /// The program text breaks a rule.
     #[error("{0}")]
     Grid(GridFault),
+    /// An alias of the program text is taken.
+    #[error("{0}")]
+    Title(TitleFault),
     /// There is no list of causes.
     #[error("{0}")]
     Cause(CauseFault),
@@ -80,6 +83,7 @@ pub fn write_fault<W: Sink>(fault: &ToolFault, writer: &mut W) -> Result<(), Wri
             ];
             put_pieces(writer, pieces.as_slice())
         }
+        ToolFault::Title(fault) => write_numbered(b"fault A1 line ", fault.line as u64, writer),
         ToolFault::Cause(fault) => write_numbered(b"fault C", cause_number(fault), writer),
         ToolFault::NoScans => put(writer, b"fault C8\n"),
         ToolFault::Read(kind, fault) => write_read_fault(kind, fault, writer),

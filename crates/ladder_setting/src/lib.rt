@@ -11,6 +11,6 @@ mod variables;
 pub use explaining::write_report;
 pub use fault::{TextKind, ToolFault, write_fault};
 pub use reporting::{report, report_unread};
-pub use setting::{Setting, moment, read_setting};
+pub use setting::{Setting, moment, read_given_program, read_setting};
 pub use texts::Texts;
 pub use variables::{CauseVariables, ShownVariables, asked_variables, shown_variables};

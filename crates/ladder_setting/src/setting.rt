@@ -2,11 +2,12 @@
 
 ghost use Rattle.std.specs.Prelude.{◌≡◌, IfErr, IfOk, option_map, unwrap_or, vec_items};
 ghost use Rattle.ladder_scan.specs.Standing.{Fits};
-ghost use Rattle.ladder_setting.specs.Setting.{HasSettingFault, HasState, HasStateFault, IsSet, given_by};
+ghost use Rattle.ladder_grid.specs.Titled.{HasProgram};
+ghost use Rattle.ladder_setting.specs.Setting.{HasProgramFault, HasSettingFault, HasState, HasStateFault, IsSet, given_by};
 
 use crate::fault::ToolFault;
 use crate::texts::Texts;
-use ladder_grid::{Program, read_program};
+use ladder_grid::{Program, TitledFault, read_program, read_titled_program};
 use ladder_scan::State;
 use ladder_state::read_state;
 use std::alloc::Global;
@@ -16,6 +17,24 @@ use std::alloc::Global;
 pub struct Setting {
     pub program: Program,
     pub state: State,
+}
+
+/// Reads the program text, with aliases for titles where they are to be printed.
+pub fn read_given_program(alloc: Global, texts: &Texts) -> Result<Program, ToolFault>
+    ensures program { IfOk result (HasProgram (given_by texts.now).aliases (given_by texts.now).program) }
+    ensures fault { IfErr result (HasProgramFault (given_by texts.now)) }
+{
+    if texts.aliases {
+        return match read_titled_program(alloc, &texts.program) {
+            Ok(program) => Ok(program),
+            Err(TitledFault::Grid(fault)) => Err(ToolFault::Grid(fault)),
+            Err(TitledFault::Title(fault)) => Err(ToolFault::Title(fault)),
+        };
+    }
+    match read_program(alloc, &texts.program) {
+        Ok(program) => Ok(program),
+        Err(fault) => Err(ToolFault::Grid(fault)),
+    }
 }
 
 /// The state of a text, or the fresh one where there is no text.
@@ -46,9 +65,9 @@ pub fn read_setting(alloc: Global, texts: &Texts) -> Result<Setting, ToolFault>
     ensures set { IfOk result (λ s. IsSet (given_by texts.now) s.program s.state) }
     ensures fault { IfErr result (HasSettingFault (given_by texts.now)) }
 {
-    let program = match read_program(alloc, &texts.program) {
+    let program = match read_given_program(alloc, texts) {
         Ok(program) => program,
-        Err(fault) => return Err(ToolFault::Grid(fault)),
+        Err(fault) => return Err(fault),
     };
     match starting_state(alloc, &program, &texts.state) {
         Ok(state) => Ok(Setting { program, state }),

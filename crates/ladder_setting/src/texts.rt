@@ -1,6 +1,6 @@
 //! The texts that a request is about.
 
-/// The texts that a request is about, and how much is said of a fault.
+/// The texts that a request is about, and how much is said of a fault and of a declaration.
 #[derive(Drop)]
 pub struct Texts {
     pub program: Vec<u8>,
@@ -12,4 +12,6 @@ pub struct Texts {
     pub hal: Option<Vec<u8>>,
     /// Whether a fault is explained, after its line.
     pub why: bool,
+    /// Whether aliases are printed in place of names.
+    pub aliases: bool,
 }

@@ -3,7 +3,7 @@ use Rattle.std.specs.Prelude.{◌≡◌, ◌⊎◌, ◌++◌, ℕ, List, [], Boo
 use Rattle.std.specs.Global.{Global}
 use Rattle.ladder_coils.specs.Coils.{coil_names, is_quiet, of_coil}
 use Rattle.ladder_grid.specs.Program.{Drawing}
-use Rattle.ladder_grid.specs.Reading.{IsProgram}
+use Rattle.ladder_grid.specs.Titled.{HasProgram}
 use Rattle.ladder_text.specs.Log.{PutsAll, PutsPrefix, WriteLog}
 use Rattle.ladder_setting.specs.Reports.{Logs, logs}
 use Rattle.ladder_setting.specs.Setting.{Given}
@@ -12,7 +12,7 @@ use Rattle.ladder_tool.specs.Performs.{IsDone, IsFailed}
 
 -- the names of the coils of the program that the texts describe
 abbrev pub HasCoils : Given → List (List ℕ) → Type 0
-HasCoils g names = (p : Drawing) × IsProgram g.program p × (names ≡ coil_names p)
+HasCoils g names = (p : Drawing) × HasProgram g.aliases g.program p × (names ≡ coil_names p)
 
 -- The line before what is said of a coil, where the line of counts isn't left out: `coil NAME`.
 abbrev pub coil_head : Bool → List ℕ → List ℕ

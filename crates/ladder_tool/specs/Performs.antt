@@ -1,5 +1,5 @@
 -- How a request ends: all is written, or a fault stops it.
-use Rattle.std.specs.Prelude.{◌≡◌, ◌⊎◌, Bool, true, false, None, Some, is_some}
+use Rattle.std.specs.Prelude.{◌≡◌, ◌⊎◌, Bool, None, Some, is_some}
 use Rattle.ladder_text.specs.Log.{PutsAll, PutsPrefix}
 use Rattle.ladder_uses.specs.Uses.{uses_text}
 use Rattle.ladder_setting.specs.declared.fault.ToolFault.{ToolFault}
@@ -10,19 +10,17 @@ use Rattle.ladder_words.specs.declared.request.Request.TheVariants as request
 use Rattle.ladder_setting.specs.Setting.{Given, HasProgramFault, HasSettingFault}
 use Rattle.ladder_setting.specs.Reports.{IsReported, Logs, Refuses}
 use Rattle.ladder_clp.specs.declared.reading.Reading.{Reading}
-use Rattle.ladder_clp.specs.declared.reading.Reading.TheVariants as reading
 use Rattle.ladder_carry.specs.Carrying.{BreaksCarrying, Carries}
 use Rattle.ladder_lists.specs.Lists.{BreaksGroups, BreaksHeldBy, BreaksList, BreaksNever, BreaksPart, BreaksPossibleBy, BreaksProgress, BreaksRelevant, CountsGroups, CountsHeldBy, CountsList, CountsNever, CountsPart, CountsPossibleBy, CountsProgress, CountsRelevant, HasHeldFaultBy, HasListFault, HasNeverFault, HasPartFault, HasPossibleFaultBy, HasProgressFault, HasRelevantFault, after_for, scans_of}
 use Rattle.ladder_views.specs.Views.{BreaksFilm, BreaksTrace, BreaksWatch, BreaksWaves, HasFilmFault, HasShowFault, HasWatchFault, IsFilmed, IsTraced, IsWatched, IsWaved, Prints, Shows, check_text}
 
 -- how the project of an import is read
-abbrev pub reading_of : Bool → Reading
-reading_of true = reading.Open
-reading_of false = reading.Strict
+abbrev pub reading_of : Bool → Bool → Reading
+reading_of opened control_on = record { opened = opened; control_on = control_on }
 
 -- Status 0. Only a simulation writes on `save`, and only a list on `err`.
 abbrev pub IsDone : Request → Given → Logs → Logs → Type 0
-IsDone (Check file warns) g old new = Prints (check_text warns) g.program (PutsAll old.out new.out) × (new.save ≡ old.save) × (new.err ≡ old.err)
+IsDone (Check file warns) g old new = Prints (check_text warns) g (PutsAll old.out new.out) × (new.save ≡ old.save) × (new.err ≡ old.err)
 IsDone (Causes list after None) g old new = CountsList g list after old.out new.out (PutsAll old.err new.err) × (new.save ≡ old.save)
 IsDone (Causes list after (Some last)) g old new = CountsPart g list after last old.out new.out (PutsAll old.err new.err) × (new.save ≡ old.save)
 IsDone (request.Progress list after upto) g old new = CountsProgress g list after upto old new × (new.save ≡ old.save)
@@ -36,12 +34,12 @@ IsDone (request.Film r) g old new = IsFilmed g r old.out new.out × (new.save �
 IsDone (Sim r) g old new = IsTraced g r.every (is_some r.save) old new
 IsDone (request.Watch r) g old new = IsWatched g r old new
 IsDone (request.Waves r) g old new = IsWaved g r.every old.out new.out × (new.save ≡ old.save) × (new.err ≡ old.err)
-IsDone (Uses file) g old new = Prints uses_text g.program (PutsAll old.out new.out) × (new.save ≡ old.save) × (new.err ≡ old.err)
-IsDone (Import opened file hal) g old new = Carries (reading_of opened) g.program (PutsAll old.out new.out) × (new.save ≡ old.save) × (new.err ≡ old.err)
+IsDone (Uses file) g old new = Prints uses_text g (PutsAll old.out new.out) × (new.save ≡ old.save) × (new.err ≡ old.err)
+IsDone (Import opened control_on file hal) g old new = Carries (reading_of opened control_on) g.program (PutsAll old.out new.out) × (new.save ≡ old.save) × (new.err ≡ old.err)
 
 -- the faults that the texts and arguments of a request can have
 abbrev pub HasFault : Request → Given → ToolFault → Type 0
-HasFault (Check file warns) g = HasProgramFault g.program
+HasFault (Check file warns) g = HasProgramFault g
 HasFault (Causes list after None) g = HasListFault g list after
 HasFault (Causes list after (Some last)) g = HasPartFault g list after last
 HasFault (request.Progress list after upto) g = HasProgressFault g list after upto
@@ -55,13 +53,13 @@ HasFault (request.Film r) g = HasFilmFault g r
 HasFault (Sim r) g = HasSettingFault g
 HasFault (request.Watch r) g = HasWatchFault g r
 HasFault (request.Waves r) g = HasSettingFault g
-HasFault (Uses file) g = HasProgramFault g.program
-HasFault (Import opened file hal) g = λ f. ⊥
+HasFault (Uses file) g = HasProgramFault g
+HasFault (Import opened control_on file hal) g = λ f. ⊥
 
 -- Status 1, by a fault while running.
 abbrev pub Breaks : Request → Given → Logs → Logs → Type 0
 Breaks (Check file warns) g old new =
-    Prints (check_text warns) g.program (PutsPrefix old.out new.out) × (new.save ≡ old.save) × IsReported g old.err new.err fault.Write
+    Prints (check_text warns) g (PutsPrefix old.out new.out) × (new.save ≡ old.save) × IsReported g old.err new.err fault.Write
 Breaks (Causes list after None) g old new = BreaksList g list after old new × (new.save ≡ old.save)
 Breaks (Causes list after (Some last)) g old new = BreaksPart g list after last old new × (new.save ≡ old.save)
 Breaks (request.Progress list after upto) g old new = BreaksProgress g list after upto old new × (new.save ≡ old.save)
@@ -76,8 +74,8 @@ Breaks (Sim r) g old new = BreaksTrace g r.every (is_some r.save) old new
 Breaks (request.Watch r) g old new = BreaksWatch g r old new
 Breaks (request.Waves r) g old new = BreaksWaves g r.every old new × (new.save ≡ old.save)
 Breaks (Uses file) g old new =
-    Prints uses_text g.program (PutsPrefix old.out new.out) × (new.save ≡ old.save) × IsReported g old.err new.err fault.Write
-Breaks (Import opened file hal) g old new = BreaksCarrying (reading_of opened) g.why g.program old.out new.out old.err new.err × (new.save ≡ old.save)
+    Prints uses_text g (PutsPrefix old.out new.out) × (new.save ≡ old.save) × IsReported g old.err new.err fault.Write
+Breaks (Import opened control_on file hal) g old new = BreaksCarrying (reading_of opened control_on) g.why g.program old.out new.out old.err new.err × (new.save ≡ old.save)
 
 -- Status 1.
 abbrev pub IsFailed : Request → Given → Logs → Logs → Type 0

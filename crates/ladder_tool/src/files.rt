@@ -67,14 +67,15 @@ fn read_named<R: Source>(
     }
 }
 
-/// Reads the texts of a request, up to the first that can't be read: the program, then the state, the stimulus and the HAL
+/// Reads the texts of the request of a command line, up to the first that can't be read: the program, then the state, the stimulus and the HAL
 /// file.
 pub(crate) fn read_texts<R: Source>(
     alloc: Global,
-    why: bool,
+    line: &CommandLine,
     readers: &mut Readers<R>,
 ) -> Result<Texts, ToolFault>
-    ensures why { IfOk result (λ texts. texts.why ≡ why) }
+    ensures why { IfOk result (λ texts. texts.why ≡ line.now.why) }
+    ensures aliases { IfOk result (λ texts. texts.aliases ≡ line.now.aliases) }
     ensures read { IfOk result (λ texts. AreRead (files (R.log readers.old.program) (option_map R.log readers.old.state) (option_map R.log readers.old.stimulus) (option_map R.log readers.old.hal)) (given_by texts)) }
     ensures fault { IfErr result (StopsAt (files (R.log readers.old.program) (option_map R.log readers.old.state) (option_map R.log readers.old.stimulus) (option_map R.log readers.old.hal)) (files (R.log readers.new.program) (option_map R.log readers.new.state) (option_map R.log readers.new.stimulus) (option_map R.log readers.new.hal))) }
 {
@@ -87,7 +88,8 @@ pub(crate) fn read_texts<R: Source>(
         state,
         stimulus,
         hal,
-        why,
+        why: line.why,
+        aliases: line.aliases,
     })
 }
 
@@ -102,15 +104,15 @@ pub fn perform_files<R: Source, O: Sink, S: Sink, E: Sink>(
     err: &mut E,
 ) -> u8
     ensures status { result ≤ 1 }
-    ensures done { result ≡ 0 → (g : Given) × (g.why ≡ line.now.why)
+    ensures done { result ≡ 0 → (g : Given) × (g.why ≡ line.now.why) × (g.aliases ≡ line.now.aliases)
         × AreRead (files (R.log readers.old.program) (option_map R.log readers.old.state) (option_map R.log readers.old.stimulus) (option_map R.log readers.old.hal)) g
         × IsDone line.now.request g (logs (O.log out.old) (S.log save.old) (E.log err.old)) (logs (O.log out.new) (S.log save.new) (E.log err.new)) }
     ensures failed { result ≡ 1 → Refuses (unread line.now.why) (StopsAt (files (R.log readers.old.program) (option_map R.log readers.old.state) (option_map R.log readers.old.stimulus) (option_map R.log readers.old.hal)) (files (R.log readers.new.program) (option_map R.log readers.new.state) (option_map R.log readers.new.stimulus) (option_map R.log readers.new.hal)))
         (logs (O.log out.old) (S.log save.old) (E.log err.old)) (logs (O.log out.new) (S.log save.new) (E.log err.new))
-        ⊎ ((g : Given) × (g.why ≡ line.now.why) × AreRead (files (R.log readers.old.program) (option_map R.log readers.old.state) (option_map R.log readers.old.stimulus) (option_map R.log readers.old.hal)) g
+        ⊎ ((g : Given) × (g.why ≡ line.now.why) × (g.aliases ≡ line.now.aliases) × AreRead (files (R.log readers.old.program) (option_map R.log readers.old.state) (option_map R.log readers.old.stimulus) (option_map R.log readers.old.hal)) g
         × IsFailed line.now.request g (logs (O.log out.old) (S.log save.old) (E.log err.old)) (logs (O.log out.new) (S.log save.new) (E.log err.new))) }
 {
-    match read_texts(alloc, line.why, readers) {
+    match read_texts(alloc, line, readers) {
         Ok(texts) => perform(alloc, &line.request, &texts, out, save, err),
         Err(fault) => report_unread(line.why, &fault, err),
     }

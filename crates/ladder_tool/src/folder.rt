@@ -239,7 +239,7 @@ impl Lists<'_> {
 /// Reads the texts of a request.
 fn texts_of(rt: &HostRuntime, alloc: Global, line: &CommandLine) -> Result<Texts, ToolFault> {
     let mut readers = readers_of(rt, &line.request);
-    read_texts(alloc, line.why, &mut readers)
+    read_texts(alloc, line, &mut readers)
 }
 
 /// Performs a request for each coil of its program. Returns the status, the largest of all: 0 done, 1 a fault, 2 wrong usage.

@@ -30,30 +30,20 @@ fn hal_of(texts: &Texts) -> &[u8]
     }
 }
 
-/// How the project of an import is read.
-fn reading_of(opened: bool) -> Reading
-    ensures { result ≡ reading_of opened }
-{
-    if opened {
-        Reading::Open
-    } else {
-        Reading::Strict
-    }
-}
-
-/// Writes the program text of a project, whose numbers and charts are opened or not.
+/// Writes the program text of a project, whose numbers and charts are opened or not, and with controls to which nothing is drawn ON or not.
 fn import_project<O: Sink, E: Sink>(
     alloc: Global,
     opened: bool,
+    control_on: bool,
     texts: &Texts,
     out: &mut O,
     err: &mut E,
 ) -> u8
     ensures status { result ≤ 1 }
-    ensures done { result ≡ 0 → Carries (reading_of opened) (given_by texts.now).program (PutsAll (O.log out.old) (O.log out.new)) × (E.log err.new ≡ E.log err.old) }
-    ensures failed { result ≡ 1 → BreaksCarrying (reading_of opened) (given_by texts.now).why (given_by texts.now).program (O.log out.old) (O.log out.new) (E.log err.old) (E.log err.new) }
+    ensures done { result ≡ 0 → Carries (reading_of opened control_on) (given_by texts.now).program (PutsAll (O.log out.old) (O.log out.new)) × (E.log err.new ≡ E.log err.old) }
+    ensures failed { result ≡ 1 → BreaksCarrying (reading_of opened control_on) (given_by texts.now).why (given_by texts.now).program (O.log out.old) (O.log out.new) (E.log err.old) (E.log err.new) }
 {
-    let reading = reading_of(opened);
+    let reading = Reading { opened, control_on };
     let hal = hal_of(texts);
     carry(alloc, reading, texts.why, &texts.program, hal, out, err)
 }
@@ -109,7 +99,11 @@ pub fn perform<O: Sink, S: Sink, E: Sink>(
         Request::Film(stimulus) => film(alloc, stimulus, texts, out, err),
         Request::Watch(watched) => watch(alloc, watched, texts, out, save, err),
         Request::Waves(waves) => wave(alloc, texts, waves.every, out, err),
-        Request::Import { opened, .. } => import_project(alloc, *opened, texts, out, err),
+        Request::Import {
+            opened,
+            control_on,
+            ..
+        } => import_project(alloc, *opened, *control_on, texts, out, err),
         Request::Sim(sim) => { trace(alloc, texts, sim.every, sim.save.is_some(), out, save, err) }
     }
 }

@@ -18,7 +18,7 @@ use std::{fs, io};
 
 /// What is said of words that `clap` takes and that ask for nothing.
 const CLASH: &str =
-    "usage: no COIL and no --all-coils, options that exclude one another, an INPUT beside --all-inputs or --relevant, or no such order or code; \
+    "usage: no COIL and no --all-coils, options that exclude one another, an INPUT beside --all-inputs or --relevant, or no such order, control or code; \
     `ladder help` with the name of the subcommand says which there are\n";
 
 /// Reads the arguments and the files that they name, and performs the request over the standard streams. Returns
@@ -41,9 +41,17 @@ fn seen_on(rt: &HostRuntime, line: CommandLine) -> CommandLine {
     if rt.stdout().is_terminal() || !rt.stderr().is_terminal() {
         return line;
     }
-    let CommandLine { request, why } = line;
+    let CommandLine {
+        request,
+        why,
+        aliases,
+    } = line;
     let request = telling(request);
-    CommandLine { request, why }
+    CommandLine {
+        request,
+        why,
+        aliases,
+    }
 }
 
 /// Shows the help that the arguments ask for, or reports why they ask for nothing. Returns the status.

@@ -1,3 +1,4 @@
 pub mod Endings
 pub mod Growing
 pub mod Names
+pub mod Plain

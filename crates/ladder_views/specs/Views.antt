@@ -3,7 +3,7 @@ use Rattle.std.specs.Prelude.{◌≡◌, ◌⊎◌, ◌++◌, if◌then◌else�
 use Rattle.std.specs.Option.{option_or}
 use Rattle.ladder_vars.specs.Decls.{Declared}
 use Rattle.ladder_grid.specs.Program.{Drawing, has_coil}
-use Rattle.ladder_grid.specs.Reading.{IsProgram}
+use Rattle.ladder_grid.specs.Titled.{HasProgram}
 use Rattle.ladder_scan.specs.Programs.{diagram_of}
 use Rattle.ladder_scan.specs.Standing.{Standing}
 use Rattle.ladder_questions.specs.Assignment.{assignment}
@@ -48,8 +48,8 @@ check_text false p = check_line p
 check_text true p = check_line p ++ lines_text (warning_rows p)
 
 -- The text about the program is written: whole, or as far as `Written` says.
-abbrev pub Prints : (Drawing → List ℕ) → List ℕ → (List ℕ → Type 0) → Type 0
-Prints about text Written = (p : Drawing) × IsProgram text p × Written (about p)
+abbrev pub Prints : (Drawing → List ℕ) → Given → (List ℕ → Type 0) → Type 0
+Prints about g Written = (p : Drawing) × HasProgram g.aliases g.program p × Written (about p)
 
 -- ---- the drawing with its power flow
 

@@ -8,8 +8,8 @@ ghost use Rattle.ladder_views.specs.About.{about_text};
 ghost use Rattle.ladder_setting.specs.Reports.{Refuses, IsReported, logs};
 ghost use Rattle.ladder_views.specs.Views.{Prints, check_line, check_text};
 
-use ladder_grid::{Program, read_program};
-use ladder_setting::{Texts, ToolFault, report};
+use ladder_grid::Program;
+use ladder_setting::{Texts, ToolFault, read_given_program, report};
 use ladder_text::{Piece, Sink, WriteFault, put_pieces};
 use ladder_uses::write_uses;
 use ladder_warnings::write_warnings;
@@ -71,13 +71,13 @@ pub fn print<O: Sink, E: Sink>(
     err: &mut E,
 ) -> u8
     ensures status { result ≤ 1 }
-    ensures done { result ≡ 0 → Prints (about_text about) (given_by texts.now).program (PutsAll (O.log out.old) (O.log out.new)) × (E.log err.new ≡ E.log err.old) }
-    ensures failed { (save : WriteLog) → result ≡ 1 → Refuses (given_by texts.now) (HasProgramFault (given_by texts.now).program) (logs (O.log out.old) save (E.log err.old)) (logs (O.log out.new) save (E.log err.new))
-        ⊎ (Prints (about_text about) (given_by texts.now).program (PutsPrefix (O.log out.old) (O.log out.new)) × IsReported (given_by texts.now) (E.log err.old) (E.log err.new) ToolFault.Write) }
+    ensures done { result ≡ 0 → Prints (about_text about) (given_by texts.now) (PutsAll (O.log out.old) (O.log out.new)) × (E.log err.new ≡ E.log err.old) }
+    ensures failed { (save : WriteLog) → result ≡ 1 → Refuses (given_by texts.now) (HasProgramFault (given_by texts.now)) (logs (O.log out.old) save (E.log err.old)) (logs (O.log out.new) save (E.log err.new))
+        ⊎ (Prints (about_text about) (given_by texts.now) (PutsPrefix (O.log out.old) (O.log out.new)) × IsReported (given_by texts.now) (E.log err.old) (E.log err.new) ToolFault.Write) }
 {
-    let program = match read_program(alloc, &texts.program) {
+    let program = match read_given_program(alloc, texts) {
         Ok(program) => program,
-        Err(fault) => return report(texts, &ToolFault::Grid(fault), err),
+        Err(fault) => return report(texts, &fault, err),
     };
     let Ok(()) = put_about(about, &program, out) else {
         return report(texts, &ToolFault::Write, err);

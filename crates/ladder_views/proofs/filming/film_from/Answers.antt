@@ -1,7 +1,14 @@
 use Rattle.std.proofs.Common.{Err, Ok, sym, refl, inl, inr, ◌∙◌}
 use Rattle.ladder_setting.specs.declared.fault.ToolFault.TheVariants as fault
+use Rattle.ladder_setting.specs.Setting.{given_by}
 use Rattle.ladder_views.proofs.Endings.{same_film}
+use Rattle.ladder_views.proofs.Plain.{drawn_plain}
 use Rattle.ladder_views.proofs.filming.film_from.Goals as goal
+
+pub write_film-requires-clause-drawn : goal.write_film-requires-clause-drawn
+write_film-requires-clause-drawn g c =
+    let given = given_by c.args.texts.now in
+    rw c.deref.ensures.value (drawn_plain given.aliases given.program c.args.program.now c.requires.set.drawn)
 
 pub returns-in-Err-clause-failed :
     goal.returns-in-Err-clause-failed

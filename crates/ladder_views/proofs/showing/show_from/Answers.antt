@@ -5,7 +5,13 @@ use Rattle.ladder_views.specs.Views.{broken_first}
 use Rattle.ladder_setting.specs.Setting.{given_by}
 use Rattle.ladder_setting.proofs.Ends.{cause_fault}
 use Rattle.ladder_views.proofs.Endings.{coil_first, same_drawing, same_refusal}
+use Rattle.ladder_views.proofs.Plain.{drawn_plain}
 use Rattle.ladder_views.proofs.showing.show_from.Goals as goal
+
+pub write_drawing-requires-clause-drawn : goal.write_drawing-requires-clause-drawn
+write_drawing-requires-clause-drawn g c =
+    let given = given_by c.args.texts.now in
+    rw c.deref-3.ensures.value (drawn_plain given.aliases given.program c.args.program.now c.requires.set.drawn)
 
 pub returns-in-Err-clause-failed :
     goal.returns-in-Err-clause-failed
