@@ -140,6 +140,15 @@ fn add_origin(
     add(text, b" *)\n")
 }
 
+/// Where the comments behind the declarations begin.
+fn comment_place(aliases: &[Option<&[u8]>]) -> usize {
+    if aliases.iter().any(|alias| alias.is_some()) {
+        64
+    } else {
+        40
+    }
+}
+
 fn add_declaration(
     alloc: Global,
     text: &mut Vec<u8>,
@@ -147,6 +156,7 @@ fn add_declaration(
     links: &[Link<'_>],
     named: Named,
     alias: Option<&[u8]>,
+    place: usize,
 ) -> Result<(), AllocError> {
     let start = text.len();
     add(text, b"  ")?;
@@ -162,7 +172,7 @@ fn add_declaration(
         add_address(text, named.used)?;
         add(text, b" : BOOL;")?;
     }
-    fill(text, start, 40)?;
+    fill(text, start, place)?;
     add_origin(alloc, text, project, links, named)
 }
 
@@ -443,8 +453,9 @@ pub(crate) fn drawing(
     add_head(&mut text, sheets, named)?;
     add_taken_on(&mut text, named.iter().filter(|n| n.is_taken_on).count())?;
     add(&mut text, b"VAR\n")?;
+    let place = comment_place(aliases);
     for (other, alias) in named.iter().zip(aliases) {
-        add_declaration(alloc, &mut text, project, links, *other, *alias)?;
+        add_declaration(alloc, &mut text, project, links, *other, *alias, place)?;
     }
     add(&mut text, b"END_VAR\n")?;
     let mut count = 0u32;

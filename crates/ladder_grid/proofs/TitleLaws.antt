@@ -11,6 +11,8 @@ use Rattle.ladder_grid.specs.declared.cell.Operand.{Operand}
 use Rattle.ladder_grid.specs.declared.cell.Operand.TheVariants as operand
 use Rattle.ladder_grid.specs.declared.cell.Cell.{Cell}
 use Rattle.ladder_grid.specs.declared.cell.Cell.TheVariants as cell
+use Rattle.ladder_grid.specs.Reading.{IsProgram}
+use Rattle.ladder_grid.specs.Titled.{without_aliases}
 use Rattle.ladder_grid.specs.Program.{drawing, cell_in, IsWhole, IsWellFormed, OperandFits, Fits, has_second}
 
 input_alike : (vars : List Var) (n : ℕ) → is_input_at (slice_get (map plain_var vars) n) ≡ is_input_at (slice_get vars n)
@@ -52,3 +54,8 @@ well_formed_too d e rungs sites same h = record {
   has_lower = λ i inst block second.
       h.has_lower i inst block (ap (λ x. has_second (slice_get x.instances inst)) (sym same) ∙ second_alike e.instances inst ∙ second);
 }
+
+-- a program of the text, with other titles, is that of the text without them
+pub titled_program : (text : List ℕ) (d e : Declared) (rungs : ℕ) (sites : List Site) → plain e ≡ d → IsProgram text (drawing d rungs sites)
+    → IsProgram text (without_aliases (drawing e rungs sites))
+titled_program text d e rungs sites same h = subst (λ x. IsProgram text (drawing x rungs sites)) (sym same) h
