@@ -4,9 +4,9 @@
 mod aliases;
 mod bytes;
 mod control;
-mod draft;
+mod drafting;
 mod draw;
 mod drawn;
 mod names;
 
-pub use draft::{Draft, DraftFault, blocks_of, draft};
+pub use drafting::{DraftFault, Drafted, blocks_of, draft};

@@ -1,5 +1,7 @@
 //! The text of a project as it is drawn.
 
+ghost use Rattle.std.specs.Prelude.{◌≡◌};
+
 use crate::aliases::aliases_of;
 use crate::control::taken_on;
 use crate::draw::drawing;
@@ -24,7 +26,7 @@ pub enum DraftFault {
 }
 
 impl From<AllocError> for DraftFault {
-    ghost use Rattle.ladder_draft.specs.declared.draft.DraftFault.TheVariants.{Memory};
+    ghost use Rattle.ladder_draft.specs.declared.drafting.DraftFault.TheVariants.{Memory};
 
     ghost from_gives = { λ _ e. e ≡ Memory };
 
@@ -35,7 +37,7 @@ impl From<AllocError> for DraftFault {
 
 /// A text, and the blocks that are declared in it.
 #[derive(Drop)]
-pub struct Draft {
+pub struct Drafted {
     pub text: Vec<u8>,
     pub blocks: Vec<BlockRef>,
 }
@@ -60,7 +62,7 @@ pub fn draft(
     reading: Reading,
     project: &Project<'_>,
     links: &[Link<'_>],
-) -> Result<Draft, DraftFault> {
+) -> Result<Drafted, DraftFault> {
     let sheets = sheets_of(alloc, reading, project)?;
     let used = used_in(alloc, &sheets)?;
     let blocks = blocks_in(alloc, &used, &drawn_blocks(alloc, &sheets)?)?;
@@ -74,5 +76,5 @@ pub fn draft(
     let named = names_of(alloc, project, links, &used, &blocks, &timers)?;
     let aliases = aliases_of(alloc, project, links, &named)?;
     let text = drawing(alloc, project, links, &sheets, &named, &aliases)?;
-    Ok(Draft { text, blocks })
+    Ok(Drafted { text, blocks })
 }
