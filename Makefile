@@ -29,6 +29,7 @@ test:
 	python3 tests/saving.py $(PROGRAM)
 	python3 tests/progress.py $(PROGRAM)
 	python3 tests/waves.py $(PROGRAM)
+	python3 tests/aliases.py $(PROGRAM)
 	python3 tests/filling.py $(PROGRAM)
 	python3 tests/importing.py $(PROGRAM) 200
 	python3 tests/stress.py $(PROGRAM) --sample 1000

@@ -116,7 +116,7 @@ def ran(program, folder, *words):
 
 def numbers(text, letter):
     """The numbers of the addresses by name, in order of declaration."""
-    return {name: int(number) for name, number in re.findall(rf"^  (\w+) AT %{letter}X(\d+) ", text, re.M)}
+    return {name: int(number) for name, number in re.findall(rf"^  (\w+)(?: \(\* \S+ \*\))? AT %{letter}X(\d+) ", text, re.M)}
 
 
 def simulated(program, folder, inputs, rows):

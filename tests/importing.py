@@ -370,10 +370,10 @@ class Freely(dict):
 
 def has_right_notes(project, text):
     """Whether the timers whose control is taken as ON are told: each behind its declaration, and how many they are."""
-    timers = set(re.findall(r"^  T(\d+) : TON ", text, re.M))
+    timers = set(re.findall(r"^  T(\d+)(?: \(\* \S+ \*\))? : TON ", text, re.M))
     places = ((grid, row, column) for grid in project.rungs.values() for row in range(ROWS - 1) for column in range(1, COLUMNS))
     taken = {str(grid[row][column][3]) for grid, row, column in places if grid[row][column][0] == TIMER and is_uncontrolled(grid, row, column)}
-    noted = re.findall(r"^  T(\d+) : TON .*: nothing is drawn to its control, taken as ON \*\)$", text, re.M)
+    noted = re.findall(r"^  T(\d+)(?: \(\* \S+ \*\))? : TON .*: nothing is drawn to its control, taken as ON \*\)$", text, re.M)
     told = re.findall(r"^\(\* Control taken as ON where nothing is drawn to it; timers: (\d+)\.$", text, re.M)
     return sorted(noted) == sorted(taken & timers) and told == [str(len(noted))] * bool(noted)
 
@@ -383,13 +383,13 @@ def has_same_scans(program, folder, project, text, chance, control_on):
     (folder / "program.ld").write_text(text)
     status, out, err = call(program, "check", str(folder / "program.ld"))
     assert status == 0, f"no program: {err}\n{text}"
-    inputs = dict(re.findall(r"^  (\w+) AT %IX(\d+) ", text, re.M))
-    places = re.findall(r"^  (\w+) AT %IX(\d+)\.(\d+) ", text, re.M)
+    inputs = dict(re.findall(r"^  (\w+)(?: \(\* \S+ \*\))? AT %IX(\d+) ", text, re.M))
+    places = re.findall(r"^  (\w+)(?: \(\* \S+ \*\))? AT %IX(\d+)\.(\d+) ", text, re.M)
     opened = {name: (sorted(project.rungs)[int(rung) - 1], int(place) // 100 - 1, int(place) % 100 - 1) for name, rung, place in places}
     told = re.match(r"\(\* Opened: (\d+) inputs .*; operates left out: (\d+)\.", text)
     operates = sum(place[0] == OPERATE for grid in project.rungs.values() for row in grid for place in row)
     assert (int(told[1]), int(told[2])) == (len(opened), operates) if told else not opened and not operates, text
-    outputs = dict(re.findall(r"^  (\w+) AT %QX(\d+) ", text, re.M))
+    outputs = dict(re.findall(r"^  (\w+)(?: \(\* \S+ \*\))? AT %QX(\d+) ", text, re.M))
     records, now, values = [], 0, [0] * INPUTS
     for _ in range(60):
         values = [value ^ int(chance.random() < 0.3) for value in values]
