@@ -1,10 +1,10 @@
 -- The numbers of the variables that are asked for.
-use Rattle.std.proofs.Common.{◌≡◌, ◌∙◌, ◌+◌, ◌<◌, ◌≤◌, ◌++◌, ◌∷◌, [], ℕ, Bool, true, false, List, Some, refl, sym, ap, append-nil, arith, length, map, slice_get, take, take_all}
+use Rattle.std.proofs.Common.{◌≡◌, ◌∙◌, ◌+◌, ◌<◌, ◌≤◌, ◌++◌, ◌∷◌, [], ℕ, Bool, true, false, List, Some, sym, ap, append-nil, arith, length, map, slice_get, take, take_all}
 use Rattle.std.specs.Prelude.{slice_index_or}
 use Rattle.std.proofs.lemmas.List.{length-map, map-append}
 use Rattle.ladder_vars.specs.declared.decls.Var.{Var}
 use Rattle.ladder_trace.specs.Room.{ArePicked, chosen}
-use Rattle.ladder_trace.proofs.Lists.{chosen_next, chosen_values, mark_at, there_or}
+use Rattle.ladder_trace.proofs.Lists.{chosen_next, chosen_values, there_or}
 
 -- the numbers of those among the first variables
 abbrev pub IsPickedTo : (Var → Bool) → List Var → ℕ → List ℕ → Type 0
@@ -29,11 +29,3 @@ picked_none p vars i numbers h mark before = λ values long.
 pub picked_all : (p : Var → Bool) (vars : List Var) (i : ℕ) (numbers : List ℕ) → length vars ≤ i → IsPickedTo p vars i numbers → ArePicked p vars numbers
 picked_all p vars i numbers all before = λ values long.
     before values long ∙ ap (λ m. chosen m values) (take_all i (map p vars) (omega (arith, all, length-map vars p))) ∙ chosen_values p vars values
-
-pub map_twice : {A B C : Type 0} (f : B → C) (g : A → B) (xs : List A) → map (λ x. f (g x)) xs ≡ map f (map g xs)
-map_twice f g [] = refl
-map_twice f g (x ∷ xs) = ap (λ l. f (g x) ∷ l) (map_twice f g xs)
-
-pub length-snoc : (xs : List ℕ) (x : ℕ) → length (xs ++ (x ∷ [])) ≡ length xs + 1
-length-snoc [] x = refl
-length-snoc (y ∷ xs) x = let h = length-snoc xs x in omega (arith, h)

@@ -16,7 +16,7 @@ use crate::column::Column;
 use crate::trace::{add_bits, add_moment, add_names};
 use ladder_elements::Stored;
 use ladder_grid::Program;
-use ladder_records::{add_field, bit_field};
+use ladder_records::add_field;
 use ladder_scan::State;
 use ladder_text::{Block, Piece, Sink, WriteFault, add_pieces};
 use ladder_vars::{Decls, Output};
@@ -181,6 +181,13 @@ fn add_number<'a, W: Sink>(
     add_pieces(block, pieces.as_slice(), writer)
 }
 
+/// The field of a bit, after a comma.
+fn bit_after_comma(value: bool) -> &'static [u8]
+    ensures { result.now ≡ codes "," ++ bit_text value }
+{
+    if value { b",1" } else { b",0" }
+}
+
 /// Adds the value of a column, after a comma.
 fn add_column_value<W: Sink>(
     block: &mut Block,
@@ -192,8 +199,8 @@ fn add_column_value<W: Sink>(
     ensures { Sends (W.log writer.old) (W.log writer.new) block.old block.new result (codes "," ++ column_text decls.now state.now column) }
 {
     match column {
-        Column::Value(var) => add_field(block, bit_field(state.value_or_off(var)), writer),
-        Column::Output(inst) => add_field(block, bit_field(state.stored(inst).q()), writer),
+        Column::Value(var) => block.add(bit_after_comma(state.value_or_off(var)), writer),
+        Column::Output(inst) => block.add(bit_after_comma(state.stored(inst).q()), writer),
         Column::Elapsed(inst) => {
             let time = elapsed(preset_of(decls, inst), state.moment(), state.stored(inst));
             add_number(block, Piece::Number(time), writer)

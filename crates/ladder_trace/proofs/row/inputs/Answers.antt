@@ -1,8 +1,9 @@
-use Rattle.std.proofs.Common.{◌∙◌, ◌+◌, Some, ap, arith, sym}
+use Rattle.std.proofs.Common.{◌∙◌, ◌+◌, ◌∷◌, [], Some, ap, arith, sym}
+use Rattle.std.proofs.lemmas.List.{length-append}
 use Rattle.std.proofs.lemmas.List.Sums.{count_by_more_no, count_by_more_yes}
 use Rattle.ladder_vars.specs.Decls.{is_input}
 use Rattle.ladder_trace.proofs.Lists.{mark_at}
-use Rattle.ladder_trace.proofs.Picked.{length-snoc, picked_all, picked_more, picked_none}
+use Rattle.ladder_trace.proofs.Picked.{picked_all, picked_more, picked_none}
 use Rattle.ladder_trace.proofs.row.inputs.Goals as goal
 
 pub loop-number-preserved-then-not-is_input : goal.loop-number-preserved-then-not-is_input
@@ -28,7 +29,7 @@ loop-number-preserved c =
     let more = count_by_more_yes is_input vars n x c.loop-number-test.true (ap is_input (sym c.index-vars-number.is) ∙ holds) in
     rw c.in_ok-push.ensures.items (
       picked_more is_input vars n c.loop-number.numbers.items c.loop-number-test.true mark inv.0,
-      length-snoc c.loop-number.numbers.items n ∙ ap (λ k. k + 1) inv.1 ∙ sym more,
+      length-append c.loop-number.numbers.items (n ∷ []) ∙ ap (λ k. k + 1) inv.1 ∙ sym more,
     )
 
 pub returns-clause-picked : goal.returns-clause-picked

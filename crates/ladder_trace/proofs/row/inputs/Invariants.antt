@@ -1,6 +1,5 @@
-use Rattle.std.specs.Prelude.{◌≡◌, ℕ, Bool, List, count_by, false, length, map, slice_index_or, take}
+use Rattle.std.specs.Prelude.{◌≡◌, count_by, length, take}
 use Rattle.ladder_vars.specs.Decls.{is_input}
-use Rattle.ladder_trace.specs.Room.{chosen}
 use Rattle.ladder_trace.proofs.Picked.{IsPickedTo}
 use Rattle.ladder_trace.proofs.row.inputs.Given as goal
 
