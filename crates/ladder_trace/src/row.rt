@@ -17,7 +17,7 @@ fn is_on(row: &ByteRecord, number: usize) -> bool
     ensures { result ≡ is_on (field_at (fields_of row.now) number) }
 {
     match row.get(number) {
-        Some(field) => field.len() == 1 && field[0] == b'1',
+        Some(field) => field == b"1".as_slice(),
         None => false,
     }
 }
@@ -26,7 +26,7 @@ fn is_bit(row: &ByteRecord, number: usize) -> bool
     ensures { result ≡ is_bit (field_at (fields_of row.now) number) }
 {
     match row.get(number) {
-        Some(field) => field.len() == 1 && (field[0] == b'1' || field[0] == b'0'),
+        Some(field) => field == b"1".as_slice() || field == b"0".as_slice(),
         None => false,
     }
 }
