@@ -1,10 +1,9 @@
 -- What the source of the records gives.
-use Rattle.std.proofs.Common.{◌≡◌, ◌∙◌, ◌+◌, ◌*◌, ◌-◌, ◌/◌, ◌<◌, ◌≤◌, ◌^◌, ◌++◌, ◌∷◌, ◌&&◌, ◌==◌, [], ℕ, suc, zero, Bool, true, false, List, Option, Some, None, refl, sym, ap, subst, arith, decimal, drop, length, map, T, bytes_eq, unwrap_or, inl, inr}
+use Rattle.std.proofs.Common.{◌≡◌, ◌∙◌, ◌+◌, ◌*◌, ◌-◌, ◌<◌, ◌^◌, ◌++◌, ◌∷◌, ◌&&◌, ◌==◌, [], ℕ, suc, zero, Bool, true, false, List, Option, Some, None, refl, sym, ap, subst, arith, decimal, drop, length, map, bytes_eq, unwrap_or}
 use Rattle.std.specs.Prelude.{IfSome, IsSome, if◌then◌else◌, nat_lt}
 use Rattle.std.specs.Borrow.{Bor}
 use Rattle.std.specs.Cmp.Lexicographic.{same_text}
 use Rattle.std.specs.Str.Parse.{digits_value}
-use Rattle.std.proofs.lemmas.Bool.{cases_Bool}
 use Rattle.std.proofs.lemmas.Fmt.{decimal_is_IsNumeral}
 use Rattle.std.proofs.lemmas.List.{length-map}
 use Rattle.csv.specs.Records.{fields_of}
@@ -14,7 +13,7 @@ use Rattle.ladder_records.specs.Text.{bit_text}
 use Rattle.ladder_trace.specs.declared.filling.Filling.{Filling}
 use Rattle.ladder_trace.specs.declared.filling.Taken.{Taken}
 use Rattle.ladder_trace.specs.Coming.{Comes, Gives, StillComes, Takes, count_in}
-use Rattle.ladder_trace.specs.Filled.{Numbered, between, count_between, filled_after, held_between, is_number, moment_in, numbered, repeated}
+use Rattle.ladder_trace.specs.Filled.{Numbered, between, filled_after, held_between, is_number, moment_in, numbered, repeated}
 use Rattle.ladder_trace.specs.Room.{bits_of}
 use Rattle.ladder_trace.specs.Simulation.{IsNoRow}
 use Rattle.ladder_trace.specs.Stimulus.{IsRow, are_bits}

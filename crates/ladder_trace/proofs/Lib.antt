@@ -4,6 +4,7 @@ pub mod Coming
 pub mod Fields
 pub mod HeaderWords
 pub mod Lists
+pub mod Picked
 pub mod Plain
 pub mod Scanned
 pub mod Taking

@@ -1,5 +1,6 @@
 -- Lists that are gone through place by place.
 use Rattle.std.proofs.Common.{◌≡◌, ◌∙◌, ◌+◌, ◌-◌, ◌<◌, ◌≤◌, ◌++◌, ◌∷◌, ◌&&◌, [], ℕ, suc, zero, Bool, true, false, List, Some, if◌then◌else◌, inl, inr, refl, sym, ap, arith, length, add-one, get_or, set, take, drop, take_all, map, slice_get}
+use Rattle.std.specs.Prelude.{slice_index_or}
 use Rattle.std.specs.List.{count_by, filter, list_all}
 use Rattle.std.proofs.lemmas.Bool.{cases_Bool}
 use Rattle.std.proofs.lemmas.List.Sums.{count_by_more_no, count_by_more_yes}
@@ -50,6 +51,11 @@ pub there_at : {A : Type 0} (xs : List A) (i : ℕ) (d : A) → i < length xs �
 there_at [] i d h = absurd (omega (arith, h))
 there_at (a ∷ xs) zero d h = refl
 there_at (a ∷ xs) (suc i) d h = there_at xs i d (omega (arith, h))
+
+pub there_or : {A : Type 0} (xs : List A) (i : ℕ) (d : A) → i < length xs → slice_get xs i ≡ Some (slice_index_or xs i d)
+there_or [] i d h = absurd (omega (arith, h))
+there_or (a ∷ xs) zero d h = refl
+there_or (a ∷ xs) (suc i) d h = there_or xs i d (omega (arith, h))
 
 pub within : {A : Type 0} (xs : List A) (i : ℕ) (x : A) → slice_get xs i ≡ Some x → i < length xs
 within [] i x e = cc

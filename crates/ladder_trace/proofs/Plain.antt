@@ -1,5 +1,5 @@
 -- Without a time between two scans there are no records in between.
-use Rattle.std.proofs.Common.{◌≡◌, ◌∙◌, ◌+◌, ◌-◌, ◌<◌, ◌≤◌, ◌++◌, ◌∷◌, [], ℕ, suc, zero, List, Option, Some, None, Result, Ok, Err, refl, sym, ap, subst, arith, codes, drop, get_or, inl, inr, length, map, slice_get, ◌^◌, bytes_eq, decimal}
+use Rattle.std.proofs.Common.{◌≡◌, ◌∙◌, ◌+◌, ◌-◌, ◌<◌, ◌++◌, ◌∷◌, [], ℕ, suc, zero, List, Option, Some, None, Result, Ok, Err, refl, sym, ap, subst, arith, codes, drop, get_or, inl, inr, length, map, slice_get, ◌^◌, bytes_eq, decimal}
 use Rattle.std.specs.Prelude.{if◌then◌else◌, false, true, Bool, ◌&&◌, ◌==◌, nat_lt}
 use Rattle.std.proofs.lemmas.List.{length-map}
 use Rattle.std.specs.Cmp.Lexicographic.{same_text}
@@ -16,7 +16,7 @@ use Rattle.ladder_trace.specs.declared.fault.SimFault.TheVariants as fault
 use Rattle.ladder_trace.specs.declared.recording.Recording.{Recording}
 use Rattle.ladder_trace.specs.declared.filling.Filling.{Filling}
 use Rattle.ladder_trace.specs.Coming.{Comes, IsSound, coming}
-use Rattle.ladder_trace.specs.Filled.{Numbered, all_fields, between, filled, filled_after, held_between, in_file, is_number, moment_in, numbered, told_of}
+use Rattle.ladder_trace.specs.Filled.{Numbered, all_fields, filled, filled_after, held_between, in_file, is_number, moment_in, numbered, told_of}
 use Rattle.ladder_trace.specs.Simulation.{Follows, FollowsEvery, most}
 use Rattle.ladder_trace.specs.Steps.{Ends}
 use Rattle.ladder_trace.specs.Stimulus.{IsHeader, are_bits, input_named}

@@ -4,7 +4,7 @@ use Rattle.std.proofs.lemmas.List.{drop_all}
 use Rattle.ladder_grid.specs.Program.{Drawing}
 use Rattle.ladder_records.specs.Left.{Fields}
 use Rattle.ladder_scan.specs.Standing.{Standing}
-use Rattle.ladder_text.specs.Log.{PutsPrefix, WriteLog}
+use Rattle.ladder_text.specs.Log.{WriteLog}
 use Rattle.ladder_vars.specs.Decls.{is_input}
 use Rattle.ladder_trace.specs.declared.fault.SimFault.{SimFault}
 use Rattle.ladder_trace.specs.declared.fault.SimFault.TheVariants as fault

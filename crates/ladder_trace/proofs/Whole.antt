@@ -1,5 +1,5 @@
 -- What ends before the records after the header.
-use Rattle.std.proofs.Common.{◌≡◌, ◌∙◌, ◌-◌, ◌≤◌, ◌∷◌, [], ℕ, List, Some, Err, refl, sym, ap, subst, arith, length, slice_get, inl, inr}
+use Rattle.std.proofs.Common.{◌≡◌, ◌-◌, ◌≤◌, ◌∷◌, [], ℕ, List, Some, Err, refl, sym, subst, arith, length, slice_get, inl, inr}
 use Rattle.ladder_grid.specs.Program.{Drawing}
 use Rattle.ladder_records.specs.Left.{Fields}
 use Rattle.ladder_scan.specs.Standing.{Standing}

@@ -1,16 +1,29 @@
 -- Private to the simulation: what its inner functions allocate before a first write, how they read a field, and choose variables.
-use Rattle.std.specs.Prelude.{◌≡◌, ◌∷◌, ℕ, List, [], Bool, true, false, Option, Some, None, codes, bytes_eq, drop, length, map}
+use Rattle.std.specs.Prelude.{◌≡◌, ◌∷◌, ◌*◌, ℕ, List, [], Bool, true, false, Option, Some, None, codes, bytes_eq, drop, length, map, slice_index_or}
 use Rattle.std.specs.List.{count_by}
+use Rattle.ladder_vars.specs.declared.decls.Var.{Var}
 use Rattle.ladder_vars.specs.Decls.{is_input}
 use Rattle.ladder_grid.specs.Program.{Drawing}
 use Rattle.ladder_records.specs.Left.{Fields}
-use Rattle.ladder_scan.specs.Standing.{Fits, Standing}
+use Rattle.ladder_scan.specs.Standing.{Fits}
+use Rattle.ladder_trace.specs.declared.simulation.Room.{Room}
+use Rattle.ladder_trace.specs.Trace.{is_output, values_of}
 
--- There is a place for each input, the block is empty, and there is a place for the state before a scan.
-pub record IsReady (p : Drawing) (image : List Bool) (waits : List ℕ) (before : Standing) : Type 0 where
-  pub room : length image ≡ count_by is_input p.decls.vars
-  pub empty : waits ≡ []
-  pub fits : Fits p before
+-- These are the numbers of the variables that are asked for: whatever values the variables have, those at these places are theirs.
+abbrev pub ArePicked : (Var → Bool) → List Var → List ℕ → Type 0
+ArePicked is_asked vars numbers =
+    (values : List Bool) → length values ≡ length vars → map (λ n. slice_index_or values n false) numbers ≡ values_of is_asked vars values
+
+-- There is a place for each input, with the numbers of the inputs; there are two bytes for each output, a comma and a bit, with the numbers
+-- of the outputs; the block is empty, and there is a place for the state before a scan.
+pub record IsReady (p : Drawing) (room : Room) : Type 0 where
+  pub wide : length room.image.items ≡ count_by is_input p.decls.vars
+  pub places : length room.image.items ≡ length room.inputs.items
+  pub inputs : ArePicked is_input p.decls.vars room.inputs.items
+  pub outputs : ArePicked is_output p.decls.vars room.outputs.items
+  pub line : length room.line.items ≡ 2 * length room.outputs.items
+  pub empty : room.block ≡ []
+  pub fits : Fits p room.before
 
 -- The field is the word for the moment.
 abbrev pub is_moment : Option (List ℕ) → Bool

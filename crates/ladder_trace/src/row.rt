@@ -1,17 +1,17 @@
 //! A record of a stimulus after the header, and the input image that it asks for.
 
-ghost use Rattle.std.specs.Prelude.{◌≡◌, ◌<◌, ◌+◌, All, IfSome, None, count_by, drop, length, map};
+ghost use Rattle.std.specs.Prelude.{◌≡◌, ◌<◌, ◌+◌, All, IfOk, IfSome, None, count_by, drop, false, length, map, slice_index_or};
 ghost use Rattle.csv.specs.Records.{field_at, fields_of};
 ghost use Rattle.ladder_vars.specs.Decls.{is_input};
-ghost use Rattle.ladder_trace.specs.Room.{bits_of, is_on};
+ghost use Rattle.ladder_trace.specs.Room.{ArePicked, bits_of, is_on};
 ghost use Rattle.ladder_trace.specs.Simulation.{IsNoRow};
 ghost use Rattle.ladder_trace.specs.Stimulus.{are_bits, given_by, is_bit, IsRow};
-ghost use Rattle.ladder_trace.specs.Trace.{values_of};
 
 use csv::ByteRecord;
 use ladder_records::read_number;
 use ladder_scan::State;
 use ladder_vars::Var;
+use std::alloc::{AllocError, Global};
 
 fn is_on(row: &ByteRecord, number: usize) -> bool
     ensures { result ≡ is_on (field_at (fields_of row.now) number) }
@@ -60,19 +60,28 @@ pub(crate) fn read_row(columns: &[usize], row: &ByteRecord) -> Option<u64>
     read_number(field)
 }
 
-/// Gives the image the values that the inputs have.
-pub(crate) fn fill_inputs(vars: &[Var], state: &State, image: &mut [bool])
-    requires values { length state.now.held.values ≡ length vars.now }
-    requires room { length image.old ≡ count_by is_input vars.now }
-    ensures { image.new ≡ values_of is_input vars.now state.now.held.values }
+/// The numbers of the inputs, in order of declaration.
+pub(crate) fn inputs(alloc: Global, vars: &[Var]) -> Result<Vec<usize>, AllocError>
+    ensures picked { IfOk result (λ numbers. ArePicked is_input vars.now numbers.items) }
+    ensures count { IfOk result (λ numbers. length numbers.items ≡ count_by is_input vars.now) }
 {
-    let mut place = 0;
+    let mut numbers = Vec::new(alloc);
     for number in 0..vars.len() {
         if !vars[number].is_input() {
             continue;
         }
-        image[place] = state.value(number);
-        place += 1;
+        numbers.push(number)?;
+    }
+    Ok(numbers)
+}
+
+/// Gives the image the values that the inputs have.
+pub(crate) fn fill_inputs(inputs: &[usize], state: &State, image: &mut [bool])
+    requires { length image.old ≡ length inputs.now }
+    ensures { image.new ≡ map (λ n. slice_index_or state.now.held.values n false) inputs.now }
+{
+    for place in 0..inputs.len() {
+        image[place] = state.value_or_off(inputs[place]);
     }
 }
 

@@ -1,6 +1,6 @@
 //! The simulation of a stimulus, record by record.
 
-ghost use Rattle.std.specs.Prelude.{◌≡◌, ◌<◌, ◌≤◌, ◌+◌, [], All, IfSome, List, OnOk, count_by, length};
+ghost use Rattle.std.specs.Prelude.{◌≡◌, ◌<◌, ◌≤◌, ◌+◌, [], ℕ, All, IfOk, IfSome, List, OnOk, count_by, length};
 ghost use Rattle.csv.specs.Records.{fields_of};
 ghost use Rattle.ladder_grid.specs.Reading.{IsProgram};
 ghost use Rattle.ladder_grid.specs.Titled.{without_aliases};
@@ -8,6 +8,7 @@ ghost use Rattle.ladder_records.specs.Left.{Fields, Left};
 ghost use Rattle.ladder_records.specs.Text.{records_of};
 ghost use Rattle.ladder_resting.specs.Resting.{IsTrueOf};
 ghost use Rattle.ladder_scan.specs.Programs.{diagram_of};
+ghost use Rattle.ladder_scan.specs.Rung.{Held};
 ghost use Rattle.ladder_scan.specs.Standing.{Fits};
 ghost use Rattle.ladder_text.specs.Log.{Puts, WriteLog};
 ghost use Rattle.ladder_vars.specs.Decls.{is_input};
@@ -23,8 +24,8 @@ use crate::fault::SimFault;
 use crate::filling::{Filling, Taken, filling_from, take};
 use crate::header::columns;
 use crate::recording::{Film, Recording};
-use crate::row::{fill_inputs, give_columns};
-use crate::trace::{write_header, write_row};
+use crate::row::{fill_inputs, give_columns, inputs};
+use crate::trace::{outputs, write_header, write_row};
 use crate::watching::{write_watched_header, write_watched_row};
 use csv::ByteRecord;
 use ladder_grid::Program;
@@ -34,7 +35,7 @@ use ladder_scan::State;
 use ladder_show::{Scan, ShowFault, write_drawing, write_film_start};
 use ladder_text::{Block, Sink, WriteFault};
 use ladder_waves::{write_changes, write_start};
-use std::alloc::Global;
+use std::alloc::{AllocError, Global};
 
 /// The most records after the header.
 const MOST: u64 = 1_000_000;
@@ -42,11 +43,15 @@ const MOST: u64 = 1_000_000;
 /// The most of a film.
 const MOST_DRAWN: u64 = 1_000;
 
-/// What a simulation allocates before its first write, beside its records: the input image, the buffer for a row of the trace, and a
-/// state for what a waveform compares with. With it goes what is remembered from scan to scan.
+/// What a simulation allocates before its first write, beside its records: the input image and the bits of a row of the trace, with the
+/// numbers of the variables that they are filled from, the buffer for a row, and a state for what a waveform compares with. With it goes
+/// what is remembered from scan to scan.
 #[derive(Drop)]
 struct Room {
+    inputs: Vec<usize>,
     image: Vec<bool>,
+    outputs: Vec<usize>,
+    line: Vec<u8>,
     block: Block,
     before: State,
     resting: Resting,
@@ -102,17 +107,18 @@ fn trace_scan<W: Sink>(
     writer: &mut W,
 ) -> Result<(), SimFault>
     requires fits { Fits program.now state.old }
-    requires ready { IsReady program.now room.old.image.items room.old.block room.old.before }
+    requires ready { IsReady program.now room.old }
     requires rest { IsTrueOf (diagram_of program.now) state.old.moment state.old.held room.old.resting }
     ensures fits { Fits program.now state.new }
-    ensures ready { OnOk result (IsReady program.now room.new.image.items room.new.block room.new.before) }
+    ensures ready { OnOk result (IsReady program.now room.new) }
     ensures rest { OnOk result (IsTrueOf (diagram_of program.now) state.new.moment state.new.held room.new.resting) }
     ensures scans { ScansTo Recording.Trace program.now number state.old moment room.old.image.items state.new (W.log writer.old) (W.log writer.new) result }
 {
     let Ok(()) = scan(program, state, &mut room.resting, &room.image, moment) else {
         return Err(SimFault::MomentBack { row: number });
     };
-    let Ok(()) = write_row(program, state, &mut room.block, writer) else {
+    let (outputs, line) = (&room.outputs, &mut room.line);
+    let Ok(()) = write_row(program, outputs, line, state, &mut room.block, writer) else {
         return Err(SimFault::Write);
     };
     Ok(())
@@ -129,10 +135,10 @@ fn watch_scan<W: Sink>(
     writer: &mut W,
 ) -> Result<(), SimFault>
     requires fits { Fits program.now state.old }
-    requires ready { IsReady program.now room.old.image.items room.old.block room.old.before }
+    requires ready { IsReady program.now room.old }
     requires rest { IsTrueOf (diagram_of program.now) state.old.moment state.old.held room.old.resting }
     ensures fits { Fits program.now state.new }
-    ensures ready { OnOk result (IsReady program.now room.new.image.items room.new.block room.new.before) }
+    ensures ready { OnOk result (IsReady program.now room.new) }
     ensures rest { OnOk result (IsTrueOf (diagram_of program.now) state.new.moment state.new.held room.new.resting) }
     ensures scans { ScansTo (Recording.Watched watched.entry) program.now number state.old moment room.old.image.items state.new (W.log writer.old) (W.log writer.new) result }
 {
@@ -140,7 +146,9 @@ fn watch_scan<W: Sink>(
         Ok(()) => (),
         Err(_) => return Err(SimFault::MomentBack { row: number }),
     }
-    let Ok(()) = write_watched_row(program, state, watched, &mut room.block, writer) else {
+    let (outputs, line) = (&room.outputs, &mut room.line);
+    let block = &mut room.block;
+    let Ok(()) = write_watched_row(program, outputs, line, state, watched, block, writer) else {
         return Err(SimFault::Write);
     };
     Ok(())
@@ -199,10 +207,10 @@ fn wave_scan<W: Sink>(
     writer: &mut W,
 ) -> Result<(), SimFault>
     requires fits { Fits run.program.now state.old }
-    requires ready { IsReady run.program.now room.old.image.items room.old.block room.old.before }
+    requires ready { IsReady run.program.now room.old }
     requires rest { IsTrueOf (diagram_of run.program.now) state.old.moment state.old.held room.old.resting }
     ensures fits { Fits run.entry.program.now state.new }
-    ensures ready { OnOk result (IsReady run.entry.program.now room.new.image.items room.new.block room.new.before) }
+    ensures ready { OnOk result (IsReady run.entry.program.now room.new) }
     ensures rest { OnOk result (IsTrueOf (diagram_of run.entry.program.now) state.new.moment state.new.held room.new.resting) }
     ensures scans { ScansTo Recording.Waves run.entry.program.now number state.old moment room.old.image.items state.new (W.log writer.old) (W.log writer.new) result }
 {
@@ -228,12 +236,12 @@ fn step<W: Sink>(
 ) -> Result<(), SimFault>
     requires recorded { CanRecord run.recording run.program.now }
     requires fits { Fits run.program.now state.old }
-    requires ready { IsReady run.program.now room.old.image.items room.old.block room.old.before }
+    requires ready { IsReady run.program.now room.old }
     requires rest { IsTrueOf (diagram_of run.program.now) state.old.moment state.old.held room.old.resting }
     requires below { All (λ c. c < count_by is_input run.program.now.decls.vars) columns.now }
     requires wide { IfSome taken.moment (λ m. length (fields_of row.now) ≡ length columns.now + 1) }
     ensures fits { Fits run.entry.program.now state.new }
-    ensures ready { OnOk result (IsReady run.entry.program.now room.new.image.items room.new.block room.new.before) }
+    ensures ready { OnOk result (IsReady run.entry.program.now room.new) }
     ensures rest { OnOk result (IsTrueOf (diagram_of run.entry.program.now) state.new.moment state.new.held room.new.resting) }
     ensures steps { (fields : Fields) → Gives columns.now taken.moment (fields_of row.now) fields
         → StepsTo run.entry.recording run.entry.program.now columns.now taken.number state.old fields state.new (W.log writer.old) (W.log writer.new) result }
@@ -243,7 +251,7 @@ fn step<W: Sink>(
         return Err(SimFault::BadRow { row: number });
     };
     let program = run.program;
-    fill_inputs(program.decls().vars(), state, &mut room.image);
+    fill_inputs(&room.inputs, state, &mut room.image);
     give_columns(columns, row, &mut room.image);
     match run.recording {
         Recording::Trace => trace_scan(program, moment, number, room, state, writer),
@@ -271,7 +279,7 @@ fn follow_rows<W: Sink>(
     requires sound { IsSound columns.now filling.old }
     requires first { filling.old.number ≡ 2 }
     requires fits { Fits run.program.now state.old }
-    requires ready { IsReady run.program.now room.old.image.items room.old.block room.old.before }
+    requires ready { IsReady run.program.now room.old }
     requires rest { IsTrueOf (diagram_of run.program.now) state.old.moment state.old.held room.old.resting }
     requires below { All (λ c. c < count_by is_input run.program.now.decls.vars) columns.now }
     ensures fits { Fits run.entry.program.now state.new }
@@ -308,7 +316,7 @@ fn follow_records<W: Sink>(
     requires recorded { CanRecord run.recording run.program.now }
     requires fresh { IsFresh filling.old }
     requires fits { Fits run.program.now state.old }
-    requires ready { IsReady run.program.now room.old.image.items room.old.block room.old.before }
+    requires ready { IsReady run.program.now room.old }
     requires rest { IsTrueOf (diagram_of run.program.now) state.old.moment state.old.held room.old.resting }
     ensures fits { Fits run.entry.program.now state.new }
     ensures ends { (rows : List Fields) → Left filling.old.records rows
@@ -330,6 +338,31 @@ fn follow_records<W: Sink>(
     follow_rows(run, &columns, filling, room, state, writer)
 }
 
+/// What a simulation allocates before its first write, for the program and a state of it.
+fn room_for(alloc: Global, program: &Program, state: &State) -> Result<Room, AllocError>
+    requires { Fits program.now state.now }
+    ensures ready { IfOk result (λ room. IsReady program.now room) }
+    ensures rest { IfOk result (λ room. (moment : ℕ) (h : Held) → IsTrueOf (diagram_of program.now) moment h room.resting) }
+{
+    let vars = program.decls().vars();
+    let inputs = inputs(alloc, vars)?;
+    let image = vec![in alloc; false; inputs.len()]?;
+    let outputs = outputs(alloc, vars)?;
+    let line = vec![in alloc; b','; 2 * outputs.len()]?;
+    let Ok(before) = state.copy(alloc) else {
+        return Err(AllocError);
+    };
+    Ok(Room {
+        inputs,
+        image,
+        outputs,
+        line,
+        block: Block::new(),
+        before,
+        resting: Resting::new(alloc, program)?,
+    })
+}
+
 /// Reads a stimulus, and writes what is recorded of its records.
 fn follow<W: Sink>(
     run: Run<'_>,
@@ -344,20 +377,8 @@ fn follow<W: Sink>(
 {
     let (alloc, program) = (run.alloc, run.program);
     let mut filling = filling_from(alloc, stimulus, run.every);
-    let Ok(image) = vec![in alloc; false; program.decls().inputs()] else {
+    let Ok(mut room) = room_for(alloc, program, state) else {
         return Err(SimFault::Memory);
-    };
-    let Ok(before) = state.copy(alloc) else {
-        return Err(SimFault::Memory);
-    };
-    let Ok(resting) = Resting::new(alloc, program) else {
-        return Err(SimFault::Memory);
-    };
-    let mut room = Room {
-        image,
-        block: Block::new(),
-        before,
-        resting,
     };
     follow_records(run, &mut filling, &mut room, state, writer)
 }

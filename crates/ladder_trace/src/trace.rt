@@ -1,18 +1,20 @@
 //! The writing of a trace.
 
-ghost use Rattle.std.specs.Prelude.{◌≡◌, [], OnOk, decimal, filter, map, length};
+ghost use Rattle.std.specs.Prelude.{◌≡◌, ◌∷◌, ◌*◌, [], IfOk, OnOk, decimal, false, filter, map, length, slice_index_or};
 ghost use Rattle.ladder_records.specs.Text.{after_commas, bit_text};
 ghost use Rattle.ladder_scan.specs.Standing.{Fits};
 ghost use Rattle.ladder_text.specs.Block.{Sends};
 ghost use Rattle.ladder_text.specs.Log.{Puts};
+ghost use Rattle.ladder_trace.specs.Room.{ArePicked};
 ghost use Rattle.ladder_trace.specs.Trace.{is_output, trace_header, trace_row, values_of};
 
 use itoa::Buffer;
 use ladder_grid::Program;
-use ladder_records::{add_field, bit_field};
+use ladder_records::add_field;
 use ladder_scan::State;
 use ladder_text::{Block, Sink, WriteFault};
 use ladder_vars::{Var, VarKind};
+use std::alloc::{AllocError, Global};
 
 fn is_output(var: &Var) -> bool
     ensures { result ≡ is_output var.now }
@@ -68,23 +70,56 @@ pub(crate) fn write_header<W: Sink>(
     Ok(())
 }
 
-/// Adds the values of the outputs, each after a comma.
-pub(crate) fn add_bits<W: Sink>(
-    block: &mut Block,
-    vars: &[Var],
-    state: &State,
-    writer: &mut W,
-) -> Result<(), WriteFault>
-    requires { length state.now.held.values ≡ length vars.now }
-    ensures { Sends (W.log writer.old) (W.log writer.new) block.old block.new result (after_commas (map bit_text (values_of is_output vars.now state.now.held.values))) }
+/// The numbers of the outputs, in order of declaration.
+pub(crate) fn outputs(alloc: Global, vars: &[Var]) -> Result<Vec<usize>, AllocError>
+    ensures { IfOk result (λ numbers. ArePicked is_output vars.now numbers.items) }
 {
+    let mut numbers = Vec::new(alloc);
     for number in 0..vars.len() {
         if !is_output(&vars[number]) {
             continue;
         }
-        add_field(block, bit_field(state.value(number)), writer)?;
+        numbers.push(number)?;
     }
-    Ok(())
+    Ok(numbers)
+}
+
+fn bit_byte(value: bool) -> u8
+    ensures { result ∷ [] ≡ bit_text value }
+{
+    if value { b'1' } else { b'0' }
+}
+
+/// Puts the values of the variables with these numbers into a line, each after a comma.
+fn fill_line(outputs: &[usize], state: &State, line: &mut [u8])
+    requires { length line.old ≡ 2 * length outputs.now }
+    ensures text { line.new ≡ after_commas (map (λ n. bit_text (slice_index_or state.now.held.values n false)) outputs.now) }
+    ensures long { length line.new ≡ length line.old }
+{
+    for number in 0..outputs.len() {
+        let place = 2 * number;
+        line[place] = b',';
+        line[place + 1] = bit_byte(state.value_or_off(outputs[number]));
+    }
+}
+
+/// Adds the values of the outputs, each after a comma, all in one piece.
+pub(crate) fn add_bits<W: Sink>(
+    block: &mut Block,
+    program: &Program,
+    outputs: &[usize],
+    line: &mut [u8],
+    state: &State,
+    writer: &mut W,
+) -> Result<(), WriteFault>
+    requires fits { Fits program.now state.now }
+    requires picked { ArePicked is_output program.now.decls.vars outputs.now }
+    requires room { length line.old ≡ 2 * length outputs.now }
+    ensures sends { Sends (W.log writer.old) (W.log writer.new) block.old block.new result (after_commas (map bit_text (values_of is_output program.now.decls.vars state.now.held.values))) }
+    ensures long { length line.new ≡ length line.old }
+{
+    fill_line(outputs, state, line);
+    block.add(line, writer)
 }
 
 pub(crate) fn add_moment<W: Sink>(
@@ -101,30 +136,40 @@ pub(crate) fn add_moment<W: Sink>(
 fn add_row<W: Sink>(
     block: &mut Block,
     program: &Program,
+    outputs: &[usize],
+    line: &mut [u8],
     state: &State,
     writer: &mut W,
 ) -> Result<(), WriteFault>
-    requires { Fits program.now state.now }
-    ensures { Sends (W.log writer.old) (W.log writer.new) block.old block.new result (trace_row program.now state.now) }
+    requires fits { Fits program.now state.now }
+    requires picked { ArePicked is_output program.now.decls.vars outputs.now }
+    requires room { length line.old ≡ 2 * length outputs.now }
+    ensures sends { Sends (W.log writer.old) (W.log writer.new) block.old block.new result (trace_row program.now state.now) }
+    ensures long { length line.new ≡ length line.old }
 {
     add_moment(block, state.moment(), writer)?;
-    add_bits(block, program.decls().vars(), state, writer)?;
+    add_bits(block, program, outputs, line, state, writer)?;
     block.add(b"\n", writer)
 }
 
 /// Writes the row of a state that a scan has left, as one piece.
 pub(crate) fn write_row<W: Sink>(
     program: &Program,
+    outputs: &[usize],
+    line: &mut [u8],
     state: &State,
     block: &mut Block,
     writer: &mut W,
 ) -> Result<(), WriteFault>
     requires fits { Fits program.now state.now }
+    requires picked { ArePicked is_output program.now.decls.vars outputs.now }
+    requires room { length line.old ≡ 2 * length outputs.now }
     requires empty { block.old ≡ [] }
     ensures wrote { Puts (W.log writer.old) (W.log writer.new) result (trace_row program.now state.now) }
     ensures empty { OnOk result (block.new ≡ []) }
+    ensures long { length line.new ≡ length line.old }
 {
-    add_row(block, program, state, writer)?;
+    add_row(block, program, outputs, line, state, writer)?;
     block.flush(writer)?;
     Ok(())
 }

@@ -1,6 +1,6 @@
 //! The writing of a trace with columns beside its outputs.
 
-ghost use Rattle.std.specs.Prelude.{◌≡◌, ◌++◌, [], OnOk, codes, map};
+ghost use Rattle.std.specs.Prelude.{◌≡◌, ◌++◌, ◌*◌, [], OnOk, codes, length, map};
 ghost use Rattle.ladder_elements.specs.Histories.{cv_of};
 ghost use Rattle.ladder_records.specs.Text.{after_commas, bit_text};
 ghost use Rattle.ladder_scan.specs.Standing.{Fits};
@@ -8,14 +8,15 @@ ghost use Rattle.ladder_power.specs.Why.{instance_name, output_of, output_word, 
 ghost use Rattle.ladder_text.specs.Block.{Sends};
 ghost use Rattle.ladder_text.specs.Log.{Puts};
 ghost use Rattle.ladder_text.specs.Pieces.{piece_text};
-ghost use Rattle.ladder_trace.specs.Trace.{watched_header, watched_row};
+ghost use Rattle.ladder_trace.specs.Room.{ArePicked};
+ghost use Rattle.ladder_trace.specs.Trace.{is_output, watched_header, watched_row};
 ghost use Rattle.ladder_trace.specs.Watching.{column_name, column_text, elapsed, preset_of};
 
 use crate::column::Column;
 use crate::trace::{add_bits, add_moment, add_names};
 use ladder_elements::Stored;
 use ladder_grid::Program;
-use ladder_records::{add_field, bit_field};
+use ladder_records::add_field;
 use ladder_scan::State;
 use ladder_text::{Block, Piece, Sink, WriteFault, add_pieces};
 use ladder_vars::{Decls, Output};
@@ -180,6 +181,13 @@ fn add_number<'a, W: Sink>(
     add_pieces(block, pieces.as_slice(), writer)
 }
 
+/// The field of a bit, after a comma.
+fn bit_after_comma(value: bool) -> &'static [u8]
+    ensures { result.now ≡ codes "," ++ bit_text value }
+{
+    if value { b",1" } else { b",0" }
+}
+
 /// Adds the value of a column, after a comma.
 fn add_column_value<W: Sink>(
     block: &mut Block,
@@ -191,8 +199,8 @@ fn add_column_value<W: Sink>(
     ensures { Sends (W.log writer.old) (W.log writer.new) block.old block.new result (codes "," ++ column_text decls.now state.now column) }
 {
     match column {
-        Column::Value(var) => add_field(block, bit_field(state.value_or_off(var)), writer),
-        Column::Output(inst) => add_field(block, bit_field(state.stored(inst).q()), writer),
+        Column::Value(var) => block.add(bit_after_comma(state.value_or_off(var)), writer),
+        Column::Output(inst) => block.add(bit_after_comma(state.stored(inst).q()), writer),
         Column::Elapsed(inst) => {
             let time = elapsed(preset_of(decls, inst), state.moment(), state.stored(inst));
             add_number(block, Piece::Number(time), writer)
@@ -222,15 +230,20 @@ fn add_column_values<W: Sink>(
 fn add_watched_row<W: Sink>(
     block: &mut Block,
     program: &Program,
+    outputs: &[usize],
+    line: &mut [u8],
     state: &State,
     watched: &[Column],
     writer: &mut W,
 ) -> Result<(), WriteFault>
-    requires { Fits program.now state.now }
-    ensures { Sends (W.log writer.old) (W.log writer.new) block.old block.new result (watched_row program.now watched.now state.now) }
+    requires fits { Fits program.now state.now }
+    requires picked { ArePicked is_output program.now.decls.vars outputs.now }
+    requires room { length line.old ≡ 2 * length outputs.now }
+    ensures sends { Sends (W.log writer.old) (W.log writer.new) block.old block.new result (watched_row program.now watched.now state.now) }
+    ensures long { length line.new ≡ length line.old }
 {
     add_moment(block, state.moment(), writer)?;
-    add_bits(block, program.decls().vars(), state, writer)?;
+    add_bits(block, program, outputs, line, state, writer)?;
     add_column_values(block, program.decls(), state, watched, writer)?;
     block.add(b"\n", writer)
 }
@@ -238,17 +251,22 @@ fn add_watched_row<W: Sink>(
 /// Writes the row of a state that a scan has left, with these columns, as one piece.
 pub(crate) fn write_watched_row<W: Sink>(
     program: &Program,
+    outputs: &[usize],
+    line: &mut [u8],
     state: &State,
     watched: &[Column],
     block: &mut Block,
     writer: &mut W,
 ) -> Result<(), WriteFault>
     requires fits { Fits program.now state.now }
+    requires picked { ArePicked is_output program.now.decls.vars outputs.now }
+    requires room { length line.old ≡ 2 * length outputs.now }
     requires empty { block.old ≡ [] }
     ensures wrote { Puts (W.log writer.old) (W.log writer.new) result (watched_row program.now watched.now state.now) }
     ensures empty { OnOk result (block.new ≡ []) }
+    ensures long { length line.new ≡ length line.old }
 {
-    add_watched_row(block, program, state, watched, writer)?;
+    add_watched_row(block, program, outputs, line, state, watched, writer)?;
     block.flush(writer)?;
     Ok(())
 }

@@ -1,4 +1,3 @@
-use Rattle.std.proofs.Common.{refl}
 use Rattle.ladder_trace.specs.Coming.{Comes}
 use Rattle.ladder_trace.proofs.Coming.{none_takes, still_come}
 use Rattle.ladder_trace.proofs.filling.take.Goals.{then-not-filling+in_ok-found+else-not-found, else-not-filling}

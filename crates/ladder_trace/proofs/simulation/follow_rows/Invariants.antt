@@ -14,7 +14,7 @@ abbrev pub invariant-loop-done : goal.invariant-loop-done
 invariant-loop-done g l =
     IsSound l.columns l.filling
     × Fits l.run.program.now l.state
-    × IsReady l.run.program.now l.room.image.items l.room.block l.room.before
+    × IsReady l.run.program.now l.room
     × (l.done ≤ most l.run.recording)
     × (l.filling.number ≤ l.done + 2)
     × ((all : List Numbered) (log : WriteLog) → IsGoing l.run.recording l.run.program.now l.columns l.fn.state all 0 l.fn.state log (g.W.Sink.log l.fn.writer) l.fn.filling

@@ -4,24 +4,24 @@ use Rattle.ladder_text.proofs.Sending.{sends_prefix, sends_last, sends_more, sen
 use Rattle.ladder_trace.specs.Trace.{is_output, trace_row, values_of}
 use Rattle.ladder_trace.proofs.trace.add_row.Goals as goal
 
-pub returns-in_err-add_moment : goal.returns-in_err-add_moment
-returns-in_err-add_moment g c = sends_err _ _ _ _ _ _ c.from_residual.ensures.0
+pub returns-in_err-add_moment-clause-sends : goal.returns-in_err-add_moment-clause-sends
+returns-in_err-add_moment-clause-sends g c = sends_err _ _ _ _ _ _ c.from_residual.ensures.0
     (let p = c.args.program.now in
     let s = c.args.state.now in
     sends_prefix _ _ _ c.args.block.now c.args.block.now (trace_row p s) [] (decimal s.moment) (after_commas (map bit_text (values_of is_output p.decls.vars s.held.values)) ++ codes "\n") refl
     (sends_none _ c.args.block.now) (rw c.moment.ensures at c.in_err-add_moment.ensures))
 
-pub returns-in_err-add_bits : goal.returns-in_err-add_bits
-returns-in_err-add_bits g c = sends_err _ _ _ _ _ _ c.from_residual-in_err-add_bits.ensures.0
+pub returns-in_err-add_bits-clause-sends : goal.returns-in_err-add_bits-clause-sends
+returns-in_err-add_bits-clause-sends g c = sends_err _ _ _ _ _ _ c.from_residual-in_err-add_bits.ensures.0
     (let p = c.args.program.now in
     let s = c.args.state.now in
     sends_prefix _ _ _ _ _ (trace_row p s) (decimal s.moment) (after_commas (map bit_text (values_of is_output p.decls.vars s.held.values))) (codes "\n") refl (rw c.moment.ensures at c.in_ok-add_moment.ensures)
-    (rw (c.vars.ensures.value, c.decls.ensures) at c.in_err-add_bits.ensures))
+    c.in_err-add_bits.ensures.sends)
 
-pub returns : goal.returns
-returns g c =
+pub returns-clause-sends : goal.returns-clause-sends
+returns-clause-sends g c =
     let p = c.args.program.now in
     let s = c.args.state.now in
     let bits = after_commas (map bit_text (values_of is_output p.decls.vars s.held.values)) in
     sends_last _ _ _ _ _ _ (trace_row p s) (decimal s.moment ++ bits) (codes "\n") _ (sym (append_assoc (decimal s.moment) bits (codes "\n")))
-    (sends_more _ _ _ _ _ _ (decimal s.moment) bits (rw c.moment.ensures at c.in_ok-add_moment.ensures) (rw (c.vars.ensures.value, c.decls.ensures) at c.in_ok-add_bits.ensures)) c.add.ensures
+    (sends_more _ _ _ _ _ _ (decimal s.moment) bits (rw c.moment.ensures at c.in_ok-add_moment.ensures) c.in_ok-add_bits.ensures.sends) c.add.ensures

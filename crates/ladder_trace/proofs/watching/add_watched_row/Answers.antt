@@ -6,8 +6,8 @@ use Rattle.ladder_trace.specs.Watching.{column_text}
 use Rattle.ladder_trace.proofs.Columns.{parted, parted_behind, parted_between}
 use Rattle.ladder_trace.proofs.watching.add_watched_row.Goals as goal
 
-pub returns-in_err-add_moment : goal.returns-in_err-add_moment
-returns-in_err-add_moment g c = sends_err _ _ _ _ _ _ c.from_residual.ensures.0
+pub returns-in_err-add_moment-clause-sends : goal.returns-in_err-add_moment-clause-sends
+returns-in_err-add_moment-clause-sends g c = sends_err _ _ _ _ _ _ c.from_residual.ensures.0
     (let p = c.args.program.now in
     let s = c.args.state.now in
     let bits = map bit_text (values_of is_output p.decls.vars s.held.values) in
@@ -15,29 +15,29 @@ returns-in_err-add_moment g c = sends_err _ _ _ _ _ _ c.from_residual.ensures.0
     sends_prefix _ _ _ c.args.block.now c.args.block.now (watched_row p c.args.watched.now s) [] (decimal s.moment) (after_commas bits ++ (after_commas columns ++ codes "\n"))
     (parted (decimal s.moment) bits columns) (sends_none _ c.args.block.now) (rw c.moment.ensures at c.in_err-add_moment.ensures))
 
-pub returns-in_err-add_bits : goal.returns-in_err-add_bits
-returns-in_err-add_bits g c = sends_err _ _ _ _ _ _ c.from_residual-in_err-add_bits.ensures.0
+pub returns-in_err-add_bits-clause-sends : goal.returns-in_err-add_bits-clause-sends
+returns-in_err-add_bits-clause-sends g c = sends_err _ _ _ _ _ _ c.from_residual-in_err-add_bits.ensures.0
     (let p = c.args.program.now in
     let s = c.args.state.now in
     let bits = map bit_text (values_of is_output p.decls.vars s.held.values) in
     let columns = map (column_text p.decls s) c.args.watched.now in
     sends_prefix _ _ _ _ _ (watched_row p c.args.watched.now s) (decimal s.moment) (after_commas bits) (after_commas columns ++ codes "\n")
     (parted (decimal s.moment) bits columns) (rw c.moment.ensures at c.in_ok-add_moment.ensures)
-    (rw (c.vars.ensures.value, c.decls.ensures) at c.in_err-add_bits.ensures))
+    c.in_err-add_bits.ensures.sends)
 
-pub returns-in_err-add_column_values : goal.returns-in_err-add_column_values
-returns-in_err-add_column_values g c = sends_err _ _ _ _ _ _ c.from_residual-in_err-add_column_values.ensures.0
+pub returns-in_err-add_column_values-clause-sends : goal.returns-in_err-add_column_values-clause-sends
+returns-in_err-add_column_values-clause-sends g c = sends_err _ _ _ _ _ _ c.from_residual-in_err-add_column_values.ensures.0
     (let p = c.args.program.now in
     let s = c.args.state.now in
     let bits = map bit_text (values_of is_output p.decls.vars s.held.values) in
     let columns = map (column_text p.decls s) c.args.watched.now in
     sends_prefix _ _ _ _ _ (watched_row p c.args.watched.now s) (decimal s.moment ++ after_commas bits) (after_commas columns) (codes "\n")
     (parted_between (decimal s.moment) bits columns)
-    (sends_more _ _ _ _ _ _ (decimal s.moment) (after_commas bits) (rw c.moment.ensures at c.in_ok-add_moment.ensures) (rw (c.vars.ensures.value, c.decls.ensures) at c.in_ok-add_bits.ensures))
-    (rw c.decls-2.ensures at c.in_err-add_column_values.ensures))
+    (sends_more _ _ _ _ _ _ (decimal s.moment) (after_commas bits) (rw c.moment.ensures at c.in_ok-add_moment.ensures) c.in_ok-add_bits.ensures.sends)
+    (rw c.decls.ensures at c.in_err-add_column_values.ensures))
 
-pub returns : goal.returns
-returns g c =
+pub returns-clause-sends : goal.returns-clause-sends
+returns-clause-sends g c =
     let p = c.args.program.now in
     let s = c.args.state.now in
     let bits = map bit_text (values_of is_output p.decls.vars s.held.values) in
@@ -45,5 +45,5 @@ returns g c =
     sends_last _ _ _ _ _ _ (watched_row p c.args.watched.now s) ((decimal s.moment ++ after_commas bits) ++ after_commas columns) (codes "\n") _
     (parted_behind (decimal s.moment) bits columns)
     (sends_more _ _ _ _ _ _ (decimal s.moment ++ after_commas bits) (after_commas columns)
-    (sends_more _ _ _ _ _ _ (decimal s.moment) (after_commas bits) (rw c.moment.ensures at c.in_ok-add_moment.ensures) (rw (c.vars.ensures.value, c.decls.ensures) at c.in_ok-add_bits.ensures))
-    (rw c.decls-2.ensures at c.in_ok-add_column_values.ensures)) c.add.ensures
+    (sends_more _ _ _ _ _ _ (decimal s.moment) (after_commas bits) (rw c.moment.ensures at c.in_ok-add_moment.ensures) c.in_ok-add_bits.ensures.sends)
+    (rw c.decls.ensures at c.in_ok-add_column_values.ensures)) c.add.ensures
