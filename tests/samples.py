@@ -21,7 +21,7 @@ import linuxcnc
 
 DIGEST = pathlib.Path(__file__).resolve().parent / "samples.digest"
 PINS = re.compile(rb"classicladder\.0\.(?:in|out)-\d")
-ADDRESS = re.compile(r"^  (\w+) AT (%\w+) ", re.M)
+ADDRESS = re.compile(r"^  (\w+)(?: \(\* \S+ \*\))? AT (%\w+) ", re.M)
 CONTROL_ON = " --control on"
 SCANS = ("sim", "--every", "10", "--watch-all", "program.ld", "stimulus.csv")
 LISTS = ("causes", "--relevant", "--grouped", "--limit", "500", "--quiet", "--all-coils", "lists", "program.ld")
