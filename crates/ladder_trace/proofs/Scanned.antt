@@ -1,5 +1,6 @@
 -- One record: its scan, from which it is recorded.
 use Rattle.std.proofs.Common.{◌≡◌, ◌∙◌, ◌++◌, ap, append-nil, arith, drop, subst, take, take_all, ℕ, List, Bool, Result, Ok, Err, length}
+use Rattle.std.specs.Prelude.{OnOk}
 use Rattle.std.proofs.lemmas.List.{drop_all}
 use Rattle.ladder_grid.specs.Program.{Drawing}
 use Rattle.ladder_records.specs.Left.{Fields}
@@ -49,3 +50,8 @@ steps_of recording p columns number s fields moment bits inputs t old new (Err (
 steps_of recording p columns number s fields moment bits inputs t old new (Err fault.Write) row given h =
     (h.0, step_of recording p columns s fields moment bits inputs t h.0 row given h.1, h.2)
 steps_of recording p columns number s fields moment bits inputs t old new (Err fault.Memory) row given h = h
+
+-- what holds anyway holds of a good result
+pub on_ok : {T E : Type 0} (r : Result T E) (P : Type 0) → P → OnOk r P
+on_ok (Ok x) P p = p
+on_ok (Err e) P p = tt

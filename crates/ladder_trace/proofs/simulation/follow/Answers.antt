@@ -10,3 +10,6 @@ returns-clause-ends g c =
     let rows = records_of c.args.stimulus.now in
     ends_by c.args.run.recording c.args.run.every c.filling_from-filling.result.every c.args.run.program.now c.args.state.now rows _ _ _ _ c.filling_from-filling.ensures.every
     (c.follow_records.ensures.ends rows c.filling_from-filling.ensures.all)
+
+pub follow_records-requires-clause-rest : goal.follow_records-requires-clause-rest
+follow_records-requires-clause-rest g c = c.in-Ok.ensures.rest c.args.state.now.moment c.args.state.now.held

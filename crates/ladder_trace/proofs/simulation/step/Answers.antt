@@ -1,8 +1,9 @@
 use Rattle.std.proofs.Common.{◌∙◌, ap, length, sym}
 use Rattle.csv.specs.Records.{fields_of}
+use Rattle.ladder_scan.specs.Programs.{diagram_of}
 use Rattle.ladder_trace.specs.declared.recording.Recording.TheVariants as recordings
 use Rattle.ladder_trace.specs.Room.{bits_of}
-use Rattle.ladder_trace.proofs.Scanned.{given_image, steps_of}
+use Rattle.ladder_trace.proofs.Scanned.{given_image, on_ok, steps_of}
 use Rattle.ladder_trace.proofs.simulation.step.Goals as goal
 
 pub returns-in-Trace-clause-steps : goal.returns-in-Trace-clause-steps
@@ -56,3 +57,7 @@ returns-in-Waves-clause-steps g c = λ fields gives.
     rw c.in-Waves.is
     (steps_of recordings.Waves c.args.run.program.now c.args.columns.now c.args.taken.number c.args.state.now fields c.in-Some.moment bits _ _ _ _ _
     row.0 given c.wave_scan.ensures.scans)
+
+pub returns-in-Film-clause-rest : goal.returns-in-Film-clause-rest
+returns-in-Film-clause-rest g c =
+    on_ok c.draw_scan.result _ (c.forget.ensures (diagram_of c.args.run.program.now) c.requires.rest.users c.draw_scan.new.state.moment c.draw_scan.new.state.held)
