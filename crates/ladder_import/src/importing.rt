@@ -8,7 +8,7 @@ ghost use Rattle.ladder_import.specs.Refusals.{IsThere};
 
 use crate::refusal::{Refusal, refusals};
 use ladder_clp::{Project, Reading};
-use ladder_draft::{DraftFault, draft};
+use ladder_draft::{DraftFault, Drafted, draft};
 use ladder_faithful::is_carried_over;
 use ladder_grid::{GridFault, read_program};
 use ladder_hal::Link;
@@ -101,7 +101,7 @@ fn drawn(
     ensures fault { IfErr result (λ e. IsFault reading project.now e) }
 {
     match draft(alloc, reading, project, links) {
-        Ok(draft) => checked(alloc, reading, project, &draft.blocks, draft.text),
+        Ok(Drafted { text, blocks }) => checked(alloc, reading, project, &blocks, text),
         Err(fault) => Err(draft_fault(fault)),
     }
 }
