@@ -24,7 +24,7 @@ impl Keep<Word64> for Lanes {
     fn q(self) -> Word64 {
         match self {
             Lanes::Alike(block) => Word64::known(block.q()),
-            Lanes::Apart { q, .. } => q,
+            Lanes::Two { q, .. } | Lanes::Apart { q, .. } => q,
         }
     }
 

@@ -11,6 +11,16 @@ pub const LANES: usize = 64;
 pub enum Lanes {
     /// The same in all of them.
     Alike(Stored),
+    /// One of two, with the word of their Qs: what the lanes store that are ON in a word, and what those store that are OFF in it.
+    Two {
+        q: Word64,
+        word: Word64,
+        on: Stored,
+        off: Stored,
+    },
     /// Each lane's own, and the word of their Qs.
-    Apart { q: Word64, stored: [Stored; LANES] },
+    Apart {
+        q: Word64,
+        stored: [Stored; LANES],
+    },
 }

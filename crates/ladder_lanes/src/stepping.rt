@@ -4,12 +4,12 @@ ghost use Rattle.std.specs.Prelude.{◌≡◌, ◌≤◌, ◌<◌, ℕ, slice_in
 ghost use Rattle.ladder_vars.specs.Kind.{largest_preset};
 ghost use Rattle.ladder_vars.specs.declared.kind.BlockKind.TheVariants.{Ton};
 ghost use Rattle.ladder_elements.specs.declared.block.Stored.{Stored};
-ghost use Rattle.ladder_elements.specs.Blocks.{new_block};
+ghost use Rattle.ladder_elements.specs.Blocks.{new_block, step};
 ghost use Rattle.ladder_lanes.specs.declared.lanes.TheConstants.{LANES};
-ghost use Rattle.ladder_lanes.specs.Lanes.{apart, bit, chosen, is_whole, q_word, stored_in, step_lanes, choice_lanes, stepped};
+ghost use Rattle.ladder_lanes.specs.Lanes.{all_on, any_on, apart, bit, chosen, follows, is_whole, parting, q_word, stored_in, step_lanes, choice_lanes, stepped, two};
 
 use crate::lanes::{LANES, Lanes};
-use ladder_elements::{Stored, block};
+use ladder_elements::{Operations, Stored, block};
 use ladder_signals::Word64;
 use ladder_vars::BlockKind;
 
@@ -35,6 +35,7 @@ fn stored_in(lanes: &Lanes, lane: usize) -> Stored
 {
     match lanes {
         Lanes::Alike(stored) => *stored,
+        Lanes::Two { word, on, off, .. } => if bit(*word, lane) { *on } else { *off },
         Lanes::Apart { stored, .. } => stored[lane],
     }
 }
@@ -68,6 +69,7 @@ fn spread(lanes: &Lanes) -> [Stored; LANES]
 {
     match lanes {
         Lanes::Alike(stored) => [*stored; LANES],
+        Lanes::Two { word, on, off, .. } => choices(*word, &Lanes::Alike(*on), &Lanes::Alike(*off)),
         Lanes::Apart { stored, .. } => *stored,
     }
 }
@@ -100,7 +102,43 @@ fn step_each(
     }
 }
 
-/// The step of an instance: one for all lanes where these are alike and have the same inputs, otherwise one for each lane.
+/// Whether a word is the same in all lanes that are ON in another one, and in all that are OFF in it.
+fn follows(word: Word64, other: Word64) -> bool
+    ensures { result ≡ follows word other }
+{
+    is_whole(word) || word.0 == other.0
+}
+
+/// The step of two blocks: that of the lanes that are ON in a word, and that of the others.
+fn step_two(
+    kind: BlockKind,
+    preset: u32,
+    word: Word64,
+    on: Stored,
+    off: Stored,
+    first: Word64,
+    second: Word64,
+    now: u64,
+) -> Lanes
+    requires { preset ≤ largest_preset kind }
+    ensures { result ≡ two word (step kind preset on (any_on first) (any_on second) now) (step kind preset off (all_on first) (all_on second) now) }
+{
+    let on = block::step(kind, preset, on, first.0 != 0, second.0 != 0, now);
+    let (first_is_whole, second_is_whole) = (first.0 == u64::MAX, second.0 == u64::MAX);
+    let off = block::step(kind, preset, off, first_is_whole, second_is_whole, now);
+    let q = Word64::choose(word, Word64::known(on.q()), Word64::known(off.q()));
+    Lanes::Two { q, word, on, off }
+}
+
+/// The word by which lanes that were alike differ after a step: the first input that isn't the same in all of them.
+fn parting(first: Word64, second: Word64) -> Word64
+    ensures { result ≡ parting first second }
+{
+    if is_whole(first) { second } else { first }
+}
+
+/// The step of an instance: one for all lanes where these are alike and have the same inputs, two where they store one of two and the
+/// inputs follow the word that tells which, otherwise one for each lane.
 pub(crate) fn step_lanes(
     kind: BlockKind,
     preset: u32,
@@ -112,12 +150,23 @@ pub(crate) fn step_lanes(
     requires { preset ≤ largest_preset kind }
     ensures { result ≡ step_lanes kind preset before first second now }
 {
-    if let Lanes::Alike(stored) = before
-        && is_whole(first)
-        && is_whole(second)
-    {
-        let after = block::step(kind, preset, stored, bit(first, 0), bit(second, 0), now);
-        return Lanes::Alike(after);
+    match before {
+        Lanes::Alike(stored) => {
+            if is_whole(first) && is_whole(second) {
+                let after = block::step(kind, preset, stored, bit(first, 0), bit(second, 0), now);
+                return Lanes::Alike(after);
+            }
+            let word = parting(first, second);
+            if follows(first, word) && follows(second, word) {
+                return step_two(kind, preset, word, stored, stored, first, second, now);
+            }
+        }
+        Lanes::Two { word, on, off, .. } => {
+            if follows(first, word) && follows(second, word) {
+                return step_two(kind, preset, word, on, off, first, second, now);
+            }
+        }
+        Lanes::Apart { .. } => {}
     }
     step_each(kind, preset, &before, first, second, now)
 }
