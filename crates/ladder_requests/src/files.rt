@@ -74,6 +74,7 @@ fn left(alloc: Global, texts: [Text; 3], line: &[u8]) -> Result<Left, AllocError
     let asked = CommandLine {
         request: request(alloc, Asked::Saved)?,
         why: false,
+        aliases: false,
     };
     let mut readers = readers(texts);
     Ok(performed(alloc, &asked, &mut readers, line))

@@ -183,6 +183,7 @@ fn texts(alloc: Global, asked: Asked) -> Result<Texts, AllocError> {
         stimulus,
         hal: None,
         why: false,
+        aliases: false,
     })
 }
 
