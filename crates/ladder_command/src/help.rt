@@ -151,7 +151,7 @@ pub(crate) const TERMS_HELP: &str =
     "With --grouped: writes each group as the inputs that matter, joined by AND, without a header";
 
 pub(crate) const STATEMENT_HELP: &str =
-    "With --grouped: writes the groups as one statement in Structured Text; not with --limit, nor with --terms";
+    "With --grouped: writes the groups as one statement in Structured Text; not with --limit, --terms or --aliases";
 
 pub(crate) const ORDER_HELP: &str =
     "With --grouped: `auto` looks for an order of the inputs with fewer groups, `given` keeps that of the list (as without it)";
