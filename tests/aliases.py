@@ -149,15 +149,15 @@ def compare_heads(program, dice, number):
 
 
 def main():
-    dice = random.Random(3)
+    program, dice = pathlib.Path(sys.argv[1]).resolve(), random.Random(3)
     count, wrong = 0, []
     texts = [path for path in sorted((HERE.parent / "examples").glob("*/*.ld")) if "VAR" in path.read_text("ascii")]
     for path in texts:
-        some, differ = compare(sys.argv[1], path, dice)
+        some, differ = compare(program, path, dice)
         count, wrong = count + some, wrong + differ
     for name, words, why in wrong:
         print(name, " ".join(words), why)
-    heads, other = compare_heads(sys.argv[1], dice, 400)
+    heads, other = compare_heads(program, dice, 400)
     for text, wanted, status, said in other:
         print(text, "want", wanted, "have", status, said)
     print(f"{count + heads - len(wrong) - len(other)} of {count + heads} answers with aliases and without passed")
