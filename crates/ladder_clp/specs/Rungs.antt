@@ -12,7 +12,7 @@ element_with (Some kind) (Some link) (Some class) (Some number) = Some (record {
 element_with kind link class number = None
 
 -- An element is `kind-link-class/number`; 45 is the dash, 47 the slash.
-abbrev pub element_in : List ℕ → Option Element
+unfoldable pub element_in : List ℕ → Option Element
 element_in field =
     element_with (number_in (before 45 field)) (number_in (before 45 (behind 45 field)))
     (number_in (before 47 (behind 45 (behind 45 field)))) (number_in (behind 47 (behind 45 (behind 45 field))))
@@ -33,7 +33,7 @@ abbrev pub fields_of : List ℕ → List (List ℕ)
 fields_of line = slice_split (λ b. b == 44) line
 
 -- A row has 10 elements.
-abbrev pub row_in : List ℕ → Option (List Element)
+unfoldable pub row_in : List ℕ → Option (List Element)
 row_in line = if length (fields_of line) == 10 then elements_in (fields_of line) else None
 
 abbrev pub joined : {A : Type 0} → Option (List A) → Option (List A) → Option (List A)
@@ -69,12 +69,12 @@ rung_with number label comment (Some next) (Some elements) =
 rung_with number label comment next elements = None
 
 -- the rung that the lines of a part are
-abbrev pub rung_in : ℕ → List (List ℕ) → Option RungRead
+unfoldable pub rung_in : ℕ → List (List ℕ) → Option RungRead
 rung_in number body =
     rung_with number (value_of (codes "#LABEL=") body) (value_of (codes "#COMMENT=") body) (next_in (value_of (codes "#NEXTRUNG=") body)) (rows_in body)
 
 -- the number of the rung whose part begins with this line, `_FILE-rung_NUMBER.csv`; 46 is the point
-abbrev pub rung_number : List ℕ → Option ℕ
+unfoldable pub rung_number : List ℕ → Option ℕ
 rung_number line =
     if starts_with nat_eq line (codes "_FILE-rung_") && is_line (codes "csv") (behind 46 line) then number_in (before 46 (drop 11 line)) else None
 

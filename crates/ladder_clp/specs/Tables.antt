@@ -18,7 +18,7 @@ mode_in [] = Some 0
 mode_in (b ∷ bs) = number_in (before 44 (b ∷ bs))
 
 -- A preset is `base,count` or `base,count,mode`.
-abbrev pub preset_in : List ℕ → Option Preset
+unfoldable pub preset_in : List ℕ → Option Preset
 preset_in line = preset_with (number_in (before 44 line)) (number_in (before 44 (behind 44 line))) (mode_in (behind 44 (behind 44 line)))
 
 abbrev pub presets_in : List (List ℕ) → Option (List Preset)
@@ -31,7 +31,7 @@ section_with (Some number) (Some language) (Some subroutine) (Some first) (Some 
 section_with number language subroutine first last = None
 
 -- A section is `number,language,subroutine,first,last`, and more that says nothing of the scan.
-abbrev pub section_in : List ℕ → Option Section
+unfoldable pub section_in : List ℕ → Option Section
 section_in line =
     section_with (number_in (before 44 line)) (number_in (before 44 (behind 44 line))) (other_in (before 44 (behind 44 (behind 44 line))))
     (number_in (before 44 (behind 44 (behind 44 (behind 44 line))))) (number_in (before 44 (behind 44 (behind 44 (behind 44 (behind 44 line))))))
@@ -49,7 +49,7 @@ pub record SymbolRead : Type 0 where
 abbrev pub symbol_of : Symbol → SymbolRead
 symbol_of s = record { variable = s.variable.now; name = s.name.now; comment = s.comment.now }
 
-abbrev pub symbol_in : List ℕ → SymbolRead
+unfoldable pub symbol_in : List ℕ → SymbolRead
 symbol_in line = record { variable = before 44 line; name = before 44 (behind 44 line); comment = behind 44 (behind 44 line) }
 
 abbrev pub symbols_in : List (List ℕ) → List SymbolRead
@@ -64,7 +64,7 @@ pub record ExpressionRead : Type 0 where
 abbrev pub expression_of : Expression → ExpressionRead
 expression_of e = record { number = e.number; text = e.text.now }
 
-abbrev pub expression_in : List ℕ → ExpressionRead
+unfoldable pub expression_in : List ℕ → ExpressionRead
 expression_in line = record { number = number_in (before 44 line); text = behind 44 line }
 
 abbrev pub expressions_in : List (List ℕ) → List ExpressionRead

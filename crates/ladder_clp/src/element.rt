@@ -8,7 +8,7 @@ use crate::number::{before, behind, number_in};
 use std::alloc::{AllocError, Global};
 
 /// An element of a rung: its kind, whether a link goes up from its left, and the variable or the entry of a table that it has.
-#[derive(Clone, Copy, Debug, PartialEq, Eq)]
+#[derive(Clone, Copy)]
 pub struct Element {
     pub kind: u32,
     /// Not 0 where its row and the one above it are joined on its left.
@@ -39,6 +39,7 @@ fn element_with(
 }
 
 /// The element that a field is.
+#[tactic(auto, unfolding(crate::specs::Rungs::element_in))]
 fn element_in(field: &[u8]) -> Option<Element>
     ensures { result ≡ element_in field.now }
 {
@@ -68,6 +69,7 @@ fn elements_in(alloc: Global, mut fields: &[&[u8]]) -> Result<Option<Vec<Element
 }
 
 /// The elements of a row.
+#[tactic(auto, unfolding(crate::specs::Rungs::row_in))]
 pub(crate) fn row_in(alloc: Global, line: &[u8]) -> Result<Option<Vec<Element>>, AllocError>
     ensures { IfOk result (λ o. option_map (λ v. v.items) o ≡ row_in line.now) }
 {

@@ -1,7 +1,7 @@
 //! How a project is read.
 
 /// How a project is read. Where both are false, a program has what the engine runs.
-#[derive(Clone, Copy, Debug, PartialEq, Eq)]
+#[derive(Clone, Copy)]
 pub struct Reading {
     /// Whether numbers and sequential charts, which a program can't have, are opened: what they give may be any value, and what they
     /// alone need is left out. They are refused otherwise.

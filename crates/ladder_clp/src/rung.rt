@@ -84,6 +84,7 @@ fn rung_with<'a>(
 }
 
 /// The rung that the lines of a part are.
+#[tactic(auto, unfolding(crate::specs::Rungs::rung_in))]
 fn rung_in<'a>(
     alloc: Global,
     number: u32,
@@ -105,6 +106,7 @@ fn rung_in<'a>(
 }
 
 /// The number of the rung whose part begins with this line.
+#[tactic(auto, unfolding(crate::specs::Rungs::rung_number))]
 fn rung_number(line: &[u8]) -> Option<u32>
     ensures { result ≡ rung_number line.now }
 {

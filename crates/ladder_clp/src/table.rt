@@ -1,15 +1,14 @@
 //! The tables of a project: presets, sections and symbols, a line each.
 
-ghost use Rattle.std.specs.Prelude.{◌≡◌, ◌||◌, IfOk, map, not, option_map};
-ghost use Rattle.std.specs.List.{list_all, list_any};
-ghost use Rattle.ladder_clp.specs.Tables.{expression_of, expressions_in, has_number, is_number, is_assignment_of_number, is_harmless, mode_in, preset_in, preset_with, presets_in, section_in, section_with, sections_in, symbol_of, symbols_in, writes_number};
+ghost use Rattle.std.specs.Prelude.{◌≡◌, IfOk, map, option_map};
+ghost use Rattle.ladder_clp.specs.Tables.{expression_of, expressions_in, is_number, is_assignment_of_number, mode_in, preset_in, preset_with, presets_in, section_in, section_with, sections_in, symbol_of, symbols_in, writes_number};
 
 use crate::lines::is_data;
 use crate::number::{before, behind, number_in, other_in};
 use std::alloc::{AllocError, Global};
 
 /// The preset of a timer or a monostable, and the mode of an IEC timer, by its base and how often that is counted.
-#[derive(Clone, Copy, Debug, PartialEq, Eq)]
+#[derive(Clone, Copy)]
 pub struct Preset {
     pub base: u32,
     pub count: u32,
@@ -18,7 +17,7 @@ pub struct Preset {
 }
 
 /// A section: rungs from a first to a last one, each after the one that names it as its next.
-#[derive(Clone, Copy, Debug, PartialEq, Eq)]
+#[derive(Clone, Copy)]
 pub struct Section {
     pub number: u32,
     /// 0 for a ladder diagram.
@@ -63,6 +62,7 @@ fn mode_in(field: &[u8]) -> Option<u32>
     }
 }
 
+#[tactic(auto, unfolding(crate::specs::Tables::preset_in))]
 fn preset_in(line: &[u8]) -> Option<Preset>
     ensures { result ≡ preset_in line.now }
 {
@@ -117,6 +117,7 @@ fn section_with(
     }
 }
 
+#[tactic(auto, unfolding(crate::specs::Tables::section_in))]
 fn section_in(line: &[u8]) -> Option<Section>
     ensures { result ≡ section_in line.now }
 {
@@ -154,6 +155,7 @@ pub(crate) fn sections_in(
 }
 
 /// The symbols, one in each line with data.
+#[tactic(auto, unfolding(crate::specs::Tables::symbol_in))]
 pub(crate) fn symbols_in<'a>(
     alloc: Global,
     mut lines: &[&'a [u8]],
@@ -176,6 +178,7 @@ pub(crate) fn symbols_in<'a>(
 }
 
 /// The expressions, one in each line with data.
+#[tactic(auto, unfolding(crate::specs::Tables::expression_in))]
 pub(crate) fn expressions_in<'a>(
     alloc: Global,
     mut lines: &[&'a [u8]],
@@ -210,33 +213,19 @@ fn is_number(number: u32, found: Option<u32>) -> bool
     }
 }
 
-fn has_number(number: u32, expression: Expression<'_>) -> bool
-    ensures { result ≡ has_number number expression.entry }
-{
-    is_number(number, expression.number)
-}
-
-fn is_harmless(number: u32, expression: Expression<'_>) -> bool
-    ensures { result ≡ is_harmless number expression.entry }
-{
-    !has_number(number, expression) || is_assignment_of_number(expression.text)
-}
-
-fn some_has_number(expressions: &[Expression<'_>], number: u32) -> bool
-    ensures { result ≡ list_any (has_number number) expressions.now }
-{
-    expressions.iter().any(|e| has_number(number, *e))
-}
-
-fn are_harmless(expressions: &[Expression<'_>], number: u32) -> bool
-    ensures { result ≡ list_all (is_harmless number) expressions.now }
-{
-    expressions.iter().all(|e| is_harmless(number, *e))
-}
-
 /// Whether there is an expression with the number, and it writes a number alone.
-pub fn writes_number(expressions: &[Expression<'_>], number: u32) -> bool
-    ensures { result ≡ writes_number expressions.now number }
+pub fn writes_number(mut expressions: &[Expression<'_>], number: u32) -> bool
+    ensures { result ≡ writes_number expressions.entry.now number }
 {
-    some_has_number(expressions, number) && are_harmless(expressions, number)
+    let mut found = false;
+    while let [expression, rest @ ..] = expressions {
+        if is_number(number, expression.number) {
+            if !is_assignment_of_number(expression.text) {
+                return false;
+            }
+            found = true;
+        }
+        expressions = rest;
+    }
+    found
 }
