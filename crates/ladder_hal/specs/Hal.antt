@@ -38,7 +38,7 @@ some_words ([] ∷ ws) = some_words ws
 some_words ((b ∷ bs) ∷ ws) = (b ∷ bs) ∷ some_words ws
 
 -- The words of a line stand between blanks, before a remark.
-abbrev pub words_of : List ℕ → List (List ℕ)
+unfoldable pub words_of : List ℕ → List (List ℕ)
 words_of line = some_words (parts_of (before_remark line))
 
 -- ---- pins and signals
@@ -48,7 +48,7 @@ abbrev pub number_behind : List ℕ → List ℕ → Option ℕ
 number_behind part word = if starts_with nat_eq word part then number_in (drop (length part) word) else None
 
 -- A pin is `classicladder.0.in-` or `classicladder.0.out-` and the number of its variable.
-abbrev pub pin_of : List ℕ → Option Pin
+unfoldable pub pin_of : List ℕ → Option Pin
 pin_of word =
     elim (number_behind (codes "classicladder.0.in-") word) [
       | Some n ↦ Some (pin.Input n)
@@ -76,7 +76,7 @@ abbrev pub is_net : List ℕ → Bool
 is_net word = starts_with nat_eq word (codes "net") && length word == 3
 
 -- A line `net SIGNAL PIN PIN ..` connects its pins with its signal; arrows among them, and other lines, connect none.
-abbrev pub links_of_words : List (List ℕ) → List LinkRead
+unfoldable pub links_of_words : List (List ℕ) → List LinkRead
 links_of_words (w ∷ signal ∷ ws) = if is_net w then links_to signal ws else []
 links_of_words other = []
 

@@ -8,7 +8,7 @@ use crate::words::{lines_of, words_of};
 use std::alloc::{AllocError, Global};
 
 /// A pin, and the name of the signal that it is connected with.
-#[derive(Clone, Copy, Debug, PartialEq, Eq)]
+#[derive(Clone, Copy)]
 pub struct Link<'a> {
     pub pin: Pin,
     pub signal: &'a [u8],
@@ -38,6 +38,7 @@ fn add_pins<'a>(
 }
 
 /// Adds the links of a line, by its words.
+#[tactic(auto, unfolding(crate::specs::Hal::links_of_words))]
 fn add_words<'a>(words: &[&'a [u8]], links: &mut Vec<Link<'a>>) -> Result<(), AllocError>
     ensures { IfOk result (λ _. map link_of links.new.items ≡ map link_of links.old.items ++ links_of_words (map (λ w. w.now) words.now)) }
 {

@@ -6,7 +6,7 @@ ghost use Rattle.ladder_hal.specs.Hal.{number_behind, pin_of};
 use ladder_clp::number_in;
 
 /// A pin of ClassicLadder, by the number of its variable.
-#[derive(Clone, Copy, Debug, PartialEq, Eq)]
+#[derive(Clone, Copy, PartialEq, Eq)]
 pub enum Pin {
     /// That of an input, `%I`.
     Input(u32),
@@ -26,6 +26,7 @@ fn number_behind(part: &[u8], word: &[u8]) -> Option<u32>
 }
 
 /// The pin that a word names.
+#[tactic(auto, unfolding(crate::specs::Hal::pin_of))]
 pub(crate) fn pin_of(word: &[u8]) -> Option<Pin>
     ensures { result ≡ pin_of word.now }
 {

@@ -77,6 +77,7 @@ fn some_words<'a>(alloc: Global, mut parts: &[&'a [u8]]) -> Result<Vec<&'a [u8]>
 }
 
 /// The words of a line, up to a remark.
+#[tactic(auto, unfolding(crate::specs::Hal::words_of))]
 pub(crate) fn words_of(alloc: Global, line: &[u8]) -> Result<Vec<&[u8]>, AllocError>
     ensures { IfOk result (λ v. map (λ l. l.now) v.items ≡ words_of line.now) }
 {
