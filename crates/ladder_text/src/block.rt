@@ -3,10 +3,8 @@
 ghost use Rattle.std.specs.Prelude.{◌≡◌, ◌+◌, ◌≤◌, ◌++◌, [], IfOk, length, take};
 ghost use Rattle.ladder_text.specs.Block.{Sends};
 ghost use Rattle.ladder_text.specs.Log.{Puts};
-ghost use Rattle.ladder_text.specs.declared.short.TheConstants.{SHORT};
 
 use crate::fault::WriteFault;
-use crate::short::{SHORT, Short};
 use crate::sink::{Sink, put};
 use std::marker::Model;
 
@@ -93,44 +91,6 @@ impl Block {
             return self.write_through(piece, writer);
         }
         self.take(piece);
-        Ok(())
-    }
-
-    /// Makes a short text fit, by writing what the block holds where it would not.
-    fn make_room<W: Sink>(&mut self, writer: &mut W) -> Result<(), WriteFault>
-        ensures sends { Sends (W.log writer.old) (W.log writer.new) self.old self.new result [] }
-        ensures room { IfOk result (λ _. length self.new + SHORT ≤ BLOCK) }
-    {
-        if BLOCK - self.used < SHORT {
-            return self.flush(writer);
-        }
-        Ok(())
-    }
-
-    /// Takes a short text that fits.
-    fn take_short<P: Short>(&mut self, piece: &P)
-        requires { length self.old + SHORT ≤ BLOCK }
-        ensures { self.new ≡ self.old ++ P.text piece.now }
-    {
-        let used = self.used;
-        let long = piece.write(&mut self.bytes[used..used + SHORT]);
-        self.used = used + long;
-    }
-
-    /// Takes a text that writes itself; where it would not fit, what the block holds is written first.
-    ///
-    /// # Errors
-    ///
-    /// `WriteFault` where the writer fails.
-    pub fn add_short<P: Short, W: Sink>(
-        &mut self,
-        piece: &P,
-        writer: &mut W,
-    ) -> Result<(), WriteFault>
-        ensures { Sends (W.log writer.old) (W.log writer.new) self.old self.new result (P.text piece.now) }
-    {
-        self.make_room(writer)?;
-        self.take_short(piece);
         Ok(())
     }
 }

@@ -4,7 +4,6 @@
 mod block;
 mod fault;
 mod pieces;
-mod short;
 mod sink;
 mod source;
 mod tally;
@@ -13,7 +12,6 @@ mod text;
 pub use block::Block;
 pub use fault::{ReadFault, WriteFault};
 pub use pieces::{Piece, add_pieces, put_pieces};
-pub use short::{SHORT, Short};
 pub use sink::{Sink, WriteFailed, Writing, put};
 pub use source::{ReadFailed, Reading, Source};
 pub use tally::Tally;
