@@ -13,7 +13,7 @@ use Rattle.ladder_scan.specs.Programs.{diagram_of}
 use Rattle.ladder_scan.specs.Scan.{given}
 use Rattle.ladder_scan.proofs.Scanned.{rungs_back, inputs_back}
 use Rattle.ladder_scan.proofs.Sizes.{size-put_in, size-given}
-use Rattle.ladder_look.specs.SignalScan.{meet_where, passes_over, guard_of, taken_by}
+use Rattle.ladder_known.specs.KnownScan.{meet_where, passes_over, guard_of, taken_by}
 use Rattle.ladder_known.specs.KnownScan.{Keeping, Known, link_in, frame_in, changed_in, changes_in, evaluated_in, passed, after_known}
 use Rattle.ladder_glance.specs.Sizes.{AreAsLong, AreRoomy, HasSizes, IsSpareFor, Spare}
 

@@ -5,7 +5,7 @@ ghost use Rattle.ladder_grid.specs.declared.gates.TheConstants.{LINKS};
 ghost use Rattle.ladder_grid.specs.Gates.{left_of};
 ghost use Rattle.ladder_scan.specs.Programs.{diagram_of, IsSound};
 ghost use Rattle.ladder_scan.specs.Gating.{among};
-ghost use Rattle.ladder_look.specs.SignalScan.{taken_by};
+ghost use Rattle.ladder_known.specs.KnownScan.{taken_by};
 ghost use Rattle.ladder_look.specs.Gating.{guard_by};
 ghost use Rattle.ladder_known.specs.KnownScan.{after_known, evaluated_in, link_in, passed};
 ghost use Rattle.ladder_glance.specs.Sizes.{AreAsLong, HasSizes, IsSpareFor, AreRoomy};

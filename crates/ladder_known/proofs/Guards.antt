@@ -1,4 +1,4 @@
--- What a rung adds to the guards of later rungs, over truth values.
+-- Guards and jumps: the relational law, and over truth values what a rung adds to the guards of later rungs.
 use Rattle.std.proofs.Common.{◌≡◌, ℕ, ◌+◌, ◌<◌, Bool, true, false, not, cond, List, [], ◌∷◌, ◌++◌, get_or, length, zero, suc, nat_lt, refl, ap, ◌∙◌, arith, ◌&&◌, Option, Some, None}
 use Rattle.std.proofs.lemmas.List.{get_or_push, get_or_append_left}
 use Rattle.std.proofs.lemmas.Bool.Decides.{nat_tests}
@@ -8,7 +8,7 @@ use Rattle.ladder_elements.specs.Truth.{plain}
 use Rattle.ladder_scan.specs.Cells.{Diagram}
 use Rattle.ladder_scan.specs.RungByRung.{rung_after}
 use Rattle.ladder_scan.proofs.Kept.{either, get_kept}
-use Rattle.ladder_look.specs.SignalScan.{meet_where, passes_over, guard_of, taken_by}
+use Rattle.ladder_known.specs.KnownScan.{meet_where, passes_over, guard_of, taken_by}
 
 -- ---- over any signals
 module _ {A B : Type 0} (a : Algebra A) (b : Algebra B) (R : A → B → Type 0) (k : IsKept a b R) where
@@ -23,6 +23,12 @@ module _ {A B : Type 0} (a : Algebra A) (b : Algebra B) (R : A → B → Type 0)
   pub taken_kept : (leap : Option (ℕ × ℕ)) (m : A) (n : B) → R m n → (l : ℕ → A) (u : ℕ → B) → ((e : ℕ) → R (l e) (u e)) → R (taken_by a leap m l) (taken_by b leap n u)
   taken_kept None m n r l u links = k.known false
   taken_kept (Some (place, target)) m n r l u links = k.meet _ _ _ _ r (links place)
+
+-- of the left links only that of the jump's place is read
+pub taken_same : {S : Type 0} (o : Algebra S) (leap : Option (ℕ × ℕ)) (guard : S) (l u : ℕ → S)
+    → ((place target : ℕ) → leap ≡ Some (place, target) → l place ≡ u place) → taken_by o leap guard l ≡ taken_by o leap guard u
+taken_same o None guard l u h = refl
+taken_same o (Some (place, target)) guard l u h = ap (o.meet guard) (h place target refl)
 
 -- ---- over truth values
 

@@ -15,7 +15,7 @@ use Rattle.ladder_scan.specs.Scan.{given}
 use Rattle.ladder_known.specs.KnownScan.{Keeping, Known, frame_in, kept_at, q_in, link_in, changed_in, changes_in, passed}
 use Rattle.ladder_known.specs.KnownLaws.{StepsKeep, BothAt, BothKnown, ScanKeeps}
 use Rattle.ladder_scan.proofs.Kept.{BothFrames, get_kept, either, cell_kept, left_link_kept}
-use Rattle.ladder_look.proofs.Kept.{set_kept, at_kept, put_kept, coil_kept, given_kept}
+use Rattle.ladder_known.proofs.Kept.{set_kept, at_kept, put_kept, coil_kept, given_kept}
 use Rattle.ladder_known.proofs.Guards.{guard_kept, taken_kept}
 use Rattle.ladder_known.proofs.Lists.{get_both, push_both}
 

@@ -14,22 +14,20 @@ use Rattle.ladder_elements.specs.Blocks.{step, q_of, new_block}
 use Rattle.ladder_scan.specs.Cells.{Diagram, Frame, q_from, q_here}
 use Rattle.ladder_scan.specs.Rung.{Held, changed, changes, evaluated, frame_of, link_at, lower, second}
 use Rattle.ladder_scan.specs.Scan.{given, next_rung, after_scan}
-use Rattle.ladder_look.specs.SignalScan.{meet_where, passes_over, taken_by}
+use Rattle.ladder_known.specs.KnownScan.{meet_where, passes_over, taken_by}
 use Rattle.ladder_scan.specs.RungByRung.{Scanned, scanned}
 use Rattle.ladder_scan.specs.Laws.{Forward}
 use Rattle.ladder_known.specs.KnownScan.{Known, all_known, changed_in, changes_in, evaluated_in, link_in, passed, plainly, q_in}
 use Rattle.ladder_known.specs.KnownLaws.{KnownIsScan}
 use Rattle.ladder_scan.proofs.ByList.{scanned_is}
 use Rattle.ladder_scan.proofs.Kept.{left_link_kept}
-use Rattle.ladder_look.proofs.Looks.{taken_same}
-use Rattle.ladder_look.proofs.OneRung.{same_kept}
-use Rattle.ladder_known.proofs.Guards.{guard_upto, guard_push, guard_more}
-use Rattle.ladder_known.proofs.Lists.{map_same, put_same}
+use Rattle.ladder_known.proofs.Guards.{guard_upto, guard_push, guard_more, taken_same}
+use Rattle.ladder_known.proofs.Lists.{map_same, put_same, same_kept}
 
 abbrev pub known_of : Held → Known Bool Stored
 known_of h = record { values = h.values; memories = h.kept.memories; blocks = h.kept.blocks }
 
-q_plain : (kind : BlockKind) (preset : ℕ) (s : Stored) (now : ℕ) (x y : Bool) → q_from plain kind preset s now x y ≡ q_of (step kind preset s x y now)
+pub q_plain : (kind : BlockKind) (preset : ℕ) (s : Stored) (now : ℕ) (x y : Bool) → q_from plain kind preset s now x y ≡ q_of (step kind preset s x y now)
 q_plain kind preset s now true true = refl
 q_plain kind preset s now true false = refl
 q_plain kind preset s now false true = refl

@@ -1,4 +1,5 @@
 pub mod Lists
+pub mod Kept
 pub mod Guards
 pub mod KnownKept
 pub mod KnownPlain

@@ -1,7 +1,8 @@
 -- Lists of what is related, or written and not changed.
-use Rattle.std.proofs.Common.{◌≡◌, ℕ, ◌<◌, get_or, length, zero, suc, arith, List, [], ◌∷◌, ◌++◌, map, Option, Some, None, refl, ap, ap₂}
+use Rattle.std.proofs.Common.{◌≡◌, ℕ, ◌<◌, get_or, length, zero, suc, arith, List, [], ◌∷◌, ◌++◌, map, Option, Some, None, refl, ap, ap₂, ◌∙◌}
 use Rattle.std.proofs.lemmas.List.{set-get_or}
-use Rattle.ladder_elements.specs.Relations.{Both}
+use Rattle.ladder_elements.specs.Algebra.{Algebra}
+use Rattle.ladder_elements.specs.Relations.{Both, IsKept}
 use Rattle.ladder_scan.specs.Cells.{at, put_in}
 use Rattle.ladder_known.specs.KnownLaws.{BothAt}
 
@@ -39,6 +40,19 @@ both_same [] [] h = refl
 both_same [] (y ∷ ys) h = absurd h
 both_same (x ∷ xs) [] h = absurd h
 both_same (x ∷ xs) (y ∷ ys) h = ap₂ (λ a b. a ∷ b) h.0 (both_same xs ys h.1)
+
+pub same_both : {S : Type 0} (xs : List S) → Both (λ x y. x ≡ y) xs xs
+same_both [] = tt
+same_both (x ∷ xs) = (refl, same_both xs)
+
+pub same_kept : {S : Type 0} (o : Algebra S) → IsKept o o (λ x y. x ≡ y)
+same_kept o = record {
+  known = λ c. refl;
+  join = λ x y u v r s. ap₂ o.join r s;
+  meet = λ x y u v r s. ap₂ o.meet r s;
+  inverse = λ x u r. ap o.inverse r;
+  choice = λ c x y d u v q r s. ap₂ (λ p z. o.choice p z y) q r ∙ ap (o.choice d u) s;
+}
 
 pub put_same : {A : Type 0} (xs : List A) (m : Option ℕ) (d : A) → put_in xs m (at xs m d) ≡ xs
 put_same xs None d = refl

@@ -1,6 +1,6 @@
 -- The scan over a signal from a state that is known in part: values and memories are signals, and an instance is kept in a way of its own.
 -- Where all is known it is the scan; over any signal it leaves what can be known of several scans, one after the other.
-use Rattle.std.specs.Prelude.{ℕ, ◌/◌, ◌%◌, Bool, false, if◌then◌else◌, List, [], ◌∷◌, ◌++◌, get_or, map, set, zero, suc}
+use Rattle.std.specs.Prelude.{ℕ, ◌/◌, ◌%◌, Bool, true, false, if◌then◌else◌, nat_lt, List, [], ◌∷◌, ◌++◌, get_or, slice_index_or, map, set, Option, Some, None, zero, suc}
 use Rattle.ladder_vars.specs.declared.kind.BlockKind.{BlockKind}
 use Rattle.ladder_vars.specs.declared.kind.BlockKind.TheVariants.{Ton}
 use Rattle.ladder_page.specs.declared.geometry.TheConstants.{ROWS, PLACES}
@@ -14,7 +14,6 @@ use Rattle.ladder_scan.specs.Cells.{place_at, Diagram, Frame, frame, at, put_in,
 use Rattle.ladder_scan.specs.Routes.{Circuit, left_link}
 use Rattle.ladder_scan.specs.Rung.{Held, lower, second}
 use Rattle.ladder_scan.specs.Scan.{given}
-use Rattle.ladder_look.specs.SignalScan.{guard_of, taken_by}
 
 -- How an instance is kept over a signal: what is stored and known, its Q, its step by two inputs at a moment, and a choice.
 pub record Keeping (S B : Type 0) : Type 0 where
@@ -81,6 +80,27 @@ changes_in o w d now j start guard links (suc n) k =
 
 abbrev pub evaluated_in : {S B : Type 0} → Algebra S → Keeping S B → Diagram → ℕ → ℕ → S → Known S B → Known S B
 evaluated_in o w d now j guard k = changes_in o w d now j (frame_in w k) guard (link_in o w d now j k) PLACES k
+
+-- ---- the rungs, and the jumps between them
+
+-- The AND of f i over the numbers i below n that pass the test; ON where none does.
+unfoldable pub meet_where : {S : Type 0} → Algebra S → (ℕ → Bool) → (ℕ → S) → ℕ → S
+meet_where o passes f zero = o.known true
+meet_where o passes f (suc n) = if passes n then o.meet (meet_where o passes f n) (f n) else meet_where o passes f n
+
+-- A jump passes over the rungs before its target.
+abbrev pub passes_over : Option (ℕ × ℕ) → ℕ → Bool
+passes_over None j = false
+passes_over (Some (place, target)) j = nat_lt j target
+
+-- The guard of rung j: the AND, over the earlier rungs with a jump that passes over j, of NOT that this jump is taken.
+abbrev pub guard_of : {S : Type 0} → Algebra S → Diagram → List S → ℕ → S
+guard_of o d taken j = meet_where o (λ i. passes_over (d.jump i) j) (λ i. o.inverse (slice_index_or taken i (o.known false))) j
+
+-- A jump is taken where its rung is evaluated and its left link is ON.
+abbrev pub taken_by : {S : Type 0} → Algebra S → Option (ℕ × ℕ) → S → (ℕ → S) → S
+taken_by o None guard links = o.known false
+taken_by o (Some (place, target)) guard links = o.meet guard (links place)
 
 -- After some rungs: what is known, and for each of them whether its jump is taken.
 pub record Passed (S B : Type 0) : Type 0 where

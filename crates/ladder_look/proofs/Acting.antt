@@ -11,7 +11,7 @@ use Rattle.ladder_grid.specs.Program.{Drawing, cell_of, is_block}
 use Rattle.ladder_grid.specs.Gates.{left_of, below_of, acts, action_at, actions_before, actions_of}
 use Rattle.ladder_elements.specs.Algebra.{Algebra}
 use Rattle.ladder_scan.specs.Cells.{Frame, Kept, q_here}
-use Rattle.ladder_look.specs.SignalScan.{written, effects, after_rung}
+use Rattle.ladder_look.specs.ByFrames.{written, effects, after_rung}
 use Rattle.ladder_scan.specs.Rung.{link, second}
 use Rattle.ladder_scan.specs.Programs.{diagram_of}
 use Rattle.ladder_scan.specs.Gating.{among, AreLinks}

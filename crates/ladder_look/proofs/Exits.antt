@@ -7,7 +7,7 @@ use Rattle.ladder_grid.specs.declared.gates.Leap.{Leap}
 use Rattle.ladder_grid.specs.Program.{Drawing, jump_of}
 use Rattle.ladder_grid.specs.Gates.{left_of, exit_by, exit_of, leap_by, leaps_below}
 use Rattle.ladder_elements.specs.Algebra.{Algebra}
-use Rattle.ladder_look.specs.SignalScan.{meet_where, passes_over, guard_of, taken_by}
+use Rattle.ladder_known.specs.KnownScan.{meet_where, passes_over, guard_of, taken_by}
 use Rattle.ladder_scan.specs.Programs.{diagram_of}
 use Rattle.ladder_scan.proofs.Sound.{placed}
 use Rattle.ladder_scan.specs.Gating.{among}

@@ -11,7 +11,7 @@ use Rattle.ladder_scan.specs.Cells.{Frame, Kept}
 use Rattle.ladder_scan.specs.Programs.{diagram_of}
 use Rattle.ladder_scan.specs.Rung.{Held, SameSizes}
 use Rattle.ladder_scan.proofs.Sizes.{size-put_in, size-given}
-use Rattle.ladder_look.specs.SignalScan.{look_frame}
+use Rattle.ladder_look.specs.ByFrames.{look_frame}
 use Rattle.ladder_look.specs.Stepping.{Going, frame_after, links_after, gone, all_gone}
 use Rattle.ladder_look.proofs.StepWise.{values_length}
 

@@ -1,6 +1,6 @@
 pub mod Kept
-pub mod OneRung
-pub mod LookAtBool
+pub mod Framed
+pub mod LookLaws
 pub mod Acting
 pub mod StepWise
 pub mod StepLaws
@@ -8,7 +8,6 @@ pub mod StepLooks
 pub mod StepsKept
 pub mod Likened
 pub mod Exits
-pub mod Looks
 pub mod Values
 pub mod Starts
 pub mod Sizes

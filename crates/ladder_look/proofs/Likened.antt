@@ -13,13 +13,15 @@ use Rattle.ladder_scan.specs.Programs.{diagram_of, IsSound}
 use Rattle.ladder_elements.specs.Relations.{Both, IsKept}
 use Rattle.ladder_scan.proofs.Kept.{BothFrames}
 use Rattle.ladder_scan.specs.Rung.{Held, SameSizes}
-use Rattle.ladder_look.specs.SignalScan.{after_look, look_frame, looked}
+use Rattle.ladder_look.specs.ByFrames.{look_frame, looked}
+use Rattle.ladder_look.specs.Look.{after_look}
 use Rattle.ladder_look.specs.Stepping.{all_gone, going}
 use Rattle.ladder_elements.specs.Truth.{plain}
 use Rattle.ladder_elements.specs.TruthLaws.{plain_lattice}
 use Rattle.ladder_elements.specs.declared.likeness.Likeness.{Likeness}
 use Rattle.ladder_elements.specs.declared.likeness.Likeness.TheVariants.{Off, On, Alike, Open}
-use Rattle.ladder_look.proofs.Kept.{all_known, given_kept, look_kept}
+use Rattle.ladder_known.proofs.Kept.{known_kept, given_kept}
+use Rattle.ladder_look.proofs.LookLaws.{look_kept}
 use Rattle.ladder_look.proofs.Sizes.{look_sizes}
 use Rattle.ladder_look.proofs.Starts.{by_looks}
 use Rattle.ladder_look.proofs.StepLooks.{by_steps}
@@ -295,8 +297,8 @@ module _ (p : Drawing) (sound : IsSound (diagram_of p)) (now : ℕ) (h : Held) (
 
   start : (ws : List (Bool × Bool)) → Both Knows ls ws → BothFrames Knows begun (look_frame doubled d ws h)
   start ws k = subst (λ (f : Frame Likeness). BothFrames Knows f (look_frame doubled d ws h)) (sym begins) (
-    given_kept likenesses doubled Knows knows_kept d.inputs ls ws k _ _ (all_known likenesses doubled Knows knows_kept (λ v. v) h.values),
-    all_known likenesses doubled Knows knows_kept q_of h.kept.blocks,
+    given_kept likenesses doubled Knows knows_kept d.inputs ls ws k _ _ (known_kept likenesses doubled Knows knows_kept (λ v. v) h.values),
+    known_kept likenesses doubled Knows knows_kept q_of h.kept.blocks,
   )
 
   abbrev last : List (Bool × Bool) → Frame (Bool × Bool)
@@ -320,7 +322,7 @@ module _ (p : Drawing) (sound : IsSound (diagram_of p)) (now : ℕ) (h : Held) (
   pub likened : (xs ys : List Bool) → AreLike ls xs ys → AreLike next.values (after_look plain d now xs h) (after_look plain d now ys h)
   likened xs ys like =
       let ws : List (Bool × Bool) = pairs xs ys in
-      let values : (last ws).values ≡ after_look doubled d now ws h = by_looks doubled p now ws h (look_frame doubled d ws h) (last ws) refl (last_is ws) in
+      let values : (last ws).values ≡ after_look doubled d now ws h = by_looks doubled p sound.once now ws h (look_frame doubled d ws h) (last ws) refl (last_is ws) in
       sides next.values (after_look doubled d now ws h) _ _
       (subst (λ (vs : List (Bool × Bool)). Both Knows next.values vs) values (known_last ws (pairs_known ls xs ys like)).0)
       (look_kept doubled plain IsFirst first_kept d h now ws xs (pairs_first ls xs ys like))

@@ -7,7 +7,8 @@ use Rattle.ladder_elements.specs.Algebra.{Algebra}
 use Rattle.ladder_elements.specs.Blocks.{q_of}
 use Rattle.ladder_scan.specs.Cells.{Diagram, Frame, Kept, var_in}
 use Rattle.ladder_scan.specs.Rung.{Held, link, SameSizes}
-use Rattle.ladder_look.specs.SignalScan.{effects, looked, look_frame, guard_of}
+use Rattle.ladder_look.specs.ByFrames.{effects, looked, look_frame}
+use Rattle.ladder_known.specs.KnownScan.{guard_of}
 use Rattle.ladder_scan.proofs.Sizes.{size-put_in, size-given}
 
 module _ {S : Type 0} (o : Algebra S) (d : Diagram) (k : Kept) (now : ℕ) where

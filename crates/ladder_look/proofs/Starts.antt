@@ -6,11 +6,14 @@ use Rattle.ladder_elements.specs.Algebra.{Algebra, LatticeLaws}
 use Rattle.ladder_elements.specs.Blocks.{q_of}
 use Rattle.ladder_scan.specs.Cells.{Diagram, Frame, frame}
 use Rattle.ladder_scan.specs.Scan.{given}
-use Rattle.ladder_look.specs.SignalScan.{looked, look_frame, after_look}
+use Rattle.ladder_look.specs.ByFrames.{looked, look_frame}
+use Rattle.ladder_look.specs.Look.{after_look}
 use Rattle.ladder_scan.specs.Programs.{diagram_of}
 use Rattle.ladder_scan.specs.Rung.{Held}
 use Rattle.ladder_scan.specs.Gating.{AreValues}
+use Rattle.ladder_scan.specs.Laws.{Once}
 use Rattle.ladder_scan.proofs.Scanned.{rungs_back, inputs_back}
+use Rattle.ladder_look.proofs.LookLaws.{framed_is_look}
 
 module _ {S : Type 0} (o : Algebra S) (V : S → Type 0) (l : LatticeLaws S V o) where
   all_values : (xs : List S) → All V xs → (i : ℕ) → V (get_or xs i (o.known false))
@@ -41,12 +44,13 @@ module _ {S : Type 0} (o : Algebra S) (V : S → Type 0) (l : LatticeLaws S V o)
     ends = known_values q_of h.kept.blocks;
   })
 
-pub by_looks : {S : Type 0} (o : Algebra S) (p : Drawing) (now : ℕ) (inputs : List S) (h : Held) (f next : Frame S) → f ≡ look_frame o (diagram_of p) inputs h
+pub by_looks : {S : Type 0} (o : Algebra S) (p : Drawing) → Once (diagram_of p) → (now : ℕ) (inputs : List S) (h : Held) (f next : Frame S) → f ≡ look_frame o (diagram_of p) inputs h
     → next ≡ (looked o (diagram_of p) h.kept now f p.rungs).frame → next.values ≡ after_look o (diagram_of p) now inputs h
-by_looks o p now inputs h f next e n =
+by_looks o p once now inputs h f next e n =
     ap (λ (x : Frame _). x.values) n
     ∙ ap (λ m. (looked o (diagram_of p) h.kept now f m).frame.values) (rungs_back p)
     ∙ ap (λ (x : Frame _). (looked o (diagram_of p) h.kept now x (diagram_of p).rungs).frame.values) e
+    ∙ framed_is_look o (diagram_of p) once now inputs h
 
 pub begins : {S : Type 0} (o : Algebra S) (p : Drawing) (inputs : List S) (h : Held) (known begun : Frame S)
     → known ≡ frame (map o.known h.values) (map (λ b. o.known (q_of b)) h.kept.blocks)

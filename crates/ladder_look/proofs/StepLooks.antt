@@ -11,7 +11,8 @@ use Rattle.ladder_grid.specs.Steps.{gate_step, action_step, turned_by, turns_bef
 use Rattle.ladder_elements.specs.Algebra.{Algebra, LatticeLaws}
 use Rattle.ladder_scan.specs.Cells.{Frame, Kept}
 use Rattle.ladder_scan.specs.Rung.{link}
-use Rattle.ladder_look.specs.SignalScan.{meet_where, passes_over, guard_of, taken_by, looked}
+use Rattle.ladder_look.specs.ByFrames.{looked}
+use Rattle.ladder_known.specs.KnownScan.{meet_where, passes_over, guard_of, taken_by}
 use Rattle.ladder_scan.specs.Programs.{diagram_of, IsSound}
 use Rattle.ladder_scan.specs.Gating.{among, ran, AreLinks, AreValues}
 use Rattle.ladder_look.specs.Gating.{taken_by_exit}
@@ -21,7 +22,7 @@ use Rattle.ladder_scan.proofs.Sound.{placed}
 use Rattle.ladder_look.proofs.Acting.{action_cells, rung_along}
 use Rattle.ladder_look.proofs.Exits.{taken_of, guard_is}
 use Rattle.ladder_look.proofs.Values.{looked_values}
-use Rattle.ladder_look.proofs.Looks.{taken_same}
+use Rattle.ladder_known.proofs.Guards.{taken_same}
 use Rattle.ladder_look.proofs.StepLaws.{gates_gone, actions_gone}
 
 -- ---- lists

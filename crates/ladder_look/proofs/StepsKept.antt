@@ -18,7 +18,7 @@ use Rattle.ladder_scan.specs.Programs.{diagram_of}
 use Rattle.ladder_scan.specs.Gating.{among, own}
 use Rattle.ladder_look.specs.Gating.{acted, guard_by}
 use Rattle.ladder_look.specs.Stepping.{Going, gone, all_gone, keeping, passing, storing, links_after, frame_after, taken_after, guard_after}
-use Rattle.ladder_look.proofs.Kept.{set_kept, at_kept, put_kept, coil_kept}
+use Rattle.ladder_known.proofs.Kept.{set_kept, at_kept, put_kept, coil_kept}
 
 module _ {A B : Type 0} (a : Algebra A) (b : Algebra B) (R : A → B → Type 0) (r : IsKept a b R) (p : Drawing) (k : Kept) (now : ℕ) where
   among_kept : (xs : List A) (vs : List B) → Both R xs vs → (i : ℕ) → R (among a xs i) (among b vs i)

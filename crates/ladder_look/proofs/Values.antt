@@ -5,7 +5,7 @@ use Rattle.ladder_elements.specs.Truth.{plain}
 use Rattle.ladder_elements.specs.Relations.{Both}
 use Rattle.ladder_scan.proofs.Kept.{BothFrames}
 use Rattle.ladder_scan.specs.Cells.{Diagram, Frame, Kept}
-use Rattle.ladder_look.specs.SignalScan.{looked}
+use Rattle.ladder_look.specs.ByFrames.{looked}
 use Rattle.ladder_scan.specs.Gating.{AreValues}
 use Rattle.ladder_look.proofs.Kept.{frames_kept}
 use Rattle.ladder_scan.proofs.Values.{values_kept, shadow, shadowed}

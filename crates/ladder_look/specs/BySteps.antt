@@ -6,7 +6,7 @@ use Rattle.ladder_grid.specs.Program.{Drawing}
 use Rattle.ladder_elements.specs.Algebra.{Algebra}
 use Rattle.ladder_scan.specs.Programs.{diagram_of}
 use Rattle.ladder_scan.specs.Rung.{Held}
-use Rattle.ladder_look.specs.SignalScan.{look_frame}
+use Rattle.ladder_look.specs.ByFrames.{look_frame}
 use Rattle.ladder_look.specs.Stepping.{all_gone, going}
 
 -- These values are what the steps leave, one after the other, from what a look begins with: no jump is taken, and of the links ON and OFF

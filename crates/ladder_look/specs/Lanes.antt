@@ -4,7 +4,7 @@ use Rattle.ladder_elements.specs.Algebra.{Algebra}
 use Rattle.ladder_scan.specs.Cells.{Diagram}
 use Rattle.ladder_elements.specs.Relations.{Both}
 use Rattle.ladder_scan.specs.Rung.{Held}
-use Rattle.ladder_look.specs.SignalScan.{after_look}
+use Rattle.ladder_look.specs.Look.{after_look}
 
 -- `value` is what a look leaves of a variable, wherever `wide` is what a look leaves of it whose inputs have those of the first in their
 -- lane.

@@ -6,7 +6,7 @@ use Rattle.ladder_elements.specs.Relations.{AllowsAt, Both}
 use Rattle.ladder_scan.specs.Cells.{Diagram}
 use Rattle.ladder_scan.specs.Rung.{Held}
 use Rattle.ladder_scan.specs.Scan.{after_scan}
-use Rattle.ladder_look.specs.SignalScan.{after_look}
+use Rattle.ladder_look.specs.Look.{after_look}
 
 -- A relation that the operations keep is kept by the whole scan: from related inputs come related values.
 abbrev pub LookKeeps : {A B : Type 0} → Algebra A → Algebra B → (A → B → Type 0) → Type 0

@@ -1,5 +1,6 @@
 pub mod BySteps
-pub mod SignalScan
+pub mod Look
+pub mod ByFrames
 pub mod Laws
 pub mod Lanes
 pub mod Sheets

@@ -7,7 +7,7 @@ ghost use Rattle.ladder_elements.specs.Likenesses.{AreLike};
 ghost use Rattle.ladder_scan.specs.Programs.{diagram_of, IsSound};
 ghost use Rattle.ladder_scan.specs.Rung.{SameSizes};
 ghost use Rattle.ladder_look.specs.Sheets.{HasRoom};
-ghost use Rattle.ladder_look.specs.SignalScan.{after_look};
+ghost use Rattle.ladder_look.specs.Look.{after_look};
 ghost use Rattle.ladder_scan.specs.Standing.{Fits};
 ghost use Rattle.ladder_elements.specs.Truth.{plain};
 

@@ -3,7 +3,8 @@
 ghost use Rattle.std.specs.Prelude.{◌≡◌, ◌+◌, ◌-◌, ◌^◌, ◌<◌, ◌↔◌, ℕ, min, length, All, IfOk, IsTrue, slice_get, slice_set, Some, slice_index_or, false};
 ghost use Rattle.ladder_grid.specs.declared.gates.TheConstants.{LINKS};
 ghost use Rattle.ladder_grid.specs.Program.{IsWellFormed};
-ghost use Rattle.ladder_look.specs.SignalScan.{look_frame, looked, after_look};
+ghost use Rattle.ladder_look.specs.ByFrames.{look_frame, looked};
+ghost use Rattle.ladder_look.specs.Look.{after_look};
 ghost use Rattle.ladder_scan.specs.Rung.{SameSizes};
 ghost use Rattle.ladder_scan.specs.Programs.{diagram_of, IsSound};
 ghost use Rattle.ladder_scan.specs.Standing.{Fits};

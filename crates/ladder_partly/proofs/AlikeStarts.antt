@@ -6,10 +6,9 @@ use Rattle.ladder_elements.specs.declared.block.Stored.{Stored}
 use Rattle.ladder_elements.specs.declared.block.Stored.TheVariants.{Timer, Counter, Bistable}
 use Rattle.ladder_elements.specs.Relations.{Both}
 use Rattle.ladder_scan.specs.Cells.{Diagram}
-use Rattle.ladder_look.proofs.OneRung.{same_both}
 use Rattle.ladder_known.specs.KnownLaws.{BothAt, BothKnown, StepsKeep}
 use Rattle.ladder_known.proofs.KnownKept.{scan_keeps}
-use Rattle.ladder_known.proofs.Lists.{both_same, each_both, get_both}
+use Rattle.ladder_known.proofs.Lists.{both_same, each_both, get_both, same_both}
 use Rattle.ladder_signals.specs.Three.{three}
 use Rattle.ladder_signals.specs.declared.tri.Tri.{Tri}
 use Rattle.ladder_partly.specs.Again.{KnownGoesOnAlike, PartlyAlike, StartAlike, StoredAlike}

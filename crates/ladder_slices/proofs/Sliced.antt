@@ -8,7 +8,8 @@ use Rattle.ladder_elements.specs.Algebra.{Algebra, LatticeLaws}
 use Rattle.ladder_scan.specs.Programs.{diagram_of, IsSound}
 use Rattle.ladder_scan.specs.Rung.{Held}
 use Rattle.ladder_look.specs.BySteps.{AreLeftBy}
-use Rattle.ladder_look.specs.SignalScan.{after_look, look_frame}
+use Rattle.ladder_look.specs.ByFrames.{look_frame}
+use Rattle.ladder_look.specs.Look.{after_look}
 use Rattle.ladder_look.specs.Stepping.{all_gone, going}
 use Rattle.ladder_look.proofs.Starts.{begin_values, by_looks}
 use Rattle.ladder_look.proofs.StepLooks.{by_steps}
@@ -30,7 +31,7 @@ sliced o V l p now var inputs h ss values sound all is a =
     ap (λ xs. get_or xs var off) a.are
     ∙ ap (λ (xs : List Step). get_or (all_gone o p h.kept now xs g).frame.values var off) is
     ∙ same
-    ∙ ap (λ xs. get_or xs var off) (by_looks o p now inputs h f (all_gone o p h.kept now steps g).frame refl whole)
+    ∙ ap (λ xs. get_or xs var off) (by_looks o p sound.once now inputs h f (all_gone o p h.kept now steps g).frame refl whole)
 
 -- ---- one step more, from the last one on
 module _ (p : Drawing) (ss : List Step) (n : Needs) (i j at : ℕ) (d : Step) (lt : i < length ss) (next : j ≡ i + 1) (is : at ≡ i) where

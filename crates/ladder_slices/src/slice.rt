@@ -4,7 +4,7 @@ ghost use Rattle.std.specs.Prelude.{◌≡◌, ◌+◌, ◌-◌, ◌^◌, All, l
 ghost use Rattle.ladder_grid.specs.Steps.{steps_below};
 ghost use Rattle.ladder_scan.specs.Programs.{diagram_of};
 ghost use Rattle.ladder_scan.specs.Standing.{Fits};
-ghost use Rattle.ladder_look.specs.SignalScan.{after_look};
+ghost use Rattle.ladder_look.specs.Look.{after_look};
 ghost use Rattle.ladder_look.specs.Sheets.{HasRoom};
 ghost use Rattle.ladder_look.specs.Stepping.{IsWithin};
 ghost use Rattle.ladder_slices.specs.Slicing.{kept_of, slice_of};

@@ -1,6 +1,6 @@
 use Rattle.std.proofs.Common.{◌∙◌, ap, false, slice_index_or}
 use Rattle.std.proofs.lemmas.List.{get_or-set_same}
-use Rattle.ladder_look.specs.SignalScan.{after_look}
+use Rattle.ladder_look.specs.Look.{after_look}
 use Rattle.ladder_scan.proofs.Kept.{get_kept}
 use Rattle.ladder_look.proofs.lane.look_in_lane.Goals as goal
 

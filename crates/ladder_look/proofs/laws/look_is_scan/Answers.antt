@@ -1,5 +1,5 @@
 use Rattle.ladder_scan.specs.Programs.{diagram_of, IsSound}
-use Rattle.ladder_look.proofs.LookAtBool.{look_is_scan}
+use Rattle.ladder_look.proofs.LookLaws.{look_is_scan}
 use Rattle.ladder_look.proofs.laws.look_is_scan.Goals as goal
 
 pub returns : goal.returns

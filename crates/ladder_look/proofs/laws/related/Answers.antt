@@ -1,4 +1,4 @@
-use Rattle.ladder_look.proofs.Kept.{look_kept}
+use Rattle.ladder_look.proofs.LookLaws.{look_kept}
 use Rattle.ladder_look.proofs.laws.related.Goals as goal
 
 pub returns : goal.returns

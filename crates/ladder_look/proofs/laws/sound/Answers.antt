@@ -1,7 +1,7 @@
 use Rattle.std.proofs.Common.{List, Bool, subst}
 use Rattle.ladder_elements.specs.Relations.{AllowsAt, Both}
 use Rattle.ladder_scan.specs.Programs.{diagram_of}
-use Rattle.ladder_look.specs.SignalScan.{after_look}
+use Rattle.ladder_look.specs.Look.{after_look}
 use Rattle.ladder_look.proofs.laws.sound.Goals as goal
 
 pub returns : goal.returns

@@ -2,7 +2,7 @@ use Rattle.std.proofs.Common.{◌∙◌, ap, length, subst}
 use Rattle.std.proofs.lemmas.List.{length-map, with_items_is}
 use Rattle.ladder_elements.specs.Likenesses.{AreLike}
 use Rattle.ladder_scan.specs.Programs.{diagram_of}
-use Rattle.ladder_look.specs.SignalScan.{after_look}
+use Rattle.ladder_look.specs.Look.{after_look}
 use Rattle.ladder_scan.specs.Rung.{Held}
 use Rattle.ladder_elements.specs.Truth.{plain}
 use Rattle.ladder_look.proofs.likening.liken.Goals as goal

@@ -2,7 +2,7 @@ use Rattle.std.proofs.Common.{◌∙◌, ap, length}
 use Rattle.std.proofs.lemmas.List.{length-map, with_items_is}
 use Rattle.ladder_scan.specs.Programs.{diagram_of}
 use Rattle.ladder_scan.specs.Rung.{Held}
-use Rattle.ladder_look.specs.SignalScan.{after_look}
+use Rattle.ladder_look.specs.Look.{after_look}
 use Rattle.ladder_look.proofs.Sizes.{begin_size, look_sizes}
 use Rattle.ladder_look.proofs.Starts.{begin_values, by_looks}
 use Rattle.ladder_look.proofs.looking.look.Goals as goal
@@ -15,7 +15,7 @@ pub returns-clause-values : goal.returns-clause-values
 returns-clause-values g c =
     let o = g.S.Operations.algebra in
     let p = c.args.program.now in
-    by_looks o p c.args.now c.args.inputs.now c.storage-storage.result.now c.begin.new.seen c.look_rungs.new.seen c.begin.ensures c.look_rungs.ensures
+    by_looks o p c.checked-2.ensures.once c.args.now c.args.inputs.now c.storage-storage.result.now c.begin.new.seen c.look_rungs.new.seen c.begin.ensures c.look_rungs.ensures
     ∙ ap (after_look o (diagram_of p) c.args.now c.args.inputs.now) c.storage-storage.ensures
 
 pub returns-clause-fits : goal.returns-clause-fits

@@ -2,7 +2,7 @@ use Rattle.std.proofs.Common.{◌≡◌, ◌∙◌, All, List, length, slice_ind
 use Rattle.ladder_grid.specs.declared.steps.Step.{Step}
 use Rattle.ladder_grid.specs.Steps.{steps_below}
 use Rattle.ladder_scan.specs.Programs.{diagram_of}
-use Rattle.ladder_look.specs.SignalScan.{after_look}
+use Rattle.ladder_look.specs.Look.{after_look}
 use Rattle.ladder_look.specs.Stepping.{IsWithin}
 use Rattle.ladder_look.proofs.StepLaws.{all_within}
 use Rattle.ladder_slices.specs.Slices.{SliceOf}
