@@ -219,7 +219,7 @@ The system refused memory while the program was read. No text has this fault.
 pub(crate) const A1: &str = "\
 A1: an alias that is a name or another alias
 
-It comes with `--aliases` alone. An alias is a comment that stands alone right behind the name of a declaration, of 1 to 32 letters, digits, `_`, `-`, `.` and `/`; with `--aliases` it is printed in place of the name. So no alias is the name of a declaration, and no two are the same. The case of letters doesn't matter. Where two are the same, the line is the one of the second.
+It comes with `--aliases` alone. An alias is a comment that stands alone right behind the name of a declaration, of 1 to 32 letters, digits, `_`, `-`, `.` and `/`; with `--aliases` it is printed in place of the name. So no alias is the name of another declaration, and no two are the same. The case of letters doesn't matter. Where two are the same, the line is the one of the second.
 
 ```console
 $ cat a1.ld
