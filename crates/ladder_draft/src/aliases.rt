@@ -1,32 +1,30 @@
 //! What lists and traces can call a variable or a block in place of its name.
 
 use crate::bytes::trimmed;
-use crate::names::{Named, signal_of, symbol_of};
+use crate::names::{Named, Used, signal_of, symbol_of};
 use ladder_clp::Project;
 use ladder_hal::Link;
 use ladder_vars::Title;
 use std::alloc::{AllocError, Global};
 
 /// What the project calls it, or else the signal of its pin.
-fn word_of<'a>(
-    alloc: Global,
-    project: &Project<'a>,
-    links: &[Link<'a>],
-    named: &Named,
-) -> Result<Option<&'a [u8]>, AllocError> {
-    if let Some(symbol) = symbol_of(alloc, project, named.used)? {
+fn word_of<'a>(project: &Project<'a>, links: &[Link<'a>], used: Used) -> Option<&'a [u8]> {
+    if let Some(symbol) = symbol_of(project, used) {
         let word = trimmed(symbol.name);
         if !word.is_empty() && !word.starts_with(b"%") {
-            return Ok(Some(word));
+            return Some(word);
         }
     }
-    Ok(signal_of(links, named.used))
+    signal_of(links, used)
 }
 
 fn is_name(named: &[Named], word: &[u8]) -> bool {
-    named
-        .iter()
-        .any(|other| other.name.bytes().eq_ignore_ascii_case(word))
+    for other in named {
+        if other.name.bytes().eq_ignore_ascii_case(word) {
+            return true;
+        }
+    }
+    false
 }
 
 fn is_alias(aliases: &[Option<&[u8]>], word: &[u8]) -> bool {
@@ -49,7 +47,7 @@ pub(crate) fn aliases_of<'a>(
 ) -> Result<Vec<Option<&'a [u8]>>, AllocError> {
     let mut aliases: Vec<Option<&'a [u8]>> = Vec::new(alloc);
     for other in named {
-        let alias = match word_of(alloc, project, links, other)? {
+        let alias = match word_of(project, links, other.used) {
             Some(word)
                 if Title::new(word).is_some()
                     && !is_name(named, word)

@@ -3,7 +3,7 @@
 ghost use Rattle.std.specs.Prelude.{◌<◌, ◌≤◌};
 ghost use Rattle.ladder_page.specs.declared.geometry.TheConstants.{COLUMNS, ROWS};
 
-use ladder_clp::{Element, Project, Reading};
+use ladder_clp::{Element, Placed, Project, Reading};
 use ladder_page::geometry::{COLUMNS, PLACES, ROWS};
 use ladder_sheet::{BlockSort, Meaning, is_linked, is_taken_on, meaning_at, passes, power_of};
 use std::alloc::{AllocError, Global};
@@ -14,6 +14,7 @@ pub(crate) struct Sheet<'a> {
     pub(crate) reading: Reading,
     /// The number of its rung in the program.
     pub(crate) rung: u32,
+    pub(crate) placed: &'a Placed<'a>,
     pub(crate) elements: &'a [Element],
     drawn: [bool; PLACES],
 }
@@ -34,7 +35,8 @@ fn is_blank(meaning: Meaning) -> bool {
 }
 
 /// The elements with what is drawn of them.
-fn sheet_of(reading: Reading, rung: u32, elements: &[Element]) -> Sheet<'_> {
+fn sheet_of<'a>(reading: Reading, rung: u32, placed: &'a Placed<'a>) -> Sheet<'a> {
+    let elements = placed.rung.elements.as_slice();
     let power = power_of(reading, elements);
     let mut drawn = [false; PLACES];
     for place in 0..PLACES {
@@ -44,6 +46,7 @@ fn sheet_of(reading: Reading, rung: u32, elements: &[Element]) -> Sheet<'_> {
     Sheet {
         reading,
         rung,
+        placed,
         elements,
         drawn,
     }
@@ -59,7 +62,7 @@ pub(crate) fn sheets_of<'a>(
     let mut rung = 0u32;
     for placed in &project.rungs {
         rung = rung.saturating_add(1);
-        sheets.push(sheet_of(reading, rung, placed.rung.elements.as_slice()))?;
+        sheets.push(sheet_of(reading, rung, placed))?;
     }
     Ok(sheets)
 }
