@@ -38,22 +38,32 @@ fn is_alias(aliases: &[Option<&[u8]>], word: &[u8]) -> bool {
     false
 }
 
-/// The alias of each: what it is called, where that is another word than its name and no other name or alias.
+/// What it is called, where that is another word than its name and no other name, and no alias yet.
+fn alias_of<'a>(
+    project: &Project<'a>,
+    links: &[Link<'a>],
+    named: &[Named],
+    aliases: &[Option<&'a [u8]>],
+    used: Used,
+) -> Option<&'a [u8]> {
+    let word = word_of(project, links, used)?;
+    if Title::new(word).is_some() && !is_name(named, word) && !is_alias(aliases, word) {
+        Some(word)
+    } else {
+        None
+    }
+}
+
+/// The alias of each, where it has one.
 pub(crate) fn aliases_of<'a>(
     alloc: Global,
     project: &Project<'a>,
     links: &[Link<'a>],
     named: &[Named],
 ) -> Result<Vec<Option<&'a [u8]>>, AllocError> {
-    let mut aliases: Vec<Option<&'a [u8]>> = Vec::new(alloc);
+    let mut aliases = Vec::new(alloc);
     for other in named {
-        let alias = match word_of(project, links, other.used) {
-            Some(word)
-                if Title::new(word).is_some()
-                    && !is_name(named, word)
-                    && !is_alias(&aliases, word) => { Some(word) }
-            _ => None,
-        };
+        let alias = alias_of(project, links, named, &aliases, other.used);
         aliases.push(alias)?;
     }
     Ok(aliases)

@@ -11,16 +11,14 @@ use ladder_hal::Link;
 use ladder_sheet::BlockRef;
 use ladder_vars::limits::{MOST_INSTANCES, MOST_VARS};
 use std::alloc::{AllocError, Global};
-use thiserror::Error;
 
 /// Why a project has no draft.
-#[derive(Clone, Copy, Debug, Drop, Error, PartialEq, Eq)]
+#[derive(Clone, Copy)]
 pub enum DraftFault {
-    #[error("out of memory")]
     Memory,
-    #[error("there are more than 256 variables")]
+    /// There are more than 256 variables.
     TooManyVars,
-    #[error("there are more than 64 blocks")]
+    /// There are more than 64 blocks.
     TooManyBlocks,
 }
 
@@ -66,9 +64,8 @@ fn text_of(
     links: &[Link<'_>],
     sheets: &[Sheet<'_>],
     used: &[Used],
-    blocks: &[BlockRef],
 ) -> Result<Vec<u8>, AllocError> {
-    let named = names_of(alloc, project, links, sheets, used, blocks)?;
+    let named = names_of(alloc, project, links, sheets, used)?;
     let aliases = aliases_of(alloc, project, links, &named)?;
     drawing(alloc, project, links, sheets, &named, &aliases)
 }
@@ -82,7 +79,7 @@ fn draft_of(
     let used = used_in(alloc, sheets)?;
     let blocks = blocks_in(alloc, sheets, &used)?;
     is_in_limits(used.len(), blocks.len())?;
-    let text = text_of(alloc, project, links, sheets, &used, &blocks)?;
+    let text = text_of(alloc, project, links, sheets, &used)?;
     Ok(Drafted { text, blocks })
 }
 

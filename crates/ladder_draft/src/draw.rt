@@ -11,7 +11,7 @@ use ladder_clp::{Expression, Project};
 use ladder_hal::Link;
 use ladder_page::geometry::{CELL, COLUMNS, ROWS};
 use ladder_page::{CoilMode, Mode};
-use ladder_sheet::{Meaning, Source, element_at, entry_of, is_contact, timed_as};
+use ladder_sheet::{BlockSort, Meaning, Source, element_at, entry_of, is_contact, timed_as};
 use ladder_vars::BlockKind;
 use std::alloc::{AllocError, Global};
 
@@ -133,7 +133,8 @@ fn comment_place(aliases: &[Option<&[u8]>]) -> usize {
     40
 }
 
-fn add_declaration(text: &mut Text, project: &Project<'_>, named: &Named, alias: Option<&[u8]>) {
+/// Adds the name, the alias behind it, and what it is.
+fn add_declared(text: &mut Text, project: &Project<'_>, named: &Named, alias: Option<&[u8]>) {
     text.add(b"  ");
     text.add(named.name.bytes());
     if let Some(alias) = alias {
@@ -150,6 +151,28 @@ fn add_declaration(text: &mut Text, project: &Project<'_>, named: &Named, alias:
     text.add(b" ");
 }
 
+/// Adds a line with its comment, which begins at the place.
+fn add_declaration(
+    text: &mut Text,
+    project: &Project<'_>,
+    links: &[Link<'_>],
+    named: &Named,
+    alias: Option<&[u8]>,
+    place: usize,
+) {
+    let start = text.len();
+    add_declared(text, project, named, alias);
+    text.fill(start, place);
+    match named.used.opened {
+        Some(opened) => add_opened(text, project, opened, named.used.number),
+        None => add_origin(text, project, links, named),
+    }
+}
+
+fn alias_at<'a>(aliases: &[Option<&'a [u8]>], place: usize) -> Option<&'a [u8]> {
+    *aliases.get(place)?
+}
+
 fn add_declarations(
     text: &mut Text,
     project: &Project<'_>,
@@ -159,14 +182,9 @@ fn add_declarations(
 ) {
     text.add(b"VAR\n");
     let place = comment_place(aliases);
-    for (other, alias) in named.iter().zip(aliases) {
-        let start = text.len();
-        add_declaration(text, project, other, *alias);
-        text.fill(start, place);
-        match other.used.opened {
-            Some(opened) => add_opened(text, project, opened, other.used.number),
-            None => add_origin(text, project, links, other),
-        }
+    for number in 0..named.len() {
+        let alias = alias_at(aliases, number);
+        add_declaration(text, project, links, &named[number], alias, place);
     }
     text.add(b"END_VAR\n");
 }
@@ -201,23 +219,23 @@ fn block_cell(kind: BlockKind) -> &'static [u8] {
     }
 }
 
-/// Adds the characters of a cell.
-fn add_cell(text: &mut Text, project: &Project<'_>, meaning: Meaning, number: u32) {
+fn timed_cell(project: &Project<'_>, sort: BlockSort, number: u32) -> &'static [u8] {
+    match timed_as(sort, entry_of(project, sort, number as usize)) {
+        Some(timed) => block_cell(timed.kind),
+        None => b"",
+    }
+}
+
+/// The characters of a cell; the number of a jump comes behind them.
+fn cell_of(project: &Project<'_>, meaning: Meaning, number: u32) -> &'static [u8] {
     match meaning {
-        Meaning::Blank | Meaning::Operate | Meaning::Other => text.add(b"           "),
-        Meaning::Wire => text.add(b"-----------"),
-        Meaning::Contact(mode) | Meaning::Opened(mode) => text.add(contact_cell(mode)),
-        Meaning::Off => text.add(contact_cell(Mode::Plain)),
-        Meaning::Coil(mode) => text.add(coil_cell(mode)),
-        Meaning::Jump => {
-            text.add(b"--->>R");
-            text.add_number(number);
-        }
-        Meaning::Block(sort) => {
-            if let Some(timed) = timed_as(sort, entry_of(project, sort, number as usize)) {
-                text.add(block_cell(timed.kind));
-            }
-        }
+        Meaning::Blank | Meaning::Operate | Meaning::Other => b"           ",
+        Meaning::Wire => b"-----------",
+        Meaning::Contact(mode) | Meaning::Opened(mode) => contact_cell(mode),
+        Meaning::Off => contact_cell(Mode::Plain),
+        Meaning::Coil(mode) => coil_cell(mode),
+        Meaning::Jump => b"--->>R",
+        Meaning::Block(sort) => timed_cell(project, sort, number),
     }
 }
 
@@ -289,7 +307,10 @@ fn add_wire_line(text: &mut Text, project: &Project<'_>, sheet: &Sheet<'_>, row:
             Meaning::Blank
         };
         let number = element_at(sheet.elements, row, column).number;
-        add_cell(text, project, meaning, number);
+        text.add(cell_of(project, meaning, number));
+        if meaning == Meaning::Jump {
+            text.add_number(number);
+        }
     }
     text.end_line();
 }

@@ -5,7 +5,9 @@ ghost use Rattle.ladder_page.specs.declared.geometry.TheConstants.{COLUMNS, ROWS
 
 use ladder_clp::{Element, Placed, Project, Reading};
 use ladder_page::geometry::{COLUMNS, PLACES, ROWS};
-use ladder_sheet::{BlockSort, Meaning, is_linked, is_taken_on, meaning_at, passes, power_of};
+use ladder_sheet::{
+    BlockSort, Meaning, element_at, is_linked, is_taken_on, meaning_at, passes, power_of,
+};
 use std::alloc::{AllocError, Global};
 
 /// The elements of a rung, and which of them are drawn: those that mean something, and that power can come to.
@@ -96,6 +98,19 @@ impl Sheet<'_> {
         self.is_drawn(row, column)
             && self.meaning(row, column) == Meaning::Block(BlockSort::Timer)
             && is_taken_on(self.reading, self.elements, row, column)
+    }
+
+    pub(crate) fn has_block(&self, sort: BlockSort, number: u32) -> bool {
+        for place in 0..PLACES {
+            let (row, column) = (place / COLUMNS, place % COLUMNS);
+            if self.is_drawn(row, column)
+                && self.meaning(row, column) == Meaning::Block(sort)
+                && element_at(self.elements, row, column).number == number
+            {
+                return true;
+            }
+        }
+        false
     }
 
     fn is_used(&self, row: usize, column: usize) -> bool

@@ -145,31 +145,16 @@ pub(crate) fn drawn_blocks(
     Ok(blocks)
 }
 
-fn is_among(blocks: &[BlockRef], used: Used) -> bool {
-    for block in blocks {
-        if used.source == Source::Done(block.sort) && used.number == block.number {
-            return true;
-        }
-    }
-    false
-}
-
-fn add_those_used(
-    blocks: &mut Vec<BlockRef>,
-    used: &[Used],
-    drawn: &[BlockRef],
-) -> Result<(), AllocError> {
-    for other in used {
-        if let Source::Done(sort) = other.source {
-            if is_among(drawn, *other) {
-                blocks.push(BlockRef {
-                    sort,
-                    number: other.number,
-                })?;
+/// Whether it is a block that is drawn.
+fn is_drawn_block(sheets: &[Sheet<'_>], used: Used) -> bool {
+    if let Source::Done(sort) = used.source {
+        for sheet in sheets {
+            if sheet.has_block(sort, used.number) {
+                return true;
             }
         }
     }
-    Ok(())
+    false
 }
 
 /// The blocks among them that are drawn, in order.
@@ -178,14 +163,22 @@ pub(crate) fn blocks_in(
     sheets: &[Sheet<'_>],
     used: &[Used],
 ) -> Result<Vec<BlockRef>, AllocError> {
-    let drawn = drawn_blocks(alloc, sheets)?;
     let mut blocks = Vec::new(alloc);
-    add_those_used(&mut blocks, used, &drawn)?;
+    for other in used {
+        if let Source::Done(sort) = other.source {
+            if is_drawn_block(sheets, *other) {
+                blocks.push(BlockRef {
+                    sort,
+                    number: other.number,
+                })?;
+            }
+        }
+    }
     Ok(blocks)
 }
 
 /// The symbol of a variable or a block.
-pub(crate) fn symbol_of<'a>(project: &Project<'a>, used: Used) -> Option<Symbol<'a>> {
+pub(crate) fn symbol_of<'p, 'a>(project: &'p Project<'a>, used: Used) -> Option<&'p Symbol<'a>> {
     if used.opened.is_some() {
         return None;
     }
@@ -195,7 +188,7 @@ pub(crate) fn symbol_of<'a>(project: &Project<'a>, used: Used) -> Option<Symbol<
     variable.add_number(used.number);
     for symbol in &project.symbols {
         if trimmed(symbol.variable) == variable.bytes() {
-            return Some(*symbol);
+            return Some(symbol);
         }
     }
     None
@@ -329,11 +322,10 @@ pub(crate) fn names_of(
     links: &[Link<'_>],
     sheets: &[Sheet<'_>],
     used: &[Used],
-    blocks: &[BlockRef],
 ) -> Result<Vec<Named>, AllocError> {
     let mut named = Vec::new(alloc);
     for other in used {
-        let is_block = is_among(blocks, *other);
+        let is_block = is_drawn_block(sheets, *other);
         if let Some(name) = name_of(project, links, &named, *other, is_block) {
             named.push(Named {
                 used: *other,
