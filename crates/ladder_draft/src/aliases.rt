@@ -5,7 +5,6 @@ use crate::names::{Named, Used, signal_of, symbol_of};
 use ladder_clp::Project;
 use ladder_hal::Link;
 use ladder_vars::Title;
-use std::alloc::{AllocError, Global};
 
 /// What the project calls it, or else the signal of its pin.
 fn word_of<'a>(project: &Project<'a>, links: &[Link<'a>], used: Used) -> Option<&'a [u8]> {
@@ -18,19 +17,14 @@ fn word_of<'a>(project: &Project<'a>, links: &[Link<'a>], used: Used) -> Option<
     signal_of(links, used)
 }
 
-fn is_name(named: &[Named], word: &[u8]) -> bool {
+/// Whether the word is a name or an alias already.
+fn is_taken(named: &[Named], word: &[u8]) -> bool {
     for other in named {
         if other.name.bytes().eq_ignore_ascii_case(word) {
             return true;
         }
-    }
-    false
-}
-
-fn is_alias(aliases: &[Option<&[u8]>], word: &[u8]) -> bool {
-    for alias in aliases {
-        if let Some(alias) = alias {
-            if alias.eq_ignore_ascii_case(word) {
+        if let Some(alias) = &other.alias {
+            if alias.bytes().eq_ignore_ascii_case(word) {
                 return true;
             }
         }
@@ -38,33 +32,25 @@ fn is_alias(aliases: &[Option<&[u8]>], word: &[u8]) -> bool {
     false
 }
 
-/// What it is called, where that is another word than its name and no other name, and no alias yet.
-fn alias_of<'a>(
-    project: &Project<'a>,
-    links: &[Link<'a>],
+/// What it is called, where that is another word than its name, and no other name or alias.
+fn alias_of(
+    project: &Project<'_>,
+    links: &[Link<'_>],
     named: &[Named],
-    aliases: &[Option<&'a [u8]>],
     used: Used,
-) -> Option<&'a [u8]> {
+) -> Option<Title> {
     let word = word_of(project, links, used)?;
-    if Title::new(word).is_some() && !is_name(named, word) && !is_alias(aliases, word) {
-        Some(word)
-    } else {
+    if is_taken(named, word) {
         None
+    } else {
+        Title::new(word)
     }
 }
 
-/// The alias of each, where it has one.
-pub(crate) fn aliases_of<'a>(
-    alloc: Global,
-    project: &Project<'a>,
-    links: &[Link<'a>],
-    named: &[Named],
-) -> Result<Vec<Option<&'a [u8]>>, AllocError> {
-    let mut aliases = Vec::new(alloc);
-    for other in named {
-        let alias = alias_of(project, links, named, &aliases, other.used);
-        aliases.push(alias)?;
+/// Gives each its alias, where it has one.
+pub(crate) fn give_aliases(project: &Project<'_>, links: &[Link<'_>], named: &mut Vec<Named>) {
+    for place in 0..named.len() {
+        let alias = alias_of(project, links, named, named[place].used);
+        named[place].alias = alias;
     }
-    Ok(aliases)
 }

@@ -2,7 +2,7 @@
 
 ghost use Rattle.std.specs.Prelude.{◌≡◌};
 
-use crate::aliases::aliases_of;
+use crate::aliases::give_aliases;
 use crate::draw::drawing;
 use crate::drawn::{Sheet, sheets_of};
 use crate::names::{Used, blocks_in, drawn_blocks, names_of, used_in};
@@ -65,9 +65,9 @@ fn text_of(
     sheets: &[Sheet<'_>],
     used: &[Used],
 ) -> Result<Vec<u8>, AllocError> {
-    let named = names_of(alloc, project, links, sheets, used)?;
-    let aliases = aliases_of(alloc, project, links, &named)?;
-    drawing(alloc, project, links, sheets, &named, &aliases)
+    let mut named = names_of(alloc, project, links, sheets, used)?;
+    give_aliases(project, links, &mut named);
+    drawing(alloc, project, links, sheets, &named)
 }
 
 fn draft_of(

@@ -124,9 +124,9 @@ fn add_origin(text: &mut Text, project: &Project<'_>, links: &[Link<'_>], named:
 }
 
 /// Where the comments behind the declarations begin.
-fn comment_place(aliases: &[Option<&[u8]>]) -> usize {
-    for alias in aliases {
-        if alias.is_some() {
+fn comment_place(named: &[Named]) -> usize {
+    for other in named {
+        if other.alias.is_some() {
             return 64;
         }
     }
@@ -134,12 +134,12 @@ fn comment_place(aliases: &[Option<&[u8]>]) -> usize {
 }
 
 /// Adds the name, the alias behind it, and what it is.
-fn add_declared(text: &mut Text, project: &Project<'_>, named: &Named, alias: Option<&[u8]>) {
+fn add_declared(text: &mut Text, project: &Project<'_>, named: &Named) {
     text.add(b"  ");
     text.add(named.name.bytes());
-    if let Some(alias) = alias {
+    if let Some(alias) = &named.alias {
         text.add(b" (* ");
-        text.add(alias);
+        text.add(alias.bytes());
         text.add(b" *)");
     }
     if named.is_block {
@@ -157,11 +157,10 @@ fn add_declaration(
     project: &Project<'_>,
     links: &[Link<'_>],
     named: &Named,
-    alias: Option<&[u8]>,
     place: usize,
 ) {
     let start = text.len();
-    add_declared(text, project, named, alias);
+    add_declared(text, project, named);
     text.fill(start, place);
     match named.used.opened {
         Some(opened) => add_opened(text, project, opened, named.used.number),
@@ -169,22 +168,11 @@ fn add_declaration(
     }
 }
 
-fn alias_at<'a>(aliases: &[Option<&'a [u8]>], place: usize) -> Option<&'a [u8]> {
-    *aliases.get(place)?
-}
-
-fn add_declarations(
-    text: &mut Text,
-    project: &Project<'_>,
-    links: &[Link<'_>],
-    named: &[Named],
-    aliases: &[Option<&[u8]>],
-) {
+fn add_declarations(text: &mut Text, project: &Project<'_>, links: &[Link<'_>], named: &[Named]) {
     text.add(b"VAR\n");
-    let place = comment_place(aliases);
-    for number in 0..named.len() {
-        let alias = alias_at(aliases, number);
-        add_declaration(text, project, links, &named[number], alias, place);
+    let place = comment_place(named);
+    for other in named {
+        add_declaration(text, project, links, other, place);
     }
     text.add(b"END_VAR\n");
 }
@@ -419,11 +407,10 @@ pub(crate) fn drawing(
     links: &[Link<'_>],
     sheets: &[Sheet<'_>],
     named: &[Named],
-    aliases: &[Option<&[u8]>],
 ) -> Result<Vec<u8>, AllocError> {
     let mut text = Text::new(alloc);
     add_head(&mut text, sheets, named);
-    add_declarations(&mut text, project, links, named, aliases);
+    add_declarations(&mut text, project, links, named);
     for sheet in sheets {
         add_title(&mut text, sheet, is_target(sheets, sheet));
         add_rows(&mut text, project, named, sheet);

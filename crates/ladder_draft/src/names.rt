@@ -10,7 +10,7 @@ use ladder_clp::{Project, Symbol};
 use ladder_hal::{Link, Pin};
 use ladder_page::geometry::{COLUMNS, PLACES};
 use ladder_sheet::{BlockRef, BlockSort, Meaning, Source, element_at, source_of};
-use ladder_vars::Name;
+use ladder_vars::{Name, Title};
 use std::alloc::{AllocError, Global};
 
 /// What is opened: a compare, or a contact on a step of a sequential chart.
@@ -51,6 +51,8 @@ pub(crate) struct Named {
     pub(crate) is_block: bool,
     /// Whether it is an old timer whose control is taken as ON.
     pub(crate) is_taken_on: bool,
+    /// What lists and traces can call it.
+    pub(crate) alias: Option<Title>,
 }
 
 /// What ClassicLadder writes before the number of the variable.
@@ -315,7 +317,7 @@ fn name_of(
     None
 }
 
-/// A name for each, where there is one.
+/// A name for each, where there is one. None has an alias yet.
 pub(crate) fn names_of(
     alloc: Global,
     project: &Project<'_>,
@@ -333,6 +335,7 @@ pub(crate) fn names_of(
                 is_block,
                 is_taken_on: other.source == Source::Done(BlockSort::Timer)
                     && is_timer_taken_on(sheets, other.number),
+                alias: None,
             })?;
         }
     }
