@@ -3,13 +3,13 @@
 use crate::bytes::Text;
 use crate::drawn::Sheet;
 use ladder_page::geometry::{COLUMNS, PLACES};
-use ladder_sheet::element_at;
+use ladder_sheet::{BlockRef, BlockSort, is_taken_on};
 
-fn has_taken_on(sheet: &Sheet<'_>, number: u32) -> bool {
+fn has_taken_on(sheet: &Sheet<'_>, timer: BlockRef) -> bool {
     for place in 0..PLACES {
         let (row, column) = (place / COLUMNS, place % COLUMNS);
-        if sheet.is_taken_on(row, column)
-            && element_at(sheet.elements, row, column).number == number
+        if sheet.block_at(row, column) == Some(timer)
+            && is_taken_on(sheet.reading, sheet.elements, row, column)
         {
             return true;
         }
@@ -17,11 +17,13 @@ fn has_taken_on(sheet: &Sheet<'_>, number: u32) -> bool {
     false
 }
 
-/// Whether the timer with the number is one, and drawn.
-pub(crate) fn is_timer_taken_on(sheets: &[Sheet<'_>], number: u32) -> bool {
-    for sheet in sheets {
-        if has_taken_on(sheet, number) {
-            return true;
+/// Whether the block is one, and drawn.
+pub(crate) fn is_timer_taken_on(sheets: &[Sheet<'_>], block: BlockRef) -> bool {
+    if block.sort == BlockSort::Timer {
+        for sheet in sheets {
+            if has_taken_on(sheet, block) {
+                return true;
+            }
         }
     }
     false

@@ -6,7 +6,9 @@ ghost use Rattle.ladder_page.specs.declared.geometry.TheConstants.{COLUMNS, ROWS
 use crate::bytes::{Text, trimmed};
 use crate::control::add_taken_on;
 use crate::drawn::Sheet;
-use crate::names::{Named, Opened, Used, is_off, letters, name_in, signal_of, symbol_of, used_at};
+use crate::names::{
+    Named, Opened, Used, is_off, name_in, signal_of, symbol_of, used_at, variable_of,
+};
 use ladder_clp::{Expression, Project};
 use ladder_hal::Link;
 use ladder_page::geometry::{CELL, COLUMNS, ROWS};
@@ -103,9 +105,8 @@ fn add_words(text: &mut Text, words: &[u8]) {
 
 /// Adds what the project says of it, and the signal that is connected with its pin.
 fn add_origin(text: &mut Text, project: &Project<'_>, links: &[Link<'_>], named: &Named) {
-    text.add(b"(* %");
-    text.add(letters(named.used.source));
-    text.add_number(named.used.number);
+    text.add(b"(* ");
+    text.add(variable_of(named.used).bytes());
     if let Some(symbol) = symbol_of(project, named.used) {
         add_words(text, symbol.name);
         add_words(text, symbol.comment);

@@ -5,9 +5,7 @@ ghost use Rattle.ladder_page.specs.declared.geometry.TheConstants.{COLUMNS, ROWS
 
 use ladder_clp::{Element, Placed, Project, Reading};
 use ladder_page::geometry::{COLUMNS, PLACES, ROWS};
-use ladder_sheet::{
-    BlockSort, Meaning, element_at, is_linked, is_taken_on, meaning_at, passes, power_of,
-};
+use ladder_sheet::{BlockRef, Meaning, element_at, is_linked, meaning_at, passes, power_of};
 use std::alloc::{AllocError, Global};
 
 /// The elements of a rung, and which of them are drawn: those that mean something, and that power can come to.
@@ -91,22 +89,23 @@ impl Sheet<'_> {
         column >= 1 && self.is_drawn(row, column - 1) && passes(self.meaning(row, column - 1))
     }
 
-    /// Whether an old timer is drawn whose control is taken as ON.
-    pub(crate) fn is_taken_on(&self, row: usize, column: usize) -> bool
+    /// The block whose element is drawn at a place.
+    pub(crate) fn block_at(&self, row: usize, column: usize) -> Option<BlockRef>
         requires { (row < ROWS) × (column < COLUMNS) }
     {
-        self.is_drawn(row, column)
-            && self.meaning(row, column) == Meaning::Block(BlockSort::Timer)
-            && is_taken_on(self.reading, self.elements, row, column)
+        if !self.is_drawn(row, column) {
+            return None;
+        }
+        let number = element_at(self.elements, row, column).number;
+        match self.meaning(row, column) {
+            Meaning::Block(sort) => Some(BlockRef { sort, number }),
+            _ => None,
+        }
     }
 
-    pub(crate) fn has_block(&self, sort: BlockSort, number: u32) -> bool {
+    pub(crate) fn has_block(&self, block: BlockRef) -> bool {
         for place in 0..PLACES {
-            let (row, column) = (place / COLUMNS, place % COLUMNS);
-            if self.is_drawn(row, column)
-                && self.meaning(row, column) == Meaning::Block(sort)
-                && element_at(self.elements, row, column).number == number
-            {
+            if self.block_at(place / COLUMNS, place % COLUMNS) == Some(block) {
                 return true;
             }
         }

@@ -56,7 +56,7 @@ pub(crate) struct Named {
 }
 
 /// What ClassicLadder writes before the number of the variable.
-pub(crate) fn letters(source: Source) -> &'static [u8] {
+fn letters(source: Source) -> &'static [u8] {
     match source {
         Source::Input => b"I",
         Source::Output => b"Q",
@@ -124,12 +124,8 @@ pub(crate) fn used_in(alloc: Global, sheets: &[Sheet<'_>]) -> Result<Vec<Used>, 
 
 fn add_blocks(blocks: &mut Vec<BlockRef>, sheet: &Sheet<'_>) -> Result<(), AllocError> {
     for place in 0..PLACES {
-        let (row, column) = (place / COLUMNS, place % COLUMNS);
-        if sheet.is_drawn(row, column) {
-            if let Meaning::Block(sort) = sheet.meaning(row, column) {
-                let number = element_at(sheet.elements, row, column).number;
-                blocks.push(BlockRef { sort, number })?;
-            }
+        if let Some(block) = sheet.block_at(place / COLUMNS, place % COLUMNS) {
+            blocks.push(block)?;
         }
     }
     Ok(())
@@ -147,16 +143,21 @@ pub(crate) fn drawn_blocks(
     Ok(blocks)
 }
 
-/// Whether it is a block that is drawn.
-fn is_drawn_block(sheets: &[Sheet<'_>], used: Used) -> bool {
-    if let Source::Done(sort) = used.source {
-        for sheet in sheets {
-            if sheet.has_block(sort, used.number) {
-                return true;
-            }
+/// The block that it is, where that is drawn.
+fn drawn_block(sheets: &[Sheet<'_>], used: Used) -> Option<BlockRef> {
+    let Source::Done(sort) = used.source else {
+        return None;
+    };
+    let block = BlockRef {
+        sort,
+        number: used.number,
+    };
+    for sheet in sheets {
+        if sheet.has_block(block) {
+            return Some(block);
         }
     }
-    false
+    None
 }
 
 /// The blocks among them that are drawn, in order.
@@ -167,16 +168,20 @@ pub(crate) fn blocks_in(
 ) -> Result<Vec<BlockRef>, AllocError> {
     let mut blocks = Vec::new(alloc);
     for other in used {
-        if let Source::Done(sort) = other.source {
-            if is_drawn_block(sheets, *other) {
-                blocks.push(BlockRef {
-                    sort,
-                    number: other.number,
-                })?;
-            }
+        if let Some(block) = drawn_block(sheets, *other) {
+            blocks.push(block)?;
         }
     }
     Ok(blocks)
+}
+
+/// How ClassicLadder writes a variable or a block.
+pub(crate) fn variable_of(used: Used) -> Word {
+    let mut variable = Word::new();
+    variable.add(b"%");
+    variable.add(letters(used.source));
+    variable.add_number(used.number);
+    variable
 }
 
 /// The symbol of a variable or a block.
@@ -184,10 +189,7 @@ pub(crate) fn symbol_of<'p, 'a>(project: &'p Project<'a>, used: Used) -> Option<
     if used.opened.is_some() {
         return None;
     }
-    let mut variable = Word::new();
-    variable.add(b"%");
-    variable.add(letters(used.source));
-    variable.add_number(used.number);
+    let variable = variable_of(used);
     for symbol in &project.symbols {
         if trimmed(symbol.variable) == variable.bytes() {
             return Some(symbol);
@@ -317,7 +319,29 @@ fn name_of(
     None
 }
 
-/// A name for each, where there is one. None has an alias yet.
+/// It with its name, where it has one. None has an alias yet.
+fn named_of(
+    project: &Project<'_>,
+    links: &[Link<'_>],
+    sheets: &[Sheet<'_>],
+    named: &[Named],
+    used: Used,
+) -> Option<Named> {
+    let block = drawn_block(sheets, used);
+    let is_taken_on = match block {
+        Some(block) => is_timer_taken_on(sheets, block),
+        None => false,
+    };
+    Some(Named {
+        used,
+        name: name_of(project, links, named, used, block.is_some())?,
+        is_block: block.is_some(),
+        is_taken_on,
+        alias: None,
+    })
+}
+
+/// A name for each, where there is one.
 pub(crate) fn names_of(
     alloc: Global,
     project: &Project<'_>,
@@ -327,16 +351,8 @@ pub(crate) fn names_of(
 ) -> Result<Vec<Named>, AllocError> {
     let mut named = Vec::new(alloc);
     for other in used {
-        let is_block = is_drawn_block(sheets, *other);
-        if let Some(name) = name_of(project, links, &named, *other, is_block) {
-            named.push(Named {
-                used: *other,
-                name,
-                is_block,
-                is_taken_on: other.source == Source::Done(BlockSort::Timer)
-                    && is_timer_taken_on(sheets, other.number),
-                alias: None,
-            })?;
+        if let Some(new) = named_of(project, links, sheets, &named, *other) {
+            named.push(new)?;
         }
     }
     Ok(named)
