@@ -43,8 +43,10 @@ impl Word {
         }
     }
 
-    pub(crate) fn add_number(&mut self, number: u32) {
+    /// Adds bytes, and a number behind them.
+    pub(crate) fn add_number(&mut self, bytes: &[u8], number: u32) {
         let mut buffer = Buffer::new();
+        self.add(bytes);
         self.add(buffer.format(number).as_bytes());
     }
 
@@ -74,8 +76,10 @@ impl Text {
         }
     }
 
-    pub(crate) fn add_number(&mut self, number: u32) {
+    /// Adds bytes, and a number behind them.
+    pub(crate) fn add_number(&mut self, bytes: &[u8], number: u32) {
         let mut buffer = Buffer::new();
+        self.add(bytes);
         self.add(buffer.format(number).as_bytes());
     }
 

@@ -32,8 +32,10 @@ pub(crate) fn is_timer_taken_on(sheets: &[Sheet<'_>], block: BlockRef) -> bool {
 /// Adds how many they are, where there are some.
 pub(crate) fn add_taken_on(text: &mut Text, count: u32) {
     if count > 0 {
-        text.add(b"(* Control taken as ON where nothing is drawn to it; timers: ");
-        text.add_number(count);
+        text.add_number(
+            b"(* Control taken as ON where nothing is drawn to it; timers: ",
+            count,
+        );
         text.add(
             b".\n   The engine of ClassicLadder takes it as OFF, and never lets their time pass. *)\n",
         );

@@ -19,7 +19,7 @@ use std::alloc::{AllocError, Global};
 
 fn add_part(text: &mut Text, number: u32, unit: &[u8]) {
     if number > 0 {
-        text.add_number(number);
+        text.add_number(b"", number);
         text.add(unit);
     }
 }
@@ -41,19 +41,16 @@ fn add_duration(text: &mut Text, millis: u32) {
 /// Adds the address of a variable, which one that stands for a block hasn't.
 fn add_address(text: &mut Text, used: Used) {
     if let Some(opened) = used.opened {
-        text.add(b" AT %IX");
-        text.add_number(opened.rung);
-        text.add(b".");
-        text.add_number(opened.place);
+        text.add_number(b" AT %IX", opened.rung);
+        text.add_number(b".", opened.place);
         return;
     }
     match used.source {
-        Source::Input => text.add(b" AT %IX"),
-        Source::Output => text.add(b" AT %QX"),
-        Source::Memory => text.add(b" AT %MX"),
-        Source::Done(_) | Source::Other => return,
+        Source::Input => text.add_number(b" AT %IX", used.number),
+        Source::Output => text.add_number(b" AT %QX", used.number),
+        Source::Memory => text.add_number(b" AT %MX", used.number),
+        Source::Done(_) | Source::Other => {}
     }
-    text.add_number(used.number);
 }
 
 /// Adds the type of a block, and its preset.
@@ -83,13 +80,12 @@ fn expression_of<'a>(expressions: &[Expression<'a>], number: u32) -> Option<&'a 
 /// Adds what is opened: a step with its number, or a compare as it stands in the project.
 fn add_opened(text: &mut Text, project: &Project<'_>, opened: Opened, number: u32) {
     if opened.is_step {
-        text.add(b"(* step ");
-        text.add_number(number);
+        text.add_number(b"(* step ", number);
     } else {
         text.add(b"(* compare ");
         match expression_of(&project.expressions, number) {
             Some(words) => text.add_remark(words),
-            None => text.add_number(number),
+            None => text.add_number(b"", number),
         }
     }
     text.add(b", any value *)\n");
@@ -249,11 +245,8 @@ fn joint(sheet: &Sheet<'_>, row: usize, column: usize) -> &'static [u8]
     requires { (row < ROWS) × (column < COLUMNS) }
 {
     let (left, right) = (sheet.is_left(row, column), sheet.is_drawn(row, column));
-    let linked = sheet.has_link(row, column) || sheet.has_link(row + 1, column);
-    if linked && (left || right) {
-        b"+"
-    } else if linked {
-        b"|"
+    if sheet.has_link(row, column) || sheet.has_link(row + 1, column) {
+        if left || right { b"+" } else { b"|" }
     } else if left && right {
         b"-"
     } else {
@@ -298,7 +291,7 @@ fn add_wire_line(text: &mut Text, project: &Project<'_>, sheet: &Sheet<'_>, row:
         let number = element_at(sheet.elements, row, column).number;
         text.add(cell_of(project, meaning, number));
         if meaning == Meaning::Jump {
-            text.add_number(number);
+            text.add_number(b"", number);
         }
     }
     text.end_line();
@@ -331,16 +324,13 @@ fn is_target(sheets: &[Sheet<'_>], sheet: &Sheet<'_>) -> bool {
 /// Adds the comment over a rung, and its label where there is a jump to it.
 fn add_title(text: &mut Text, sheet: &Sheet<'_>, is_target: bool) {
     let placed = sheet.placed;
-    text.add(b"\n(* ");
-    text.add_number(sheet.rung);
-    text.add(b": ClassicLadder rung ");
-    text.add_number(placed.rung.number);
+    text.add_number(b"\n(* ", sheet.rung);
+    text.add_number(b": ClassicLadder rung ", placed.rung.number);
     add_words(text, placed.rung.label);
     add_words(text, placed.rung.comment);
     text.add(b" *)\n");
     if is_target {
-        text.add(b"R");
-        text.add_number(placed.rung.number);
+        text.add_number(b"R", placed.rung.number);
         text.add(b":\n");
     }
 }
@@ -377,10 +367,11 @@ fn operates_of(sheets: &[Sheet<'_>]) -> u32 {
 /// Adds how much is opened, where something is.
 fn add_opened_count(text: &mut Text, opened: u32, operates: u32) {
     if opened > 0 || operates > 0 {
-        text.add(b"(* Opened: ");
-        text.add_number(opened);
-        text.add(b" inputs of any value stand for compares and steps; operates left out: ");
-        text.add_number(operates);
+        text.add_number(b"(* Opened: ", opened);
+        text.add_number(
+            b" inputs of any value stand for compares and steps; operates left out: ",
+            operates,
+        );
         text.add(b".\n   The program can do all that the project can, and perhaps more. *)\n");
     }
 }

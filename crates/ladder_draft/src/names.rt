@@ -179,8 +179,7 @@ pub(crate) fn blocks_in(
 pub(crate) fn variable_of(used: Used) -> Word {
     let mut variable = Word::new();
     variable.add(b"%");
-    variable.add(letters(used.source));
-    variable.add_number(used.number);
+    variable.add_number(letters(used.source), used.number);
     variable
 }
 
@@ -256,14 +255,12 @@ pub(crate) fn is_off(used: Used, is_block: bool) -> bool {
 /// The letters and the number, and behind them the count of such a name, where it isn't the first.
 fn plain(used: Used, is_block: bool, count: u32) -> Word {
     let mut name = Word::new();
-    name.add(letters_of(used));
-    name.add_number(used.number);
+    name.add_number(letters_of(used), used.number);
     if is_off(used, is_block) {
         name.add(b"_off");
     }
     if count > 0 {
-        name.push(b'_');
-        name.add_number(count);
+        name.add_number(b"_", count);
     }
     name
 }
