@@ -1,6 +1,6 @@
 //! What the variables and the blocks of a project are called in a program.
 
-ghost use Rattle.std.specs.Prelude.{◌<◌, ◌≤◌, length};
+ghost use Rattle.std.specs.Prelude.{◌<◌};
 ghost use Rattle.ladder_page.specs.declared.geometry.TheConstants.{ROWS};
 
 use crate::bytes::{Word, trimmed};
