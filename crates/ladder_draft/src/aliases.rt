@@ -1,38 +1,30 @@
 //! What lists and traces can call a variable or a block in place of its name.
 
 use crate::bytes::trimmed;
-use crate::names::{Named, signal_of, symbol_of};
+use crate::names::{Named, Used, signal_of, symbol_of};
 use ladder_clp::Project;
 use ladder_hal::Link;
 use ladder_vars::Title;
-use std::alloc::{AllocError, Global};
 
 /// What the project calls it, or else the signal of its pin.
-fn word_of<'a>(
-    alloc: Global,
-    project: &Project<'a>,
-    links: &[Link<'a>],
-    named: &Named,
-) -> Result<Option<&'a [u8]>, AllocError> {
-    if let Some(symbol) = symbol_of(alloc, project, named.used)? {
+fn word_of<'a>(project: &Project<'a>, links: &[Link<'a>], used: Used) -> Option<&'a [u8]> {
+    if let Some(symbol) = symbol_of(project, used) {
         let word = trimmed(symbol.name);
         if !word.is_empty() && !word.starts_with(b"%") {
-            return Ok(Some(word));
+            return Some(word);
         }
     }
-    Ok(signal_of(links, named.used))
+    signal_of(links, used)
 }
 
-fn is_name(named: &[Named], word: &[u8]) -> bool {
-    named
-        .iter()
-        .any(|other| other.name.bytes().eq_ignore_ascii_case(word))
-}
-
-fn is_alias(aliases: &[Option<&[u8]>], word: &[u8]) -> bool {
-    for alias in aliases {
-        if let Some(alias) = alias {
-            if alias.eq_ignore_ascii_case(word) {
+/// Whether the word is a name or an alias already.
+fn is_taken(named: &[Named], word: &[u8]) -> bool {
+    for other in named {
+        if other.name.bytes().eq_ignore_ascii_case(word) {
+            return true;
+        }
+        if let Some(alias) = &other.alias {
+            if alias.bytes().eq_ignore_ascii_case(word) {
                 return true;
             }
         }
@@ -40,23 +32,25 @@ fn is_alias(aliases: &[Option<&[u8]>], word: &[u8]) -> bool {
     false
 }
 
-/// The alias of each: what it is called, where that is another word than its name and no other name or alias.
-pub(crate) fn aliases_of<'a>(
-    alloc: Global,
-    project: &Project<'a>,
-    links: &[Link<'a>],
+/// What it is called, where that is another word than its name, and no other name or alias.
+fn alias_of(
+    project: &Project<'_>,
+    links: &[Link<'_>],
     named: &[Named],
-) -> Result<Vec<Option<&'a [u8]>>, AllocError> {
-    let mut aliases: Vec<Option<&'a [u8]>> = Vec::new(alloc);
-    for other in named {
-        let alias = match word_of(alloc, project, links, other)? {
-            Some(word)
-                if Title::new(word).is_some()
-                    && !is_name(named, word)
-                    && !is_alias(&aliases, word) => { Some(word) }
-            _ => None,
-        };
-        aliases.push(alias)?;
+    used: Used,
+) -> Option<Title> {
+    let word = word_of(project, links, used)?;
+    if is_taken(named, word) {
+        None
+    } else {
+        Title::new(word)
     }
-    Ok(aliases)
+}
+
+/// Gives each its alias, where it has one.
+pub(crate) fn give_aliases(project: &Project<'_>, links: &[Link<'_>], named: &mut Vec<Named>) {
+    for place in 0..named.len() {
+        let alias = alias_of(project, links, named, named[place].used);
+        named[place].alias = alias;
+    }
 }

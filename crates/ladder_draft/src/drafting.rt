@@ -2,26 +2,23 @@
 
 ghost use Rattle.std.specs.Prelude.{◌≡◌};
 
-use crate::aliases::aliases_of;
-use crate::control::taken_on;
+use crate::aliases::give_aliases;
 use crate::draw::drawing;
-use crate::drawn::sheets_of;
-use crate::names::{blocks_in, drawn_blocks, names_of, used_in};
+use crate::drawn::{Sheet, sheets_of};
+use crate::names::{Used, blocks_in, drawn_blocks, names_of, used_in};
 use ladder_clp::{Project, Reading};
 use ladder_hal::Link;
 use ladder_sheet::BlockRef;
 use ladder_vars::limits::{MOST_INSTANCES, MOST_VARS};
 use std::alloc::{AllocError, Global};
-use thiserror::Error;
 
 /// Why a project has no draft.
-#[derive(Clone, Copy, Debug, Drop, Error, PartialEq, Eq)]
+#[derive(Clone, Copy)]
 pub enum DraftFault {
-    #[error("out of memory")]
     Memory,
-    #[error("there are more than 256 variables")]
+    /// There are more than 256 variables.
     TooManyVars,
-    #[error("there are more than 64 blocks")]
+    /// There are more than 64 blocks.
     TooManyBlocks,
 }
 
@@ -51,6 +48,41 @@ pub fn blocks_of(
     drawn_blocks(alloc, &sheets_of(alloc, reading, project)?)
 }
 
+fn is_in_limits(used: usize, blocks: usize) -> Result<(), DraftFault> {
+    if blocks > MOST_INSTANCES {
+        Err(DraftFault::TooManyBlocks)
+    } else if used.saturating_sub(blocks) > MOST_VARS {
+        Err(DraftFault::TooManyVars)
+    } else {
+        Ok(())
+    }
+}
+
+fn text_of(
+    alloc: Global,
+    project: &Project<'_>,
+    links: &[Link<'_>],
+    sheets: &[Sheet<'_>],
+    used: &[Used],
+) -> Result<Vec<u8>, AllocError> {
+    let mut named = names_of(alloc, project, links, sheets, used)?;
+    give_aliases(project, links, &mut named);
+    drawing(alloc, project, links, sheets, &named)
+}
+
+fn draft_of(
+    alloc: Global,
+    project: &Project<'_>,
+    links: &[Link<'_>],
+    sheets: &[Sheet<'_>],
+) -> Result<Drafted, DraftFault> {
+    let used = used_in(alloc, sheets)?;
+    let blocks = blocks_in(alloc, sheets, &used)?;
+    is_in_limits(used.len(), blocks.len())?;
+    let text = text_of(alloc, project, links, sheets, &used)?;
+    Ok(Drafted { text, blocks })
+}
+
 /// The text of a project, which is to be read and compared with it. An input or an output whose symbol is no name is called after the signal that a
 /// link connects with its pin.
 ///
@@ -63,18 +95,8 @@ pub fn draft(
     project: &Project<'_>,
     links: &[Link<'_>],
 ) -> Result<Drafted, DraftFault> {
-    let sheets = sheets_of(alloc, reading, project)?;
-    let used = used_in(alloc, &sheets)?;
-    let blocks = blocks_in(alloc, &used, &drawn_blocks(alloc, &sheets)?)?;
-    if blocks.len() > MOST_INSTANCES {
-        return Err(DraftFault::TooManyBlocks);
+    match sheets_of(alloc, reading, project) {
+        Ok(sheets) => draft_of(alloc, project, links, &sheets),
+        Err(_) => Err(DraftFault::Memory),
     }
-    if used.len().saturating_sub(blocks.len()) > MOST_VARS {
-        return Err(DraftFault::TooManyVars);
-    }
-    let timers = taken_on(alloc, &sheets)?;
-    let named = names_of(alloc, project, links, &used, &blocks, &timers)?;
-    let aliases = aliases_of(alloc, project, links, &named)?;
-    let text = drawing(alloc, project, links, &sheets, &named, &aliases)?;
-    Ok(Drafted { text, blocks })
 }

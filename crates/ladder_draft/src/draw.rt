@@ -3,77 +3,69 @@
 ghost use Rattle.std.specs.Prelude.{◌<◌};
 ghost use Rattle.ladder_page.specs.declared.geometry.TheConstants.{COLUMNS, ROWS};
 
-use crate::bytes::{add, add_line, add_number, add_remark, fill, trimmed};
+use crate::bytes::{Text, trimmed};
 use crate::control::add_taken_on;
 use crate::drawn::Sheet;
-use crate::names::{Named, Opened, Used, letters, name_in, signal_of, symbol_of, used_at};
-use ladder_clp::{Expression, Placed, Project};
+use crate::names::{
+    Named, Opened, Used, is_off, name_in, signal_of, symbol_of, used_at, variable_of,
+};
+use ladder_clp::{Expression, Project};
 use ladder_hal::Link;
 use ladder_page::geometry::{CELL, COLUMNS, ROWS};
 use ladder_page::{CoilMode, Mode};
-use ladder_sheet::{Meaning, Source, element_at, entry_of, timed_as};
+use ladder_sheet::{BlockSort, Meaning, Source, element_at, entry_of, is_contact, timed_as};
 use ladder_vars::BlockKind;
 use std::alloc::{AllocError, Global};
 
+fn add_part(text: &mut Text, number: u32, unit: &[u8]) {
+    if number > 0 {
+        text.add_number(b"", number);
+        text.add(unit);
+    }
+}
+
 /// Adds a duration in parts, from days to milliseconds.
-fn add_duration(text: &mut Vec<u8>, millis: u32) -> Result<(), AllocError> {
-    add(text, b"T#")?;
-    let parts = [
-        (millis / 86_400_000, b"d".as_slice()),
-        (millis / 3_600_000 % 24, b"h".as_slice()),
-        (millis / 60_000 % 60, b"m".as_slice()),
-        (millis / 1000 % 60, b"s".as_slice()),
-    ];
-    for (number, unit) in parts {
-        if number > 0 {
-            add_number(text, number)?;
-            add(text, unit)?;
-        }
+fn add_duration(text: &mut Text, millis: u32) {
+    text.add(b"T#");
+    add_part(text, millis / 86_400_000, b"d");
+    add_part(text, millis / 3_600_000 % 24, b"h");
+    add_part(text, millis / 60_000 % 60, b"m");
+    add_part(text, millis / 1000 % 60, b"s");
+    if millis == 0 {
+        text.add(b"0ms");
+    } else {
+        add_part(text, millis % 1000, b"ms");
     }
-    if millis % 1000 > 0 || millis == 0 {
-        add_number(text, millis % 1000)?;
-        add(text, b"ms")?;
-    }
-    Ok(())
 }
 
 /// Adds the address of a variable, which one that stands for a block hasn't.
-fn add_address(text: &mut Vec<u8>, used: Used) -> Result<(), AllocError> {
+fn add_address(text: &mut Text, used: Used) {
     if let Some(opened) = used.opened {
-        add(text, b" AT %IX")?;
-        add_number(text, opened.rung)?;
-        add(text, b".")?;
-        return add_number(text, opened.place);
+        text.add_number(b" AT %IX", opened.rung);
+        text.add_number(b".", opened.place);
+        return;
     }
     match used.source {
-        Source::Input => add(text, b" AT %IX")?,
-        Source::Output => add(text, b" AT %QX")?,
-        Source::Memory => add(text, b" AT %MX")?,
-        Source::Done(_) | Source::Other => return Ok(()),
+        Source::Input => text.add_number(b" AT %IX", used.number),
+        Source::Output => text.add_number(b" AT %QX", used.number),
+        Source::Memory => text.add_number(b" AT %MX", used.number),
+        Source::Done(_) | Source::Other => {}
     }
-    add_number(text, used.number)
-}
-
-fn type_name(kind: BlockKind) -> &'static [u8] {
-    kind.traits().word
 }
 
 /// Adds the type of a block, and its preset.
-fn add_type(text: &mut Vec<u8>, project: &Project<'_>, used: Used) -> Result<(), AllocError> {
-    let Source::Done(sort) = used.source else {
-        return Ok(());
-    };
-    let Some(timed) = timed_as(sort, entry_of(project, sort, used.number as usize)) else {
-        return Ok(());
-    };
-    let Ok(preset) = u32::try_from(timed.preset) else {
-        return Ok(());
-    };
-    add(text, b" : ")?;
-    add(text, type_name(timed.kind))?;
-    add(text, b" := (PT := ")?;
-    add_duration(text, preset)?;
-    add(text, b");")
+fn add_type(text: &mut Text, project: &Project<'_>, used: Used) {
+    if let Source::Done(sort) = used.source {
+        if let Some(timed) = timed_as(sort, entry_of(project, sort, used.number as usize)) {
+            if let Ok(preset) = u32::try_from(timed.preset) {
+                text.add(b" : ");
+                text.add(timed.kind.traits().word);
+                text.add(b" := (PT := ");
+                add_duration(text, preset);
+                text.add(b");");
+            }
+        }
+    }
 }
 
 fn expression_of<'a>(expressions: &[Expression<'a>], number: u32) -> Option<&'a [u8]> {
@@ -86,94 +78,100 @@ fn expression_of<'a>(expressions: &[Expression<'a>], number: u32) -> Option<&'a 
 }
 
 /// Adds what is opened: a step with its number, or a compare as it stands in the project.
-fn add_opened(
-    text: &mut Vec<u8>,
-    project: &Project<'_>,
-    opened: Opened,
-    number: u32,
-) -> Result<(), AllocError> {
+fn add_opened(text: &mut Text, project: &Project<'_>, opened: Opened, number: u32) {
     if opened.is_step {
-        add(text, b"(* step ")?;
-        add_number(text, number)?;
+        text.add_number(b"(* step ", number);
     } else {
-        add(text, b"(* compare ")?;
+        text.add(b"(* compare ");
         match expression_of(&project.expressions, number) {
-            Some(words) => add_remark(text, words)?,
-            None => add_number(text, number)?,
+            Some(words) => text.add_remark(words),
+            None => text.add_number(b"", number),
         }
     }
-    add(text, b", any value *)\n")
+    text.add(b", any value *)\n");
+}
+
+/// Adds what is said, where something is.
+fn add_words(text: &mut Text, words: &[u8]) {
+    if !trimmed(words).is_empty() {
+        text.add(b", ");
+        text.add_remark(words);
+    }
 }
 
 /// Adds what the project says of it, and the signal that is connected with its pin.
-fn add_origin(
-    alloc: Global,
-    text: &mut Vec<u8>,
-    project: &Project<'_>,
-    links: &[Link<'_>],
-    named: Named,
-) -> Result<(), AllocError> {
-    if let Some(opened) = named.used.opened {
-        return add_opened(text, project, opened, named.used.number);
-    }
-    add(text, b"(* %")?;
-    add(text, letters(named.used.source))?;
-    add_number(text, named.used.number)?;
-    if let Some(symbol) = symbol_of(alloc, project, named.used)? {
-        for words in [symbol.name, symbol.comment] {
-            if !trimmed(words).is_empty() {
-                add(text, b", ")?;
-                add_remark(text, words)?;
-            }
-        }
+fn add_origin(text: &mut Text, project: &Project<'_>, links: &[Link<'_>], named: &Named) {
+    text.add(b"(* ");
+    text.add(variable_of(named.used).bytes());
+    if let Some(symbol) = symbol_of(project, named.used) {
+        add_words(text, symbol.name);
+        add_words(text, symbol.comment);
     }
     if let Some(signal) = signal_of(links, named.used) {
-        add(text, b", signal ")?;
-        add_remark(text, signal)?;
+        text.add(b", signal ");
+        text.add_remark(signal);
     }
-    if let (Source::Done(_), false) = (named.used.source, named.is_block) {
-        add(text, b": nothing writes it, always OFF")?;
+    if is_off(named.used, named.is_block) {
+        text.add(b": nothing writes it, always OFF");
     }
     if named.is_taken_on {
-        add(text, b": nothing is drawn to its control, taken as ON")?;
+        text.add(b": nothing is drawn to its control, taken as ON");
     }
-    add(text, b" *)\n")
+    text.add(b" *)\n");
 }
 
 /// Where the comments behind the declarations begin.
-fn comment_place(aliases: &[Option<&[u8]>]) -> usize {
-    if aliases.iter().any(|alias| alias.is_some()) {
-        64
+fn comment_place(named: &[Named]) -> usize {
+    for other in named {
+        if other.alias.is_some() {
+            return 64;
+        }
+    }
+    40
+}
+
+/// Adds the name, the alias behind it, and what it is.
+fn add_declared(text: &mut Text, project: &Project<'_>, named: &Named) {
+    text.add(b"  ");
+    text.add(named.name.bytes());
+    if let Some(alias) = &named.alias {
+        text.add(b" (* ");
+        text.add(alias.bytes());
+        text.add(b" *)");
+    }
+    if named.is_block {
+        add_type(text, project, named.used);
     } else {
-        40
+        add_address(text, named.used);
+        text.add(b" : BOOL;");
+    }
+    text.add(b" ");
+}
+
+/// Adds a line with its comment, which begins at the place.
+fn add_declaration(
+    text: &mut Text,
+    project: &Project<'_>,
+    links: &[Link<'_>],
+    named: &Named,
+    place: usize,
+) {
+    let start = text.len();
+    add_declared(text, project, named);
+    text.fill(start, place);
+    match named.used.opened {
+        Some(opened) => add_opened(text, project, opened, named.used.number),
+        None => add_origin(text, project, links, named),
     }
 }
 
-fn add_declaration(
-    alloc: Global,
-    text: &mut Vec<u8>,
-    project: &Project<'_>,
-    links: &[Link<'_>],
-    named: Named,
-    alias: Option<&[u8]>,
-    place: usize,
-) -> Result<(), AllocError> {
-    let start = text.len();
-    add(text, b"  ")?;
-    add(text, named.name.bytes())?;
-    if let Some(alias) = alias {
-        add(text, b" (* ")?;
-        add(text, alias)?;
-        add(text, b" *)")?;
+fn add_declarations(text: &mut Text, project: &Project<'_>, links: &[Link<'_>], named: &[Named]) {
+    text.add(b"VAR\n");
+    let place = comment_place(named);
+    for other in named {
+        add_declaration(text, project, links, other, place);
     }
-    if named.is_block {
-        add_type(text, project, named.used)?;
-    } else {
-        add_address(text, named.used)?;
-        add(text, b" : BOOL;")?;
-    }
-    fill(text, start, place)?;
-    add_origin(alloc, text, project, links, named)
+    text.add(b"END_VAR\n");
 }
 
 fn contact_cell(mode: Mode) -> &'static [u8] {
@@ -206,131 +204,97 @@ fn block_cell(kind: BlockKind) -> &'static [u8] {
     }
 }
 
-/// Adds the characters of a cell.
-fn add_cell(
-    text: &mut Vec<u8>,
-    project: &Project<'_>,
-    meaning: Meaning,
-    number: u32,
-) -> Result<(), AllocError> {
+fn timed_cell(project: &Project<'_>, sort: BlockSort, number: u32) -> &'static [u8] {
+    match timed_as(sort, entry_of(project, sort, number as usize)) {
+        Some(timed) => block_cell(timed.kind),
+        None => b"",
+    }
+}
+
+/// The characters of a cell; the number of a jump comes behind them.
+fn cell_of(project: &Project<'_>, meaning: Meaning, number: u32) -> &'static [u8] {
     match meaning {
-        Meaning::Blank | Meaning::Operate | Meaning::Other => add(text, b"           "),
-        Meaning::Wire => add(text, b"-----------"),
-        Meaning::Contact(mode) | Meaning::Opened(mode) => add(text, contact_cell(mode)),
-        Meaning::Off => add(text, contact_cell(Mode::Plain)),
-        Meaning::Coil(mode) => add(text, coil_cell(mode)),
-        Meaning::Jump => {
-            add(text, b"--->>R")?;
-            add_number(text, number)
-        }
-        Meaning::Block(sort) => {
-            match timed_as(sort, entry_of(project, sort, number as usize)) {
-                Some(timed) => add(text, block_cell(timed.kind)),
-                None => Ok(()),
+        Meaning::Blank | Meaning::Operate | Meaning::Other => b"           ",
+        Meaning::Wire => b"-----------",
+        Meaning::Contact(mode) | Meaning::Opened(mode) => contact_cell(mode),
+        Meaning::Off => contact_cell(Mode::Plain),
+        Meaning::Coil(mode) => coil_cell(mode),
+        Meaning::Jump => b"--->>R",
+        Meaning::Block(sort) => timed_cell(project, sort, number),
+    }
+}
+
+/// Adds the name over a cell, in its middle.
+fn add_name(text: &mut Text, named: &[Named], sheet: &Sheet<'_>, row: usize, column: usize)
+    requires { (row < ROWS) × (column < COLUMNS) }
+{
+    if let Some(used) = used_at(sheet, row, column) {
+        if let Some(found) = name_in(named, used) {
+            let spelling = found.name.bytes();
+            text.fill(text.len(), CELL.saturating_sub(spelling.len()) / 2);
+            text.add(spelling);
+            if found.is_block && is_contact(sheet.meaning(row, column)) {
+                text.add(b".Q");
             }
         }
     }
 }
 
-fn named_as(named: &[Named], used: Option<Used>) -> Option<Named> {
-    name_in(named, used?)
-}
-
-/// Adds the name over a cell, in its middle.
-fn add_name(
-    text: &mut Vec<u8>,
-    named: &[Named],
-    meaning: Meaning,
-    used: Option<Used>,
-) -> Result<(), AllocError> {
-    let start = text.len();
-    if let Some(found) = named_as(named, used) {
-        let spelling = found.name.bytes();
-        for _ in 0..CELL.saturating_sub(spelling.len()) / 2 {
-            text.push(b' ')?;
-        }
-        add(text, spelling)?;
-        if let (Meaning::Contact(_), true) = (meaning, found.is_block) {
-            add(text, b".Q")?;
-        }
-    }
-    let done = text.len().saturating_sub(start);
-    for _ in done..CELL.max(done) {
-        text.push(b' ')?;
-    }
-    Ok(())
-}
-
 /// The joint on the left of a column.
-fn joint(sheet: &Sheet<'_>, row: usize, column: usize) -> u8
+fn joint(sheet: &Sheet<'_>, row: usize, column: usize) -> &'static [u8]
     requires { (row < ROWS) × (column < COLUMNS) }
 {
     let (left, right) = (sheet.is_left(row, column), sheet.is_drawn(row, column));
-    let linked = sheet.has_link(row, column) || sheet.has_link(row + 1, column);
-    if linked && (left || right) {
-        b'+'
-    } else if linked {
-        b'|'
+    if sheet.has_link(row, column) || sheet.has_link(row + 1, column) {
+        if left || right { b"+" } else { b"|" }
     } else if left && right {
-        b'-'
+        b"-"
     } else {
-        b' '
+        b" "
     }
 }
 
-fn add_name_line(
-    alloc: Global,
-    text: &mut Vec<u8>,
-    named: &[Named],
-    sheet: &Sheet<'_>,
-    row: usize,
-) -> Result<(), AllocError>
+fn add_name_line(text: &mut Text, named: &[Named], sheet: &Sheet<'_>, row: usize)
     requires { row < ROWS }
 {
-    let mut line = Vec::new(alloc);
-    add(&mut line, b"|")?;
+    text.add(b"|");
     for column in 0..COLUMNS {
         if column >= 1 {
-            line.push(if sheet.has_link(row, column) {
-                b'|'
+            text.add(if sheet.has_link(row, column) {
+                b"|"
             } else {
-                b' '
-            })?;
+                b" "
+            });
         }
+        let start = text.len();
         if sheet.is_drawn(row, column) {
-            let used = used_at(sheet, row, column);
-            add_name(&mut line, named, sheet.meaning(row, column), used)?;
-        } else {
-            add_name(&mut line, named, Meaning::Blank, None)?;
+            add_name(text, named, sheet, row, column);
         }
+        text.fill(start, CELL);
     }
-    add_line(text, &line)
+    text.end_line();
 }
 
-fn add_wire_line(
-    alloc: Global,
-    text: &mut Vec<u8>,
-    project: &Project<'_>,
-    sheet: &Sheet<'_>,
-    row: usize,
-) -> Result<(), AllocError>
+fn add_wire_line(text: &mut Text, project: &Project<'_>, sheet: &Sheet<'_>, row: usize)
     requires { row < ROWS }
 {
-    let mut line = Vec::new(alloc);
-    add(&mut line, b"|")?;
+    text.add(b"|");
     for column in 0..COLUMNS {
         if column >= 1 {
-            line.push(joint(sheet, row, column))?;
+            text.add(joint(sheet, row, column));
         }
-        let element = element_at(sheet.elements, row, column);
         let meaning = if sheet.is_drawn(row, column) {
             sheet.meaning(row, column)
         } else {
             Meaning::Blank
         };
-        add_cell(&mut line, project, meaning, element.number)?;
+        let number = element_at(sheet.elements, row, column).number;
+        text.add(cell_of(project, meaning, number));
+        if meaning == Meaning::Jump {
+            text.add_number(b"", number);
+        }
     }
-    add_line(text, &line)
+    text.end_line();
 }
 
 /// Whether the rung jumps to the number.
@@ -344,65 +308,40 @@ fn jumps_to(sheet: &Sheet<'_>, number: u32) -> bool {
     false
 }
 
-/// Whether one of so many rungs, of the same section, jumps to this one.
-fn is_target(
-    rungs: &[Placed<'_>],
-    sheets: &[Sheet<'_>],
-    count: usize,
-    placed: &Placed<'_>,
-) -> bool {
-    for (other, sheet) in rungs.iter().zip(sheets).take(count) {
-        if other.section == placed.section && jumps_to(sheet, placed.rung.number) {
+/// Whether a rung before this one, of the same section, jumps to it.
+fn is_target(sheets: &[Sheet<'_>], sheet: &Sheet<'_>) -> bool {
+    for other in sheets {
+        if other.rung < sheet.rung
+            && other.placed.section == sheet.placed.section
+            && jumps_to(other, sheet.placed.rung.number)
+        {
             return true;
         }
     }
     false
 }
 
-/// Adds the comment over a rung.
-fn add_title(text: &mut Vec<u8>, count: u32, placed: &Placed<'_>) -> Result<(), AllocError> {
-    add(text, b"\n(* ")?;
-    add_number(text, count)?;
-    add(text, b": ClassicLadder rung ")?;
-    add_number(text, placed.rung.number)?;
-    for words in [placed.rung.label, placed.rung.comment] {
-        if !trimmed(words).is_empty() {
-            add(text, b", ")?;
-            add_remark(text, words)?;
-        }
+/// Adds the comment over a rung, and its label where there is a jump to it.
+fn add_title(text: &mut Text, sheet: &Sheet<'_>, is_target: bool) {
+    let placed = sheet.placed;
+    text.add_number(b"\n(* ", sheet.rung);
+    text.add_number(b": ClassicLadder rung ", placed.rung.number);
+    add_words(text, placed.rung.label);
+    add_words(text, placed.rung.comment);
+    text.add(b" *)\n");
+    if is_target {
+        text.add_number(b"R", placed.rung.number);
+        text.add(b":\n");
     }
-    add(text, b" *)\n")
 }
 
-fn add_rows(
-    alloc: Global,
-    text: &mut Vec<u8>,
-    project: &Project<'_>,
-    named: &[Named],
-    sheet: &Sheet<'_>,
-) -> Result<(), AllocError> {
+fn add_rows(text: &mut Text, project: &Project<'_>, named: &[Named], sheet: &Sheet<'_>) {
     let rows = sheet.rows();
     for row in 0..ROWS {
         if row < rows {
-            add_name_line(alloc, text, named, sheet, row)?;
-            add_wire_line(alloc, text, project, sheet, row)?;
+            add_name_line(text, named, sheet, row);
+            add_wire_line(text, project, sheet, row);
         }
-    }
-    Ok(())
-}
-
-fn is_operate(meaning: Meaning) -> bool {
-    match meaning {
-        Meaning::Operate => true,
-        Meaning::Blank
-        | Meaning::Wire
-        | Meaning::Contact(_)
-        | Meaning::Opened(_)
-        | Meaning::Coil(_)
-        | Meaning::Jump
-        | Meaning::Block(_)
-        | Meaning::Off
-        | Meaning::Other => false,
     }
 }
 
@@ -410,34 +349,47 @@ fn is_operate(meaning: Meaning) -> bool {
 fn operates_in(sheet: &Sheet<'_>) -> u32 {
     let mut count = 0u32;
     for row in 0..ROWS {
-        if is_operate(sheet.meaning(row, COLUMNS - 1)) {
+        if sheet.meaning(row, COLUMNS - 1) == Meaning::Operate {
             count = count.saturating_add(1);
         }
     }
     count
 }
 
-/// Adds how much is opened, where something is.
-fn add_head(text: &mut Vec<u8>, sheets: &[Sheet<'_>], named: &[Named]) -> Result<(), AllocError> {
-    let opened = named.iter().filter(|n| n.used.opened.is_some()).count();
-    let mut operates = 0u32;
+fn operates_of(sheets: &[Sheet<'_>]) -> u32 {
+    let mut count = 0u32;
     for sheet in sheets {
-        operates = operates.saturating_add(operates_in(sheet));
+        count = count.saturating_add(operates_in(sheet));
     }
-    if opened == 0 && operates == 0 {
-        return Ok(());
+    count
+}
+
+/// Adds how much is opened, where something is.
+fn add_opened_count(text: &mut Text, opened: u32, operates: u32) {
+    if opened > 0 || operates > 0 {
+        text.add_number(b"(* Opened: ", opened);
+        text.add_number(
+            b" inputs of any value stand for compares and steps; operates left out: ",
+            operates,
+        );
+        text.add(b".\n   The program can do all that the project can, and perhaps more. *)\n");
     }
-    add(text, b"(* Opened: ")?;
-    add_number(text, u32::try_from(opened).unwrap_or(u32::MAX))?;
-    add(
-        text,
-        b" inputs of any value stand for compares and steps; operates left out: ",
-    )?;
-    add_number(text, operates)?;
-    add(
-        text,
-        b".\n   The program can do all that the project can, and perhaps more. *)\n",
-    )
+}
+
+/// Adds what the program has in another way than the project.
+fn add_head(text: &mut Text, sheets: &[Sheet<'_>], named: &[Named]) {
+    let mut opened = 0u32;
+    let mut taken_on = 0u32;
+    for other in named {
+        if other.used.opened.is_some() {
+            opened = opened.saturating_add(1);
+        }
+        if other.is_taken_on {
+            taken_on = taken_on.saturating_add(1);
+        }
+    }
+    add_opened_count(text, opened, operates_of(sheets));
+    add_taken_on(text, taken_on);
 }
 
 /// The text of a program, with these names.
@@ -447,27 +399,13 @@ pub(crate) fn drawing(
     links: &[Link<'_>],
     sheets: &[Sheet<'_>],
     named: &[Named],
-    aliases: &[Option<&[u8]>],
 ) -> Result<Vec<u8>, AllocError> {
-    let mut text = Vec::new(alloc);
-    add_head(&mut text, sheets, named)?;
-    add_taken_on(&mut text, named.iter().filter(|n| n.is_taken_on).count())?;
-    add(&mut text, b"VAR\n")?;
-    let place = comment_place(aliases);
-    for (other, alias) in named.iter().zip(aliases) {
-        add_declaration(alloc, &mut text, project, links, *other, *alias, place)?;
+    let mut text = Text::new(alloc);
+    add_head(&mut text, sheets, named);
+    add_declarations(&mut text, project, links, named);
+    for sheet in sheets {
+        add_title(&mut text, sheet, is_target(sheets, sheet));
+        add_rows(&mut text, project, named, sheet);
     }
-    add(&mut text, b"END_VAR\n")?;
-    let mut count = 0u32;
-    for (number, (placed, sheet)) in project.rungs.iter().zip(sheets).enumerate() {
-        count = count.saturating_add(1);
-        add_title(&mut text, count, placed)?;
-        if is_target(&project.rungs, sheets, number, placed) {
-            add(&mut text, b"R")?;
-            add_number(&mut text, placed.rung.number)?;
-            add(&mut text, b":\n")?;
-        }
-        add_rows(alloc, &mut text, project, named, sheet)?;
-    }
-    Ok(text)
+    text.end()
 }

@@ -3,9 +3,9 @@
 ghost use Rattle.std.specs.Prelude.{◌<◌, ◌≤◌};
 ghost use Rattle.ladder_page.specs.declared.geometry.TheConstants.{COLUMNS, ROWS};
 
-use ladder_clp::{Element, Project, Reading};
+use ladder_clp::{Element, Placed, Project, Reading};
 use ladder_page::geometry::{COLUMNS, PLACES, ROWS};
-use ladder_sheet::{BlockSort, Meaning, is_linked, is_taken_on, meaning_at, passes, power_of};
+use ladder_sheet::{BlockRef, Meaning, element_at, is_linked, meaning_at, passes, power_of};
 use std::alloc::{AllocError, Global};
 
 /// The elements of a rung, and which of them are drawn: those that mean something, and that power can come to.
@@ -14,6 +14,7 @@ pub(crate) struct Sheet<'a> {
     pub(crate) reading: Reading,
     /// The number of its rung in the program.
     pub(crate) rung: u32,
+    pub(crate) placed: &'a Placed<'a>,
     pub(crate) elements: &'a [Element],
     drawn: [bool; PLACES],
 }
@@ -34,7 +35,8 @@ fn is_blank(meaning: Meaning) -> bool {
 }
 
 /// The elements with what is drawn of them.
-fn sheet_of(reading: Reading, rung: u32, elements: &[Element]) -> Sheet<'_> {
+fn sheet_of<'a>(reading: Reading, rung: u32, placed: &'a Placed<'a>) -> Sheet<'a> {
+    let elements = placed.rung.elements.as_slice();
     let power = power_of(reading, elements);
     let mut drawn = [false; PLACES];
     for place in 0..PLACES {
@@ -44,6 +46,7 @@ fn sheet_of(reading: Reading, rung: u32, elements: &[Element]) -> Sheet<'_> {
     Sheet {
         reading,
         rung,
+        placed,
         elements,
         drawn,
     }
@@ -59,7 +62,7 @@ pub(crate) fn sheets_of<'a>(
     let mut rung = 0u32;
     for placed in &project.rungs {
         rung = rung.saturating_add(1);
-        sheets.push(sheet_of(reading, rung, placed.rung.elements.as_slice()))?;
+        sheets.push(sheet_of(reading, rung, placed))?;
     }
     Ok(sheets)
 }
@@ -86,13 +89,27 @@ impl Sheet<'_> {
         column >= 1 && self.is_drawn(row, column - 1) && passes(self.meaning(row, column - 1))
     }
 
-    /// Whether an old timer is drawn whose control is taken as ON.
-    pub(crate) fn is_taken_on(&self, row: usize, column: usize) -> bool
+    /// The block whose element is drawn at a place.
+    pub(crate) fn block_at(&self, row: usize, column: usize) -> Option<BlockRef>
         requires { (row < ROWS) × (column < COLUMNS) }
     {
-        self.is_drawn(row, column)
-            && self.meaning(row, column) == Meaning::Block(BlockSort::Timer)
-            && is_taken_on(self.reading, self.elements, row, column)
+        if !self.is_drawn(row, column) {
+            return None;
+        }
+        let number = element_at(self.elements, row, column).number;
+        match self.meaning(row, column) {
+            Meaning::Block(sort) => Some(BlockRef { sort, number }),
+            _ => None,
+        }
+    }
+
+    pub(crate) fn has_block(&self, block: BlockRef) -> bool {
+        for place in 0..PLACES {
+            if self.block_at(place / COLUMNS, place % COLUMNS) == Some(block) {
+                return true;
+            }
+        }
+        false
     }
 
     fn is_used(&self, row: usize, column: usize) -> bool

@@ -1,19 +1,20 @@
 //! What the variables and the blocks of a project are called in a program.
 
-ghost use Rattle.std.specs.Prelude.{◌<◌, ◌≤◌, length};
+ghost use Rattle.std.specs.Prelude.{◌<◌};
 ghost use Rattle.ladder_page.specs.declared.geometry.TheConstants.{ROWS};
 
-use crate::bytes::{add, add_number, trimmed};
+use crate::bytes::{Word, trimmed};
+use crate::control::is_timer_taken_on;
 use crate::drawn::Sheet;
 use ladder_clp::{Project, Symbol};
 use ladder_hal::{Link, Pin};
-use ladder_page::geometry::{COLUMNS, ROWS};
+use ladder_page::geometry::{COLUMNS, PLACES};
 use ladder_sheet::{BlockRef, BlockSort, Meaning, Source, element_at, source_of};
-use ladder_vars::Name;
+use ladder_vars::{Name, Title};
 use std::alloc::{AllocError, Global};
 
 /// What is opened: a compare, or a contact on a step of a sequential chart.
-#[derive(Clone, Copy, Debug, PartialEq, Eq, PartialOrd, Ord)]
+#[derive(Clone, Copy, PartialEq, Eq, PartialOrd, Ord)]
 pub(crate) struct Opened {
     /// The number of the rung in the program.
     pub(crate) rung: u32,
@@ -23,7 +24,7 @@ pub(crate) struct Opened {
 }
 
 /// A variable or a block that the program has, in the order of declaration.
-#[derive(Clone, Copy, Debug, PartialEq, Eq, PartialOrd, Ord)]
+#[derive(Clone, Copy, PartialEq, Eq, PartialOrd, Ord)]
 pub(crate) struct Used {
     pub(crate) source: Source,
     /// What the variable stands for where that is opened: then it is an input.
@@ -50,10 +51,12 @@ pub(crate) struct Named {
     pub(crate) is_block: bool,
     /// Whether it is an old timer whose control is taken as ON.
     pub(crate) is_taken_on: bool,
+    /// What lists and traces can call it.
+    pub(crate) alias: Option<Title>,
 }
 
 /// What ClassicLadder writes before the number of the variable.
-pub(crate) fn letters(source: Source) -> &'static [u8] {
+fn letters(source: Source) -> &'static [u8] {
     match source {
         Source::Input => b"I",
         Source::Output => b"Q",
@@ -90,27 +93,17 @@ pub(crate) fn used_at(sheet: &Sheet<'_>, row: usize, column: usize) -> Option<Us
     }
 }
 
-/// How many come before it in order.
-fn place_of(used: &[Used], new: Used) -> usize
-    ensures { result ≤ length used.now }
-{
-    used.iter().take_while(|other| **other < new).count()
-}
-
 /// Adds it where it isn't there yet, in order.
 fn add_used(used: &mut Vec<Used>, new: Used) -> Result<(), AllocError> {
-    if used.iter().any(|other| *other == new) {
-        return Ok(());
+    if let Err(place) = used.binary_search(&new) {
+        used.insert(place, new)?;
     }
-    let place = place_of(used, new);
-    used.insert(place, new)?;
     Ok(())
 }
 
-fn add_row(used: &mut Vec<Used>, sheet: &Sheet<'_>, row: usize) -> Result<(), AllocError>
-    requires { row < ROWS }
-{
-    for column in 0..COLUMNS {
+fn add_sheet(used: &mut Vec<Used>, sheet: &Sheet<'_>) -> Result<(), AllocError> {
+    for place in 0..PLACES {
+        let (row, column) = (place / COLUMNS, place % COLUMNS);
         if sheet.is_drawn(row, column) {
             if let Some(new) = used_at(sheet, row, column) {
                 add_used(used, new)?;
@@ -124,74 +117,107 @@ fn add_row(used: &mut Vec<Used>, sheet: &Sheet<'_>, row: usize) -> Result<(), Al
 pub(crate) fn used_in(alloc: Global, sheets: &[Sheet<'_>]) -> Result<Vec<Used>, AllocError> {
     let mut used = Vec::new(alloc);
     for sheet in sheets {
-        for row in 0..ROWS {
-            add_row(&mut used, sheet, row)?;
-        }
+        add_sheet(&mut used, sheet)?;
     }
     Ok(used)
+}
+
+fn add_blocks(blocks: &mut Vec<BlockRef>, sheet: &Sheet<'_>) -> Result<(), AllocError> {
+    for place in 0..PLACES {
+        if let Some(block) = sheet.block_at(place / COLUMNS, place % COLUMNS) {
+            blocks.push(block)?;
+        }
+    }
+    Ok(())
+}
+
+/// The blocks that are drawn, each as often as it is.
+pub(crate) fn drawn_blocks(
+    alloc: Global,
+    sheets: &[Sheet<'_>],
+) -> Result<Vec<BlockRef>, AllocError> {
+    let mut blocks = Vec::new(alloc);
+    for sheet in sheets {
+        add_blocks(&mut blocks, sheet)?;
+    }
+    Ok(blocks)
+}
+
+/// The block that it is, where that is drawn.
+fn drawn_block(sheets: &[Sheet<'_>], used: Used) -> Option<BlockRef> {
+    let Source::Done(sort) = used.source else {
+        return None;
+    };
+    let block = BlockRef {
+        sort,
+        number: used.number,
+    };
+    for sheet in sheets {
+        if sheet.has_block(block) {
+            return Some(block);
+        }
+    }
+    None
 }
 
 /// The blocks among them that are drawn, in order.
 pub(crate) fn blocks_in(
     alloc: Global,
+    sheets: &[Sheet<'_>],
     used: &[Used],
-    drawn: &[BlockRef],
 ) -> Result<Vec<BlockRef>, AllocError> {
     let mut blocks = Vec::new(alloc);
     for other in used {
-        if let Source::Done(sort) = other.source {
-            let block = BlockRef {
-                sort,
-                number: other.number,
-            };
-            if drawn.iter().any(|b| *b == block) {
-                blocks.push(block)?;
-            }
+        if let Some(block) = drawn_block(sheets, *other) {
+            blocks.push(block)?;
         }
     }
     Ok(blocks)
 }
 
+/// How ClassicLadder writes a variable or a block.
+pub(crate) fn variable_of(used: Used) -> Word {
+    let mut variable = Word::new();
+    variable.add(b"%");
+    variable.add_number(letters(used.source), used.number);
+    variable
+}
+
 /// The symbol of a variable or a block.
-pub(crate) fn symbol_of<'a>(
-    alloc: Global,
-    project: &Project<'a>,
-    used: Used,
-) -> Result<Option<Symbol<'a>>, AllocError> {
+pub(crate) fn symbol_of<'p, 'a>(project: &'p Project<'a>, used: Used) -> Option<&'p Symbol<'a>> {
     if used.opened.is_some() {
-        return Ok(None);
+        return None;
     }
-    let mut variable = Vec::new(alloc);
-    add(&mut variable, b"%")?;
-    add(&mut variable, letters(used.source))?;
-    add_number(&mut variable, used.number)?;
+    let variable = variable_of(used);
     for symbol in &project.symbols {
-        if trimmed(symbol.variable) == variable.as_slice() {
-            return Ok(Some(*symbol));
+        if trimmed(symbol.variable) == variable.bytes() {
+            return Some(symbol);
         }
     }
-    Ok(None)
+    None
 }
 
 /// The symbol as a name: what can't be in a name becomes an underscore.
-fn cleaned(alloc: Global, symbol: &[u8]) -> Result<Vec<u8>, AllocError> {
-    let mut name: Vec<u8> = Vec::new(alloc);
+fn cleaned(symbol: &[u8]) -> Word {
+    let mut name = Word::new();
     let mut gap = false;
     for b in trimmed(symbol) {
         if b.is_ascii_alphanumeric() || *b == b'_' {
-            if gap && !name.is_empty() {
-                name.push(b'_')?;
+            let is_joined = if name.is_empty() {
+                b.is_ascii_digit()
+            } else {
+                gap
+            };
+            if is_joined {
+                name.push(b'_');
             }
-            if name.is_empty() && b.is_ascii_digit() {
-                name.push(b'_')?;
-            }
-            name.push(*b)?;
+            name.push(*b);
             gap = false;
         } else {
             gap = true;
         }
     }
-    Ok(name)
+    name
 }
 
 /// The name, where it is one that may be given to this, and no other has it.
@@ -218,42 +244,34 @@ fn letters_of(used: Used) -> &'static [u8] {
     }
 }
 
-/// The letters and the number, and behind them the count of such a name, where it isn't the first.
-fn plain(alloc: Global, used: Used, ending: &[u8], count: u32) -> Result<Vec<u8>, AllocError> {
-    let mut name = Vec::new(alloc);
-    add(&mut name, letters_of(used))?;
-    add_number(&mut name, used.number)?;
-    add(&mut name, ending)?;
-    if count > 0 {
-        add(&mut name, b"_")?;
-        add_number(&mut name, count)?;
+/// Whether it stands for a block that isn't drawn: a variable that is never ON.
+pub(crate) fn is_off(used: Used, is_block: bool) -> bool {
+    match used.source {
+        Source::Done(_) => !is_block,
+        Source::Input | Source::Output | Source::Memory | Source::Other => false,
     }
-    Ok(name)
 }
 
-/// What is behind the letters and the number of a plain name: a variable that stands for a block is never ON.
-fn ending_of(used: Used, is_block: bool) -> &'static [u8] {
-    match used.source {
-        Source::Done(_) if !is_block => b"_off",
-        _ => b"",
+/// The letters and the number, and behind them the count of such a name, where it isn't the first.
+fn plain(used: Used, is_block: bool, count: u32) -> Word {
+    let mut name = Word::new();
+    name.add_number(letters_of(used), used.number);
+    if is_off(used, is_block) {
+        name.add(b"_off");
     }
+    if count > 0 {
+        name.add_number(b"_", count);
+    }
+    name
 }
 
 /// The symbol of it as a name, where that is free.
-fn symbol_name(
-    alloc: Global,
-    project: &Project<'_>,
-    named: &[Named],
-    used: Used,
-    is_block: bool,
-) -> Result<Option<Name>, AllocError> {
-    if let Some(symbol) = symbol_of(alloc, project, used)? {
-        if !trimmed(symbol.name).starts_with(b"%") {
-            let name = cleaned(alloc, symbol.name)?;
-            return Ok(free_name(named, is_block, &name));
-        }
+fn symbol_name(project: &Project<'_>, named: &[Named], used: Used, is_block: bool) -> Option<Name> {
+    let symbol = symbol_of(project, used)?;
+    if trimmed(symbol.name).starts_with(b"%") {
+        return None;
     }
-    Ok(None)
+    free_name(named, is_block, cleaned(symbol.name).bytes())
 }
 
 /// The signal that is connected with the pin of an input or an output, the first where there are several.
@@ -274,117 +292,75 @@ pub(crate) fn signal_of<'a>(links: &[Link<'a>], used: Used) -> Option<&'a [u8]> 
     None
 }
 
-/// The signal of it as a name, where that is free.
-fn signal_name(
-    alloc: Global,
-    links: &[Link<'_>],
-    named: &[Named],
-    used: Used,
-) -> Result<Option<Name>, AllocError> {
-    match signal_of(links, used) {
-        Some(signal) => {
-            let name = cleaned(alloc, signal)?;
-            Ok(free_name(named, false, &name))
-        }
-        None => Ok(None),
-    }
-}
-
 fn name_of(
-    alloc: Global,
     project: &Project<'_>,
     links: &[Link<'_>],
     named: &[Named],
     used: Used,
     is_block: bool,
-) -> Result<Option<Name>, AllocError> {
-    if let Some(name) = symbol_name(alloc, project, named, used, is_block)? {
-        return Ok(Some(name));
+) -> Option<Name> {
+    if let Some(name) = symbol_name(project, named, used, is_block) {
+        return Some(name);
     }
-    if let Some(name) = signal_name(alloc, links, named, used)? {
-        return Ok(Some(name));
-    }
-    for count in 0..100u32 {
-        let name = plain(alloc, used, ending_of(used, is_block), count)?;
-        if let Some(name) = free_name(named, is_block, &name) {
-            return Ok(Some(name));
+    if let Some(signal) = signal_of(links, used) {
+        if let Some(name) = free_name(named, false, cleaned(signal).bytes()) {
+            return Some(name);
         }
     }
-    Ok(None)
-}
-
-fn is_one_of(blocks: &[BlockRef], used: Used) -> bool {
-    match used.source {
-        Source::Done(sort) => blocks
-            .iter()
-            .any(|b| b.sort == sort && b.number == used.number),
-        Source::Input | Source::Output | Source::Memory | Source::Other => false,
+    for count in 0..100u32 {
+        let name = plain(used, is_block, count);
+        if let Some(name) = free_name(named, is_block, name.bytes()) {
+            return Some(name);
+        }
     }
+    None
 }
 
-fn is_timer_among(timers: &[u32], used: Used) -> bool {
-    used.source == Source::Done(BlockSort::Timer)
-        && timers.iter().any(|number| *number == used.number)
+/// It with its name, where it has one. None has an alias yet.
+fn named_of(
+    project: &Project<'_>,
+    links: &[Link<'_>],
+    sheets: &[Sheet<'_>],
+    named: &[Named],
+    used: Used,
+) -> Option<Named> {
+    let block = drawn_block(sheets, used);
+    let is_taken_on = match block {
+        Some(block) => is_timer_taken_on(sheets, block),
+        None => false,
+    };
+    Some(Named {
+        used,
+        name: name_of(project, links, named, used, block.is_some())?,
+        is_block: block.is_some(),
+        is_taken_on,
+        alias: None,
+    })
 }
 
-/// A name for each, where there is one; `timers`: those whose control is taken as ON.
+/// A name for each, where there is one.
 pub(crate) fn names_of(
     alloc: Global,
     project: &Project<'_>,
     links: &[Link<'_>],
+    sheets: &[Sheet<'_>],
     used: &[Used],
-    blocks: &[BlockRef],
-    timers: &[u32],
 ) -> Result<Vec<Named>, AllocError> {
     let mut named = Vec::new(alloc);
     for other in used {
-        let is_block = is_one_of(blocks, *other);
-        if let Some(name) = name_of(alloc, project, links, &named, *other, is_block)? {
-            named.push(Named {
-                used: *other,
-                name,
-                is_block,
-                is_taken_on: is_timer_among(timers, *other),
-            })?;
+        if let Some(new) = named_of(project, links, sheets, &named, *other) {
+            named.push(new)?;
         }
     }
     Ok(named)
 }
 
 /// What it is called.
-pub(crate) fn name_in(named: &[Named], used: Used) -> Option<Named> {
+pub(crate) fn name_in(named: &[Named], used: Used) -> Option<&Named> {
     for other in named {
         if other.used == used {
-            return Some(*other);
+            return Some(other);
         }
     }
     None
-}
-
-fn add_blocks(blocks: &mut Vec<BlockRef>, sheet: &Sheet<'_>, row: usize) -> Result<(), AllocError>
-    requires { row < ROWS }
-{
-    for column in 0..COLUMNS {
-        if sheet.is_drawn(row, column) {
-            if let Meaning::Block(sort) = sheet.meaning(row, column) {
-                let number = element_at(sheet.elements, row, column).number;
-                blocks.push(BlockRef { sort, number })?;
-            }
-        }
-    }
-    Ok(())
-}
-
-/// The blocks that are drawn, each as often as it is.
-pub(crate) fn drawn_blocks(
-    alloc: Global,
-    sheets: &[Sheet<'_>],
-) -> Result<Vec<BlockRef>, AllocError> {
-    let mut blocks = Vec::new(alloc);
-    for sheet in sheets {
-        for row in 0..ROWS {
-            add_blocks(&mut blocks, sheet, row)?;
-        }
-    }
-    Ok(blocks)
 }
