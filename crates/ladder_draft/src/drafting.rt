@@ -48,7 +48,7 @@ pub fn blocks_of(
     drawn_blocks(alloc, &sheets_of(alloc, reading, project)?)
 }
 
-fn is_in_limits(used: usize, blocks: usize) -> Result<(), DraftFault> {
+fn keep_limits(used: usize, blocks: usize) -> Result<(), DraftFault> {
     if blocks > MOST_INSTANCES {
         Err(DraftFault::TooManyBlocks)
     } else if used.saturating_sub(blocks) > MOST_VARS {
@@ -78,7 +78,7 @@ fn draft_of(
 ) -> Result<Drafted, DraftFault> {
     let used = used_in(alloc, sheets)?;
     let blocks = blocks_in(alloc, sheets, &used)?;
-    is_in_limits(used.len(), blocks.len())?;
+    keep_limits(used.len(), blocks.len())?;
     let text = text_of(alloc, project, links, sheets, &used)?;
     Ok(Drafted { text, blocks })
 }
