@@ -334,6 +334,7 @@ fn is_block_of(blocks: &[BlockRef], block: BlockRef, cell: Cell) -> bool
 }
 
 /// Whether the cell is what the element means; the input with the address stands for what is opened there.
+#[tactic(auto, unfolding(crate::specs::Carried::IsCell))]
 fn is_cell(
     program: &Program,
     rungs: &[Placed<'_>],
@@ -365,6 +366,7 @@ fn is_cell(
 }
 
 /// Whether no power comes to the element, and it does nothing then.
+#[tactic(auto, unfolding(crate::specs::Carried::IsLeftOut))]
 fn is_left_out(
     reading: Reading,
     elements: &[Element],
@@ -501,23 +503,6 @@ fn is_rung_carried(
     true
 }
 
-/// Whether the rung with a number has what the project has.
-fn is_carried_at(
-    reading: Reading,
-    program: &Program,
-    rungs: &[Placed<'_>],
-    blocks: &[BlockRef],
-    rung: usize,
-) -> bool
-    requires { rung < program.now.rungs }
-    ensures { result ≡ true → (x : Placed) → slice_get rungs.now rung ≡ Some x → IsRungCarried reading program.now rungs.now blocks.now rung x }
-{
-    match rungs.get(rung) {
-        Some(placed) => is_rung_carried(reading, program, rungs, blocks, rung, placed),
-        None => false,
-    }
-}
-
 /// Whether each rung has what the project has.
 fn are_carried(
     reading: Reading,
@@ -529,7 +514,7 @@ fn are_carried(
     ensures { result ≡ true → AreCarried reading program.now rungs.now blocks.now }
 {
     for rung in 0..rungs.len() {
-        if !is_carried_at(reading, program, rungs, blocks, rung) {
+        if !is_rung_carried(reading, program, rungs, blocks, rung, &rungs[rung]) {
             return false;
         }
     }
