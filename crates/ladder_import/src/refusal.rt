@@ -195,11 +195,7 @@ fn refused(
 
 /// The reason, unless the element is carried over.
 fn unless(carried: bool, reason: Reason) -> Option<Reason> {
-    if carried {
-        None
-    } else {
-        Some(reason)
-    }
+    if carried { None } else { Some(reason) }
 }
 
 /// What keeps an element from being carried over by its kind alone.
@@ -430,6 +426,36 @@ fn reason_at(
     }
 }
 
+/// Adds the refusal of the element at a place, if it has one.
+fn add_place(
+    reading: Reading,
+    project: &Project<'_>,
+    blocks: &[BlockRef],
+    rung: usize,
+    elements: &[Element],
+    power: &Power,
+    row: usize,
+    column: usize,
+    refusals: &mut Vec<Refusal>,
+) -> Result<(), AllocError>
+    requires rows { row < ROWS }
+    requires columns { column < COLUMNS }
+    requires power { IsPower reading elements.now power.now }
+    requires before { All (IsThere reading project.now.rungs.items) refusals.old.items }
+    ensures { IfOk result (λ _. All (IsThere reading project.now.rungs.items) refusals.new.items) }
+{
+    match reason_at(reading, project, blocks, rung, elements, power, row, column) {
+        Some(reason) => match refused(reading, &project.rungs, rung, row, column, reason) {
+            Some(refusal) => {
+                refusals.push(refusal)?;
+                Ok(())
+            }
+            None => Ok(()),
+        },
+        None => Ok(()),
+    }
+}
+
 /// Adds the refusals of a row.
 fn add_row(
     reading: Reading,
@@ -447,13 +473,9 @@ fn add_row(
     ensures { IfOk result (λ _. All (IsThere reading project.now.rungs.items) refusals.new.items) }
 {
     for column in 0..COLUMNS {
-        if let Some(reason) = reason_at(
-            reading, project, blocks, rung, elements, power, row, column,
-        ) {
-            if let Some(refusal) = refused(reading, &project.rungs, rung, row, column, reason) {
-                refusals.push(refusal)?;
-            }
-        }
+        add_place(
+            reading, project, blocks, rung, elements, power, row, column, refusals,
+        )?;
     }
     Ok(())
 }
