@@ -637,7 +637,8 @@ pub fn is_carried_over(
     ensures { result ≡ true → IsCarriedOver reading project.now program.now }
 {
     let decls = program.decls();
-    if program.rungs() != project.rungs.len() {
+    let rungs = project.rungs.as_slice();
+    if program.rungs() != rungs.len() {
         return false;
     }
     if !are_apart(blocks) {
@@ -649,8 +650,8 @@ pub fn is_carried_over(
     if !are_off(decls.vars()) {
         return false;
     }
-    if !all_unseen(&project.expressions, &project.rungs) {
+    if !all_unseen(project.expressions.as_slice(), rungs) {
         return false;
     }
-    are_carried(reading, program, &project.rungs, blocks)
+    are_carried(reading, program, rungs, blocks)
 }
