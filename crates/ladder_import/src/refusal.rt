@@ -7,7 +7,7 @@ ghost use Rattle.ladder_import.specs.Refusals.{IsThere, holds, is_coil, is_no_so
 
 use ladder_clp::{Element, Placed, Project, Reading, writes_number};
 use ladder_draft::blocks_of;
-use ladder_page::geometry::{COLUMNS, ROWS};
+use ladder_page::geometry::{COLUMNS, PLACES};
 use ladder_sheet::{
     BlockRef, BlockSort, Meaning, Power, Source, element_at, ends_rung, entry_of, has_places,
     is_block, is_contact, is_idle, is_run_by_any, meaning_at, meaning_of, power_of, reads_late,
@@ -456,31 +456,7 @@ fn add_place(
     }
 }
 
-/// Adds the refusals of a row.
-fn add_row(
-    reading: Reading,
-    project: &Project<'_>,
-    blocks: &[BlockRef],
-    rung: usize,
-    elements: &[Element],
-    power: &Power,
-    row: usize,
-    refusals: &mut Vec<Refusal>,
-) -> Result<(), AllocError>
-    requires rows { row < ROWS }
-    requires power { IsPower reading elements.now power.now }
-    requires before { All (IsThere reading project.now.rungs.items) refusals.old.items }
-    ensures { IfOk result (λ _. All (IsThere reading project.now.rungs.items) refusals.new.items) }
-{
-    for column in 0..COLUMNS {
-        add_place(
-            reading, project, blocks, rung, elements, power, row, column, refusals,
-        )?;
-    }
-    Ok(())
-}
-
-/// Adds the refusals of a rung.
+/// Adds the refusals of a rung, row by row.
 fn add_rung(
     reading: Reading,
     project: &Project<'_>,
@@ -496,9 +472,10 @@ fn add_rung(
     };
     let elements = placed.rung.elements.as_slice();
     let power = power_of(reading, elements);
-    for row in 0..ROWS {
-        add_row(
-            reading, project, blocks, rung, elements, &power, row, refusals,
+    for place in 0..PLACES {
+        let (row, column) = (place / COLUMNS, place % COLUMNS);
+        add_place(
+            reading, project, blocks, rung, elements, &power, row, column, refusals,
         )?;
     }
     Ok(())
