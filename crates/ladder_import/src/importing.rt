@@ -17,24 +17,21 @@ use ladder_page::geometry::RUNGS;
 use ladder_sheet::BlockRef;
 use ladder_vars::VarRule;
 use std::alloc::Global;
-use thiserror::Error;
 
 /// Why a project has no program text.
-#[derive(Clone, Copy, Debug, Drop, Error, PartialEq, Eq)]
+#[derive(Clone, Copy)]
 pub enum ImportFault {
-    #[error("out of memory")]
+    /// Out of memory.
     Memory,
-    /// Some elements can't be carried over.
-    #[error("there are elements that can't be carried over")]
+    /// There are elements that can't be carried over.
     Refused,
-    #[error("there are more than 100 rungs")]
+    /// There are more than 100 rungs.
     TooManyRungs,
-    #[error("there are more than 256 variables")]
+    /// There are more than 256 variables.
     TooManyVars,
-    #[error("there are more than 64 blocks")]
+    /// There are more than 64 blocks.
     TooManyBlocks,
     /// The text that was written isn't the project.
-    #[error("the text that was written isn't the project")]
     NotFaithful,
 }
 
