@@ -8,7 +8,7 @@ use ladder_page::{CoilMode, Mode};
 use ladder_vars::BlockKind;
 
 /// The blocks that are carried over.
-#[derive(Clone, Copy, Debug, PartialEq, Eq, PartialOrd, Ord)]
+#[derive(Clone, Copy, PartialEq, Eq, PartialOrd, Ord)]
 pub enum BlockSort {
     /// A timer of the old sort, `%T`.
     Timer,
@@ -46,7 +46,7 @@ pub enum Meaning {
 }
 
 /// What a contact reads or a coil writes.
-#[derive(Clone, Copy, Debug, PartialEq, Eq, PartialOrd, Ord)]
+#[derive(Clone, Copy, PartialEq, Eq, PartialOrd, Ord)]
 pub enum Source {
     /// `%I`.
     Input,
