@@ -108,7 +108,7 @@ IsContactAt d m address (cell.Contact n (operand.Var var) memory) = (n ≡ m) ×
 IsContactAt d m address other = ⊥
 
 -- What stands at the place of an element with this meaning; the input with the address stands for what is opened there.
-abbrev pub IsCell : Drawing → List Placed → List BlockRef → ℕ → Address → Element → Meaning → Cell → Type 0
+unfoldable pub IsCell : Drawing → List Placed → List BlockRef → ℕ → Address → Element → Meaning → Cell → Type 0
 IsCell d rungs blocks section address e meaning.Blank at = is_empty at ≡ true
 IsCell d rungs blocks section address e meaning.Wire at = at ≡ cell.Wire
 IsCell d rungs blocks section address e (meaning.Contact m) at = IsContactOn d blocks m (source_of e.class) e.number at
@@ -121,7 +121,7 @@ IsCell d rungs blocks section address e meaning.Operate at = is_empty at ≡ tru
 IsCell d rungs blocks section address e meaning.Other at = ⊥
 
 -- No power comes to the element, it does nothing then, and nothing is at its place.
-abbrev pub IsLeftOut : Reading → List Element → ℕ → ℕ → Cell → Type 0
+unfoldable pub IsLeftOut : Reading → List Element → ℕ → ℕ → Cell → Type 0
 IsLeftOut reading es r c at = (reached reading es c r ≡ false) × (is_idle (meaning_at reading es r c) ≡ true) × (at ≡ cell.Empty)
 
 -- The cell is fed from the same rows.

@@ -20,7 +20,7 @@ use ladder_sheet::{
     BlockRef, BlockSort, Meaning, Power, Source, element_at, entry_of, fed, is_idle, meaning_at,
     power_of, reads_late, same_sort, source_of, stands, timed_as,
 };
-use ladder_vars::{Address, Decls, Instance};
+use ladder_vars::{Address, Decls, Instance, Var};
 
 fn takes_power(joint: Joint) -> bool
     ensures { result ≡ takes_power joint }
@@ -95,22 +95,6 @@ fn is_at(place: Option<Address>, address: Address) -> bool
 }
 
 /// Whether the variable is declared at this address.
-fn is_var(decls: &Decls, letter: char, number: u32, var: usize) -> bool
-    ensures { result ≡ true → IsVar decls.now letter number var }
-{
-    match decls.vars().get(var) {
-        Some(v) => is_at(
-            v.address,
-            Address {
-                letter,
-                first: number,
-                second: None,
-            },
-        ),
-        None => false,
-    }
-}
-
 fn is_declared_at(decls: &Decls, address: Address, var: usize) -> bool
     ensures { result ≡ true → IsDeclaredAt decls.now address var }
 {
@@ -118,6 +102,18 @@ fn is_declared_at(decls: &Decls, address: Address, var: usize) -> bool
         Some(v) => is_at(v.address, address),
         None => false,
     }
+}
+
+/// Whether the variable is declared at an address of this letter, with this one number.
+fn is_var(decls: &Decls, letter: char, number: u32, var: usize) -> bool
+    ensures { result ≡ true → IsVar decls.now letter number var }
+{
+    let address = Address {
+        letter,
+        first: number,
+        second: None,
+    };
+    is_declared_at(decls, address, var)
 }
 
 /// The address of the input that stands for what is opened at a place.
@@ -338,6 +334,7 @@ fn is_block_of(blocks: &[BlockRef], block: BlockRef, cell: Cell) -> bool
 }
 
 /// Whether the cell is what the element means; the input with the address stands for what is opened there.
+#[tactic(auto, unfolding(crate::specs::Carried::IsCell))]
 fn is_cell(
     program: &Program,
     rungs: &[Placed<'_>],
@@ -369,6 +366,7 @@ fn is_cell(
 }
 
 /// Whether no power comes to the element, and it does nothing then.
+#[tactic(auto, unfolding(crate::specs::Carried::IsLeftOut))]
 fn is_left_out(
     reading: Reading,
     elements: &[Element],
@@ -505,23 +503,6 @@ fn is_rung_carried(
     true
 }
 
-/// Whether the rung with a number has what the project has.
-fn is_carried_at(
-    reading: Reading,
-    program: &Program,
-    rungs: &[Placed<'_>],
-    blocks: &[BlockRef],
-    rung: usize,
-) -> bool
-    requires { rung < program.now.rungs }
-    ensures { result ≡ true → (x : Placed) → slice_get rungs.now rung ≡ Some x → IsRungCarried reading program.now rungs.now blocks.now rung x }
-{
-    match rungs.get(rung) {
-        Some(placed) => is_rung_carried(reading, program, rungs, blocks, rung, placed),
-        None => false,
-    }
-}
-
 /// Whether each rung has what the project has.
 fn are_carried(
     reading: Reading,
@@ -533,7 +514,7 @@ fn are_carried(
     ensures { result ≡ true → AreCarried reading program.now rungs.now blocks.now }
 {
     for rung in 0..rungs.len() {
-        if !is_carried_at(reading, program, rungs, blocks, rung) {
+        if !is_rung_carried(reading, program, rungs, blocks, rung, &rungs[rung]) {
             return false;
         }
     }
@@ -546,10 +527,16 @@ fn same_block(a: BlockRef, b: BlockRef) -> bool
     same_sort(a.sort, b.sort) && a.number == b.number
 }
 
-fn is_among(block: BlockRef, others: &[BlockRef]) -> bool
-    ensures { result ≡ list_any (same_block block) others.now }
+fn is_among(block: BlockRef, mut others: &[BlockRef]) -> bool
+    ensures { result ≡ list_any (same_block block) others.entry.now }
 {
-    others.iter().any(|other| same_block(block, *other))
+    while let [other, rest @ ..] = others {
+        if same_block(block, *other) {
+            return true;
+        }
+        others = rest;
+    }
+    false
 }
 
 /// Whether no block is twice among them.
@@ -601,32 +588,43 @@ fn is_unseen(expressions: &[Expression<'_>], element: Element) -> bool
     element.kind != 60 || writes_number(expressions, element.number)
 }
 
-fn are_unseen_in(expressions: &[Expression<'_>], elements: &[Element]) -> bool
-    ensures { result ≡ list_all (is_unseen expressions.now) elements.now }
-{
-    elements
-        .iter()
-        .all(|element| is_unseen(expressions, *element))
-}
-
 fn are_unseen(expressions: &[Expression<'_>], placed: &Placed<'_>) -> bool
     ensures { result ≡ are_unseen expressions.now placed.now }
 {
-    are_unseen_in(expressions, placed.rung.elements.as_slice())
+    let mut elements = placed.rung.elements.as_slice();
+    while let [element, rest @ ..] = elements {
+        if !is_unseen(expressions, *element) {
+            return false;
+        }
+        elements = rest;
+    }
+    true
 }
 
 /// Whether no operate writes a bit.
-fn all_unseen(expressions: &[Expression<'_>], rungs: &[Placed<'_>]) -> bool
-    ensures { result ≡ list_all (are_unseen expressions.now) rungs.now }
+fn all_unseen(expressions: &[Expression<'_>], mut rungs: &[Placed<'_>]) -> bool
+    ensures { result ≡ list_all (are_unseen expressions.now) rungs.entry.now }
 {
-    rungs.iter().all(|placed| are_unseen(expressions, placed))
+    while let [placed, rest @ ..] = rungs {
+        if !are_unseen(expressions, placed) {
+            return false;
+        }
+        rungs = rest;
+    }
+    true
 }
 
 /// Whether all variables begin as OFF.
-fn are_off(decls: &Decls) -> bool
-    ensures { result ≡ list_all (λ v. not v.initial) decls.now.vars }
+fn are_off(mut vars: &[Var]) -> bool
+    ensures { result ≡ list_all (λ v. not v.initial) vars.entry.now }
 {
-    decls.vars().iter().all(|v| !v.initial)
+    while let [var, rest @ ..] = vars {
+        if var.initial {
+            return false;
+        }
+        vars = rest;
+    }
+    true
 }
 
 /// Whether a program is a project carried over, with the blocks in the order of the instances.
@@ -639,7 +637,8 @@ pub fn is_carried_over(
     ensures { result ≡ true → IsCarriedOver reading project.now program.now }
 {
     let decls = program.decls();
-    if program.rungs() != project.rungs.len() {
+    let rungs = project.rungs.as_slice();
+    if program.rungs() != rungs.len() {
         return false;
     }
     if !are_apart(blocks) {
@@ -648,11 +647,11 @@ pub fn is_carried_over(
     if !are_instances(project, blocks, decls.instances()) {
         return false;
     }
-    if !are_off(decls) {
+    if !are_off(decls.vars()) {
         return false;
     }
-    if !all_unseen(&project.expressions, &project.rungs) {
+    if !all_unseen(project.expressions.as_slice(), rungs) {
         return false;
     }
-    are_carried(reading, program, &project.rungs, blocks)
+    are_carried(reading, program, rungs, blocks)
 }

@@ -24,7 +24,7 @@ abbrev pub is_no_source : Source → Bool
 is_no_source s = elim s [ source.Other ↦ true | _ ↦ false ]
 
 -- What a reason says of the element at a place.
-abbrev pub holds : Reading → Reason → List Element → ℕ → ℕ → Bool
+unfoldable pub holds : Reading → Reason → List Element → ℕ → ℕ → Bool
 holds reading reason.Counter es r c = (element_at es r c).kind == 12
 holds reading reason.Compare es r c = (element_at es r c).kind == 20
 holds reading reason.Operate es r c = (element_at es r c).kind == 60

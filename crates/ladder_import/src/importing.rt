@@ -3,6 +3,7 @@
 ghost use Rattle.std.specs.Prelude.{◌≡◌, All, IfErr, IfOk};
 ghost use Rattle.ladder_clp.specs.declared.project.Project.{Project};
 ghost use Rattle.ladder_clp.specs.declared.reading.Reading.{Reading};
+ghost use Rattle.ladder_faithful.specs.Carried.{IsCarriedOver};
 ghost use Rattle.ladder_import.specs.Import.{HasText, IsFault};
 ghost use Rattle.ladder_import.specs.Refusals.{IsThere};
 
@@ -10,41 +11,28 @@ use crate::refusal::{Refusal, refusals};
 use ladder_clp::{Project, Reading};
 use ladder_draft::{DraftFault, Drafted, draft};
 use ladder_faithful::is_carried_over;
-use ladder_grid::{GridFault, read_program};
+use ladder_grid::{GridFault, Program, read_program};
 use ladder_hal::Link;
 use ladder_page::geometry::RUNGS;
 use ladder_sheet::BlockRef;
 use ladder_vars::VarRule;
-use std::alloc::{AllocError, Global};
-use thiserror::Error;
+use std::alloc::Global;
 
 /// Why a project has no program text.
-#[derive(Clone, Copy, Debug, Drop, Error, PartialEq, Eq)]
+#[derive(Clone, Copy)]
 pub enum ImportFault {
-    #[error("out of memory")]
+    /// Out of memory.
     Memory,
-    /// Some elements can't be carried over.
-    #[error("there are elements that can't be carried over")]
+    /// There are elements that can't be carried over.
     Refused,
-    #[error("there are more than 100 rungs")]
+    /// There are more than 100 rungs.
     TooManyRungs,
-    #[error("there are more than 256 variables")]
+    /// There are more than 256 variables.
     TooManyVars,
-    #[error("there are more than 64 blocks")]
+    /// There are more than 64 blocks.
     TooManyBlocks,
     /// The text that was written isn't the project.
-    #[error("the text that was written isn't the project")]
     NotFaithful,
-}
-
-impl From<AllocError> for ImportFault {
-    ghost use Rattle.ladder_import.specs.declared.importing.ImportFault.TheVariants.{Memory};
-
-    ghost from_gives = { λ _ e. e ≡ Memory };
-
-    fn from(_error: AllocError) -> ImportFault {
-        ImportFault::Memory
-    }
 }
 
 /// A fault of the draft, which says nothing of the elements.
@@ -67,25 +55,36 @@ fn fault_of(fault: GridFault) -> ImportFault
     }
 }
 
-/// The text, where it is a program that has what the project has.
+/// Whether the program has what the project has, as a result.
+fn compared(
+    reading: Reading,
+    project: &Project<'_>,
+    blocks: &[BlockRef],
+    program: &Program,
+) -> Result<(), ImportFault>
+    ensures same { IfOk result (λ _. IsCarriedOver reading project.now program.now) }
+    ensures fault { IfErr result (λ e. IsFault reading project.now e) }
+{
+    if is_carried_over(reading, project, blocks, program) {
+        Ok(())
+    } else {
+        Err(ImportFault::NotFaithful)
+    }
+}
+
+/// Whether the text is a program that has what the project has.
 fn checked(
     alloc: Global,
     reading: Reading,
     project: &Project<'_>,
     blocks: &[BlockRef],
-    text: Vec<u8>,
-) -> Result<Vec<u8>, ImportFault>
-    ensures text { IfOk result (λ v. HasText reading project.now v.items) }
+    text: &[u8],
+) -> Result<(), ImportFault>
+    ensures text { IfOk result (λ _. HasText reading project.now text.now) }
     ensures fault { IfErr result (λ e. IsFault reading project.now e) }
 {
-    match read_program(alloc, &text) {
-        Ok(program) => {
-            if is_carried_over(reading, project, blocks, &program) {
-                Ok(text)
-            } else {
-                Err(ImportFault::NotFaithful)
-            }
-        }
+    match read_program(alloc, text) {
+        Ok(program) => compared(reading, project, blocks, &program),
         Err(fault) => Err(fault_of(fault)),
     }
 }
@@ -101,11 +100,15 @@ fn drawn(
     ensures fault { IfErr result (λ e. IsFault reading project.now e) }
 {
     match draft(alloc, reading, project, links) {
-        Ok(Drafted { text, blocks }) => checked(alloc, reading, project, &blocks, text),
+        Ok(Drafted { text, blocks }) => match checked(alloc, reading, project, &blocks, &text) {
+            Ok(()) => Ok(text),
+            Err(fault) => Err(fault),
+        },
         Err(fault) => Err(draft_fault(fault)),
     }
 }
 
+/// Whether the project may be drawn, as a result.
 fn none_refused(
     reading: Reading,
     project: &Project<'_>,
@@ -115,9 +118,12 @@ fn none_refused(
     ensures { IfErr result (λ e. IsFault reading project.now e) }
 {
     if refused.len() >= 1 {
-        return Err(ImportFault::Refused);
+        Err(ImportFault::Refused)
+    } else if project.rungs.len() > RUNGS {
+        Err(ImportFault::TooManyRungs)
+    } else {
+        Ok(())
     }
-    Ok(())
 }
 
 /// The program text of a project: it reads as a program, and that has what the project has, as it is read. An input or an output whose symbol is no
@@ -136,10 +142,11 @@ pub fn import(
     ensures carried { IfOk result (λ v. HasText reading project.now v.items) }
     ensures fault { IfErr result (λ e. IsFault reading project.now e) }
 {
-    let refused = refusals(alloc, reading, project)?;
-    none_refused(reading, project, &refused)?;
-    if project.rungs.len() > RUNGS {
-        return Err(ImportFault::TooManyRungs);
+    match refusals(alloc, reading, project) {
+        Ok(refused) => match none_refused(reading, project, &refused) {
+            Ok(()) => drawn(alloc, reading, project, links),
+            Err(fault) => Err(fault),
+        },
+        Err(_) => Err(ImportFault::Memory),
     }
-    drawn(alloc, reading, project, links)
 }

@@ -7,65 +7,63 @@ ghost use Rattle.ladder_import.specs.Refusals.{IsThere, holds, is_coil, is_no_so
 
 use ladder_clp::{Element, Placed, Project, Reading, writes_number};
 use ladder_draft::blocks_of;
-use ladder_page::geometry::{COLUMNS, ROWS};
+use ladder_page::geometry::{COLUMNS, PLACES};
 use ladder_sheet::{
     BlockRef, BlockSort, Meaning, Power, Source, element_at, ends_rung, entry_of, has_places,
     is_block, is_contact, is_idle, is_run_by_any, meaning_at, meaning_of, power_of, reads_late,
     source_of, stands, timed_as,
 };
 use std::alloc::{AllocError, Global};
-use thiserror::Error;
 
 /// Why an element can't be carried over.
-#[derive(Clone, Copy, Debug, PartialEq, Eq, Error)]
+#[derive(Clone, Copy)]
 pub enum Reason {
-    #[error("a counter: it counts up and down, round at 9999, and is done at its preset alone")]
+    /// A counter: it counts up and down, round at 9999, and is done at its preset alone.
     Counter,
-    #[error("a compare block: there are no numbers in the language")]
+    /// A compare block: there are no numbers in the language.
     Compare,
-    #[error("an operate block: there are no numbers in the language")]
+    /// An operate block: there are no numbers in the language.
     Operate,
-    #[error("a call of a subroutine")]
+    /// A call of a subroutine.
     Call,
-    #[error("this kind of element isn't known, or stands in a block")]
+    /// This kind of element isn't known, or stands in a block.
     Unknown,
-    #[error("a contact on a step of a sequential chart")]
+    /// A contact on a step of a sequential chart.
     Step,
-    #[error("a contact on the running output of a timer")]
+    /// A contact on the running output of a timer.
     RunningContact,
-    #[error("a contact on a variable that a program can't have")]
+    /// A contact on a variable that a program can't have.
     OtherContact,
-    #[error("a coil writes an input")]
+    /// A coil writes an input.
     WritesInput,
-    #[error("a coil writes a variable that a program can't write")]
+    /// A coil writes a variable that a program can't write.
     OtherCoil,
-    #[error("its number is larger than 99999")]
+    /// Its number is larger than 99999.
     LargeNumber,
-    #[error("an output must be in the last column, and a contact before it")]
+    /// An output must be in the last column, and a contact before it.
     OutOfPlace,
-    #[error("something that writes or jumps is below this jump")]
+    /// Something that writes or jumps is below this jump.
     BelowJump,
-    #[error("this block isn't drawn as a block")]
+    /// This block isn't drawn as a block.
     BlockPlaces,
-    #[error("the control input of this timer isn't joined with its input")]
+    /// The control input of this timer isn't joined with its input.
     Switched,
-    #[error("this block has no preset that a program can have")]
+    /// This block has no preset that a program can have.
     NoPreset,
-    #[error("this block is drawn twice")]
+    /// This block is drawn twice.
     Twice,
-    #[error("a contact reads a block that comes before it in its rung")]
+    /// A contact reads a block that comes before it in its rung.
     ReadsLate,
-    #[error("no power can come to this coil, and it writes nevertheless")]
+    /// No power can come to this coil, and it writes nevertheless.
     NoPower,
-    #[error("the running output of a timer leads here")]
+    /// The running output of a timer leads here.
     Running,
-    #[error("a jump to a rung that isn't a later one of its section")]
+    /// A jump to a rung that isn't a later one of its section.
     Elsewhere,
 }
 
 /// An element that can't be carried over. Rows and columns are counted from 1.
-#[derive(Clone, Copy, Debug, PartialEq, Eq, Error)]
-#[error("rung {rung}, row {row}, column {column}: {reason}")]
+#[derive(Clone, Copy)]
 pub struct Refusal {
     pub rung: u32,
     pub row: usize,
@@ -117,6 +115,7 @@ fn is_no_source(source: Source) -> bool
 }
 
 /// Whether the reason holds of the element at a place.
+#[tactic(auto, unfolding(crate::specs::Refusals::holds))]
 fn holds(
     reading: Reading,
     reason: Reason,
@@ -171,7 +170,9 @@ fn refused(
     requires columns { column < COLUMNS }
     ensures { IfSome result (λ f. IsThere reading rungs.now f) }
 {
-    let placed = rungs.get(rung)?;
+    let Some(placed) = rungs.get(rung) else {
+        return None;
+    };
     let elements = placed.rung.elements.as_slice();
     if holds(
         reading,
@@ -192,36 +193,39 @@ fn refused(
     }
 }
 
+/// The reason, unless the element is carried over.
+fn unless(carried: bool, reason: Reason) -> Option<Reason> {
+    if carried { None } else { Some(reason) }
+}
+
 /// What keeps an element from being carried over by its kind alone.
 fn kind_reason(reading: Reading, project: &Project<'_>, element: Element) -> Option<Reason> {
-    let kind = element.kind;
-    if kind == 12 {
-        Some(Reason::Counter)
-    } else if kind == 20 && !reading.opened {
-        Some(Reason::Compare)
-    } else if kind == 60
-        && !(reading.opened && writes_number(&project.expressions, element.number))
-    {
-        Some(Reason::Operate)
-    } else if kind == 55 {
-        Some(Reason::Call)
-    } else {
-        None
+    match element.kind {
+        12 => Some(Reason::Counter),
+        20 => unless(reading.opened, Reason::Compare),
+        55 => Some(Reason::Call),
+        60 => unless(
+            reading.opened && writes_number(&project.expressions, element.number),
+            Reason::Operate,
+        ),
+        _ => None,
     }
 }
 
 fn large_number(element: Element) -> Option<Reason> {
-    if element.number > 99999 {
-        Some(Reason::LargeNumber)
-    } else {
-        None
-    }
+    unless(element.number <= 99999, Reason::LargeNumber)
 }
 
 /// How often the block is drawn.
 fn count_of(blocks: &[BlockRef], sort: BlockSort, number: u32) -> usize {
     let block = BlockRef { sort, number };
-    blocks.iter().filter(|other| **other == block).count()
+    let mut count = 0usize;
+    for place in 0..blocks.len() {
+        if blocks[place] == block {
+            count = count.saturating_add(1);
+        }
+    }
+    count
 }
 
 /// What keeps a contact from being read.
@@ -254,9 +258,13 @@ fn is_later(rungs: &[Placed<'_>], rung: usize, number: u32) -> bool {
     let Some(placed) = rungs.get(rung) else {
         return false;
     };
-    rungs.iter().skip(rung).skip(1).any(|other| {
-        other.rung.number == number && other.section == placed.section
-    })
+    for later in rung..rungs.len() {
+        let other = &rungs[later];
+        if later > rung && other.rung.number == number && other.section == placed.section {
+            return true;
+        }
+    }
+    false
 }
 
 fn jump_reason(project: &Project<'_>, rung: usize, element: Element) -> Option<Reason> {
@@ -370,7 +378,12 @@ fn is_blank(meaning: Meaning) -> bool {
 /// Whether an element of the rung is of a kind that can't be carried over. Where power comes from there isn't known, so that others
 /// behind it may have it.
 fn has_refused_kind(reading: Reading, project: &Project<'_>, elements: &[Element]) -> bool {
-    elements.iter().any(|element| kind_reason(reading, project, *element).is_some())
+    for place in 0..elements.len() {
+        if kind_reason(reading, project, elements[place]).is_some() {
+            return true;
+        }
+    }
+    false
 }
 
 /// Why the element at a place can't be carried over.
@@ -413,8 +426,8 @@ fn reason_at(
     }
 }
 
-/// Adds the refusals of a row.
-fn add_row(
+/// Adds the refusal of the element at a place, if it has one.
+fn add_place(
     reading: Reading,
     project: &Project<'_>,
     blocks: &[BlockRef],
@@ -422,26 +435,28 @@ fn add_row(
     elements: &[Element],
     power: &Power,
     row: usize,
+    column: usize,
     refusals: &mut Vec<Refusal>,
 ) -> Result<(), AllocError>
     requires rows { row < ROWS }
+    requires columns { column < COLUMNS }
     requires power { IsPower reading elements.now power.now }
     requires before { All (IsThere reading project.now.rungs.items) refusals.old.items }
     ensures { IfOk result (λ _. All (IsThere reading project.now.rungs.items) refusals.new.items) }
 {
-    for column in 0..COLUMNS {
-        if let Some(reason) = reason_at(
-            reading, project, blocks, rung, elements, power, row, column,
-        ) {
-            if let Some(refusal) = refused(reading, &project.rungs, rung, row, column, reason) {
+    match reason_at(reading, project, blocks, rung, elements, power, row, column) {
+        Some(reason) => match refused(reading, &project.rungs, rung, row, column, reason) {
+            Some(refusal) => {
                 refusals.push(refusal)?;
+                Ok(())
             }
-        }
+            None => Ok(()),
+        },
+        None => Ok(()),
     }
-    Ok(())
 }
 
-/// Adds the refusals of a rung.
+/// Adds the refusals of a rung, row by row.
 fn add_rung(
     reading: Reading,
     project: &Project<'_>,
@@ -457,9 +472,10 @@ fn add_rung(
     };
     let elements = placed.rung.elements.as_slice();
     let power = power_of(reading, elements);
-    for row in 0..ROWS {
-        add_row(
-            reading, project, blocks, rung, elements, &power, row, refusals,
+    for place in 0..PLACES {
+        let (row, column) = (place / COLUMNS, place % COLUMNS);
+        add_place(
+            reading, project, blocks, rung, elements, &power, row, column, refusals,
         )?;
     }
     Ok(())

@@ -3,14 +3,8 @@ use Rattle.std.proofs.Common.{◌≡◌, ◌∙◌, ◌+◌, ◌<◌, ◌≤◌,
 use Rattle.std.proofs.lemmas.Bool.{cases_lt}
 use Rattle.std.proofs.lemmas.Grind.{get_or-set_at}
 use Rattle.std.proofs.lemmas.List.{get_or-set_other}
-use Rattle.std.proofs.lemmas.List.Folds.{Any-from_list_any, list_any_at}
-use Rattle.std.proofs.lemmas.List.FromFn.{get_or-range_with_len, length-range_with_len}
 use Rattle.std.specs.List.{list_any, range_with_len}
 use Rattle.ladder_sheet.specs.Sheets.{some_below}
-
-pub or-true : (b : Bool) → (b || true) ≡ true
-or-true true = refl
-or-true false = refl
 
 or-false : (b : Bool) → (b || false) ≡ b
 or-false true = refl
@@ -46,15 +40,3 @@ set_more f xs i x long here before k h = ⊎_elim
     (λ (l : k < i). get_or-set_other xs i k x false (λ e. omega (arith, l, e)) ∙ before k l)
     (λ (l : i ≤ k). let e : k ≡ i = omega (arith, l, h) in get_or-set_at xs i k x false e long ∙ here ∙ ap f (sym e))
     (cases_lt k i)
-
--- a number that passes the test
-pub some_of : (test : ℕ → Bool) (n : ℕ) → some_below test n ≡ true → (k : ℕ) × (k < n) × (test k ≡ true)
-unfolding some_below
-some_of test n h =
-    let m = Any-from_list_any test (range_with_len 0 n) h in
-    let long : m.0 < n = omega (arith, m.2, length-range_with_len 0 n) in
-    (m.1, omega (arith, long, m.3, get_or-range_with_len 0 n m.0 m.1 long), m.4)
-
-pub some_at : (test : ℕ → Bool) (n k : ℕ) → k < n → test k ≡ true → some_below test n ≡ true
-unfolding some_below
-some_at test n k h e = list_any_at test (range_with_len 0 n) k k (omega (arith, h, length-range_with_len 0 n)) (ap test (get_or-range_with_len 0 n k k h ∙ omega arith) ∙ e)

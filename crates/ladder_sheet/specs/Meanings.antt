@@ -2,9 +2,7 @@
 use Rattle.std.specs.Prelude.{ℕ, slice_get, ◌*◌, ◌==◌, ◌||◌, nat_le, Bool, Option, Some, None, option_map, if◌then◌else◌}
 use Rattle.ladder_vars.specs.declared.kind.BlockKind.{BlockKind}
 use Rattle.ladder_vars.specs.declared.kind.BlockKind.TheVariants as kind
-use Rattle.ladder_page.specs.declared.mode.Mode.{Mode}
 use Rattle.ladder_page.specs.declared.mode.Mode.TheVariants as mode
-use Rattle.ladder_page.specs.declared.mode.CoilMode.{CoilMode}
 use Rattle.ladder_page.specs.declared.mode.CoilMode.TheVariants as coil
 use Rattle.ladder_clp.specs.declared.element.Element.{Element}
 use Rattle.ladder_clp.specs.declared.project.Project.{Project}
@@ -20,41 +18,26 @@ use Rattle.ladder_sheet.specs.declared.meaning.Source.TheVariants as source
 
 -- ---- kinds of elements
 
-abbrev pub contact_of : ℕ → Option Mode
-contact_of k =
-    if k == 1 then Some mode.Plain
-    else (if k == 2 then Some mode.Negated
-    else (if k == 3 then Some mode.Rising
-    else (if k == 4 then Some mode.Falling else None)))
-
-abbrev pub coil_of : ℕ → Option CoilMode
-coil_of k =
-    if k == 50 then Some coil.Store
-    else (if k == 51 then Some coil.Inverse
-    else (if k == 52 then Some coil.Set
-    else (if k == 53 then Some coil.Reset else None)))
-
-abbrev pub block_of : ℕ → Option BlockSort
-block_of k =
-    if k == 10 then Some sort.Timer
-    else (if k == 11 then Some sort.Monostable
-    else (if k == 13 then Some sort.IecTimer else None))
-
 -- Nothing, a part of a larger element (99), or a tool of the editor (from 100 on), which does nothing.
 abbrev pub is_blank_kind : ℕ → Bool
 is_blank_kind k = k == 0 || nat_le 99 k
 
-abbrev pub plain_of : ℕ → Meaning
-plain_of k =
+unfoldable pub meaning_of : ℕ → Meaning
+meaning_of k =
     if is_blank_kind k then meaning.Blank
+    else (if k == 1 then meaning.Contact mode.Plain
+    else (if k == 2 then meaning.Contact mode.Negated
+    else (if k == 3 then meaning.Contact mode.Rising
+    else (if k == 4 then meaning.Contact mode.Falling
     else (if k == 9 then meaning.Wire
-    else (if k == 54 then meaning.Jump else meaning.Other))
-
-abbrev pub unlike_contact : ℕ → Meaning
-unlike_contact k = elim (coil_of k) [ Some m ↦ meaning.Coil m | None ↦ elim (block_of k) [ Some s ↦ meaning.Block s | None ↦ plain_of k ] ]
-
-abbrev pub meaning_of : ℕ → Meaning
-meaning_of k = elim (contact_of k) [ Some m ↦ meaning.Contact m | None ↦ unlike_contact k ]
+    else (if k == 10 then meaning.Block sort.Timer
+    else (if k == 11 then meaning.Block sort.Monostable
+    else (if k == 13 then meaning.Block sort.IecTimer
+    else (if k == 50 then meaning.Coil coil.Store
+    else (if k == 51 then meaning.Coil coil.Inverse
+    else (if k == 52 then meaning.Coil coil.Set
+    else (if k == 53 then meaning.Coil coil.Reset
+    else (if k == 54 then meaning.Jump else meaning.Other)))))))))))))
 
 -- ---- what is opened
 
@@ -97,25 +80,21 @@ millis_of base =
     else (if base == 1 then Some 1000
     else (if base == 2 then Some 100 else None))
 
--- what an IEC timer is
-abbrev pub kind_of_mode : ℕ → Option BlockKind
-kind_of_mode n =
-    if n == 0 then Some kind.Ton
-    else (if n == 1 then Some kind.Tof
-    else (if n == 2 then Some kind.Tp else None))
+-- An old timer is an on-delay timer, a monostable a pulse timer; what an IEC timer is, its mode says.
+abbrev pub kind_of : BlockSort → ℕ → Option BlockKind
+kind_of sort.Timer mode = Some kind.Ton
+kind_of sort.Monostable mode = Some kind.Tp
+kind_of sort.IecTimer mode =
+    if mode == 0 then Some kind.Ton
+    else (if mode == 1 then Some kind.Tof
+    else (if mode == 2 then Some kind.Tp else None))
 
 abbrev pub timed : Option BlockKind → Preset → Option Timed
 timed (Some k) p = option_map (λ ms. record { kind = k; preset = ms * p.count }) (millis_of p.base)
 timed None p = None
 
--- An old timer is an on-delay timer, a monostable a pulse timer.
-abbrev pub kind_of_sort : BlockSort → Preset → Option BlockKind
-kind_of_sort sort.Timer p = Some kind.Ton
-kind_of_sort sort.Monostable p = Some kind.Tp
-kind_of_sort sort.IecTimer p = kind_of_mode p.mode
-
 abbrev pub timed_as : BlockSort → Option Preset → Option Timed
-timed_as s (Some p) = timed (kind_of_sort s p) p
+timed_as s (Some p) = timed (kind_of s p.mode) p
 timed_as s None = None
 
 -- the entry with a number in the table of such blocks

@@ -19,7 +19,7 @@ some_below test n = list_any test (range_with_len 0 n)
 
 -- ---- elements
 
-abbrev pub element_at : List Element → ℕ → ℕ → Element
+unfoldable pub element_at : List Element → ℕ → ℕ → Element
 element_at es r c = slice_index_or es (COLUMNS * r + c) (record { kind = 0; link = 0; class = 0; number = 0 })
 
 abbrev pub is_blank_at : List Element → ℕ → ℕ → Bool
@@ -44,7 +44,7 @@ abbrev pub is_before_block : List Element → ℕ → ℕ → Bool
 is_before_block es r c = nat_lt (c + 1) COLUMNS && is_block (meaning_of (element_at es r (c + 1)).kind)
 
 -- The place is a part of an element whose place is to the right.
-abbrev pub is_left_half : Reading → List Element → ℕ → ℕ → Bool
+unfoldable pub is_left_half : Reading → List Element → ℕ → ℕ → Bool
 is_left_half reading es r c = is_before_block es r c || is_before_compare reading es r c
 
 -- below an old timer is its second output, which is ON while it runs
@@ -74,7 +74,7 @@ stopped_as reading es r c (meaning.Block sort.Timer) = if is_stopped reading es 
 stopped_as reading es r c m = m
 
 -- What an element means: power goes through the left half of a block or a compare as through a wire.
-abbrev pub meaning_at : Reading → List Element → ℕ → ℕ → Meaning
+unfoldable pub meaning_at : Reading → List Element → ℕ → ℕ → Meaning
 meaning_at reading es r c =
     if is_left_half reading es r c then (if is_blank_at es r c then meaning.Wire else meaning.Other) else stopped_as reading es r c (element_meaning reading (element_at es r c))
 

@@ -1,14 +1,14 @@
 //! Which element of ClassicLadder means what.
 
 ghost use Rattle.std.specs.Prelude.{◌≡◌, ◌≤◌, IfSome, option_map};
-ghost use Rattle.ladder_sheet.specs.Meanings.{block_of, coil_of, contact_of, element_meaning, entry_of, is_blank_kind, is_compare_kind, kind_of_mode, kind_of_sort, meaning_of, millis_of, opened_as, plain_of, source_of, step_as, timed_as, unlike_contact};
+ghost use Rattle.ladder_sheet.specs.Meanings.{element_meaning, entry_of, is_blank_kind, is_compare_kind, kind_of, meaning_of, millis_of, opened_as, source_of, step_as, timed_as};
 
 use ladder_clp::{Element, Preset, Project, Reading};
 use ladder_page::{CoilMode, Mode};
 use ladder_vars::BlockKind;
 
 /// The blocks that are carried over.
-#[derive(Clone, Copy, Debug, PartialEq, Eq, PartialOrd, Ord)]
+#[derive(Clone, Copy, PartialEq, Eq, PartialOrd, Ord)]
 pub enum BlockSort {
     /// A timer of the old sort, `%T`.
     Timer,
@@ -19,14 +19,14 @@ pub enum BlockSort {
 }
 
 /// A block of a project.
-#[derive(Clone, Copy, Debug, PartialEq, Eq)]
+#[derive(Clone, Copy, PartialEq, Eq)]
 pub struct BlockRef {
     pub sort: BlockSort,
     pub number: u32,
 }
 
 /// What an element means.
-#[derive(Clone, Copy, Debug, PartialEq, Eq)]
+#[derive(Clone, Copy, PartialEq, Eq)]
 pub enum Meaning {
     /// It does nothing.
     Blank,
@@ -46,7 +46,7 @@ pub enum Meaning {
 }
 
 /// What a contact reads or a coil writes.
-#[derive(Clone, Copy, Debug, PartialEq, Eq, PartialOrd, Ord)]
+#[derive(Clone, Copy, PartialEq, Eq, PartialOrd, Ord)]
 pub enum Source {
     /// `%I`.
     Input,
@@ -60,91 +60,33 @@ pub enum Source {
     Other,
 }
 
-fn contact_of(kind: u32) -> Option<Mode>
-    ensures { result ≡ contact_of kind }
-{
-    if kind == 1 {
-        Some(Mode::Plain)
-    } else if kind == 2 {
-        Some(Mode::Negated)
-    } else if kind == 3 {
-        Some(Mode::Rising)
-    } else if kind == 4 {
-        Some(Mode::Falling)
-    } else {
-        None
-    }
-}
-
-fn coil_of(kind: u32) -> Option<CoilMode>
-    ensures { result ≡ coil_of kind }
-{
-    if kind == 50 {
-        Some(CoilMode::Store)
-    } else if kind == 51 {
-        Some(CoilMode::Inverse)
-    } else if kind == 52 {
-        Some(CoilMode::Set)
-    } else if kind == 53 {
-        Some(CoilMode::Reset)
-    } else {
-        None
-    }
-}
-
-fn block_of(kind: u32) -> Option<BlockSort>
-    ensures { result ≡ block_of kind }
-{
-    if kind == 10 {
-        Some(BlockSort::Timer)
-    } else if kind == 11 {
-        Some(BlockSort::Monostable)
-    } else if kind == 13 {
-        Some(BlockSort::IecTimer)
-    } else {
-        None
-    }
-}
-
 pub(crate) fn is_blank_kind(kind: u32) -> bool
     ensures { result ≡ is_blank_kind kind }
 {
     kind == 0 || kind >= 99
 }
 
-fn plain_of(kind: u32) -> Meaning
-    ensures { result ≡ plain_of kind }
-{
-    if is_blank_kind(kind) {
-        Meaning::Blank
-    } else if kind == 9 {
-        Meaning::Wire
-    } else if kind == 54 {
-        Meaning::Jump
-    } else {
-        Meaning::Other
-    }
-}
-
-fn unlike_contact(kind: u32) -> Meaning
-    ensures { result ≡ unlike_contact kind }
-{
-    match coil_of(kind) {
-        Some(mode) => Meaning::Coil(mode),
-        None => match block_of(kind) {
-            Some(sort) => Meaning::Block(sort),
-            None => plain_of(kind),
-        },
-    }
-}
-
 /// What an element of this kind means.
+#[tactic(auto, unfolding(crate::specs::Meanings::meaning_of))]
 pub fn meaning_of(kind: u32) -> Meaning
     ensures { result ≡ meaning_of kind }
 {
-    match contact_of(kind) {
-        Some(mode) => Meaning::Contact(mode),
-        None => unlike_contact(kind),
+    match kind {
+        0 | 99.. => Meaning::Blank,
+        1 => Meaning::Contact(Mode::Plain),
+        2 => Meaning::Contact(Mode::Negated),
+        3 => Meaning::Contact(Mode::Rising),
+        4 => Meaning::Contact(Mode::Falling),
+        9 => Meaning::Wire,
+        10 => Meaning::Block(BlockSort::Timer),
+        11 => Meaning::Block(BlockSort::Monostable),
+        13 => Meaning::Block(BlockSort::IecTimer),
+        50 => Meaning::Coil(CoilMode::Store),
+        51 => Meaning::Coil(CoilMode::Inverse),
+        52 => Meaning::Coil(CoilMode::Set),
+        53 => Meaning::Coil(CoilMode::Reset),
+        54 => Meaning::Jump,
+        _ => Meaning::Other,
     }
 }
 
@@ -201,20 +143,14 @@ pub(crate) fn element_meaning(reading: Reading, element: Element) -> Meaning
 pub fn source_of(class: u32) -> Source
     ensures { result ≡ source_of class }
 {
-    if class == 50 {
-        Source::Input
-    } else if class == 60 {
-        Source::Output
-    } else if class == 0 {
-        Source::Memory
-    } else if class == 10 {
-        Source::Done(BlockSort::Timer)
-    } else if class == 20 {
-        Source::Done(BlockSort::Monostable)
-    } else if class == 15 {
-        Source::Done(BlockSort::IecTimer)
-    } else {
-        Source::Other
+    match class {
+        0 => Source::Memory,
+        10 => Source::Done(BlockSort::Timer),
+        15 => Source::Done(BlockSort::IecTimer),
+        20 => Source::Done(BlockSort::Monostable),
+        50 => Source::Input,
+        60 => Source::Output,
+        _ => Source::Other,
     }
 }
 
@@ -222,38 +158,26 @@ fn millis_of(base: u32) -> Option<u64>
     ensures value { result ≡ millis_of base }
     ensures few { IfSome result (λ n. n ≤ 60000) }
 {
-    if base == 0 {
-        Some(60000)
-    } else if base == 1 {
-        Some(1000)
-    } else if base == 2 {
-        Some(100)
-    } else {
-        None
+    match base {
+        0 => Some(60000),
+        1 => Some(1000),
+        2 => Some(100),
+        _ => None,
     }
 }
 
-fn kind_of_mode(mode: u32) -> Option<BlockKind>
-    ensures { result ≡ kind_of_mode mode }
-{
-    if mode == 0 {
-        Some(BlockKind::Ton)
-    } else if mode == 1 {
-        Some(BlockKind::Tof)
-    } else if mode == 2 {
-        Some(BlockKind::Tp)
-    } else {
-        None
-    }
-}
-
-fn kind_of_sort(sort: BlockSort, preset: Preset) -> Option<BlockKind>
-    ensures { result ≡ kind_of_sort sort preset }
+fn kind_of(sort: BlockSort, mode: u32) -> Option<BlockKind>
+    ensures { result ≡ kind_of sort mode }
 {
     match sort {
         BlockSort::Timer => Some(BlockKind::Ton),
         BlockSort::Monostable => Some(BlockKind::Tp),
-        BlockSort::IecTimer => kind_of_mode(preset.mode),
+        BlockSort::IecTimer => match mode {
+            0 => Some(BlockKind::Ton),
+            1 => Some(BlockKind::Tof),
+            2 => Some(BlockKind::Tp),
+            _ => None,
+        },
     }
 }
 
@@ -269,13 +193,19 @@ pub struct Timed {
 pub fn timed_as(sort: BlockSort, preset: Option<Preset>) -> Option<Timed>
     ensures { result ≡ timed_as sort preset }
 {
-    let preset = preset?;
-    let kind = kind_of_sort(sort, preset)?;
-    let millis = millis_of(preset.base)?;
-    Some(Timed {
-        kind,
-        preset: millis * u64::from(preset.count),
-    })
+    let Some(preset) = preset else {
+        return None;
+    };
+    let Some(kind) = kind_of(sort, preset.mode) else {
+        return None;
+    };
+    match millis_of(preset.base) {
+        Some(millis) => Some(Timed {
+            kind,
+            preset: millis * u64::from(preset.count),
+        }),
+        None => None,
+    }
 }
 
 /// The entry with a number in the table of such blocks.
@@ -283,9 +213,9 @@ pub fn entry_of(project: &Project<'_>, sort: BlockSort, number: usize) -> Option
     ensures { result ≡ entry_of project.now sort number }
 {
     let table = match sort {
-        BlockSort::Timer => project.timers.as_slice(),
-        BlockSort::Monostable => project.monostables.as_slice(),
-        BlockSort::IecTimer => project.iec_timers.as_slice(),
+        BlockSort::Timer => &project.timers,
+        BlockSort::Monostable => &project.monostables,
+        BlockSort::IecTimer => &project.iec_timers,
     };
-    table.get(number).copied()
+    table.as_slice().get(number).copied()
 }

@@ -2,7 +2,7 @@
 
 ghost use Rattle.std.specs.Prelude.{◌≡◌, ◌+◌, ◌-◌, ◌<◌, ◌≤◌, ◌&&◌};
 ghost use Rattle.ladder_page.specs.declared.geometry.TheConstants.{COLUMNS, ROWS};
-ghost use Rattle.ladder_sheet.specs.Reach.{AreLeaving, AreReached, IsPower};
+ghost use Rattle.ladder_sheet.specs.Reach.{AreReached, IsPower};
 ghost use Rattle.ladder_sheet.specs.Sheets.{are_tied, brings, fed, is_run, passes, reached, some_below, tied};
 
 use crate::meaning::Meaning;
@@ -75,89 +75,6 @@ fn brings(
         || is_running(elements, row, column) && above
 }
 
-/// From which rows of the column power can go on to the next one; `here`: to which it can come.
-fn leaving(
-    reading: Reading,
-    elements: &[Element],
-    column: usize,
-    here: &[bool; ROWS],
-) -> [bool; ROWS]
-    requires columns { column < COLUMNS }
-    requires here { AreReached reading elements.now column here.now }
-    ensures { AreLeaving reading elements.now column result }
-{
-    let mut leaving = [false; ROWS];
-    for row in 0..ROWS {
-        leaving[row] = brings(
-            reading,
-            elements,
-            row,
-            column,
-            here[row],
-            here[row.saturating_sub(1)],
-        );
-    }
-    leaving
-}
-
-/// Whether power comes from a row of the column, which it can leave or not, to a row in the next one.
-fn comes(elements: &[Element], row: usize, column: usize, from: usize, leaves: bool) -> bool
-    requires rows { (row < ROWS) × (from < ROWS) }
-    requires columns { column + 1 < COLUMNS }
-    ensures { result ≡ (leaves && are_tied elements.now row (column + 1) from) }
-{
-    leaves && are_tied(elements, row, column + 1, from)
-}
-
-/// Whether power can come to the row in the next column; `leaving`: from which rows it can leave this one.
-fn reaches(
-    reading: Reading,
-    elements: &[Element],
-    row: usize,
-    column: usize,
-    leaving: &[bool; ROWS],
-) -> bool
-    requires rows { row < ROWS }
-    requires columns { column + 1 < COLUMNS }
-    requires leaving { AreLeaving reading elements.now column leaving.now }
-    ensures { result ≡ reached reading elements.now (column + 1) row }
-{
-    let mut found = false;
-    for from in 0..ROWS {
-        found = either(found, comes(elements, row, column, from, leaving[from]));
-    }
-    found
-}
-
-fn reached_next(
-    reading: Reading,
-    elements: &[Element],
-    column: usize,
-    before: &[bool; ROWS],
-) -> [bool; ROWS]
-    requires columns { column + 1 < COLUMNS }
-    requires before { AreReached reading elements.now column before.now }
-    ensures { AreReached reading elements.now (column + 1) result }
-{
-    let leaving = leaving(reading, elements, column, before);
-    let mut reached = [false; ROWS];
-    for row in 0..ROWS {
-        reached[row] = reaches(reading, elements, row, column, &leaving);
-    }
-    reached
-}
-
-/// Where power can come to, found column by column.
-pub fn power_of(reading: Reading, elements: &[Element]) -> Power
-    ensures { IsPower reading elements.now result }
-{
-    let mut power = [[true; ROWS]; COLUMNS];
-    for column in 0..COLUMNS - 1 {
-        power[column + 1] = reached_next(reading, elements, column, &power[column]);
-    }
-    power
-}
-
 /// Whether power can come to the left of the element from the row; `before`: where it can come to in the column before.
 pub fn fed(
     reading: Reading,
@@ -178,6 +95,54 @@ pub fn fed(
     let (here, above) = (before[from], before[from.saturating_sub(1)]);
     brings(reading, elements, from, column - 1, here, above)
         && are_tied(elements, row, column, from)
+}
+
+/// Whether power can come to the row in the column; `before`: where it can come to in the column before.
+fn reaches(
+    reading: Reading,
+    elements: &[Element],
+    row: usize,
+    column: usize,
+    before: &[bool; ROWS],
+) -> bool
+    requires rows { row < ROWS }
+    requires columns { (1 ≤ column) × (column < COLUMNS) }
+    requires before { AreReached reading elements.now (column - 1) before.now }
+    ensures { result ≡ reached reading elements.now column row }
+{
+    let mut found = false;
+    for from in 0..ROWS {
+        found = either(found, fed(reading, elements, row, column, from, before));
+    }
+    found
+}
+
+fn reached_in(
+    reading: Reading,
+    elements: &[Element],
+    column: usize,
+    before: &[bool; ROWS],
+) -> [bool; ROWS]
+    requires columns { (1 ≤ column) × (column < COLUMNS) }
+    requires before { AreReached reading elements.now (column - 1) before.now }
+    ensures { AreReached reading elements.now column result }
+{
+    let mut reached = [false; ROWS];
+    for row in 0..ROWS {
+        reached[row] = reaches(reading, elements, row, column, before);
+    }
+    reached
+}
+
+/// Where power can come to, found column by column.
+pub fn power_of(reading: Reading, elements: &[Element]) -> Power
+    ensures { IsPower reading elements.now result }
+{
+    let mut power = [[true; ROWS]; COLUMNS];
+    for column in 1..COLUMNS {
+        power[column] = reached_in(reading, elements, column, &power[column - 1]);
+    }
+    power
 }
 
 fn is_run(

@@ -28,6 +28,7 @@ pub(crate) fn either(a: bool, b: bool) -> bool
 }
 
 /// The element at a place.
+#[tactic(auto, unfolding(crate::specs::Sheets::element_at))]
 pub fn element_at(elements: &[Element], row: usize, column: usize) -> Element
     requires { (row ≤ ROWS) × (column < COLUMNS) }
     ensures { result ≡ element_at elements.now row column }
@@ -96,6 +97,7 @@ fn is_before_block(elements: &[Element], row: usize, column: usize) -> bool
 }
 
 /// Whether the place is a part of an element whose place is to the right.
+#[tactic(auto, unfolding(crate::specs::Sheets::is_left_half))]
 fn is_left_half(reading: Reading, elements: &[Element], row: usize, column: usize) -> bool
     requires { (row ≤ ROWS) × (column < COLUMNS) }
     ensures { result ≡ is_left_half reading elements.now row column }
@@ -181,6 +183,7 @@ fn stopped_as(
 }
 
 /// What the element at a place means.
+#[tactic(auto, unfolding(crate::specs::Sheets::meaning_at))]
 pub fn meaning_at(reading: Reading, elements: &[Element], row: usize, column: usize) -> Meaning
     requires { (row ≤ ROWS) × (column < COLUMNS) }
     ensures { result ≡ meaning_at reading elements.now row column }

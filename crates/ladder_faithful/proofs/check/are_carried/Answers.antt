@@ -1,8 +1,15 @@
-use Rattle.std.proofs.Common.{arith, below_more}
+use Rattle.std.proofs.Common.{arith, below_more, subst}
+use Rattle.std.proofs.lemmas.Option.{get_or_from_slice_get}
+use Rattle.ladder_clp.specs.declared.order.Placed.{Placed}
+use Rattle.ladder_faithful.specs.Carried.{IsRungCarried}
 use Rattle.ladder_faithful.proofs.check.are_carried.Goals as goal
 
 pub loop-rung-preserved : goal.loop-rung-preserved
-loop-rung-preserved c = below_more _ _ c.loop-rung.invariant (c.is_carried_at.ensures c.if-not-is_carried_at.false)
+loop-rung-preserved c =
+    let rungs = c.args.rungs.now in
+    let rung = c.loop-rung.rung in
+    below_more _ _ c.loop-rung.invariant (λ x is. subst (λ (y : Placed). IsRungCarried c.args.reading c.args.program.now rungs c.args.blocks.now rung y)
+    (get_or_from_slice_get rungs rung x _ is) (c.is_rung_carried.ensures c.if-not-is_rung_carried.false))
 
 pub returns : goal.returns
 returns c = λ same k below. c.loop-rung.invariant k (omega (arith, below, c.loop-rung-test.false))

@@ -2,5 +2,5 @@ use Rattle.std.proofs.Common.{All}
 use Rattle.ladder_import.specs.Refusals.{IsThere}
 use Rattle.ladder_import.proofs.refusal.add_rung.Given as goal
 
-abbrev pub invariant-loop-row : goal.invariant-loop-row
-invariant-loop-row l = All (IsThere l.reading l.project.rungs.items) l.refusals.items
+abbrev pub invariant-loop-place : goal.invariant-loop-place
+invariant-loop-place l = All (IsThere l.reading l.project.rungs.items) l.refusals.items
