@@ -11,14 +11,16 @@ use ladder_hal::Link;
 use ladder_sheet::BlockRef;
 use ladder_vars::limits::{MOST_INSTANCES, MOST_VARS};
 use std::alloc::{AllocError, Global};
+use thiserror::Error;
 
 /// Why a project has no draft.
-#[derive(Clone, Copy)]
+#[derive(Clone, Copy, Debug, Error)]
 pub enum DraftFault {
+    #[error("out of memory")]
     Memory,
-    /// There are more than 256 variables.
+    #[error("there are more than 256 variables")]
     TooManyVars,
-    /// There are more than 64 blocks.
+    #[error("there are more than 64 blocks")]
     TooManyBlocks,
 }
 

@@ -17,21 +17,22 @@ use ladder_page::geometry::RUNGS;
 use ladder_sheet::BlockRef;
 use ladder_vars::VarRule;
 use std::alloc::Global;
+use thiserror::Error;
 
 /// Why a project has no program text.
-#[derive(Clone, Copy)]
+#[derive(Clone, Copy, Debug, Error)]
 pub enum ImportFault {
-    /// Out of memory.
+    #[error("out of memory")]
     Memory,
-    /// There are elements that can't be carried over.
+    #[error("there are elements that can't be carried over")]
     Refused,
-    /// There are more than 100 rungs.
+    #[error("there are more than 100 rungs")]
     TooManyRungs,
-    /// There are more than 256 variables.
+    #[error("there are more than 256 variables")]
     TooManyVars,
-    /// There are more than 64 blocks.
+    #[error("there are more than 64 blocks")]
     TooManyBlocks,
-    /// The text that was written isn't the project.
+    #[error("the text that was written isn't the project")]
     NotFaithful,
 }
 

@@ -220,8 +220,8 @@ fn large_number(element: Element) -> Option<Reason> {
 fn count_of(blocks: &[BlockRef], sort: BlockSort, number: u32) -> usize {
     let block = BlockRef { sort, number };
     let mut count = 0usize;
-    for place in 0..blocks.len() {
-        if blocks[place] == block {
+    for other in blocks {
+        if *other == block {
             count = count.saturating_add(1);
         }
     }
@@ -378,8 +378,8 @@ fn is_blank(meaning: Meaning) -> bool {
 /// Whether an element of the rung is of a kind that can't be carried over. Where power comes from there isn't known, so that others
 /// behind it may have it.
 fn has_refused_kind(reading: Reading, project: &Project<'_>, elements: &[Element]) -> bool {
-    for place in 0..elements.len() {
-        if kind_reason(reading, project, elements[place]).is_some() {
+    for element in elements {
+        if kind_reason(reading, project, *element).is_some() {
             return true;
         }
     }
