@@ -1,13 +1,14 @@
 //! The import of a project.
 
-ghost use Rattle.std.specs.Prelude.{◌≡◌, ◌≤◌};
+ghost use Rattle.std.specs.Prelude.{◌≡◌, ◌≤◌, IfErr, IfOk};
 ghost use Rattle.ladder_clp.specs.Project.{IsProject};
+ghost use Rattle.ladder_import.specs.Import.{HasText, IsFault};
 ghost use Rattle.ladder_text.specs.Log.{PutsAll};
 ghost use Rattle.ladder_carry.specs.Carrying.{BreaksCarrying, Carries};
 
 use crate::faults::{write_import_fault, write_project_fault, write_refusals};
 use ladder_clp::{Project, Reading, read_project};
-use ladder_hal::{Link, joined, links_in};
+use ladder_hal::{joined, links_in};
 use ladder_import::{ImportFault, import, refusals};
 use ladder_setting::{ToolFault, report_unread};
 use ladder_text::{Sink, WriteFault, put};
@@ -23,33 +24,27 @@ fn told(written: Result<(), WriteFault>) -> u8
     }
 }
 
-/// Writes the program text of a project none of whose elements is refused.
-fn carry_whole<O: Sink, E: Sink>(
+/// The program text of a project, with names from a HAL file.
+fn text_of(
     alloc: Global,
     reading: Reading,
-    why: bool,
-    text: &[u8],
     project: &Project<'_>,
-    links: &[Link<'_>],
-    out: &mut O,
-    err: &mut E,
-) -> u8
-    requires { IsProject reading text.now project.now }
-    ensures status { result ≤ 1 }
-    ensures done { result ≡ 0 → Carries reading text.now (PutsAll (O.log out.old) (O.log out.new)) × (E.log err.new ≡ E.log err.old) }
-    ensures failed { result ≡ 1 → BreaksCarrying reading why text.now (O.log out.old) (O.log out.new) (E.log err.old) (E.log err.new) }
+    hal: &[u8],
+) -> Result<Vec<u8>, ImportFault>
+    ensures carried { IfOk result (λ v. HasText reading project.now v.items) }
+    ensures fault { IfErr result (λ e. IsFault reading project.now e) }
 {
-    match import(alloc, reading, project, links) {
-        Ok(drawn) => match put(out, &drawn) {
-            Ok(()) => 0,
-            Err(_) => report_unread(why, &ToolFault::Write, err),
-        },
-        Err(fault) => told(write_import_fault(why, fault, err)),
+    let Ok(lines) = joined(alloc, hal) else {
+        return Err(ImportFault::Memory);
+    };
+    match links_in(alloc, &lines) {
+        Ok(links) => import(alloc, reading, project, &links),
+        Err(_) => Err(ImportFault::Memory),
     }
 }
 
-/// Writes the program text of a project none of whose elements is refused, with names from a HAL file.
-fn carry_named<O: Sink, E: Sink>(
+/// Writes the program text of a project none of whose elements is refused.
+fn carry_whole<O: Sink, E: Sink>(
     alloc: Global,
     reading: Reading,
     why: bool,
@@ -64,12 +59,12 @@ fn carry_named<O: Sink, E: Sink>(
     ensures done { result ≡ 0 → Carries reading text.now (PutsAll (O.log out.old) (O.log out.new)) × (E.log err.new ≡ E.log err.old) }
     ensures failed { result ≡ 1 → BreaksCarrying reading why text.now (O.log out.old) (O.log out.new) (E.log err.old) (E.log err.new) }
 {
-    let Ok(lines) = joined(alloc, hal) else {
-        return told(write_import_fault(why, ImportFault::Memory, err));
-    };
-    match links_in(alloc, &lines) {
-        Ok(links) => carry_whole(alloc, reading, why, text, project, &links, out, err),
-        Err(_) => told(write_import_fault(why, ImportFault::Memory, err)),
+    match text_of(alloc, reading, project, hal) {
+        Ok(drawn) => match put(out, &drawn) {
+            Ok(()) => 0,
+            Err(_) => report_unread(why, &ToolFault::Write, err),
+        },
+        Err(fault) => told(write_import_fault(why, fault, err)),
     }
 }
 
@@ -92,7 +87,7 @@ fn carry_project<O: Sink, E: Sink>(
     match refusals(alloc, reading, project) {
         Ok(refused) => {
             if refused.is_empty() {
-                return carry_named(alloc, reading, why, text, project, hal, out, err);
+                return carry_whole(alloc, reading, why, text, project, hal, out, err);
             }
             told(write_refusals(why, &refused, err))
         }

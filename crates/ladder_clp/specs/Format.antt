@@ -19,11 +19,11 @@ after_blanks [] = []
 after_blanks (b ∷ bs) = if is_blank b then after_blanks bs else b ∷ bs
 
 -- what stands before the first such mark, or all where there is none
-abbrev pub before : ℕ → List ℕ → List ℕ
+unfoldable pub before : ℕ → List ℕ → List ℕ
 before mark text = take (prefix_len (λ b. not (b == mark)) text) text
 
 -- what stands behind it, or nothing where there is none
-abbrev pub behind : ℕ → List ℕ → List ℕ
+unfoldable pub behind : ℕ → List ℕ → List ℕ
 behind mark text = drop (prefix_len (λ b. not (b == mark)) text + 1) text
 
 -- the number that digits spell, the first one weighing most; 48 is the digit 0
@@ -31,27 +31,27 @@ abbrev pub number_of : List ℕ → ℕ
 number_of digits = fold (λ n b. n * 10 + (b - 48)) 0 digits
 
 -- digits at the start, of a number below 2 ^ 32, and blanks up to the end
-abbrev pub number_at : List ℕ → Option ℕ
+unfoldable pub number_at : List ℕ → Option ℕ
 number_at text =
     let count = prefix_len is_ascii_digit text in
     if nat_le 1 count && (are_blank (drop count text) && nat_lt (number_of (take count text)) (2 ^ 32)) then Some (number_of (take count text)) else None
 
 -- the number that a field is, with blanks on either side
-abbrev pub number_in : List ℕ → Option ℕ
+unfoldable pub number_in : List ℕ → Option ℕ
 number_in field = number_at (after_blanks field)
 
 -- the number that a field is, or `-1`, which stands for none
-abbrev pub other_in : List ℕ → Option (Option ℕ)
+unfoldable pub other_in : List ℕ → Option (Option ℕ)
 other_in field =
     if starts_with nat_eq (after_blanks field) (codes "-1") && are_blank (drop 2 (after_blanks field)) then Some None
     else option_map (λ n. Some n) (number_in field)
 
 -- The line is this word, with blanks behind it.
-abbrev pub is_line : List ℕ → List ℕ → Bool
+unfoldable pub is_line : List ℕ → List ℕ → Bool
 is_line word line = starts_with nat_eq line word && are_blank (drop (length word) line)
 
 -- A line that begins with `#` (35) or `;` (59), and a blank one, has no data.
-abbrev pub is_data : List ℕ → Bool
+unfoldable pub is_data : List ℕ → Bool
 is_data [] = false
 is_data (b ∷ bs) = not (b == 35 || (b == 59 || are_blank (b ∷ bs)))
 

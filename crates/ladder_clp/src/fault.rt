@@ -7,7 +7,7 @@ use std::alloc::{AllocError, AllocFailed};
 use thiserror::Error;
 
 /// The tables of a project that are read line by line.
-#[derive(Clone, Copy, Debug, PartialEq, Eq)]
+#[derive(Clone, Copy, Debug)]
 pub enum Table {
     /// `timers.csv`.
     Timers,
@@ -20,7 +20,7 @@ pub enum Table {
 }
 
 /// Why a text is no project that can be read.
-#[derive(Clone, Copy, Debug, Drop, Error, PartialEq, Eq)]
+#[derive(Clone, Copy, Debug, Error)]
 pub enum ClpFault {
     #[error("out of memory")]
     Memory,

@@ -13,7 +13,8 @@ mod table;
 
 pub use element::Element;
 pub use fault::{ClpFault, Table};
-pub use number::number_in;
+pub use lines::lines_of;
+pub use number::{before, number_in};
 pub use order::Placed;
 pub use project::{Project, read_project};
 pub use reading::Reading;

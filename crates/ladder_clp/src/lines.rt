@@ -9,7 +9,7 @@ use crate::number::are_blank;
 use std::alloc::{AllocError, Global};
 
 /// The lines of a text, without their line feeds.
-pub(crate) fn lines_of(alloc: Global, text: &[u8]) -> Result<Vec<&[u8]>, AllocError>
+pub fn lines_of(alloc: Global, text: &[u8]) -> Result<Vec<&[u8]>, AllocError>
     ensures { IfOk result (λ v. map (λ l. l.now) v.items ≡ lines_of text.now) }
 {
     text.split(|b| *b == b'\n').collect(alloc)
@@ -23,6 +23,7 @@ pub(crate) fn fields_of(alloc: Global, line: &[u8]) -> Result<Vec<&[u8]>, AllocE
 }
 
 /// Whether the line is this word, with blanks behind it.
+#[tactic(auto, unfolding(crate::specs::Format::is_line))]
 pub(crate) fn is_line(word: &[u8], line: &[u8]) -> bool
     ensures { result ≡ is_line word.now line.now }
 {
@@ -30,6 +31,7 @@ pub(crate) fn is_line(word: &[u8], line: &[u8]) -> bool
 }
 
 /// Whether the line has data.
+#[tactic(auto, unfolding(crate::specs::Format::is_data))]
 pub(crate) fn is_data(line: &[u8]) -> bool
     ensures { result ≡ is_data line.now }
 {

@@ -40,13 +40,15 @@ fn length_before(mark: u8, text: &[u8]) -> usize
 }
 
 /// What stands before the first such mark.
-pub(crate) fn before(mark: u8, text: &[u8]) -> &[u8]
+#[tactic(auto, unfolding(crate::specs::Format::before))]
+pub fn before(mark: u8, text: &[u8]) -> &[u8]
     ensures { result.now ≡ before mark text.now }
 {
     &text[..length_before(mark, text)]
 }
 
 /// What stands behind the first such mark.
+#[tactic(auto, unfolding(crate::specs::Format::behind))]
 pub(crate) fn behind(mark: u8, text: &[u8]) -> &[u8]
     ensures { result.now ≡ behind mark text.now }
 {
@@ -83,6 +85,7 @@ fn digits_len(text: &[u8]) -> usize
     text.iter().take_while(|b| b.is_ascii_digit()).count()
 }
 
+#[tactic(auto, unfolding(crate::specs::Format::number_at))]
 fn number_at(text: &[u8]) -> Option<u32>
     ensures { result ≡ number_at text.now }
 {
@@ -96,6 +99,7 @@ fn number_at(text: &[u8]) -> Option<u32>
 }
 
 /// The number that a field is.
+#[tactic(auto, unfolding(crate::specs::Format::number_in))]
 pub fn number_in(field: &[u8]) -> Option<u32>
     ensures { result ≡ number_in field.now }
 {
@@ -103,6 +107,7 @@ pub fn number_in(field: &[u8]) -> Option<u32>
 }
 
 /// The number that a field is, or `-1`, which stands for none.
+#[tactic(auto, unfolding(crate::specs::Format::other_in, crate::specs::Format::number_in))]
 pub(crate) fn other_in(field: &[u8]) -> Option<Option<u32>>
     ensures { result ≡ other_in field.now }
 {

@@ -1,7 +1,7 @@
 -- A HAL file: which signals it connects with pins of ClassicLadder.
-use Rattle.std.specs.Prelude.{ℕ, ◌==◌, ◌&&◌, ◌||◌, ◌++◌, nat_eq, not, Bool, List, [], ◌∷◌, length, take, drop, codes, Option, Some, None, option_map, if◌then◌else◌}
-use Rattle.std.specs.List.{prefix_len, slice_split, starts_with}
-use Rattle.ladder_clp.specs.Format.{number_in}
+use Rattle.std.specs.Prelude.{ℕ, ◌==◌, ◌&&◌, ◌||◌, ◌++◌, nat_eq, Bool, List, [], ◌∷◌, length, drop, codes, Option, Some, None, option_map, if◌then◌else◌}
+use Rattle.std.specs.List.{slice_split, starts_with}
+use Rattle.ladder_clp.specs.Format.{before, number_in}
 use Rattle.ladder_hal.specs.declared.links.Link.{Link}
 use Rattle.ladder_hal.specs.declared.pin.Pin.{Pin}
 use Rattle.ladder_hal.specs.declared.pin.Pin.TheVariants as pin
@@ -17,16 +17,9 @@ abbrev pub joined : Bool → List ℕ → List ℕ
 joined goes_on [] = []
 joined goes_on (b ∷ bs) = joined_byte goes_on b ∷ joined (b == 92) bs
 
-abbrev pub lines_of : List ℕ → List (List ℕ)
-lines_of text = slice_split (λ b. b == 10) text
-
 -- a space (32), a tab (9), the return before a line feed (13), or the backslash of a line that goes on
 abbrev pub is_blank : ℕ → Bool
 is_blank b = b == 32 || (b == 9 || (b == 13 || b == 92))
-
--- A remark begins at the first # (35) of a line.
-abbrev pub before_remark : List ℕ → List ℕ
-before_remark line = take (prefix_len (λ b. not (b == 35)) line) line
 
 abbrev pub parts_of : List ℕ → List (List ℕ)
 parts_of line = slice_split is_blank line
@@ -37,9 +30,9 @@ some_words [] = []
 some_words ([] ∷ ws) = some_words ws
 some_words ((b ∷ bs) ∷ ws) = (b ∷ bs) ∷ some_words ws
 
--- The words of a line stand between blanks, before a remark.
+-- The words of a line stand between blanks, before a remark, which begins at the first # (35).
 unfoldable pub words_of : List ℕ → List (List ℕ)
-words_of line = some_words (parts_of (before_remark line))
+words_of line = some_words (parts_of (before 35 line))
 
 -- ---- pins and signals
 

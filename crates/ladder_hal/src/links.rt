@@ -1,10 +1,12 @@
 //! Which signal is connected with which pin.
 
 ghost use Rattle.std.specs.Prelude.{◌≡◌, ◌++◌, IfOk, map};
-ghost use Rattle.ladder_hal.specs.Hal.{is_net, lines_of, link_of, links_in, links_of_words, links_to};
+ghost use Rattle.ladder_clp.specs.Format.{lines_of};
+ghost use Rattle.ladder_hal.specs.Hal.{is_net, link_of, links_in, links_of_words, links_to};
 
 use crate::pin::{Pin, pin_of};
-use crate::words::{lines_of, words_of};
+use crate::words::words_of;
+use ladder_clp::lines_of;
 use std::alloc::{AllocError, Global};
 
 /// A pin, and the name of the signal that it is connected with.

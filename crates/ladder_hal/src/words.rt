@@ -1,9 +1,9 @@
 //! The lines of a HAL file, and their words.
 
-ghost use Rattle.std.specs.Prelude.{◌≡◌, ◌≤◌, ◌==◌, IfOk, false, length, map, not};
-ghost use Rattle.std.specs.List.{prefix_len};
-ghost use Rattle.ladder_hal.specs.Hal.{before_remark, is_blank, joined, joined_byte, lines_of, parts_of, some_words, words_of};
+ghost use Rattle.std.specs.Prelude.{◌≡◌, IfOk, false, map};
+ghost use Rattle.ladder_hal.specs.Hal.{is_blank, joined, joined_byte, parts_of, some_words, words_of};
 
+use ladder_clp::before;
 use std::alloc::{AllocError, Global};
 
 fn is_blank(b: u8) -> bool
@@ -36,30 +36,10 @@ pub fn joined(alloc: Global, text: &[u8]) -> Result<Vec<u8>, AllocError>
     Ok(all)
 }
 
-/// The lines of a text, without their line feeds.
-pub(crate) fn lines_of(alloc: Global, text: &[u8]) -> Result<Vec<&[u8]>, AllocError>
-    ensures { IfOk result (λ v. map (λ l. l.now) v.items ≡ lines_of text.now) }
-{
-    text.split(|b| *b == b'\n').collect(alloc)
-}
-
 fn parts_of(alloc: Global, line: &[u8]) -> Result<Vec<&[u8]>, AllocError>
     ensures { IfOk result (λ v. map (λ l. l.now) v.items ≡ parts_of line.now) }
 {
     line.split(|b| is_blank(*b)).collect(alloc)
-}
-
-fn length_before_remark(line: &[u8]) -> usize
-    ensures value { result ≡ prefix_len (λ b. not (b == 35)) line.now }
-    ensures within { result ≤ length line.now }
-{
-    line.iter().take_while(|b| **b != b'#').count()
-}
-
-fn before_remark(line: &[u8]) -> &[u8]
-    ensures { result.now ≡ before_remark line.now }
-{
-    &line[..length_before_remark(line)]
 }
 
 /// The parts that aren't empty.
@@ -81,6 +61,6 @@ fn some_words<'a>(alloc: Global, mut parts: &[&'a [u8]]) -> Result<Vec<&'a [u8]>
 pub(crate) fn words_of(alloc: Global, line: &[u8]) -> Result<Vec<&[u8]>, AllocError>
     ensures { IfOk result (λ v. map (λ l. l.now) v.items ≡ words_of line.now) }
 {
-    let parts = parts_of(alloc, before_remark(line))?;
+    let parts = parts_of(alloc, before(b'#', line))?;
     some_words(alloc, &parts)
 }
