@@ -9,6 +9,10 @@ use crate::number::are_blank;
 use std::alloc::{AllocError, Global};
 
 /// The lines of a text, without their line feeds.
+///
+/// # Errors
+///
+/// An error when out of memory.
 pub fn lines_of(alloc: Global, text: &[u8]) -> Result<Vec<&[u8]>, AllocError>
     ensures { IfOk result (λ v. map (λ l. l.now) v.items ≡ lines_of text.now) }
 {
