@@ -1,5 +1,5 @@
 -- The numbers of what is named are those of declarations.
-use Rattle.std.proofs.Common.{◌≡◌, ℕ, ◌<◌, Bool, true, false, cond, List, length, codes, nat_lt, position, Option, Some, None, refl, ap, subst}
+use Rattle.std.proofs.Common.{◌≡◌, ℕ, ◌<◌, Bool, true, false, cond, List, length, take, ◌-◌, codes, nat_lt, position, Option, Some, None, refl, ap, subst}
 use Rattle.std.specs.List.{position_or_len}
 use Rattle.std.specs.Option.{option_or, option_map}
 use Rattle.std.proofs.lemmas.Bool.{ltb-true}
@@ -14,8 +14,7 @@ use Rattle.ladder_page.specs.declared.form.Form.TheVariants.{Empty, Wire, Contac
 use Rattle.ladder_vars.specs.declared.kind.Output.{Output}
 use Rattle.ladder_vars.specs.declared.kind.Output.TheVariants as output
 use Rattle.ladder_page.specs.declared.operand.Reference.{Reference}
-use Rattle.ladder_page.specs.Operand.{refer_to, ends_in, instance_on}
-use Rattle.ladder_page.specs.Suiting.{named, referred, without_end}
+use Rattle.ladder_page.specs.Operand.{reference, refer_to, ends_in, instance_on}
 
 none_some : {A : Type 0} {x : A} → None ≡ Some x → ⊥
 none_some h = cc
@@ -44,25 +43,28 @@ either_fits decls (Some i) b vars instances s h = subst (SymbolFits decls) (some
 either_fits decls None (Some i) vars instances s h = subst (SymbolFits decls) (some_symbol (Instance i) s h) (instances i refl)
 either_fits decls None None vars instances s h = absurd (none_some h)
 
-named_fits : (decls : Declared) (word : List ℕ) (s : Symbol) → named decls word ≡ Some s → SymbolFits decls s
-named_fits decls word s h =
-    elim (is_name word) as (λ t. cond t (find decls word) None ≡ Some s → SymbolFits decls s) [
-      | true ↦ λ found.
-          either_fits decls _ _
-          (λ i e. position_below (λ v. same_letters word v.name) decls.vars i e)
-          (λ i e. position_below (λ v. same_letters word v.name) decls.instances i e) s found
-      | false ↦ λ none. absurd (none_some none)
-    ] h
-
 ref_symbol : Option Reference → Option Symbol
 ref_symbol None = None
 ref_symbol (Some x) = Some x.symbol
 
-referred_fits : (decls : Declared) (o : Option Output) (m : Option Symbol) (x : Reference) → ((s : Symbol) → m ≡ Some s → SymbolFits decls s) → referred o m ≡ Some x
-    → SymbolFits decls x.symbol
+found_fits : (decls : Declared) (word : List ℕ) (s : Symbol) → find decls word ≡ Some s → SymbolFits decls s
+found_fits decls word s found =
+    either_fits decls _ _
+    (λ i e. position_below (λ v. same_letters word v.name) decls.vars i e)
+    (λ i e. position_below (λ v. same_letters word v.name) decls.instances i e) s found
+
+symbol_fits : (decls : Declared) (o : Option Output) (m : Option Symbol) (x : Reference) → ((s : Symbol) → m ≡ Some s → SymbolFits decls s)
+    → option_map (λ s. record { symbol = s; output = o }) m ≡ Some x → SymbolFits decls x.symbol
 unfolding ref_symbol
-referred_fits decls o None x fits h = absurd (none_some h)
-referred_fits decls o (Some s) x fits h = fits x.symbol (ap ref_symbol h)
+symbol_fits decls o None x fits h = absurd (none_some h)
+symbol_fits decls o (Some s) x fits h = fits x.symbol (ap ref_symbol h)
+
+reference_fits : (decls : Declared) (o : Option Output) (word : List ℕ) (x : Reference) → reference decls o word ≡ Some x → SymbolFits decls x.symbol
+reference_fits decls o word x h =
+    elim (is_name word) as (λ t. option_map (λ s. record { symbol = s; output = o }) (cond t (find decls word) None) ≡ Some x → SymbolFits decls x.symbol) [
+      | true ↦ λ found. symbol_fits decls o (find decls word) x (λ s e. found_fits decls word s e) found
+      | false ↦ λ none. absurd (none_some none)
+    ] h
 
 chosen : {F : Type 0} (b : Bool) (p q : Option Reference) (x : Reference) → (p ≡ Some x → F) → (q ≡ Some x → F) → cond b p q ≡ Some x → F
 chosen true p q x f g h = f h
@@ -71,14 +73,13 @@ chosen false p q x f g h = g h
 pub refer_fits : (decls : Declared) (word : List ℕ) (x : Reference) → refer_to decls word ≡ Some x → SymbolFits decls x.symbol
 unfolding refer_to
 refer_fits decls word x h =
-    let q = referred (Some output.Q) (named decls (without_end 2 word)) in
-    let q1 = referred (Some output.Q1) (named decls (without_end 3 word)) in
-    let plain = referred None (named decls word) in
-    chosen (ends_in (codes ".Q") word) q (cond (ends_in (codes ".Q1") word) q1 plain) x
-    (referred_fits decls (Some output.Q) (named decls (without_end 2 word)) x (named_fits decls (without_end 2 word)))
-    (chosen (ends_in (codes ".Q1") word) q1 plain x
-    (referred_fits decls (Some output.Q1) (named decls (without_end 3 word)) x (named_fits decls (without_end 3 word)))
-    (referred_fits decls None (named decls word) x (named_fits decls word))) h
+    let without : ℕ → List ℕ = λ n. take (length word - n) word in
+    chosen (ends_in (codes ".Q") word) (reference decls (Some output.Q) (without 2))
+    (cond (ends_in (codes ".Q1") word) (reference decls (Some output.Q1) (without 3)) (reference decls None word)) x
+    (reference_fits decls (Some output.Q) (without 2) x)
+    (chosen (ends_in (codes ".Q1") word) (reference decls (Some output.Q1) (without 3)) (reference decls None word) x
+    (reference_fits decls (Some output.Q1) (without 3) x)
+    (reference_fits decls None word x)) h
 
 instance_symbol : (decls : Declared) (kind : BlockKind) (s : Symbol) (n : ℕ) → SymbolFits decls s → instance_on (Some (Block kind)) (Some s) ≡ Some n
     → n < length decls.instances

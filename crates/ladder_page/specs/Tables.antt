@@ -1,12 +1,12 @@
 -- Private: tables over the cells of a page, as the code makes them.
-use Rattle.std.specs.Prelude.{ℕ, zero, suc, ◌<◌, ◌/◌, ◌%◌, false, List, length, min, set, replicate, slice_index_or, Option, Some, None}
+use Rattle.std.specs.Prelude.{◌≡◌, ℕ, ◌<◌, ◌/◌, ◌%◌, false, List, length, min, set, slice_index_or, Option, Some, None}
 use Rattle.ladder_vars.specs.Decls.{Declared}
 use Rattle.ladder_page.specs.declared.geometry.TheConstants.{RUNGS, COLUMNS, PLACES}
 use Rattle.ladder_page.specs.Picture.{Lines, has_text}
 use Rattle.ladder_page.specs.Texts.{text_over}
 use Rattle.ladder_page.specs.Lines.{part_in, rung_of}
 use Rattle.ladder_page.specs.Operand.{word_in, refer_to}
-use Rattle.ladder_page.specs.Suiting.{block_drawn}
+use Rattle.ladder_page.specs.Suiting.{DrawsBlock}
 use Rattle.ladder_page.specs.AllPlaces.{all_places}
 use Rattle.ladder_page.specs.Geometry.{place}
 use Rattle.ladder_page.specs.declared.form.Form.{Form}
@@ -30,10 +30,20 @@ overs_of decls lines parts = all_places (over_read decls lines parts) (min (leng
 abbrev pub place_read : ℕ → ℕ
 place_read n = place (n / PLACES) (n % PLACES / COLUMNS) (n % PLACES % COLUMNS)
 
--- the instance of which the n-th place has a block
-abbrev pub block_in : Declared → List (Option Form) → List NameOver → ℕ → Option ℕ
-block_in decls forms overs n =
-    block_drawn decls (slice_index_or forms (place_read n) None) (slice_index_or overs (place_read n) (record { written = false; name = None })).name
+-- the n-th place has a block of the instance
+abbrev pub HasBlock : Declared → List (Option Form) → List NameOver → ℕ → ℕ → Type 0
+HasBlock decls forms overs n inst =
+    DrawsBlock decls (slice_index_or forms (place_read n) None) (slice_index_or overs (place_read n) (record { written = false; name = None })).name inst
+
+-- What is said of an instance: the first one of the first n places that has a block of it.
+pub record FirstIn (Has : ℕ → ℕ → Type 0) (n inst : ℕ) (first : Option ℕ) : Type 0 where
+  pub none : first ≡ None → (m : ℕ) → m < n → Has m inst → ⊥
+  pub some : (at : ℕ) → first ≡ Some at → (at < n) × Has at inst × ((m : ℕ) → m < at → Has m inst → ⊥)
+
+-- for each instance, by its number
+pub record AreFirsts (Has : ℕ → ℕ → Type 0) (instances n : ℕ) (firsts : List (Option ℕ)) : Type 0 where
+  pub size : length firsts ≡ instances
+  pub each : (inst : ℕ) → inst < instances → FirstIn Has n inst (slice_index_or firsts inst None)
 
 -- with an entry of this instance, the n-th place where it has none; an instance that isn't declared gets none
 abbrev pub noted_at : ℕ → ℕ → Option ℕ → List (Option ℕ) → List (Option ℕ)
@@ -43,11 +53,6 @@ noted_at n inst None firsts = set firsts inst (Some n)
 abbrev pub noted : ℕ → Option ℕ → List (Option ℕ) → List (Option ℕ)
 noted n None firsts = firsts
 noted n (Some inst) firsts = noted_at n inst (slice_index_or firsts inst (Some n)) firsts
-
--- those of the first n places, by the instance's number
-unfoldable pub firsts_of : (ℕ → Option ℕ) → ℕ → ℕ → List (Option ℕ)
-firsts_of block instances zero = replicate instances None
-firsts_of block instances (suc n) = noted n (block n) (firsts_of block instances n)
 
 -- it comes before this place
 abbrev pub IsBefore : Option ℕ → ℕ → Type 0

@@ -1,11 +1,7 @@
 -- Private: the characters of a cell and those over it, and the word in them, as the code finds them.
-use Rattle.std.specs.Prelude.{ℕ, ◌+◌, ◌*◌, ◌==◌, List, [], ◌∷◌, map, take, if◌then◌else◌}
-use Rattle.std.specs.List.{range_with_len}
+use Rattle.std.specs.Prelude.{ℕ, ◌+◌, ◌*◌, ◌==◌, List, [], ◌∷◌, take, if◌then◌else◌}
 use Rattle.ladder_page.specs.Bytes.{space}
-use Rattle.ladder_page.specs.Picture.{Lines, ch, text_at}
-
-abbrev pub characters : Lines → ℕ → ℕ → ℕ → List ℕ
-characters lines line place n = map (ch lines line) (range_with_len place n)
+use Rattle.ladder_page.specs.Picture.{Lines, text_at}
 
 abbrev pub cell_text : Lines → ℕ → ℕ → List ℕ
 cell_text rung r c = text_at rung (2 * r + 1) c

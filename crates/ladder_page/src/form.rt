@@ -3,7 +3,7 @@
 ghost use Rattle.std.specs.Prelude.{◌≡◌, ◌==◌, map};
 ghost use Rattle.std.specs.List.{list_all};
 ghost use Rattle.std.specs.Str.{bytes_eq};
-ghost use Rattle.ladder_page.specs.ReadForm.{lookup, after_dashes, is_filler, symbol_at, label_at, behind_label, label_named, jump_with, jump_to, jump_at, return_at, mark_at, marked_at, form_at};
+ghost use Rattle.ladder_page.specs.ReadForm.{lookup, after_dashes, is_filler, symbol_at, jump_to, return_at, mark_at, marked_at, form_at};
 
 use crate::gap::word_len;
 use crate::mode::{CoilMode, Mode};
@@ -114,56 +114,16 @@ fn symbol_at(chars: &[u8]) -> Option<Form>
     }
 }
 
-#[tactic(auto, unfolding(crate::specs::ReadForm::label_at))]
-fn label_at(text: &[u8]) -> &[u8]
-    ensures { result.now ≡ label_at text.now }
-{
-    &text[..word_len(text)]
-}
-
-#[tactic(auto, unfolding(crate::specs::ReadForm::behind_label))]
-fn behind_label(text: &[u8]) -> &[u8]
-    ensures { result.now ≡ behind_label text.now }
-{
-    &text[word_len(text)..]
-}
-
-fn label_named(word: &[u8]) -> Option<Name>
-    ensures { result ≡ label_named word.now }
-{
-    if word.len() <= 8 {
-        Name::new(word)
-    } else {
-        None
-    }
-}
-
-fn jump_with(label: Option<Name>) -> Option<Form>
-    ensures { result ≡ jump_with label }
-{
-    match label {
-        Some(label) => Some(Form::Jump(label)),
-        None => None,
-    }
-}
-
 /// A jump to the label at the start, where only spaces follow.
+#[tactic(auto, unfolding(crate::specs::ReadForm::label_at, crate::specs::ReadForm::behind_label))]
 fn jump_to(text: &[u8]) -> Option<Form>
     ensures { result ≡ jump_to text.now }
 {
-    if all_are(b' ', behind_label(text)) {
-        jump_with(label_named(label_at(text)))
+    let (word, behind) = text.split_at(word_len(text));
+    if all_are(b' ', behind) && word.len() <= 8 {
+        Some(Form::Jump(Name::new(word)?))
     } else {
         None
-    }
-}
-
-fn jump_at(text: &[u8]) -> Option<Form>
-    ensures { result ≡ jump_at text.now }
-{
-    match text {
-        [] | [_] => None,
-        [_, b, rest @ ..] => { if *b == b'>' { jump_to(rest) } else { None } }
     }
 }
 
@@ -183,7 +143,8 @@ fn mark_at(text: &[u8]) -> Option<Form>
     ensures { result ≡ mark_at text.now }
 {
     match text {
-        [b'>', ..] => jump_at(text),
+        [b'>', b'>', label @ ..] => jump_to(label),
+        [b'>', ..] => None,
         [b'<', ..] => return_at(text),
         _ => symbol_at(text),
     }

@@ -4,7 +4,7 @@ ghost use Rattle.std.specs.Prelude.{◌≡◌, ◌≤◌, length};
 ghost use Rattle.std.specs.List.{prefix_len};
 ghost use Rattle.ladder_vars.specs.Name.{is_name_byte};
 ghost use Rattle.ladder_page.specs.Gap.{is_gap_blank, label_in, is_named};
-ghost use Rattle.ladder_page.specs.Labels.{is_blank_line, after_blanks, word_at, behind_word, ends_label};
+ghost use Rattle.ladder_page.specs.Labels.{after_blanks, ends_label, is_blank_line};
 
 use ladder_vars::Name;
 
@@ -48,20 +48,6 @@ pub(crate) fn word_len(text: &[u8]) -> usize
         .count()
 }
 
-#[tactic(auto, unfolding(crate::specs::Labels::word_at))]
-fn word_at(text: &[u8]) -> &[u8]
-    ensures { result.now ≡ word_at text.now }
-{
-    &text[..word_len(text)]
-}
-
-#[tactic(auto, unfolding(crate::specs::Labels::behind_word))]
-fn behind_word(text: &[u8]) -> &[u8]
-    ensures { result.now ≡ behind_word text.now }
-{
-    after_blanks(&text[word_len(text)..])
-}
-
 fn ends_label(text: &[u8]) -> bool
     ensures { result ≡ ends_label text.now }
 {
@@ -76,8 +62,8 @@ pub fn label_in(text: &[u8]) -> Option<Name>
     ensures { result ≡ label_in text.now }
 {
     let text = after_blanks(text);
-    let word = word_at(text);
-    if word.len() <= 8 && ends_label(behind_word(text)) {
+    let (word, rest) = text.split_at(word_len(text));
+    if word.len() <= 8 && ends_label(after_blanks(rest)) {
         Name::new(word)
     } else {
         None

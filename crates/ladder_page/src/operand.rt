@@ -1,10 +1,12 @@
 //! What the text over a cell stands for.
 
-ghost use Rattle.std.specs.Prelude.{◌≡◌, ◌≤◌, ◌-◌, length, drop, slice_get, option_map};
+ghost use Rattle.std.specs.Prelude.{◌≡◌, ◌≤◌, ◌↔◌, ℕ, IsTrue, Some, true, length, slice_get, option_map};
+ghost use Rattle.ladder_vars.specs.Decls.{is_input};
 ghost use Rattle.ladder_vars.specs.Name.{same_letters};
-ghost use Rattle.ladder_page.specs.Operand.{word_in, ends_in, refer_to, instance_on};
+ghost use Rattle.ladder_vars.specs.Kind.{traits_of};
+ghost use Rattle.ladder_page.specs.Operand.{word_in, ends_in, reference, refer_to, instance_on, MayHave};
 ghost use Rattle.ladder_page.specs.Texts.{after_spaces, text_len};
-ghost use Rattle.ladder_page.specs.Suiting.{without_end, named, referred, same_kind, same_output, gives_output, is_odd_on_contact, is_odd_on_coil, is_odd_on_block, is_odd, block_drawn};
+ghost use Rattle.ladder_page.specs.Suiting.{DrawsBlock};
 
 use crate::form::Form;
 use ladder_vars::{BlockKind, Decls, Name, Output, Symbol};
@@ -62,43 +64,19 @@ fn same_letters(a: &[u8], b: &[u8]) -> bool
     a.eq_ignore_ascii_case(b)
 }
 
-/// So many characters at the end of the word.
-fn end_of(n: usize, word: &[u8]) -> &[u8]
-    ensures { result.now ≡ drop (length word.now - n) word.now }
-{
-    &word[word.len().saturating_sub(n)..]
-}
-
 /// Whether the word ends so, in any letter case.
 fn ends_in(suffix: &[u8], word: &[u8]) -> bool
     ensures { result ≡ ends_in suffix.now word.now }
 {
-    suffix.len() <= word.len() && same_letters(end_of(suffix.len(), word), suffix)
+    suffix.len() <= word.len() && same_letters(&word[word.len() - suffix.len()..], suffix)
 }
 
-/// The word without so many characters at its end.
-fn without_end(n: usize, word: &[u8]) -> &[u8]
-    ensures { result.now ≡ without_end n word.now }
+/// A declared name, with this output.
+fn refer(decls: &Decls, output: Option<Output>, word: &[u8]) -> Option<Reference>
+    ensures { result ≡ reference decls.now output word.now }
 {
-    &word[..word.len().saturating_sub(n)]
-}
-
-fn named(decls: &Decls, word: &[u8]) -> Option<Symbol>
-    ensures { result ≡ named decls.now word.now }
-{
-    match Name::new(word) {
-        Some(name) => decls.find(&name),
-        None => None,
-    }
-}
-
-fn referred(output: Option<Output>, symbol: Option<Symbol>) -> Option<Reference>
-    ensures { result ≡ referred output symbol }
-{
-    match symbol {
-        Some(symbol) => Some(Reference { symbol, output }),
-        None => None,
-    }
+    let symbol = decls.find(&Name::new(word)?)?;
+    Some(Reference { symbol, output })
 }
 
 /// What a word stands for.
@@ -107,89 +85,59 @@ pub(crate) fn refer_to(decls: &Decls, word: &[u8]) -> Option<Reference>
     ensures { result ≡ refer_to decls.now word.now }
 {
     if ends_in(b".Q", word) {
-        referred(Some(Output::Q), named(decls, without_end(2, word)))
+        refer(decls, Some(Output::Q), &word[..word.len().saturating_sub(2)])
     } else if ends_in(b".Q1", word) {
-        referred(Some(Output::Q1), named(decls, without_end(3, word)))
+        refer(decls, Some(Output::Q1), &word[..word.len().saturating_sub(3)])
     } else {
-        referred(None, named(decls, word))
+        refer(decls, None, word)
     }
 }
 
-fn same_kind(a: BlockKind, b: BlockKind) -> bool
-    ensures { result ≡ same_kind a b }
+fn has_output(decls: &Decls, inst: usize, output: Output) -> bool
+    ensures { IsTrue result ↔ (option_map (λ x. (traits_of x.kind).output) (slice_get decls.now.instances inst) ≡ Some output) }
 {
-    a == b
-}
-
-fn same_output(a: Output, b: Output) -> bool
-    ensures { result ≡ same_output a b }
-{
-    a == b
-}
-
-fn gives_output(decls: &Decls, i: usize, output: Option<Output>) -> bool
-    ensures { result ≡ gives_output (slice_get decls.now.instances i) output }
-{
-    match (decls.instances().get(i), output) {
-        (Some(instance), Some(output)) => same_output(output, instance.kind.traits().output),
-        (Some(_), None) | (None, _) => false,
+    match decls.instances().get(inst) {
+        Some(instance) => instance.kind.traits().output == output,
+        None => false,
     }
 }
 
-fn is_odd_on_contact(decls: &Decls, symbol: Symbol, output: Option<Output>) -> bool
-    ensures { result ≡ is_odd_on_contact decls.now symbol output }
+fn is_input(decls: &Decls, var: usize) -> bool
+    ensures { IsTrue result ↔ (option_map is_input (slice_get decls.now.vars var) ≡ Some true) }
 {
-    match symbol {
-        Symbol::Var(_) => output.is_some(),
-        Symbol::Instance(i) => !gives_output(decls, i, output),
+    match decls.vars().get(var) {
+        Some(var) => var.is_input(),
+        None => false,
     }
 }
 
-fn is_odd_on_coil(decls: &Decls, symbol: Symbol, output: Option<Output>) -> bool
-    ensures { result ≡ is_odd_on_coil decls.now symbol output }
+fn is_of_kind(decls: &Decls, inst: usize, kind: BlockKind) -> bool
+    ensures { IsTrue result ↔ (option_map (λ x. x.kind) (slice_get decls.now.instances inst) ≡ Some kind) }
 {
-    match symbol {
-        Symbol::Var(i) => {
-            if output.is_some() {
-                return true;
-            }
-            match decls.vars().get(i) {
-                Some(var) => var.is_input(),
-                None => false,
-            }
-        }
-        Symbol::Instance(_) => true,
+    match decls.instances().get(inst) {
+        Some(instance) => instance.kind == kind,
+        None => false,
     }
 }
 
-fn is_odd_on_block(decls: &Decls, kind: BlockKind, symbol: Symbol, output: Option<Output>) -> bool
-    ensures { result ≡ is_odd_on_block decls.now kind symbol output }
+/// Whether a cell of this form may have this name.
+pub fn may_have(decls: &Decls, form: Option<Form>, name: Reference) -> bool
+    ensures { IsTrue result ↔ MayHave decls.now form name.symbol name.output }
 {
-    match symbol {
-        Symbol::Var(_) => true,
-        Symbol::Instance(i) => {
-            if output.is_some() {
-                return true;
-            }
-            match decls.instances().get(i) {
-                Some(instance) => !same_kind(kind, instance.kind),
-                None => true,
-            }
-        }
-    }
-}
-
-/// Whether the name is none that the symbol may have.
-pub fn is_odd(decls: &Decls, form: Option<Form>, name: Option<Reference>) -> bool
-    ensures { result ≡ is_odd decls.now form name }
-{
-    let Some(name) = name else {
-        return false;
-    };
     match form {
-        Some(Form::Contact(_)) => is_odd_on_contact(decls, name.symbol, name.output),
-        Some(Form::Coil(_)) => is_odd_on_coil(decls, name.symbol, name.output),
-        Some(Form::Block(kind)) => is_odd_on_block(decls, kind, name.symbol, name.output),
+        Some(Form::Contact(_)) => match (name.symbol, name.output) {
+            (Symbol::Var(_), None) => true,
+            (Symbol::Instance(inst), Some(output)) => has_output(decls, inst, output),
+            (Symbol::Var(_), Some(_)) | (Symbol::Instance(_), None) => false,
+        },
+        Some(Form::Coil(_)) => match (name.symbol, name.output) {
+            (Symbol::Var(var), None) => !is_input(decls, var),
+            (Symbol::Var(_), Some(_)) | (Symbol::Instance(_), _) => false,
+        },
+        Some(Form::Block(kind)) => match (name.symbol, name.output) {
+            (Symbol::Instance(inst), None) => is_of_kind(decls, inst, kind),
+            (Symbol::Instance(_), Some(_)) | (Symbol::Var(_), _) => false,
+        },
         None | Some(Form::Empty | Form::Wire | Form::Lower(_, _) | Form::Jump(_) | Form::Return) =>
             false,
     }
@@ -222,12 +170,30 @@ pub(crate) fn instance_on(form: Option<Form>, name: Option<Reference>) -> Option
 }
 
 /// The instance of which this form and this name draw a block: none by a name that the block can't have.
-pub fn block_drawn(decls: &Decls, form: &Option<Form>, name: &Option<Reference>) -> Option<usize>
-    ensures { result ≡ block_drawn decls.now form.now name.now }
+pub fn block_drawn(decls: &Decls, form: Option<Form>, name: Option<Reference>) -> Option<usize>
+    ensures { (inst : ℕ) → (result ≡ Some inst) ↔ DrawsBlock decls.now form name inst }
 {
-    if is_odd(decls, *form, *name) {
+    match form {
+        Some(Form::Block(kind)) => match name {
+            Some(Reference {
+                symbol: Symbol::Instance(inst),
+                output: None,
+            }) if is_of_kind(decls, inst, kind) => Some(inst),
+            Some(Reference {
+                symbol: Symbol::Instance(_) | Symbol::Var(_),
+                ..
+            })
+            | None => None,
+        },
         None
-    } else {
-        instance_on(*form, *name)
+        | Some(
+            Form::Empty
+            | Form::Wire
+            | Form::Contact(_)
+            | Form::Coil(_)
+            | Form::Lower(_, _)
+            | Form::Jump(_)
+            | Form::Return,
+        ) => None,
     }
 }

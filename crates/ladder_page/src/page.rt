@@ -14,7 +14,7 @@ use crate::form::{Form, form_at as form_of};
 use crate::geometry::{PLACES, ROWS, RUNGS, place};
 use crate::lines::{Part, lines_between};
 use crate::operand::{NameOver, Reference, instance_on, refer_to, word_in};
-use crate::picture::{cell_text, has_text, text_over};
+use crate::picture::{has_text, text_at};
 use crate::view::PageView;
 use ladder_vars::Decls;
 use std::alloc::{AllocError, Global};
@@ -71,7 +71,7 @@ fn form_read(
     requires columns { column < COLUMNS }
     ensures { result ≡ form_read (map (λ l. l.now) lines.now) parts.now rung row column }
 {
-    form_of(&cell_text(rung_in(lines, parts, rung), row, column))
+    form_of(&text_at(rung_in(lines, parts, rung), 2 * row + 1, column))
 }
 
 /// What the cells of the first hundred rungs are.
@@ -97,15 +97,6 @@ pub fn forms(
     Ok(forms)
 }
 
-fn over_with(decls: &Decls, chars: &[u8]) -> NameOver
-    ensures { result ≡ over_with decls.now chars.now }
-{
-    NameOver {
-        written: has_text(chars),
-        name: refer_to(decls, word_in(chars)),
-    }
-}
-
 #[tactic(auto, unfolding(crate::specs::Tables::over_read))]
 fn over_read(
     decls: &Decls,
@@ -121,7 +112,11 @@ fn over_read(
     requires columns { column < COLUMNS }
     ensures { result ≡ over_read decls.now (map (λ l. l.now) lines.now) parts.now rung row column }
 {
-    over_with(decls, &text_over(rung_in(lines, parts, rung), row, column))
+    let chars = text_at(rung_in(lines, parts, rung), 2 * row, column);
+    NameOver {
+        written: has_text(&chars),
+        name: refer_to(decls, word_in(&chars)),
+    }
 }
 
 /// What stands over the cells of the first hundred rungs.

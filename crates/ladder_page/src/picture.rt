@@ -1,9 +1,8 @@
 //! The picture of a rung: which character is where.
 
-ghost use Rattle.std.specs.Prelude.{◌≡◌, ◌<◌, ◌+◌, ◌^◌, ◌↔◌, map, IsTrue, slice_index_or, []};
-ghost use Rattle.ladder_page.specs.declared.geometry.TheConstants.{ROWS, COLUMNS, CELL};
-ghost use Rattle.ladder_page.specs.Picture.{half_line, ch, has_text, joint, vertical, SameGroup};
-ghost use Rattle.ladder_page.specs.Texts.{characters, cell_text, text_over};
+ghost use Rattle.std.specs.Prelude.{◌≡◌, ◌<◌, ◌↔◌, map, IsTrue, slice_index_or, []};
+ghost use Rattle.ladder_page.specs.declared.geometry.TheConstants.{ROWS, COLUMNS};
+ghost use Rattle.ladder_page.specs.Picture.{half_line, ch, has_text, joint, text_at, vertical, SameGroup};
 
 use crate::geometry::{CELL, PITCH};
 
@@ -57,43 +56,26 @@ pub fn has_text(chars: &[u8]) -> bool
     chars.iter().any(|b| *b != b' ')
 }
 
-fn eleven(lines: &[&[u8]], line: usize, place: usize) -> [u8; CELL]
-    requires { place < 2 ^ 32 }
-    ensures { result ≡ characters (map (λ l. l.now) lines.now) line place CELL }
+/// The characters of a line that belong to a column.
+#[tactic(auto, unfolding(crate::specs::Picture::text_at))]
+pub(crate) fn text_at(lines: &[&[u8]], line: usize, column: usize) -> [u8; CELL]
+    requires columns { column < COLUMNS }
+    ensures { result ≡ text_at (map (λ l. l.now) lines.now) line column }
 {
+    let start = PITCH * column + 1;
     [
-        ch(lines, line, place),
-        ch(lines, line, place + 1),
-        ch(lines, line, place + 2),
-        ch(lines, line, place + 3),
-        ch(lines, line, place + 4),
-        ch(lines, line, place + 5),
-        ch(lines, line, place + 6),
-        ch(lines, line, place + 7),
-        ch(lines, line, place + 8),
-        ch(lines, line, place + 9),
-        ch(lines, line, place + 10),
+        ch(lines, line, start),
+        ch(lines, line, start + 1),
+        ch(lines, line, start + 2),
+        ch(lines, line, start + 3),
+        ch(lines, line, start + 4),
+        ch(lines, line, start + 5),
+        ch(lines, line, start + 6),
+        ch(lines, line, start + 7),
+        ch(lines, line, start + 8),
+        ch(lines, line, start + 9),
+        ch(lines, line, start + 10),
     ]
-}
-
-/// The characters of a cell.
-#[tactic(auto, unfolding(crate::specs::Picture::text_at))]
-pub(crate) fn cell_text(lines: &[&[u8]], row: usize, column: usize) -> [u8; CELL]
-    requires rows { row < ROWS }
-    requires columns { column < COLUMNS }
-    ensures { result ≡ cell_text (map (λ l. l.now) lines.now) row column }
-{
-    eleven(lines, 2 * row + 1, PITCH * column + 1)
-}
-
-/// The characters of the name line over a cell.
-#[tactic(auto, unfolding(crate::specs::Picture::text_at))]
-pub(crate) fn text_over(lines: &[&[u8]], row: usize, column: usize) -> [u8; CELL]
-    requires rows { row < ROWS }
-    requires columns { column < COLUMNS }
-    ensures { result ≡ text_over (map (λ l. l.now) lines.now) row column }
-{
-    eleven(lines, 2 * row, PITCH * column + 1)
 }
 
 /// The joint on the left of a cell.

@@ -3,7 +3,7 @@
 ghost use Rattle.std.specs.Prelude.{◌≡◌, ◌*◌, length, map, min, All};
 ghost use Rattle.ladder_page.specs.declared.geometry.TheConstants.{RUNGS, PLACES};
 ghost use Rattle.ladder_page.specs.ReadLines.{IsWithin};
-ghost use Rattle.ladder_page.specs.Tables.{overs_of, block_in, firsts_of};
+ghost use Rattle.ladder_page.specs.Tables.{AreFirsts, HasBlock, overs_of};
 
 use crate::form::Form;
 use crate::lines::Part;
@@ -23,5 +23,5 @@ pub struct PageView<'a, 'b> {
     pub firsts: &'a [Option<usize>],
     ghost within: { All (IsWithin (length lines.now)) parts.now },
     ghost told: { overs.now ≡ overs_of decls.now (map (λ l. l.now) lines.now) parts.now },
-    ghost drawn: { firsts.now ≡ firsts_of (block_in decls.now forms.now overs.now) (length decls.now.instances) (PLACES * min (length parts.now) RUNGS) },
+    ghost drawn: { AreFirsts (HasBlock decls.now forms.now overs.now) (length decls.now.instances) (PLACES * min (length parts.now) RUNGS) firsts.now },
 }
