@@ -6,6 +6,7 @@ ghost use Rattle.ladder_vars.specs.Name.{same_letters};
 ghost use Rattle.ladder_vars.specs.Kind.{traits_of};
 ghost use Rattle.ladder_page.specs.Operand.{word_in, ends_in, reference, refer_to, instance_on, MayHave};
 ghost use Rattle.ladder_page.specs.Texts.{after_spaces, text_len};
+ghost use Rattle.ladder_page.specs.declared.operand.Reference.{Reference};
 ghost use Rattle.ladder_page.specs.Suiting.{DrawsBlock};
 
 use crate::form::Form;
@@ -85,9 +86,17 @@ pub(crate) fn refer_to(decls: &Decls, word: &[u8]) -> Option<Reference>
     ensures { result ≡ refer_to decls.now word.now }
 {
     if ends_in(b".Q", word) {
-        refer(decls, Some(Output::Q), &word[..word.len().saturating_sub(2)])
+        refer(
+            decls,
+            Some(Output::Q),
+            &word[..word.len().saturating_sub(2)],
+        )
     } else if ends_in(b".Q1", word) {
-        refer(decls, Some(Output::Q1), &word[..word.len().saturating_sub(3)])
+        refer(
+            decls,
+            Some(Output::Q1),
+            &word[..word.len().saturating_sub(3)],
+        )
     } else {
         refer(decls, None, word)
     }
@@ -120,27 +129,37 @@ fn is_of_kind(decls: &Decls, inst: usize, kind: BlockKind) -> bool
     }
 }
 
-/// Whether a cell of this form may have this name.
-pub fn may_have(decls: &Decls, form: Option<Form>, name: Reference) -> bool
-    ensures { IsTrue result ↔ MayHave decls.now form name.symbol name.output }
+/// Whether a cell of this form may have the name of the symbol, with this output.
+fn may_have(decls: &Decls, form: Option<Form>, symbol: Symbol, output: Option<Output>) -> bool
+    ensures { IsTrue result ↔ MayHave decls.now form symbol output }
 {
     match form {
-        Some(Form::Contact(_)) => match (name.symbol, name.output) {
+        Some(Form::Contact(_)) => match (symbol, output) {
             (Symbol::Var(_), None) => true,
             (Symbol::Instance(inst), Some(output)) => has_output(decls, inst, output),
             (Symbol::Var(_), Some(_)) | (Symbol::Instance(_), None) => false,
         },
-        Some(Form::Coil(_)) => match (name.symbol, name.output) {
+        Some(Form::Coil(_)) => match (symbol, output) {
             (Symbol::Var(var), None) => !is_input(decls, var),
             (Symbol::Var(_), Some(_)) | (Symbol::Instance(_), _) => false,
         },
-        Some(Form::Block(kind)) => match (name.symbol, name.output) {
+        Some(Form::Block(kind)) => match (symbol, output) {
             (Symbol::Instance(inst), None) => is_of_kind(decls, inst, kind),
             (Symbol::Instance(_), Some(_)) | (Symbol::Var(_), _) => false,
         },
         None | Some(Form::Empty | Form::Wire | Form::Lower(_, _) | Form::Jump(_) | Form::Return) =>
             false,
     }
+}
+
+/// Whether the name is one that a cell of this form can't have.
+pub fn is_odd(decls: &Decls, form: Option<Form>, name: Option<Reference>) -> bool
+    ensures { IsTrue result ↔ ((x : Reference) × (name ≡ Some x) × ¬ (MayHave decls.now form x.symbol x.output)) }
+{
+    let Some(name) = name else {
+        return false;
+    };
+    !may_have(decls, form, name.symbol, name.output)
 }
 
 /// The instance that a block with this text over it is.
@@ -175,14 +194,18 @@ pub fn block_drawn(decls: &Decls, form: Option<Form>, name: Option<Reference>) -
 {
     match form {
         Some(Form::Block(kind)) => match name {
-            Some(Reference {
-                symbol: Symbol::Instance(inst),
-                output: None,
-            }) if is_of_kind(decls, inst, kind) => Some(inst),
-            Some(Reference {
-                symbol: Symbol::Instance(_) | Symbol::Var(_),
-                ..
-            })
+            Some(
+                Reference {
+                    symbol: Symbol::Instance(inst),
+                    output: None,
+                },
+            ) if is_of_kind(decls, inst, kind) => Some(inst),
+            Some(
+                Reference {
+                    symbol: Symbol::Instance(_) | Symbol::Var(_),
+                    ..
+                },
+            )
             | None => None,
         },
         None

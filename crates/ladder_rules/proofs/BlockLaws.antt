@@ -1,16 +1,16 @@
 -- A block is drawn by a name that it may have.
-use Rattle.std.proofs.Common.{◌≡◌, ◌↔◌, ℕ, Bool, IsTrue, true, false, not, cond, slice_get, option_map, Option, Some, None, refl, sym, subst, ◌∙◌}
+use Rattle.std.proofs.Common.{◌≡◌, ◌↔◌, ℕ, Bool, IsTrue, true, false, slice_get, option_map, Option, Some, None, refl, sym, ap, subst, ◌∙◌}
 use Rattle.ladder_vars.specs.Decls.{Declared}
 use Rattle.ladder_vars.specs.declared.kind.BlockKind.{BlockKind}
 use Rattle.ladder_vars.specs.declared.kind.Output.{Output}
+use Rattle.ladder_vars.specs.declared.decls.Instance.{Instance}
 use Rattle.ladder_vars.specs.declared.decls.Symbol.{Symbol}
 use Rattle.ladder_vars.specs.declared.decls.Symbol.TheVariants as symbol
 use Rattle.ladder_page.specs.declared.form.Form.{Form}
 use Rattle.ladder_page.specs.declared.form.Form.TheVariants.{Empty, Wire, Contact, Coil, Block, Lower, Jump, Return}
 use Rattle.ladder_page.specs.declared.operand.Reference.{Reference}
 use Rattle.ladder_page.specs.Operand.{MayHave, instance_on}
-use Rattle.ladder_page.specs.Suiting.{is_of_kind, is_odd_on_block, is_odd, block_drawn}
-use Rattle.ladder_rules.proofs.OddLaws.{of_kind, odd_is}
+use Rattle.ladder_page.specs.Suiting.{DrawsBlock}
 
 none_some : {A : Type 0} {x : A} → None ≡ Some x → ⊥
 none_some h = cc
@@ -24,52 +24,65 @@ same_number a b h = cc
 same_reference : (a b : Reference) → Some a ≡ Some b → a ≡ b
 same_reference a b h = cc
 
-not_false : (b : Bool) → not b ≡ false → b ≡ true
-not_false true h = refl
-not_false false h = absurd (on_off h)
+-- the block is the instance, by a name that it may have
+abbrev pub IsBlockOf : Declared → Option Form → Option Reference → ℕ → Type 0
+IsBlockOf decls form name inst =
+    (instance_on form (option_map (λ (x : Reference). x.symbol) name) ≡ Some inst) × (x : Reference) × (name ≡ Some x) × MayHave decls form x.symbol x.output
 
--- by this form and this name the instance is drawn
-abbrev pub DrawsBlock : Declared → Option Form → Option Reference → ℕ → Type 0
-DrawsBlock decls form name inst = (instance_on form (option_map (λ (x : Reference). x.symbol) name) ≡ Some inst) × (x : Reference) × (name ≡ Some x) × MayHave decls form x.symbol x.output
+may : (decls : Declared) (k : BlockKind) (s : Symbol) (o : Option Output) (inst : ℕ) → instance_on (Some (Block k)) (Some s) ≡ Some inst → o ≡ None
+    → option_map (λ (x : Instance). x.kind) (slice_get decls.instances inst) ≡ Some k → MayHave decls (Some (Block k)) s o
+may decls k (symbol.Var i) o inst h bare kind = absurd (none_some h)
+may decls k (symbol.Instance i) (Some o) inst h bare kind = absurd (none_some (sym bare))
+may decls k (symbol.Instance i) None inst h bare kind =
+    subst (λ n. option_map (λ (x : Instance). x.kind) (slice_get decls.instances n) ≡ Some k) (same_number inst i (sym h)) kind
 
-symbol_may : (decls : Declared) (k : BlockKind) (s : Symbol) (o : Option Output) (inst : ℕ) → instance_on (Some (Block k)) (Some s) ≡ Some inst → is_odd_on_block decls k s o ≡ false
-    → MayHave decls (Some (Block k)) s o
-symbol_may decls k (symbol.Var i) o inst h even = absurd (none_some h)
-symbol_may decls k (symbol.Instance i) (Some o) inst h even = absurd (on_off even)
-symbol_may decls k (symbol.Instance i) None inst h even =
-    (of_kind k (slice_get decls.instances i)).0 (not_false (is_of_kind k (slice_get decls.instances i)) even)
+draws : (decls : Declared) (k : BlockKind) (s : Symbol) (o : Option Output) (inst : ℕ) → instance_on (Some (Block k)) (Some s) ≡ Some inst
+    → MayHave decls (Some (Block k)) s o → (o ≡ None) × (option_map (λ (x : Instance). x.kind) (slice_get decls.instances inst) ≡ Some k)
+draws decls k (symbol.Var i) o inst h fits = absurd (none_some h)
+draws decls k (symbol.Instance i) (Some o) inst h fits = absurd fits
+draws decls k (symbol.Instance i) None inst h fits =
+    (refl, subst (λ n. option_map (λ (x : Instance). x.kind) (slice_get decls.instances n) ≡ Some k) (same_number i inst h) fits)
 
-pub block_may : (decls : Declared) (form : Option Form) (name : Option Reference) (inst : ℕ) → instance_on form (option_map (λ (x : Reference). x.symbol) name) ≡ Some inst → is_odd decls form name ≡ false
-    → DrawsBlock decls form name inst
-block_may decls None name inst h even = absurd (none_some h)
-block_may decls (Some (Block k)) None inst h even = absurd (none_some h)
-block_may decls (Some (Block k)) (Some x) inst h even = (h, x, refl, symbol_may decls k x.symbol x.output inst h even)
-block_may decls (Some (Lower pin linked)) name inst h even = absurd (none_some h)
-block_may decls (Some Empty) name inst h even = absurd (none_some h)
-block_may decls (Some Wire) name inst h even = absurd (none_some h)
-block_may decls (Some (Contact m)) name inst h even = absurd (none_some h)
-block_may decls (Some (Coil m)) name inst h even = absurd (none_some h)
-block_may decls (Some (Jump label)) name inst h even = absurd (none_some h)
-block_may decls (Some Return) name inst h even = absurd (none_some h)
+pub drawn_so : (decls : Declared) (form : Option Form) (name : Option Reference) (inst : ℕ) → DrawsBlock decls form name inst → IsBlockOf decls form name inst
+drawn_so decls None name inst h = absurd (none_some h.0)
+drawn_so decls (Some (Block k)) None inst h = absurd (none_some h.0)
+drawn_so decls (Some (Block k)) (Some x) inst h = (h.0, x, refl, may decls k x.symbol x.output inst h.0 h.1 h.2)
+drawn_so decls (Some (Lower pin linked)) name inst h = absurd (none_some h.0)
+drawn_so decls (Some Empty) name inst h = absurd (none_some h.0)
+drawn_so decls (Some Wire) name inst h = absurd (none_some h.0)
+drawn_so decls (Some (Contact m)) name inst h = absurd (none_some h.0)
+drawn_so decls (Some (Coil m)) name inst h = absurd (none_some h.0)
+drawn_so decls (Some (Jump label)) name inst h = absurd (none_some h.0)
+drawn_so decls (Some Return) name inst h = absurd (none_some h.0)
 
--- A name that the form may have isn't odd on it.
-even : (decls : Declared) (form : Option Form) (name : Option Reference) (x : Reference) → name ≡ Some x → MayHave decls form x.symbol x.output
-    → is_odd decls form name ≡ true → ⊥
-even decls form name x named may odd =
-    let o = (odd_is decls form name).0 odd in
-    o.3 (subst (λ y. MayHave decls form y.symbol y.output) (same_reference x o.1 (sym named ∙ o.2)) may)
+named_so : (decls : Declared) (k : BlockKind) (name : Option Reference) (inst : ℕ) (x : Reference) → instance_on (Some (Block k)) (option_map (λ (y : Reference). y.symbol) name) ≡ Some inst
+    → name ≡ Some x → MayHave decls (Some (Block k)) x.symbol x.output → DrawsBlock decls (Some (Block k)) name inst
+named_so decls k None inst x h is fits = absurd (none_some is)
+named_so decls k (Some y) inst x h is fits =
+    let here : MayHave decls (Some (Block k)) y.symbol y.output = subst (λ z. MayHave decls (Some (Block k)) z.symbol z.output) (same_reference x y (sym is)) fits in
+    let so = draws decls k y.symbol y.output inst h here in
+    (h, so.0, so.1)
 
-pub drawn_is : (decls : Declared) (form : Option Form) (name : Option Reference) (inst : ℕ) → (block_drawn decls form name ≡ Some inst) ↔ DrawsBlock decls form name inst
-drawn_is decls form name inst =
-    elim (is_odd decls form name) as
-    (λ b. is_odd decls form name ≡ b → (cond b None (instance_on form (option_map (λ (x : Reference). x.symbol) name)) ≡ Some inst) ↔ DrawsBlock decls form name inst) [
-      | true ↦ λ odd. (λ h. absurd (none_some h), λ d. absurd (even decls form name d.1 d.2 d.3 odd))
-      | false ↦ λ e. (λ h. block_may decls form name inst h e, λ d. d.0)
-    ] refl
+drawn_back : (decls : Declared) (form : Option Form) (name : Option Reference) (inst : ℕ) → IsBlockOf decls form name inst → DrawsBlock decls form name inst
+drawn_back decls None name inst h = absurd (none_some h.0)
+drawn_back decls (Some (Block k)) name inst h = named_so decls k name inst h.1 h.0 h.2 h.3
+drawn_back decls (Some (Lower pin linked)) name inst h = absurd (none_some h.0)
+drawn_back decls (Some Empty) name inst h = absurd (none_some h.0)
+drawn_back decls (Some Wire) name inst h = absurd (none_some h.0)
+drawn_back decls (Some (Contact m)) name inst h = absurd (none_some h.0)
+drawn_back decls (Some (Coil m)) name inst h = absurd (none_some h.0)
+drawn_back decls (Some (Jump label)) name inst h = absurd (none_some h.0)
+drawn_back decls (Some Return) name inst h = absurd (none_some h.0)
 
-pub drawn_told : (decls : Declared) (form f : Option Form) (name n : Option Reference) → f ≡ form → n ≡ name → (found : Option ℕ) → found ≡ block_drawn decls f n
-    → (inst : ℕ) → (found ≡ Some inst) ↔ DrawsBlock decls form name inst
-drawn_told decls form f name n here over found is inst = rw (is, here, over) (drawn_is decls form name inst)
+pub drawn_is : (decls : Declared) (form : Option Form) (name : Option Reference) (inst : ℕ) → DrawsBlock decls form name inst ↔ IsBlockOf decls form name inst
+drawn_is decls form name inst = (drawn_so decls form name inst, drawn_back decls form name inst)
+
+pub drawn_told : (decls : Declared) (form f : Option Form) (name n : Option Reference) → f ≡ form → n ≡ name → (found : Option ℕ)
+    → ((inst : ℕ) → (found ≡ Some inst) ↔ DrawsBlock decls f n inst) → (inst : ℕ) → (found ≡ Some inst) ↔ IsBlockOf decls form name inst
+drawn_told decls form f name n here over found told inst =
+    let law = drawn_is decls form name inst in
+    let same : (found ≡ Some inst) ↔ DrawsBlock decls form name inst = rw (sym here, sym over) (told inst) in
+    (λ h. law.0 (same.0 h), λ d. same.1 (law.1 d))
 
 -- ---- whether an instance was drawn before, where this is the one at a place
 

@@ -1,8 +1,7 @@
 pub mod TargetLaws
 pub mod PlaceRules
+pub mod TornLaws
 pub mod DrawingLaws
 pub mod BlockLaws
 pub mod FirstLaws
-pub mod OddLaws
-pub mod ShapeLaws
 pub mod Examples

@@ -42,10 +42,6 @@ is_wide line = has_text (drop (RAIL + 1) line)
 abbrev pub is_wide_at : Lines → ℕ → Bool
 is_wide_at rung line = is_wide (line_at rung line)
 
--- the name is none that the symbol may have
-abbrev pub IsOdd : Declared → Option Form → Option Reference → Type 0
-IsOdd decls form name = (wants_name form ≡ true) × (x : Reference) × (name ≡ Some x) × ¬ (MayHave decls form x.symbol x.output)
-
 abbrev pub IsDrawnBefore : Page → ℕ → ℕ → ℕ → ℕ → Type 0
 IsDrawnBefore page inst k r c = HoldsBefore (IsDrawnAt page inst) k r c
 

@@ -1,7 +1,6 @@
 pub mod Gap
 pub mod Feeding
 pub mod Rules
-pub mod Shapes
 pub mod Rung
 pub mod PageRules
 pub mod Checks

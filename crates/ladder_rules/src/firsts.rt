@@ -1,8 +1,8 @@
 //! Where each instance is drawn first. Places are counted in the order of reading.
 
-ghost use Rattle.std.specs.Prelude.{◌≡◌, ◌≤◌, ◌<◌, ◌*◌, ◌↔◌, length, slice_index_or, false, None, IsTrue, IfOk};
+ghost use Rattle.std.specs.Prelude.{◌≡◌, ◌≤◌, ◌<◌, ◌*◌, ◌↔◌, ℕ, length, slice_index_or, false, None, Some, IsTrue, IfOk};
 ghost use Rattle.ladder_page.specs.declared.geometry.TheConstants.{RUNGS, PLACES};
-ghost use Rattle.ladder_page.specs.Tables.{place_read, block_in, noted, firsts_of, IsBefore};
+ghost use Rattle.ladder_page.specs.Tables.{place_read, noted, AreFirsts, HasBlock, IsBefore};
 
 use ladder_page::geometry::{COLUMNS, PLACES, place};
 use ladder_page::operand::block_drawn;
@@ -36,10 +36,10 @@ fn form_in(forms: &[Option<Form>], at: usize) -> Option<Form>
 /// The instance of which a place has a block.
 fn block_in(decls: &Decls, forms: &[Option<Form>], overs: &[NameOver], n: usize) -> Option<usize>
     requires { n < PLACES * RUNGS }
-    ensures { result ≡ block_in decls.now forms.now overs.now n }
+    ensures { (inst : ℕ) → (result ≡ Some inst) ↔ HasBlock decls.now forms.now overs.now n inst }
 {
     let at = place_read(n);
-    block_drawn(decls, &form_in(forms, at), &name_in(overs, at))
+    block_drawn(decls, form_in(forms, at), name_in(overs, at))
 }
 
 fn note(firsts: &mut Vec<Option<usize>>, n: usize, inst: Option<usize>)
@@ -61,7 +61,7 @@ pub fn firsts(
     overs: &[NameOver],
 ) -> Result<Vec<Option<usize>>, AllocError>
     requires { rungs ≤ RUNGS }
-    ensures { IfOk result (λ v. v.items ≡ firsts_of (block_in decls.now forms.now overs.now) (length decls.now.instances) (PLACES * rungs)) }
+    ensures { IfOk result (λ v. AreFirsts (HasBlock decls.now forms.now overs.now) (length decls.now.instances) (PLACES * rungs) v.items) }
 {
     let mut firsts: Vec<Option<usize>> = vec![in alloc; None; decls.instances().len()]?;
     for n in 0..PLACES * rungs {

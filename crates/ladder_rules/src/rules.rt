@@ -1,16 +1,16 @@
 //! The rules of cells, joints and names.
 
-ghost use Rattle.std.specs.Prelude.{◌≡◌, ◌≤◌, ◌<◌, ◌*◌, ◌↔◌, ℕ, length, map, Some, true, false, IsTrue, IfSome, IfNone};
+ghost use Rattle.std.specs.Prelude.{◌≡◌, ◌≤◌, ◌<◌, ◌+◌, ◌-◌, ◌*◌, ◌↔◌, ℕ, length, map, Some, true, false, IsTrue, IfSome, IfNone};
 ghost use Rattle.ladder_page.specs.declared.geometry.TheConstants.{RUNGS, ROWS, COLUMNS, LINES, PITCH};
 ghost use Rattle.std.specs.List.{AllByRecursion};
+ghost use Rattle.ladder_vars.specs.Kind.{traits_of};
 ghost use Rattle.ladder_page.specs.Seen.{seen};
 ghost use Rattle.ladder_page.specs.Bytes.{is_upright};
 ghost use Rattle.ladder_page.specs.AllPlaces.{reading_place};
-ghost use Rattle.ladder_rules.specs.Rules.{is_joint, fits_joint, wants_name, IsTorn, IsDrawnAt, CellBreaks, BreaksAt};
+ghost use Rattle.ladder_rules.specs.Rules.{is_joint, fits_joint, wants_name, IsBlockWith, IsLowerWith, IsTorn, IsDrawnAt, CellBreaks, BreaksAt};
 ghost use Rattle.ladder_page.specs.Picture.{has_text, ch, half_line};
 ghost use Rattle.ladder_page.specs.Form.{leaps};
 ghost use Rattle.ladder_rules.specs.Checks.{is_loose, IsDrawnBefore, IsBrokenAlong, IsBrokenOn, IsKept};
-ghost use Rattle.ladder_rules.specs.Shapes.{same_pin, is_lower_for, takes_second, is_block_for, lacks_lower, is_apart, form_above, form_below};
 ghost use Rattle.ladder_page.specs.Page.{rung_at, form_at, name_over};
 ghost use Rattle.ladder_page.specs.Texts.{text_over};
 ghost use Rattle.ladder_rules.specs.declared.fault.GridRule.{GridRule};
@@ -25,7 +25,7 @@ use ladder_page::operand::{block_drawn, is_odd};
 use ladder_page::page::{form_at, is_written_over, name_over, rung_at};
 use ladder_page::picture::{ch, half_line, joint};
 use ladder_page::{Form, Half, PageView};
-use ladder_vars::Pin;
+use ladder_vars::{BlockKind, Pin};
 
 /// Whether a character that is no space may stand between two cells.
 fn is_joint(half: Half, linked: bool, b: u8, right: u8) -> bool
@@ -160,24 +160,20 @@ fn has_odd_name(page: PageView<'_, '_>, rung: usize, row: usize, column: usize) 
     requires columns { column < COLUMNS }
     ensures { IsTrue result ↔ CellBreaks rule.WrongKind half.Name (seen page.entry) rung row column }
 {
-    is_odd(
-        page.decls,
-        form_at(page, rung, row, column),
-        name_over(page, rung, row, column),
-    )
+    wants_name(form_at(page, rung, row, column))
+        && is_odd(
+            page.decls,
+            form_at(page, rung, row, column),
+            name_over(page, rung, row, column),
+        )
 }
 
-fn same_pin(a: Pin, b: Pin) -> bool
-    ensures { result ≡ same_pin a b }
-{
-    a == b
-}
-
-fn is_lower_for(pin: Option<Pin>, form: Option<Form>) -> bool
-    ensures { result ≡ is_lower_for pin form }
+/// Whether it is the lower cell of this input.
+fn is_lower_with(pin: Pin, form: Option<Form>) -> bool
+    ensures { IsTrue result ↔ IsLowerWith pin form }
 {
     match form {
-        Some(Form::Lower(other, _)) => takes_second(other, pin),
+        Some(Form::Lower(other, _)) => other == pin,
         None
         | Some(
             Form::Empty
@@ -191,20 +187,21 @@ fn is_lower_for(pin: Option<Pin>, form: Option<Form>) -> bool
     }
 }
 
-fn takes_second(other: Pin, pin: Option<Pin>) -> bool
-    ensures { result ≡ takes_second other pin }
+fn has_second(kind: BlockKind, pin: Pin) -> bool
+    ensures { IsTrue result ↔ ((traits_of kind).second_input ≡ Some pin) }
 {
-    match pin {
-        Some(p) => same_pin(p, other),
+    match kind.traits().second_input {
+        Some(second) => second == pin,
         None => false,
     }
 }
 
-fn is_block_for(other: Pin, form: Option<Form>) -> bool
-    ensures { result ≡ is_block_for other form }
+/// Whether it is a block with this second input.
+fn is_block_with(pin: Pin, form: Option<Form>) -> bool
+    ensures { IsTrue result ↔ IsBlockWith pin form }
 {
     match form {
-        Some(Form::Block(kind)) => takes_second(other, kind.traits().second_input),
+        Some(Form::Block(kind)) => has_second(kind, pin),
         None
         | Some(
             Form::Empty
@@ -218,21 +215,38 @@ fn is_block_for(other: Pin, form: Option<Form>) -> bool
     }
 }
 
-fn lacks_lower(pin: Option<Pin>, below: Option<Form>) -> bool
-    ensures { result ≡ lacks_lower pin below }
+/// Whether the next row lacks the lower cell of a block with this second input.
+fn lacks_lower(page: PageView<'_, '_>, pin: Pin, rung: usize, row: usize, column: usize) -> bool
+    requires rungs { rung < length page.parts.now }
+    requires rows { row < ROWS }
+    requires columns { column < COLUMNS }
+    ensures { IsTrue result ↔ (row + 1 < ROWS → ¬ (IsLowerWith pin (form_at (seen page.entry) rung (row + 1) column))) }
 {
-    match pin {
-        Some(_) => !is_lower_for(pin, below),
-        None => false,
-    }
+    row + 1 == ROWS || !is_lower_with(pin, form_at(page, rung, row + 1, column))
 }
 
-fn is_apart(above: Option<Form>, form: Option<Form>, below: Option<Form>) -> bool
-    ensures { result ≡ is_apart above form below }
+/// Whether the row before lacks the block of a lower cell with this input.
+fn lacks_block(page: PageView<'_, '_>, pin: Pin, rung: usize, row: usize, column: usize) -> bool
+    requires rungs { rung < length page.parts.now }
+    requires rows { row < ROWS }
+    requires columns { column < COLUMNS }
+    ensures { IsTrue result ↔ (1 ≤ row → ¬ (IsBlockWith pin (form_at (seen page.entry) rung (row - 1) column))) }
 {
-    match form {
-        Some(Form::Block(kind)) => lacks_lower(kind.traits().second_input, below),
-        Some(Form::Lower(other, _)) => !is_block_for(other, above),
+    row == 0 || !is_block_with(pin, form_at(page, rung, row - 1, column))
+}
+
+fn is_torn(page: PageView<'_, '_>, rung: usize, row: usize, column: usize) -> bool
+    requires rungs { rung < length page.parts.now }
+    requires rows { row < ROWS }
+    requires columns { column < COLUMNS }
+    ensures { IsTrue result ↔ IsTorn (seen page.entry) rung row column }
+{
+    match form_at(page, rung, row, column) {
+        Some(Form::Block(kind)) => match kind.traits().second_input {
+            Some(pin) => lacks_lower(page, pin, rung, row, column),
+            None => false,
+        },
+        Some(Form::Lower(pin, _)) => lacks_block(page, pin, rung, row, column),
         None
         | Some(
             Form::Empty
@@ -243,45 +257,6 @@ fn is_apart(above: Option<Form>, form: Option<Form>, below: Option<Form>) -> boo
             | Form::Return,
         ) => false,
     }
-}
-
-fn form_above(page: PageView<'_, '_>, rung: usize, row: usize, column: usize) -> Option<Form>
-    requires rungs { rung < length page.parts.now }
-    requires rows { row < ROWS }
-    requires columns { column < COLUMNS }
-    ensures { result ≡ form_above (seen page.entry) rung row column }
-{
-    if row == 0 {
-        None
-    } else {
-        form_at(page, rung, row - 1, column)
-    }
-}
-
-fn form_below(page: PageView<'_, '_>, rung: usize, row: usize, column: usize) -> Option<Form>
-    requires rungs { rung < length page.parts.now }
-    requires rows { row < ROWS }
-    requires columns { column < COLUMNS }
-    ensures { result ≡ form_below (seen page.entry) rung row column }
-{
-    if row + 1 == ROWS {
-        None
-    } else {
-        form_at(page, rung, row + 1, column)
-    }
-}
-
-fn is_torn(page: PageView<'_, '_>, rung: usize, row: usize, column: usize) -> bool
-    requires rungs { rung < length page.parts.now }
-    requires rows { row < ROWS }
-    requires columns { column < COLUMNS }
-    ensures { IsTrue result ↔ IsTorn (seen page.entry) rung row column }
-{
-    is_apart(
-        form_above(page, rung, row, column),
-        form_at(page, rung, row, column),
-        form_below(page, rung, row, column),
-    )
 }
 
 /// Whether a block before the place is the instance.
@@ -312,8 +287,11 @@ fn drawn_at(page: PageView<'_, '_>, rung: usize, row: usize, column: usize) -> O
     requires columns { column < COLUMNS }
     ensures { (inst : ℕ) → (result ≡ Some inst) ↔ IsDrawnAt (seen page.entry) inst rung row column }
 {
-    let name = name_over(page, rung, row, column);
-    block_drawn(page.decls, &form_at(page, rung, row, column), &name)
+    block_drawn(
+        page.decls,
+        form_at(page, rung, row, column),
+        name_over(page, rung, row, column),
+    )
 }
 
 fn is_drawn_twice(page: PageView<'_, '_>, rung: usize, row: usize, column: usize) -> bool

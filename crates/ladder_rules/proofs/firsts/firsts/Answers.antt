@@ -1,4 +1,6 @@
-use Rattle.std.proofs.Common.{length, replicate, None, ap, ◌∙◌, rules}
+use Rattle.std.proofs.Common.{◌≡◌, ◌*◌, length, replicate, None, ap, subst, ◌∙◌, arith, rules}
+use Rattle.ladder_page.specs.declared.geometry.TheConstants.{PLACES}
+use Rattle.ladder_page.specs.Tables.{AreFirsts, HasBlock}
 use Rattle.ladder_rules.proofs.FirstLaws.{none_noted, one_noted}
 use Rattle.ladder_rules.proofs.firsts.firsts.Goals as goal
 
@@ -8,3 +10,8 @@ loop-n-init c =
 
 pub loop-n-preserved : goal.loop-n-preserved
 loop-n-preserved c = one_noted _ _ _ _ _ _ c.loop-n.invariant c.block_in.ensures c.note.ensures
+
+pub returns : goal.returns
+returns c =
+    let end : c.loop-n.n ≡ PLACES * c.args.rungs = omega (arith, c.loop-n.auto.n-end, c.loop-n-test.false) in
+    subst (λ n. AreFirsts (HasBlock c.args.decls.now c.args.forms.now c.args.overs.now) (length c.args.decls.now.instances) n c.loop-n.firsts.items) end c.loop-n.invariant

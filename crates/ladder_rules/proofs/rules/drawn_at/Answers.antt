@@ -4,4 +4,4 @@ use Rattle.ladder_rules.proofs.rules.drawn_at.Goals as goal
 
 pub returns : goal.returns
 unfolding instance_at
-returns c = drawn_told _ _ _ _ _ c.form_at.ensures c.name_over-name.ensures c.block_drawn.result c.block_drawn.ensures
+returns c = drawn_told _ _ _ _ _ c.form_at.ensures c.name_over.ensures c.block_drawn.result c.block_drawn.ensures
