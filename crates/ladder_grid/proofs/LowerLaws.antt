@@ -1,77 +1,138 @@
--- Blocks with a second input and their lower cells.
-use Rattle.std.proofs.Common.{◌≡◌, ℕ, Bool, true, false, not, ◌||◌, slice_get, is_some, option_map, Option, Some, None, refl, ap, subst, ◌∙◌}
+-- Names that no rule refuses are those that their cells may have, and blocks with a second input have their lower cells.
+use Rattle.std.proofs.Common.{if◌then◌else◌, ◌≡◌, ◌⊎◌, inl, inr, ℕ, ◌+◌, ◌<◌, ◌==◌, Bool, true, false, slice_get, option_map, Option, Some, None, refl, sym, ap, ◌∙◌, arith}
+use Rattle.std.proofs.lemmas.Bool.{cases_lt, eqb-true, eqb-false}
 use Rattle.ladder_vars.specs.Decls.{Declared}
+use Rattle.ladder_vars.specs.Kind.{traits_of}
 use Rattle.ladder_vars.specs.declared.decls.Instance.{Instance}
-use Rattle.ladder_vars.specs.declared.kind.BlockKind.{BlockKind}
 use Rattle.ladder_vars.specs.declared.decls.Symbol.{Symbol}
 use Rattle.ladder_vars.specs.declared.decls.Symbol.TheVariants as symbol
+use Rattle.ladder_vars.specs.declared.kind.BlockKind.{BlockKind}
+use Rattle.ladder_vars.specs.declared.kind.BlockKind.TheVariants as kind
+use Rattle.ladder_vars.specs.declared.kind.Output.{Output}
 use Rattle.ladder_vars.specs.declared.kind.Pin.{Pin}
 use Rattle.ladder_page.specs.declared.form.Form.{Form}
 use Rattle.ladder_page.specs.declared.form.Form.TheVariants.{Empty, Wire, Contact, Coil, Block, Lower, Jump, Return}
-use Rattle.ladder_vars.specs.declared.kind.Output.{Output}
+use Rattle.ladder_page.specs.declared.geometry.TheConstants.{ROWS}
 use Rattle.ladder_page.specs.declared.operand.Reference.{Reference}
-use Rattle.ladder_vars.specs.Kind.{traits_of}
-use Rattle.ladder_page.specs.Operand.{instance_on}
-use Rattle.ladder_page.specs.Suiting.{same_kind, is_of_kind, is_odd_on_block, is_odd}
-use Rattle.ladder_rules.specs.Shapes.{lacks_lower}
+use Rattle.ladder_page.specs.Operand.{MayHave, instance_on}
+use Rattle.ladder_page.specs.Page.{Page, form_at}
+use Rattle.ladder_page.specs.Suiting.{DrawsBlock}
+use Rattle.ladder_rules.specs.Rules.{IsBlockWith, IsLowerWith, IsTorn, wants_name}
+use Rattle.ladder_rules.proofs.BlockLaws.{IsBlockOf}
 use Rattle.ladder_grid.specs.Program.{is_pin, has_second}
-use Rattle.ladder_rules.proofs.OddLaws.{kind_is}
 
 none_some : {A : Type 0} {x : A} → None ≡ Some x → ⊥
 none_some h = cc
 
-some_number : (a b : ℕ) → Some a ≡ Some b → a ≡ b
-some_number a b h = cc
-
 off_on : false ≡ true → ⊥
 off_on h = cc
 
-on_off : true ≡ false → ⊥
-on_off h = cc
+same_kind : (a b : BlockKind) → Some a ≡ Some b → a ≡ b
+same_kind a b h = cc
 
-not_false : (b : Bool) → not b ≡ false → b ≡ true
-not_false true h = refl
-not_false false h = absurd (on_off h)
+-- ---- kinds are the same or aren't
 
-or_false : (x y : Bool) → (x || y) ≡ false → y ≡ false
-or_false true y h = absurd (on_off h)
-or_false false y h = h
+code : BlockKind → ℕ
+code kind.Ton = 0
+code kind.Tof = 1
+code kind.Tp = 2
+code kind.Ctu = 3
+code kind.Ctd = 4
+code kind.Sr = 5
+code kind.Rs = 6
 
-same_second : (a b : BlockKind) → same_kind a b ≡ true → (traits_of a).second_input ≡ (traits_of b).second_input
-same_second a b h = ap (λ k. (traits_of k).second_input) (kind_is a b h)
+kind_of : ℕ → BlockKind
+kind_of n =
+    if n == 0 then kind.Ton else (if n == 1 then kind.Tof else (if n == 2 then kind.Tp
+    else (if n == 3 then kind.Ctu else (if n == 4 then kind.Ctd else (if n == 5 then kind.Sr else kind.Rs)))))
 
-pub kind_second : (k : BlockKind) (o : Option Instance) → is_of_kind k o ≡ true → has_second o ≡ true → is_pin (traits_of k).second_input ≡ true
-kind_second k None h s = absurd (off_on h)
-kind_second k (Some i) h s = ap is_pin (same_second k i.kind h) ∙ s
+back : (k : BlockKind) → kind_of (code k) ≡ k
+unfolding kind_of code
+back kind.Ton = refl
+back kind.Tof = refl
+back kind.Tp = refl
+back kind.Ctu = refl
+back kind.Ctd = refl
+back kind.Sr = refl
+back kind.Rs = refl
 
-pub lower_found : (o : Option Pin) (below : Option Form) → is_pin o ≡ true → lacks_lower o below ≡ false → (q : Pin) × (linked : Bool) × (below ≡ Some (Lower q linked))
-lower_found None below h l = absurd (off_on h)
-lower_found (Some p) None h l = absurd (on_off l)
-lower_found (Some p) (Some (Lower q linked)) h l = (q, linked, refl)
-lower_found (Some p) (Some Empty) h l = absurd (on_off l)
-lower_found (Some p) (Some Wire) h l = absurd (on_off l)
-lower_found (Some p) (Some (Contact m)) h l = absurd (on_off l)
-lower_found (Some p) (Some (Coil m)) h l = absurd (on_off l)
-lower_found (Some p) (Some (Block k)) h l = absurd (on_off l)
-lower_found (Some p) (Some (Jump label)) h l = absurd (on_off l)
-lower_found (Some p) (Some Return) h l = absurd (on_off l)
+kind_stable : (a b : BlockKind) → ¬ (¬ (Some a ≡ Some b)) → Some a ≡ Some b
+kind_stable a b twice =
+    elim (code a == code b) as (λ t. (code a == code b) ≡ t → Some a ≡ Some b) [
+      | true ↦ λ e. ap Some (sym (back a) ∙ ap kind_of (eqb-true (code a) (code b) e) ∙ back b)
+      | false ↦ λ e. absurd (twice (λ same. eqb-false (code a) (code b) e (ap code (same_kind a b same))))
+    ] refl
 
-symbol_even : (decls : Declared) (k : BlockKind) (s : Symbol) (o : Option Output) (inst : ℕ) → instance_on (Some (Block k)) (Some s) ≡ Some inst → is_odd_on_block decls k s o ≡ false
-    → is_of_kind k (slice_get decls.instances inst) ≡ true
-symbol_even decls k (symbol.Var i) o inst h even = absurd (none_some h)
-symbol_even decls k (symbol.Instance i) o inst h even =
-    subst (λ n. is_of_kind k (slice_get decls.instances n) ≡ true) (some_number i inst h)
-    (not_false (is_of_kind k (slice_get decls.instances i)) (or_false (is_some o) (not (is_of_kind k (slice_get decls.instances i))) even))
+kind_known : (k : BlockKind) (o : Option Instance) → ¬ (¬ (option_map (λ (x : Instance). x.kind) o ≡ Some k)) → option_map (λ (x : Instance). x.kind) o ≡ Some k
+kind_known k None twice = absurd (twice (λ none. none_some none))
+kind_known k (Some i) twice = kind_stable i.kind k twice
 
-pub block_even : (decls : Declared) (form : Option Form) (name : Option Reference) (inst : ℕ) → instance_on form (option_map (λ (x : Reference). x.symbol) name) ≡ Some inst → is_odd decls form name ≡ false
-    → (k : BlockKind) × (form ≡ Some (Block k)) × (is_of_kind k (slice_get decls.instances inst) ≡ true)
-block_even decls None name inst h even = absurd (none_some h)
-block_even decls (Some (Block k)) None inst h even = absurd (none_some h)
-block_even decls (Some (Block k)) (Some x) inst h even = (k, refl, symbol_even decls k x.symbol x.output inst h even)
-block_even decls (Some (Lower pin linked)) name inst h even = absurd (none_some h)
-block_even decls (Some Empty) name inst h even = absurd (none_some h)
-block_even decls (Some Wire) name inst h even = absurd (none_some h)
-block_even decls (Some (Contact m)) name inst h even = absurd (none_some h)
-block_even decls (Some (Coil m)) name inst h even = absurd (none_some h)
-block_even decls (Some (Jump label)) name inst h even = absurd (none_some h)
-block_even decls (Some Return) name inst h even = absurd (none_some h)
+-- ---- a name that no rule refuses
+
+-- The cell wants a name, and this isn't one that it can't have.
+abbrev pub FitsName : Declared → Option Form → Option Reference → Type 0
+FitsName decls form name = (x : Reference) → name ≡ Some x → wants_name form ≡ true → ¬ (¬ (MayHave decls form x.symbol x.output))
+
+symbol_may : (decls : Declared) (k : BlockKind) (s : Symbol) (o : Option Output) (inst : ℕ) → instance_on (Some (Block k)) (Some s) ≡ Some inst
+    → ¬ (¬ (MayHave decls (Some (Block k)) s o)) → MayHave decls (Some (Block k)) s o
+symbol_may decls k (symbol.Var i) o inst h twice = absurd (none_some h)
+symbol_may decls k (symbol.Instance i) (Some o) inst h twice = absurd (twice (λ none. none))
+symbol_may decls k (symbol.Instance i) None inst h twice = kind_known k (slice_get decls.instances i) twice
+
+pub block_may : (decls : Declared) (form : Option Form) (name : Option Reference) (inst : ℕ) → instance_on form (option_map (λ (x : Reference). x.symbol) name) ≡ Some inst
+    → FitsName decls form name → IsBlockOf decls form name inst
+block_may decls None name inst h fits = absurd (none_some h)
+block_may decls (Some (Block k)) None inst h fits = absurd (none_some h)
+block_may decls (Some (Block k)) (Some x) inst h fits = (h, x, refl, symbol_may decls k x.symbol x.output inst h (fits x refl refl))
+block_may decls (Some (Lower pin linked)) name inst h fits = absurd (none_some h)
+block_may decls (Some Empty) name inst h fits = absurd (none_some h)
+block_may decls (Some Wire) name inst h fits = absurd (none_some h)
+block_may decls (Some (Contact m)) name inst h fits = absurd (none_some h)
+block_may decls (Some (Coil m)) name inst h fits = absurd (none_some h)
+block_may decls (Some (Jump label)) name inst h fits = absurd (none_some h)
+block_may decls (Some Return) name inst h fits = absurd (none_some h)
+
+-- ---- its lower cell
+
+pub block_of : (decls : Declared) (form : Option Form) (name : Option Reference) (inst : ℕ) → DrawsBlock decls form name inst
+    → (k : BlockKind) × (form ≡ Some (Block k)) × (option_map (λ (x : Instance). x.kind) (slice_get decls.instances inst) ≡ Some k)
+block_of decls None name inst h = absurd (none_some h.0)
+block_of decls (Some (Block k)) name inst h = (k, refl, h.2)
+block_of decls (Some (Lower pin linked)) name inst h = absurd (none_some h.0)
+block_of decls (Some Empty) name inst h = absurd (none_some h.0)
+block_of decls (Some Wire) name inst h = absurd (none_some h.0)
+block_of decls (Some (Contact m)) name inst h = absurd (none_some h.0)
+block_of decls (Some (Coil m)) name inst h = absurd (none_some h.0)
+block_of decls (Some (Jump label)) name inst h = absurd (none_some h.0)
+block_of decls (Some Return) name inst h = absurd (none_some h.0)
+
+pin_there : (o : Option Pin) → is_pin o ≡ true → (p : Pin) × (o ≡ Some p)
+pin_there None h = absurd (off_on h)
+pin_there (Some p) h = (p, refl)
+
+pub second_input : (k : BlockKind) (o : Option Instance) → option_map (λ (x : Instance). x.kind) o ≡ Some k → has_second o ≡ true
+    → (p : Pin) × ((traits_of k).second_input ≡ Some p)
+second_input k None is second = absurd (off_on second)
+second_input k (Some i) is second = pin_there (traits_of k).second_input (ap (λ x. is_pin (traits_of x).second_input) (sym (same_kind i.kind k is)) ∙ second)
+
+lower_or_none : (p : Pin) (below : Option Form) → ((q : Pin) × (linked : Bool) × (below ≡ Some (Lower q linked))) ⊎ ¬ (IsLowerWith p below)
+lower_or_none p None = inr (λ h. none_some h.1)
+lower_or_none p (Some Empty) = inr (λ h. absurd cc)
+lower_or_none p (Some Wire) = inr (λ h. absurd cc)
+lower_or_none p (Some (Contact m)) = inr (λ h. absurd cc)
+lower_or_none p (Some (Coil m)) = inr (λ h. absurd cc)
+lower_or_none p (Some (Block k)) = inr (λ h. absurd cc)
+lower_or_none p (Some (Lower q linked)) = inl (q, linked, refl)
+lower_or_none p (Some (Jump label)) = inr (λ h. absurd cc)
+lower_or_none p (Some Return) = inr (λ h. absurd cc)
+
+pub lower_found : (page : Page) (k r c : ℕ) (p : Pin) → IsBlockWith p (form_at page k r c) → ¬ (IsTorn page k r c)
+    → (q : Pin) × (linked : Bool) × (r + 1 < ROWS) × (form_at page k (r + 1) c ≡ Some (Lower q linked))
+lower_found page k r c p block whole =
+    elim (cases_lt (r + 1) ROWS) [
+      | inl below ↦ elim (lower_or_none p (form_at page k (r + 1) c)) [
+        | inl (q, linked, is) ↦ (q, linked, below, is)
+        | inr none ↦ absurd (whole (p, inl (block, λ _. none)))
+      ]
+      | inr last ↦ absurd (whole (p, inl (block, λ below lower. omega (arith, last, below))))
+    ]

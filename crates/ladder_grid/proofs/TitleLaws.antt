@@ -1,10 +1,10 @@
 -- A program stays whole and well formed where its declarations get other titles.
-use Rattle.std.proofs.Common.{◌≡◌, ℕ, zero, suc, ◌<◌, true, false, List, [], ◌∷◌, length, map, slice_get, Option, Some, None, refl, sym, ap, subst, ◌∙◌, arith}
+use Rattle.std.proofs.Common.{◌≡◌, ℕ, zero, suc, ◌<◌, List, [], ◌∷◌, map, slice_get, refl, sym, ap, subst, ◌∙◌}
 use Rattle.std.proofs.lemmas.List.{length-map}
 use Rattle.ladder_vars.specs.declared.decls.Var.{Var}
 use Rattle.ladder_vars.specs.declared.decls.Instance.{Instance}
 use Rattle.ladder_vars.specs.Decls.{Declared}
-use Rattle.ladder_vars.specs.Titles.{plain, plain_var, plain_instance, AreTitled, HasTakenAlias, Declares}
+use Rattle.ladder_vars.specs.Titles.{plain, plain_var, plain_instance}
 use Rattle.ladder_page.specs.Operand.{is_input_at}
 use Rattle.ladder_grid.specs.declared.site.Site.{Site}
 use Rattle.ladder_grid.specs.declared.cell.Operand.{Operand}

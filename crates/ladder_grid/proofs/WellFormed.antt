@@ -22,18 +22,13 @@ use Rattle.ladder_page.specs.declared.picture.Half.TheVariants as half
 use Rattle.ladder_page.specs.declared.operand.Reference.{Reference}
 use Rattle.ladder_page.specs.Gap.{Labels, is_named}
 use Rattle.ladder_page.specs.Operand.{instance_on}
-use Rattle.ladder_page.specs.Suiting.{is_odd}
-use Rattle.ladder_rules.proofs.OddLaws.{odd_is}
-use Rattle.ladder_rules.proofs.BlockLaws.{block_may}
-use Rattle.ladder_rules.specs.Rules.{IsDrawnAt}
+use Rattle.ladder_rules.proofs.BlockLaws.{drawn_back}
+use Rattle.ladder_rules.specs.Rules.{IsDrawnAt, IsTorn}
 use Rattle.ladder_page.specs.Page.{Page, labels_of, form_at, name_over, instance_at}
 use Rattle.ladder_page.specs.Seen.{instance_above, part_at}
 use Rattle.ladder_page.specs.AllPlaces.{reading_place}
-use Rattle.ladder_vars.specs.Kind.{traits_of}
 use Rattle.ladder_page.specs.Form.{leaps}
 use Rattle.ladder_rules.specs.Checks.{label_of, later, target_to, jump_label}
-use Rattle.ladder_rules.specs.Shapes.{lacks_lower, is_apart, form_above, form_below}
-use Rattle.ladder_rules.proofs.ShapeLaws.{torn}
 use Rattle.ladder_rules.specs.PageRules.{PartBreaks, target_of}
 use Rattle.ladder_rules.specs.Stops.{IsSoundPage}
 use Rattle.ladder_rules.proofs.TargetLaws.{target_is}
@@ -44,7 +39,7 @@ use Rattle.ladder_grid.specs.Reading.{cell_with, cell_drawn, site_drawn, memorie
 use Rattle.ladder_grid.specs.Build.{sites_of}
 use Rattle.ladder_page.proofs.FitLaws.{SymbolFits, refer_fits, instance_fits}
 use Rattle.ladder_grid.proofs.CellFits.{cell_fits, fits_numbered}
-use Rattle.ladder_grid.proofs.LowerLaws.{kind_second, lower_found, block_even}
+use Rattle.ladder_grid.proofs.LowerLaws.{FitsName, block_may, block_of, lower_found, second_input}
 use Rattle.ladder_page.proofs.ReadingOrder.{rung_of_place, row_of_place, column_of_place, earlier}
 use Rattle.ladder_page.proofs.PlaceLaws.{length-all_places, first_places-at}
 use Rattle.ladder_grid.proofs.NumberLaws.{numbered, drawn_numbered, number_is, before_yes, before_more, count-sites}
@@ -303,25 +298,21 @@ module _ (page : Page) (rungs : ℕ) (sites : List Site)
       ]
 
   -- G10: no name is one that its symbol can't have
-  never_odd : (k r c : ℕ) → k < rungs → r < ROWS → c < COLUMNS → is_odd page.decls (form_at page k r c) (name_over page k r c) ≡ false
+  never_odd : (k r c : ℕ) → k < rungs → r < ROWS → c < COLUMNS → FitsName page.decls (form_at page k r c) (name_over page k r c)
   unfolding PartBreaks
-  never_odd k r c below rows columns =
-      elim (is_odd page.decls (form_at page k r c) (name_over page k r c)) as (λ b. is_odd page.decls (form_at page k r c) (name_over page k r c) ≡ b → b ≡ false) [
-        | false ↦ λ _. refl
-        | true ↦ λ odd.
-            let high : c ≤ COLUMNS = omega arith in
-            let inside : k < length page.parts = omega (arith, below, count) in
-            let judged : k < RUNGS = omega (arith, below, few) in
-            absurd (sound (Grid rule.WrongKind) k ((part_at page k).start + 2 * r) (inl (
-              inside,
-              inr (inr (
-                judged,
-                2 * r,
-                refl,
-                (r, half.Name, rows, refl, (c, high, (columns, (odd_is _ _ _).0 odd))),
-              )),
-            )))
-      ] refl
+  never_odd k r c below rows columns x name wants odd =
+      let high : c ≤ COLUMNS = omega arith in
+      let inside : k < length page.parts = omega (arith, below, count) in
+      let judged : k < RUNGS = omega (arith, below, few) in
+      sound (Grid rule.WrongKind) k ((part_at page k).start + 2 * r) (inl (
+        inside,
+        inr (inr (
+          judged,
+          2 * r,
+          refl,
+          (r, half.Name, rows, refl, (c, high, (columns, (wants, x, name, odd)))),
+        )),
+      ))
 
   -- a block is drawn by a name that it may have
   drawn_at : (k r c inst : ℕ) → k < rungs → r < ROWS → c < COLUMNS → instance_at page k r c ≡ Some inst → IsDrawnAt page inst k r c
@@ -539,39 +530,21 @@ module _ (page : Page) (rungs : ℕ) (sites : List Site)
       ]
 
   -- G11: a block has its lower cell
-  never_apart : (k r c : ℕ) → k < rungs → r < ROWS → c < COLUMNS → is_apart (form_above page k r c) (form_at page k r c) (form_below page k r c) ≡ false
+  never_torn : (k r c : ℕ) → k < rungs → r < ROWS → c < COLUMNS → IsTorn page k r c → ⊥
   unfolding PartBreaks
-  never_apart k r c below rows columns =
-      elim (is_apart (form_above page k r c) (form_at page k r c) (form_below page k r c)) as
-      (λ b. is_apart (form_above page k r c) (form_at page k r c) (form_below page k r c) ≡ b → b ≡ false) [
-        | false ↦ λ _. refl
-        | true ↦ λ apart_here.
-            let high : c ≤ COLUMNS = omega arith in
-            let inside : k < length page.parts = omega (arith, below, count) in
-            let judged : k < RUNGS = omega (arith, below, few) in
-            let judged : k < RUNGS = omega (arith, below, few) in
-            absurd (sound (Grid rule.BlockShape) k ((part_at page k).start + (2 * r + 1)) (inl (
-              inside,
-              inr (inr (
-                judged,
-                2 * r + 1,
-                refl,
-                (r, half.Wire, rows, refl, (c, high, (columns, torn page k r c rows apart_here))),
-              )),
-            )))
-      ] refl
-
-  below_is : (k r c : ℕ) (form : Form) → r < ROWS → form_below page k r c ≡ Some form → (r + 1 < ROWS) × (form_at page k (r + 1) c ≡ Some form)
-  below_is k r c form rows h =
-      elim (r + 1 == ROWS) as (λ b. (r + 1 == ROWS) ≡ b → cond b None (form_at page k (r + 1) c) ≡ Some form → (r + 1 < ROWS) × (form_at page k (r + 1) c ≡ Some form)) [
-        | true ↦ λ test same. absurd (none_some same)
-        | false ↦ λ test same.
-            let less : r + 1 < ROWS = elim (cases_lt (r + 1) ROWS) [
-              | inl below ↦ below
-              | inr last ↦ absurd (eqb-false (r + 1) ROWS test (omega (arith, last, rows)))
-            ] in
-            (less, same)
-      ] refl h
+  never_torn k r c below rows columns torn =
+      let high : c ≤ COLUMNS = omega arith in
+      let inside : k < length page.parts = omega (arith, below, count) in
+      let judged : k < RUNGS = omega (arith, below, few) in
+      sound (Grid rule.BlockShape) k ((part_at page k).start + (2 * r + 1)) (inl (
+        inside,
+        inr (inr (
+          judged,
+          2 * r + 1,
+          refl,
+          (r, half.Wire, rows, refl, (c, high, (columns, torn))),
+        )),
+      ))
 
   lower_cell : (k r c inst : ℕ) (q : Pin) (linked : Bool) → k < rungs → r + 1 < ROWS → c < COLUMNS → instance_at page k r c ≡ Some inst
       → form_at page k (r + 1) c ≡ Some (Lower q linked) → cell_i (place k (r + 1) c) ≡ cell.Lower inst linked
@@ -594,18 +567,15 @@ module _ (page : Page) (rungs : ℕ) (sites : List Site)
   unfolding instance_at
   has_lower i inst h second =
       let s = block_place i inst (ap block_in h) in
-      let b = block_even page.decls (form_at page s.rung s.row s.column) (name_over page s.rung s.row s.column) inst s.holds
-      (never_odd s.rung s.row s.column s.below s.in_rung s.in_row) in
-      let lacks : lacks_lower (traits_of b.0).second_input (form_below page s.rung s.row s.column) ≡ false
-      = ap (λ f. is_apart (form_above page s.rung s.row s.column) f (form_below page s.rung s.row s.column)) (sym b.1)
-      ∙ never_apart s.rung s.row s.column s.below s.in_rung s.in_row in
-      let low = lower_found (traits_of b.0).second_input (form_below page s.rung s.row s.column) (kind_second b.0 (slice_get page.decls.instances inst) b.2 second) lacks in
-      let down = below_is s.rung s.row s.column (Lower low.0 low.1) s.in_rung low.2 in
+      let b = block_of page.decls (form_at page s.rung s.row s.column) (name_over page s.rung s.row s.column) inst
+      (drawn_back page.decls _ _ inst (drawn_at s.rung s.row s.column inst s.below s.in_rung s.in_row s.holds)) in
+      let p = second_input b.0 (slice_get page.decls.instances inst) b.2 second in
+      let low = lower_found page s.rung s.row s.column p.0 (b.0, b.1, p.1) (never_torn s.rung s.row s.column s.below s.in_rung s.in_row) in
       let next : i + 1 ≡ place s.rung (s.row + 1) s.column = omega (arith, s.at) in (
         low.1,
-        omega (arith, s.at, down.0),
+        omega (arith, s.at, low.2),
         ap cell_i next
-            ∙ lower_cell s.rung s.row s.column inst low.0 low.1 s.below down.0 s.in_row s.holds down.1,
+            ∙ lower_cell s.rung s.row s.column inst low.0 low.1 s.below low.2 s.in_row s.holds low.3,
       )
 
   pub read_well_formed : IsWellFormed (drawing page.decls rungs sites)

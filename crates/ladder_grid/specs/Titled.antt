@@ -1,7 +1,6 @@
 -- Programs whose declarations have their aliases for titles.
-use Rattle.std.specs.Prelude.{◌≡◌, ℕ, List, Bool, true, false}
+use Rattle.std.specs.Prelude.{ℕ, List, Bool, true, false}
 use Rattle.ladder_vars.specs.Titles.{plain, AreTitled, HasTakenAlias}
-use Rattle.ladder_grid.specs.declared.fault.GridFault.{GridFault}
 use Rattle.ladder_grid.specs.declared.titled.TitledFault.{TitledFault}
 use Rattle.ladder_grid.specs.declared.titled.TitledFault.TheVariants.{Grid, Title}
 use Rattle.ladder_grid.specs.Program.{Drawing}

@@ -5,8 +5,8 @@
 
 ghost use Rattle.std.specs.Prelude.{◌≡◌, ◌<◌, ◌≤◌, ◌+◌, ◌*◌, ◌-◌, ◌/◌, length, map, ◌&&◌, ◌||◌, IfOk, if◌then◌else◌};
 ghost use Rattle.ladder_page.specs.declared.geometry.TheConstants.{RUNGS, ROWS, COLUMNS, PLACES};
-ghost use Rattle.ladder_grid.specs.Program.{cell_of, is_linked, is_block, jump_of};
-ghost use Rattle.ladder_grid.specs.Gates.{last_feeder, left_of, other_of, below_of, literal_on, literal_of, gate_at, feeds_on, has_gate, gates_of, acts, action_at, actions_of, exit_by, leaps_below};
+ghost use Rattle.ladder_grid.specs.Program.{cell_of, jump_of};
+ghost use Rattle.ladder_grid.specs.Gates.{last_feeder, left_of, other_of, below_of, literal_of, gate_at, has_gate, gates_of, acts, action_at, actions_of, exit_by, leaps_below};
 ghost use Rattle.ladder_grid.specs.Sheet.{drawing_of, HasGates, HasActions, HasJumps, HasExits};
 
 use crate::cell::{Cell, Operand};
@@ -132,40 +132,24 @@ fn other_of(sheet: Sheet<'_>, rung: usize, at: usize) -> u8
     }
 }
 
-fn is_linked(cell: Cell) -> bool
-    ensures { result ≡ is_linked cell }
-{
-    match cell {
-        Cell::Lower { linked, .. } => linked,
-        Cell::Empty
-        | Cell::Wire
-        | Cell::Contact { .. }
-        | Cell::Coil { .. }
-        | Cell::Block { .. }
-        | Cell::Jump { .. }
-        | Cell::Return => false,
-    }
-}
-
 pub(crate) fn below_of(sheet: Sheet<'_>, rung: usize, at: usize) -> u8
     requires rungs { rung < RUNGS }
     requires places { at < PLACES }
     ensures { result ≡ below_of (drawing_of sheet.entry) rung at }
 {
-    if at % ROWS + 1 < ROWS && is_linked(cell_of(sheet, rung, at + 1)) {
-        left_of(sheet, rung, at + 1)
-    } else {
-        OFF as u8
+    if at % ROWS + 1 >= ROWS {
+        return OFF as u8;
     }
-}
-
-fn literal_on(mode: Mode, operand: Operand) -> Literal
-    ensures { result ≡ literal_on mode operand }
-{
-    match (mode, operand) {
-        (Mode::Plain, Operand::Var(var)) if var < VARIABLES => Literal::Is(var as u16),
-        (Mode::Negated, Operand::Var(var)) if var < VARIABLES => Literal::Not(var as u16),
-        (Mode::Plain | Mode::Negated | Mode::Rising | Mode::Falling, _) => Literal::Other,
+    match cell_of(sheet, rung, at + 1) {
+        Cell::Lower { linked: true, .. } => left_of(sheet, rung, at + 1),
+        Cell::Lower { linked: false, .. }
+        | Cell::Empty
+        | Cell::Wire
+        | Cell::Contact { .. }
+        | Cell::Coil { .. }
+        | Cell::Block { .. }
+        | Cell::Jump { .. }
+        | Cell::Return => OFF as u8,
     }
 }
 
@@ -173,8 +157,18 @@ fn literal_of(cell: Cell) -> Literal
     ensures { result ≡ literal_of cell }
 {
     match cell {
-        Cell::Contact { mode, operand, .. } => literal_on(mode, operand),
-        Cell::Empty
+        Cell::Contact {
+            mode: Mode::Plain,
+            operand: Operand::Var(var),
+            ..
+        } if var < VARIABLES => Literal::Is(var as u16),
+        Cell::Contact {
+            mode: Mode::Negated,
+            operand: Operand::Var(var),
+            ..
+        } if var < VARIABLES => Literal::Not(var as u16),
+        Cell::Contact { .. }
+        | Cell::Empty
         | Cell::Wire
         | Cell::Coil { .. }
         | Cell::Block { .. }
@@ -198,10 +192,13 @@ fn gate_at(sheet: Sheet<'_>, rung: usize, at: usize) -> Gate
     }
 }
 
-fn is_block(cell: Cell) -> bool
-    ensures { result ≡ is_block cell }
+/// Whether the cell is a block, or its right link enters the group on its right.
+fn has_gate(sheet: Sheet<'_>, rung: usize, at: usize) -> bool
+    requires rungs { rung < RUNGS }
+    requires places { at < PLACES }
+    ensures { result ≡ has_gate (drawing_of sheet.entry) rung at }
 {
-    match cell {
+    match cell_of(sheet, rung, at) {
         Cell::Block { .. } => true,
         Cell::Empty
         | Cell::Wire
@@ -209,24 +206,10 @@ fn is_block(cell: Cell) -> bool
         | Cell::Coil { .. }
         | Cell::Lower { .. }
         | Cell::Jump { .. }
-        | Cell::Return => false,
+        | Cell::Return => {
+            at / ROWS + 1 < COLUMNS && feeds(sheet, rung, at % ROWS, at / ROWS + 1, at % ROWS)
+        }
     }
-}
-
-fn feeds_on(sheet: Sheet<'_>, rung: usize, at: usize) -> bool
-    requires rungs { rung < RUNGS }
-    requires places { at < PLACES }
-    ensures { result ≡ feeds_on (drawing_of sheet.entry) rung at }
-{
-    at / ROWS + 1 < COLUMNS && feeds(sheet, rung, at % ROWS, at / ROWS + 1, at % ROWS)
-}
-
-fn has_gate(sheet: Sheet<'_>, rung: usize, at: usize) -> bool
-    requires rungs { rung < RUNGS }
-    requires places { at < PLACES }
-    ensures { result ≡ has_gate (drawing_of sheet.entry) rung at }
-{
-    is_block(cell_of(sheet, rung, at)) || feeds_on(sheet, rung, at)
 }
 
 #[tactic(auto, unfolding(crate::specs::Gates::gates_of))]

@@ -1,5 +1,5 @@
 -- A block is drawn by a name that it may have.
-use Rattle.std.proofs.Common.{◌≡◌, ◌↔◌, ℕ, Bool, IsTrue, true, false, slice_get, option_map, Option, Some, None, refl, sym, ap, subst, ◌∙◌}
+use Rattle.std.proofs.Common.{◌≡◌, ◌↔◌, ℕ, Bool, IsTrue, true, false, slice_get, option_map, Option, Some, None, refl, sym, subst, ◌∙◌}
 use Rattle.ladder_vars.specs.Decls.{Declared}
 use Rattle.ladder_vars.specs.declared.kind.BlockKind.{BlockKind}
 use Rattle.ladder_vars.specs.declared.kind.Output.{Output}
@@ -63,7 +63,7 @@ named_so decls k (Some y) inst x h is fits =
     let so = draws decls k y.symbol y.output inst h here in
     (h, so.0, so.1)
 
-drawn_back : (decls : Declared) (form : Option Form) (name : Option Reference) (inst : ℕ) → IsBlockOf decls form name inst → DrawsBlock decls form name inst
+pub drawn_back : (decls : Declared) (form : Option Form) (name : Option Reference) (inst : ℕ) → IsBlockOf decls form name inst → DrawsBlock decls form name inst
 drawn_back decls None name inst h = absurd (none_some h.0)
 drawn_back decls (Some (Block k)) name inst h = named_so decls k name inst h.1 h.0 h.2 h.3
 drawn_back decls (Some (Lower pin linked)) name inst h = absurd (none_some h.0)

@@ -1,10 +1,9 @@
 -- A block with a second input that lacks its lower cell is torn.
-use Rattle.std.proofs.Common.{◌≡◌, ◌↔◌, ◌⊎◌, inl, inr, ℕ, ◌+◌, ◌<◌, Bool, IsTrue, Option, Some, sym, ap, subst, ◌∙◌}
+use Rattle.std.proofs.Common.{◌≡◌, ◌↔◌, inl, inr, ℕ, ◌+◌, ◌<◌, Bool, IsTrue, Some, sym, ap, subst, ◌∙◌}
 use Rattle.ladder_page.specs.declared.geometry.TheConstants.{ROWS}
 use Rattle.ladder_vars.specs.Kind.{traits_of}
 use Rattle.ladder_vars.specs.declared.kind.BlockKind.{BlockKind}
 use Rattle.ladder_vars.specs.declared.kind.Pin.{Pin}
-use Rattle.ladder_page.specs.declared.form.Form.{Form}
 use Rattle.ladder_page.specs.declared.form.Form.TheVariants.{Block, Lower}
 use Rattle.ladder_page.specs.Page.{Page, form_at}
 use Rattle.ladder_rules.specs.Rules.{IsLowerWith, IsTorn}

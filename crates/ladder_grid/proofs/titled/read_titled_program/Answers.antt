@@ -1,11 +1,7 @@
-use Rattle.std.proofs.Common.{◌≡◌, ◌∙◌, List, ℕ, drop, sym, ap, subst}
+use Rattle.std.proofs.Common.{List, ℕ, drop}
 use Rattle.ladder_page.specs.ReadLines.{page_of}
-use Rattle.ladder_vars.specs.Decls.{Declared}
-use Rattle.ladder_grid.specs.declared.site.Site.{Site}
 use Rattle.ladder_grid.specs.Build.{AreSitesOf}
-use Rattle.ladder_grid.specs.Program.{Drawing, drawing}
-use Rattle.ladder_grid.specs.Reading.{IsProgram}
-use Rattle.ladder_grid.specs.Titled.{without_aliases}
+use Rattle.ladder_grid.specs.Program.{drawing}
 use Rattle.ladder_grid.proofs.FaultLaws.{declared_right, right, no_program}
 use Rattle.ladder_grid.proofs.OneProgram.{makes_program}
 use Rattle.ladder_grid.proofs.ReadingLaws.{sites_whole, sites_drawn}
