@@ -10,7 +10,6 @@ use Rattle.std.proofs.lemmas.List.Folds.{list_any-append}
 use Rattle.ladder_page.specs.declared.geometry.TheConstants.{ROWS, PLACES}
 use Rattle.ladder_grid.specs.Program.{Drawing, feeds, is_block, joined, site_at}
 use Rattle.ladder_grid.specs.declared.cell.Cell.{Cell}
-use Rattle.ladder_grid.proofs.JoinLaws as joins
 use Rattle.ladder_scan.specs.declared.seen.Mark.{Mark}
 use Rattle.ladder_scan.specs.Cells.{place_at}
 use Rattle.ladder_scan.specs.Routes.{Route, block_end, routes, through}
@@ -205,27 +204,6 @@ past_ended p marks j n row column m cell block live ended h ec em eb el ee =
     ∙ ap (λ (x : Mark). cond block (not x.right && here) (on || ((to && not (is_closed x cell)) && here))) (sym em)
     ∙ ap (λ b. cond block (not m.right && here) (on || ((b && not (is_closed m cell)) && here))) (sym el)
     ∙ ap (λ b. cond block (not m.right && here) (b || ((live && not (is_closed m cell)) && here))) (sym ee)
-
--- ---- vertical links
-
-pub joined_none : (p : Drawing) (j top column : ℕ) → true ≡ joined p j top column (top - top)
-joined_none p j top column = joins.joined_none p j top column ∙ ap (joined p j top column) (sym zero_less)
-  where
-    zero_less : top - top ≡ 0
-    zero_less = omega arith
-
-pub joined_more : (p : Drawing) (j top column row : ℕ) → top ≤ row
-    → (joined p j top column (row - top) && (site_at p j row column).vertical) ≡ joined p j top column (row + 1 - top)
-joined_more p j top column row le =
-    ap (λ r. joined p j top column (row - top) && (site_at p j r column).vertical) here
-    ∙ sym (joins.joined_more p j top column (row - top))
-    ∙ ap (joined p j top column) next
-  where
-    here : row ≡ top + (row - top)
-    here = omega (arith, le)
-
-    next : suc (row - top) ≡ row + 1 - top
-    next = omega (arith, le)
 
 -- ---- from column to column
 

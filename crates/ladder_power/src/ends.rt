@@ -2,13 +2,13 @@
 
 ghost use Rattle.std.specs.Prelude.{◌≡◌, ◌<◌, ◌≤◌, ◌-◌, ◌+◌, ◌%◌, ◌/◌, ◌&&◌, ◌*◌, false};
 ghost use Rattle.ladder_page.specs.declared.geometry.TheConstants.{COLUMNS, PLACES, ROWS, RUNGS};
-ghost use Rattle.ladder_grid.specs.Program.{feeds, is_block, joined, takes_power};
+ghost use Rattle.ladder_grid.specs.Program.{is_block};
 ghost use Rattle.ladder_power.specs.Ends.{AreAnswers, any_past, any_to, is_ended, is_live, of_rung};
 ghost use Rattle.ladder_power.specs.Show.{mark_in};
 ghost use Rattle.ladder_power.specs.Why.{ends_at, is_closed};
 
 use crate::show::mark_in;
-use ladder_grid::{Cell, Joint, Program};
+use ladder_grid::{Cell, Program};
 use ladder_page::geometry::{PLACES, ROWS};
 use ladder_scan::Mark;
 
@@ -18,43 +18,6 @@ pub(crate) struct Rung<'a> {
     pub program: &'a Program,
     pub marks: &'a [Mark],
     pub number: usize,
-}
-
-fn takes_power(joint: Joint) -> bool
-    ensures { result ≡ takes_power joint }
-{
-    match joint {
-        Joint::Dash | Joint::Plus => true,
-        Joint::Bar | Joint::Blank => false,
-    }
-}
-
-/// Whether vertical links on the left of the column join the rows from `top` to `bottom`.
-fn joined(rung: Rung<'_>, top: usize, bottom: usize, column: usize) -> bool
-    requires number { rung.number < rung.program.now.rungs }
-    requires rows { bottom < ROWS }
-    requires order { top ≤ bottom }
-    requires columns { (1 ≤ column) × (column < COLUMNS) }
-    ensures { result ≡ joined rung.entry.program.now rung.entry.number top column (bottom - top) }
-{
-    let mut all = true;
-    for row in top..bottom {
-        all = all & rung.program.vertical(rung.number, row, column);
-    }
-    all
-}
-
-/// Whether power of the row `from` in the column before enters the joint on the left of the column.
-fn feeds(rung: Rung<'_>, row: usize, column: usize, from: usize) -> bool
-    requires number { rung.number < rung.program.now.rungs }
-    requires row { row < ROWS }
-    requires columns { (1 ≤ column) × (column < COLUMNS) }
-    requires from { from < ROWS }
-    ensures { result ≡ feeds rung.entry.program.now rung.entry.number row column from }
-{
-    rung.program.right_link(rung.number, from, column - 1)
-        && takes_power(rung.program.joint(rung.number, from, column))
-        && joined(rung, row.min(from), row.max(from), column)
 }
 
 fn is_block(cell: Cell) -> bool
@@ -137,7 +100,8 @@ fn is_live(rung: Rung<'_>, at: usize, live: &[bool]) -> bool
     for from in 0..ROWS {
         let before = ROWS * (column - 1) + from;
         found = found
-            | (feeds(rung, row, column, from) & passes(rung, from, column - 1, live[before]));
+            | (rung.program.feeds(rung.number, row, column, from)
+                & passes(rung, from, column - 1, live[before]));
     }
     found
 }
@@ -159,7 +123,7 @@ fn is_ended(rung: Rung<'_>, at: usize, live: &[bool], ended: &[bool], end: usize
     for from in 0..ROWS {
         let before = ROWS * (column - 1) + from;
         let past = ends(rung, from, column - 1, live[before], ended[before], end);
-        found = found | (feeds(rung, row, column, from) & past);
+        found = found | (rung.program.feeds(rung.number, row, column, from) & past);
     }
     found
 }

@@ -2,7 +2,7 @@
 
 ghost use Rattle.std.specs.Prelude.{◌≡◌, ◌<◌, ◌≤◌, ◌%◌, ◌/◌, if◌then◌else◌};
 ghost use Rattle.ladder_page.specs.declared.geometry.TheConstants.{PLACES, ROWS, RUNGS};
-ghost use Rattle.ladder_grid.specs.Program.{cell_of, is_coil_of};
+ghost use Rattle.ladder_grid.specs.Program.{cell_of};
 ghost use Rattle.ladder_text.specs.Block.{Sends};
 ghost use Rattle.ladder_power.specs.Ends.{AreAnswers, is_live, of_rung};
 ghost use Rattle.ladder_power.specs.Why.{coil_head, coil_notes, dead_notes, end_line, end_note, end_notes, evaluated_above, instance_name, open_name, open_output, open_reason, output_of, output_word, passed_note, place_notes, power_notes, rung_why, var_name, why};
@@ -317,21 +317,6 @@ fn add_coil_notes<W: Sink>(
     add_power_notes(block, rung, at, mark, writer)
 }
 
-fn is_coil_of(var: usize, cell: Cell) -> bool
-    ensures { result ≡ is_coil_of var cell }
-{
-    match cell {
-        Cell::Coil { var: written, .. } => written == var,
-        Cell::Empty
-        | Cell::Wire
-        | Cell::Contact { .. }
-        | Cell::Block { .. }
-        | Cell::Lower { .. }
-        | Cell::Jump { .. }
-        | Cell::Return => false,
-    }
-}
-
 fn add_place_notes<W: Sink>(
     block: &mut Block,
     rung: Rung<'_>,
@@ -344,7 +329,7 @@ fn add_place_notes<W: Sink>(
     ensures { Sends (W.log writer.old) (W.log writer.new) block.old block.new result (place_notes rung.entry.program.now rung.entry.marks.now var rung.entry.number at) }
 {
     let _rungs = rung.program.rungs();
-    if is_coil_of(var, cell_at(rung, at)) {
+    if cell_at(rung, at).is_coil_of(var) {
         add_coil_notes(block, rung, var, at, writer)
     } else {
         block.add(b"", writer)

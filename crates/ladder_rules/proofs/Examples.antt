@@ -1,17 +1,30 @@
 -- A vertical link with a loose end, computed.
-use Rattle.std.proofs.Common.{◌≡◌, [], ◌∷◌, codes, refl, true, false}
+use Rattle.std.proofs.Common.{◌≡◌, [], ◌∷◌, codes, refl, true, false, None, length, arith}
+use Rattle.ladder_vars.specs.Decls.{Declared}
+use Rattle.ladder_page.specs.Lines.{rung_of}
+use Rattle.ladder_page.specs.Page.{Page}
 use Rattle.ladder_page.specs.Picture.{Lines}
+use Rattle.ladder_page.specs.ReadLines.{page}
+use Rattle.ladder_page.specs.declared.picture.Half.TheVariants as half
 use Rattle.ladder_page.proofs.Examples.{bridged}
-use Rattle.ladder_rules.specs.Checks.{is_loose}
+use Rattle.ladder_rules.specs.Rules.{CellBreaks}
+use Rattle.ladder_rules.specs.declared.fault.GridRule.TheVariants as rule
 
 -- a contact that another one bridges, without a branch on the first row
 loose : Lines
 loose = codes "|     A           Y" ∷ codes "|----| |---------( )----" ∷ codes "|     A     |" ∷ codes "|----| |----+" ∷ []
 
-closed_vertical : is_loose bridged 1 1 ≡ false
-unfolding bridged
-closed_vertical = refl
+-- the lines as the one rung of a page
+abbrev drawn : Declared → Lines → Page
+drawn decls lines = page decls lines None (record { from = 0; start = 0; end = length lines } ∷ []) []
 
-loose_vertical : is_loose loose 1 1 ≡ true
-unfolding loose
-loose_vertical = refl
+off_on : false ≡ true → ⊥
+off_on h = cc
+
+closed_vertical : (decls : Declared) → CellBreaks rule.BrokenVertical half.Name (drawn decls bridged) 0 1 1 → ⊥
+unfolding bridged rung_of
+closed_vertical decls h = off_on h.1
+
+loose_vertical : (decls : Declared) → CellBreaks rule.BrokenVertical half.Name (drawn decls loose) 0 1 1
+unfolding loose rung_of
+loose_vertical decls = (omega arith, refl)

@@ -1,10 +1,10 @@
 -- Private: parts of the rules, as the code has them in functions of their own.
-use Rattle.std.specs.Prelude.{ℕ, ◌+◌, ◌-◌, ◌*◌, ◌==◌, ◌&&◌, ◌||◌, ◌≡◌, ◌<◌, ◌≤◌, Bool, not, nat_le, List, drop, Option, Some, None, is_some, is_none, option_and_then, position, if◌then◌else◌, nat_lt}
+use Rattle.std.specs.Prelude.{ℕ, ◌+◌, ◌-◌, ◌==◌, ◌&&◌, ◌||◌, ◌≡◌, ◌<◌, ◌≤◌, Bool, not, nat_le, List, drop, Option, Some, None, is_some, is_none, option_and_then, position, if◌then◌else◌, nat_lt}
 use Rattle.std.specs.List.{list_any}
-use Rattle.ladder_page.specs.declared.geometry.TheConstants.{ROWS, COLUMNS, PITCH, RAIL}
+use Rattle.ladder_page.specs.declared.geometry.TheConstants.{ROWS, COLUMNS, RAIL}
 use Rattle.ladder_page.specs.declared.lines.Part.{Part}
-use Rattle.ladder_page.specs.Bytes.{space, bar, is_upright}
-use Rattle.ladder_page.specs.Picture.{Lines, line_at, half_line, ch, has_text, joint}
+use Rattle.ladder_page.specs.Bytes.{space}
+use Rattle.ladder_page.specs.Picture.{Lines, line_at, half_line, has_text}
 use Rattle.ladder_page.specs.Gap.{Labels, is_named, label_in, label_before}
 use Rattle.ladder_page.specs.declared.form.Form.{Form}
 use Rattle.ladder_page.specs.declared.form.Form.TheVariants.{Jump}
@@ -68,7 +68,3 @@ target_to labels k (Some label) = later k (position (is_named label) labels)
 -- a jump has no target
 abbrev pub leads_nowhere : Labels → ℕ → Option Form → Bool
 leads_nowhere labels k form = is_some (jump_label form) && is_none (target_of labels k form)
-
--- a bar on the name line of the row has a loose end
-abbrev pub is_loose : Lines → ℕ → ℕ → Bool
-is_loose rung r c = ch rung (2 * r) (PITCH * c) == bar && (r == 0 || (not (is_upright (joint rung (r - 1) c)) || not (is_upright (joint rung r c))))

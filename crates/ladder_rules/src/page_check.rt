@@ -5,7 +5,7 @@ ghost use Rattle.ladder_page.specs.declared.geometry.TheConstants.{RUNGS, LINES}
 ghost use Rattle.ladder_page.specs.Gap.{is_named};
 ghost use Rattle.ladder_page.specs.Seen.{seen, part_at};
 ghost use Rattle.ladder_page.specs.Page.{labels_of};
-ghost use Rattle.ladder_rules.specs.Checks.{label_of, jump_label, later, leads_nowhere};
+ghost use Rattle.ladder_rules.specs.Checks.{label_of, leads_nowhere};
 ghost use Rattle.ladder_rules.specs.PageRules.{target_of, PartBreaks, EndBreaks, TargetBreaks};
 ghost use Rattle.ladder_rules.specs.Stops.{IsSoundPage, IsBrokenIn, IsNear};
 ghost use Rattle.ladder_rules.specs.declared.fault.Stop.TheVariants.{Broken};
@@ -103,11 +103,15 @@ fn position_of(labels: &[Option<Name>], word: &Name) -> Option<usize>
     labels.iter().position(|label| is_named(label, word))
 }
 
-fn jump_label(form: &Option<Form>) -> Option<Name>
-    ensures { result ≡ jump_label form.now }
+/// The rung that a cell of the rung k leads to by a label.
+pub fn target_of(labels: &[Option<Name>], rung: usize, form: &Option<Form>) -> Option<usize>
+    ensures { result ≡ target_of labels.now rung form.now }
 {
     match form {
-        Some(Form::Jump(label)) => Some(*label),
+        Some(Form::Jump(label)) => match position_of(labels, label) {
+            Some(target) if rung < target => Some(target),
+            Some(_) | None => None,
+        },
         None
         | Some(
             Form::Empty
@@ -121,29 +125,22 @@ fn jump_label(form: &Option<Form>) -> Option<Name>
     }
 }
 
-fn later(rung: usize, target: Option<usize>) -> Option<usize>
-    ensures { result ≡ later rung target }
-{
-    match target {
-        Some(target) => if rung < target { Some(target) } else { None },
-        None => None,
-    }
-}
-
-/// The rung that a cell of the rung k leads to by a label.
-pub fn target_of(labels: &[Option<Name>], rung: usize, form: &Option<Form>) -> Option<usize>
-    ensures { result ≡ target_of labels.now rung form.now }
-{
-    match jump_label(form) {
-        Some(label) => later(rung, position_of(labels, &label)),
-        None => None,
-    }
-}
-
 fn leads_nowhere(labels: &[Option<Name>], rung: usize, form: &Option<Form>) -> bool
     ensures { result ≡ leads_nowhere labels.now rung form.now }
 {
-    jump_label(form).is_some() && target_of(labels, rung, form).is_none()
+    match form {
+        Some(Form::Jump(_)) => target_of(labels, rung, form).is_none(),
+        None
+        | Some(
+            Form::Empty
+            | Form::Wire
+            | Form::Contact(_)
+            | Form::Coil(_)
+            | Form::Block(_)
+            | Form::Lower(_, _)
+            | Form::Return,
+        ) => false,
+    }
 }
 
 /// The first line of the rung where a jump has no target.

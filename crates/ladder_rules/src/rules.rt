@@ -10,7 +10,7 @@ ghost use Rattle.ladder_page.specs.AllPlaces.{reading_place};
 ghost use Rattle.ladder_rules.specs.Rules.{is_joint, fits_joint, wants_name, IsBlockWith, IsLowerWith, IsTorn, IsDrawnAt, CellBreaks, BreaksAt};
 ghost use Rattle.ladder_page.specs.Picture.{has_text, ch, half_line};
 ghost use Rattle.ladder_page.specs.Form.{leaps};
-ghost use Rattle.ladder_rules.specs.Checks.{is_loose, IsDrawnBefore, IsBrokenAlong, IsBrokenOn, IsKept};
+ghost use Rattle.ladder_rules.specs.Checks.{IsDrawnBefore, IsBrokenAlong, IsBrokenOn, IsKept};
 ghost use Rattle.ladder_page.specs.Page.{rung_at, form_at, name_over};
 ghost use Rattle.ladder_page.specs.Texts.{text_over};
 ghost use Rattle.ladder_rules.specs.declared.fault.GridRule.{GridRule};
@@ -100,12 +100,15 @@ fn is_branch(b: u8) -> bool
 }
 
 /// Whether a bar on the name line of the row has a loose end.
-fn is_loose(lines: &[&[u8]], row: usize, column: usize) -> bool
+fn is_loose(page: PageView<'_, '_>, rung: usize, row: usize, column: usize) -> bool
+    requires rungs { rung < length page.parts.now }
     requires rows { row < ROWS }
     requires columns { column < COLUMNS }
-    ensures { result ≡ is_loose (map (λ l. l.now) lines.now) row column }
+    ensures { IsTrue result ↔ CellBreaks rule.BrokenVertical half.Name (seen page.entry) rung row column }
 {
-    ch(lines, 2 * row, PITCH * column) == b'|'
+    let lines = rung_at(page, rung);
+    column >= 1
+        && ch(lines, 2 * row, PITCH * column) == b'|'
         && (row == 0
             || !is_branch(joint(lines, row - 1, column))
             || !is_branch(joint(lines, row, column)))
@@ -389,7 +392,7 @@ fn name_breaks(
     ensures { IsTrue result ↔ CellBreaks rule half.Name (seen page.entry) rung row column }
 {
     match rule {
-        GridRule::BrokenVertical => column >= 1 && is_loose(rung_at(page, rung), row, column),
+        GridRule::BrokenVertical => is_loose(page, rung, row, column),
         GridRule::NameMissing => lacks_name(page, rung, row, column),
         GridRule::NameWithoutSymbol => has_idle_text(page, rung, row, column),
         GridRule::Undeclared => is_undeclared(page, rung, row, column),
