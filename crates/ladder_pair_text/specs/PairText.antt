@@ -4,11 +4,11 @@ use Rattle.ladder_grid.specs.Program.{Drawing}
 use Rattle.ladder_pairs.specs.declared.pair.Pair.{Pair}
 use Rattle.ladder_records.specs.Left.{Fields}
 use Rattle.ladder_records.specs.Text.{lines_text}
-use Rattle.ladder_uses.specs.Uses.{name_of}
+use Rattle.ladder_vars.specs.Decls.{symbol_name}
 
 -- the row of a pair: both names, as they are declared
 abbrev pub pair_row : Drawing → Pair → Fields
-pair_row p pair = name_of p.decls pair.first ∷ name_of p.decls pair.second ∷ []
+pair_row p pair = symbol_name p.decls pair.first ∷ symbol_name p.decls pair.second ∷ []
 
 -- the text that is written: a header, and a row for each pair
 abbrev pub pairs_text : Drawing → List Pair → List ℕ

@@ -5,29 +5,11 @@ ghost use Rattle.ladder_pair_text.specs.PairText.{pair_row, pairs_text};
 ghost use Rattle.ladder_records.specs.Text.{line_text, lines_text};
 ghost use Rattle.ladder_text.specs.Block.{Sends};
 ghost use Rattle.ladder_text.specs.Log.{Puts};
-ghost use Rattle.ladder_uses.specs.Uses.{name_of};
 
 use ladder_grid::Program;
 use ladder_pairs::{Pair, Pairs};
 use ladder_records::add_line;
 use ladder_text::{Block, Sink, WriteFault};
-use ladder_vars::{Decls, Symbol};
-
-/// How it is spelled where it is declared.
-fn name_of(decls: &Decls, symbol: Symbol) -> &[u8]
-    ensures { result.now ≡ name_of decls.now symbol }
-{
-    match symbol {
-        Symbol::Var(var) => match decls.vars().get(var) {
-            Some(var) => var.title.bytes(),
-            None => b"",
-        },
-        Symbol::Instance(inst) => match decls.instances().get(inst) {
-            Some(instance) => instance.title.bytes(),
-            None => b"",
-        },
-    }
-}
 
 /// Adds the line of a record with two fields.
 fn add_two<W: Sink>(
@@ -51,8 +33,8 @@ fn add_pair<W: Sink>(
     ensures { Sends (W.log writer.old) (W.log writer.new) block.old block.new result (line_text (pair_row program.now pair)) }
 {
     let decls = program.decls();
-    let first = name_of(decls, pair.first);
-    let second = name_of(decls, pair.second);
+    let first = decls.symbol_name(pair.first);
+    let second = decls.symbol_name(pair.second);
     add_two(block, first, second, writer)
 }
 

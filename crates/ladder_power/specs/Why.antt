@@ -2,7 +2,7 @@
 use Rattle.std.specs.Prelude.{ℕ, ◌+◌, ◌%◌, ◌/◌, ◌==◌, Bool, true, false, if◌then◌else◌, List, [], ◌++◌, codes, decimal, slice_get, Option, Some, None, zero, suc}
 use Rattle.std.specs.List.{list_any}
 use Rattle.std.specs.Option.{option_or}
-use Rattle.ladder_vars.specs.Decls.{Declared}
+use Rattle.ladder_vars.specs.Decls.{Declared, instance_name, output_suffix, var_name}
 use Rattle.ladder_vars.specs.Kind.{traits_of}
 use Rattle.ladder_vars.specs.declared.kind.Output.{Output}
 use Rattle.ladder_vars.specs.declared.kind.Output.TheVariants as output
@@ -51,12 +51,6 @@ ends_at p marks j row column n = list_any (λ r. is_some_of n (end_of p marks j 
 
 -- ---- what is written of it
 
-abbrev pub var_name : Declared → ℕ → List ℕ
-var_name d var = elim (slice_get d.vars var) [ None ↦ [] | Some v ↦ v.title ]
-
-abbrev pub instance_name : Declared → ℕ → List ℕ
-instance_name d inst = elim (slice_get d.instances inst) [ None ↦ [] | Some i ↦ i.title ]
-
 -- what a contact reads, or whose output a block gives
 abbrev pub open_name : Declared → Cell → List ℕ
 open_name d (Contact mode (operand.Var var) memory) = var_name d var
@@ -64,17 +58,10 @@ open_name d (Contact mode (operand.Output inst) memory) = instance_name d inst
 open_name d (Block inst) = instance_name d inst
 open_name d other = []
 
-abbrev pub output_word : Output → List ℕ
-output_word output.Q = codes ".Q"
-output_word output.Q1 = codes ".Q1"
-
-abbrev pub output_of : Declared → ℕ → List ℕ
-output_of d inst = elim (slice_get d.instances inst) [ None ↦ [] | Some i ↦ output_word (traits_of i.kind).output ]
-
 -- which output that is, `.Q` or `.Q1`, where it is one
 abbrev pub open_output : Declared → Cell → List ℕ
-open_output d (Contact mode (operand.Output inst) memory) = output_of d inst
-open_output d (Block inst) = output_of d inst
+open_output d (Contact mode (operand.Output inst) memory) = output_suffix d inst
+open_output d (Block inst) = output_suffix d inst
 open_output d other = []
 
 -- why no power goes on there

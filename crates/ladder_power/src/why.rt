@@ -5,7 +5,7 @@ ghost use Rattle.ladder_page.specs.declared.geometry.TheConstants.{PLACES, ROWS,
 ghost use Rattle.ladder_grid.specs.Program.{cell_of};
 ghost use Rattle.ladder_text.specs.Block.{Sends};
 ghost use Rattle.ladder_power.specs.Ends.{AreAnswers, is_live, of_rung};
-ghost use Rattle.ladder_power.specs.Why.{coil_head, coil_notes, dead_notes, end_line, end_note, end_notes, evaluated_above, instance_name, open_name, open_output, open_reason, output_of, output_word, passed_note, place_notes, power_notes, rung_why, var_name, why};
+ghost use Rattle.ladder_power.specs.Why.{coil_head, coil_notes, dead_notes, end_line, end_note, end_notes, evaluated_above, open_name, open_output, open_reason, passed_note, place_notes, power_notes, rung_why, why};
 
 use crate::ends::{Rung, ends_at, live_places};
 use crate::show::mark_in;
@@ -14,25 +14,7 @@ use ladder_page::Mode;
 use ladder_page::geometry::{PLACES, ROWS};
 use ladder_scan::Mark;
 use ladder_text::{Block, Piece, Sink, WriteFault, add_pieces};
-use ladder_vars::{Decls, Output};
-
-fn var_name(decls: &Decls, var: usize) -> &[u8]
-    ensures { result.now ≡ var_name decls.now var }
-{
-    match decls.vars().get(var) {
-        Some(var) => var.title.bytes(),
-        None => b"",
-    }
-}
-
-fn instance_name(decls: &Decls, inst: usize) -> &[u8]
-    ensures { result.now ≡ instance_name decls.now inst }
-{
-    match decls.instances().get(inst) {
-        Some(instance) => instance.title.bytes(),
-        None => b"",
-    }
-}
+use ladder_vars::Decls;
 
 fn open_name(decls: &Decls, cell: Cell) -> &[u8]
     ensures { result.now ≡ open_name decls.now cell }
@@ -41,36 +23,18 @@ fn open_name(decls: &Decls, cell: Cell) -> &[u8]
         Cell::Contact {
             operand: Operand::Var(var),
             ..
-        } => var_name(decls, var),
+        } => decls.var_name(var),
         Cell::Contact {
             operand: Operand::Output(inst),
             ..
         }
-        | Cell::Block { inst } => { instance_name(decls, inst) }
+        | Cell::Block { inst } => { decls.instance_name(inst) }
         Cell::Empty
         | Cell::Wire
         | Cell::Coil { .. }
         | Cell::Lower { .. }
         | Cell::Jump { .. }
         | Cell::Return => b"",
-    }
-}
-
-fn output_word(output: Output) -> &'static [u8]
-    ensures { result.now ≡ output_word output }
-{
-    match output {
-        Output::Q => b".Q",
-        Output::Q1 => b".Q1",
-    }
-}
-
-fn output_of(decls: &Decls, inst: usize) -> &'static [u8]
-    ensures { result.now ≡ output_of decls.now inst }
-{
-    match decls.instances().get(inst) {
-        Some(instance) => output_word(instance.kind.traits().output),
-        None => b"",
     }
 }
 
@@ -82,7 +46,7 @@ fn open_output(decls: &Decls, cell: Cell) -> &'static [u8]
             operand: Operand::Output(inst),
             ..
         }
-        | Cell::Block { inst } => output_of(decls, inst),
+        | Cell::Block { inst } => decls.output_suffix(inst),
         Cell::Contact {
             operand: Operand::Var(_),
             ..

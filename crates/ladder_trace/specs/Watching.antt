@@ -2,21 +2,20 @@
 use Rattle.std.specs.Prelude.{◌++◌, ◌-◌, min, ℕ, List, true, false, None, Some, codes, decimal, slice_get, slice_index_or}
 use Rattle.std.specs.Fmt.{signed_decimal}
 use Rattle.ladder_vars.specs.declared.kind.BlockKind.TheVariants.{Ton}
-use Rattle.ladder_vars.specs.Decls.{Declared}
+use Rattle.ladder_vars.specs.Decls.{Declared, instance_name, output_suffix, var_name}
 use Rattle.ladder_elements.specs.declared.block.Stored.{Stored}
 use Rattle.ladder_elements.specs.declared.block.Stored.TheVariants.{Timer}
 use Rattle.ladder_elements.specs.Blocks.{new_block, q_of}
 use Rattle.ladder_elements.specs.Histories.{cv_of}
 use Rattle.ladder_records.specs.Text.{bit_text}
 use Rattle.ladder_scan.specs.Standing.{Standing}
-use Rattle.ladder_power.specs.Why.{instance_name, output_of, var_name}
 use Rattle.ladder_trace.specs.declared.column.Column.{Column}
 use Rattle.ladder_trace.specs.declared.column.Column.TheVariants as column
 
 -- Its name in the header: that of the variable, or that of the instance with `.Q` (of a bistable `.Q1`), `.ET` or `.CV`.
 abbrev pub column_name : Declared → Column → List ℕ
 column_name d (column.Value n) = var_name d n
-column_name d (column.Output n) = instance_name d n ++ output_of d n
+column_name d (column.Output n) = instance_name d n ++ output_suffix d n
 column_name d (column.Elapsed n) = instance_name d n ++ codes ".ET"
 column_name d (column.Count n) = instance_name d n ++ codes ".CV"
 

@@ -4,7 +4,6 @@ ghost use Rattle.std.specs.Prelude.{◌≡◌, ◌++◌, ◌*◌, [], OnOk, code
 ghost use Rattle.ladder_elements.specs.Histories.{cv_of};
 ghost use Rattle.ladder_records.specs.Text.{after_commas, bit_text};
 ghost use Rattle.ladder_scan.specs.Standing.{Fits};
-ghost use Rattle.ladder_power.specs.Why.{instance_name, output_of, output_word, var_name};
 ghost use Rattle.ladder_text.specs.Block.{Sends};
 ghost use Rattle.ladder_text.specs.Log.{Puts};
 ghost use Rattle.ladder_text.specs.Pieces.{piece_text};
@@ -19,44 +18,7 @@ use ladder_grid::Program;
 use ladder_records::add_field;
 use ladder_scan::State;
 use ladder_text::{Block, Piece, Sink, WriteFault, add_pieces};
-use ladder_vars::{Decls, Output};
-
-fn var_name(decls: &Decls, var: usize) -> &[u8]
-    ensures { result.now ≡ var_name decls.now var }
-{
-    match decls.vars().get(var) {
-        Some(var) => var.title.bytes(),
-        None => b"",
-    }
-}
-
-fn instance_name(decls: &Decls, inst: usize) -> &[u8]
-    ensures { result.now ≡ instance_name decls.now inst }
-{
-    match decls.instances().get(inst) {
-        Some(instance) => instance.title.bytes(),
-        None => b"",
-    }
-}
-
-fn output_word(output: Output) -> &'static [u8]
-    ensures { result.now ≡ output_word output }
-{
-    match output {
-        Output::Q => b".Q",
-        Output::Q1 => b".Q1",
-    }
-}
-
-/// How the output of an instance is written behind its name.
-fn output_of(decls: &Decls, inst: usize) -> &'static [u8]
-    ensures { result.now ≡ output_of decls.now inst }
-{
-    match decls.instances().get(inst) {
-        Some(instance) => output_word(instance.kind.traits().output),
-        None => b"",
-    }
-}
+use ladder_vars::Decls;
 
 fn preset_of(decls: &Decls, inst: usize) -> u64
     ensures { result ≡ preset_of decls.now inst }
@@ -90,13 +52,13 @@ fn add_column_name<W: Sink>(
     ensures { Sends (W.log writer.old) (W.log writer.new) block.old block.new result (codes "," ++ column_name decls.now column) }
 {
     match column {
-        Column::Value(var) => add_field(block, var_name(decls, var), writer),
+        Column::Value(var) => add_field(block, decls.var_name(var), writer),
         Column::Output(inst) => {
-            let name = instance_name(decls, inst);
-            add_name(block, name, output_of(decls, inst), writer)
+            let name = decls.instance_name(inst);
+            add_name(block, name, decls.output_suffix(inst), writer)
         }
-        Column::Elapsed(inst) => add_name(block, instance_name(decls, inst), b".ET", writer),
-        Column::Count(inst) => add_name(block, instance_name(decls, inst), b".CV", writer),
+        Column::Elapsed(inst) => add_name(block, decls.instance_name(inst), b".ET", writer),
+        Column::Count(inst) => add_name(block, decls.instance_name(inst), b".CV", writer),
     }
 }
 

@@ -2,7 +2,7 @@
 use Rattle.std.specs.Prelude.{◌++◌, ◌∷◌, ◌+◌, ◌==◌, ℕ, List, [], if◌then◌else◌, Option, Some, None, codes, decimal, filter_map, length, map, option_map, slice_get}
 use Rattle.std.specs.List.{flat_map, range_with_len}
 use Rattle.std.specs.Option.{option_map_or}
-use Rattle.ladder_vars.specs.Decls.{Declared}
+use Rattle.ladder_vars.specs.Decls.{Declared, symbol_name}
 use Rattle.ladder_vars.specs.declared.decls.Symbol.{Symbol}
 use Rattle.ladder_vars.specs.declared.decls.Symbol.TheVariants as symbol
 use Rattle.ladder_grid.specs.declared.cell.Cell.{Cell}
@@ -60,11 +60,6 @@ or_unused name (r ∷ rows) = r ∷ rows
 
 -- ---- all names
 
--- the title of a symbol
-abbrev pub name_of : Declared → Symbol → List ℕ
-name_of declared (symbol.Var number) = option_map_or (λ v. v.title) (slice_get declared.vars number) []
-name_of declared (symbol.Instance number) = option_map_or (λ i. i.title) (slice_get declared.instances number) []
-
 -- all variables, and then all instances, as they are declared
 abbrev pub symbols_of : Declared → List Symbol
 symbols_of declared =
@@ -72,7 +67,7 @@ symbols_of declared =
 
 -- the rows of a symbol, one at least
 abbrev pub symbol_rows : Drawing → Symbol → List Fields
-symbol_rows p s = or_unused (name_of p.decls s) (place_rows p (name_of p.decls s) s)
+symbol_rows p s = or_unused (symbol_name p.decls s) (place_rows p (symbol_name p.decls s) s)
 
 -- the rows after the header
 abbrev pub use_rows : Drawing → List Fields

@@ -6,7 +6,7 @@ ghost use Rattle.ladder_page.specs.declared.geometry.TheConstants.{PLACES, RUNGS
 ghost use Rattle.ladder_records.specs.Text.{line_text, lines_text};
 ghost use Rattle.ladder_text.specs.Block.{Sends};
 ghost use Rattle.ladder_text.specs.Log.{Puts};
-ghost use Rattle.ladder_uses.specs.Uses.{name_of, place_rows, symbol_rows, symbols_of, use_row, use_rows, uses_text};
+ghost use Rattle.ladder_uses.specs.Uses.{place_rows, symbol_rows, symbols_of, use_row, use_rows, uses_text};
 
 use crate::usage::{Use, use_at, use_word};
 use itoa::Buffer;
@@ -83,22 +83,6 @@ fn add_places<W: Sink>(
     Ok(rows)
 }
 
-/// How the symbol is spelled where it is declared.
-fn name_of(decls: &Decls, symbol: Symbol) -> &[u8]
-    ensures { result.now ≡ name_of decls.now symbol }
-{
-    match symbol {
-        Symbol::Var(var) => match decls.vars().get(var) {
-            Some(var) => var.title.bytes(),
-            None => b"",
-        },
-        Symbol::Instance(inst) => match decls.instances().get(inst) {
-            Some(instance) => instance.title.bytes(),
-            None => b"",
-        },
-    }
-}
-
 /// Adds the rows of a symbol, one at least, and returns how many.
 ///
 /// # Errors
@@ -114,7 +98,7 @@ pub fn add_symbol<W: Sink>(
     ensures count { IfOk result (λ n. n ≡ length (symbol_rows program.now symbol)) }
     ensures few { IfOk result (λ n. n ≤ PLACES * RUNGS) }
 {
-    let name = name_of(program.decls(), symbol);
+    let name = program.decls().symbol_name(symbol);
     let rows = add_places(block, program, name, symbol, writer)?;
     if 0 < rows {
         return Ok(rows);

@@ -1,5 +1,5 @@
 -- The declarations of a text as a value: its variables and its function block instances, each in order of declaration.
-use Rattle.std.specs.Prelude.{ℕ, ◌≤◌, Bool, true, false, ◌&&◌, ◌==◌, List, ◌++◌, length, map, position, Option, option_map}
+use Rattle.std.specs.Prelude.{ℕ, ◌≤◌, Bool, true, false, ◌&&◌, ◌==◌, List, [], ◌++◌, codes, length, map, position, slice_get, Option, None, Some, option_map}
 use Rattle.std.specs.Option.{option_or, option_eq}
 use Rattle.std.specs.List.{All, IsDistinct, filter_map}
 use Rattle.ladder_vars.specs.declared.limits.TheConstants.{MOST_VARS, MOST_INSTANCES}
@@ -9,6 +9,8 @@ use Rattle.ladder_vars.specs.declared.decls.Var.{Var}
 use Rattle.ladder_vars.specs.declared.decls.Instance.{Instance}
 use Rattle.ladder_vars.specs.declared.decls.Symbol.{Symbol}
 use Rattle.ladder_vars.specs.declared.decls.Symbol.TheVariants as symbol
+use Rattle.ladder_vars.specs.declared.kind.Output.{Output}
+use Rattle.ladder_vars.specs.declared.kind.Output.TheVariants as output
 use Rattle.ladder_vars.specs.Name.{same_letters}
 use Rattle.ladder_vars.specs.Kind.{traits_of, largest_preset}
 
@@ -45,3 +47,24 @@ AreKept declared =
 pub record AreInRange (declared : Declared) : Type 0 where
   pub kept : AreKept declared
   pub presets : All (λ i. i.preset ≤ largest_preset i.kind) declared.instances
+
+-- ---- how they are written
+
+-- the title of a variable or an instance, by its number
+abbrev pub var_name : Declared → ℕ → List ℕ
+var_name d var = elim (slice_get d.vars var) [ None ↦ [] | Some v ↦ v.title ]
+
+abbrev pub instance_name : Declared → ℕ → List ℕ
+instance_name d inst = elim (slice_get d.instances inst) [ None ↦ [] | Some i ↦ i.title ]
+
+abbrev pub symbol_name : Declared → Symbol → List ℕ
+symbol_name d (symbol.Var var) = var_name d var
+symbol_name d (symbol.Instance inst) = instance_name d inst
+
+-- what stands after the title of an instance, for its output
+abbrev pub suffix : Output → List ℕ
+suffix output.Q = codes ".Q"
+suffix output.Q1 = codes ".Q1"
+
+abbrev pub output_suffix : Declared → ℕ → List ℕ
+output_suffix d inst = elim (slice_get d.instances inst) [ None ↦ [] | Some i ↦ suffix (traits_of i.kind).output ]

@@ -3,12 +3,12 @@
 ghost use Rattle.std.specs.Prelude.{◌≡◌, ◌≤◌, ◌<◌, ◌||◌, length, OnOk, IsNone, position, count_by};
 ghost use Rattle.std.specs.List.{list_any, prefix_len};
 ghost use Rattle.ladder_vars.specs.Name.{same_letters};
-ghost use Rattle.ladder_vars.specs.Decls.{is_input, find, AreInRange};
+ghost use Rattle.ladder_vars.specs.Decls.{is_input, find, instance_name, output_suffix, symbol_name, var_name, AreInRange};
 ghost use Rattle.ladder_vars.specs.TakeTitles.{is_called, SetsVar, SetsInstance};
 ghost use Rattle.ladder_vars.specs.ReadDecls.{is_there, is_declared, is_taken, refusal, nothing, added, leading_with, with_var, with_instance, with_decl, GivesInMemory, PresetFits};
 
 use crate::fault::{Fault, ReadFault, VarRule};
-use crate::kind::BlockKind;
+use crate::kind::{BlockKind, Output};
 use crate::limits::{MOST_INSTANCES, MOST_VARS};
 use crate::name::Name;
 use ladder_times::same_letters;
@@ -331,6 +331,49 @@ impl Decls {
         match var_at(&self.vars, name) {
             Some(number) => Some(Symbol::Var(number)),
             None => instance_at(&self.instances, name).map(Symbol::Instance),
+        }
+    }
+
+    /// The title of a variable, by its number; nothing where there is none.
+    pub fn var_name(&self, var: usize) -> &[u8]
+        ensures { result.now ≡ var_name self.now var }
+    {
+        match self.vars.get(var) {
+            Some(var) => var.title.bytes(),
+            None => b"",
+        }
+    }
+
+    /// The title of an instance, by its number; nothing where there is none.
+    pub fn instance_name(&self, inst: usize) -> &[u8]
+        ensures { result.now ≡ instance_name self.now inst }
+    {
+        match self.instances.get(inst) {
+            Some(instance) => instance.title.bytes(),
+            None => b"",
+        }
+    }
+
+    /// The title of a variable or an instance.
+    pub fn symbol_name(&self, symbol: Symbol) -> &[u8]
+        ensures { result.now ≡ symbol_name self.now symbol }
+    {
+        match symbol {
+            Symbol::Var(var) => self.var_name(var),
+            Symbol::Instance(inst) => self.instance_name(inst),
+        }
+    }
+
+    /// What stands after the title of an instance, for its output: `.Q` or `.Q1`.
+    pub fn output_suffix(&self, inst: usize) -> &'static [u8]
+        ensures { result.now ≡ output_suffix self.now inst }
+    {
+        match self.instances.get(inst) {
+            Some(instance) => match instance.kind.traits().output {
+                Output::Q => b".Q",
+                Output::Q1 => b".Q1",
+            },
+            None => b"",
         }
     }
 

@@ -7,13 +7,12 @@ use Rattle.ladder_vars.specs.declared.decls.Symbol.TheVariants as symbol
 use Rattle.ladder_vars.specs.declared.kind.BlockKind.TheVariants.{Ton}
 use Rattle.ladder_vars.specs.declared.kind.Output.{Output}
 use Rattle.ladder_vars.specs.declared.kind.Output.TheVariants as output
-use Rattle.ladder_vars.specs.Decls.{Declared}
+use Rattle.ladder_vars.specs.Decls.{Declared, instance_name, var_name}
 use Rattle.ladder_vars.specs.Kind.{traits_of}
 use Rattle.ladder_elements.specs.Blocks.{q_of, new_block}
 use Rattle.ladder_grid.specs.Program.{Drawing}
 use Rattle.ladder_scan.specs.Standing.{Standing}
 use Rattle.ladder_power.specs.Show.{each}
-use Rattle.ladder_power.specs.Why.{instance_name, var_name}
 
 -- ---- what is shown
 

@@ -4,7 +4,7 @@ ghost use Rattle.std.specs.Prelude.{◌≡◌, ◌++◌, codes, decimal, length}
 ghost use Rattle.ladder_text.specs.Block.{Sends};
 ghost use Rattle.ladder_vars.specs.declared.decls.Symbol.TheVariants.{Instance, Var};
 ghost use Rattle.ladder_power.specs.Show.{each};
-ghost use Rattle.ladder_power.specs.Why.{instance_name, var_name};
+ghost use Rattle.ladder_vars.specs.Decls.{instance_name};
 ghost use Rattle.ladder_waves.specs.Lines.{line_of};
 ghost use Rattle.ladder_waves.specs.Waves.{change_line, declaration, for_each, output_name, output_word, scope_line, value_line, value_of, wire_line};
 
@@ -21,24 +21,6 @@ pub(crate) enum Lines<'a> {
     Values(&'a State),
     /// Its value in the second state, where it has another one in the first.
     Changes(&'a State, &'a State),
-}
-
-fn var_name(decls: &Decls, var: usize) -> &[u8]
-    ensures { result.now ≡ var_name decls.now var }
-{
-    match decls.vars().get(var) {
-        Some(var) => var.title.bytes(),
-        None => b"",
-    }
-}
-
-fn instance_name(decls: &Decls, inst: usize) -> &[u8]
-    ensures { result.now ≡ instance_name decls.now inst }
-{
-    match decls.instances().get(inst) {
-        Some(instance) => instance.title.bytes(),
-        None => b"",
-    }
 }
 
 fn output_word(output: Output) -> &'static [u8]
@@ -116,7 +98,7 @@ fn add_scope<W: Sink>(
 {
     let pieces = [
         Piece::Text(b"$scope module "),
-        Piece::Text(instance_name(decls, inst)),
+        Piece::Text(decls.instance_name(inst)),
         Piece::Text(b" $end\n"),
     ];
     add_pieces(block, pieces.as_slice(), writer)
@@ -130,7 +112,7 @@ fn add_var<W: Sink>(
 ) -> Result<(), WriteFault>
     ensures { Sends (W.log writer.old) (W.log writer.new) block.old block.new result (declaration decls.now (Var var)) }
 {
-    add_wire(block, b"$var wire 1 v", var, var_name(decls, var), writer)
+    add_wire(block, b"$var wire 1 v", var, decls.var_name(var), writer)
 }
 
 fn add_output<W: Sink>(

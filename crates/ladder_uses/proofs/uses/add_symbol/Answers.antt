@@ -1,29 +1,30 @@
 use Rattle.std.proofs.Common.{[], arith}
 use Rattle.ladder_records.proofs.Lines.{line_prefix, line_more}
 use Rattle.ladder_text.proofs.Sending.{sends_none, sends_err}
-use Rattle.ladder_uses.specs.Uses.{name_of, place_rows}
+use Rattle.ladder_vars.specs.Decls.{symbol_name}
+use Rattle.ladder_uses.specs.Uses.{place_rows}
 use Rattle.ladder_uses.proofs.Rows.{rows_prefix, unused_behind, unused_there}
 use Rattle.ladder_uses.proofs.uses.add_symbol.Goals as goal
 
 pub returns-in_err-rows-clause-sends : goal.returns-in_err-rows-clause-sends
 returns-in_err-rows-clause-sends g c = sends_err _ _ _ _ _ _ c.from_residual.ensures.0
-    (let name = name_of c.args.program.now.decls c.args.symbol in
+    (let name = symbol_name c.args.program.now.decls c.args.symbol in
     let cut = unused_behind name (place_rows c.args.program.now name c.args.symbol) in
     rows_prefix _ _ _ c.args.block.now c.args.block.now [] _ _ cut.0 cut.1 (sends_none _ c.args.block.now)
-    (rw (c.name_of-name.ensures, c.decls.ensures) at c.in_err-rows.ensures.sends))
+    (rw (c.symbol_name-name.ensures, c.decls.ensures) at c.in_err-rows.ensures.sends))
 
 pub returns-in_err-row_line-clause-sends : goal.returns-in_err-row_line-clause-sends
 returns-in_err-row_line-clause-sends g c = sends_err _ _ _ _ _ _ c.from_residual-in_err-row_line.ensures.0
-    (let name = name_of c.args.program.now.decls c.args.symbol in
+    (let name = symbol_name c.args.program.now.decls c.args.symbol in
     let rows = place_rows c.args.program.now name c.args.symbol in
-    let count = rw (c.name_of-name.ensures, c.decls.ensures) at c.in_ok-rows.ensures.count in
+    let count = rw (c.symbol_name-name.ensures, c.decls.ensures) at c.in_ok-rows.ensures.count in
     line_prefix _ _ _ _ _ rows _ [] _ (unused_there name rows (omega (arith, count, c.if-rows-gt0.false)))
-    (rw (c.name_of-name.ensures, c.decls.ensures) at c.in_ok-rows.ensures.sends) (rw (c.name_of-name.ensures, c.decls.ensures) at c.in_err-row_line.ensures))
+    (rw (c.symbol_name-name.ensures, c.decls.ensures) at c.in_ok-rows.ensures.sends) (rw (c.symbol_name-name.ensures, c.decls.ensures) at c.in_err-row_line.ensures))
 
 pub returns-clause-sends : goal.returns-clause-sends
 returns-clause-sends g c =
-    let name = name_of c.args.program.now.decls c.args.symbol in
+    let name = symbol_name c.args.program.now.decls c.args.symbol in
     let rows = place_rows c.args.program.now name c.args.symbol in
-    let count = rw (c.name_of-name.ensures, c.decls.ensures) at c.in_ok-rows.ensures.count in
+    let count = rw (c.symbol_name-name.ensures, c.decls.ensures) at c.in_ok-rows.ensures.count in
     line_more _ _ _ _ _ _ rows _ _ (unused_there name rows (omega (arith, count, c.if-rows-gt0.false)))
-    (rw (c.name_of-name.ensures, c.decls.ensures) at c.in_ok-rows.ensures.sends) (rw (c.name_of-name.ensures, c.decls.ensures) at c.in_ok-row_line.ensures)
+    (rw (c.symbol_name-name.ensures, c.decls.ensures) at c.in_ok-rows.ensures.sends) (rw (c.symbol_name-name.ensures, c.decls.ensures) at c.in_ok-row_line.ensures)

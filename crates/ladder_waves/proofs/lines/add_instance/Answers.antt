@@ -1,7 +1,7 @@
 use Rattle.std.proofs.Common.{◌++◌, [], codes, refl, sym, append_assoc}
 use Rattle.ladder_text.proofs.Sending.{sends_prefix, sends_last, sends_more, sends_none, sends_err}
 use Rattle.ladder_vars.specs.declared.decls.Symbol.TheVariants.{Instance}
-use Rattle.ladder_power.specs.Why.{instance_name}
+use Rattle.ladder_vars.specs.Decls.{instance_name}
 use Rattle.ladder_waves.specs.Waves.{declaration, output_name, scope_line, wire_line}
 use Rattle.ladder_waves.proofs.lines.add_instance.Goals as goal
 
