@@ -1,7 +1,6 @@
--- A number that is kept at most at a limit while it is read.
-use Rattle.std.proofs.Common.{◌≡◌, ℕ, ◌+◌, ◌-◌, ◌*◌, ◌≤◌, min, List, [], ◌∷◌, arith, inl, inr, ap}
+-- A number grows with each digit that is read.
+use Rattle.std.proofs.Common.{◌≡◌, ℕ, ◌+◌, ◌-◌, ◌*◌, ◌<◌, ◌≤◌, List, [], ◌∷◌, length, drop, get_or, add-one, drop-cons, ap, arith, refl}
 use Rattle.std.specs.List.{fold}
-use Rattle.std.proofs.lemmas.Bool.{cases_lt}
 
 -- the number, with n before its digits
 abbrev pub value_from : ℕ → List ℕ → ℕ
@@ -11,9 +10,10 @@ grows : (n : ℕ) (bs : List ℕ) → n ≤ value_from n bs
 grows n [] = omega arith
 grows n (b ∷ bs) = omega (arith, grows (n * 10 + (b - 48)) bs)
 
-pub clamped : (m cap : ℕ) (bs : List ℕ) → min (value_from (min m cap) bs) cap ≡ min (value_from m bs) cap
-clamped m cap bs =
-    elim (cases_lt m cap) [
-      | inl below ↦ let same : min m cap ≡ m = omega arith in ap (λ k. min (value_from k bs) cap) same
-      | inr above ↦ omega (arith, grows m bs, grows (min m cap) bs)
-    ]
+pub one_more : (n i : ℕ) (bs : List ℕ) → i < length bs → value_from n (drop i bs) ≡ value_from (n * 10 + (get_or bs i 0 - 48)) (drop (i + 1) bs)
+one_more n i bs h =
+    let e : drop i bs ≡ get_or bs i 0 ∷ drop (i + 1) bs = rw (add-one, drop-cons bs i 0) refl in
+    ap (value_from n) e
+
+pub at_least : (n i : ℕ) (bs : List ℕ) → i < length bs → n * 10 + (get_or bs i 0 - 48) ≤ value_from n (drop i bs)
+at_least n i bs h = rw (one_more n i bs h) (grows (n * 10 + (get_or bs i 0 - 48)) (drop (i + 1) bs))

@@ -1,6 +1,6 @@
 -- The format of a ClassicLadder project: lines, parts, fields and numbers.
 use Rattle.std.specs.Prelude.{ℕ, ◌+◌, ◌-◌, ◌*◌, ◌^◌, ◌==◌, ◌&&◌, ◌||◌, nat_eq, nat_le, nat_lt, not, Bool, false, List, [], ◌∷◌, length, take, drop, codes, Option, Some, None, option_map, if◌then◌else◌}
-use Rattle.std.specs.List.{fold, list_all, prefix_len, slice_split, starts_with}
+use Rattle.std.specs.List.{fold, prefix_len, slice_split, starts_with}
 use Rattle.std.specs.Char.{is_ascii_digit}
 
 -- The lines of a text end at its line feeds (10).
@@ -11,12 +11,12 @@ lines_of text = slice_split (λ b. b == 10) text
 abbrev pub is_blank : ℕ → Bool
 is_blank b = b == 32 || (b == 9 || b == 13)
 
-abbrev pub are_blank : List ℕ → Bool
-are_blank bytes = list_all is_blank bytes
-
+-- a text without the blanks at its start
 abbrev pub after_blanks : List ℕ → List ℕ
-after_blanks [] = []
-after_blanks (b ∷ bs) = if is_blank b then after_blanks bs else b ∷ bs
+after_blanks text = drop (prefix_len is_blank text) text
+
+abbrev pub are_blank : List ℕ → Bool
+are_blank text = length (after_blanks text) == 0
 
 -- what stands before the first such mark, or all where there is none
 unfoldable pub before : ℕ → List ℕ → List ℕ
@@ -30,15 +30,12 @@ behind mark text = drop (prefix_len (λ b. not (b == mark)) text + 1) text
 abbrev pub number_of : List ℕ → ℕ
 number_of digits = fold (λ n b. n * 10 + (b - 48)) 0 digits
 
--- digits at the start, of a number below 2 ^ 32, and blanks up to the end
-unfoldable pub number_at : List ℕ → Option ℕ
-number_at text =
+-- the number that a field is: digits of a number below 2 ^ 32, with blanks on either side
+unfoldable pub number_in : List ℕ → Option ℕ
+number_in field =
+    let text = after_blanks field in
     let count = prefix_len is_ascii_digit text in
     if nat_le 1 count && (are_blank (drop count text) && nat_lt (number_of (take count text)) (2 ^ 32)) then Some (number_of (take count text)) else None
-
--- the number that a field is, with blanks on either side
-unfoldable pub number_in : List ℕ → Option ℕ
-number_in field = number_at (after_blanks field)
 
 -- the number that a field is, or `-1`, which stands for none
 unfoldable pub other_in : List ℕ → Option (Option ℕ)

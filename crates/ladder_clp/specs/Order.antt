@@ -27,17 +27,14 @@ abbrev pub behind_rungs : List Placed → Result (List Placed) ClpFault → Resu
 behind_rungs front (Ok placed) = Ok (front ++ placed)
 behind_rungs front (Err fault) = Err fault
 
--- A sequential chart writes numbers and its own steps alone. Where these are opened it is left out.
-abbrev pub is_left_out : Reading → Section → Bool
-is_left_out reading s = reading.opened && s.language == 1
-
--- A section that is called by its number isn't scanned by itself.
+-- A section that is called by its number isn't scanned by itself. A sequential chart (language 1) writes numbers and its own steps
+-- alone. Where these are opened it is left out.
 abbrev pub with_section : Reading → List Rung → Section → Result (List Placed) ClpFault → Result (List Placed) ClpFault
 with_section reading rungs s others =
     if s.language == 0 then (if is_none s.subroutine
     then elim (way s.number s.last rungs (length rungs) s.first) [ Some placed ↦ behind_rungs placed others | None ↦ Err (BrokenWay s.number) ]
     else others)
-    else (if is_left_out reading s then others else Err (NotLadder s.number))
+    else (if reading.opened && s.language == 1 then others else Err (NotLadder s.number))
 
 -- the rungs in the order of the scan, or the first fault of a section
 abbrev pub arranged : Reading → List Rung → List Section → Result (List Placed) ClpFault

@@ -63,15 +63,19 @@ abbrev pub next_in : List ℕ → Option (Option ℕ)
 next_in [] = Some None
 next_in (b ∷ bs) = other_in (b ∷ bs)
 
-abbrev pub rung_with : ℕ → List ℕ → List ℕ → Option (Option ℕ) → Option (List Element) → Option RungRead
-rung_with number label comment (Some next) (Some elements) =
-    if length elements == 60 then Some (record { number = number; next = next; label = label; comment = comment; elements = elements }) else None
-rung_with number label comment next elements = None
+-- the rung with these elements that the lines of a part are
+abbrev pub rung_with : ℕ → List (List ℕ) → List Element → Option RungRead
+rung_with number body elements =
+    elim (next_in (value_of (codes "#NEXTRUNG=") body)) [
+      | Some next ↦
+          if length elements == 60
+          then Some (record { number = number; next = next; label = value_of (codes "#LABEL=") body; comment = value_of (codes "#COMMENT=") body; elements = elements })
+          else None
+      | None ↦ None
+    ]
 
--- the rung that the lines of a part are
 unfoldable pub rung_in : ℕ → List (List ℕ) → Option RungRead
-rung_in number body =
-    rung_with number (value_of (codes "#LABEL=") body) (value_of (codes "#COMMENT=") body) (next_in (value_of (codes "#NEXTRUNG=") body)) (rows_in body)
+rung_in number body = elim (rows_in body) [ Some elements ↦ rung_with number body elements | None ↦ None ]
 
 -- the number of the rung whose part begins with this line, `_FILE-rung_NUMBER.csv`; 46 is the point
 unfoldable pub rung_number : List ℕ → Option ℕ

@@ -77,12 +77,8 @@ abbrev pub is_assignment_of_number : List ℕ → Bool
 is_assignment_of_number text =
     starts_with nat_eq text (codes "@200/") || (starts_with nat_eq text (codes "@280/") || starts_with nat_eq text (codes "@310/"))
 
-abbrev pub is_number : ℕ → Option ℕ → Bool
-is_number n (Some m) = m == n
-is_number n None = false
-
 abbrev pub has_number : ℕ → Expression → Bool
-has_number n e = is_number n e.number
+has_number n e = elim e.number [ Some m ↦ m == n | None ↦ false ]
 
 abbrev pub is_harmless : ℕ → Expression → Bool
 is_harmless n e = not (has_number n e) || is_assignment_of_number e.text.now

@@ -1,7 +1,7 @@
 //! The elements of a rung.
 
 ghost use Rattle.std.specs.Prelude.{◌≡◌, ◌++◌, IfOk, map, option_map};
-ghost use Rattle.ladder_clp.specs.Rungs.{element_in, element_with, elements_in, row_in};
+ghost use Rattle.ladder_clp.specs.Rungs.{element_in, elements_in, row_in};
 
 use crate::lines::fields_of;
 use crate::number::{before, behind, number_in};
@@ -19,25 +19,6 @@ pub struct Element {
     pub number: u32,
 }
 
-fn element_with(
-    kind: Option<u32>,
-    link: Option<u32>,
-    class: Option<u32>,
-    number: Option<u32>,
-) -> Option<Element>
-    ensures { result ≡ element_with kind link class number }
-{
-    match (kind, link, class, number) {
-        (Some(kind), Some(link), Some(class), Some(number)) => Some(Element {
-            kind,
-            link,
-            class,
-            number,
-        }),
-        _ => None,
-    }
-}
-
 /// The element that a field is.
 #[tactic(auto, unfolding(crate::specs::Rungs::element_in))]
 fn element_in(field: &[u8]) -> Option<Element>
@@ -45,12 +26,12 @@ fn element_in(field: &[u8]) -> Option<Element>
 {
     let rest = behind(b'-', field);
     let last = behind(b'-', rest);
-    element_with(
-        number_in(before(b'-', field)),
-        number_in(before(b'-', rest)),
-        number_in(before(b'/', last)),
-        number_in(behind(b'/', last)),
-    )
+    Some(Element {
+        kind: number_in(before(b'-', field))?,
+        link: number_in(before(b'-', rest))?,
+        class: number_in(before(b'/', last))?,
+        number: number_in(behind(b'/', last))?,
+    })
 }
 
 /// The elements that the fields are, where each is one.

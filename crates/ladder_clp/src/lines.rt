@@ -5,7 +5,7 @@ ghost use Rattle.std.specs.List.{prefix_len, slice_split};
 ghost use Rattle.ladder_clp.specs.Format.{body_of, ends_part, is_data, is_line, lines_of, part_of, value_of};
 ghost use Rattle.ladder_clp.specs.Rungs.{fields_of};
 
-use crate::number::are_blank;
+use crate::number::after_blanks;
 use std::alloc::{AllocError, Global};
 
 /// The lines of a text, without their line feeds.
@@ -31,7 +31,7 @@ pub(crate) fn fields_of(alloc: Global, line: &[u8]) -> Result<Vec<&[u8]>, AllocE
 pub(crate) fn is_line(word: &[u8], line: &[u8]) -> bool
     ensures { result ≡ is_line word.now line.now }
 {
-    line.starts_with(word) && are_blank(&line[word.len()..])
+    line.starts_with(word) && after_blanks(&line[word.len()..]).is_empty()
 }
 
 /// Whether the line has data.
@@ -41,21 +41,18 @@ pub(crate) fn is_data(line: &[u8]) -> bool
 {
     match line {
         [] => false,
-        [b, ..] => !(*b == b'#' || *b == b';' || are_blank(line)),
+        [b, ..] => !(*b == b'#' || *b == b';' || after_blanks(line).is_empty()),
     }
-}
-
-fn ends_part(line: &[u8]) -> bool
-    ensures { result ≡ ends_part line.now }
-{
-    line.starts_with(b"_/FILE")
 }
 
 fn body_len(lines: &[&[u8]]) -> usize
     ensures value { result ≡ prefix_len (λ l. not (ends_part l.now)) lines.now }
     ensures within { result ≤ length lines.now }
 {
-    lines.iter().take_while(|l| !ends_part(l)).count()
+    lines
+        .iter()
+        .take_while(|line| !line.starts_with(b"_/FILE"))
+        .count()
 }
 
 /// The lines up to the end of the part that they are in.

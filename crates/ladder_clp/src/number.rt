@@ -1,35 +1,24 @@
 //! Numbers in fields.
 
-ghost use Rattle.std.specs.Prelude.{◌≡◌, ◌^◌, ◌≤◌, ◌+◌, ◌-◌, ◌*◌, ◌==◌, not, min, length};
+ghost use Rattle.std.specs.Prelude.{◌≡◌, ◌^◌, ◌≤◌, ◌==◌, IfNone, IfSome, not, length};
 ghost use Rattle.std.specs.List.{prefix_len};
 ghost use Rattle.std.specs.Char.{is_ascii_digit};
-ghost use Rattle.ladder_clp.specs.Format.{after_blanks, are_blank, before, behind, is_blank, number_at, number_in, number_of, other_in};
+ghost use Rattle.ladder_clp.specs.Format.{after_blanks, before, behind, is_blank, number_in, number_of, other_in};
 
-/// Larger than any number that a field may have.
-const CAP: u64 = 1 << 32;
-
-fn is_blank(b: u8) -> bool
-    ensures { result ≡ is_blank b }
+fn blanks_len(text: &[u8]) -> usize
+    ensures value { result ≡ prefix_len is_blank text.now }
+    ensures within { result ≤ length text.now }
 {
-    b == b' ' || b == b'\t' || b == b'\r'
+    text.iter()
+        .take_while(|b| **b == b' ' || **b == b'\t' || **b == b'\r')
+        .count()
 }
 
-pub(crate) fn are_blank(bytes: &[u8]) -> bool
-    ensures { result ≡ are_blank bytes.now }
+/// The text without the blanks at its start.
+pub(crate) fn after_blanks(text: &[u8]) -> &[u8]
+    ensures { result.now ≡ after_blanks text.now }
 {
-    bytes.iter().all(|b| is_blank(*b))
-}
-
-fn after_blanks(mut text: &[u8]) -> &[u8]
-    ensures { result.now ≡ after_blanks text.entry.now }
-{
-    while let [b, rest @ ..] = text {
-        if !is_blank(*b) {
-            return text;
-        }
-        text = rest;
-    }
-    text
+    &text[blanks_len(text)..]
 }
 
 fn length_before(mark: u8, text: &[u8]) -> usize
@@ -60,22 +49,19 @@ pub(crate) fn behind(mark: u8, text: &[u8]) -> &[u8]
     }
 }
 
-fn with_digit(n: u64, digit: u8) -> u64
-    requires { n ≤ 2 ^ 32 }
-    ensures { result ≡ min (n * 10 + (digit - 48)) (2 ^ 32) }
+/// The number that digits spell, where it is below 2^32.
+#[tactic(auto, using(crate::proofs::Numbers::at_least))]
+fn number_of(digits: &[u8]) -> Option<u32>
+    ensures some { IfSome result (λ n. n ≡ number_of digits.now) }
+    ensures none { IfNone result (2 ^ 32 ≤ number_of digits.now) }
 {
-    (n * 10 + u64::from(digit.saturating_sub(b'0'))).min(CAP)
-}
-
-/// The number that digits spell, or 2^32 where it is larger.
-fn number_of(digits: &[u8]) -> u64
-    ensures { result ≡ min (number_of digits.now) (2 ^ 32) }
-{
-    let mut n: u64 = 0;
+    let mut number: u32 = 0;
     for digit in digits {
-        n = with_digit(n, *digit);
+        number = number
+            .checked_mul(10)?
+            .checked_add(u32::from(digit.saturating_sub(b'0')))?;
     }
-    n
+    Some(number)
 }
 
 fn digits_len(text: &[u8]) -> usize
@@ -85,39 +71,29 @@ fn digits_len(text: &[u8]) -> usize
     text.iter().take_while(|b| b.is_ascii_digit()).count()
 }
 
-#[tactic(auto, unfolding(crate::specs::Format::number_at))]
-fn number_at(text: &[u8]) -> Option<u32>
-    ensures { result ≡ number_at text.now }
-{
-    let count = digits_len(text);
-    let number = number_of(&text[..count]);
-    if count >= 1 && are_blank(&text[count..]) && number < CAP {
-        Some(number as u32)
-    } else {
-        None
-    }
-}
-
 /// The number that a field is.
 #[tactic(auto, unfolding(crate::specs::Format::number_in))]
 pub fn number_in(field: &[u8]) -> Option<u32>
     ensures { result ≡ number_in field.now }
 {
-    number_at(after_blanks(field))
+    let text = after_blanks(field);
+    let count = digits_len(text);
+    if count >= 1 && after_blanks(&text[count..]).is_empty() {
+        number_of(&text[..count])
+    } else {
+        None
+    }
 }
 
 /// The number that a field is, or `-1`, which stands for none.
-#[tactic(auto, unfolding(crate::specs::Format::other_in, crate::specs::Format::number_in))]
+#[tactic(auto, unfolding(crate::specs::Format::other_in))]
 pub(crate) fn other_in(field: &[u8]) -> Option<Option<u32>>
     ensures { result ≡ other_in field.now }
 {
     let text = after_blanks(field);
-    if text.starts_with(b"-1") && are_blank(&text[2..]) {
+    if text.starts_with(b"-1") && after_blanks(&text[2..]).is_empty() {
         Some(None)
     } else {
-        match number_at(text) {
-            Some(number) => Some(Some(number)),
-            None => None,
-        }
+        Some(Some(number_in(field)?))
     }
 }

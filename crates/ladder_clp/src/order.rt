@@ -1,7 +1,7 @@
 //! The rungs in the order in which they are scanned.
 
 ghost use Rattle.std.specs.Prelude.{◌≡◌, ◌==◌, ◌&&◌, IfErr, IfOk, find, length};
-ghost use Rattle.ladder_clp.specs.Order.{arranged, arranged_so, is_left_out, IsOrderFault, way};
+ghost use Rattle.ladder_clp.specs.Order.{arranged, arranged_so, IsOrderFault, way};
 
 use crate::fault::ClpFault;
 use crate::reading::Reading;
@@ -56,13 +56,6 @@ fn add_way<'a>(
     Ok(false)
 }
 
-/// Whether the section is a sequential chart that is left out.
-fn is_left_out(reading: Reading, section: Section) -> bool
-    ensures { result ≡ is_left_out reading section }
-{
-    reading.opened && section.language == 1
-}
-
 /// The rungs of all sections that are scanned, one section after the other.
 pub(crate) fn arranged<'a>(
     alloc: Global,
@@ -81,7 +74,7 @@ pub(crate) fn arranged<'a>(
                     section: section.number,
                 });
             }
-        } else if !is_left_out(reading, *section) {
+        } else if !(reading.opened && section.language == 1) {
             return Err(ClpFault::NotLadder {
                 section: section.number,
             });

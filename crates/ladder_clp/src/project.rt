@@ -4,7 +4,7 @@ ghost use Rattle.std.specs.Prelude.{◌≡◌, IfErr, IfOk, map};
 ghost use Rattle.ladder_clp.specs.Format.{part_of};
 ghost use Rattle.ladder_clp.specs.Tables.{presets_in, sections_in};
 ghost use Rattle.ladder_clp.specs.declared.fault.Table.TheVariants.{Sections};
-ghost use Rattle.ladder_clp.specs.Project.{is_headed, sections_head, AreOfProject, HasRungs, IsFaultOf, IsProject, IsRight, IsTableFault};
+ghost use Rattle.ladder_clp.specs.Project.{sections_head, AreOfProject, HasRungs, IsFaultOf, IsProject, IsRight, IsTableFault};
 
 use crate::fault::{ClpFault, Table};
 use crate::lines::{is_line, lines_of, part_of};
@@ -71,15 +71,6 @@ fn rungs_of<'a>(
     arranged(alloc, reading, &rungs, &sections)
 }
 
-fn is_headed(lines: &[&[u8]]) -> bool
-    ensures { result ≡ is_headed (map (λ l. l.now) lines.now) }
-{
-    match lines {
-        [] => false,
-        [line, ..] => is_line(b"_FILES_CLASSICLADDER", line),
-    }
-}
-
 /// The project of these lines.
 fn project_in<'a>(
     alloc: Global,
@@ -89,8 +80,9 @@ fn project_in<'a>(
     ensures found { IfOk result (λ p. AreOfProject reading (map (λ l. l.now) lines.now) p) }
     ensures none { IfErr result (λ e. IsFaultOf reading (map (λ l. l.now) lines.now) e) }
 {
-    if !is_headed(lines) {
-        return Err(ClpFault::NoProject);
+    match lines {
+        [line, ..] if is_line(b"_FILES_CLASSICLADDER", line) => (),
+        _ => return Err(ClpFault::NoProject),
     }
     let rungs = rungs_of(alloc, reading, lines)?;
     let timers = preset_table(alloc, Table::Timers, b"_FILE-timers.csv", lines)?;

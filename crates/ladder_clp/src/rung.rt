@@ -1,7 +1,7 @@
 //! The rungs of a project.
 
 ghost use Rattle.std.specs.Prelude.{◌≡◌, IfErr, IfOk, Ok, Err, ℕ, map, option_map, codes};
-ghost use Rattle.ladder_clp.specs.Rungs.{next_in, read_of, rows_in, rung_in, rung_number, rung_with, rungs_in};
+ghost use Rattle.ladder_clp.specs.Rungs.{read_of, rows_in, rung_in, rung_number, rung_with, rungs_in};
 ghost use Rattle.ladder_clp.specs.RungFault.{IsRungFault};
 
 use crate::element::{Element, row_in};
@@ -49,26 +49,16 @@ fn rows_in(alloc: Global, mut lines: &[&[u8]]) -> Result<Option<Vec<Element>>, A
     Ok(Some(elements))
 }
 
-fn next_in(value: &[u8]) -> Option<Option<u32>>
-    ensures { result ≡ next_in value.now }
+/// The rung that the lines of a part are, by the elements of its rows.
+fn rung_with<'a>(number: u32, body: &[&'a [u8]], rows: &[Element]) -> Option<Rung<'a>>
+    ensures { option_map read_of result ≡ rung_with number (map (λ l. l.now) body.now) rows.now }
 {
-    if value.is_empty() {
-        Some(None)
+    let value = value_of(b"#NEXTRUNG=", body);
+    let next = if value.is_empty() {
+        None
     } else {
-        other_in(value)
-    }
-}
-
-fn rung_with<'a>(
-    number: u32,
-    label: &'a [u8],
-    comment: &'a [u8],
-    next: Option<Option<u32>>,
-    rows: &[Element],
-) -> Option<Rung<'a>>
-    ensures { option_map read_of result ≡ rung_with number label.now comment.now next (Some rows.now) }
-{
-    let next = next?;
+        other_in(value)?
+    };
     if rows.len() != ELEMENTS {
         return None;
     }
@@ -77,8 +67,8 @@ fn rung_with<'a>(
     Some(Rung {
         number,
         next,
-        label,
-        comment,
+        label: value_of(b"#LABEL=", body),
+        comment: value_of(b"#COMMENT=", body),
         elements,
     })
 }
@@ -92,15 +82,8 @@ fn rung_in<'a>(
 ) -> Result<Option<Rung<'a>>, AllocError>
     ensures { IfOk result (λ o. option_map read_of o ≡ rung_in number (map (λ l. l.now) body.now)) }
 {
-    let next = next_in(value_of(b"#NEXTRUNG=", body));
     match rows_in(alloc, body)? {
-        Some(rows) => Ok(rung_with(
-            number,
-            value_of(b"#LABEL=", body),
-            value_of(b"#COMMENT=", body),
-            next,
-            &rows,
-        )),
+        Some(rows) => Ok(rung_with(number, body, &rows)),
         None => Ok(None),
     }
 }

@@ -1,7 +1,7 @@
 //! The tables of a project: presets, sections and symbols, a line each.
 
 ghost use Rattle.std.specs.Prelude.{◌≡◌, IfOk, map, option_map};
-ghost use Rattle.ladder_clp.specs.Tables.{expression_of, expressions_in, is_number, is_assignment_of_number, mode_in, preset_in, preset_with, presets_in, section_in, section_with, sections_in, symbol_of, symbols_in, writes_number};
+ghost use Rattle.ladder_clp.specs.Tables.{expression_of, expressions_in, preset_in, presets_in, section_in, sections_in, symbol_of, symbols_in, writes_number};
 
 use crate::lines::is_data;
 use crate::number::{before, behind, number_in, other_in};
@@ -43,35 +43,20 @@ pub struct Expression<'a> {
     pub text: &'a [u8],
 }
 
-fn preset_with(base: Option<u32>, count: Option<u32>, mode: Option<u32>) -> Option<Preset>
-    ensures { result ≡ preset_with base count mode }
-{
-    match (base, count, mode) {
-        (Some(base), Some(count), Some(mode)) => Some(Preset { base, count, mode }),
-        _ => None,
-    }
-}
-
-fn mode_in(field: &[u8]) -> Option<u32>
-    ensures { result ≡ mode_in field.now }
-{
-    if field.is_empty() {
-        Some(0)
-    } else {
-        number_in(before(b',', field))
-    }
-}
-
 #[tactic(auto, unfolding(crate::specs::Tables::preset_in))]
 fn preset_in(line: &[u8]) -> Option<Preset>
     ensures { result ≡ preset_in line.now }
 {
-    let rest = behind(b',', line);
-    preset_with(
-        number_in(before(b',', line)),
-        number_in(before(b',', rest)),
-        mode_in(behind(b',', rest)),
-    )
+    let second = behind(b',', line);
+    let third = behind(b',', second);
+    let base = number_in(before(b',', line))?;
+    let count = number_in(before(b',', second))?;
+    let mode = if third.is_empty() {
+        0
+    } else {
+        number_in(before(b',', third))?
+    };
+    Some(Preset { base, count, mode })
 }
 
 /// The presets of a table, where each line with data is one.
@@ -94,29 +79,6 @@ pub(crate) fn presets_in(
     Ok(Some(presets))
 }
 
-fn section_with(
-    number: Option<u32>,
-    language: Option<u32>,
-    subroutine: Option<Option<u32>>,
-    first: Option<u32>,
-    last: Option<u32>,
-) -> Option<Section>
-    ensures { result ≡ section_with number language subroutine first last }
-{
-    match (number, language, subroutine, first, last) {
-        (Some(number), Some(language), Some(subroutine), Some(first), Some(last)) => {
-            Some(Section {
-                number,
-                language,
-                subroutine,
-                first,
-                last,
-            })
-        }
-        _ => None,
-    }
-}
-
 #[tactic(auto, unfolding(crate::specs::Tables::section_in))]
 fn section_in(line: &[u8]) -> Option<Section>
     ensures { result ≡ section_in line.now }
@@ -125,13 +87,13 @@ fn section_in(line: &[u8]) -> Option<Section>
     let third = behind(b',', second);
     let fourth = behind(b',', third);
     let fifth = behind(b',', fourth);
-    section_with(
-        number_in(before(b',', line)),
-        number_in(before(b',', second)),
-        other_in(before(b',', third)),
-        number_in(before(b',', fourth)),
-        number_in(before(b',', fifth)),
-    )
+    Some(Section {
+        number: number_in(before(b',', line))?,
+        language: number_in(before(b',', second))?,
+        subroutine: other_in(before(b',', third))?,
+        first: number_in(before(b',', fourth))?,
+        last: number_in(before(b',', fifth))?,
+    })
 }
 
 /// The sections, where each line with data is one.
@@ -198,29 +160,18 @@ pub(crate) fn expressions_in<'a>(
     Ok(expressions)
 }
 
-fn is_assignment_of_number(text: &[u8]) -> bool
-    ensures { result ≡ is_assignment_of_number text.now }
-{
-    text.starts_with(b"@200/") || text.starts_with(b"@280/") || text.starts_with(b"@310/")
-}
-
-fn is_number(number: u32, found: Option<u32>) -> bool
-    ensures { result ≡ is_number number found }
-{
-    match found {
-        Some(other) => other == number,
-        None => false,
-    }
-}
-
 /// Whether there is an expression with the number, and it writes a number alone.
 pub fn writes_number(mut expressions: &[Expression<'_>], number: u32) -> bool
     ensures { result ≡ writes_number expressions.entry.now number }
 {
     let mut found = false;
     while let [expression, rest @ ..] = expressions {
-        if is_number(number, expression.number) {
-            if !is_assignment_of_number(expression.text) {
+        if expression.number == Some(number) {
+            let text = expression.text;
+            if !(text.starts_with(b"@200/")
+                || text.starts_with(b"@280/")
+                || text.starts_with(b"@310/"))
+            {
                 return false;
             }
             found = true;

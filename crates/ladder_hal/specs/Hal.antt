@@ -1,5 +1,6 @@
 -- A HAL file: which signals it connects with pins of ClassicLadder.
 use Rattle.std.specs.Prelude.{ℕ, ◌==◌, ◌&&◌, ◌||◌, ◌++◌, nat_eq, Bool, List, [], ◌∷◌, length, drop, codes, Option, Some, None, option_map, if◌then◌else◌}
+use Rattle.std.specs.Cmp.Lexicographic.{pointwise}
 use Rattle.std.specs.List.{slice_split, starts_with}
 use Rattle.ladder_clp.specs.Format.{before, number_in}
 use Rattle.ladder_hal.specs.declared.links.Link.{Link}
@@ -8,14 +9,11 @@ use Rattle.ladder_hal.specs.declared.pin.Pin.TheVariants as pin
 
 -- ---- lines and words
 
--- A backslash (92) before a line feed (10) makes a blank of it; `goes_on`: whether one stands before this byte.
-abbrev pub joined_byte : Bool → ℕ → ℕ
-joined_byte goes_on b = if goes_on && b == 10 then 32 else b
-
--- a text whose lines are joined where a backslash says so
+-- A text whose lines are joined: a backslash (92) before a line feed (10) makes a blank (32) of it. `goes_on`: whether one stands before
+-- this text.
 abbrev pub joined : Bool → List ℕ → List ℕ
 joined goes_on [] = []
-joined goes_on (b ∷ bs) = joined_byte goes_on b ∷ joined (b == 92) bs
+joined goes_on (b ∷ bs) = (if goes_on && b == 10 then 32 else b) ∷ joined (b == 92) bs
 
 -- a space (32), a tab (9), the return before a line feed (13), or the backslash of a line that goes on
 abbrev pub is_blank : ℕ → Bool
@@ -65,12 +63,9 @@ abbrev pub links_to : List ℕ → List (List ℕ) → List LinkRead
 links_to signal [] = []
 links_to signal (w ∷ ws) = with_pin (pin_of w) signal (links_to signal ws)
 
-abbrev pub is_net : List ℕ → Bool
-is_net word = starts_with nat_eq word (codes "net") && length word == 3
-
 -- A line `net SIGNAL PIN PIN ..` connects its pins with its signal; arrows among them, and other lines, connect none.
 unfoldable pub links_of_words : List (List ℕ) → List LinkRead
-links_of_words (w ∷ signal ∷ ws) = if is_net w then links_to signal ws else []
+links_of_words (w ∷ signal ∷ ws) = if pointwise nat_eq w (codes "net") then links_to signal ws else []
 links_of_words other = []
 
 abbrev pub links_in : List (List ℕ) → List LinkRead

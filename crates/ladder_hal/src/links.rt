@@ -2,7 +2,7 @@
 
 ghost use Rattle.std.specs.Prelude.{◌≡◌, ◌++◌, IfOk, map};
 ghost use Rattle.ladder_clp.specs.Format.{lines_of};
-ghost use Rattle.ladder_hal.specs.Hal.{is_net, link_of, links_in, links_of_words, links_to};
+ghost use Rattle.ladder_hal.specs.Hal.{link_of, links_in, links_of_words, links_to};
 
 use crate::pin::{Pin, pin_of};
 use crate::words::words_of;
@@ -14,12 +14,6 @@ use std::alloc::{AllocError, Global};
 pub struct Link<'a> {
     pub pin: Pin,
     pub signal: &'a [u8],
-}
-
-fn is_net(word: &[u8]) -> bool
-    ensures { result ≡ is_net word.now }
-{
-    word.starts_with(b"net") && word.len() == 3
 }
 
 /// Adds a link to the signal for each word that is a pin.
@@ -45,7 +39,7 @@ fn add_words<'a>(words: &[&'a [u8]], links: &mut Vec<Link<'a>>) -> Result<(), Al
     ensures { IfOk result (λ _. map link_of links.new.items ≡ map link_of links.old.items ++ links_of_words (map (λ w. w.now) words.now)) }
 {
     match words {
-        [word, signal, pins @ ..] if is_net(word) => add_pins(signal, pins, links),
+        [word, signal, pins @ ..] if *word == b"net".as_slice() => add_pins(signal, pins, links),
         _ => Ok(()),
     }
 }

@@ -1,23 +1,10 @@
 //! The lines of a HAL file, and their words.
 
 ghost use Rattle.std.specs.Prelude.{◌≡◌, IfOk, false, map};
-ghost use Rattle.ladder_hal.specs.Hal.{is_blank, joined, joined_byte, parts_of, some_words, words_of};
+ghost use Rattle.ladder_hal.specs.Hal.{joined, parts_of, some_words, words_of};
 
 use ladder_clp::before;
 use std::alloc::{AllocError, Global};
-
-fn is_blank(b: u8) -> bool
-    ensures { result ≡ is_blank b }
-{
-    b == b' ' || b == b'\t' || b == b'\r' || b == b'\\'
-}
-
-/// The byte in a joined text; `goes_on`: whether a backslash stands before it.
-fn joined_byte(goes_on: bool, b: u8) -> u8
-    ensures { result ≡ joined_byte goes_on b }
-{
-    if goes_on && b == b'\n' { b' ' } else { b }
-}
 
 /// The text with each line that ends with a backslash joined with the next one.
 ///
@@ -30,7 +17,7 @@ pub fn joined(alloc: Global, text: &[u8]) -> Result<Vec<u8>, AllocError>
     let mut all = Vec::new(alloc);
     let mut goes_on = false;
     for b in text {
-        all.push(joined_byte(goes_on, *b))?;
+        all.push(if goes_on && *b == b'\n' { b' ' } else { *b })?;
         goes_on = *b == b'\\';
     }
     Ok(all)
@@ -39,7 +26,8 @@ pub fn joined(alloc: Global, text: &[u8]) -> Result<Vec<u8>, AllocError>
 fn parts_of(alloc: Global, line: &[u8]) -> Result<Vec<&[u8]>, AllocError>
     ensures { IfOk result (λ v. map (λ l. l.now) v.items ≡ parts_of line.now) }
 {
-    line.split(|b| is_blank(*b)).collect(alloc)
+    line.split(|b| *b == b' ' || *b == b'\t' || *b == b'\r' || *b == b'\\')
+        .collect(alloc)
 }
 
 /// The parts that aren't empty.

@@ -3,8 +3,9 @@
 ghost use Rattle.ladder_never.specs.OutcomeLaws.{outcomes_keep_values};
 ghost use Rattle.ladder_never.specs.Outcomes.{AnyOutcome, outcomes};
 
+use crate::answer::Answer;
 use crate::outcome::Outcome;
-use crate::table::{agreed, outcome_after};
+use crate::table::q_after;
 use ladder_elements::{Operations, Stored};
 use ladder_glance::Keep;
 use ladder_signals::Tri;
@@ -29,7 +30,13 @@ impl Keep<Tri> for Outcome {
     }
 
     fn step(self, kind: BlockKind, preset: u32, first: Tri, second: Tri, _now: u64) -> Outcome {
-        outcome_after(kind, preset, self, first, second)
+        match self {
+            Outcome::OfKind { q, answer } => Outcome::OfKind {
+                q: q_after(kind, preset, q, answer, first, second),
+                answer: Answer::Open,
+            },
+            Outcome::Anything => Outcome::Anything,
+        }
     }
 
     fn choose(condition: Tri, on: Outcome, off: Outcome) -> Outcome {
@@ -43,7 +50,11 @@ impl Keep<Tri> for Outcome {
             ) => {
                 Outcome::OfKind {
                     q: Tri::choose(condition, q, r),
-                    answer: agreed(answer, other),
+                    answer: if answer == other {
+                        answer
+                    } else {
+                        Answer::Open
+                    },
                 }
             }
             (Outcome::OfKind { .. } | Outcome::Anything, _) => Outcome::Anything,

@@ -3,7 +3,7 @@
 ghost use Rattle.std.specs.Prelude.{◌≡◌, true};
 ghost use Rattle.ladder_glance.specs.Sizes.{AreAsLong};
 ghost use Rattle.ladder_known.specs.KnownScan.{kept_at};
-ghost use Rattle.ladder_never.specs.Cases.{answering, is_answered, pinned, told, with_answer, with_q};
+ghost use Rattle.ladder_never.specs.Cases.{answering, pinned, told};
 ghost use Rattle.ladder_never.specs.Outcomes.{answer_known, outcomes};
 ghost use Rattle.ladder_signals.specs.Three.{three_known};
 
@@ -21,15 +21,6 @@ pub fn is_known(known: Tri, value: bool) -> bool
         Tri::On => value,
         Tri::Off => !value,
         Tri::Unsure => false,
-    }
-}
-
-fn is_answered(answer: Answer) -> Tri
-    ensures { result ≡ is_answered answer }
-{
-    match answer {
-        Answer::Off | Answer::On | Answer::Input => Tri::On,
-        Answer::Open => Tri::Unsure,
     }
 }
 
@@ -52,16 +43,10 @@ pub fn told(point: Point, known: &Knowledge<Tri, Outcome>) -> Tri
         Point::Variable(var) => known.value(var),
         Point::Output(inst) => known.kept(inst).q(),
         Point::Memory(number) => known.memory(Some(number)),
-        Point::Answer(inst) => is_answered(answer(inst, known)),
-    }
-}
-
-fn with_q(outcome: Outcome, q: Tri) -> Outcome
-    ensures { result ≡ with_q outcome q }
-{
-    match outcome {
-        Outcome::OfKind { answer, .. } => Outcome::OfKind { q, answer },
-        Outcome::Anything => Outcome::Anything,
+        Point::Answer(inst) => match answer(inst, known) {
+            Answer::Off | Answer::On | Answer::Input => Tri::On,
+            Answer::Open => Tri::Unsure,
+        },
     }
 }
 
@@ -74,20 +59,14 @@ pub fn pin(point: Point, value: Tri, known: &mut Knowledge<Tri, Outcome>)
     match point {
         Point::Variable(var) => known.put_value(var, value),
         Point::Output(inst) => {
-            let old = known.kept(inst);
-            known.keep(inst, with_q(old, value));
+            let pinned = match known.kept(inst) {
+                Outcome::OfKind { answer, .. } => Outcome::OfKind { q: value, answer },
+                Outcome::Anything => Outcome::Anything,
+            };
+            known.keep(inst, pinned);
         }
         Point::Memory(number) => known.put_memory(number, value),
         Point::Answer(_) => {}
-    }
-}
-
-fn with_answer(outcome: Outcome, answer: Answer) -> Outcome
-    ensures { result ≡ with_answer outcome answer }
-{
-    match outcome {
-        Outcome::OfKind { q, .. } => Outcome::OfKind { q, answer },
-        Outcome::Anything => Outcome::Anything,
     }
 }
 
@@ -97,6 +76,9 @@ pub fn pin_answer(inst: usize, answer: Answer, known: &mut Knowledge<Tri, Outcom
     ensures known { known.new ≡ answering known.old inst answer }
     ensures sizes { AreAsLong known.new known.old }
 {
-    let old = known.kept(inst);
-    known.keep(inst, with_answer(old, answer));
+    let pinned = match known.kept(inst) {
+        Outcome::OfKind { q, .. } => Outcome::OfKind { q, answer },
+        Outcome::Anything => Outcome::Anything,
+    };
+    known.keep(inst, pinned);
 }

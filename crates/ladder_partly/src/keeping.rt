@@ -4,7 +4,7 @@ ghost use Rattle.ladder_partly.specs.Partly.{partly};
 ghost use Rattle.ladder_partly.specs.PartlyKept.{AnyPartly, partly_keeps_values};
 
 use crate::partly::Partly;
-use crate::stepping::{merged, step_partly};
+use crate::stepping::{merged, step_first};
 use ladder_elements::{Operations, Stored};
 use ladder_glance::Keep;
 use ladder_signals::Tri;
@@ -30,7 +30,15 @@ impl Keep<Tri> for Partly {
     }
 
     fn step(self, kind: BlockKind, preset: u32, first: Tri, second: Tri, now: u64) -> Partly {
-        step_partly(kind, preset, self, first, second, now)
+        match first {
+            Tri::On => step_first(kind, preset, self, true, second, now),
+            Tri::Off => step_first(kind, preset, self, false, second, now),
+            Tri::Unsure => {
+                let on = step_first(kind, preset, self, true, second, now);
+                let off = step_first(kind, preset, self, false, second, now);
+                merged(on, off)
+            }
+        }
     }
 
     fn choose(condition: Tri, on: Partly, off: Partly) -> Partly {

@@ -2,44 +2,13 @@
 
 ghost use Rattle.std.specs.Prelude.{◌≡◌, ◌≤◌, ℕ, Bool};
 ghost use Rattle.ladder_vars.specs.Kind.{largest_preset};
-ghost use Rattle.ladder_partly.specs.Partly.{by_input, merged, merged_sort, sort_of, same_stored, step_known, step_partly};
+ghost use Rattle.ladder_partly.specs.Partly.{by_input, merged, sort_of, step_known};
 ghost use Rattle.ladder_partly.specs.declared.partly.Partly.TheVariants as sort;
 
 use crate::partly::Partly;
 use ladder_elements::{Operations, Stored, block};
 use ladder_signals::Tri;
 use ladder_vars::BlockKind::{self, Ctd, Ctu, Rs, Sr, Tof, Ton, Tp};
-
-fn same_stored(one: Stored, other: Stored) -> bool
-    ensures { result ≡ same_stored one other }
-{
-    match (one, other) {
-        (
-            Stored::Timer {
-                last,
-                running,
-                start,
-                q,
-            },
-            Stored::Timer {
-                last: other_last,
-                running: other_running,
-                start: other_start,
-                q: other_q,
-            },
-        ) => last == other_last && running == other_running && start == other_start && q == other_q,
-        (
-            Stored::Counter { last, cv, q },
-            Stored::Counter {
-                last: other_last,
-                cv: other_cv,
-                q: other_q,
-            },
-        ) => last == other_last && cv == other_cv && q == other_q,
-        (Stored::Bistable { q }, Stored::Bistable { q: other_q }) => q == other_q,
-        (Stored::Timer { .. } | Stored::Counter { .. } | Stored::Bistable { .. }, _) => false,
-    }
-}
 
 /// What stays known where the sort and the Q alone are kept.
 fn sort_of(known: Partly) -> Partly
@@ -56,11 +25,17 @@ fn sort_of(known: Partly) -> Partly
     }
 }
 
-/// The sort of both, with what their Qs agree on; nothing where the sorts differ.
-fn merged_sort(one: Partly, other: Partly) -> Partly
-    ensures { result ≡ merged_sort one other }
+/// What is known where it is one of two, and open which: what both store, or else the sort of both, with what their Qs agree on; nothing
+/// where the sorts differ.
+pub(crate) fn merged(one: Partly, other: Partly) -> Partly
+    ensures { result ≡ merged one other }
 {
-    match (one, other) {
+    if let (Partly::Exactly(stored), Partly::Exactly(other_stored)) = (one, other)
+        && stored == other_stored
+    {
+        return one;
+    }
+    match (sort_of(one), sort_of(other)) {
         (Partly::SomeTimer(q), Partly::SomeTimer(r)) => Partly::SomeTimer(Tri::choose(
             Tri::Unsure,
             q,
@@ -85,18 +60,6 @@ fn merged_sort(one: Partly, other: Partly) -> Partly
             _,
         ) => Partly::Anything,
     }
-}
-
-/// What is known where it is one of two, and open which.
-pub(crate) fn merged(one: Partly, other: Partly) -> Partly
-    ensures { result ≡ merged one other }
-{
-    if let (Partly::Exactly(stored), Partly::Exactly(other_stored)) = (one, other)
-        && same_stored(stored, other_stored)
-    {
-        return one;
-    }
-    merged_sort(sort_of(one), sort_of(other))
 }
 
 /// A timer of which the Q alone was known.
@@ -183,7 +146,7 @@ fn step_known(
 }
 
 /// A step whose first input is known: by the second one, what is left with its value, or with either where it is open.
-fn step_first(
+pub(crate) fn step_first(
     kind: BlockKind,
     preset: u32,
     known: Partly,
@@ -200,29 +163,6 @@ fn step_first(
         Tri::Unsure => {
             let on = step_known(kind, preset, known, first, true, now);
             let off = step_known(kind, preset, known, first, false, now);
-            merged(on, off)
-        }
-    }
-}
-
-/// A step whose inputs may be open.
-pub(crate) fn step_partly(
-    kind: BlockKind,
-    preset: u32,
-    known: Partly,
-    first: Tri,
-    second: Tri,
-    now: u64,
-) -> Partly
-    requires { preset ≤ largest_preset kind }
-    ensures { result ≡ step_partly kind preset known first second now }
-{
-    match first {
-        Tri::On => step_first(kind, preset, known, true, second, now),
-        Tri::Off => step_first(kind, preset, known, false, second, now),
-        Tri::Unsure => {
-            let on = step_first(kind, preset, known, true, second, now);
-            let off = step_first(kind, preset, known, false, second, now);
             merged(on, off)
         }
     }

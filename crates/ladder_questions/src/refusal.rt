@@ -1,23 +1,17 @@
 //! Why a question has no list of causes, or no scan that can be shown.
 
-ghost use Rattle.std.specs.Prelude.{◌≡◌, ◌==◌, ◌<◌, Some, ℕ};
+ghost use Rattle.std.specs.Prelude.{◌≡◌, ◌==◌, ◌≤◌, IfNone, ℕ, length};
 ghost use Rattle.std.specs.List.{list_all, list_any};
 ghost use Rattle.ladder_questions.specs.Causes.{question};
 ghost use Rattle.ladder_scan.specs.Standing.{Standing};
-ghost use Rattle.ladder_questions.specs.Refusal.{has_repetition, refusal, scan_refusal};
-ghost use Rattle.ladder_questions.specs.Tests.{is_coil, is_input_variable, is_out_of_range, list_refusal};
+ghost use Rattle.ladder_questions.specs.Refusal.{has_repetition, refusal};
+ghost use Rattle.ladder_questions.specs.Tests.{is_input_variable, list_refusal};
 ghost use Rattle.ladder_questions.specs.declared.TheConstants.{LISTED_LIMIT};
 
 use crate::LISTED_LIMIT;
 use crate::fault::CauseFault;
 use ladder_grid::Program;
 use ladder_scan::State;
-
-fn is_coil(program: &Program, coil: usize) -> bool
-    ensures { result ≡ is_coil program.now coil }
-{
-    coil < program.decls().vars().len() && program.has_coil(coil)
-}
 
 fn is_input_variable(program: &Program, var: usize) -> bool
     ensures { result ≡ is_input_variable program.now var }
@@ -52,19 +46,14 @@ fn has_repetition(mut listed: &[usize]) -> bool
     false
 }
 
-fn is_out_of_range(listed: usize, after: Option<u64>) -> bool
-    requires { listed < 64 }
-    ensures { result ≡ is_out_of_range listed after }
-{
-    match after {
-        Some(after) => 1 << listed <= after,
-        None => false,
-    }
-}
-
 /// The first rule that the listed inputs break, or that a number breaks which is to be one of their assignments.
-fn list_refusal(program: &Program, listed: &[usize], number: Option<u64>) -> Option<CauseFault>
-    ensures { (s : Standing) (now coil : ℕ) → result ≡ list_refusal (question program.now s now coil listed.now) number }
+pub(crate) fn list_refusal(
+    program: &Program,
+    listed: &[usize],
+    number: Option<u64>,
+) -> Option<CauseFault>
+    ensures fault { (s : Standing) (now coil : ℕ) → result ≡ list_refusal (question program.now s now coil listed.now) number }
+    ensures few { IfNone result (length listed.now ≤ LISTED_LIMIT) }
 {
     if listed.len() > LISTED_LIMIT {
         return Some(CauseFault::TooManyFree);
@@ -75,26 +64,10 @@ fn list_refusal(program: &Program, listed: &[usize], number: Option<u64>) -> Opt
     if has_repetition(listed) {
         return Some(CauseFault::RepeatedInput);
     }
-    if is_out_of_range(listed.len(), number) {
-        return Some(CauseFault::AfterOutOfRange);
+    match number {
+        Some(number) if 1 << listed.len() <= number => Some(CauseFault::AfterOutOfRange),
+        _ => None,
     }
-    None
-}
-
-/// The first rule that one scan breaks, with the assignment of a number.
-pub(crate) fn scan_refusal(
-    program: &Program,
-    state: &State,
-    now: u64,
-    listed: &[usize],
-    number: u64,
-) -> Option<CauseFault>
-    ensures { result ≡ scan_refusal (question program.now state.now now 0 listed.now) number }
-{
-    if state.moment() > now {
-        return Some(CauseFault::MomentBack);
-    }
-    list_refusal(program, listed, Some(number))
 }
 
 /// The first of the rules C1 to C6 that the question breaks. `now` is the moment of the scan, in milliseconds.
@@ -111,7 +84,7 @@ pub fn refusal(
     if now < state.moment() {
         return Some(CauseFault::MomentBack);
     }
-    if !is_coil(program, coil) {
+    if !(coil < program.decls().vars().len() && program.has_coil(coil)) {
         return Some(CauseFault::NotACoil);
     }
     list_refusal(program, listed, after)

@@ -9,7 +9,7 @@ ghost use Rattle.ladder_questions.specs.Refusal.{reason, scan_refusal};
 ghost use Rattle.ladder_questions.specs.Sources.{IsShort, image_of};
 
 use crate::fault::CauseFault;
-use crate::refusal::scan_refusal;
+use crate::refusal::list_refusal;
 use crate::source::{InputSource, bit, sources};
 use ladder_grid::Program;
 use ladder_scan::State;
@@ -47,7 +47,10 @@ pub fn assignment(
     ensures accepted { IfOk result (λ _. scan_refusal (question program.now state.now now 0 listed.now) number ≡ None) }
     ensures refused { IfErr result (λ e. scan_refusal (question program.now state.now now 0 listed.now) number ≡ reason e) }
 {
-    if let Some(fault) = scan_refusal(program, state, now, listed, number) {
+    if now < state.moment() {
+        return Err(CauseFault::MomentBack);
+    }
+    if let Some(fault) = list_refusal(program, listed, Some(number)) {
         return Err(fault);
     }
     let Ok(sources) = sources(alloc, program.decls().vars(), listed, state) else {

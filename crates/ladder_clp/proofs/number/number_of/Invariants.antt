@@ -1,10 +1,7 @@
-use Rattle.std.proofs.Common.{◌≡◌, ◌≤◌, ◌^◌, min, drop}
+use Rattle.std.proofs.Common.{◌≡◌, drop}
 use Rattle.ladder_clp.specs.Format.{number_of}
 use Rattle.ladder_clp.proofs.Numbers.{value_from}
 use Rattle.ladder_clp.proofs.number.number_of.Given as goal
 
 abbrev pub invariant-loop-digit : goal.invariant-loop-digit
-invariant-loop-digit l = record {
-  small : l.n ≤ 2 ^ 32;
-  same : min (value_from l.n (drop l.digit-index l.digits)) (2 ^ 32) ≡ min (number_of l.digits) (2 ^ 32);
-}
+invariant-loop-digit l = value_from l.number (drop l.digit-index l.digits) ≡ number_of l.digits
