@@ -1,12 +1,13 @@
 -- Whether some number passes a test, one number after the other.
-use Rattle.std.proofs.Common.{◌≡◌, ◌∙◌, ◌+◌, ◌<◌, ◌≤◌, ◌||◌, ℕ, zero, suc, List, Bool, true, false, refl, sym, ap, add-one, arith, get_or, length, set, ⊎_elim}
-use Rattle.std.proofs.lemmas.Bool.{cases_lt}
+use Rattle.std.proofs.Common.{◌≡◌, ◌∙◌, ◌+◌, ◌<◌, ◌≤◌, ◌||◌, ℕ, zero, suc, List, Bool, true, false, refl, sym, ap, add-one, arith, get_or, length, set, inl, inr, ◌⊎◌, ◌↔◌, IsTrue, ⊎_elim}
+use Rattle.std.proofs.lemmas.Bool.{cases_lt, true≢false}
 use Rattle.std.proofs.lemmas.Grind.{get_or-set_at}
 use Rattle.std.proofs.lemmas.List.{get_or-set_other}
 use Rattle.std.proofs.lemmas.List.Folds.{Any-from_list_any, list_any_at}
 use Rattle.std.proofs.lemmas.List.FromFn.{get_or-range_with_len, length-range_with_len}
 use Rattle.std.specs.List.{list_any, range_with_len}
-use Rattle.ladder_warnings.specs.Warnings.{some_below}
+use Rattle.ladder_warnings.specs.Warned.{SomeBelow, some_below}
+use Rattle.ladder_warnings.specs.Deciding.{next_below}
 
 pub or-true : (b : Bool) → (b || true) ≡ true
 or-true true = refl
@@ -53,3 +54,20 @@ some_of test n h =
 pub some_at : (test : ℕ → Bool) (n k : ℕ) → k < n → test k ≡ true → some_below test n ≡ true
 unfolding some_below
 some_at test n k h e = list_any_at test (range_with_len 0 n) k k (omega (arith, h, length-range_with_len 0 n)) (ap test (get_or-range_with_len 0 n k k h ∙ omega arith) ∙ e)
+
+-- ---- flags
+
+pub none_such : (Such : ℕ → Type 0) → IsTrue false ↔ SomeBelow 0 Such
+none_such Such = (λ h. absurd (true≢false (sym h)), λ h. absurd (omega (arith, h.1)))
+
+or_parts : (a b : Bool) → (IsTrue a ⊎ IsTrue b) ↔ IsTrue (a || b)
+or_parts true b = (λ h. refl, λ h. inl refl)
+or_parts false b = (λ h. ⊎_elim (λ (f : false ≡ true). absurd (true≢false (sym f))) (λ (t : b ≡ true). t) h, λ h. inr h)
+
+-- one number more
+pub such_more : (Such : ℕ → Type 0) (n : ℕ) (found here more : Bool) → more ≡ (found || here) → IsTrue found ↔ SomeBelow n Such → IsTrue here ↔ Such n
+    → IsTrue more ↔ SomeBelow (n + 1) Such
+such_more Such n found here more e before now = rw e (
+  λ h. (next_below Such n).0 (⊎_elim (λ (f : IsTrue found). inl (before.0 f)) (λ (t : IsTrue here). inr (now.0 t)) ((or_parts found here).1 h)),
+  λ h. (or_parts found here).0 (⊎_elim (λ (b : SomeBelow n Such). inl (before.1 b)) (λ (s : Such n). inr (now.1 s)) ((next_below Such n).1 h)),
+)

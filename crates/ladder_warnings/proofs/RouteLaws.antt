@@ -4,7 +4,7 @@ use Rattle.std.proofs.lemmas.Bool.{and_parts, or_cases, true≢false}
 use Rattle.ladder_page.specs.declared.geometry.TheConstants.{COLUMNS, ROWS}
 use Rattle.ladder_grid.specs.Program.{Drawing, feeds, site_at}
 use Rattle.ladder_warnings.specs.Routes.{IsRoute, LeadsByRoutes}
-use Rattle.ladder_warnings.specs.Warnings.{leads, leads_through, passes_power, uses_power}
+use Rattle.ladder_warnings.specs.Warned.{leads, leads_through, passes_power, uses_power}
 use Rattle.ladder_warnings.proofs.Below.{or-true, some_at, some_of}
 
 nowhere : (d : Drawing) (rung from : ℕ) → leads d rung 0 from ≡ true → ⊥

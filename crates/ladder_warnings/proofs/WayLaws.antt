@@ -3,7 +3,7 @@ use Rattle.std.proofs.Common.{◌≡◌, ◌∙◌, ◌+◌, ◌-◌, ◌<◌, �
 use Rattle.std.proofs.lemmas.Bool.{and_parts, cases_lt, eq-eqb, eqb-true, ne_eqb, or_cases, true≢false}
 use Rattle.ladder_grid.specs.Program.{Drawing}
 use Rattle.ladder_warnings.specs.Ways.{IsWay, ReachedByWays}
-use Rattle.ladder_warnings.specs.Warnings.{always_leaves, is_reached, jumps_to, reached_below, some_below}
+use Rattle.ladder_warnings.specs.Warned.{always_leaves, is_reached, jumps_to, reached_below, some_below}
 use Rattle.ladder_warnings.proofs.Below.{or-true, some_at, some_of}
 
 not_true : (b : Bool) → not b ≡ true → b ≡ false

@@ -2,7 +2,7 @@
 use Rattle.std.specs.Prelude.{◌≡◌, ◌+◌, ◌-◌, ◌<◌, ℕ, List, Bool, false, slice_index_or}
 use Rattle.ladder_page.specs.declared.geometry.TheConstants.{COLUMNS, ROWS}
 use Rattle.ladder_grid.specs.Program.{Drawing}
-use Rattle.ladder_warnings.specs.Warnings.{leads, leads_through}
+use Rattle.ladder_warnings.specs.Warned.{leads, leads_through}
 
 -- for each row, whether the right end of a cell in it leads to one that uses power, with n columns on its right
 abbrev pub AreLeading : Drawing → ℕ → ℕ → List Bool → Type 0

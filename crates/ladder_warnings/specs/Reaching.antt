@@ -2,7 +2,7 @@
 use Rattle.std.specs.Prelude.{◌≡◌, ◌<◌, ◌&&◌, ℕ, List, Bool, false, slice_index_or}
 use Rattle.ladder_page.specs.declared.geometry.TheConstants.{ROWS}
 use Rattle.ladder_grid.specs.Program.{Drawing}
-use Rattle.ladder_warnings.specs.Warnings.{is_wired, is_wired_by, jumps_to, reached_below}
+use Rattle.ladder_warnings.specs.Warned.{is_wired, is_wired_by, jumps_to, reached_below}
 
 -- for each row of a column, whether wires connect the left end of its cell to the left rail
 abbrev pub AreWired : Drawing → ℕ → ℕ → List Bool → Type 0

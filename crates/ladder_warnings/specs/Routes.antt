@@ -2,7 +2,7 @@
 use Rattle.std.specs.Prelude.{◌≡◌, ◌↔◌, ◌⊎◌, ◌+◌, ◌-◌, ◌<◌, ℕ, List, [], ◌∷◌, true}
 use Rattle.ladder_page.specs.declared.geometry.TheConstants.{COLUMNS, ROWS}
 use Rattle.ladder_grid.specs.Program.{Drawing, feeds, site_at}
-use Rattle.ladder_warnings.specs.Warnings.{leads, passes_power, uses_power}
+use Rattle.ladder_warnings.specs.Warned.{leads, passes_power, uses_power}
 
 -- A route from the right end of the cell at a row and column: it goes through one cell in each of the next columns, in these rows, and ends
 -- at one that uses power.

@@ -1,7 +1,7 @@
 -- Which rungs a scan can reach, as the ways to them.
 use Rattle.std.specs.Prelude.{◌≡◌, ◌↔◌, ◌⊎◌, ◌+◌, ◌<◌, ℕ, List, [], ◌∷◌, true, false}
 use Rattle.ladder_grid.specs.Program.{Drawing}
-use Rattle.ladder_warnings.specs.Warnings.{always_leaves, is_reached, jumps_to}
+use Rattle.ladder_warnings.specs.Warned.{always_leaves, is_reached, jumps_to}
 
 -- A scan can go from a rung to this one: the next one, where it doesn't always leave, or the one that its jump or return goes to.
 abbrev pub Follows : Drawing → ℕ → ℕ → Type 0

@@ -3,7 +3,7 @@
 ghost use Rattle.std.specs.Prelude.{◌≡◌, ◌+◌, ◌<◌, ◌≤◌, ◌&&◌};
 ghost use Rattle.ladder_page.specs.declared.geometry.TheConstants.{COLUMNS, ROWS};
 ghost use Rattle.ladder_grid.specs.Program.{feeds, joined, takes_power};
-ghost use Rattle.ladder_warnings.specs.Warnings.{is_contact, leads, leads_nowhere, leads_through, passes_power, uses_power};
+ghost use Rattle.ladder_warnings.specs.Warned.{is_contact, leads, leads_nowhere, leads_through, passes_power, uses_power};
 ghost use Rattle.ladder_warnings.specs.Leading.{AreLeading};
 
 use crate::symbols::either;

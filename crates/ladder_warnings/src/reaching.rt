@@ -2,7 +2,7 @@
 
 ghost use Rattle.std.specs.Prelude.{◌≡◌, ◌<◌, ◌≤◌};
 ghost use Rattle.ladder_page.specs.declared.geometry.TheConstants.{RUNGS};
-ghost use Rattle.ladder_warnings.specs.Warnings.{is_never_reached, is_reached, jumps_to, some_below};
+ghost use Rattle.ladder_warnings.specs.Warned.{is_never_reached, is_reached, jumps_to, some_below};
 ghost use Rattle.ladder_warnings.specs.Reaching.{AreReached, jumps_from};
 
 use crate::leading::both;

@@ -2,7 +2,7 @@
 
 ghost use Rattle.std.specs.Prelude.{◌≡◌, ◌+◌, ◌<◌};
 ghost use Rattle.ladder_page.specs.declared.geometry.TheConstants.{COLUMNS, PLACES, ROWS};
-ghost use Rattle.ladder_warnings.specs.Warnings.{always_leaves, is_exit, is_wire, is_wired, is_wired_by, is_wired_exit};
+ghost use Rattle.ladder_warnings.specs.Warned.{always_leaves, is_exit, is_wire, is_wired, is_wired_by, is_wired_exit};
 ghost use Rattle.ladder_warnings.specs.Reaching.{AreWired};
 
 use crate::leading::feeds;

@@ -1,7 +1,7 @@
 use Rattle.std.proofs.Common.{◌≡◌, ◌∙◌, ℕ, false, refl}
 use Rattle.std.proofs.lemmas.List.{get_or-replicate}
 use Rattle.ladder_grid.specs.Program.{Drawing}
-use Rattle.ladder_warnings.specs.Warnings.{leads}
+use Rattle.ladder_warnings.specs.Warned.{leads}
 use Rattle.ladder_warnings.proofs.leading.leading.Goals as goal
 
 leads_none : (d : Drawing) (rung row : ℕ) → false ≡ leads d rung 0 row

@@ -1,6 +1,6 @@
 use Rattle.std.proofs.Common.{◌∙◌, ◌+◌, arith}
 use Rattle.std.proofs.lemmas.List.{length-set}
-use Rattle.ladder_warnings.specs.Warnings.{leads}
+use Rattle.ladder_warnings.specs.Warned.{leads}
 use Rattle.ladder_warnings.proofs.Below.{set_more}
 use Rattle.ladder_warnings.proofs.leading.leading_before.Goals as goal
 

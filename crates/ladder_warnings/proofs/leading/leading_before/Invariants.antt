@@ -1,6 +1,6 @@
 use Rattle.std.proofs.Common.{◌≡◌, ◌+◌, ◌<◌, ℕ, false, length, slice_index_or}
 use Rattle.ladder_page.specs.declared.geometry.TheConstants.{ROWS}
-use Rattle.ladder_warnings.specs.Warnings.{leads}
+use Rattle.ladder_warnings.specs.Warned.{leads}
 use Rattle.ladder_warnings.proofs.leading.leading_before.Given as goal
 
 abbrev pub invariant-loop-from : goal.invariant-loop-from

@@ -2,7 +2,7 @@ use Rattle.std.proofs.Common.{◌≡◌, ◌∙◌, ◌+◌, ◌-◌, ℕ, arith
 use Rattle.ladder_page.specs.declared.geometry.TheConstants.{COLUMNS, ROWS}
 use Rattle.ladder_grid.specs.Program.{Drawing}
 use Rattle.ladder_warnings.specs.Leading.{leads_to}
-use Rattle.ladder_warnings.specs.Warnings.{leads, leads_through, some_below}
+use Rattle.ladder_warnings.specs.Warned.{leads, leads_through, some_below}
 use Rattle.ladder_warnings.proofs.Below.{none_below, one_more}
 use Rattle.ladder_warnings.proofs.leading.leads.Goals as goal
 

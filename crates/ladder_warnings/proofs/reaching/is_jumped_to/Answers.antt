@@ -1,6 +1,6 @@
 use Rattle.std.proofs.Common.{◌∙◌, ◌&&◌, ap}
 use Rattle.ladder_warnings.specs.Reaching.{jumps_from}
-use Rattle.ladder_warnings.specs.Warnings.{reached_below}
+use Rattle.ladder_warnings.specs.Warned.{reached_below}
 use Rattle.ladder_warnings.proofs.Below.{none_below, one_more}
 use Rattle.ladder_warnings.proofs.reaching.is_jumped_to.Goals as goal
 

@@ -1,6 +1,6 @@
 use Rattle.std.proofs.Common.{◌≡◌}
 use Rattle.ladder_warnings.specs.Reaching.{jumps_from}
-use Rattle.ladder_warnings.specs.Warnings.{some_below}
+use Rattle.ladder_warnings.specs.Warned.{some_below}
 use Rattle.ladder_warnings.proofs.reaching.is_jumped_to.Given as goal
 
 abbrev pub invariant-loop-from : goal.invariant-loop-from

@@ -1,6 +1,6 @@
 use Rattle.std.proofs.Common.{◌∙◌, ◌+◌, arith}
 use Rattle.std.proofs.lemmas.List.{length-set}
-use Rattle.ladder_warnings.specs.Warnings.{reached_below}
+use Rattle.ladder_warnings.specs.Warned.{reached_below}
 use Rattle.ladder_warnings.proofs.Below.{set_more}
 use Rattle.ladder_warnings.proofs.WayLaws.{here, kept}
 use Rattle.ladder_warnings.proofs.reaching.reached_below.Goals as goal

@@ -1,5 +1,5 @@
 use Rattle.std.proofs.Common.{◌∙◌}
-use Rattle.ladder_warnings.specs.Warnings.{is_wired_exit}
+use Rattle.ladder_warnings.specs.Warned.{is_wired_exit}
 use Rattle.ladder_warnings.proofs.Below.{none_below, one_more}
 use Rattle.ladder_warnings.proofs.wired.always_leaves.Goals as goal
 

@@ -1,5 +1,5 @@
 use Rattle.std.proofs.Common.{◌≡◌}
-use Rattle.ladder_warnings.specs.Warnings.{is_wired_exit, some_below}
+use Rattle.ladder_warnings.specs.Warned.{is_wired_exit, some_below}
 use Rattle.ladder_warnings.proofs.wired.always_leaves.Given as goal
 
 abbrev pub invariant-loop-at : goal.invariant-loop-at

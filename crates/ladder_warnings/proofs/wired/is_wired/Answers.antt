@@ -2,7 +2,7 @@ use Rattle.std.proofs.Common.{◌≡◌, ◌∙◌, ◌+◌, ℕ, arith, add-one
 use Rattle.ladder_page.specs.declared.geometry.TheConstants.{ROWS}
 use Rattle.ladder_grid.specs.Program.{Drawing}
 use Rattle.ladder_warnings.specs.Reaching.{wires_from}
-use Rattle.ladder_warnings.specs.Warnings.{is_wired, is_wired_by, some_below}
+use Rattle.ladder_warnings.specs.Warned.{is_wired, is_wired_by, some_below}
 use Rattle.ladder_warnings.proofs.Below.{none_below, one_more}
 use Rattle.ladder_warnings.proofs.wired.is_wired.Goals as goal
 

@@ -1,6 +1,6 @@
 use Rattle.std.proofs.Common.{◌≡◌}
 use Rattle.ladder_warnings.specs.Reaching.{wires_from}
-use Rattle.ladder_warnings.specs.Warnings.{some_below}
+use Rattle.ladder_warnings.specs.Warned.{some_below}
 use Rattle.ladder_warnings.proofs.wired.is_wired.Given as goal
 
 abbrev pub invariant-loop-from : goal.invariant-loop-from

@@ -1,7 +1,7 @@
 use Rattle.std.proofs.Common.{◌≡◌, ◌∙◌, ℕ, true, false, refl}
 use Rattle.std.proofs.lemmas.List.{get_or-replicate}
 use Rattle.ladder_grid.specs.Program.{Drawing}
-use Rattle.ladder_warnings.specs.Warnings.{is_wired}
+use Rattle.ladder_warnings.specs.Warned.{is_wired}
 use Rattle.ladder_warnings.proofs.wired.wired.Goals as goal
 
 rail : (d : Drawing) (rung row : ℕ) → true ≡ is_wired d rung 0 row

@@ -1,6 +1,6 @@
 use Rattle.std.proofs.Common.{◌∙◌, ◌+◌, arith}
 use Rattle.std.proofs.lemmas.List.{length-set}
-use Rattle.ladder_warnings.specs.Warnings.{is_wired}
+use Rattle.ladder_warnings.specs.Warned.{is_wired}
 use Rattle.ladder_warnings.proofs.Below.{set_more}
 use Rattle.ladder_warnings.proofs.wired.wired_behind.Goals as goal
 

@@ -1,6 +1,6 @@
 use Rattle.std.proofs.Common.{◌≡◌, ◌+◌, ◌<◌, ℕ, false, length, slice_index_or}
 use Rattle.ladder_page.specs.declared.geometry.TheConstants.{ROWS}
-use Rattle.ladder_warnings.specs.Warnings.{is_wired}
+use Rattle.ladder_warnings.specs.Warned.{is_wired}
 use Rattle.ladder_warnings.proofs.wired.wired_behind.Given as goal
 
 abbrev pub invariant-loop-row : goal.invariant-loop-row
