@@ -1,7 +1,7 @@
--- Private: whether something holds, told by whether its parts do.
+-- Private: whether something holds, told by whether its parts do. Tactics prove equations and contradictions here, and choose no answer.
 use Rattle.std.proofs.Common.{◌≡◌, ◌<◌, ◌≤◌, ◌+◌, ◌==◌, ◌⊎◌, ◌↔◌, inl, inr, ⊎_elim, ℕ, zero, suc, Bool, true, false, Option, Some, None, IsSomeAnd, refl, sym, subst, arith, add-one}
 use Rattle.std.proofs.lemmas.Bool.{cases_lt, eq-eqb, eqb-true, true≢false}
-use Rattle.ladder_warnings.specs.Warned.{SomeBelow}
+use Rattle.ladder_warnings.specs.Below.{SomeBelow}
 
 pub alike : {A B : Type 0} → A ↔ B → Dec A → Dec B
 alike e (yes a) = yes (e.0 a)
@@ -57,6 +57,6 @@ next_below Such n = (
   λ h. ⊎_elim (λ (l : h.0 < n). inl (h.0, l, h.2)) (λ (l : n ≤ h.0). let e : h.0 ≡ n = omega (arith, l, h.1) in inr (subst Such e h.2)) (cases_lt h.0 n),
 )
 
-pub some_below : (Such : ℕ → Type 0) → ((k : ℕ) → Dec (Such k)) → (n : ℕ) → Dec (SomeBelow n Such)
-some_below Such each zero = no (λ h. omega (arith, h.1))
-some_below Such each (suc n) = rw (sym (add-one n)) (alike (next_below Such n) (either (some_below Such each n) (each n)))
+pub some_below : (Such : ℕ → Type 0) (n : ℕ) → ((k : ℕ) → k < n → Dec (Such k)) → Dec (SomeBelow n Such)
+some_below Such zero each = no (λ h. omega (arith, h.1))
+some_below Such (suc n) each = rw (sym (add-one n)) (alike (next_below Such n) (either (some_below Such n (λ k l. each k (omega (arith, l)))) (each n (omega arith))))

@@ -1,3 +1,4 @@
+pub mod Below
 pub mod Decided
 pub mod Deciding
 pub mod Leading

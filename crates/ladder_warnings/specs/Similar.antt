@@ -2,7 +2,7 @@
 use Rattle.std.specs.Prelude.{◌≡◌, ◌⊎◌, ◌+◌, ◌≤◌, ℕ, List, [], ◌∷◌, true, false, drop, length, min, take}
 use Rattle.std.specs.Char.{is_ascii_digit}
 use Rattle.ladder_vars.specs.Name.{same_letters}
-use Rattle.ladder_warnings.specs.Warned.{SomeBelow}
+use Rattle.ladder_warnings.specs.Below.{SomeBelow}
 
 -- The first text is the other with its first character replaced. Neither character is a digit, and more follows them: the last letter of
 -- PumpA and PumpB numbers, as a digit does.

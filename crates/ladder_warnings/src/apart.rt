@@ -2,7 +2,8 @@
 
 ghost use Rattle.std.specs.Prelude.{◌≡◌, ◌<◌, ◌≤◌, ◌↔◌, IsTrue};
 ghost use Rattle.ladder_page.specs.declared.geometry.TheConstants.{COLUMNS, ROWS};
-ghost use Rattle.ladder_warnings.specs.Warned.{HasCellAt, HasCells, IsApart, IsJoinedAt, SomeBelow};
+ghost use Rattle.ladder_warnings.specs.Below.{SomeBelow};
+ghost use Rattle.ladder_warnings.specs.Warned.{HasCellAt, HasCells, IsApart, IsJoinedAt};
 
 use crate::symbols::either;
 use ladder_grid::{Cell, Program};

@@ -1,6 +1,6 @@
 use Rattle.std.proofs.Common.{◌≡◌, ◌↔◌, IsTrue, Some}
 use Rattle.ladder_grid.specs.Program.{block_in, cell_in}
-use Rattle.ladder_warnings.specs.Warned.{SomeBelow}
+use Rattle.ladder_warnings.specs.Below.{SomeBelow}
 use Rattle.ladder_warnings.proofs.places.is_drawn.Given as goal
 
 abbrev pub invariant-loop-place : goal.invariant-loop-place

@@ -1,6 +1,6 @@
 use Rattle.std.proofs.Common.{◌≡◌, ◌↔◌, IsTrue, true}
 use Rattle.ladder_grid.specs.Program.{cell_in, is_coil_of}
-use Rattle.ladder_warnings.specs.Warned.{SomeBelow}
+use Rattle.ladder_warnings.specs.Below.{SomeBelow}
 use Rattle.ladder_warnings.proofs.places.is_written_before.Given as goal
 
 abbrev pub invariant-loop-place : goal.invariant-loop-place

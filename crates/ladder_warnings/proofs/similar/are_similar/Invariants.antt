@@ -1,6 +1,6 @@
 use Rattle.std.proofs.Common.{◌↔◌, IsTrue}
 use Rattle.ladder_warnings.specs.Similar.{DifferAt}
-use Rattle.ladder_warnings.specs.Warned.{SomeBelow}
+use Rattle.ladder_warnings.specs.Below.{SomeBelow}
 use Rattle.ladder_warnings.proofs.similar.are_similar.Given as goal
 
 abbrev pub invariant-loop-place : goal.invariant-loop-place
