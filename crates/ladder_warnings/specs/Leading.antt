@@ -1,13 +1,13 @@
--- Private: where power gets to, while it is found out.
-use Rattle.std.specs.Prelude.{◌≡◌, ◌+◌, ◌-◌, ◌<◌, ℕ, List, Bool, false, slice_index_or}
+-- Private: from where power gets to a cell that uses it, while it is found out column by column.
+use Rattle.std.specs.Prelude.{◌↔◌, ◌+◌, ◌-◌, ◌<◌, ℕ, List, Bool, false, IsTrue, slice_index_or}
 use Rattle.ladder_page.specs.declared.geometry.TheConstants.{COLUMNS, ROWS}
 use Rattle.ladder_grid.specs.Program.{Drawing}
-use Rattle.ladder_warnings.specs.Warnings.{leads, leads_through}
+use Rattle.ladder_warnings.specs.Routes.{HasRoute, LeadsThrough}
 
--- for each row, whether the right end of a cell in it leads to one that uses power, with n columns on its right
+-- for each row, whether a route goes from the right end of a cell in it, with n columns on its right
 abbrev pub AreLeading : Drawing → ℕ → ℕ → List Bool → Type 0
-AreLeading d rung n leading = (row : ℕ) → row < ROWS → slice_index_or leading row false ≡ leads d rung n row
+AreLeading d rung n leading = (row : ℕ) → row < ROWS → IsTrue (slice_index_or leading row false) ↔ HasRoute d rung row (COLUMNS - (n + 1))
 
--- the right end of a cell in the row `from` leads through this row to one that uses power, with n columns behind
-abbrev pub leads_to : Drawing → ℕ → ℕ → ℕ → ℕ → Bool
-leads_to d rung from n row = leads_through d rung from row (COLUMNS - (n + 1)) (leads d rung n row)
+-- a route from the right end of a cell in the row `from` begins in this row, with n columns behind
+abbrev pub RouteBegins : Drawing → ℕ → ℕ → ℕ → ℕ → Type 0
+RouteBegins d rung from n row = LeadsThrough d rung from row (COLUMNS - (n + 1)) (HasRoute d rung row (COLUMNS - (n + 1)))

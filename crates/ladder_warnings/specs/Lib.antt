@@ -1,5 +1,10 @@
+pub mod Below
+pub mod Decided
+pub mod Deciding
 pub mod Leading
 pub mod Reaching
 pub mod Routes
+pub mod Similar
+pub mod Warned
 pub mod Warnings
 pub mod Ways

@@ -1,58 +1,37 @@
 //! Rows that nothing joins with those above.
 
-ghost use Rattle.std.specs.Prelude.{◌≡◌, ◌<◌, ◌≤◌};
+ghost use Rattle.std.specs.Prelude.{◌≡◌, ◌<◌, ◌≤◌, ◌↔◌, IsTrue};
 ghost use Rattle.ladder_page.specs.declared.geometry.TheConstants.{COLUMNS, ROWS};
-ghost use Rattle.ladder_grid.specs.Program.{is_empty};
-ghost use Rattle.ladder_warnings.specs.Warnings.{has_cell_at, is_apart, is_joined_at, is_lower, is_row, some_below};
+ghost use Rattle.ladder_warnings.specs.Below.{SomeBelow};
+ghost use Rattle.ladder_warnings.specs.Warned.{HasCellAt, HasCells, IsApart, IsJoinedAt};
 
 use crate::symbols::either;
 use ladder_grid::{Cell, Program};
 use ladder_page::geometry::{COLUMNS, ROWS};
 
-fn is_empty(cell: Cell) -> bool
-    ensures { result ≡ is_empty cell }
+fn has_cell_at(program: &Program, rung: usize, row: usize, column: usize) -> bool
+    requires rungs { rung < program.now.rungs }
+    requires rows { row < ROWS }
+    requires columns { column < COLUMNS }
+    ensures { IsTrue result ↔ HasCellAt program.now rung row column }
 {
-    match cell {
-        Cell::Empty => true,
+    match program.cell(rung, row, column) {
+        Cell::Empty => false,
         Cell::Wire
         | Cell::Contact { .. }
         | Cell::Coil { .. }
         | Cell::Block { .. }
         | Cell::Lower { .. }
         | Cell::Jump { .. }
-        | Cell::Return => false,
+        | Cell::Return => true,
     }
-}
-
-fn is_lower(cell: Cell) -> bool
-    ensures { result ≡ is_lower cell }
-{
-    match cell {
-        Cell::Lower { .. } => true,
-        Cell::Empty
-        | Cell::Wire
-        | Cell::Contact { .. }
-        | Cell::Coil { .. }
-        | Cell::Block { .. }
-        | Cell::Jump { .. }
-        | Cell::Return => false,
-    }
-}
-
-fn has_cell_at(program: &Program, rung: usize, row: usize, column: usize) -> bool
-    requires rungs { rung < program.now.rungs }
-    requires rows { row < ROWS }
-    requires columns { column < COLUMNS }
-    ensures { result ≡ has_cell_at program.now rung row column }
-{
-    !is_empty(program.cell(rung, row, column))
 }
 
 /// Whether something is drawn in the row.
-fn is_row(program: &Program, rung: usize, row: usize) -> bool
+fn has_cells(program: &Program, rung: usize, row: usize) -> bool
     requires rungs { rung < program.now.rungs }
     requires rows { row < ROWS }
-    ensures { result ≡ is_row program.now rung row }
+    ensures { IsTrue result ↔ HasCells program.now rung row }
 {
     let mut found = false;
     for column in 0..COLUMNS {
@@ -62,14 +41,14 @@ fn is_row(program: &Program, rung: usize, row: usize) -> bool
 }
 
 /// Whether something is drawn in one of the rows above.
-fn is_row_above(program: &Program, rung: usize, row: usize) -> bool
+fn has_cells_above(program: &Program, rung: usize, row: usize) -> bool
     requires rungs { rung < program.now.rungs }
     requires rows { row < ROWS }
-    ensures { result ≡ some_below (is_row program.now rung) row }
+    ensures { IsTrue result ↔ SomeBelow row (HasCells program.now rung) }
 {
     let mut found = false;
     for upper in 0..row {
-        found = either(found, is_row(program, rung, upper));
+        found = either(found, has_cells(program, rung, upper));
     }
     found
 }
@@ -80,10 +59,18 @@ fn is_joined_at(program: &Program, rung: usize, row: usize, column: usize) -> bo
     requires rows { row < ROWS }
     requires lower { 1 ≤ row }
     requires columns { column < COLUMNS }
-    ensures { result ≡ is_joined_at program.now rung row column }
+    ensures { IsTrue result ↔ IsJoinedAt program.now rung row column }
 {
-    is_lower(program.cell(rung, row, column))
-        || column >= 1 && program.vertical(rung, row - 1, column)
+    match program.cell(rung, row, column) {
+        Cell::Lower { .. } => true,
+        Cell::Empty
+        | Cell::Wire
+        | Cell::Contact { .. }
+        | Cell::Coil { .. }
+        | Cell::Block { .. }
+        | Cell::Jump { .. }
+        | Cell::Return => column >= 1 && program.vertical(rung, row - 1, column),
+    }
 }
 
 /// Whether a vertical link or a block joins the row with the one above it.
@@ -91,7 +78,7 @@ fn is_joined_up(program: &Program, rung: usize, row: usize) -> bool
     requires rungs { rung < program.now.rungs }
     requires rows { row < ROWS }
     requires lower { 1 ≤ row }
-    ensures { result ≡ some_below (is_joined_at program.now rung row) COLUMNS }
+    ensures { IsTrue result ↔ SomeBelow COLUMNS (IsJoinedAt program.now rung row) }
 {
     let mut found = false;
     for column in 0..COLUMNS {
@@ -104,11 +91,11 @@ fn is_joined_up(program: &Program, rung: usize, row: usize) -> bool
 pub(crate) fn is_apart(program: &Program, rung: usize, row: usize, column: usize) -> bool
     requires rungs { rung < program.now.rungs }
     requires rows { row < ROWS }
-    ensures { result ≡ is_apart program.now rung row column }
+    ensures { IsTrue result ↔ IsApart program.now rung row column }
 {
     column == 0
         && row >= 1
-        && is_row(program, rung, row)
-        && is_row_above(program, rung, row)
+        && has_cells(program, rung, row)
+        && has_cells_above(program, rung, row)
         && !is_joined_up(program, rung, row)
 }

@@ -1,9 +1,9 @@
 //! Where power can get from the right end of a cell.
 
-ghost use Rattle.std.specs.Prelude.{◌≡◌, ◌+◌, ◌<◌, ◌≤◌, ◌&&◌};
+ghost use Rattle.std.specs.Prelude.{◌≡◌, ◌↔◌, ◌+◌, ◌-◌, ◌<◌, ◌≤◌, ◌&&◌, IsTrue};
 ghost use Rattle.ladder_page.specs.declared.geometry.TheConstants.{COLUMNS, ROWS};
 ghost use Rattle.ladder_grid.specs.Program.{feeds, joined, takes_power};
-ghost use Rattle.ladder_warnings.specs.Warnings.{is_contact, leads, leads_nowhere, leads_through, passes_power, uses_power};
+ghost use Rattle.ladder_warnings.specs.Routes.{HasRoute, LeadsNowhere, LeadsThrough};
 ghost use Rattle.ladder_warnings.specs.Leading.{AreLeading};
 
 use crate::symbols::either;
@@ -58,32 +58,6 @@ pub(crate) fn feeds(program: &Program, rung: usize, row: usize, column: usize, f
         )
 }
 
-/// Whether the cell takes power and does something with it.
-fn uses_power(cell: Cell) -> bool
-    ensures { result ≡ uses_power cell }
-{
-    match cell {
-        Cell::Coil { .. } | Cell::Block { .. } | Cell::Jump { .. } | Cell::Return => true,
-        Cell::Lower { linked, .. } => linked,
-        Cell::Empty | Cell::Wire | Cell::Contact { .. } => false,
-    }
-}
-
-/// Whether power can go on through the cell.
-fn passes_power(cell: Cell) -> bool
-    ensures { result ≡ passes_power cell }
-{
-    match cell {
-        Cell::Wire | Cell::Contact { .. } => true,
-        Cell::Empty
-        | Cell::Coil { .. }
-        | Cell::Block { .. }
-        | Cell::Lower { .. }
-        | Cell::Jump { .. }
-        | Cell::Return => false,
-    }
-}
-
 /// Whether the right link of a row leads to a cell, and so to one that uses power; `onward`: whether the cell's right end leads to one.
 fn leads_through(
     program: &Program,
@@ -96,10 +70,15 @@ fn leads_through(
     requires rungs { rung < program.now.rungs }
     requires columns { column < COLUMNS }
     requires rows { (row < ROWS) × (from < ROWS) }
-    ensures { result ≡ leads_through program.now rung from row column onward }
+    ensures { IsTrue result ↔ LeadsThrough program.now rung from row column (IsTrue onward) }
 {
-    let cell = program.cell(rung, row, column);
-    feeds(program, rung, row, column, from) && (uses_power(cell) || passes_power(cell) && onward)
+    feeds(program, rung, row, column, from)
+        && match program.cell(rung, row, column) {
+            Cell::Coil { .. } | Cell::Block { .. } | Cell::Jump { .. } | Cell::Return => true,
+            Cell::Lower { linked, .. } => linked,
+            Cell::Wire | Cell::Contact { .. } => onward,
+            Cell::Empty => false,
+        }
 }
 
 /// Whether the right end of the cell leads to one that uses power, with `count` columns behind the next one.
@@ -108,7 +87,7 @@ fn leads(program: &Program, rung: usize, from: usize, count: usize, onward: &[bo
     requires rows { from < ROWS }
     requires columns { count + 1 < COLUMNS }
     requires onward { AreLeading program.now rung count onward.now }
-    ensures { result ≡ leads program.now rung (count + 1) from }
+    ensures { IsTrue result ↔ HasRoute program.now rung from (COLUMNS - (count + 1 + 1)) }
 {
     let column = COLUMNS - (count + 1);
     let mut found = false;
@@ -153,11 +132,15 @@ fn leading(program: &Program, rung: usize, count: usize) -> [bool; ROWS]
     leading
 }
 
-fn is_contact(cell: Cell) -> bool
-    ensures { result ≡ is_contact cell }
+/// Whether the place has a contact from which power gets to nothing that uses it.
+pub(crate) fn leads_nowhere(program: &Program, rung: usize, row: usize, column: usize) -> bool
+    requires rungs { rung < program.now.rungs }
+    requires rows { row < ROWS }
+    requires columns { column < COLUMNS }
+    ensures { IsTrue result ↔ LeadsNowhere program.now rung row column }
 {
-    match cell {
-        Cell::Contact { .. } => true,
+    match program.cell(rung, row, column) {
+        Cell::Contact { .. } => !leading(program, rung, COLUMNS - (column + 1))[row],
         Cell::Empty
         | Cell::Wire
         | Cell::Coil { .. }
@@ -166,15 +149,4 @@ fn is_contact(cell: Cell) -> bool
         | Cell::Jump { .. }
         | Cell::Return => false,
     }
-}
-
-/// Whether the place has a contact from which power gets to nothing that uses it.
-pub(crate) fn leads_nowhere(program: &Program, rung: usize, row: usize, column: usize) -> bool
-    requires rungs { rung < program.now.rungs }
-    requires rows { row < ROWS }
-    requires columns { column < COLUMNS }
-    ensures { result ≡ leads_nowhere program.now rung row column }
-{
-    is_contact(program.cell(rung, row, column))
-        && !leading(program, rung, COLUMNS - (column + 1))[row]
 }

@@ -2,7 +2,6 @@
 #![tactic(auto)]
 
 mod apart;
-pub mod laws;
 mod leading;
 mod names;
 mod places;

@@ -1,19 +1,19 @@
 //! Which places of a program have a warning.
 
-ghost use Rattle.std.specs.Prelude.{◌≡◌, ◌*◌, ◌<◌, ◌≤◌};
+ghost use Rattle.std.specs.Prelude.{◌≡◌, ◌*◌, ◌<◌, ◌≤◌, ◌↔◌, IsTrue, Some, true};
 ghost use Rattle.ladder_page.specs.declared.geometry.TheConstants.{COLUMNS, PLACES, ROWS};
-ghost use Rattle.ladder_grid.specs.Program.{cell_in, is_coil_of};
-ghost use Rattle.ladder_warnings.specs.Warnings.{clashes, draws, has_cell, has_cell_before, is_loose_crossing, is_never_read, is_never_written, is_plus, is_unwritten, is_warned, is_written_twice, reads};
+ghost use Rattle.ladder_grid.specs.Program.{block_in, cell_in, is_coil_of};
+ghost use Rattle.ladder_warnings.specs.Warned.{Clashes, HasCell, HasCellBefore, IsLooseCrossing, IsNeverRead, IsNeverWritten, IsUnwritten, IsWarned, IsWrittenTwice, Reads};
 
 use crate::apart::is_apart;
 use crate::leading::leads_nowhere;
 use crate::reaching::is_never_reached;
-use crate::symbols::{clashes, draws, either, is_coil_of, is_input, is_memory, operand_of, reads};
+use crate::symbols::{clashes, draws, either, is_coil_of, is_of_kind, operand_of, reads};
 use crate::warning::Warning;
 use ladder_grid::{Cell, Joint, Program};
 use ladder_page::CoilMode;
 use ladder_page::geometry::{PLACES, ROWS};
-use ladder_vars::Symbol;
+use ladder_vars::{Symbol, VarKind};
 
 /// The cell at a place. Places go by rung, column and row.
 pub(crate) fn cell_in(program: &Program, place: usize) -> Cell
@@ -24,32 +24,23 @@ pub(crate) fn cell_in(program: &Program, place: usize) -> Cell
     program.cell(rung, at % ROWS, at / ROWS)
 }
 
-fn is_plus(joint: Joint) -> bool
-    ensures { result ≡ is_plus joint }
-{
-    match joint {
-        Joint::Plus => true,
-        Joint::Blank | Joint::Dash | Joint::Bar => false,
-    }
-}
-
 fn is_loose_crossing(program: &Program, rung: usize, row: usize, column: usize) -> bool
     requires rungs { rung < program.now.rungs }
     requires rows { row < ROWS }
     requires columns { column < COLUMNS }
-    ensures { result ≡ is_loose_crossing program.now rung row column }
+    ensures { IsTrue result ↔ IsLooseCrossing program.now rung row column }
 {
     column >= 1
         && row + 1 < ROWS
-        && is_plus(program.joint(rung, row, column))
-        && is_plus(program.joint(rung, row + 1, column))
+        && program.joint(rung, row, column) == Joint::Plus
+        && program.joint(rung, row + 1, column) == Joint::Plus
         && !program.vertical(rung, row, column)
 }
 
 /// Whether a contact at one of the first places reads the variable or the instance.
 fn is_read_before(program: &Program, symbol: Symbol, count: usize) -> bool
     requires { count ≤ PLACES * program.now.rungs }
-    ensures { result ≡ has_cell_before program.now (reads symbol) count }
+    ensures { IsTrue result ↔ HasCellBefore program.now (Reads symbol) count }
 {
     let mut found = false;
     for place in 0..count {
@@ -61,7 +52,7 @@ fn is_read_before(program: &Program, symbol: Symbol, count: usize) -> bool
 /// Whether a coil at one of the first places writes the variable.
 fn is_written_before(program: &Program, var: usize, count: usize) -> bool
     requires { count ≤ PLACES * program.now.rungs }
-    ensures { result ≡ has_cell_before program.now (is_coil_of var) count }
+    ensures { IsTrue result ↔ HasCellBefore program.now (λ c. is_coil_of var c ≡ true) count }
 {
     let mut found = false;
     for place in 0..count {
@@ -73,7 +64,7 @@ fn is_written_before(program: &Program, var: usize, count: usize) -> bool
 /// Whether a coil at one of the first places is not meant beside one of this mode on the variable.
 fn clashes_before(program: &Program, mode: CoilMode, var: usize, count: usize) -> bool
     requires { count ≤ PLACES * program.now.rungs }
-    ensures { result ≡ has_cell_before program.now (clashes mode var) count }
+    ensures { IsTrue result ↔ HasCellBefore program.now (Clashes mode var) count }
 {
     let mut found = false;
     for place in 0..count {
@@ -83,7 +74,7 @@ fn clashes_before(program: &Program, mode: CoilMode, var: usize, count: usize) -
 }
 
 fn is_drawn(program: &Program, inst: usize) -> bool
-    ensures { result ≡ has_cell program.now (draws inst) }
+    ensures { IsTrue result ↔ HasCell program.now (λ c. block_in c ≡ Some inst) }
 {
     let mut found = false;
     for place in 0..PLACES * program.rungs() {
@@ -94,24 +85,26 @@ fn is_drawn(program: &Program, inst: usize) -> bool
 
 /// Whether a contact reads the variable or the instance.
 fn is_read(program: &Program, symbol: Symbol) -> bool
-    ensures { result ≡ has_cell program.now (reads symbol) }
+    ensures { IsTrue result ↔ HasCell program.now (Reads symbol) }
 {
     is_read_before(program, symbol, PLACES * program.rungs())
 }
 
 /// Whether nothing gives the variable, or the output of the instance, a value.
 fn is_unwritten(program: &Program, symbol: Symbol) -> bool
-    ensures { result ≡ is_unwritten program.now symbol }
+    ensures { IsTrue result ↔ IsUnwritten program.now symbol }
 {
     match symbol {
-        Symbol::Var(var) => !is_input(program.decls(), var) && !program.has_coil(var),
+        Symbol::Var(var) => {
+            !is_of_kind(VarKind::Input, program.decls(), var) && !program.has_coil(var)
+        }
         Symbol::Instance(inst) => !is_drawn(program, inst),
     }
 }
 
 fn is_written_twice(program: &Program, place: usize) -> bool
     requires { place < PLACES * program.now.rungs }
-    ensures { result ≡ is_written_twice program.now place }
+    ensures { IsTrue result ↔ IsWrittenTwice program.now place }
 {
     match cell_in(program, place) {
         Cell::Coil { mode, var, .. } => clashes_before(program, mode, var, place),
@@ -127,7 +120,7 @@ fn is_written_twice(program: &Program, place: usize) -> bool
 
 fn is_never_written(program: &Program, place: usize) -> bool
     requires { place < PLACES * program.now.rungs }
-    ensures { result ≡ is_never_written program.now place }
+    ensures { IsTrue result ↔ IsNeverWritten program.now place }
 {
     match operand_of(cell_in(program, place)) {
         Some(symbol) => is_unwritten(program, symbol) && !is_read_before(program, symbol, place),
@@ -137,11 +130,11 @@ fn is_never_written(program: &Program, place: usize) -> bool
 
 fn is_never_read(program: &Program, place: usize) -> bool
     requires { place < PLACES * program.now.rungs }
-    ensures { result ≡ is_never_read program.now place }
+    ensures { IsTrue result ↔ IsNeverRead program.now place }
 {
     match cell_in(program, place) {
         Cell::Coil { var, .. } => {
-            is_memory(program.decls(), var)
+            is_of_kind(VarKind::Memory, program.decls(), var)
                 && !is_read(program, Symbol::Var(var))
                 && !is_written_before(program, var, place)
         }
@@ -158,7 +151,7 @@ fn is_never_read(program: &Program, place: usize) -> bool
 /// Whether the place has the warning. Places go by rung, column and row.
 pub(crate) fn is_warned(program: &Program, place: usize, warning: Warning) -> bool
     requires { place < PLACES * program.now.rungs }
-    ensures { result ≡ is_warned program.now place warning }
+    ensures { IsTrue result ↔ IsWarned program.now place warning }
 {
     let (rung, at) = (place / PLACES, place % PLACES);
     match warning {

@@ -1,9 +1,9 @@
 //! Which rungs a scan can reach.
 
-ghost use Rattle.std.specs.Prelude.{◌≡◌, ◌<◌, ◌≤◌};
+ghost use Rattle.std.specs.Prelude.{◌↔◌, ◌<◌, ◌≤◌, ◌+◌, IsTrue};
 ghost use Rattle.ladder_page.specs.declared.geometry.TheConstants.{RUNGS};
-ghost use Rattle.ladder_warnings.specs.Warnings.{is_never_reached, is_reached, jumps_to, some_below};
-ghost use Rattle.ladder_warnings.specs.Reaching.{AreReached, jumps_from};
+ghost use Rattle.ladder_warnings.specs.Ways.{Follows, IsNeverReached, IsReached, JumpsTo};
+ghost use Rattle.ladder_warnings.specs.Reaching.{AreReached};
 
 use crate::leading::both;
 use crate::symbols::either;
@@ -14,7 +14,7 @@ use ladder_page::geometry::RUNGS;
 /// Whether the rung's jump or return goes to another one.
 fn jumps_to(program: &Program, from: usize, rung: usize) -> bool
     requires { from < program.now.rungs }
-    ensures { result ≡ jumps_to program.now from rung }
+    ensures { IsTrue result ↔ JumpsTo program.now from rung }
 {
     match program.jump(from) {
         Some((_, _, target)) => target == rung,
@@ -22,18 +22,13 @@ fn jumps_to(program: &Program, from: usize, rung: usize) -> bool
     }
 }
 
-/// Whether the jump of a rung that a scan reaches goes to this one.
-fn is_jumped_to(program: &Program, rung: usize, reached: &[bool; RUNGS]) -> bool
-    requires rungs { rung < program.now.rungs }
-    requires few { rung < RUNGS }
-    requires reached { AreReached program.now rung reached.now }
-    ensures { result ≡ some_below (jumps_from program.now rung) rung }
+/// Whether a scan can go on from a rung to this one.
+fn follows(program: &Program, before: usize, rung: usize) -> bool
+    requires rungs { before < program.now.rungs }
+    requires few { before < RUNGS }
+    ensures { IsTrue result ↔ Follows program.now before rung }
 {
-    let mut found = false;
-    for from in 0..rung {
-        found = either(found, both(reached[from], jumps_to(program, from, rung)));
-    }
-    found
+    rung == before + 1 && !always_leaves(program, before) || jumps_to(program, before, rung)
 }
 
 /// Whether a scan reaches the rung; `reached`: which of those before it.
@@ -41,11 +36,13 @@ fn comes_to(program: &Program, rung: usize, reached: &[bool; RUNGS]) -> bool
     requires rungs { rung < program.now.rungs }
     requires few { rung < RUNGS }
     requires reached { AreReached program.now rung reached.now }
-    ensures { result ≡ is_reached program.now rung }
+    ensures { IsTrue result ↔ IsReached program.now rung }
 {
-    rung == 0
-        || reached[rung - 1] && !always_leaves(program, rung - 1)
-        || is_jumped_to(program, rung, reached)
+    let mut found = false;
+    for before in 0..rung {
+        found = either(found, both(reached[before], follows(program, before, rung)));
+    }
+    rung == 0 || found
 }
 
 /// Which of the first rungs a scan reaches.
@@ -63,7 +60,7 @@ fn reached_below(program: &Program, count: usize) -> [bool; RUNGS]
 
 fn is_reached(program: &Program, rung: usize) -> bool
     requires { rung < program.now.rungs }
-    ensures { result ≡ is_reached program.now rung }
+    ensures { IsTrue result ↔ IsReached program.now rung }
 {
     let _rungs = program.rungs();
     comes_to(program, rung, &reached_below(program, rung))
@@ -72,7 +69,7 @@ fn is_reached(program: &Program, rung: usize) -> bool
 /// Whether the place is the first one of a rung that no scan reaches.
 pub(crate) fn is_never_reached(program: &Program, rung: usize, row: usize, column: usize) -> bool
     requires { rung < program.now.rungs }
-    ensures { result ≡ is_never_reached program.now rung row column }
+    ensures { IsTrue result ↔ IsNeverReached program.now rung row column }
 {
     row == 0 && column == 0 && !is_reached(program, rung)
 }

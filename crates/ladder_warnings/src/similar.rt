@@ -1,18 +1,11 @@
 //! Whether two names differ by one character.
 
-ghost use Rattle.std.specs.Prelude.{◌≡◌, ◌≤◌, length};
+ghost use Rattle.std.specs.Prelude.{◌≡◌, ◌≤◌, ◌↔◌, IsTrue, length};
 ghost use Rattle.std.specs.Char.{is_ascii_digit};
-ghost use Rattle.ladder_vars.specs.Name.{same_letters};
-ghost use Rattle.ladder_warnings.specs.Warnings.{adds_first, are_similar, differ_at, replaces_first};
+ghost use Rattle.ladder_warnings.specs.Similar.{AddsFirst, AreSimilar, DifferAt, ReplacesFirst};
 
 use crate::symbols::either;
-
-/// Whether one text is the other but for the case of letters.
-fn same_letters(a: &[u8], b: &[u8]) -> bool
-    ensures { result ≡ same_letters a.now b.now }
-{
-    a.eq_ignore_ascii_case(b)
-}
+use ladder_times::same_letters;
 
 fn is_digit(byte: u8) -> bool
     ensures { result ≡ is_ascii_digit byte }
@@ -22,7 +15,7 @@ fn is_digit(byte: u8) -> bool
 
 /// Whether the first character was replaced: neither is a digit, and more follows.
 fn replaces_first(a: &[u8], b: &[u8]) -> bool
-    ensures { result ≡ replaces_first a.now b.now }
+    ensures { IsTrue result ↔ ReplacesFirst a.now b.now }
 {
     match a {
         [] => false,
@@ -40,7 +33,7 @@ fn replaces_first(a: &[u8], b: &[u8]) -> bool
 
 /// Whether a character that is no digit stands before the other text.
 fn adds_first(a: &[u8], b: &[u8]) -> bool
-    ensures { result ≡ adds_first a.now b.now }
+    ensures { IsTrue result ↔ AddsFirst a.now b.now }
 {
     match a {
         [] => false,
@@ -51,7 +44,7 @@ fn adds_first(a: &[u8], b: &[u8]) -> bool
 /// Whether the names are the same but for one character at the place.
 fn differ_at(a: &[u8], b: &[u8], place: usize) -> bool
     requires { (place ≤ length a.now) × (place ≤ length b.now) }
-    ensures { result ≡ differ_at a.now b.now place }
+    ensures { IsTrue result ↔ DifferAt a.now b.now place }
 {
     let (rest, other) = (&a[place..], &b[place..]);
     same_letters(&a[..place], &b[..place])
@@ -60,7 +53,7 @@ fn differ_at(a: &[u8], b: &[u8], place: usize) -> bool
 
 /// Whether the names are long enough to be told apart at a glance, and differ by one character.
 pub(crate) fn are_similar(a: &[u8], b: &[u8]) -> bool
-    ensures { result ≡ are_similar a.now b.now }
+    ensures { IsTrue result ↔ AreSimilar a.now b.now }
 {
     let mut found = false;
     for place in 0..a.len().min(b.len()) + 1 {

@@ -1,10 +1,9 @@
 //! What cells do with variables and instances.
 
-ghost use Rattle.std.specs.Prelude.{◌≡◌, ◌||◌, false, slice_get};
-ghost use Rattle.std.specs.Option.{option_map_or};
-ghost use Rattle.ladder_vars.specs.Decls.{is_input};
-ghost use Rattle.ladder_grid.specs.Program.{is_coil_of};
-ghost use Rattle.ladder_warnings.specs.Warnings.{clashes, draws, is_latch, is_memory, is_memory_kind, operand_of, reads, same_symbol, symbol_of};
+ghost use Rattle.std.specs.Prelude.{◌≡◌, ◌↔◌, ◌||◌, IsTrue, Some};
+ghost use Rattle.ladder_grid.specs.Program.{block_in, is_coil_of};
+ghost use Rattle.ladder_warnings.specs.Warned.{Clashes, IsLatch, IsOfKind, Reads, operand_of};
+ghost use Rattle.ladder_warnings.specs.Warnings.{symbol_of};
 
 use ladder_grid::{Cell, Operand};
 use ladder_page::CoilMode;
@@ -14,15 +13,6 @@ pub(crate) fn either(a: bool, b: bool) -> bool
     ensures { result ≡ (a || b) }
 {
     a || b
-}
-
-fn same_symbol(a: Symbol, b: Symbol) -> bool
-    ensures { result ≡ same_symbol a b }
-{
-    match (a, b) {
-        (Symbol::Var(a), Symbol::Var(b)) | (Symbol::Instance(a), Symbol::Instance(b)) => a == b,
-        (Symbol::Var(_), Symbol::Instance(_)) | (Symbol::Instance(_), Symbol::Var(_)) => false,
-    }
 }
 
 /// What a contact reads.
@@ -62,10 +52,10 @@ pub(crate) fn symbol_of(cell: Cell) -> Option<Symbol>
 
 /// Whether the cell is a contact on the variable or the instance.
 pub(crate) fn reads(symbol: Symbol, cell: Cell) -> bool
-    ensures { result ≡ reads symbol cell }
+    ensures { IsTrue result ↔ Reads symbol cell }
 {
     match operand_of(cell) {
-        Some(other) => same_symbol(symbol, other),
+        Some(other) => other == symbol,
         None => false,
     }
 }
@@ -88,7 +78,7 @@ pub(crate) fn is_coil_of(var: usize, cell: Cell) -> bool
 
 /// Whether the cell is the block of the instance.
 pub(crate) fn draws(inst: usize, cell: Cell) -> bool
-    ensures { result ≡ draws inst cell }
+    ensures { IsTrue result ↔ (block_in cell ≡ Some inst) }
 {
     match cell {
         Cell::Block { inst: drawn } => drawn == inst,
@@ -103,7 +93,7 @@ pub(crate) fn draws(inst: usize, cell: Cell) -> bool
 }
 
 fn is_latch(mode: CoilMode) -> bool
-    ensures { result ≡ is_latch mode }
+    ensures { IsTrue result ↔ IsLatch mode }
 {
     match mode {
         CoilMode::Set | CoilMode::Reset => true,
@@ -113,7 +103,7 @@ fn is_latch(mode: CoilMode) -> bool
 
 /// Whether the cell is a coil on the variable that is not meant beside one of this mode.
 pub(crate) fn clashes(mode: CoilMode, var: usize, cell: Cell) -> bool
-    ensures { result ≡ clashes mode var cell }
+    ensures { IsTrue result ↔ Clashes mode var cell }
 {
     match cell {
         Cell::Coil {
@@ -131,29 +121,12 @@ pub(crate) fn clashes(mode: CoilMode, var: usize, cell: Cell) -> bool
     }
 }
 
-pub(crate) fn is_input(decls: &Decls, var: usize) -> bool
-    ensures { result ≡ option_map_or is_input (slice_get decls.now.vars var) false }
+/// Whether the variable is of this kind.
+pub(crate) fn is_of_kind(kind: VarKind, decls: &Decls, var: usize) -> bool
+    ensures { IsTrue result ↔ IsOfKind kind decls.now var }
 {
     match decls.vars().get(var) {
-        Some(var) => var.is_input(),
-        None => false,
-    }
-}
-
-fn is_memory_kind(kind: VarKind) -> bool
-    ensures { result ≡ is_memory_kind kind }
-{
-    match kind {
-        VarKind::Memory => true,
-        VarKind::Input | VarKind::Output => false,
-    }
-}
-
-pub(crate) fn is_memory(decls: &Decls, var: usize) -> bool
-    ensures { result ≡ option_map_or is_memory (slice_get decls.now.vars var) false }
-{
-    match decls.vars().get(var) {
-        Some(var) => is_memory_kind(var.kind),
+        Some(var) => var.kind == kind,
         None => false,
     }
 }

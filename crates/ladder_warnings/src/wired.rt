@@ -1,43 +1,14 @@
 //! What is connected to the left rail by wires alone.
 
-ghost use Rattle.std.specs.Prelude.{◌≡◌, ◌+◌, ◌<◌};
-ghost use Rattle.ladder_page.specs.declared.geometry.TheConstants.{COLUMNS, PLACES, ROWS};
-ghost use Rattle.ladder_warnings.specs.Warnings.{always_leaves, is_exit, is_wire, is_wired, is_wired_by, is_wired_exit};
+ghost use Rattle.std.specs.Prelude.{◌↔◌, ◌+◌, ◌<◌, IsTrue};
+ghost use Rattle.ladder_page.specs.declared.geometry.TheConstants.{COLUMNS, ROWS};
+ghost use Rattle.ladder_warnings.specs.Ways.{AlwaysLeaves, IsWired, IsWiredBy};
 ghost use Rattle.ladder_warnings.specs.Reaching.{AreWired};
 
 use crate::leading::feeds;
 use crate::symbols::either;
 use ladder_grid::{Cell, Program};
-use ladder_page::geometry::{PLACES, ROWS};
-
-fn is_wire(cell: Cell) -> bool
-    ensures { result ≡ is_wire cell }
-{
-    match cell {
-        Cell::Wire => true,
-        Cell::Empty
-        | Cell::Contact { .. }
-        | Cell::Coil { .. }
-        | Cell::Block { .. }
-        | Cell::Lower { .. }
-        | Cell::Jump { .. }
-        | Cell::Return => false,
-    }
-}
-
-fn is_exit(cell: Cell) -> bool
-    ensures { result ≡ is_exit cell }
-{
-    match cell {
-        Cell::Jump { .. } | Cell::Return => true,
-        Cell::Empty
-        | Cell::Wire
-        | Cell::Contact { .. }
-        | Cell::Coil { .. }
-        | Cell::Block { .. }
-        | Cell::Lower { .. } => false,
-    }
-}
+use ladder_page::geometry::ROWS;
 
 /// Whether a wire in the row `from` of a column feeds the row of the next one; `wired`: whether wires connect it to the left rail.
 fn is_wired_by(
@@ -51,10 +22,10 @@ fn is_wired_by(
     requires rungs { rung < program.now.rungs }
     requires columns { column + 1 < COLUMNS }
     requires rows { (row < ROWS) × (from < ROWS) }
-    ensures { result ≡ is_wired_by program.now rung row from column wired }
+    ensures { IsTrue result ↔ IsWiredBy program.now rung row from column (IsTrue wired) }
 {
     feeds(program, rung, row, column + 1, from)
-        && is_wire(program.cell(rung, from, column))
+        && program.cell(rung, from, column) == Cell::Wire
         && wired
 }
 
@@ -64,7 +35,7 @@ fn is_wired(program: &Program, rung: usize, row: usize, column: usize, wired: &[
     requires rows { row < ROWS }
     requires columns { column + 1 < COLUMNS }
     requires wired { AreWired program.now rung column wired.now }
-    ensures { result ≡ is_wired program.now rung (column + 1) row }
+    ensures { IsTrue result ↔ IsWired program.now rung (column + 1) row }
 {
     let mut found = false;
     for from in 0..ROWS {
@@ -103,24 +74,13 @@ fn wired(program: &Program, rung: usize, column: usize) -> [bool; ROWS]
     wired
 }
 
-/// Whether a jump or return is at the place, and wires connect it to the left rail.
-fn is_wired_exit(program: &Program, rung: usize, at: usize) -> bool
-    requires rungs { rung < program.now.rungs }
-    requires places { at < PLACES }
-    ensures { result ≡ is_wired_exit program.now rung at }
-{
-    let (row, column) = (at % ROWS, at / ROWS);
-    is_exit(program.cell(rung, row, column)) && wired(program, rung, column)[row]
-}
-
-/// Whether the rung always ends with its jump or return.
+/// Whether the rung always ends with its jump or return: wires connect it to the left rail.
 pub(crate) fn always_leaves(program: &Program, rung: usize) -> bool
     requires { rung < program.now.rungs }
-    ensures { result ≡ always_leaves program.now rung }
+    ensures { IsTrue result ↔ AlwaysLeaves program.now rung }
 {
-    let mut found = false;
-    for at in 0..PLACES {
-        found = either(found, is_wired_exit(program, rung, at));
+    match program.jump(rung) {
+        Some((row, column, _target)) => wired(program, rung, column)[row],
+        None => false,
     }
-    found
 }

@@ -1,12 +1,12 @@
-use Rattle.std.proofs.Common.{◌≡◌, ◌∙◌, ℕ, false, refl}
+use Rattle.std.proofs.Common.{◌+◌, ◌-◌, false, sym, arith}
+use Rattle.std.proofs.lemmas.Bool.{true≢false}
 use Rattle.std.proofs.lemmas.List.{get_or-replicate}
-use Rattle.ladder_grid.specs.Program.{Drawing}
-use Rattle.ladder_warnings.specs.Warnings.{leads}
+use Rattle.ladder_page.specs.declared.geometry.TheConstants.{COLUMNS}
+use Rattle.ladder_warnings.specs.Decided.{no_route}
 use Rattle.ladder_warnings.proofs.leading.leading.Goals as goal
 
-leads_none : (d : Drawing) (rung row : ℕ) → false ≡ leads d rung 0 row
-unfolding leads
-leads_none d rung row = refl
-
 pub loop-behind-init : goal.loop-behind-init
-loop-behind-init c row h = get_or-replicate 6 row false false h ∙ leads_none c.args.program.now c.args.rung row
+loop-behind-init c row h = rw (get_or-replicate 6 row false false h) (
+  λ f. absurd (true≢false (sym f)),
+  λ route. absurd (no_route c.args.program.now c.args.rung row (COLUMNS - (0 + 1)) (omega arith) route),
+)

@@ -1,25 +1,33 @@
-use Rattle.std.proofs.Common.{◌≡◌, ◌∙◌, ◌+◌, ◌-◌, ℕ, arith, add-one, ap, refl}
+use Rattle.std.proofs.Common.{◌≡◌, ◌+◌, ◌-◌, ◌<◌, ◌↔◌, inl, inr, ⊎_elim, ℕ, arith}
 use Rattle.ladder_page.specs.declared.geometry.TheConstants.{COLUMNS, ROWS}
 use Rattle.ladder_grid.specs.Program.{Drawing}
-use Rattle.ladder_warnings.specs.Leading.{leads_to}
-use Rattle.ladder_warnings.specs.Warnings.{leads, leads_through, some_below}
-use Rattle.ladder_warnings.proofs.Below.{none_below, one_more}
+use Rattle.ladder_warnings.specs.Below.{SomeBelow}
+use Rattle.ladder_warnings.specs.Decided.{route_step}
+use Rattle.ladder_warnings.specs.Leading.{RouteBegins}
+use Rattle.ladder_warnings.specs.Routes.{HasRoute, LeadsThrough}
+use Rattle.ladder_warnings.proofs.Below.{follow, none_such, such_more}
 use Rattle.ladder_warnings.proofs.leading.leads.Goals as goal
 
-all_rows : (d : Drawing) (rung from count row : ℕ) → row ≡ ROWS → some_below (leads_to d rung from count) row ≡ leads d rung (count + 1) from
-unfolding leads
-all_rows d rung from count row e = rw (add-one, e) refl
+onward : (d : Drawing) (rung from row column : ℕ) {A B : Type 0} → A ↔ B → LeadsThrough d rung from row column A ↔ LeadsThrough d rung from row column B
+onward d rung from row column same = (
+  λ h. (h.0, ⊎_elim (λ uses. inl uses) (λ on. inr (on.0, same.0 on.1)) h.1),
+  λ h. (h.0, ⊎_elim (λ uses. inl uses) (λ on. inr (on.0, same.1 on.1)) h.1),
+)
+
+all_rows : (d : Drawing) (rung from count row : ℕ) → row ≡ ROWS → count + 1 < COLUMNS
+    → SomeBelow row (RouteBegins d rung from count) ↔ HasRoute d rung from (COLUMNS - (count + 1 + 1))
+all_rows d rung from count row e few =
+    let next : COLUMNS - (count + 1) ≡ COLUMNS - (count + 1 + 1) + 1 = omega (arith, few) in
+    rw (e, next) (route_step d rung from (COLUMNS - (count + 1 + 1)) (omega (arith, few)))
 
 pub loop-row-init : goal.loop-row-init
-loop-row-init c = none_below (leads_to c.args.program.now c.args.rung c.args.from c.args.count)
+loop-row-init c = none_such (RouteBegins c.args.program.now c.args.rung c.args.from c.args.count)
 
 pub loop-row-preserved : goal.loop-row-preserved
 loop-row-preserved c =
-    let d = c.args.program.now in
-    let row = c.loop-row.row in
-    c.either-found.ensures
-    ∙ one_more (leads_to d c.args.rung c.args.from c.args.count) row _ _ c.loop-row.invariant
-    (c.leads_through.ensures ∙ ap (leads_through d c.args.rung c.args.from row (COLUMNS - (c.args.count + 1))) (c.requires.onward row c.loop-row-test.true))
+    such_more (RouteBegins c.args.program.now c.args.rung c.args.from c.args.count) c.loop-row.row _ _ _ c.either-found.ensures c.loop-row.invariant
+    (follow c.leads_through.ensures (onward c.args.program.now c.args.rung c.args.from c.loop-row.row (COLUMNS - (c.args.count + 1)) (c.requires.onward c.loop-row.row c.loop-row-test.true)))
 
 pub returns : goal.returns
-returns c = c.loop-row.invariant ∙ all_rows c.args.program.now c.args.rung c.args.from c.args.count c.loop-row.row (omega (arith, c.loop-row-test.false, c.loop-row.auto.row-end))
+returns c = follow c.loop-row.invariant
+    (all_rows c.args.program.now c.args.rung c.args.from c.args.count c.loop-row.row (omega (arith, c.loop-row-test.false, c.loop-row.auto.row-end)) c.requires.columns)

@@ -1,6 +1,8 @@
-use Rattle.std.proofs.Common.{◌≡◌}
-use Rattle.ladder_warnings.specs.Warnings.{reads, has_cell_before}
+use Rattle.std.proofs.Common.{◌↔◌, IsTrue}
+use Rattle.ladder_grid.specs.Program.{cell_in}
+use Rattle.ladder_warnings.specs.Warned.{Reads}
+use Rattle.ladder_warnings.specs.Below.{SomeBelow}
 use Rattle.ladder_warnings.proofs.places.is_read_before.Given as goal
 
 abbrev pub invariant-loop-place : goal.invariant-loop-place
-invariant-loop-place l = l.found ≡ has_cell_before l.program (reads l.symbol) l.place
+invariant-loop-place l = IsTrue l.found ↔ SomeBelow l.place (λ i. Reads l.symbol (cell_in l.program i))

@@ -1,7 +1,7 @@
-use Rattle.std.proofs.Common.{◌≡◌}
-use Rattle.ladder_grid.specs.Program.{is_coil_of}
-use Rattle.ladder_warnings.specs.Warnings.{has_cell_before}
+use Rattle.std.proofs.Common.{◌≡◌, ◌↔◌, IsTrue, true}
+use Rattle.ladder_grid.specs.Program.{cell_in, is_coil_of}
+use Rattle.ladder_warnings.specs.Below.{SomeBelow}
 use Rattle.ladder_warnings.proofs.places.is_written_before.Given as goal
 
 abbrev pub invariant-loop-place : goal.invariant-loop-place
-invariant-loop-place l = l.found ≡ has_cell_before l.program (is_coil_of l.var) l.place
+invariant-loop-place l = IsTrue l.found ↔ SomeBelow l.place (λ i. is_coil_of l.var (cell_in l.program i) ≡ true)

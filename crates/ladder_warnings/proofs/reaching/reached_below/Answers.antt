@@ -1,17 +1,14 @@
-use Rattle.std.proofs.Common.{◌∙◌, ◌+◌, arith}
+use Rattle.std.proofs.Common.{◌∙◌, arith}
 use Rattle.std.proofs.lemmas.List.{length-set}
-use Rattle.ladder_warnings.specs.Warnings.{reached_below}
+use Rattle.ladder_warnings.specs.Ways.{IsReached}
 use Rattle.ladder_warnings.proofs.Below.{set_more}
-use Rattle.ladder_warnings.proofs.WayLaws.{here, kept}
 use Rattle.ladder_warnings.proofs.reaching.reached_below.Goals as goal
 
 pub loop-rung-preserved : goal.loop-rung-preserved
 loop-rung-preserved c =
     let inv = c.loop-rung.invariant in
-    let d = c.args.program.now in
     let reached = c.loop-rung.reached in
     let n = c.loop-rung.rung in (
-      set_more (reached_below d (n + 1)) reached n c.comes_to.result (omega (arith, inv.1, c.requires.few, c.loop-rung-test.true)) (c.comes_to.ensures ∙ here d n)
-          (λ rung h. inv.0 rung h ∙ kept d n rung h),
+      set_more (IsReached c.args.program.now) reached n c.comes_to.result (omega (arith, inv.1, c.requires.few, c.loop-rung-test.true)) c.comes_to.ensures inv.0,
       length-set reached n c.comes_to.result ∙ inv.1,
     )

@@ -1,6 +1,7 @@
-use Rattle.std.proofs.Common.{◌≡◌}
-use Rattle.ladder_warnings.specs.Warnings.{differ_at, some_below}
+use Rattle.std.proofs.Common.{◌↔◌, IsTrue}
+use Rattle.ladder_warnings.specs.Similar.{DifferAt}
+use Rattle.ladder_warnings.specs.Below.{SomeBelow}
 use Rattle.ladder_warnings.proofs.similar.are_similar.Given as goal
 
 abbrev pub invariant-loop-place : goal.invariant-loop-place
-invariant-loop-place l = l.found ≡ some_below (differ_at l.a l.b) l.place
+invariant-loop-place l = IsTrue l.found ↔ SomeBelow l.place (DifferAt l.a l.b)

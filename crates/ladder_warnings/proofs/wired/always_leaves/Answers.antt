@@ -1,10 +1,21 @@
-use Rattle.std.proofs.Common.{◌∙◌}
-use Rattle.ladder_warnings.specs.Warnings.{is_wired_exit}
-use Rattle.ladder_warnings.proofs.Below.{none_below, one_more}
+use Rattle.std.proofs.Common.{◌≡◌, ◌↔◌, Some, IsTrue, IsSomeAnd, false, slice_index_or, subst, sym}
+use Rattle.ladder_grid.specs.Program.{jump_of}
+use Rattle.ladder_grid.proofs.JumpLaws.{jump_placed}
+use Rattle.ladder_warnings.specs.Ways.{IsWired}
 use Rattle.ladder_warnings.proofs.wired.always_leaves.Goals as goal
 
-pub loop-at-init : goal.loop-at-init
-loop-at-init c = none_below (is_wired_exit c.args.program.now c.args.rung)
+pub wired-requires-clause-columns : goal.wired-requires-clause-columns
+wired-requires-clause-columns c =
+    let there : jump_of c.args.program.now c.args.rung ≡ Some (c.in-Some.row, c.in-Some.column, c.in-Some._target) = cc in
+    (jump_placed _ _ _ there).1
 
-pub loop-at-preserved : goal.loop-at-preserved
-loop-at-preserved c = c.either-found.ensures ∙ one_more (is_wired_exit c.args.program.now c.args.rung) c.loop-at.at _ _ c.loop-at.invariant c.is_wired_exit.ensures
+pub bounds-wired-row : goal.bounds-wired-row
+bounds-wired-row c =
+    let there : jump_of c.args.program.now c.args.rung ≡ Some (c.in-Some.row, c.in-Some.column, c.in-Some._target) = cc in
+    (jump_placed _ _ _ there).0
+
+pub returns-in-Some : goal.returns-in-Some
+returns-in-Some c =
+    let there : jump_of c.args.program.now c.args.rung ≡ Some (c.in-Some.row, c.in-Some.column, c.in-Some._target) = cc in
+    subst (λ o. IsTrue (slice_index_or c.wired.result c.in-Some.row false) ↔ IsSomeAnd o (λ jump. IsWired c.args.program.now c.args.rung jump.1 jump.0))
+    (sym there) (c.wired.ensures c.in-Some.row (jump_placed _ _ _ there).0)

@@ -1,27 +1,31 @@
-use Rattle.std.proofs.Common.{◌≡◌, ◌∙◌, ◌+◌, ℕ, arith, add-one, ap, refl}
+use Rattle.std.proofs.Common.{◌≡◌, ◌+◌, ◌↔◌, ℕ, suc, subst, sym, arith, add-one}
 use Rattle.ladder_page.specs.declared.geometry.TheConstants.{ROWS}
 use Rattle.ladder_grid.specs.Program.{Drawing}
-use Rattle.ladder_warnings.specs.Reaching.{wires_from}
-use Rattle.ladder_warnings.specs.Warnings.{is_wired, is_wired_by, some_below}
-use Rattle.ladder_warnings.proofs.Below.{none_below, one_more}
+use Rattle.ladder_warnings.specs.Below.{SomeBelow}
+use Rattle.ladder_warnings.specs.Reaching.{WiresFrom}
+use Rattle.ladder_warnings.specs.Ways.{IsWired, IsWiredBy}
+use Rattle.ladder_warnings.proofs.Below.{follow, none_such, such_more}
 use Rattle.ladder_warnings.proofs.wired.is_wired.Goals as goal
 
-all_rows : (d : Drawing) (rung row column from : ℕ) → from ≡ ROWS → some_below (wires_from d rung row column) from ≡ is_wired d rung (column + 1) row
-unfolding is_wired
-all_rows d rung row column from e = rw (add-one, e) refl
+wired_by : (d : Drawing) (rung row from column : ℕ) {A B : Type 0} → A ↔ B → IsWiredBy d rung row from column A ↔ IsWiredBy d rung row from column B
+wired_by d rung row from column same = (λ h. (h.0, h.1, same.0 h.2), λ h. (h.0, h.1, same.1 h.2))
+
+column_more : (d : Drawing) (rung row column : ℕ) → SomeBelow ROWS (WiresFrom d rung row column) ↔ IsWired d rung (suc column) row
+unfolding IsWired
+column_more d rung row column = (λ h. h, λ h. h)
+
+all_rows : (d : Drawing) (rung row column from : ℕ) → from ≡ ROWS → SomeBelow from (WiresFrom d rung row column) ↔ IsWired d rung (column + 1) row
+all_rows d rung row column from e =
+    subst (λ n. SomeBelow from (WiresFrom d rung row column) ↔ IsWired d rung n row) (sym (add-one column)) (rw e (column_more d rung row column))
 
 pub loop-from-init : goal.loop-from-init
-loop-from-init c = none_below (wires_from c.args.program.now c.args.rung c.args.row c.args.column)
+loop-from-init c = none_such (WiresFrom c.args.program.now c.args.rung c.args.row c.args.column)
 
 pub loop-from-preserved : goal.loop-from-preserved
 loop-from-preserved c =
-    let d = c.args.program.now in
-    let from = c.loop-from.from in
-    c.either-found.ensures
-    ∙ one_more (wires_from d c.args.rung c.args.row c.args.column) from _ _ c.loop-from.invariant
-    (c.is_wired_by.ensures ∙ ap (is_wired_by d c.args.rung c.args.row from c.args.column) (c.requires.wired from c.loop-from-test.true))
+    such_more (WiresFrom c.args.program.now c.args.rung c.args.row c.args.column) c.loop-from.from _ _ _ c.either-found.ensures c.loop-from.invariant
+    (follow c.is_wired_by.ensures (wired_by c.args.program.now c.args.rung c.args.row c.loop-from.from c.args.column (c.requires.wired c.loop-from.from c.loop-from-test.true)))
 
 pub returns : goal.returns
-returns c =
-    c.loop-from.invariant
-    ∙ all_rows c.args.program.now c.args.rung c.args.row c.args.column c.loop-from.from (omega (arith, c.loop-from-test.false, c.loop-from.auto.from-end))
+returns c = follow c.loop-from.invariant
+    (all_rows c.args.program.now c.args.rung c.args.row c.args.column c.loop-from.from (omega (arith, c.loop-from-test.false, c.loop-from.auto.from-end)))

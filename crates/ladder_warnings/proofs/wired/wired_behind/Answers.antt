@@ -1,6 +1,6 @@
 use Rattle.std.proofs.Common.{◌∙◌, ◌+◌, arith}
 use Rattle.std.proofs.lemmas.List.{length-set}
-use Rattle.ladder_warnings.specs.Warnings.{is_wired}
+use Rattle.ladder_warnings.specs.Ways.{IsWired}
 use Rattle.ladder_warnings.proofs.Below.{set_more}
 use Rattle.ladder_warnings.proofs.wired.wired_behind.Goals as goal
 
@@ -9,6 +9,6 @@ loop-row-preserved c =
     let inv = c.loop-row.invariant in
     let behind = c.loop-row.behind in
     let row = c.loop-row.row in (
-      set_more (is_wired c.args.program.now c.args.rung (c.args.column + 1)) behind row c.is_wired.result (omega (arith, inv.1, c.loop-row-test.true)) c.is_wired.ensures inv.0,
+      set_more (IsWired c.args.program.now c.args.rung (c.args.column + 1)) behind row c.is_wired.result (omega (arith, inv.1, c.loop-row-test.true)) c.is_wired.ensures inv.0,
       length-set behind row c.is_wired.result ∙ inv.1,
     )
