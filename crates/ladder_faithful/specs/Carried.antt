@@ -1,6 +1,6 @@
 -- A program has what a project has: each rung in its place in the scan, and each element in its row and column with its meaning.
-use Rattle.std.specs.Prelude.{◌≡◌, ◌⊎◌, ℕ, ◌+◌, ◌*◌, ◌<◌, ◌&&◌, ◌||◌, ◌==◌, not, Bool, true, false, List, [], ◌∷◌, length, slice_get, Some, None, option_map}
-use Rattle.std.specs.List.{list_all, list_any}
+use Rattle.std.specs.Prelude.{◌≡◌, ◌↔◌, ◌⊎◌, All, ℕ, ◌+◌, ◌*◌, ◌<◌, not, true, false, IsTrue, List, [], ◌∷◌, length, slice_get, Some, None, option_map}
+use Rattle.std.specs.List.{list_all}
 use Rattle.ladder_vars.specs.Decls.{Declared}
 use Rattle.ladder_vars.specs.declared.decls.Address.{Address}
 use Rattle.ladder_vars.specs.declared.decls.Instance.{Instance}
@@ -13,7 +13,7 @@ use Rattle.ladder_grid.specs.declared.cell.Operand.{Operand}
 use Rattle.ladder_grid.specs.declared.cell.Operand.TheVariants as operand
 use Rattle.ladder_grid.specs.declared.cell.Cell.{Cell}
 use Rattle.ladder_grid.specs.declared.cell.Cell.TheVariants as cell
-use Rattle.ladder_grid.specs.Program.{Drawing, site_at, feeds, has_coil, is_empty}
+use Rattle.ladder_grid.specs.Program.{Drawing, site_at, feeds, has_coil}
 use Rattle.ladder_clp.specs.declared.element.Element.{Element}
 use Rattle.ladder_clp.specs.declared.order.Placed.{Placed}
 use Rattle.ladder_clp.specs.declared.project.Project.{Project}
@@ -26,8 +26,8 @@ use Rattle.ladder_sheet.specs.declared.meaning.Meaning.{Meaning}
 use Rattle.ladder_sheet.specs.declared.meaning.Meaning.TheVariants as meaning
 use Rattle.ladder_sheet.specs.declared.meaning.Source.{Source}
 use Rattle.ladder_sheet.specs.declared.meaning.Source.TheVariants as source
-use Rattle.ladder_sheet.specs.Meanings.{entry_of, source_of, timed_as}
-use Rattle.ladder_sheet.specs.Sheets.{element_at, fed, is_idle, meaning_at, reached, reads_late, same_sort, stands}
+use Rattle.ladder_sheet.specs.Meanings.{IsTimed, source_of, table_of}
+use Rattle.ladder_sheet.specs.Sheets.{IsFed, IsIdle, Reached, ReadsLate, Stands, element_at, meaning_at}
 
 -- ---- variables and blocks
 
@@ -47,8 +47,9 @@ opened_at k r c = record { letter = 73; first = k + 1; second = Some (100 * (r +
 abbrev pub IsNever : Drawing → ℕ → Type 0
 IsNever d var = (has_coil var d ≡ false) × (is_input_at (slice_get d.decls.vars var) ≡ false)
 
-abbrev pub same_block : BlockRef → BlockRef → Bool
-same_block a b = same_sort a.sort b.sort && (a.number == b.number)
+-- It is none of the blocks.
+abbrev pub IsNoneOf : List BlockRef → BlockRef → Type 0
+IsNoneOf blocks block = All (λ other. ¬ (other ≡ block)) blocks
 
 -- %I, %Q and %B are the addresses %I (73), %Q (81) and %M (77); instance i stands for the block i, and a block that none stands
 -- for is always OFF.
@@ -56,7 +57,7 @@ abbrev pub IsOperand : Drawing → List BlockRef → Source → ℕ → Operand 
 IsOperand d blocks source.Input number (operand.Var var) = IsVar d.decls 73 number var
 IsOperand d blocks source.Output number (operand.Var var) = IsVar d.decls 81 number var
 IsOperand d blocks source.Memory number (operand.Var var) = IsVar d.decls 77 number var
-IsOperand d blocks (source.Done s) number (operand.Var var) = (list_any (same_block (record { sort = s; number = number })) blocks ≡ false) × IsNever d var
+IsOperand d blocks (source.Done s) number (operand.Var var) = IsNoneOf blocks (record { sort = s; number = number }) × IsNever d var
 IsOperand d blocks (source.Done s) number (operand.Output inst) = slice_get blocks inst ≡ Some (record { sort = s; number = number })
 IsOperand d blocks source number operand = ⊥
 
@@ -69,11 +70,11 @@ IsWritten d source number var = ⊥
 -- no block is twice among them
 abbrev pub AreApart : List BlockRef → Type 0
 AreApart [] = Unit {0}
-AreApart (b ∷ bs) = (list_any (same_block b) bs ≡ false) × AreApart bs
+AreApart (b ∷ bs) = IsNoneOf bs b × AreApart bs
 
 -- The instance has the kind and the preset of the block.
 abbrev pub IsInstance : Project → BlockRef → Instance → Type 0
-IsInstance p b i = timed_as b.sort (entry_of p b.sort b.number) ≡ Some (record { kind = i.kind; preset = i.preset })
+IsInstance p b i = IsTimed b.sort (slice_get (table_of p b.sort) b.number) (record { kind = i.kind; preset = i.preset })
 
 -- Each instance has the kind and the preset of the block that it stands for.
 abbrev pub AreInstances : Project → List BlockRef → List Instance → Type 0
@@ -109,7 +110,7 @@ IsContactAt d m address other = ⊥
 
 -- What stands at the place of an element with this meaning; the input with the address stands for what is opened there.
 unfoldable pub IsCell : Drawing → List Placed → List BlockRef → ℕ → Address → Element → Meaning → Cell → Type 0
-IsCell d rungs blocks section address e meaning.Blank at = is_empty at ≡ true
+IsCell d rungs blocks section address e meaning.Blank at = at ≡ cell.Empty
 IsCell d rungs blocks section address e meaning.Wire at = at ≡ cell.Wire
 IsCell d rungs blocks section address e (meaning.Contact m) at = IsContactOn d blocks m (source_of e.class) e.number at
 IsCell d rungs blocks section address e (meaning.Opened m) at = IsContactAt d m address at
@@ -117,28 +118,28 @@ IsCell d rungs blocks section address e (meaning.Coil m) at = IsCoilOn d m (sour
 IsCell d rungs blocks section address e meaning.Jump at = IsJumpTo rungs section e.number at
 IsCell d rungs blocks section address e (meaning.Block s) at = IsBlockOf blocks (record { sort = s; number = e.number }) at
 IsCell d rungs blocks section address e meaning.Off at = IsContactOn d blocks mode.Plain (source.Done sort.Timer) e.number at
-IsCell d rungs blocks section address e meaning.Operate at = is_empty at ≡ true
+IsCell d rungs blocks section address e meaning.Operate at = at ≡ cell.Empty
 IsCell d rungs blocks section address e meaning.Other at = ⊥
 
 -- No power comes to the element, it does nothing then, and nothing is at its place.
 unfoldable pub IsLeftOut : Reading → List Element → ℕ → ℕ → Cell → Type 0
-IsLeftOut reading es r c at = (reached reading es c r ≡ false) × (is_idle (meaning_at reading es r c) ≡ true) × (at ≡ cell.Empty)
+IsLeftOut reading es r c at = ¬ (Reached reading es c r) × IsIdle (meaning_at reading es r c) × (at ≡ cell.Empty)
 
 -- The cell is fed from the same rows.
 abbrev pub IsFedAlike : Reading → Drawing → ℕ → List Element → ℕ → ℕ → Type 0
-IsFedAlike reading d k es r c = (q : ℕ) → q < ROWS → feeds d k r c q ≡ fed reading es r c q
+IsFedAlike reading d k es r c = (q : ℕ) → q < ROWS → IsTrue (feeds d k r c q) ↔ IsFed reading es r c q
 
 -- A cell is fed as its element is, which stands where it means the same in a program and reads no block before it in its rung.
 pub record IsAlike (reading : Reading) (d : Drawing) (k : ℕ) (es : List Element) (r c : ℕ) : Type 0 where
   pub fed : IsFedAlike reading d k es r c
-  pub stands : stands reading es r c ≡ true
-  pub early : reads_late reading es r c ≡ false
+  pub stands : Stands reading es r c
+  pub early : ¬ (ReadsLate reading es r c)
 
 -- A place of rung k has what the project has there.
 pub record IsPlaceCarried (reading : Reading) (d : Drawing) (rungs : List Placed) (blocks : List BlockRef) (k : ℕ) (x : Placed) (r c : ℕ) : Type 0 where
   pub same : IsCell d rungs blocks x.section (opened_at k r c) (element_at x.rung.elements r c) (meaning_at reading x.rung.elements r c) (site_at d k r c).cell
       ⊎ IsLeftOut reading x.rung.elements r c (site_at d k r c).cell
-  pub alike : is_empty (site_at d k r c).cell ≡ false → IsAlike reading d k x.rung.elements r c
+  pub alike : ¬ ((site_at d k r c).cell ≡ cell.Empty) → IsAlike reading d k x.rung.elements r c
 
 abbrev pub IsRungCarried : Reading → Drawing → List Placed → List BlockRef → ℕ → Placed → Type 0
 IsRungCarried reading d rungs blocks k x = (r c : ℕ) → r < ROWS → c < COLUMNS → IsPlaceCarried reading d rungs blocks k x r c
@@ -148,11 +149,11 @@ abbrev pub AreCarried : Reading → Drawing → List Placed → List BlockRef �
 AreCarried reading d rungs blocks = (k : ℕ) → k < length rungs → (x : Placed) → slice_get rungs k ≡ Some x → IsRungCarried reading d rungs blocks k x
 
 -- An operate (60), which is left out, writes a number and so no bit.
-abbrev pub is_unseen : List Expression → Element → Bool
-is_unseen expressions e = not (e.kind == 60) || writes_number expressions e.number
+unfoldable pub IsUnseen : List Expression → Element → Type 0
+IsUnseen expressions e = e.kind ≡ 60 → IsTrue (writes_number expressions e.number)
 
-abbrev pub are_unseen : List Expression → Placed → Bool
-are_unseen expressions x = list_all (is_unseen expressions) x.rung.elements
+unfoldable pub AreUnseen : List Expression → Placed → Type 0
+AreUnseen expressions x = All (IsUnseen expressions) x.rung.elements
 
 -- A program is a project carried over: instance i stands for one of the project's blocks, each for another one; all variables
 -- begin as OFF; the rungs are those of the scan; and what the operates write, no rung reads.
@@ -161,6 +162,6 @@ pub record IsCarriedOver (reading : Reading) (p : Project) (d : Drawing) : Type 
   pub apart : AreApart blocks
   pub instances : AreInstances p blocks d.decls.instances
   pub off : list_all (λ v. not v.initial) d.decls.vars ≡ true
-  pub unseen : list_all (are_unseen p.expressions.items) p.rungs.items ≡ true
+  pub unseen : All (AreUnseen p.expressions.items) p.rungs.items
   pub count : d.rungs ≡ length p.rungs.items
   pub rungs : AreCarried reading d p.rungs.items blocks

@@ -1,16 +1,13 @@
 //! Whether a program has what a project has.
 
-ghost use Rattle.std.specs.Prelude.{◌≡◌, ◌+◌, ◌-◌, ◌/◌, ◌%◌, ◌&&◌, ◌||◌, ◌<◌, ◌≤◌, ℕ, Some, length, not, slice_get, true};
-ghost use Rattle.std.specs.List.{list_all, list_any};
+ghost use Rattle.std.specs.Prelude.{◌≡◌, ◌↔◌, ◌&&◌, ◌+◌, ◌-◌, ◌/◌, ◌%◌, ◌<◌, ◌≤◌, All, IsTrue, Some, length, not, slice_get, true};
+ghost use Rattle.std.specs.List.{list_all};
 ghost use Rattle.ladder_page.specs.declared.geometry.TheConstants.{COLUMNS, PLACES, ROWS};
-ghost use Rattle.ladder_grid.specs.Program.{feeds, is_empty, joined, site_at, takes_power};
-ghost use Rattle.ladder_clp.specs.declared.order.Placed.{Placed};
+ghost use Rattle.ladder_grid.specs.Program.{feeds, joined};
 ghost use Rattle.ladder_grid.specs.declared.cell.Operand.TheVariants as operands;
-ghost use Rattle.ladder_grid.specs.declared.cell.Cell.TheVariants as cells;
-ghost use Rattle.ladder_page.specs.Operand.{is_input_at};
 ghost use Rattle.ladder_sheet.specs.Reach.{AreReached, IsPower};
-ghost use Rattle.ladder_sheet.specs.Sheets.{fed};
-ghost use Rattle.ladder_faithful.specs.Carried.{AreApart, AreCarried, AreInstances, IsAlike, IsCarriedOver, IsBlockOf, IsCell, IsCoilOn, IsContactOn, IsFedAlike, IsInstance, IsJumpTo, IsLeftOut, IsNever, IsOperand, IsPlaceCarried, IsRungCarried, IsTarget, IsVar, IsWritten, IsContactAt, IsDeclaredAt, are_unseen, is_unseen, opened_at, same_block};
+ghost use Rattle.ladder_sheet.specs.Sheets.{IsFed};
+ghost use Rattle.ladder_faithful.specs.Carried.{AreApart, AreCarried, AreInstances, AreUnseen, IsAlike, IsCarriedOver, IsBlockOf, IsCell, IsCoilOn, IsContactOn, IsFedAlike, IsInstance, IsJumpTo, IsLeftOut, IsNever, IsNoneOf, IsOperand, IsPlaceCarried, IsRungCarried, IsTarget, IsUnseen, IsVar, IsWritten, IsContactAt, IsDeclaredAt, opened_at};
 
 use ladder_clp::{Element, Expression, Placed, Project, Reading, writes_number};
 use ladder_grid::{Cell, Joint, Operand, Program};
@@ -18,18 +15,9 @@ use ladder_page::geometry::{COLUMNS, PLACES, ROWS};
 use ladder_page::{CoilMode, Mode};
 use ladder_sheet::{
     BlockRef, BlockSort, Meaning, Power, Source, element_at, entry_of, fed, is_idle, meaning_at,
-    power_of, reads_late, same_sort, source_of, stands, timed_as,
+    power_of, reads_late, source_of, stands, timed_as,
 };
 use ladder_vars::{Address, Decls, Instance, Var};
-
-fn takes_power(joint: Joint) -> bool
-    ensures { result ≡ takes_power joint }
-{
-    match joint {
-        Joint::Dash | Joint::Plus => true,
-        Joint::Blank | Joint::Bar => false,
-    }
-}
 
 fn both(a: bool, b: bool) -> bool
     ensures { result ≡ (a && b) }
@@ -58,30 +46,18 @@ fn feeds(program: &Program, rung: usize, row: usize, column: usize, from: usize)
     requires rows { (row < ROWS) × (from < ROWS) }
     ensures { result ≡ feeds program.now rung row column from }
 {
-    column >= 1
-        && program.right_link(rung, from, column - 1)
-        && takes_power(program.joint(rung, from, column))
-        && joined(
+    if column == 0 || !program.right_link(rung, from, column - 1) {
+        return false;
+    }
+    match program.joint(rung, from, column) {
+        Joint::Dash | Joint::Plus => joined(
             program,
             rung,
             row.min(from),
             column,
             row.max(from) - row.min(from),
-        )
-}
-
-fn is_empty(cell: Cell) -> bool
-    ensures { result ≡ is_empty cell }
-{
-    match cell {
-        Cell::Empty => true,
-        Cell::Wire
-        | Cell::Contact { .. }
-        | Cell::Coil { .. }
-        | Cell::Block { .. }
-        | Cell::Lower { .. }
-        | Cell::Jump { .. }
-        | Cell::Return => false,
+        ),
+        Joint::Blank | Joint::Bar => false,
     }
 }
 
@@ -145,16 +121,11 @@ fn is_instance_of(blocks: &[BlockRef], block: BlockRef, inst: usize) -> bool
 fn is_never(program: &Program, var: usize) -> bool
     ensures { result ≡ true → IsNever program.now var }
 {
-    !program.has_coil(var) && !is_input_at(program.decls(), var)
-}
-
-fn is_input_at(decls: &Decls, var: usize) -> bool
-    ensures { result ≡ is_input_at (slice_get decls.now.vars var) }
-{
-    match decls.vars().get(var) {
+    let is_input = match program.decls().vars().get(var) {
         Some(v) => v.is_input(),
         None => false,
-    }
+    };
+    !is_input && !program.has_coil(var)
 }
 
 /// Whether the variable is what a contact reads.
@@ -172,7 +143,7 @@ fn is_var_read(
         Source::Output => is_var(program.decls(), 'Q', number, var),
         Source::Memory => is_var(program.decls(), 'M', number, var),
         Source::Done(sort) => {
-            !is_among(BlockRef { sort, number }, blocks) && is_never(program, var)
+            is_none_of(blocks, BlockRef { sort, number }) && is_never(program, var)
         }
         Source::Other => false,
     }
@@ -288,21 +259,6 @@ fn is_coil_on(program: &Program, mode: CoilMode, source: Source, number: u32, ce
     }
 }
 
-fn is_wire(cell: Cell) -> bool
-    ensures { result ≡ true → cell ≡ cells.Wire }
-{
-    match cell {
-        Cell::Wire => true,
-        Cell::Empty
-        | Cell::Contact { .. }
-        | Cell::Coil { .. }
-        | Cell::Block { .. }
-        | Cell::Lower { .. }
-        | Cell::Jump { .. }
-        | Cell::Return => false,
-    }
-}
-
 fn is_jump_to(rungs: &[Placed<'_>], section: u32, number: u32, cell: Cell) -> bool
     ensures { result ≡ true → IsJumpTo rungs.now section number cell }
 {
@@ -350,8 +306,8 @@ fn is_cell(
     let source = source_of(element.class);
     let number = element.number;
     match meaning {
-        Meaning::Blank | Meaning::Operate => is_empty(cell),
-        Meaning::Wire => is_wire(cell),
+        Meaning::Blank | Meaning::Operate => cell == Cell::Empty,
+        Meaning::Wire => cell == Cell::Wire,
         Meaning::Contact(mode) => is_contact_on(program, blocks, mode, source, number, cell),
         Meaning::Opened(mode) => is_contact_at(program, mode, address, cell),
         Meaning::Coil(mode) => is_coil_on(program, mode, source, number, cell),
@@ -380,7 +336,9 @@ fn is_left_out(
     requires power { IsPower reading elements.now power.now }
     ensures { result ≡ true → IsLeftOut reading elements.now row column cell }
 {
-    is_empty(cell) && !power[column][row] && is_idle(meaning_at(reading, elements, row, column))
+    cell == Cell::Empty
+        && !power[column][row]
+        && is_idle(meaning_at(reading, elements, row, column))
 }
 
 /// Whether the cell is fed from the row as the element is; `before`: where power can come to in the column before.
@@ -398,7 +356,7 @@ fn is_fed_alike(
     requires rows { (row < ROWS) × (from < ROWS) }
     requires columns { column < COLUMNS }
     requires before { AreReached reading elements.now (column - 1) before.now }
-    ensures { result ≡ true → feeds program.now rung row column from ≡ fed reading elements.now row column from }
+    ensures { result ≡ true → IsTrue (feeds program.now rung row column from) ↔ IsFed reading elements.now row column from }
 {
     feeds(program, rung, row, column, from) == fed(reading, elements, row, column, from, before)
 }
@@ -480,7 +438,7 @@ fn is_place_carried(
         meaning,
         cell,
     ) || is_left_out(reading, elements, power, row, column, cell))
-        && (is_empty(cell) || is_alike(reading, program, rung, elements, power, row, column))
+        && (cell == Cell::Empty || is_alike(reading, program, rung, elements, power, row, column))
 }
 
 fn is_rung_carried(
@@ -521,22 +479,17 @@ fn are_carried(
     true
 }
 
-fn same_block(a: BlockRef, b: BlockRef) -> bool
-    ensures { result ≡ same_block a b }
-{
-    same_sort(a.sort, b.sort) && a.number == b.number
-}
-
-fn is_among(block: BlockRef, mut others: &[BlockRef]) -> bool
-    ensures { result ≡ list_any (same_block block) others.entry.now }
+/// Whether the block is none of them.
+fn is_none_of(mut others: &[BlockRef], block: BlockRef) -> bool
+    ensures { result ≡ true → IsNoneOf others.entry.now block }
 {
     while let [other, rest @ ..] = others {
-        if same_block(block, *other) {
-            return true;
+        if *other == block {
+            return false;
         }
         others = rest;
     }
-    false
+    true
 }
 
 /// Whether no block is twice among them.
@@ -544,7 +497,7 @@ fn are_apart(mut blocks: &[BlockRef]) -> bool
     ensures { result ≡ true → AreApart blocks.entry.now }
 {
     while let [block, rest @ ..] = blocks {
-        if is_among(*block, rest) {
+        if !is_none_of(rest, *block) {
             return false;
         }
         blocks = rest;
@@ -582,14 +535,16 @@ fn are_instances(project: &Project<'_>, mut blocks: &[BlockRef], mut instances: 
 }
 
 /// Whether the element is no operate, or writes a number.
+#[tactic(auto, unfolding(crate::specs::Carried::IsUnseen))]
 fn is_unseen(expressions: &[Expression<'_>], element: Element) -> bool
-    ensures { result ≡ is_unseen expressions.now element }
+    ensures { result ≡ true → IsUnseen expressions.now element }
 {
     element.kind != 60 || writes_number(expressions, element.number)
 }
 
+#[tactic(auto, unfolding(crate::specs::Carried::AreUnseen))]
 fn are_unseen(expressions: &[Expression<'_>], placed: &Placed<'_>) -> bool
-    ensures { result ≡ are_unseen expressions.now placed.now }
+    ensures { result ≡ true → AreUnseen expressions.now placed.now }
 {
     let mut elements = placed.rung.elements.as_slice();
     while let [element, rest @ ..] = elements {
@@ -603,7 +558,7 @@ fn are_unseen(expressions: &[Expression<'_>], placed: &Placed<'_>) -> bool
 
 /// Whether no operate writes a bit.
 fn all_unseen(expressions: &[Expression<'_>], mut rungs: &[Placed<'_>]) -> bool
-    ensures { result ≡ list_all (are_unseen expressions.now) rungs.entry.now }
+    ensures { result ≡ true → All (AreUnseen expressions.now) rungs.entry.now }
 {
     while let [placed, rest @ ..] = rungs {
         if !are_unseen(expressions, placed) {

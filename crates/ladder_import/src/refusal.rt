@@ -1,9 +1,9 @@
 //! The elements that can't be carried over.
 
-ghost use Rattle.std.specs.Prelude.{◌≡◌, ◌+◌, ◌-◌, ◌<◌, ◌≤◌, IfSome, All, IfOk, length};
+ghost use Rattle.std.specs.Prelude.{◌≡◌, ◌↔◌, ◌+◌, ◌-◌, ◌<◌, ◌≤◌, IsTrue, IfSome, All, IfOk, length};
 ghost use Rattle.ladder_page.specs.declared.geometry.TheConstants.{COLUMNS, ROWS};
 ghost use Rattle.ladder_sheet.specs.Reach.{IsPower};
-ghost use Rattle.ladder_import.specs.Refusals.{IsThere, holds, is_coil, is_no_source, is_other};
+ghost use Rattle.ladder_import.specs.Refusals.{Holds, IsCoil, IsThere};
 
 use ladder_clp::{Element, Placed, Project, Reading, writes_number};
 use ladder_draft::blocks_of;
@@ -71,25 +71,8 @@ pub struct Refusal {
     pub reason: Reason,
 }
 
-fn is_other(meaning: Meaning) -> bool
-    ensures { result ≡ is_other meaning }
-{
-    match meaning {
-        Meaning::Other => true,
-        Meaning::Blank
-        | Meaning::Wire
-        | Meaning::Contact(_)
-        | Meaning::Opened(_)
-        | Meaning::Coil(_)
-        | Meaning::Jump
-        | Meaning::Block(_)
-        | Meaning::Off
-        | Meaning::Operate => false,
-    }
-}
-
 fn is_coil(meaning: Meaning) -> bool
-    ensures { result ≡ is_coil meaning }
+    ensures { IsTrue result ↔ IsCoil meaning }
 {
     match meaning {
         Meaning::Coil(_) => true,
@@ -105,17 +88,8 @@ fn is_coil(meaning: Meaning) -> bool
     }
 }
 
-fn is_no_source(source: Source) -> bool
-    ensures { result ≡ is_no_source source }
-{
-    match source {
-        Source::Other => true,
-        Source::Input | Source::Output | Source::Memory | Source::Done(_) => false,
-    }
-}
-
 /// Whether the reason holds of the element at a place.
-#[tactic(auto, unfolding(crate::specs::Refusals::holds))]
+#[tactic(auto, unfolding(crate::specs::Refusals::Holds))]
 fn holds(
     reading: Reading,
     reason: Reason,
@@ -127,7 +101,7 @@ fn holds(
     requires rows { row < ROWS }
     requires columns { column < COLUMNS }
     requires power { IsPower reading elements.now power.now }
-    ensures { result ≡ holds reading reason elements.now row column }
+    ensures { IsTrue result ↔ Holds reading reason elements.now row column }
 {
     let element = element_at(elements, row, column);
     let meaning = meaning_at(reading, elements, row, column);
@@ -137,10 +111,10 @@ fn holds(
         Reason::Compare => element.kind == 20,
         Reason::Operate => element.kind == 60,
         Reason::Call => element.kind == 55,
-        Reason::Unknown => is_other(meaning),
+        Reason::Unknown => meaning == Meaning::Other,
         Reason::Step => is_contact(meaning) && element.class == 30,
         Reason::RunningContact => is_contact(meaning) && element.class == 11,
-        Reason::OtherContact => is_contact(meaning) && is_no_source(source),
+        Reason::OtherContact => is_contact(meaning) && source == Source::Other,
         Reason::WritesInput => is_coil(meaning) && element.class == 50,
         Reason::OtherCoil => is_coil(meaning),
         Reason::LargeNumber => element.number > 99999,
@@ -406,7 +380,7 @@ fn reason_at(
     if let Some(reason) = kind_reason(reading, project, element) {
         return Some(reason);
     }
-    if is_other(meaning) {
+    if meaning == Meaning::Other {
         return Some(Reason::Unknown);
     }
     if is_blank(meaning) {

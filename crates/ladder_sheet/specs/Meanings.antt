@@ -1,5 +1,5 @@
 -- Which element of ClassicLadder means what (its calc.c, and the kinds of elements in its classicladder.h).
-use Rattle.std.specs.Prelude.{ℕ, slice_get, ◌*◌, ◌==◌, ◌||◌, nat_le, Bool, Option, Some, None, option_map, if◌then◌else◌}
+use Rattle.std.specs.Prelude.{◌≡◌, ℕ, ◌*◌, ◌==◌, ◌||◌, nat_le, not, Bool, List, Option, Some, None, option_map, if◌then◌else◌}
 use Rattle.ladder_vars.specs.declared.kind.BlockKind.{BlockKind}
 use Rattle.ladder_vars.specs.declared.kind.BlockKind.TheVariants as kind
 use Rattle.ladder_page.specs.declared.mode.Mode.TheVariants as mode
@@ -41,23 +41,19 @@ meaning_of k =
 
 -- ---- what is opened
 
-abbrev pub is_compare_kind : ℕ → Bool
-is_compare_kind k = k == 20
-
 -- a contact on a step of a sequential chart
 abbrev pub step_as : Meaning → Meaning
 step_as (meaning.Contact m) = meaning.Opened m
 step_as m = m
 
--- A compare is a contact on a value that may be any, and so is a contact on a step (class 30). An operate computes a number.
-abbrev pub opened_as : Element → Meaning
-opened_as e =
-    if is_compare_kind e.kind then meaning.Opened mode.Plain
-    else (if e.kind == 60 then meaning.Operate
-    else (if e.class == 30 then step_as (meaning_of e.kind) else meaning_of e.kind))
-
+-- What an element means by itself. Where it is opened, a compare (20) is a contact on a value that may be any, and so is a contact
+-- on a step (class 30); an operate (60) computes a number.
 abbrev pub element_meaning : Reading → Element → Meaning
-element_meaning reading e = if reading.opened then opened_as e else meaning_of e.kind
+element_meaning reading e =
+    if not reading.opened then meaning_of e.kind
+    else (if e.kind == 20 then meaning.Opened mode.Plain
+    else (if e.kind == 60 then meaning.Operate
+    else (if e.class == 30 then step_as (meaning_of e.kind) else meaning_of e.kind)))
 
 -- ---- sorts of variables
 
@@ -89,16 +85,13 @@ kind_of sort.IecTimer mode =
     else (if mode == 1 then Some kind.Tof
     else (if mode == 2 then Some kind.Tp else None))
 
-abbrev pub timed : Option BlockKind → Preset → Option Timed
-timed (Some k) p = option_map (λ ms. record { kind = k; preset = ms * p.count }) (millis_of p.base)
-timed None p = None
+-- A block of this sort with this entry in its table is of this kind, and has this preset: its count times its base.
+abbrev pub IsTimed : BlockSort → Option Preset → Timed → Type 0
+IsTimed s (Some p) t = (kind_of s p.mode ≡ Some t.kind) × (option_map (λ ms. ms * p.count) (millis_of p.base) ≡ Some t.preset)
+IsTimed s None t = ⊥
 
-abbrev pub timed_as : BlockSort → Option Preset → Option Timed
-timed_as s (Some p) = timed (kind_of s p.mode) p
-timed_as s None = None
-
--- the entry with a number in the table of such blocks
-abbrev pub entry_of : Project → BlockSort → ℕ → Option Preset
-entry_of p sort.Timer n = slice_get p.timers.items n
-entry_of p sort.Monostable n = slice_get p.monostables.items n
-entry_of p sort.IecTimer n = slice_get p.iec_timers.items n
+-- the table of such blocks
+abbrev pub table_of : Project → BlockSort → List Preset
+table_of p sort.Timer = p.timers.items
+table_of p sort.Monostable = p.monostables.items
+table_of p sort.IecTimer = p.iec_timers.items

@@ -11,5 +11,5 @@ pub use meaning::{
 pub use power::{Power, fed, is_run_by_any, passes, power_of};
 pub use sheet::{
     element_at, ends_rung, has_places, is_block, is_contact, is_idle, is_linked, is_taken_on,
-    meaning_at, reads_late, same_sort, stands,
+    meaning_at, reads_late, stands,
 };

@@ -1,7 +1,8 @@
 //! Which element of ClassicLadder means what.
 
-ghost use Rattle.std.specs.Prelude.{◌≡◌, ◌≤◌, IfSome, option_map};
-ghost use Rattle.ladder_sheet.specs.Meanings.{element_meaning, entry_of, is_blank_kind, is_compare_kind, kind_of, meaning_of, millis_of, opened_as, source_of, step_as, timed_as};
+ghost use Rattle.std.specs.Prelude.{◌≡◌, ◌≤◌, ◌↔◌, IfSome, Some, slice_get};
+ghost use Rattle.ladder_sheet.specs.declared.meaning.Timed.{Timed};
+ghost use Rattle.ladder_sheet.specs.Meanings.{IsTimed, element_meaning, kind_of, meaning_of, millis_of, source_of, table_of};
 
 use ladder_clp::{Element, Preset, Project, Reading};
 use ladder_page::{CoilMode, Mode};
@@ -60,12 +61,6 @@ pub enum Source {
     Other,
 }
 
-pub(crate) fn is_blank_kind(kind: u32) -> bool
-    ensures { result ≡ is_blank_kind kind }
-{
-    kind == 0 || kind >= 99
-}
-
 /// What an element of this kind means.
 #[tactic(auto, unfolding(crate::specs::Meanings::meaning_of))]
 pub fn meaning_of(kind: u32) -> Meaning
@@ -90,52 +85,32 @@ pub fn meaning_of(kind: u32) -> Meaning
     }
 }
 
-pub(crate) fn is_compare_kind(kind: u32) -> bool
-    ensures { result ≡ is_compare_kind kind }
-{
-    kind == 20
-}
-
-/// What a contact on a step of a sequential chart is.
-fn step_as(meaning: Meaning) -> Meaning
-    ensures { result ≡ step_as meaning }
-{
-    match meaning {
-        Meaning::Contact(mode) => Meaning::Opened(mode),
-        Meaning::Blank
-        | Meaning::Wire
-        | Meaning::Opened(_)
-        | Meaning::Coil(_)
-        | Meaning::Jump
-        | Meaning::Block(_)
-        | Meaning::Off
-        | Meaning::Operate
-        | Meaning::Other => meaning,
-    }
-}
-
-fn opened_as(element: Element) -> Meaning
-    ensures { result ≡ opened_as element }
-{
-    if is_compare_kind(element.kind) {
-        Meaning::Opened(Mode::Plain)
-    } else if element.kind == 60 {
-        Meaning::Operate
-    } else if element.class == 30 {
-        step_as(meaning_of(element.kind))
-    } else {
-        meaning_of(element.kind)
-    }
-}
-
 /// What an element means by itself, as a project is read.
 pub(crate) fn element_meaning(reading: Reading, element: Element) -> Meaning
     ensures { result ≡ element_meaning reading element }
 {
-    if reading.opened {
-        opened_as(element)
+    let meaning = meaning_of(element.kind);
+    if !reading.opened {
+        meaning
+    } else if element.kind == 20 {
+        Meaning::Opened(Mode::Plain)
+    } else if element.kind == 60 {
+        Meaning::Operate
+    } else if element.class == 30 {
+        match meaning {
+            Meaning::Contact(mode) => Meaning::Opened(mode),
+            Meaning::Blank
+            | Meaning::Wire
+            | Meaning::Opened(_)
+            | Meaning::Coil(_)
+            | Meaning::Jump
+            | Meaning::Block(_)
+            | Meaning::Off
+            | Meaning::Operate
+            | Meaning::Other => meaning,
+        }
     } else {
-        meaning_of(element.kind)
+        meaning
     }
 }
 
@@ -191,26 +166,20 @@ pub struct Timed {
 
 /// What a block of this sort is that has this entry in its table.
 pub fn timed_as(sort: BlockSort, preset: Option<Preset>) -> Option<Timed>
-    ensures { result ≡ timed_as sort preset }
+    ensures { (timed : Timed) → (result ≡ Some timed) ↔ IsTimed sort preset timed }
 {
-    let Some(preset) = preset else {
-        return None;
-    };
-    let Some(kind) = kind_of(sort, preset.mode) else {
-        return None;
-    };
-    match millis_of(preset.base) {
-        Some(millis) => Some(Timed {
-            kind,
-            preset: millis * u64::from(preset.count),
-        }),
-        None => None,
-    }
+    let preset = preset?;
+    let kind = kind_of(sort, preset.mode)?;
+    let millis = millis_of(preset.base)?;
+    Some(Timed {
+        kind,
+        preset: millis * u64::from(preset.count),
+    })
 }
 
 /// The entry with a number in the table of such blocks.
 pub fn entry_of(project: &Project<'_>, sort: BlockSort, number: usize) -> Option<Preset>
-    ensures { result ≡ entry_of project.now sort number }
+    ensures { result ≡ slice_get (table_of project.now sort) number }
 {
     let table = match sort {
         BlockSort::Timer => &project.timers,

@@ -1,27 +1,21 @@
 //! How power goes through the elements of a rung.
 
-ghost use Rattle.std.specs.Prelude.{◌≡◌, ◌+◌, ◌-◌, ◌<◌, ◌≤◌, ◌&&◌};
+ghost use Rattle.std.specs.Prelude.{◌≡◌, ◌↔◌, ◌-◌, ◌<◌, ◌≤◌, IsTrue};
 ghost use Rattle.ladder_page.specs.declared.geometry.TheConstants.{COLUMNS, ROWS};
 ghost use Rattle.ladder_sheet.specs.Reach.{AreReached, IsPower};
-ghost use Rattle.ladder_sheet.specs.Sheets.{are_tied, brings, fed, is_run, passes, reached, some_below, tied};
+ghost use Rattle.ladder_sheet.specs.Sheets.{AreTied, IsFed, IsRun, Leaves, Passes, Reached};
 
 use crate::meaning::Meaning;
-use crate::sheet::{either, is_linked, is_running, meaning_at};
+use crate::sheet::{is_linked, is_running, meaning_at};
 use ladder_clp::{Element, Reading};
 use ladder_page::geometry::{COLUMNS, ROWS};
 
 /// For each column to which of its rows power can come.
 pub type Power = [[bool; ROWS]; COLUMNS];
 
-fn both(a: bool, b: bool) -> bool
-    ensures { result ≡ (a && b) }
-{
-    a && b
-}
-
 /// Whether power goes through.
 pub fn passes(meaning: Meaning) -> bool
-    ensures { result ≡ passes meaning }
+    ensures { IsTrue result ↔ Passes meaning }
 {
     match meaning {
         Meaning::Wire
@@ -34,48 +28,38 @@ pub fn passes(meaning: Meaning) -> bool
     }
 }
 
-/// Whether links join so many rows below to this one, on the left of the column.
-fn tied(elements: &[Element], row: usize, column: usize, count: usize) -> bool
-    requires { (row + count < ROWS) × (column < COLUMNS) }
-    ensures { result ≡ tied elements.now row column count }
-{
-    let mut all = true;
-    for i in 0..count {
-        all = both(all, is_linked(elements, row + i + 1, column));
-    }
-    all
-}
-
+/// Whether links join the two rows, on the left of the column.
 fn are_tied(elements: &[Element], row: usize, column: usize, from: usize) -> bool
     requires rows { (row < ROWS) × (from < ROWS) }
     requires columns { column < COLUMNS }
-    ensures { result ≡ are_tied elements.now row column from }
+    ensures { IsTrue result ↔ AreTied elements.now row column from }
 {
-    tied(
-        elements,
-        row.min(from),
-        column,
-        row.max(from) - row.min(from),
-    )
+    for upper in row.min(from)..row.max(from) {
+        if !is_linked(elements, upper + 1, column) {
+            return false;
+        }
+    }
+    true
 }
 
-/// Whether power can leave the place on its right; `here` and `above`: whether it can come to it and to the one above.
-fn brings(
+/// Whether power can leave the place on its right; `here`: where it can come to in the column.
+fn leaves(
     reading: Reading,
     elements: &[Element],
     row: usize,
     column: usize,
-    here: bool,
-    above: bool,
+    here: &[bool; ROWS],
 ) -> bool
-    requires { (row < ROWS) × (column < COLUMNS) }
-    ensures { result ≡ brings reading elements.now row column here above }
+    requires places { (row < ROWS) × (column < COLUMNS) }
+    requires here { AreReached reading elements.now column here.now }
+    ensures { IsTrue result ↔ Leaves reading elements.now row column (Reached reading elements.now column row) (Reached reading elements.now column (row - 1)) }
 {
-    passes(meaning_at(reading, elements, row, column)) && here
-        || is_running(elements, row, column) && above
+    passes(meaning_at(reading, elements, row, column)) && here[row]
+        || is_running(elements, row, column) && here[row - 1]
 }
 
 /// Whether power can come to the left of the element from the row; `before`: where it can come to in the column before.
+#[tactic(auto, unfolding(crate::specs::Sheets::IsFed))]
 pub fn fed(
     reading: Reading,
     elements: &[Element],
@@ -87,14 +71,11 @@ pub fn fed(
     requires rows { (row < ROWS) × (from < ROWS) }
     requires columns { column < COLUMNS }
     requires before { AreReached reading elements.now (column - 1) before.now }
-    ensures { result ≡ fed reading elements.now row column from }
+    ensures { IsTrue result ↔ IsFed reading elements.now row column from }
 {
-    if column == 0 {
-        return false;
-    }
-    let (here, above) = (before[from], before[from.saturating_sub(1)]);
-    brings(reading, elements, from, column - 1, here, above)
+    column >= 1
         && are_tied(elements, row, column, from)
+        && leaves(reading, elements, from, column - 1, before)
 }
 
 /// Whether power can come to the row in the column; `before`: where it can come to in the column before.
@@ -108,13 +89,14 @@ fn reaches(
     requires rows { row < ROWS }
     requires columns { (1 ≤ column) × (column < COLUMNS) }
     requires before { AreReached reading elements.now (column - 1) before.now }
-    ensures { result ≡ reached reading elements.now column row }
+    ensures { IsTrue result ↔ Reached reading elements.now column row }
 {
-    let mut found = false;
     for from in 0..ROWS {
-        found = either(found, fed(reading, elements, row, column, from, before));
+        if fed(reading, elements, row, column, from, before) {
+            return true;
+        }
     }
-    found
+    false
 }
 
 fn reached_in(
@@ -145,24 +127,8 @@ pub fn power_of(reading: Reading, elements: &[Element]) -> Power
     power
 }
 
-fn is_run(
-    reading: Reading,
-    elements: &[Element],
-    row: usize,
-    column: usize,
-    from: usize,
-    before: &[bool; ROWS],
-) -> bool
-    requires rows { (row < ROWS) × (from < ROWS) }
-    requires columns { column < COLUMNS }
-    requires before { AreReached reading elements.now (column - 1) before.now }
-    ensures { result ≡ is_run reading elements.now row column from }
-{
-    fed(reading, elements, row, column, from, before)
-        && is_running(elements, from, column.saturating_sub(1))
-}
-
 /// Whether power comes to the element from the second output of an old timer.
+#[tactic(auto, unfolding(crate::specs::Sheets::IsRun, crate::specs::Sheets::IsFed))]
 pub fn is_run_by_any(
     reading: Reading,
     elements: &[Element],
@@ -173,12 +139,18 @@ pub fn is_run_by_any(
     requires rows { row < ROWS }
     requires columns { column < COLUMNS }
     requires power { IsPower reading elements.now power.now }
-    ensures { result ≡ some_below (is_run reading elements.now row column) ROWS }
+    ensures { IsTrue result ↔ IsRun reading elements.now row column }
 {
-    let before = power[column.saturating_sub(1)];
-    let mut found = false;
-    for from in 0..ROWS {
-        found = either(found, is_run(reading, elements, row, column, from, &before));
+    if column == 0 {
+        return false;
     }
-    found
+    let before = &power[column - 1];
+    for from in 0..ROWS {
+        if is_running(elements, from, column - 1)
+            && fed(reading, elements, row, column, from, before)
+        {
+            return true;
+        }
+    }
+    false
 }

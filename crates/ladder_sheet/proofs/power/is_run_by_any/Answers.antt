@@ -1,11 +1,10 @@
-use Rattle.std.proofs.Common.{◌∙◌}
-use Rattle.ladder_sheet.specs.Sheets.{is_run}
-use Rattle.ladder_sheet.proofs.Below.{none_below, one_more}
+use Rattle.std.proofs.Common.{below_more}
 use Rattle.ladder_sheet.proofs.power.is_run_by_any.Goals as goal
-
-pub loop-from-init : goal.loop-from-init
-loop-from-init c = none_below (is_run c.args.reading c.args.elements.now c.args.row c.args.column)
+use Rattle.ladder_sheet.proofs.power.is_run_by_any.Goals.{else-is_running-via-then-is_running+else-fed, else-is_running-via-else-is_running}
 
 pub loop-from-preserved : goal.loop-from-preserved
 loop-from-preserved c =
-    c.either-found.ensures ∙ one_more (is_run c.args.reading c.args.elements.now c.args.row c.args.column) c.loop-from.from _ _ c.loop-from.invariant c.is_run.ensures
+    below_more _ _ c.loop-from.invariant (λ fed running. elim c.else-is_running.branch [
+      | else-is_running-via-then-is_running+else-fed w ↦ let on = w.fed.ensures.1 fed in cc
+      | else-is_running-via-else-is_running w ↦ let on = c.is_running.ensures.1 running in cc
+    ])

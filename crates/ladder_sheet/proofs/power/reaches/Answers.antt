@@ -1,32 +1,34 @@
-use Rattle.std.proofs.Common.{◌≡◌, ◌∙◌, ◌≤◌, ◌-◌, ◌&&◌, ℕ, zero, suc, Bool, List, arith, true, ap, nat_le, refl}
-use Rattle.std.proofs.lemmas.Bool.{le-leb}
+use Rattle.std.proofs.Common.{◌≡◌, ◌↔◌, ◌<◌, ◌≤◌, ◌-◌, ℕ, zero, suc, List, arith, below_more, refl}
 use Rattle.ladder_page.specs.declared.geometry.TheConstants.{ROWS}
 use Rattle.ladder_clp.specs.declared.element.Element.{Element}
 use Rattle.ladder_clp.specs.declared.reading.Reading.{Reading}
-use Rattle.ladder_sheet.specs.Sheets.{are_tied, brings, fed, reached, some_below}
-use Rattle.ladder_sheet.proofs.Below.{none_below, one_more}
+use Rattle.ladder_sheet.specs.Sheets.{AreTied, IsFed, Leaves, Reached}
 use Rattle.ladder_sheet.proofs.power.reaches.Goals as goal
 
-onward : (reading : Reading) (es : List Element) (row column before : ℕ) (behind : Bool) → before ≡ column → behind ≡ true
-    → some_below (λ q. behind && (brings reading es q before (reached reading es before q) (reached reading es before (q - 1)) && are_tied es row (suc column) q)) ROWS ≡ reached reading es (suc column) row
-unfolding reached
-onward reading es row column before behind e t = rw (e, t) refl
+onward : (reading : Reading) (es : List Element) (row column before : ℕ) → before ≡ column
+    → ((q : ℕ) × (q < ROWS) × AreTied es row (suc column) q × Leaves reading es q before (Reached reading es before q) (Reached reading es before (q - 1))) ↔ Reached reading es (suc column) row
+unfolding Reached
+onward reading es row column before e = rw e (λ h. h, λ h. h)
 
--- from all rows of the column before, which there is
-all_rows : (reading : Reading) (es : List Element) (row column : ℕ) → 1 ≤ column → some_below (fed reading es row column) ROWS ≡ reached reading es column row
-all_rows reading es row zero h = absurd (omega (arith, h))
-all_rows reading es row (suc column) h = onward reading es row column (suc column - 1) (nat_le 1 (suc column)) (omega arith) (le-leb 1 (suc column) h)
+-- from a row of the column before, which there is
+from_some : (reading : Reading) (es : List Element) (row column : ℕ) → 1 ≤ column → ((q : ℕ) × (q < ROWS) × IsFed reading es row column q) ↔ Reached reading es column row
+unfolding IsFed
+from_some reading es row zero h = absurd (omega (arith, h))
+from_some reading es row (suc column) h =
+    let all = onward reading es row column (suc column - 1) (omega arith) in
+    (λ f. all.0 (f.0, f.1, f.2.1, f.2.2), λ r. let f = all.1 r in (f.0, f.1, (h, f.2, f.3)))
 
-pub loop-from-init : goal.loop-from-init
-loop-from-init c = none_below (fed c.args.reading c.args.elements.now c.args.row c.args.column)
+pub returns-then-fed : goal.returns-then-fed
+returns-then-fed c =
+    (λ h. (from_some c.args.reading c.args.elements.now c.args.row c.args.column c.requires.columns.0).0 (c.loop-from.from, c.loop-from-test.true, c.fed.ensures.0 c.if-fed.true), λ h. refl)
 
 pub loop-from-preserved : goal.loop-from-preserved
-loop-from-preserved c =
-    c.either-found.ensures ∙ one_more (fed c.args.reading c.args.elements.now c.args.row c.args.column) c.loop-from.from _ _ c.loop-from.invariant c.fed.ensures
+loop-from-preserved c = below_more _ _ c.loop-from.invariant (λ h. let on = c.fed.ensures.1 h in cc)
 
 pub returns : goal.returns
-returns c =
-    let all : c.loop-from.from ≡ ROWS = omega (arith, c.loop-from-test.false, c.loop-from.auto.from-end) in
-    c.loop-from.invariant
-    ∙ ap (some_below (fed c.args.reading c.args.elements.now c.args.row c.args.column)) all
-    ∙ all_rows c.args.reading c.args.elements.now c.args.row c.args.column c.requires.columns.0
+returns c = (
+  λ h. cc,
+  λ h.
+      let f = (from_some c.args.reading c.args.elements.now c.args.row c.args.column c.requires.columns.0).1 h in
+      absurd (c.loop-from.invariant f.0 (omega (arith, f.1, c.loop-from-test.false)) f.2),
+)
