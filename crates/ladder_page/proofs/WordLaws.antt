@@ -7,7 +7,6 @@ use Rattle.std.proofs.Math.Seq.{take-append_seam, drop-append_seam}
 use Rattle.ladder_vars.specs.Text.{begins_with}
 use Rattle.ladder_page.specs.Bytes.{space}
 use Rattle.ladder_page.specs.Operand.{word_in, IsWordIn}
-use Rattle.ladder_page.specs.Texts.{after_spaces, text_len, word_read}
 use Rattle.ladder_page.proofs.FormLaws.{prefix_stops, list_all-replicate}
 
 -- the last element
@@ -58,80 +57,18 @@ trailing (b ∷ bs) =
       | inr (front, x, is, other) ↦ (b ∷ t.0, t.1, ap (λ z. b ∷ z) t.2, inr (b ∷ front, x, ap (λ z. b ∷ z) is, other))
     ]
 
--- how far the last character is that is no space
-spaces_kept : (at kept m : ℕ) → text_len at kept (replicate m space) ≡ kept
-spaces_kept at kept zero = refl
-spaces_kept at kept (suc m) = spaces_kept (at + 1) kept m
-
-length_found : (at kept : ℕ) (front : List ℕ) (x m : ℕ) → (x == space) ≡ false
-    → text_len at kept (front ++ (x ∷ replicate m space)) ≡ at + (length front + 1)
-length_found at kept [] x m other = rw other (spaces_kept (at + 1) (at + 1) m ∙ omega arith)
-length_found at kept (b ∷ bs) x m other =
-    elim (b == space) as (λ s. cond s (text_len (at + 1) kept (bs ++ (x ∷ replicate m space))) (text_len (at + 1) (at + 1) (bs ++ (x ∷ replicate m space))) ≡ at + (length (b ∷ bs) + 1)) [
-      | true ↦ length_found (at + 1) kept bs x m other ∙ omega arith
-      | false ↦ length_found (at + 1) (at + 1) bs x m other ∙ omega arith
-    ]
-
-spaces_off : (n : ℕ) (xs : List ℕ) → after_spaces (replicate n space ++ xs) ≡ after_spaces xs
-spaces_off zero xs = refl
-spaces_off (suc n) xs = spaces_off n xs
-
-unspaced : (xs : List ℕ) → begins_with space xs ≡ false → after_spaces xs ≡ xs
-unspaced [] h = refl
-unspaced (b ∷ bs) h = rw h refl
-
-only_spaces : (m : ℕ) → after_spaces (replicate m space) ≡ []
-only_spaces zero = refl
-only_spaces (suc m) = only_spaces m
-
--- the word of characters that are spaces, the word and spaces
-read_is : (chars word : List ℕ) → IsWordIn chars word → word_read chars ≡ word
-unfolding word_read
-read_is chars word h =
-    elim (trimmed word h.last) [
-      | inl none ↦
-          let rest : after_spaces chars ≡ []
-          = ap after_spaces (h.spelled ∙ ap (λ w. replicate h.before space ++ (w ++ replicate h.after space)) none) ∙ spaces_off h.before (replicate h.after space)
-          ∙ only_spaces h.after in
-          rw rest (sym none)
-      | inr (front, x, is, other) ↦
-          let rest : after_spaces chars ≡ word ++ replicate h.after space
-          = ap after_spaces h.spelled ∙ spaces_off h.before (word ++ replicate h.after space)
-          ∙ unspaced (word ++ replicate h.after space) (first_kept word (replicate h.after space) front x is h.first) in
-          let size : text_len 0 0 (word ++ replicate h.after space) ≡ length word
-          = ap (λ w. text_len 0 0 (w ++ replicate h.after space)) is ∙ ap (text_len 0 0) (append_assoc front (x ∷ []) (replicate h.after space))
-          ∙ length_found 0 0 front x h.after other ∙ omega (arith, ap length is, length-append front (x ∷ [])) in
-          rw (rest, size) (take-append_seam word (replicate h.after space))
-    ] where
-      first_kept : (word tail front : List ℕ) (x : ℕ) → word ≡ front ++ x ∷ [] → begins_with space word ≡ false → begins_with space (word ++ tail) ≡ false
-      first_kept [] tail front x is h = let n : 0 ≡ length front + 1 = ap length is ∙ length-append front (x ∷ []) in absurd (omega (arith, n))
-      first_kept (b ∷ bs) tail front x is h = h
-
-spaces_taken : (chars : List ℕ) → (n : ℕ) × (chars ≡ replicate n space ++ after_spaces chars) × (begins_with space (after_spaces chars) ≡ false)
-spaces_taken [] = (0, refl, refl)
-spaces_taken (b ∷ bs) =
-    elim (b == space) as (λ s. (b == space) ≡ s → (n : ℕ) × (b ∷ bs ≡ replicate n space ++ cond s (after_spaces bs) (b ∷ bs))
-    × (begins_with space (cond s (after_spaces bs) (b ∷ bs)) ≡ false)) [
-      | true ↦ λ e. let t = spaces_taken bs in (suc t.0, rw (eqb-true b space e) (ap (λ z. space ∷ z) t.1), t.2)
-      | false ↦ λ e. (0, refl, e)
+-- every list begins with so many spaces
+leading : (xs : List ℕ) → (n : ℕ) × (rest : List ℕ) × (xs ≡ replicate n space ++ rest) × (begins_with space rest ≡ false)
+leading [] = (0, [], refl, refl)
+leading (b ∷ bs) =
+    elim (b == space) as (λ s. (b == space) ≡ s → (n : ℕ) × (rest : List ℕ) × (b ∷ bs ≡ replicate n space ++ rest) × (begins_with space rest ≡ false)) [
+      | true ↦ λ e. let t = leading bs in (suc t.0, t.1, rw (eqb-true b space e) (ap (λ z. space ∷ z) t.2), t.3)
+      | false ↦ λ e. (0, b ∷ bs, refl, e)
     ] refl
 
 first_off : (front tail xs : List ℕ) → xs ≡ front ++ tail → begins_with space xs ≡ false → begins_with space front ≡ false
 first_off [] tail xs e h = refl
 first_off (b ∷ bs) tail xs e h = ap (begins_with space) (sym e) ∙ h
-
-read_found : (chars : List ℕ) → IsWordIn chars (word_read chars)
-read_found chars =
-    let s = spaces_taken chars in
-    let t = trailing (after_spaces chars) in
-    let is : IsWordIn chars t.0 = record {
-      before = s.0;
-      after = t.1;
-      spelled = s.1 ∙ ap (λ z. replicate s.0 space ++ z) t.2;
-      first = first_off t.0 (replicate t.1 space) (after_spaces chars) t.2 s.2;
-      last = never_last t.0 t.3;
-    } in
-    subst (IsWordIn chars) (sym (read_is chars t.0 is)) is
 
 -- ---- what stands between the spaces at both ends
 
@@ -207,11 +144,18 @@ word_is chars word h =
       kept [] tail front x is h = let n : 0 ≡ length front + 1 = ap length is ∙ length-append front (x ∷ []) in absurd (omega (arith, n))
       kept (b ∷ bs) tail front x is h = h
 
-pub word_told : (chars word : List ℕ) → word ≡ word_read chars → word ≡ word_in chars
-word_told chars word is = is ∙ sym (word_is chars (word_read chars) (read_found chars))
-
 pub word_found : (chars : List ℕ) → IsWordIn chars (word_in chars)
-word_found chars = subst (IsWordIn chars) (word_told chars (word_read chars) refl) (read_found chars)
+word_found chars =
+    let s = leading chars in
+    let t = trailing s.1 in
+    let is : IsWordIn chars t.0 = record {
+      before = s.0;
+      after = t.1;
+      spelled = s.2 ∙ ap (λ z. replicate s.0 space ++ z) t.2;
+      first = first_off t.0 (replicate t.1 space) s.1 t.2 s.3;
+      last = never_last t.0 t.3;
+    } in
+    subst (IsWordIn chars) (sym (word_is chars t.0 is)) is
 
 pub word_one : (chars a b : List ℕ) → IsWordIn chars a → IsWordIn chars b → a ≡ b
 word_one chars a b is_a is_b = sym (word_is chars a is_a) ∙ word_is chars b is_b

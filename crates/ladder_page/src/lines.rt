@@ -6,7 +6,7 @@ ghost use Rattle.ladder_page.specs.Bytes.{line_feed};
 ghost use Rattle.ladder_vars.specs.Text.{begins_with};
 ghost use Rattle.ladder_page.specs.Lines.{last_gap};
 ghost use Rattle.ladder_page.specs.Bytes.{is_upright};
-ghost use Rattle.ladder_page.specs.ReadLines.{after_plain, next_inside, is_shown, shown_byte, blanked_from, is_opening, is_closing, unclosed_line, is_settled, shown_run, begins_rung, parts_from, parts_of, IsWithin};
+ghost use Rattle.ladder_page.specs.ReadLines.{after_plain, next_inside, is_shown, shown_byte, blanked_from, unclosed_line, is_settled, shown_run, begins_rung, parts_from, parts_of, IsWithin};
 ghost use Rattle.ladder_page.specs.declared.lines.Inside.TheVariants as inside;
 
 use std::alloc::{AllocError, Global};
@@ -114,18 +114,6 @@ fn is_shown(inside: Inside) -> bool
     }
 }
 
-fn is_opening(inside: Inside) -> bool
-    ensures { result ≡ is_opening inside }
-{
-    inside == Inside::Opening
-}
-
-fn is_closing(inside: Inside) -> bool
-    ensures { result ≡ is_closing inside }
-{
-    inside == Inside::Closing
-}
-
 /// What the lines show of a byte, where `next` is what the next one stands in.
 fn shown_byte(inside: Inside, next: Inside, b: u8, after: &[u8]) -> u8
     requires { next ≡ next_inside inside b after.now }
@@ -203,11 +191,15 @@ pub fn shown_text(alloc: Global, mut text: &[u8]) -> Result<Shown, AllocError>
     while let [b, rest @ ..] = text {
         let next = next_inside(inside, *b, rest);
         seen.push(shown_byte(inside, next, *b, rest))?;
-        if is_opening(next) {
-            unclosed = Some(line);
-        } else if is_closing(next) {
-            unclosed = None;
-        }
+        unclosed = match next {
+            Inside::Opening => Some(line),
+            Inside::Closing => None,
+            Inside::LineStart
+            | Inside::Plain
+            | Inside::RungLine
+            | Inside::Block
+            | Inside::LineComment => unclosed,
+        };
         if *b == b'\n' {
             line += 1;
         }

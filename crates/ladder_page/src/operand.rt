@@ -1,11 +1,12 @@
 //! What the text over a cell stands for.
 
-ghost use Rattle.std.specs.Prelude.{◌≡◌, ◌≤◌, ◌↔◌, ℕ, IsTrue, Some, true, length, slice_get, option_map};
+ghost use Rattle.std.specs.Prelude.{◌≡◌, ◌≤◌, ◌==◌, ◌↔◌, ℕ, IsTrue, Some, true, length, slice_get, option_map};
+ghost use Rattle.std.specs.List.{prefix_len, suffix_len};
+ghost use Rattle.ladder_page.specs.Bytes.{space};
 ghost use Rattle.ladder_vars.specs.Decls.{is_input};
 ghost use Rattle.ladder_vars.specs.Name.{same_letters};
 ghost use Rattle.ladder_vars.specs.Kind.{traits_of};
 ghost use Rattle.ladder_page.specs.Operand.{word_in, ends_in, reference, refer_to, instance_on, MayHave};
-ghost use Rattle.ladder_page.specs.Texts.{after_spaces, text_len};
 ghost use Rattle.ladder_page.specs.declared.operand.Reference.{Reference};
 ghost use Rattle.ladder_page.specs.Suiting.{DrawsBlock};
 
@@ -26,37 +27,29 @@ pub struct NameOver {
     pub name: Option<Reference>,
 }
 
-fn after_spaces(mut chars: &[u8]) -> &[u8]
-    ensures { result.now ≡ after_spaces chars.entry.now }
+/// How many spaces there are at the start.
+fn spaces_before(chars: &[u8]) -> usize
+    ensures value { result ≡ prefix_len (λ b. b == space) chars.now }
+    ensures within { result ≤ length chars.now }
 {
-    while let [b' ', rest @ ..] = chars {
-        chars = rest;
-    }
-    chars
+    chars.iter().take_while(|b| **b == b' ').count()
 }
 
-fn text_len(mut chars: &[u8]) -> usize
-    ensures value { result ≡ text_len 0 0 chars.entry.now }
-    ensures within { result ≤ length chars.entry.now }
+/// How many spaces there are at the end.
+fn spaces_after(chars: &[u8]) -> usize
+    ensures value { result ≡ suffix_len (λ b. b == space) chars.now }
+    ensures within { result ≤ length chars.now }
 {
-    let mut at = 0;
-    let mut kept = 0;
-    while let [b, rest @ ..] = chars {
-        at += 1;
-        if *b != b' ' {
-            kept = at;
-        }
-        chars = rest;
-    }
-    kept
+    chars.iter().rev().take_while(|b| **b == b' ').count()
 }
 
 /// The characters without the spaces at both ends.
 pub(crate) fn word_in(chars: &[u8]) -> &[u8]
     ensures { result.now ≡ word_in chars.now }
 {
-    let text = after_spaces(chars);
-    &text[..text_len(text)]
+    let text = &chars[..chars.len() - spaces_after(chars)];
+    let before = spaces_before(chars);
+    if before < text.len() { &text[before..] } else { &[] }
 }
 
 fn same_letters(a: &[u8], b: &[u8]) -> bool
