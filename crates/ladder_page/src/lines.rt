@@ -3,7 +3,6 @@
 ghost use Rattle.std.specs.Prelude.{◌≡◌, ◌≤◌, ◌+◌, ◌-◌, ◌++◌, ◌==◌, length, map, take, drop, IfOk, OnOk, All, None};
 ghost use Rattle.std.specs.List.{slice_split, prefix_len};
 ghost use Rattle.ladder_page.specs.Bytes.{line_feed};
-ghost use Rattle.ladder_vars.specs.Text.{begins_with};
 ghost use Rattle.ladder_page.specs.Lines.{last_gap};
 ghost use Rattle.ladder_page.specs.Bytes.{is_upright};
 ghost use Rattle.ladder_page.specs.ReadLines.{after_plain, next_inside, is_shown, shown_byte, blanked_from, unclosed_line, is_settled, shown_run, begins_rung, parts_from, parts_of, IsWithin};
@@ -38,15 +37,6 @@ pub struct Part {
     pub end: usize,
 }
 
-fn begins_with(byte: u8, text: &[u8]) -> bool
-    ensures { result ≡ begins_with byte text.now }
-{
-    match text {
-        [] => false,
-        [b, ..] => *b == byte,
-    }
-}
-
 fn is_rung_start(b: u8) -> bool
     ensures { result ≡ is_upright b }
 {
@@ -58,9 +48,9 @@ fn after_plain(b: u8, after: &[u8]) -> Inside
 {
     if b == b'\n' {
         Inside::LineStart
-    } else if b == b'(' && begins_with(b'*', after) {
+    } else if b == b'(' && matches!(after, [b'*', ..]) {
         Inside::Opening
-    } else if b == b'/' && begins_with(b'/', after) {
+    } else if b == b'/' && matches!(after, [b'/', ..]) {
         Inside::LineComment
     } else {
         Inside::Plain
@@ -88,7 +78,7 @@ fn next_inside(inside: Inside, b: u8, after: &[u8]) -> Inside
         }
         Inside::Opening => Inside::Block,
         Inside::Block => {
-            if b == b'*' && begins_with(b')', after) {
+            if b == b'*' && matches!(after, [b')', ..]) {
                 Inside::Closing
             } else {
                 Inside::Block
@@ -121,7 +111,7 @@ fn shown_byte(inside: Inside, next: Inside, b: u8, after: &[u8]) -> u8
 {
     if b == b'\n' {
         b'\n'
-    } else if b == b'\r' && begins_with(b'\n', after) {
+    } else if b == b'\r' && matches!(after, [b'\n', ..]) {
         b' '
     } else if is_shown(inside) && is_shown(next) {
         b

@@ -19,15 +19,6 @@ use crate::view::PageView;
 use ladder_vars::Decls;
 use std::alloc::{AllocError, Global};
 
-fn part_in(lines: &[&[u8]], parts: &[Part], rung: usize) -> Part
-    requires rungs { rung < length parts.now }
-    requires within { All (IsWithin (length lines.now)) parts.now }
-    ensures value { result ≡ part_in parts.now rung }
-    ensures within { IsWithin (length lines.now) result }
-{
-    parts[rung]
-}
-
 #[tactic(auto, unfolding(crate::specs::Lines::rung_of))]
 fn rung_in<'a, 'b>(lines: &'a [&'b [u8]], parts: &[Part], rung: usize) -> &'a [&'b [u8]]
     requires rungs { rung < length parts.now }
@@ -35,7 +26,7 @@ fn rung_in<'a, 'b>(lines: &'a [&'b [u8]], parts: &[Part], rung: usize) -> &'a [&
     ensures value { map (λ l. l.now) result.now ≡ rung_of (map (λ l. l.now) lines.now) (part_in parts.now rung) }
     ensures count { (part_in parts.now rung).start + length result.now ≡ (part_in parts.now rung).end }
 {
-    let part = part_in(lines, parts, rung);
+    let part = parts[rung];
     lines_between(lines, part.start, part.end)
 }
 
@@ -45,7 +36,7 @@ pub fn part_at(page: PageView<'_, '_>, rung: usize) -> Part
     ensures value { result ≡ part_at (seen page.entry) rung }
     ensures within { IsWithin (length page.entry.lines.now) result }
 {
-    part_in(page.lines, page.parts, rung)
+    page.parts[rung]
 }
 
 /// The lines of the rung.
