@@ -3,7 +3,7 @@
 ghost use Rattle.std.specs.Prelude.{◌≡◌, ◌≤◌, ◌<◌, ◌||◌, ◌==◌, ◌∷◌, length, Ok, IfOk, IfSome, IfNone};
 ghost use Rattle.std.specs.List.{prefix_len};
 ghost use Rattle.std.specs.Char.{is_ascii_alphanumeric};
-ghost use Rattle.ladder_vars.specs.Text.{begins_with, is_blank, is_word_byte, token_len};
+ghost use Rattle.ladder_vars.specs.Text.{is_blank, is_word_byte, token_len};
 ghost use Rattle.ladder_vars.specs.ReadText.{skip_from, no_token, token_at, Gives};
 
 use crate::fault::{Fault, VarRule};
@@ -20,19 +20,10 @@ enum Within {
     LineComment,
 }
 
-fn begins_with(byte: u8, text: &[u8]) -> bool
-    ensures { result ≡ begins_with byte text.now }
-{
-    match text {
-        [] => false,
-        [b, ..] => *b == byte,
-    }
-}
-
 fn is_blank(b: u8, after: &[u8]) -> bool
     ensures { result ≡ is_blank b after.now }
 {
-    b == b' ' || b == b'\t' || b == b'\n' || (b == b'\r' && begins_with(b'\n', after))
+    b == b' ' || b == b'\t' || b == b'\n' || (b == b'\r' && matches!(after, [b'\n', ..]))
 }
 
 pub(crate) fn is_word_byte(b: u8) -> bool
@@ -54,14 +45,14 @@ fn next_within(within: Within, b: u8, after: &[u8]) -> Option<Within>
 {
     match within {
         Within::Blanks if is_blank(b, after) => Some(Within::Blanks),
-        Within::Blanks if b == b'(' && begins_with(b'*', after) => Some(Within::Opening),
-        Within::Blanks if b == b'/' && begins_with(b'/', after) => Some(Within::LineComment),
+        Within::Blanks if b == b'(' && matches!(after, [b'*', ..]) => Some(Within::Opening),
+        Within::Blanks if b == b'/' && matches!(after, [b'/', ..]) => Some(Within::LineComment),
         Within::Blanks => None,
         Within::LineComment if b == b'\n' => Some(Within::Blanks),
         Within::LineComment => Some(Within::LineComment),
         // The star of `(*` closes nothing.
         Within::Opening => Some(Within::Comment),
-        Within::Comment if b == b'*' && begins_with(b')', after) => Some(Within::Closing),
+        Within::Comment if b == b'*' && matches!(after, [b')', ..]) => Some(Within::Closing),
         Within::Comment => Some(Within::Comment),
         Within::Closing => Some(Within::Blanks),
     }
@@ -117,9 +108,9 @@ fn token_len(text: &[u8]) -> usize
             } else if *b == b'%' {
                 1 + address_len(rest)
             } else if *b == b':' {
-                if begins_with(b'=', rest) { 2 } else { 1 }
+                if matches!(rest, [b'=', ..]) { 2 } else { 1 }
             } else if *b == b'(' {
-                if begins_with(b'*', rest) { 0 } else { 1 }
+                if matches!(rest, [b'*', ..]) { 0 } else { 1 }
             } else if *b == b';' || *b == b')' {
                 1
             } else {

@@ -96,15 +96,8 @@ fn second_of(text: &[u8]) -> Option<Option<u32>>
 {
     match text {
         [] => Some(None),
-        [b, digits @ ..] => {
-            if *b != b'.' {
-                return None;
-            }
-            match short_number(digits) {
-                Some(n) => Some(Some(n)),
-                None => None,
-            }
-        }
+        [b'.', digits @ ..] => Some(Some(short_number(digits)?)),
+        [_, ..] => None,
     }
 }
 
