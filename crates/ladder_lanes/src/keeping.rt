@@ -4,8 +4,8 @@ ghost use Rattle.ladder_lanes.specs.Lanes.{lanes};
 ghost use Rattle.ladder_lanes.specs.LanesLaws.{AreLanes, lanes_keep_values};
 
 use crate::lanes::Lanes;
-use crate::stepping::{choose_lanes, step_lanes};
-use ladder_elements::{Operations, Stored};
+use crate::stepping::{apart, bit, choices, step_each, step_two};
+use ladder_elements::{Operations, Stored, block};
 use ladder_glance::Keep;
 use ladder_signals::Word64;
 use ladder_vars::BlockKind;
@@ -28,11 +28,36 @@ impl Keep<Word64> for Lanes {
         }
     }
 
+    /// One step for all lanes where these are alike and each input is whole, the same in all of them; two where they store one of two and
+    /// the inputs follow the word that tells which (the first input that isn't whole, where the lanes were alike); otherwise one for each
+    /// lane. An input follows a word where it is the same in all lanes that are ON in it, and in all that are OFF.
     fn step(self, kind: BlockKind, preset: u32, first: Word64, second: Word64, now: u64) -> Lanes {
-        step_lanes(kind, preset, self, first, second, now)
+        let first_is_whole = first.0 == 0 || first.0 == u64::MAX;
+        let second_is_whole = second.0 == 0 || second.0 == u64::MAX;
+        let (word, on, off) = match self {
+            Lanes::Alike(stored) if first_is_whole && second_is_whole => {
+                let (first, second) = (bit(first, 0), bit(second, 0));
+                return Lanes::Alike(block::step(kind, preset, stored, first, second, now));
+            }
+            Lanes::Alike(stored) => (if first_is_whole { second } else { first }, stored, stored),
+            Lanes::Two { word, on, off, .. } => (word, on, off),
+            Lanes::Apart { .. } => return step_each(kind, preset, &self, first, second, now),
+        };
+        if (first_is_whole || first.0 == word.0) && (second_is_whole || second.0 == word.0) {
+            step_two(kind, preset, word, on, off, first, second, now)
+        } else {
+            step_each(kind, preset, &self, first, second, now)
+        }
     }
 
+    /// One of the two where all lanes choose the same.
     fn choose(condition: Word64, on: Lanes, off: Lanes) -> Lanes {
-        choose_lanes(condition, on, off)
+        if condition.0 == u64::MAX {
+            on
+        } else if condition.0 == 0 {
+            off
+        } else {
+            apart(&choices(condition, &on, &off))
+        }
     }
 }

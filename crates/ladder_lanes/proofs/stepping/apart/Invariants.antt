@@ -2,10 +2,10 @@ use Rattle.std.proofs.Common.{◌≡◌, ◌<◌, ◌≤◌, ℕ, cond, get_or}
 use Rattle.std.specs.Int.{bit_at}
 use Rattle.ladder_vars.specs.declared.kind.BlockKind.TheVariants.{Ton}
 use Rattle.ladder_elements.specs.Blocks.{new_block, q_of}
-use Rattle.ladder_lanes.proofs.stepping.q_word.Given as goal
+use Rattle.ladder_lanes.proofs.stepping.apart.Given as goal
 
 abbrev pub invariant-loop-lane : goal.invariant-loop-lane
 invariant-loop-lane l = record {
-  below : (i : ℕ) → i < l.lane → bit_at l.word i ≡ cond (q_of (get_or l.stored i (new_block Ton))) 1 0;
-  above : (i : ℕ) → l.lane ≤ i → bit_at l.word i ≡ 0;
+  below : (i : ℕ) → i < l.lane → bit_at l.q i ≡ cond (q_of (get_or l.stored i (new_block Ton))) 1 0;
+  above : (i : ℕ) → l.lane ≤ i → bit_at l.q i ≡ 0;
 }
