@@ -1,12 +1,12 @@
 -- The rows of items, one after the other.
-use Rattle.std.proofs.Common.{◌≡◌, ◌∙◌, ◌+◌, ◌<◌, ◌++◌, ◌∷◌, [], ℕ, suc, List, Some, sym, ap, arith, append-nil, take, drop, slice_get, add-one}
+use Rattle.ladder_grid.proofs.Ranges.{range_more, range_parts}
+use Rattle.std.proofs.Common.{◌≡◌, ◌∙◌, ◌+◌, ◌-◌, ◌<◌, append_assoc, length, length-append, ◌++◌, ◌∷◌, [], ℕ, suc, List, Some, sym, ap, arith, append-nil, take, drop, slice_get, add-one}
 use Rattle.std.specs.List.{flat_map, range_with_len}
 use Rattle.std.proofs.Math.Seq.{take-suc, drop-cons}
 use Rattle.std.proofs.lemmas.Grind.{flat_map-append}
 use Rattle.std.proofs.lemmas.List.{take-append-drop}
 use Rattle.std.proofs.lemmas.List.Concat.{flat_map-cons}
-use Rattle.std.proofs.lemmas.List.FromFn.{get_or-range_with_len, length-range_with_len}
-use Rattle.std.proofs.lemmas.Option.{get_or_from_slice_get, slice_get_read, slice_get_within}
+use Rattle.std.proofs.lemmas.Option.{get_or_from_slice_get, slice_get_within}
 use Rattle.ladder_text.specs.Block.{SendsAll}
 use Rattle.ladder_text.specs.Log.{PutsPrefix, WriteLog}
 use Rattle.ladder_text.proofs.Sending.{sends_prefix, sends_more, sends_same}
@@ -32,10 +32,6 @@ rows_apart f xs i x ys here is =
     ∙ flat_map-append f (take i xs) (x ∷ drop (suc i) xs)
     ∙ ap (λ t. flat_map f (take i xs) ++ t) (flat_map-cons f x (drop (suc i) xs) ∙ ap (λ t. t ++ flat_map f (drop (suc i) xs)) is)
 
--- the i-th of the numbers from 0 on
-pub number_at : (n i : ℕ) → i < n → slice_get (range_with_len 0 n) i ≡ Some i
-number_at n i h = slice_get_read (range_with_len 0 n) n i i (sym (length-range_with_len 0 n)) h (sym (get_or-range_with_len 0 n i i h ∙ omega arith))
-
 -- the rows of one item more
 pub rows_sent : (a b c : WriteLog) (w0 w1 w2 : List ℕ) (rows longer more : List Fields) → longer ≡ rows ++ more → SendsAll a b w0 w1 (lines_text rows)
     → SendsAll b c w1 w2 (lines_text more) → SendsAll a c w0 w2 (lines_text longer)
@@ -49,3 +45,36 @@ pub rows_prefix : (a b c : WriteLog) (w0 w1 : List ℕ) (rows all more rest : Li
 rows_prefix a b c w0 w1 rows all more rest e p q =
     sends_prefix a b c w0 w1 (lines_text all) (lines_text rows) (lines_text more) (lines_text rest)
     (ap lines_text e ∙ lines_text-append rows (more ++ rest) ∙ ap (λ t. lines_text rows ++ t) (lines_text-append more rest)) p q
+
+-- ---- the rows of numbers from 0 on
+
+abbrev pub rows_to : (ℕ → List Fields) → ℕ → List Fields
+rows_to f n = flat_map f (range_with_len 0 n)
+
+rows_next : (f : ℕ → List Fields) (i : ℕ) → rows_to f (i + 1) ≡ rows_to f i ++ f i
+rows_next f i =
+    let here : 0 + i ≡ i = omega arith in
+    ap (λ n. rows_to f n) (add-one i) ∙ ap (flat_map f) (range_more 0 i ∙ ap (λ n. range_with_len 0 i ++ n ∷ []) here)
+    ∙ flat_map-append f (range_with_len 0 i) (i ∷ []) ∙ ap (λ t. rows_to f i ++ t) (append-nil (f i))
+
+-- the rows of all of n numbers, cut at one of them
+rows_behind : (f : ℕ → List Fields) (i n : ℕ) → i < n → rows_to f n ≡ rows_to f i ++ (f i ++ flat_map f (range_with_len (0 + (i + 1)) (n - (i + 1))))
+rows_behind f i n h =
+    let rest = flat_map f (range_with_len (0 + (i + 1)) (n - (i + 1))) in
+    let all : n ≡ (i + 1) + (n - (i + 1)) = omega (arith, h) in
+    ap (λ m. rows_to f m) all ∙ ap (flat_map f) (range_parts 0 (i + 1) (n - (i + 1)))
+    ∙ flat_map-append f (range_with_len 0 (i + 1)) (range_with_len (0 + (i + 1)) (n - (i + 1)))
+    ∙ ap (λ t. t ++ rest) (rows_next f i) ∙ append_assoc (rows_to f i) (f i) rest
+
+-- the rows of one number more are written
+pub next_sent : (a b c : WriteLog) (w0 w1 w2 : List ℕ) (f : ℕ → List Fields) (i : ℕ) → SendsAll a b w0 w1 (lines_text (rows_to f i))
+    → SendsAll b c w1 w2 (lines_text (f i)) → SendsAll a c w0 w2 (lines_text (rows_to f (i + 1)))
+next_sent a b c w0 w1 w2 f i = rows_sent a b c w0 w1 w2 (rows_to f i) (rows_to f (i + 1)) (f i) (rows_next f i)
+
+pub next_counted : (f : ℕ → List Fields) (i rows more : ℕ) → rows ≡ length (rows_to f i) → more ≡ length (f i) → rows + more ≡ length (rows_to f (i + 1))
+next_counted f i rows more before now = omega (arith, before, now, ap length (rows_next f i), length-append (rows_to f i) (f i))
+
+-- the rows of one number are not written to their end
+pub next_cut : (a b c : WriteLog) (w0 w1 : List ℕ) (f : ℕ → List Fields) (i n : ℕ) → i < n → SendsAll a b w0 w1 (lines_text (rows_to f i))
+    → PutsPrefix b c (w1 ++ lines_text (f i)) → PutsPrefix a c (w0 ++ lines_text (rows_to f n))
+next_cut a b c w0 w1 f i n h = rows_prefix a b c w0 w1 (rows_to f i) (rows_to f n) (f i) (flat_map f (range_with_len (0 + (i + 1)) (n - (i + 1)))) (rows_behind f i n h)

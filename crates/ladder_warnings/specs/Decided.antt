@@ -18,7 +18,7 @@ use Rattle.ladder_grid.specs.Program.{Drawing, block_in, cell_in, has_coil, is_c
 use Rattle.ladder_warnings.specs.declared.warning.Warning.{Warning}
 use Rattle.ladder_warnings.specs.declared.warning.Warning.TheVariants as warning
 use Rattle.ladder_warnings.specs.Similar.{AddsFirst, AreSimilar, DifferAt, ReplacesFirst}
-use Rattle.ladder_warnings.specs.Warned.{Clashes, HasCellAt, HasCellBefore, HasCells, IsApart, IsCoilAnd, IsJoinedAt, IsLatch, IsLooseCrossing, IsNeverRead, IsNeverWritten, IsOfKind, IsUnwritten, IsWarned, IsWrittenTwice, Reads, operand_of}
+use Rattle.ladder_warnings.specs.Warned.{coil_in, Clashes, HasCellAt, HasCellBefore, HasCells, IsApart, IsCoilAnd, IsJoinedAt, IsLatch, IsLooseCrossing, IsNeverRead, IsNeverWritten, IsOfKind, IsUnwritten, IsWarned, IsWrittenTwice, Reads, operand_of}
 use Rattle.ladder_warnings.specs.Routes.{HasRoute, IsRoute, LeadsNowhere, LeadsThrough}
 use Rattle.ladder_warnings.specs.Ways.{Follows, IsNeverReached, IsReached, IsWay, IsWired}
 use Rattle.ladder_warnings.specs.Below.{SomeBelow}
@@ -162,14 +162,7 @@ latch coil.Rising = no (grind arith)
 latch coil.Falling = no (grind arith)
 
 coil_and : (c : Cell) (Holds : CoilMode → ℕ → Type 0) → ((mode : CoilMode) (var : ℕ) → Dec (Holds mode var)) → Dec (IsCoilAnd c Holds)
-coil_and cell.Empty Holds each = no (λ h. h)
-coil_and cell.Wire Holds each = no (λ h. h)
-coil_and (cell.Contact mode operand memory) Holds each = no (λ h. h)
-coil_and (cell.Coil mode var memory) Holds each = each mode var
-coil_and (cell.Block inst) Holds each = no (λ h. h)
-coil_and (cell.Lower inst linked) Holds each = no (λ h. h)
-coil_and (cell.Jump target) Holds each = no (λ h. h)
-coil_and cell.Return Holds each = no (λ h. h)
+coil_and c Holds each = is_some_and (coil_in c) (λ coil. Holds coil.0 coil.1) (λ coil. each coil.0 coil.1)
 
 cell_before : (d : Drawing) (Such : Cell → Type 0) → ((c : Cell) → Dec (Such c)) → (n : ℕ) → Dec (HasCellBefore d Such n)
 cell_before d Such each n = some_below (λ i. Such (cell_in d i)) n (λ i l. each (cell_in d i))

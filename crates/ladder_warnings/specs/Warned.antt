@@ -64,10 +64,13 @@ operand_of other = None
 abbrev pub Reads : Symbol → Cell → Type 0
 Reads s c = operand_of c ≡ Some s
 
+-- the mode and the variable of a coil
+abbrev pub coil_in : Cell → Option (CoilMode × ℕ)
+coil_in c = elim c [ cell.Coil mode var memory ↦ Some (mode, var) | _ ↦ None ]
+
 -- the cell is a coil, for whose mode and variable it holds
 abbrev pub IsCoilAnd : Cell → (CoilMode → ℕ → Type 0) → Type 0
-IsCoilAnd (cell.Coil mode var memory) Holds = Holds mode var
-IsCoilAnd other Holds = ⊥
+IsCoilAnd c Holds = IsSomeAnd (coil_in c) (λ coil. Holds coil.0 coil.1)
 
 -- a set or reset coil
 abbrev pub IsLatch : CoilMode → Type 0

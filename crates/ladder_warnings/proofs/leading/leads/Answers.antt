@@ -5,7 +5,7 @@ use Rattle.ladder_warnings.specs.Below.{SomeBelow}
 use Rattle.ladder_warnings.specs.Decided.{route_step}
 use Rattle.ladder_warnings.specs.Leading.{RouteBegins}
 use Rattle.ladder_warnings.specs.Routes.{HasRoute, LeadsThrough}
-use Rattle.ladder_warnings.proofs.Below.{follow, none_such, such_more}
+use Rattle.ladder_warnings.proofs.Below.{follow, such_more}
 use Rattle.ladder_warnings.proofs.leading.leads.Goals as goal
 
 onward : (d : Drawing) (rung from row column : ℕ) {A B : Type 0} → A ↔ B → LeadsThrough d rung from row column A ↔ LeadsThrough d rung from row column B
@@ -19,9 +19,6 @@ all_rows : (d : Drawing) (rung from count row : ℕ) → row ≡ ROWS → count 
 all_rows d rung from count row e few =
     let next : COLUMNS - (count + 1) ≡ COLUMNS - (count + 1 + 1) + 1 = omega (arith, few) in
     rw (e, next) (route_step d rung from (COLUMNS - (count + 1 + 1)) (omega (arith, few)))
-
-pub loop-row-init : goal.loop-row-init
-loop-row-init c = none_such (RouteBegins c.args.program.now c.args.rung c.args.from c.args.count)
 
 pub loop-row-preserved : goal.loop-row-preserved
 loop-row-preserved c =

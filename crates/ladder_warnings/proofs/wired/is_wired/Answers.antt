@@ -4,7 +4,7 @@ use Rattle.ladder_grid.specs.Program.{Drawing}
 use Rattle.ladder_warnings.specs.Below.{SomeBelow}
 use Rattle.ladder_warnings.specs.Reaching.{WiresFrom}
 use Rattle.ladder_warnings.specs.Ways.{IsWired, IsWiredBy}
-use Rattle.ladder_warnings.proofs.Below.{follow, none_such, such_more}
+use Rattle.ladder_warnings.proofs.Below.{follow, such_more}
 use Rattle.ladder_warnings.proofs.wired.is_wired.Goals as goal
 
 wired_by : (d : Drawing) (rung row from column : ℕ) {A B : Type 0} → A ↔ B → IsWiredBy d rung row from column A ↔ IsWiredBy d rung row from column B
@@ -17,9 +17,6 @@ column_more d rung row column = (λ h. h, λ h. h)
 all_rows : (d : Drawing) (rung row column from : ℕ) → from ≡ ROWS → SomeBelow from (WiresFrom d rung row column) ↔ IsWired d rung (column + 1) row
 all_rows d rung row column from e =
     subst (λ n. SomeBelow from (WiresFrom d rung row column) ↔ IsWired d rung n row) (sym (add-one column)) (rw e (column_more d rung row column))
-
-pub loop-from-init : goal.loop-from-init
-loop-from-init c = none_such (WiresFrom c.args.program.now c.args.rung c.args.row c.args.column)
 
 pub loop-from-preserved : goal.loop-from-preserved
 loop-from-preserved c =
