@@ -6,7 +6,7 @@ ghost use Rattle.ladder_page.specs.declared.form.Form.TheVariants as form;
 ghost use Rattle.ladder_page.specs.declared.geometry.TheConstants.{RUNGS, ROWS, COLUMNS};
 ghost use Rattle.ladder_page.specs.Seen.{seen};
 ghost use Rattle.ladder_page.specs.Page.{labels_of};
-ghost use Rattle.ladder_grid.specs.Reading.{contact_memory, coil_memory, cell_with, cell_drawn, joint_of, site_drawn};
+ghost use Rattle.ladder_grid.specs.Reading.{cell_with, cell_drawn, joint_of, site_drawn};
 
 use crate::cell::{Cell, Joint, Operand};
 use ladder_page::page::{form_at, instance_above, name_over, rung_at};
@@ -26,28 +26,13 @@ pub struct Site {
     pub vertical: bool,
 }
 
-fn contact_memory(number: usize, mode: Mode) -> Option<usize>
-    ensures { result ≡ contact_memory number mode }
-{
-    match mode {
-        Mode::Plain | Mode::Negated => None,
-        Mode::Rising | Mode::Falling => Some(number),
-    }
-}
-
-fn coil_memory(number: usize, mode: CoilMode) -> Option<usize>
-    ensures { result ≡ coil_memory number mode }
-{
-    match mode {
-        CoilMode::Store | CoilMode::Inverse | CoilMode::Set | CoilMode::Reset => None,
-        CoilMode::Rising | CoilMode::Falling => Some(number),
-    }
-}
-
 fn contact_on(number: usize, mode: Mode, symbol: Symbol) -> Cell
     ensures { result ≡ cell_with number (Some (form.Contact mode)) (Some symbol) None None }
 {
-    let memory = contact_memory(number, mode);
+    let memory = match mode {
+        Mode::Plain | Mode::Negated => None,
+        Mode::Rising | Mode::Falling => Some(number),
+    };
     match symbol {
         Symbol::Var(var) => Cell::Contact {
             mode,
@@ -66,11 +51,13 @@ fn coil_on(number: usize, mode: CoilMode, symbol: Symbol) -> Cell
     ensures { result ≡ cell_with number (Some (form.Coil mode)) (Some symbol) None None }
 {
     match symbol {
-        Symbol::Var(var) => Cell::Coil {
-            mode,
-            var,
-            memory: coil_memory(number, mode),
-        },
+        Symbol::Var(var) => {
+            let memory = match mode {
+                CoilMode::Store | CoilMode::Inverse | CoilMode::Set | CoilMode::Reset => None,
+                CoilMode::Rising | CoilMode::Falling => Some(number),
+            };
+            Cell::Coil { mode, var, memory }
+        }
         Symbol::Instance(_) => Cell::Empty,
     }
 }

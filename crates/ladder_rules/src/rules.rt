@@ -7,7 +7,7 @@ ghost use Rattle.ladder_vars.specs.Kind.{traits_of};
 ghost use Rattle.ladder_page.specs.Seen.{seen};
 ghost use Rattle.ladder_page.specs.Bytes.{is_upright};
 ghost use Rattle.ladder_page.specs.AllPlaces.{reading_place};
-ghost use Rattle.ladder_rules.specs.Rules.{is_joint, fits_joint, wants_name, IsBlockWith, IsLowerWith, IsTorn, IsDrawnAt, CellBreaks, BreaksAt};
+ghost use Rattle.ladder_rules.specs.Rules.{fits_joint, wants_name, IsBlockWith, IsLowerWith, IsTorn, IsDrawnAt, CellBreaks, BreaksAt};
 ghost use Rattle.ladder_page.specs.Picture.{has_text, ch, half_line};
 ghost use Rattle.ladder_page.specs.Form.{leaps};
 ghost use Rattle.ladder_rules.specs.Checks.{IsDrawnBefore, IsBrokenAlong, IsBrokenOn, IsKept};
@@ -27,23 +27,6 @@ use ladder_page::picture::{ch, half_line, joint};
 use ladder_page::{Form, Half, PageView};
 use ladder_vars::{BlockKind, Pin};
 
-/// Whether a character that is no space may stand between two cells.
-fn is_joint(half: Half, linked: bool, b: u8, right: u8) -> bool
-    ensures { result ≡ is_joint half linked b right }
-{
-    match half {
-        Half::Name => b == b'|',
-        Half::Wire => {
-            b == b'+'
-                || if linked {
-                    b == b'-'
-                } else {
-                    b == b'|' && right != b'-'
-                }
-        }
-    }
-}
-
 /// Whether what stands at a joint's place, or at the right rail, may stand there.
 fn fits_joint(
     page: PageView<'_, '_>,
@@ -62,18 +45,17 @@ fn fits_joint(
         return true;
     }
     if column == COLUMNS {
-        is_branch(b)
-    } else {
-        is_joint(
-            half,
-            right_link(page, rung, row, column.saturating_sub(1)),
-            b,
-            ch(
-                rung_at(page, rung),
-                half_line(row, half),
-                PITCH * column + 1,
-            ),
-        )
+        return is_branch(b);
+    }
+    match half {
+        Half::Name => b == b'|',
+        Half::Wire => {
+            if right_link(page, rung, row, column.saturating_sub(1)) {
+                return b == b'+' || b == b'-';
+            }
+            let right = ch(rung_at(page, rung), 2 * row + 1, PITCH * column + 1);
+            b == b'+' || (b == b'|' && right != b'-')
+        }
     }
 }
 
