@@ -8,7 +8,7 @@ ghost use Rattle.ladder_held.specs.Holding.{are_no_scans, moment_of};
 ghost use Rattle.ladder_known.specs.KnownScan.{all_known};
 ghost use Rattle.ladder_signals.specs.Three.{three};
 ghost use Rattle.ladder_partly.specs.Partly.{partly};
-ghost use Rattle.ladder_partly.specs.SeveralLaws.{first_open, is_not_off, known_after};
+ghost use Rattle.ladder_partly.specs.SeveralLaws.{first_open, known_after};
 
 use crate::again::{comes_again, renewed};
 use crate::laws::repeats;
@@ -24,15 +24,6 @@ use ladder_signals::Tri;
 pub struct Opening {
     pub scan: u64,
     pub value: Tri,
-}
-
-fn is_not_off(value: Tri) -> bool
-    ensures { result ≡ is_not_off value }
-{
-    match value {
-        Tri::Off => false,
-        Tri::On | Tri::Unsure => true,
-    }
 }
 
 /// Becomes what the state stores.
@@ -79,11 +70,14 @@ pub fn first_open(
         let moment = watched.first + watched.scans.every * done;
         scan_known(program, known, inputs, moment, room);
         let value = known.value(watched.coil);
-        if is_not_off(value) {
-            return Some(Opening {
-                scan: done + 1,
-                value,
-            });
+        match value {
+            Tri::Off => {}
+            Tri::On | Tri::Unsure => {
+                return Some(Opening {
+                    scan: done + 1,
+                    value,
+                });
+            }
         }
         if comes_again(program, watched, mark, marked, known, done + 1) {
             return None;

@@ -28,17 +28,11 @@ fn are_input_variables(program: &Program, listed: &[usize]) -> bool
     listed.iter().all(|var| is_input_variable(program, *var))
 }
 
-fn contains(listed: &[usize], var: usize) -> bool
-    ensures { result ≡ list_any (λ l. l == var) listed.now }
-{
-    listed.iter().any(|l| *l == var)
-}
-
 fn has_repetition(mut listed: &[usize]) -> bool
     ensures { result ≡ has_repetition listed.entry.now }
 {
     while let [var, rest @ ..] = listed {
-        if contains(rest, *var) {
+        if rest.contains(var) {
             return true;
         }
         listed = rest;

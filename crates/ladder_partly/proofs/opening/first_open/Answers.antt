@@ -1,4 +1,4 @@
-use Rattle.std.proofs.Common.{◌≡◌, ◌∙◌, ◌+◌, ap, arith, sym, refl, ℕ, true, false, Some}
+use Rattle.std.proofs.Common.{◌≡◌, ◌∙◌, ◌+◌, ap, arith, sym, refl, inl, inr, ℕ, true, false, Some}
 use Rattle.ladder_scan.specs.Programs.{diagram_of}
 use Rattle.ladder_held.specs.Holding.{moment_of}
 use Rattle.ladder_held.proofs.FirstScans.{found_now, none_till}
@@ -18,8 +18,8 @@ loop-done-init c = record {
   none = refl;
 }
 
-pub returns-then-is_not_off : goal.returns-then-is_not_off
-returns-then-is_not_off c =
+pub returns-in-On : goal.returns-in-On
+returns-in-On c =
     let d = diagram_of c.args.program.now in
     let moment = moment_of c.args.watched.first c.args.watched.scans in
     let xs = c.args.inputs.now in
@@ -30,7 +30,7 @@ returns-then-is_not_off c =
     let value = value_is d moment xs (done + 1) c.args.watched.coil h c.scan_known.new.known c.value-value.result known c.value-value.ensures in
     let here : done + 1 ≡ 1 + done = omega arith in
     let shown : is_not_off (known_after d moment xs h c.args.watched.coil (1 + done)) ≡ true =
-    ap (λ (n : ℕ). is_not_off (known_after d moment xs h c.args.watched.coil n)) (sym here) ∙ ap is_not_off (sym value) ∙ sym c.is_not_off.ensures ∙ c.if-is_not_off.true in
+    ap (λ (n : ℕ). is_not_off (known_after d moment xs h c.args.watched.coil n)) (sym here) ∙ ap is_not_off (sym value) ∙ elim c.in-On.is [ inl on ↦ ap is_not_off on | inr unsure ↦ ap is_not_off unsure ] in
     record {
       scan = ap (λ (n : ℕ). Some n) here ∙ sym (found_now (λ (n : ℕ). is_not_off (known_after d moment xs h c.args.watched.coil n)) 1 done c.args.watched.scans.count (omega (arith, c.loop-done-test.true)) before.none shown);
       value = value;
@@ -54,7 +54,7 @@ loop-done-preserved c =
     let value = value_is d moment xs (done + 1) c.args.watched.coil h c.scan_known.new.known c.value-value.result known c.value-value.ensures in
     let here : done + 1 ≡ 1 + done = omega arith in
     let off : is_not_off (known_after d moment xs h c.args.watched.coil (1 + done)) ≡ false =
-    ap (λ (n : ℕ). is_not_off (known_after d moment xs h c.args.watched.coil n)) (sym here) ∙ ap is_not_off (sym value) ∙ sym c.is_not_off.ensures ∙ c.if-is_not_off.false in
+    ap (λ (n : ℕ). is_not_off (known_after d moment xs h c.args.watched.coil n)) (sym here) ∙ ap is_not_off (sym value) ∙ ap is_not_off c.in-Off.is in
     record {
       known = known;
       sizes = c.scan_known.ensures.sizes;
@@ -77,7 +77,7 @@ returns-then-comes_again c =
     let value = value_is d moment xs (done + 1) c.args.watched.coil h c.scan_known.new.known c.value-value.result known c.value-value.ensures in
     let here : done + 1 ≡ 1 + done = omega arith in
     let off : is_not_off (known_after d moment xs h c.args.watched.coil (1 + done)) ≡ false =
-    ap (λ (n : ℕ). is_not_off (known_after d moment xs h c.args.watched.coil n)) (sym here) ∙ ap is_not_off (sym value) ∙ sym c.is_not_off.ensures ∙ c.if-is_not_off.false in
+    ap (λ (n : ℕ). is_not_off (known_after d moment xs h c.args.watched.coil n)) (sym here) ∙ ap is_not_off (sym value) ∙ ap is_not_off c.in-Off.is in
     let none = none_till (λ (n : ℕ). is_not_off (known_after d moment xs h c.args.watched.coil n)) done before.none off in
     let again = c.comes_again.ensures c.if-comes_again.true in
     let marked = before.before in
