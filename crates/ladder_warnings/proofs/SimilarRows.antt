@@ -15,11 +15,6 @@ pub similar_lines : (name earlier : List ℕ)
     → lines_text (similar_row name earlier ∷ []) ≡ codes "warning,similar_names,,,," ++ (name ++ (codes " " ++ (earlier ++ codes "\n")))
 similar_lines name earlier = append-nil (line_text (similar_row name earlier)) ∙ similar_line name earlier
 
--- names that are similar have a row
-pub row_when : {Holds : Type 0} (told : Dec Holds) (row : Fields) → Holds → row_if told row ≡ row ∷ []
-row_when (yes h) row holds = refl
-row_when (no fails) row holds = absurd (fails holds)
-
 -- the text of all rows
 pub rows_text : (d : Drawing) → lines_text (warning_rows d) ≡ lines_text (name_rows d.decls) ++ lines_text (place_rows d)
 unfolding warning_rows

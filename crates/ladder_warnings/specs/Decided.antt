@@ -168,6 +168,7 @@ cell_before : (d : Drawing) (Such : Cell → Type 0) → ((c : Cell) → Dec (Su
 cell_before d Such each n = some_below (λ i. Such (cell_in d i)) n (λ i l. each (cell_in d i))
 
 clashes : (mode : CoilMode) (var : ℕ) (c : Cell) → Dec (Clashes mode var c)
+unfolding Clashes
 clashes mode var c = coil_and c _ (λ other written. both (is_equal written var) (neither (both (latch mode) (latch other))))
 
 written_twice : (d : Drawing) (n : ℕ) → Dec (IsWrittenTwice d n)
@@ -211,9 +212,11 @@ adds_first [] b = no (λ h. h)
 adds_first (added ∷ behind) b = both (is_off _) (is_on _)
 
 differ_at : (a b : List ℕ) (n : ℕ) → Dec (DifferAt a b n)
+unfolding DifferAt
 differ_at a b n = both (is_on _) (either (replaces_first (drop n a) (drop n b)) (either (adds_first (drop n a) (drop n b)) (adds_first (drop n b) (drop n a))))
 
 pub similar_or_not : (a b : List ℕ) → Dec (AreSimilar a b)
+unfolding AreSimilar
 similar_or_not a b =
     three (either (is_below 3 (length a)) (is_below 3 (length b))) (is_off _)
     (some_below (DifferAt a b) (min (length a) (length b) + 1) (λ n l. differ_at a b n))
