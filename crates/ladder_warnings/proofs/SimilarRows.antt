@@ -1,10 +1,9 @@
 -- The row of two names that are similar, and all rows, as they are written.
-use Rattle.std.proofs.Common.{◌≡◌, refl, ◌∙◌, ◌++◌, ◌∷◌, [], ℕ, List, ap, append_assoc, append-nil, codes}
+use Rattle.std.proofs.Common.{◌≡◌, ◌∙◌, ◌++◌, ◌∷◌, [], ℕ, List, ap, append_assoc, append-nil, codes}
 use Rattle.ladder_records.specs.Text.{line_text, lines_text}
 use Rattle.ladder_records.proofs.Commas.{lines_text-append}
-use Rattle.ladder_records.specs.Left.{Fields}
 use Rattle.ladder_grid.specs.Program.{Drawing}
-use Rattle.ladder_warnings.specs.Warnings.{name_rows, row_if, place_rows, similar_row, warning_rows}
+use Rattle.ladder_warnings.specs.Warnings.{name_rows, place_rows, similar_row, warning_rows}
 
 similar_line : (name earlier : List ℕ) → line_text (similar_row name earlier) ≡ codes "warning,similar_names,,,," ++ (name ++ (codes " " ++ (earlier ++ codes "\n")))
 similar_line name earlier =
