@@ -9,9 +9,6 @@ use Rattle.ladder_warnings.specs.Deciding.{next_below}
 pub follow : {A B C : Type 0} → A ↔ B → B ↔ C → A ↔ C
 follow p q = (λ a. q.0 (p.0 a), λ c. p.1 (q.1 c))
 
-pub none_such : (Such : ℕ → Type 0) → IsTrue false ↔ SomeBelow 0 Such
-none_such Such = (λ h. absurd (true≢false (sym h)), λ h. absurd (omega (arith, h.1)))
-
 or_parts : (a b : Bool) → (IsTrue a ⊎ IsTrue b) ↔ IsTrue (a || b)
 or_parts true b = (λ h. refl, λ h. inl refl)
 or_parts false b = (λ h. ⊎_elim (λ (f : false ≡ true). absurd (true≢false (sym f))) (λ (t : b ≡ true). t) h, λ h. inr h)

@@ -1,10 +1,9 @@
 -- The row of two names that are similar, and all rows, as they are written.
-use Rattle.std.proofs.Common.{◌≡◌, refl, ◌∙◌, ◌++◌, ◌∷◌, [], ℕ, List, ap, append_assoc, append-nil, codes}
+use Rattle.std.proofs.Common.{◌≡◌, ◌∙◌, ◌++◌, ◌∷◌, [], ℕ, List, ap, append_assoc, append-nil, codes}
 use Rattle.ladder_records.specs.Text.{line_text, lines_text}
 use Rattle.ladder_records.proofs.Commas.{lines_text-append}
-use Rattle.ladder_records.specs.Left.{Fields}
 use Rattle.ladder_grid.specs.Program.{Drawing}
-use Rattle.ladder_warnings.specs.Warnings.{name_rows, row_if, place_rows, similar_row, warning_rows}
+use Rattle.ladder_warnings.specs.Warnings.{name_rows, place_rows, similar_row, warning_rows}
 
 similar_line : (name earlier : List ℕ) → line_text (similar_row name earlier) ≡ codes "warning,similar_names,,,," ++ (name ++ (codes " " ++ (earlier ++ codes "\n")))
 similar_line name earlier =
@@ -14,11 +13,6 @@ similar_line name earlier =
 pub similar_lines : (name earlier : List ℕ)
     → lines_text (similar_row name earlier ∷ []) ≡ codes "warning,similar_names,,,," ++ (name ++ (codes " " ++ (earlier ++ codes "\n")))
 similar_lines name earlier = append-nil (line_text (similar_row name earlier)) ∙ similar_line name earlier
-
--- names that are similar have a row
-pub row_when : {Holds : Type 0} (told : Dec Holds) (row : Fields) → Holds → row_if told row ≡ row ∷ []
-row_when (yes h) row holds = refl
-row_when (no fails) row holds = absurd (fails holds)
 
 -- the text of all rows
 pub rows_text : (d : Drawing) → lines_text (warning_rows d) ≡ lines_text (name_rows d.decls) ++ lines_text (place_rows d)

@@ -1,6 +1,6 @@
 -- Private: which places have a warning, and which names are similar: each is told one way or the other. Tactics prove equations and
 -- contradictions here, and choose no answer.
-use Rattle.std.proofs.Common.{◌≡◌, ◌↔◌, ◌⊎◌, ◌<◌, ◌≤◌, ◌-◌, ⊎_elim, zero, suc, ◌+◌, ◌/◌, ◌%◌, ℕ, List, [], ◌∷◌, Option, Some, None, true, inl, inr, arith, drop, length, min, refl, ap, slice_get}
+use Rattle.std.proofs.Common.{◌≡◌, ◌↔◌, ◌⊎◌, ◌<◌, ◌≤◌, ⊎_elim, zero, suc, ◌+◌, ◌/◌, ◌%◌, ℕ, List, [], ◌∷◌, Option, Some, None, true, inl, inr, arith, drop, length, min, refl, ap, slice_get}
 use Rattle.std.proofs.lemmas.Bool.{cases_lt}
 use Rattle.ladder_vars.specs.Decls.{Declared}
 use Rattle.ladder_vars.specs.declared.decls.Symbol.{Symbol}
@@ -20,7 +20,7 @@ use Rattle.ladder_warnings.specs.declared.warning.Warning.TheVariants as warning
 use Rattle.ladder_warnings.specs.Similar.{AddsFirst, AreSimilar, DifferAt, ReplacesFirst}
 use Rattle.ladder_warnings.specs.Warned.{coil_in, Clashes, HasCellAt, HasCellBefore, HasCells, IsApart, IsCoilAnd, IsJoinedAt, IsLatch, IsLooseCrossing, IsNeverRead, IsNeverWritten, IsOfKind, IsUnwritten, IsWarned, IsWrittenTwice, Reads, operand_of}
 use Rattle.ladder_warnings.specs.Routes.{HasRoute, IsRoute, LeadsNowhere, LeadsThrough}
-use Rattle.ladder_warnings.specs.Ways.{Follows, IsNeverReached, IsReached, IsWay, IsWired}
+use Rattle.ladder_warnings.specs.Ways.{Follows, IsNeverReached, IsReached, IsWay, IsWired, IsWiredBy}
 use Rattle.ladder_warnings.specs.Below.{SomeBelow}
 use Rattle.ladder_warnings.specs.Deciding.{alike, both, either, five, four, is_below, is_equal, is_off, is_on, is_some_and, neither, some_below, three}
 
@@ -51,7 +51,7 @@ apart d rung row column =
 -- a route begins with the cell that its first link leads to
 pub route_step : (d : Drawing) (rung from column : ℕ) → column + 1 < COLUMNS
     → SomeBelow ROWS (λ row. LeadsThrough d rung from row (column + 1) (HasRoute d rung row (column + 1))) ↔ HasRoute d rung from column
-unfolding IsRoute
+unfolding IsRoute LeadsThrough
 route_step d rung from column next = (
   λ h. ⊎_elim (λ uses. (h.0 ∷ [], (h.1, next, (h.2.0, inl uses)))) (λ on. (h.0 ∷ on.1.0, (h.1, next, (h.2.0, inr (on.0, on.1.1))))) h.2.1,
   λ h. first h.0 h.1,
@@ -70,19 +70,17 @@ no_route d rung from column past h = none h.0 h.1
     none [] route = route
     none (row ∷ rows) route = omega (arith, past, route.1)
 
-route_within : (d : Drawing) (rung n from column : ℕ) → column + (n + 1) ≡ COLUMNS → Dec (HasRoute d rung from column)
-route_within d rung zero from column e = no (no_route d rung from column (omega (arith, e)))
-route_within d rung (suc n) from column e = alike (route_step d rung from column (omega (arith, e)))
-    (some_below _ ROWS (λ row l. both (is_on _) (either (is_on _) (both (is_on _) (route_within d rung n row (column + 1) (omega (arith, e)))))))
-
-route : (d : Drawing) (rung from column : ℕ) → Dec (HasRoute d rung from column)
-route d rung from column = ⊎_elim
-    (λ (l : column < COLUMNS). route_within d rung (COLUMNS - (column + 1)) from column (omega (arith, l)))
-    (λ (g : COLUMNS ≤ column). no (no_route d rung from column (omega (arith, g))))
-    (cases_lt column COLUMNS)
+route_within : (d : Drawing) (rung n from column : ℕ) → COLUMNS ≤ column + (n + 1) → Dec (HasRoute d rung from column)
+unfolding LeadsThrough
+route_within d rung zero from column past = no (no_route d rung from column (omega (arith, past)))
+route_within d rung (suc n) from column past = ⊎_elim
+    (λ (next : column + 1 < COLUMNS). alike (route_step d rung from column next)
+    (some_below _ ROWS (λ row l. both (is_on _) (either (is_on _) (both (is_on _) (route_within d rung n row (column + 1) (omega (arith, past))))))))
+    (λ (last : COLUMNS ≤ column + 1). no (no_route d rung from column last))
+    (cases_lt (column + 1) COLUMNS)
 
 leads_nowhere : (d : Drawing) (rung row column : ℕ) → Dec (LeadsNowhere d rung row column)
-leads_nowhere d rung row column = both (is_on _) (neither (route d rung row column))
+leads_nowhere d rung row column = both (is_on _) (neither (route_within d rung COLUMNS row column (omega arith)))
 
 -- ---- ways
 
@@ -97,7 +95,7 @@ wire (cell.Jump target) = no (λ e. cc)
 wire cell.Return = no (λ e. cc)
 
 wired : (d : Drawing) (rung column row : ℕ) → Dec (IsWired d rung column row)
-unfolding IsWired
+unfolding IsWired IsWiredBy
 wired d rung zero row = yes tt
 wired d rung (suc column) row = some_below _ ROWS (λ from l. three (is_on _) (wire _) (wired d rung column from))
 
@@ -168,6 +166,7 @@ cell_before : (d : Drawing) (Such : Cell → Type 0) → ((c : Cell) → Dec (Su
 cell_before d Such each n = some_below (λ i. Such (cell_in d i)) n (λ i l. each (cell_in d i))
 
 clashes : (mode : CoilMode) (var : ℕ) (c : Cell) → Dec (Clashes mode var c)
+unfolding Clashes
 clashes mode var c = coil_and c _ (λ other written. both (is_equal written var) (neither (both (latch mode) (latch other))))
 
 written_twice : (d : Drawing) (n : ℕ) → Dec (IsWrittenTwice d n)
@@ -211,9 +210,11 @@ adds_first [] b = no (λ h. h)
 adds_first (added ∷ behind) b = both (is_off _) (is_on _)
 
 differ_at : (a b : List ℕ) (n : ℕ) → Dec (DifferAt a b n)
+unfolding DifferAt
 differ_at a b n = both (is_on _) (either (replaces_first (drop n a) (drop n b)) (either (adds_first (drop n a) (drop n b)) (adds_first (drop n b) (drop n a))))
 
 pub similar_or_not : (a b : List ℕ) → Dec (AreSimilar a b)
+unfolding AreSimilar
 similar_or_not a b =
     three (either (is_below 3 (length a)) (is_below 3 (length b))) (is_off _)
     (some_below (DifferAt a b) (min (length a) (length b) + 1) (λ n l. differ_at a b n))

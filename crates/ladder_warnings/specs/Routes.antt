@@ -15,7 +15,7 @@ abbrev pub passes_power : Cell → Bool
 passes_power c = elim c [ cell.Wire ↦ true | cell.Contact mode operand memory ↦ true | _ ↦ false ]
 
 -- The right link of the row `from` leads to the cell, and that is one that uses power, or one through which power gets onward.
-abbrev pub LeadsThrough : Drawing → ℕ → ℕ → ℕ → ℕ → Type 0 → Type 0
+unfoldable pub LeadsThrough : Drawing → ℕ → ℕ → ℕ → ℕ → Type 0 → Type 0
 LeadsThrough d rung from row column Onward =
     (feeds d rung row column from ≡ true)
     × ((uses_power (site_at d rung row column).cell ≡ true) ⊎ ((passes_power (site_at d rung row column).cell ≡ true) × Onward))

@@ -17,12 +17,12 @@ AddsFirst [] b = ⊥
 AddsFirst (added ∷ behind) b = (is_ascii_digit added ≡ false) × (same_letters behind b ≡ true)
 
 -- Up to a place the names are the same. There one character is replaced, added or left out, and behind it they are the same again.
-abbrev pub DifferAt : List ℕ → List ℕ → ℕ → Type 0
+unfoldable pub DifferAt : List ℕ → List ℕ → ℕ → Type 0
 DifferAt a b n =
     (same_letters (take n a) (take n b) ≡ true)
     × (ReplacesFirst (drop n a) (drop n b) ⊎ (AddsFirst (drop n a) (drop n b) ⊎ AddsFirst (drop n b) (drop n a)))
 
 -- Two names that differ by one character, whatever the case of letters. One has 4 characters at least: shorter names are told apart at a glance.
-abbrev pub AreSimilar : List ℕ → List ℕ → Type 0
+unfoldable pub AreSimilar : List ℕ → List ℕ → Type 0
 AreSimilar a b =
     ((4 ≤ length a) ⊎ (4 ≤ length b)) × (same_letters a b ≡ false) × SomeBelow (min (length a) (length b) + 1) (DifferAt a b)

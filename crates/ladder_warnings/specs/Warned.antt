@@ -77,7 +77,7 @@ abbrev pub IsLatch : CoilMode → Type 0
 IsLatch m = (m ≡ coil.Set) ⊎ (m ≡ coil.Reset)
 
 -- The cell is a coil on the variable, and it and a coil of this mode are not both set or reset coils.
-abbrev pub Clashes : CoilMode → ℕ → Cell → Type 0
+unfoldable pub Clashes : CoilMode → ℕ → Cell → Type 0
 Clashes mode var c = IsCoilAnd c (λ other written. (written ≡ var) × ((IsLatch mode × IsLatch other) → ⊥))
 
 -- ---- variables and instances

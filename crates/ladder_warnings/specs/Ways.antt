@@ -6,7 +6,7 @@ use Rattle.ladder_grid.specs.Program.{Drawing, feeds, jump_of, site_at}
 use Rattle.ladder_warnings.specs.Below.{SomeBelow}
 
 -- A wire at a row and column feeds the row of the next column, and of its own left end this holds.
-abbrev pub IsWiredBy : Drawing → ℕ → ℕ → ℕ → ℕ → Type 0 → Type 0
+unfoldable pub IsWiredBy : Drawing → ℕ → ℕ → ℕ → ℕ → Type 0 → Type 0
 IsWiredBy d rung row from column Wired = (feeds d rung row (column + 1) from ≡ true) × ((site_at d rung from column).cell ≡ cell.Wire) × Wired
 
 -- The left end of the cell at a column and row is connected to the left rail by wires alone.

@@ -59,6 +59,7 @@ pub(crate) fn feeds(program: &Program, rung: usize, row: usize, column: usize, f
 }
 
 /// Whether the right link of a row leads to a cell, and so to one that uses power; `onward`: whether the cell's right end leads to one.
+#[tactic(auto, unfolding(crate::specs::Routes::LeadsThrough))]
 fn leads_through(
     program: &Program,
     rung: usize,
@@ -70,7 +71,8 @@ fn leads_through(
     requires rungs { rung < program.now.rungs }
     requires columns { column < COLUMNS }
     requires rows { (row < ROWS) × (from < ROWS) }
-    ensures { IsTrue result ↔ LeadsThrough program.now rung from row column (IsTrue onward) }
+    requires onward { IsTrue onward ↔ HasRoute program.now rung row column }
+    ensures { IsTrue result ↔ LeadsThrough program.now rung from row column (HasRoute program.now rung row column) }
 {
     feeds(program, rung, row, column, from)
         && match program.cell(rung, row, column) {

@@ -42,6 +42,7 @@ fn adds_first(a: &[u8], b: &[u8]) -> bool
 }
 
 /// Whether the names are the same but for one character at the place.
+#[tactic(auto, unfolding(crate::specs::Similar::DifferAt))]
 fn differ_at(a: &[u8], b: &[u8], place: usize) -> bool
     requires { (place ≤ length a.now) × (place ≤ length b.now) }
     ensures { IsTrue result ↔ DifferAt a.now b.now place }
@@ -52,6 +53,7 @@ fn differ_at(a: &[u8], b: &[u8], place: usize) -> bool
 }
 
 /// Whether the names are long enough to be told apart at a glance, and differ by one character.
+#[tactic(auto, unfolding(crate::specs::Similar::AreSimilar))]
 pub(crate) fn are_similar(a: &[u8], b: &[u8]) -> bool
     ensures { IsTrue result ↔ AreSimilar a.now b.now }
 {

@@ -102,6 +102,7 @@ fn is_latch(mode: CoilMode) -> bool
 }
 
 /// Whether the cell is a coil on the variable that is not meant beside one of this mode.
+#[tactic(auto, unfolding(crate::specs::Warned::Clashes))]
 pub(crate) fn clashes(mode: CoilMode, var: usize, cell: Cell) -> bool
     ensures { IsTrue result ↔ Clashes mode var cell }
 {

@@ -11,6 +11,7 @@ use ladder_grid::{Cell, Program};
 use ladder_page::geometry::ROWS;
 
 /// Whether a wire in the row `from` of a column feeds the row of the next one; `wired`: whether wires connect it to the left rail.
+#[tactic(auto, unfolding(crate::specs::Ways::IsWiredBy))]
 fn is_wired_by(
     program: &Program,
     rung: usize,
@@ -22,7 +23,8 @@ fn is_wired_by(
     requires rungs { rung < program.now.rungs }
     requires columns { column + 1 < COLUMNS }
     requires rows { (row < ROWS) × (from < ROWS) }
-    ensures { IsTrue result ↔ IsWiredBy program.now rung row from column (IsTrue wired) }
+    requires wired { IsTrue wired ↔ IsWired program.now rung column from }
+    ensures { IsTrue result ↔ IsWiredBy program.now rung row from column (IsWired program.now rung column from) }
 {
     feeds(program, rung, row, column + 1, from)
         && program.cell(rung, from, column) == Cell::Wire

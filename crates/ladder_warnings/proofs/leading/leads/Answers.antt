@@ -1,18 +1,12 @@
-use Rattle.std.proofs.Common.{◌≡◌, ◌+◌, ◌-◌, ◌<◌, ◌↔◌, inl, inr, ⊎_elim, ℕ, arith}
+use Rattle.std.proofs.Common.{◌≡◌, ◌+◌, ◌-◌, ◌<◌, ◌↔◌, ℕ, arith}
 use Rattle.ladder_page.specs.declared.geometry.TheConstants.{COLUMNS, ROWS}
 use Rattle.ladder_grid.specs.Program.{Drawing}
 use Rattle.ladder_warnings.specs.Below.{SomeBelow}
 use Rattle.ladder_warnings.specs.Decided.{route_step}
 use Rattle.ladder_warnings.specs.Leading.{RouteBegins}
-use Rattle.ladder_warnings.specs.Routes.{HasRoute, LeadsThrough}
+use Rattle.ladder_warnings.specs.Routes.{HasRoute}
 use Rattle.ladder_warnings.proofs.Below.{follow, such_more}
 use Rattle.ladder_warnings.proofs.leading.leads.Goals as goal
-
-onward : (d : Drawing) (rung from row column : ℕ) {A B : Type 0} → A ↔ B → LeadsThrough d rung from row column A ↔ LeadsThrough d rung from row column B
-onward d rung from row column same = (
-  λ h. (h.0, ⊎_elim (λ uses. inl uses) (λ on. inr (on.0, same.0 on.1)) h.1),
-  λ h. (h.0, ⊎_elim (λ uses. inl uses) (λ on. inr (on.0, same.1 on.1)) h.1),
-)
 
 all_rows : (d : Drawing) (rung from count row : ℕ) → row ≡ ROWS → count + 1 < COLUMNS
     → SomeBelow row (RouteBegins d rung from count) ↔ HasRoute d rung from (COLUMNS - (count + 1 + 1))
@@ -22,8 +16,7 @@ all_rows d rung from count row e few =
 
 pub loop-row-preserved : goal.loop-row-preserved
 loop-row-preserved c =
-    such_more (RouteBegins c.args.program.now c.args.rung c.args.from c.args.count) c.loop-row.row _ _ _ c.either-found.ensures c.loop-row.invariant
-    (follow c.leads_through.ensures (onward c.args.program.now c.args.rung c.args.from c.loop-row.row (COLUMNS - (c.args.count + 1)) (c.requires.onward c.loop-row.row c.loop-row-test.true)))
+    such_more (RouteBegins c.args.program.now c.args.rung c.args.from c.args.count) c.loop-row.row _ _ _ c.either-found.ensures c.loop-row.invariant c.leads_through.ensures
 
 pub returns : goal.returns
 returns c = follow c.loop-row.invariant

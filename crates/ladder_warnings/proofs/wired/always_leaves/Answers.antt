@@ -5,14 +5,10 @@ use Rattle.ladder_warnings.specs.Ways.{IsWired}
 use Rattle.ladder_warnings.proofs.wired.always_leaves.Goals as goal
 
 pub wired-requires-clause-columns : goal.wired-requires-clause-columns
-wired-requires-clause-columns c =
-    let there : jump_of c.args.program.now c.args.rung ≡ Some (c.in-Some.row, c.in-Some.column, c.in-Some._target) = cc in
-    (jump_placed _ _ _ there).1
+wired-requires-clause-columns c = (jump_placed c.args.program.now c.args.rung (c.in-Some.row, c.in-Some.column, c.in-Some._target) cc).1
 
 pub bounds-wired-row : goal.bounds-wired-row
-bounds-wired-row c =
-    let there : jump_of c.args.program.now c.args.rung ≡ Some (c.in-Some.row, c.in-Some.column, c.in-Some._target) = cc in
-    (jump_placed _ _ _ there).0
+bounds-wired-row c = (jump_placed c.args.program.now c.args.rung (c.in-Some.row, c.in-Some.column, c.in-Some._target) cc).0
 
 pub returns-in-Some : goal.returns-in-Some
 returns-in-Some c =

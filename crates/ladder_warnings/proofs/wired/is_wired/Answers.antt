@@ -3,12 +3,9 @@ use Rattle.ladder_page.specs.declared.geometry.TheConstants.{ROWS}
 use Rattle.ladder_grid.specs.Program.{Drawing}
 use Rattle.ladder_warnings.specs.Below.{SomeBelow}
 use Rattle.ladder_warnings.specs.Reaching.{WiresFrom}
-use Rattle.ladder_warnings.specs.Ways.{IsWired, IsWiredBy}
-use Rattle.ladder_warnings.proofs.Below.{follow, such_more}
+use Rattle.ladder_warnings.specs.Ways.{IsWired}
+use Rattle.ladder_warnings.proofs.Below.{follow}
 use Rattle.ladder_warnings.proofs.wired.is_wired.Goals as goal
-
-wired_by : (d : Drawing) (rung row from column : ℕ) {A B : Type 0} → A ↔ B → IsWiredBy d rung row from column A ↔ IsWiredBy d rung row from column B
-wired_by d rung row from column same = (λ h. (h.0, h.1, same.0 h.2), λ h. (h.0, h.1, same.1 h.2))
 
 column_more : (d : Drawing) (rung row column : ℕ) → SomeBelow ROWS (WiresFrom d rung row column) ↔ IsWired d rung (suc column) row
 unfolding IsWired
@@ -17,11 +14,6 @@ column_more d rung row column = (λ h. h, λ h. h)
 all_rows : (d : Drawing) (rung row column from : ℕ) → from ≡ ROWS → SomeBelow from (WiresFrom d rung row column) ↔ IsWired d rung (column + 1) row
 all_rows d rung row column from e =
     subst (λ n. SomeBelow from (WiresFrom d rung row column) ↔ IsWired d rung n row) (sym (add-one column)) (rw e (column_more d rung row column))
-
-pub loop-from-preserved : goal.loop-from-preserved
-loop-from-preserved c =
-    such_more (WiresFrom c.args.program.now c.args.rung c.args.row c.args.column) c.loop-from.from _ _ _ c.either-found.ensures c.loop-from.invariant
-    (follow c.is_wired_by.ensures (wired_by c.args.program.now c.args.rung c.args.row c.loop-from.from c.args.column (c.requires.wired c.loop-from.from c.loop-from-test.true)))
 
 pub returns : goal.returns
 returns c = follow c.loop-from.invariant
