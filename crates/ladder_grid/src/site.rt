@@ -6,7 +6,7 @@ ghost use Rattle.ladder_page.specs.declared.form.Form.TheVariants as form;
 ghost use Rattle.ladder_page.specs.declared.geometry.TheConstants.{RUNGS, ROWS, COLUMNS};
 ghost use Rattle.ladder_page.specs.Seen.{seen};
 ghost use Rattle.ladder_page.specs.Page.{labels_of};
-ghost use Rattle.ladder_grid.specs.Reading.{cell_with, cell_drawn, joint_of, site_drawn};
+ghost use Rattle.ladder_grid.specs.Reading.{cell_with, cell_drawn, site_drawn};
 
 use crate::cell::{Cell, Joint, Operand};
 use ladder_page::page::{form_at, instance_above, name_over, rung_at};
@@ -120,17 +120,6 @@ pub(crate) fn cell_drawn(
     )
 }
 
-fn joint_of(b: u8) -> Joint
-    ensures { result ≡ joint_of b }
-{
-    match b {
-        b'-' => Joint::Dash,
-        b'+' => Joint::Plus,
-        b'|' => Joint::Bar,
-        _ => Joint::Blank,
-    }
-}
-
 /// What is at a place that has this cell.
 pub(crate) fn site_with(
     page: PageView<'_, '_>,
@@ -147,7 +136,12 @@ pub(crate) fn site_with(
     Site {
         cell,
         right_link: right_link(page, rung, row, column),
-        joint: joint_of(joint(rung_at(page, rung), row, column)),
+        joint: match joint(rung_at(page, rung), row, column) {
+            b'-' => Joint::Dash,
+            b'+' => Joint::Plus,
+            b'|' => Joint::Bar,
+            _ => Joint::Blank,
+        },
         vertical: vertical(rung_at(page, rung), row, column),
     }
 }

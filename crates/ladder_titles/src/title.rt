@@ -2,7 +2,7 @@
 
 ghost use Rattle.std.specs.Prelude.{◌≡◌, ◌≤◌, length, take, drop, true, false, IfSome, IfNone};
 ghost use Rattle.std.specs.List.{list_all, prefix_len};
-ghost use Rattle.ladder_titles.specs.Title.{is_title_byte, is_title, is_space, after_spaces, inside_comment, is_closing, title_inside, alias_behind, alias_of};
+ghost use Rattle.ladder_titles.specs.Title.{is_title_byte, is_title, is_space, after_spaces, inside_comment, title_inside, alias_behind, alias_of};
 
 use std::marker::Model;
 
@@ -81,17 +81,13 @@ impl Title {
     }
 }
 
-fn is_space(b: u8) -> bool
-    ensures { result ≡ is_space b }
-{
-    b == b' ' || b == b'\t'
-}
-
 fn space_len(text: &[u8]) -> usize
     ensures value { result ≡ prefix_len is_space text.now }
     ensures within { result ≤ length text.now }
 {
-    text.iter().take_while(|b| is_space(**b)).count()
+    text.iter()
+        .take_while(|b| **b == b' ' || **b == b'\t')
+        .count()
 }
 
 fn title_len(text: &[u8]) -> usize
@@ -132,18 +128,12 @@ fn inside_comment(text: &[u8]) -> &[u8]
     }
 }
 
-fn is_closing(text: &[u8]) -> bool
-    ensures { result ≡ is_closing text.now }
-{
-    matches!(text, [b'*', b')', ..])
-}
-
 /// The title at the start of a text, where the comment ends behind it.
 fn title_inside(text: &[u8]) -> Option<Title>
     ensures { result ≡ title_inside text.now }
 {
     let len = title_len(text);
-    if is_closing(after_spaces(behind(text, len))) {
+    if matches!(after_spaces(behind(text, len)), [b'*', b')', ..]) {
         Title::new(front(text, len))
     } else {
         None

@@ -32,12 +32,6 @@ pub(crate) fn is_word_byte(b: u8) -> bool
     b.is_ascii_alphanumeric() || b == b'_' || b == b'#' || b == b'.'
 }
 
-fn is_address_byte(b: u8) -> bool
-    ensures { result ≡ (is_ascii_alphanumeric b || b == 46) }
-{
-    b.is_ascii_alphanumeric() || b == b'.'
-}
-
 /// Where in a gap the byte after this one is; None where the gap ends before this byte.
 fn next_within(within: Within, b: u8, after: &[u8]) -> Option<Within>
     ensures some { IfSome result (λ next. skip_from within (b ∷ after.now) ≡ skip_from next after.now) }
@@ -92,7 +86,9 @@ fn address_len(text: &[u8]) -> usize
     ensures value { result ≡ prefix_len (λ c. is_ascii_alphanumeric c || c == 46) text.now }
     ensures within { result ≤ length text.now }
 {
-    text.iter().take_while(|b| is_address_byte(**b)).count()
+    text.iter()
+        .take_while(|b| b.is_ascii_alphanumeric() || **b == b'.')
+        .count()
 }
 
 /// How long the token at the start of a text is: 0 where there is none.

@@ -5,7 +5,7 @@ ghost use Rattle.std.specs.List.{list_all};
 ghost use Rattle.std.specs.Char.{is_ascii_digit};
 ghost use Rattle.ladder_vars.specs.Grammar.{bit_word};
 ghost use Rattle.ladder_vars.specs.declared.limits.TheConstants.{LARGEST_COUNT};
-ghost use Rattle.ladder_vars.specs.ReadWords.{kind_of, block_of, short_number, count_of, after_size, second_of, numbers_of, placed_at, address_of};
+ghost use Rattle.ladder_vars.specs.ReadWords.{block_of, short_number, count_of, second_of, numbers_of, placed_at, address_of};
 
 use crate::decls::{Address, VarKind};
 use crate::kind::BlockKind;
@@ -68,28 +68,6 @@ pub(crate) fn count_of(word: &[u8]) -> Option<u32>
     }
 }
 
-/// What the variables at an address with this letter are for.
-fn kind_of(letter: u8) -> Option<VarKind>
-    ensures { result ≡ kind_of letter }
-{
-    match letter {
-        b'I' => Some(VarKind::Input),
-        b'Q' => Some(VarKind::Output),
-        b'M' => Some(VarKind::Memory),
-        _ => None,
-    }
-}
-
-/// What follows the size `X`, which may be left out.
-fn after_size(text: &[u8]) -> &[u8]
-    ensures { result.now ≡ after_size text.now }
-{
-    match text {
-        [b'X' | b'x', rest @ ..] => rest,
-        _ => text,
-    }
-}
-
 /// A point and the second number, or nothing.
 fn second_of(text: &[u8]) -> Option<Option<u32>>
     ensures { result ≡ second_of text.now }
@@ -111,11 +89,20 @@ fn numbers_of(text: &[u8]) -> Option<(u32, Option<u32>)>
     Some((first, second))
 }
 
+/// What follows the percent sign of an address: its letter, in capitals, the size `X`, which may be left out, and its numbers.
 fn placed_at(letter: u8, text: &[u8]) -> Option<(VarKind, Address)>
     ensures { result ≡ placed_at letter text.now }
 {
-    let kind = kind_of(letter)?;
-    let (first, second) = numbers_of(after_size(text))?;
+    let kind = match letter {
+        b'I' => VarKind::Input,
+        b'Q' => VarKind::Output,
+        b'M' => VarKind::Memory,
+        _ => return None,
+    };
+    let (first, second) = match text {
+        [b'X' | b'x', numbers @ ..] => numbers_of(numbers)?,
+        _ => numbers_of(text)?,
+    };
     let address = Address {
         letter: char::from(letter),
         first,
