@@ -481,7 +481,7 @@ fn are_carried(
 
 /// Whether the block is none of them.
 fn is_none_of(mut others: &[BlockRef], block: BlockRef) -> bool
-    ensures { result ≡ true → IsNoneOf others.entry.now block }
+    ensures { IsTrue result ↔ IsNoneOf others.entry.now block }
 {
     while let [other, rest @ ..] = others {
         if *other == block {
@@ -537,14 +537,14 @@ fn are_instances(project: &Project<'_>, mut blocks: &[BlockRef], mut instances: 
 /// Whether the element is no operate, or writes a number.
 #[tactic(auto, unfolding(crate::specs::Carried::IsUnseen))]
 fn is_unseen(expressions: &[Expression<'_>], element: Element) -> bool
-    ensures { result ≡ true → IsUnseen expressions.now element }
+    ensures { IsTrue result ↔ IsUnseen expressions.now element }
 {
     element.kind != 60 || writes_number(expressions, element.number)
 }
 
 #[tactic(auto, unfolding(crate::specs::Carried::AreUnseen))]
 fn are_unseen(expressions: &[Expression<'_>], placed: &Placed<'_>) -> bool
-    ensures { result ≡ true → AreUnseen expressions.now placed.now }
+    ensures { IsTrue result ↔ AreUnseen expressions.now placed.now }
 {
     let mut elements = placed.rung.elements.as_slice();
     while let [element, rest @ ..] = elements {
@@ -558,7 +558,7 @@ fn are_unseen(expressions: &[Expression<'_>], placed: &Placed<'_>) -> bool
 
 /// Whether no operate writes a bit.
 fn all_unseen(expressions: &[Expression<'_>], mut rungs: &[Placed<'_>]) -> bool
-    ensures { result ≡ true → All (AreUnseen expressions.now) rungs.entry.now }
+    ensures { IsTrue result ↔ All (AreUnseen expressions.now) rungs.entry.now }
 {
     while let [placed, rest @ ..] = rungs {
         if !are_unseen(expressions, placed) {

@@ -1,6 +1,6 @@
 //! The elements that can't be carried over.
 
-ghost use Rattle.std.specs.Prelude.{◌≡◌, ◌↔◌, ◌+◌, ◌-◌, ◌<◌, ◌≤◌, IsTrue, IfSome, All, IfOk, length};
+ghost use Rattle.std.specs.Prelude.{◌↔◌, ◌+◌, ◌-◌, ◌<◌, ◌≤◌, IsTrue, IfSome, All, IfOk, length};
 ghost use Rattle.ladder_page.specs.declared.geometry.TheConstants.{COLUMNS, ROWS};
 ghost use Rattle.ladder_sheet.specs.Reach.{IsPower};
 ghost use Rattle.ladder_import.specs.Refusals.{Holds, IsCoil, IsThere};

@@ -148,6 +148,6 @@ ReadsLate reading es r c =
 
 -- ---- elements that are left out
 
--- It does nothing where no power comes: no coil writes then but a set or a reset coil.
+-- It does nothing where no power comes: all that is carried over, but of coils those alone that set or reset.
 abbrev pub IsIdle : Meaning → Type 0
 IsIdle m = ¬ (m ≡ meaning.Other) × ((n : CoilMode) → m ≡ meaning.Coil n → (n ≡ coil.Set) ⊎ (n ≡ coil.Reset))

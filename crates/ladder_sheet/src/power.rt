@@ -1,6 +1,6 @@
 //! How power goes through the elements of a rung.
 
-ghost use Rattle.std.specs.Prelude.{◌≡◌, ◌↔◌, ◌-◌, ◌<◌, ◌≤◌, IsTrue};
+ghost use Rattle.std.specs.Prelude.{◌↔◌, ◌-◌, ◌<◌, ◌≤◌, IsTrue};
 ghost use Rattle.ladder_page.specs.declared.geometry.TheConstants.{COLUMNS, ROWS};
 ghost use Rattle.ladder_sheet.specs.Reach.{AreReached, IsPower};
 ghost use Rattle.ladder_sheet.specs.Sheets.{AreTied, IsFed, IsRun, Leaves, Passes, Reached};

@@ -1,8 +1,8 @@
 //! The elements of a rung, and where they may stand.
 
-ghost use Rattle.std.specs.Prelude.{◌≡◌, ◌↔◌, ◌+◌, ◌*◌, ◌<◌, ◌≤◌, IsTrue};
+ghost use Rattle.std.specs.Prelude.{◌≡◌, ◌↔◌, ◌<◌, ◌≤◌, IsTrue};
 ghost use Rattle.ladder_page.specs.declared.geometry.TheConstants.{COLUMNS, ROWS, PLACES};
-ghost use Rattle.ladder_sheet.specs.Sheets.{EndsRung, HasPlaces, HasRow, IsContact, IsDrawnBefore, IsEffect, IsIdle, IsLinked, IsRunning, IsTakenOn, IsTied, ReadsLate, Stands, StandsAs, element_at, is_blank_at, is_block, is_left_half, is_uncontrolled, meaning_at};
+ghost use Rattle.ladder_sheet.specs.Sheets.{EndsRung, HasPlaces, HasRow, IsContact, IsDrawnBefore, IsEffect, IsIdle, IsLinked, IsRunning, IsTakenOn, IsTied, ReadsLate, Stands, element_at, is_blank_at, is_block, is_left_half, is_uncontrolled, meaning_at};
 
 use crate::meaning::{BlockSort, Meaning, Source, element_meaning, meaning_of, source_of};
 use ladder_clp::{Element, Reading};
@@ -93,8 +93,8 @@ fn is_uncontrolled(reading: Reading, elements: &[Element], row: usize, column: u
 {
     column >= 2
         && row + 1 < ROWS
-        && element_at(elements, row + 1, column - 1).link == 0
-        && element_at(elements, row + 2, column - 1).link == 0
+        && !is_linked(elements, row + 1, column - 1)
+        && !is_linked(elements, row + 2, column - 1)
         && is_blank_at(elements, row + 1, column - 2)
         && !is_left_half(reading, elements, row + 1, column - 2)
         && element_at(elements, row, column - 2).kind != 10
