@@ -3,7 +3,7 @@
 use Rattle.std.specs.Prelude.{◌∷◌, ◌++◌, ◌+◌, ℕ, List, [], Option, Some, codes, decimal, length, slice_get, slice_index_or}
 use Rattle.std.specs.List.{flat_map, range_with_len}
 use Rattle.std.specs.Option.{option_map_or}
-use Rattle.ladder_vars.specs.Decls.{Declared, names_of}
+use Rattle.ladder_vars.specs.Decls.{Declared, names_of, symbol_name}
 use Rattle.ladder_vars.specs.declared.decls.Symbol.{Symbol}
 use Rattle.ladder_vars.specs.declared.decls.Symbol.TheVariants as symbol
 use Rattle.ladder_page.specs.Geometry.{at_place}
@@ -32,11 +32,6 @@ warning_word NeverWritten = codes "never_written"
 warning_word NeverRead = codes "never_read"
 warning_word NeverReached = codes "never_reached"
 
--- the title of a variable or an instance
-abbrev pub name_of : Declared → Symbol → List ℕ
-name_of declared (symbol.Var number) = option_map_or (λ v. v.title) (slice_get declared.vars number) []
-name_of declared (symbol.Instance number) = option_map_or (λ i. i.title) (slice_get declared.instances number) []
-
 -- what a contact reads or a coil writes
 abbrev pub symbol_of : Cell → Option Symbol
 symbol_of (cell.Coil mode var memory) = Some (symbol.Var var)
@@ -44,7 +39,7 @@ symbol_of other = operand_of other
 
 -- the name of what is read or written at a place
 abbrev pub name_at : Drawing → ℕ → List ℕ
-name_at d n = option_map_or (name_of d.decls) (symbol_of (cell_in d n)) []
+name_at d n = option_map_or (symbol_name d.decls) (symbol_of (cell_in d n)) []
 
 -- what a warning names: the variable or the instance, and nothing where it is about joints, rows or rungs
 abbrev pub warned_name : Drawing → ℕ → Warning → List ℕ

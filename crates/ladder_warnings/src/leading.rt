@@ -1,62 +1,13 @@
 //! Where power can get from the right end of a cell.
 
-ghost use Rattle.std.specs.Prelude.{◌≡◌, ◌↔◌, ◌+◌, ◌-◌, ◌<◌, ◌≤◌, ◌&&◌, IsTrue};
+ghost use Rattle.std.specs.Prelude.{◌≡◌, ◌↔◌, ◌+◌, ◌-◌, ◌<◌, ◌≤◌, IsTrue};
 ghost use Rattle.ladder_page.specs.declared.geometry.TheConstants.{COLUMNS, ROWS};
-ghost use Rattle.ladder_grid.specs.Program.{feeds, joined, takes_power};
 ghost use Rattle.ladder_warnings.specs.Routes.{HasRoute, LeadsNowhere, LeadsThrough};
 ghost use Rattle.ladder_warnings.specs.Leading.{AreLeading};
 
 use crate::symbols::either;
-use ladder_grid::{Cell, Joint, Program};
+use ladder_grid::{Cell, Program};
 use ladder_page::geometry::{COLUMNS, ROWS};
-
-fn takes_power(joint: Joint) -> bool
-    ensures { result ≡ takes_power joint }
-{
-    match joint {
-        Joint::Dash | Joint::Plus => true,
-        Joint::Blank | Joint::Bar => false,
-    }
-}
-
-pub(crate) fn both(a: bool, b: bool) -> bool
-    ensures { result ≡ (a && b) }
-{
-    a && b
-}
-
-/// Whether vertical links join so many rows to this one, on the left of the column.
-fn joined(program: &Program, rung: usize, row: usize, column: usize, count: usize) -> bool
-    requires rungs { rung < program.now.rungs }
-    requires columns { (1 ≤ column) × (column < COLUMNS) }
-    requires rows { row + count < ROWS }
-    ensures { result ≡ joined program.now rung row column count }
-{
-    let mut all = true;
-    for i in 0..count {
-        all = both(all, program.vertical(rung, row + i, column));
-    }
-    all
-}
-
-/// Whether the right link of a row in the column before enters the group of this row's joint.
-pub(crate) fn feeds(program: &Program, rung: usize, row: usize, column: usize, from: usize) -> bool
-    requires rungs { rung < program.now.rungs }
-    requires columns { column < COLUMNS }
-    requires rows { (row < ROWS) × (from < ROWS) }
-    ensures { result ≡ feeds program.now rung row column from }
-{
-    column >= 1
-        && program.right_link(rung, from, column - 1)
-        && takes_power(program.joint(rung, from, column))
-        && joined(
-            program,
-            rung,
-            row.min(from),
-            column,
-            row.max(from) - row.min(from),
-        )
-}
 
 /// Whether the right link of a row leads to a cell, and so to one that uses power; `onward`: whether the cell's right end leads to one.
 #[tactic(auto, unfolding(crate::specs::Routes::LeadsThrough))]
@@ -74,7 +25,7 @@ fn leads_through(
     requires onward { IsTrue onward ↔ HasRoute program.now rung row column }
     ensures { IsTrue result ↔ LeadsThrough program.now rung from row column (HasRoute program.now rung row column) }
 {
-    feeds(program, rung, row, column, from)
+    program.feeds(rung, row, column, from)
         && match program.cell(rung, row, column) {
             Cell::Coil { .. } | Cell::Block { .. } | Cell::Jump { .. } | Cell::Return => true,
             Cell::Lower { linked, .. } => linked,

@@ -8,7 +8,7 @@ ghost use Rattle.ladder_warnings.specs.Warned.{Clashes, HasCell, HasCellBefore, 
 use crate::apart::is_apart;
 use crate::leading::leads_nowhere;
 use crate::reaching::is_never_reached;
-use crate::symbols::{clashes, draws, either, is_coil_of, is_of_kind, operand_of, reads};
+use crate::symbols::{clashes, draws, either, is_of_kind, operand_of, reads};
 use crate::warning::Warning;
 use ladder_grid::{Cell, Joint, Program};
 use ladder_page::CoilMode;
@@ -56,7 +56,7 @@ fn is_written_before(program: &Program, var: usize, count: usize) -> bool
 {
     let mut found = false;
     for place in 0..count {
-        found = either(found, is_coil_of(var, cell_in(program, place)));
+        found = either(found, cell_in(program, place).is_coil_of(var));
     }
     found
 }

@@ -1,15 +1,20 @@
 //! Which rungs a scan can reach.
 
-ghost use Rattle.std.specs.Prelude.{◌↔◌, ◌<◌, ◌≤◌, ◌+◌, IsTrue};
+ghost use Rattle.std.specs.Prelude.{◌≡◌, ◌↔◌, ◌<◌, ◌≤◌, ◌+◌, ◌&&◌, IsTrue};
 ghost use Rattle.ladder_page.specs.declared.geometry.TheConstants.{RUNGS};
 ghost use Rattle.ladder_warnings.specs.Ways.{Follows, IsNeverReached, IsReached, JumpsTo};
 ghost use Rattle.ladder_warnings.specs.Reaching.{AreReached};
 
-use crate::leading::both;
 use crate::symbols::either;
 use crate::wired::always_leaves;
 use ladder_grid::Program;
 use ladder_page::geometry::RUNGS;
+
+fn both(a: bool, b: bool) -> bool
+    ensures { result ≡ (a && b) }
+{
+    a && b
+}
 
 /// Whether the rung's jump or return goes to another one.
 fn jumps_to(program: &Program, from: usize, rung: usize) -> bool

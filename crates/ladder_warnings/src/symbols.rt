@@ -1,7 +1,7 @@
 //! What cells do with variables and instances.
 
 ghost use Rattle.std.specs.Prelude.{◌≡◌, ◌↔◌, ◌||◌, IsTrue, Some};
-ghost use Rattle.ladder_grid.specs.Program.{block_in, is_coil_of};
+ghost use Rattle.ladder_grid.specs.Program.{block_in};
 ghost use Rattle.ladder_warnings.specs.Warned.{Clashes, IsLatch, IsOfKind, Reads, operand_of};
 ghost use Rattle.ladder_warnings.specs.Warnings.{symbol_of};
 
@@ -57,22 +57,6 @@ pub(crate) fn reads(symbol: Symbol, cell: Cell) -> bool
     match operand_of(cell) {
         Some(other) => other == symbol,
         None => false,
-    }
-}
-
-/// Whether the cell is a coil on the variable.
-pub(crate) fn is_coil_of(var: usize, cell: Cell) -> bool
-    ensures { result ≡ is_coil_of var cell }
-{
-    match cell {
-        Cell::Coil { var: written, .. } => written == var,
-        Cell::Empty
-        | Cell::Wire
-        | Cell::Contact { .. }
-        | Cell::Block { .. }
-        | Cell::Lower { .. }
-        | Cell::Jump { .. }
-        | Cell::Return => false,
     }
 }
 

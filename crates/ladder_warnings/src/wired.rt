@@ -5,7 +5,6 @@ ghost use Rattle.ladder_page.specs.declared.geometry.TheConstants.{COLUMNS, ROWS
 ghost use Rattle.ladder_warnings.specs.Ways.{AlwaysLeaves, IsWired, IsWiredBy};
 ghost use Rattle.ladder_warnings.specs.Reaching.{AreWired};
 
-use crate::leading::feeds;
 use crate::symbols::either;
 use ladder_grid::{Cell, Program};
 use ladder_page::geometry::ROWS;
@@ -26,7 +25,7 @@ fn is_wired_by(
     requires wired { IsTrue wired ↔ IsWired program.now rung column from }
     ensures { IsTrue result ↔ IsWiredBy program.now rung row from column (IsWired program.now rung column from) }
 {
-    feeds(program, rung, row, column + 1, from)
+    program.feeds(rung, row, column + 1, from)
         && program.cell(rung, from, column) == Cell::Wire
         && wired
 }

@@ -5,7 +5,7 @@ ghost use Rattle.ladder_page.specs.declared.geometry.TheConstants.{PLACES, RUNGS
 ghost use Rattle.ladder_records.specs.Text.{line_text, lines_text};
 ghost use Rattle.ladder_text.specs.Block.{Sends};
 ghost use Rattle.ladder_text.specs.Log.{Puts};
-ghost use Rattle.ladder_warnings.specs.Warnings.{name_of, place_rows, row_if_warned, rows_at, warned_name, warning_row, warning_rows};
+ghost use Rattle.ladder_warnings.specs.Warnings.{place_rows, row_if_warned, rows_at, warned_name, warning_row, warning_rows};
 
 use crate::names::add_names;
 use crate::places::{cell_in, is_warned};
@@ -16,23 +16,6 @@ use ladder_grid::Program;
 use ladder_page::geometry::{PLACES, ROWS};
 use ladder_records::add_line;
 use ladder_text::{Block, Sink, WriteFault};
-use ladder_vars::{Decls, Symbol};
-
-/// How the symbol is spelled where it is declared.
-fn name_of(decls: &Decls, symbol: Symbol) -> &[u8]
-    ensures { result.now ≡ name_of decls.now symbol }
-{
-    match symbol {
-        Symbol::Var(var) => match decls.vars().get(var) {
-            Some(var) => var.title.bytes(),
-            None => b"",
-        },
-        Symbol::Instance(inst) => match decls.instances().get(inst) {
-            Some(instance) => instance.title.bytes(),
-            None => b"",
-        },
-    }
-}
 
 /// What is named by a warning at a place.
 fn warned_name(program: &Program, place: usize, warning: Warning) -> &[u8]
@@ -46,7 +29,7 @@ fn warned_name(program: &Program, place: usize, warning: Warning) -> &[u8]
         | Warning::NeverWritten
         | Warning::NeverRead => {
             match symbol_of(cell_in(program, place)) {
-                Some(symbol) => name_of(program.decls(), symbol),
+                Some(symbol) => program.decls().symbol_name(symbol),
                 None => b"",
             }
         }

@@ -1,6 +1,7 @@
 use Rattle.std.proofs.Common.{◌↔◌, ℕ, IsTrue, true, false, refl}
 use Rattle.std.proofs.lemmas.List.{get_or-replicate}
 use Rattle.ladder_grid.specs.Program.{Drawing}
+use Rattle.ladder_page.specs.declared.geometry.TheConstants.{ROWS}
 use Rattle.ladder_warnings.specs.Ways.{IsWired}
 use Rattle.ladder_warnings.proofs.wired.wired.Goals as goal
 
@@ -9,4 +10,4 @@ unfolding IsWired
 rail d rung row = (λ h. tt, λ h. refl)
 
 pub loop-before-init : goal.loop-before-init
-loop-before-init c row h = rw (get_or-replicate 6 row true false h) (rail c.args.program.now c.args.rung row)
+loop-before-init c row h = rw (get_or-replicate ROWS row true false h) (rail c.args.program.now c.args.rung row)
