@@ -1,8 +1,8 @@
 //! Which element of ClassicLadder means what.
 
-ghost use Rattle.std.specs.Prelude.{◌≡◌, ◌≤◌, ◌↔◌, IfSome, Some, slice_get};
+ghost use Rattle.std.specs.Prelude.{◌≡◌, ◌↔◌, Some, slice_get};
 ghost use Rattle.ladder_sheet.specs.declared.meaning.Timed.{Timed};
-ghost use Rattle.ladder_sheet.specs.Meanings.{IsTimed, element_meaning, kind_of, meaning_of, millis_of, source_of, table_of};
+ghost use Rattle.ladder_sheet.specs.Meanings.{IsTimed, element_meaning, meaning_of, source_of, table_of};
 
 use ladder_clp::{Element, Preset, Project, Reading};
 use ladder_page::{CoilMode, Mode};
@@ -129,33 +129,6 @@ pub fn source_of(class: u32) -> Source
     }
 }
 
-fn millis_of(base: u32) -> Option<u64>
-    ensures value { result ≡ millis_of base }
-    ensures few { IfSome result (λ n. n ≤ 60000) }
-{
-    match base {
-        0 => Some(60000),
-        1 => Some(1000),
-        2 => Some(100),
-        _ => None,
-    }
-}
-
-fn kind_of(sort: BlockSort, mode: u32) -> Option<BlockKind>
-    ensures { result ≡ kind_of sort mode }
-{
-    match sort {
-        BlockSort::Timer => Some(BlockKind::Ton),
-        BlockSort::Monostable => Some(BlockKind::Tp),
-        BlockSort::IecTimer => match mode {
-            0 => Some(BlockKind::Ton),
-            1 => Some(BlockKind::Tof),
-            2 => Some(BlockKind::Tp),
-            _ => None,
-        },
-    }
-}
-
 /// A kind of block, and its preset in milliseconds.
 #[derive(Clone, Copy)]
 pub struct Timed {
@@ -169,11 +142,25 @@ pub fn timed_as(sort: BlockSort, preset: Option<Preset>) -> Option<Timed>
     ensures { (timed : Timed) → (result ≡ Some timed) ↔ IsTimed sort preset timed }
 {
     let preset = preset?;
-    let kind = kind_of(sort, preset.mode)?;
-    let millis = millis_of(preset.base)?;
+    let kind = match sort {
+        BlockSort::Timer => BlockKind::Ton,
+        BlockSort::Monostable => BlockKind::Tp,
+        BlockSort::IecTimer => match preset.mode {
+            0 => BlockKind::Ton,
+            1 => BlockKind::Tof,
+            2 => BlockKind::Tp,
+            _ => return None,
+        },
+    };
+    let millis = match preset.base {
+        0 => 60000u32,
+        1 => 1000,
+        2 => 100,
+        _ => return None,
+    };
     Some(Timed {
         kind,
-        preset: millis * u64::from(preset.count),
+        preset: u64::from(millis) * u64::from(preset.count),
     })
 }
 
