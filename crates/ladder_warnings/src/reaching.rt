@@ -5,8 +5,6 @@ ghost use Rattle.ladder_page.specs.declared.geometry.TheConstants.{RUNGS};
 ghost use Rattle.ladder_warnings.specs.Ways.{Follows, IsNeverReached, IsReached, JumpsTo};
 ghost use Rattle.ladder_warnings.specs.Reaching.{AreReached};
 
-use crate::leading::both;
-use crate::symbols::either;
 use crate::wired::always_leaves;
 use ladder_grid::Program;
 use ladder_page::geometry::RUNGS;
@@ -38,11 +36,12 @@ fn comes_to(program: &Program, rung: usize, reached: &[bool; RUNGS]) -> bool
     requires reached { AreReached program.now rung reached.now }
     ensures { IsTrue result ↔ IsReached program.now rung }
 {
-    let mut found = false;
     for before in 0..rung {
-        found = either(found, both(reached[before], follows(program, before, rung)));
+        if reached[before] && follows(program, before, rung) {
+            return true;
+        }
     }
-    rung == 0 || found
+    rung == 0
 }
 
 /// Which of the first rungs a scan reaches.
