@@ -1,4 +1,4 @@
--- Whether some number is such a one, one number after the other.
+-- Flags that are kept for numbers, one after the other.
 use Rattle.std.proofs.Common.{◌≡◌, ◌+◌, ◌<◌, ◌≤◌, ℕ, List, Bool, false, sym, subst, arith, get_or, length, set, ◌↔◌, IsTrue, ⊎_elim}
 use Rattle.std.proofs.lemmas.Bool.{cases_lt}
 use Rattle.std.proofs.lemmas.Grind.{get_or-set_at}
