@@ -1,16 +1,16 @@
 //! Whether a program has what a project has.
 
-ghost use Rattle.std.specs.Prelude.{◌≡◌, ◌↔◌, ◌&&◌, ◌+◌, ◌-◌, ◌/◌, ◌%◌, ◌<◌, ◌≤◌, All, IsTrue, Some, length, not, slice_get, true};
+ghost use Rattle.std.specs.Prelude.{◌≡◌, ◌↔◌, ◌+◌, ◌/◌, ◌%◌, ◌<◌, ◌≤◌, All, IsTrue, Some, length, not, slice_get, true};
 ghost use Rattle.std.specs.List.{list_all};
 ghost use Rattle.ladder_page.specs.declared.geometry.TheConstants.{COLUMNS, PLACES, ROWS};
-ghost use Rattle.ladder_grid.specs.Program.{feeds, joined};
+ghost use Rattle.ladder_grid.specs.Program.{feeds};
 ghost use Rattle.ladder_grid.specs.declared.cell.Operand.TheVariants as operands;
 ghost use Rattle.ladder_sheet.specs.Reach.{AreReached, IsPower};
 ghost use Rattle.ladder_sheet.specs.Sheets.{IsFed};
 ghost use Rattle.ladder_faithful.specs.Carried.{AreApart, AreCarried, AreInstances, AreUnseen, IsAlike, IsCarriedOver, IsBlockOf, IsCell, IsCoilOn, IsContactOn, IsFedAlike, IsInstance, IsJumpTo, IsLeftOut, IsNever, IsNoneOf, IsOperand, IsPlaceCarried, IsRungCarried, IsTarget, IsUnseen, IsVar, IsWritten, IsContactAt, IsDeclaredAt, opened_at};
 
 use ladder_clp::{Element, Expression, Placed, Project, Reading, writes_number};
-use ladder_grid::{Cell, Joint, Operand, Program};
+use ladder_grid::{Cell, Operand, Program};
 use ladder_page::geometry::{COLUMNS, PLACES, ROWS};
 use ladder_page::{CoilMode, Mode};
 use ladder_sheet::{
@@ -18,48 +18,6 @@ use ladder_sheet::{
     power_of, reads_late, source_of, stands, timed_as,
 };
 use ladder_vars::{Address, Decls, Instance, Var};
-
-fn both(a: bool, b: bool) -> bool
-    ensures { result ≡ (a && b) }
-{
-    a && b
-}
-
-/// Whether vertical links join so many rows below to this one, on the left of the column.
-fn joined(program: &Program, rung: usize, row: usize, column: usize, count: usize) -> bool
-    requires rungs { rung < program.now.rungs }
-    requires columns { (1 ≤ column) × (column < COLUMNS) }
-    requires rows { row + count < ROWS }
-    ensures { result ≡ joined program.now rung row column count }
-{
-    let mut all = true;
-    for i in 0..count {
-        all = both(all, program.vertical(rung, row + i, column));
-    }
-    all
-}
-
-/// Whether the right link of a row in the column before enters the group of this row's joint.
-fn feeds(program: &Program, rung: usize, row: usize, column: usize, from: usize) -> bool
-    requires rungs { rung < program.now.rungs }
-    requires columns { column < COLUMNS }
-    requires rows { (row < ROWS) × (from < ROWS) }
-    ensures { result ≡ feeds program.now rung row column from }
-{
-    if column == 0 || !program.right_link(rung, from, column - 1) {
-        return false;
-    }
-    match program.joint(rung, from, column) {
-        Joint::Dash | Joint::Plus => joined(
-            program,
-            rung,
-            row.min(from),
-            column,
-            row.max(from) - row.min(from),
-        ),
-        Joint::Blank | Joint::Bar => false,
-    }
-}
 
 fn is_at(place: Option<Address>, address: Address) -> bool
     ensures { result ≡ true → place ≡ Some address }
@@ -358,7 +316,7 @@ fn is_fed_alike(
     requires before { AreReached reading elements.now (column - 1) before.now }
     ensures { result ≡ true → IsTrue (feeds program.now rung row column from) ↔ IsFed reading elements.now row column from }
 {
-    feeds(program, rung, row, column, from) == fed(reading, elements, row, column, from, before)
+    program.feeds(rung, row, column, from) == fed(reading, elements, row, column, from, before)
 }
 
 /// Whether the cell is fed from the same rows.

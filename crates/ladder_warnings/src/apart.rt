@@ -5,7 +5,6 @@ ghost use Rattle.ladder_page.specs.declared.geometry.TheConstants.{COLUMNS, ROWS
 ghost use Rattle.ladder_warnings.specs.Below.{SomeBelow};
 ghost use Rattle.ladder_warnings.specs.Warned.{HasCellAt, HasCells, IsApart, IsJoinedAt};
 
-use crate::symbols::either;
 use ladder_grid::{Cell, Program};
 use ladder_page::geometry::{COLUMNS, ROWS};
 
@@ -33,11 +32,12 @@ fn has_cells(program: &Program, rung: usize, row: usize) -> bool
     requires rows { row < ROWS }
     ensures { IsTrue result ↔ HasCells program.now rung row }
 {
-    let mut found = false;
     for column in 0..COLUMNS {
-        found = either(found, has_cell_at(program, rung, row, column));
+        if has_cell_at(program, rung, row, column) {
+            return true;
+        }
     }
-    found
+    false
 }
 
 /// Whether something is drawn in one of the rows above.
@@ -46,11 +46,12 @@ fn has_cells_above(program: &Program, rung: usize, row: usize) -> bool
     requires rows { row < ROWS }
     ensures { IsTrue result ↔ SomeBelow row (HasCells program.now rung) }
 {
-    let mut found = false;
     for upper in 0..row {
-        found = either(found, has_cells(program, rung, upper));
+        if has_cells(program, rung, upper) {
+            return true;
+        }
     }
-    found
+    false
 }
 
 /// Whether a vertical link or a block joins the row with the one above it at a column.
@@ -80,11 +81,12 @@ fn is_joined_up(program: &Program, rung: usize, row: usize) -> bool
     requires lower { 1 ≤ row }
     ensures { IsTrue result ↔ SomeBelow COLUMNS (IsJoinedAt program.now rung row) }
 {
-    let mut found = false;
     for column in 0..COLUMNS {
-        found = either(found, is_joined_at(program, rung, row, column));
+        if is_joined_at(program, rung, row, column) {
+            return true;
+        }
     }
-    found
+    false
 }
 
 /// Whether the place is the first one of a row that nothing joins with those above.

@@ -5,7 +5,6 @@ ghost use Rattle.ladder_page.specs.declared.geometry.TheConstants.{COLUMNS, ROWS
 ghost use Rattle.ladder_warnings.specs.Routes.{HasRoute, LeadsNowhere, LeadsThrough};
 ghost use Rattle.ladder_warnings.specs.Leading.{AreLeading};
 
-use crate::symbols::either;
 use ladder_grid::{Cell, Program};
 use ladder_page::geometry::{COLUMNS, ROWS};
 
@@ -43,14 +42,12 @@ fn leads(program: &Program, rung: usize, from: usize, count: usize, onward: &[bo
     ensures { IsTrue result ↔ HasRoute program.now rung from (COLUMNS - (count + 1 + 1)) }
 {
     let column = COLUMNS - (count + 1);
-    let mut found = false;
     for row in 0..ROWS {
-        found = either(
-            found,
-            leads_through(program, rung, from, row, column, onward[row]),
-        );
+        if leads_through(program, rung, from, row, column, onward[row]) {
+            return true;
+        }
     }
-    found
+    false
 }
 
 /// From which rows the right end of a cell leads to one that uses power, with `count` columns behind the next one.

@@ -8,7 +8,7 @@ ghost use Rattle.ladder_warnings.specs.Warned.{Clashes, HasCell, HasCellBefore, 
 use crate::apart::is_apart;
 use crate::leading::leads_nowhere;
 use crate::reaching::is_never_reached;
-use crate::symbols::{clashes, draws, either, is_of_kind, operand_of, reads};
+use crate::symbols::{clashes, draws, is_of_kind, operand_of, reads};
 use crate::warning::Warning;
 use ladder_grid::{Cell, Joint, Program};
 use ladder_page::CoilMode;
@@ -42,11 +42,12 @@ fn is_read_before(program: &Program, symbol: Symbol, count: usize) -> bool
     requires { count ≤ PLACES * program.now.rungs }
     ensures { IsTrue result ↔ HasCellBefore program.now (Reads symbol) count }
 {
-    let mut found = false;
     for place in 0..count {
-        found = either(found, reads(symbol, cell_in(program, place)));
+        if reads(symbol, cell_in(program, place)) {
+            return true;
+        }
     }
-    found
+    false
 }
 
 /// Whether a coil at one of the first places writes the variable.
@@ -54,11 +55,12 @@ fn is_written_before(program: &Program, var: usize, count: usize) -> bool
     requires { count ≤ PLACES * program.now.rungs }
     ensures { IsTrue result ↔ HasCellBefore program.now (λ c. is_coil_of var c ≡ true) count }
 {
-    let mut found = false;
     for place in 0..count {
-        found = either(found, cell_in(program, place).is_coil_of(var));
+        if cell_in(program, place).is_coil_of(var) {
+            return true;
+        }
     }
-    found
+    false
 }
 
 /// Whether a coil at one of the first places is not meant beside one of this mode on the variable.
@@ -66,21 +68,23 @@ fn clashes_before(program: &Program, mode: CoilMode, var: usize, count: usize) -
     requires { count ≤ PLACES * program.now.rungs }
     ensures { IsTrue result ↔ HasCellBefore program.now (Clashes mode var) count }
 {
-    let mut found = false;
     for place in 0..count {
-        found = either(found, clashes(mode, var, cell_in(program, place)));
+        if clashes(mode, var, cell_in(program, place)) {
+            return true;
+        }
     }
-    found
+    false
 }
 
 fn is_drawn(program: &Program, inst: usize) -> bool
     ensures { IsTrue result ↔ HasCell program.now (λ c. block_in c ≡ Some inst) }
 {
-    let mut found = false;
     for place in 0..PLACES * program.rungs() {
-        found = either(found, draws(inst, cell_in(program, place)));
+        if draws(inst, cell_in(program, place)) {
+            return true;
+        }
     }
-    found
+    false
 }
 
 /// Whether a contact reads the variable or the instance.

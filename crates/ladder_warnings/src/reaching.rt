@@ -1,20 +1,13 @@
 //! Which rungs a scan can reach.
 
-ghost use Rattle.std.specs.Prelude.{◌≡◌, ◌↔◌, ◌<◌, ◌≤◌, ◌+◌, ◌&&◌, IsTrue};
+ghost use Rattle.std.specs.Prelude.{◌↔◌, ◌<◌, ◌≤◌, ◌+◌, IsTrue};
 ghost use Rattle.ladder_page.specs.declared.geometry.TheConstants.{RUNGS};
 ghost use Rattle.ladder_warnings.specs.Ways.{Follows, IsNeverReached, IsReached, JumpsTo};
 ghost use Rattle.ladder_warnings.specs.Reaching.{AreReached};
 
-use crate::symbols::either;
 use crate::wired::always_leaves;
 use ladder_grid::Program;
 use ladder_page::geometry::RUNGS;
-
-fn both(a: bool, b: bool) -> bool
-    ensures { result ≡ (a && b) }
-{
-    a && b
-}
 
 /// Whether the rung's jump or return goes to another one.
 fn jumps_to(program: &Program, from: usize, rung: usize) -> bool
@@ -43,11 +36,12 @@ fn comes_to(program: &Program, rung: usize, reached: &[bool; RUNGS]) -> bool
     requires reached { AreReached program.now rung reached.now }
     ensures { IsTrue result ↔ IsReached program.now rung }
 {
-    let mut found = false;
     for before in 0..rung {
-        found = either(found, both(reached[before], follows(program, before, rung)));
+        if reached[before] && follows(program, before, rung) {
+            return true;
+        }
     }
-    rung == 0 || found
+    rung == 0
 }
 
 /// Which of the first rungs a scan reaches.

@@ -4,7 +4,6 @@ ghost use Rattle.std.specs.Prelude.{◌≡◌, ◌≤◌, ◌↔◌, IsTrue, len
 ghost use Rattle.std.specs.Char.{is_ascii_digit};
 ghost use Rattle.ladder_warnings.specs.Similar.{AddsFirst, AreSimilar, DifferAt, ReplacesFirst};
 
-use crate::symbols::either;
 use ladder_times::same_letters;
 
 fn is_digit(byte: u8) -> bool
@@ -57,9 +56,13 @@ fn differ_at(a: &[u8], b: &[u8], place: usize) -> bool
 pub(crate) fn are_similar(a: &[u8], b: &[u8]) -> bool
     ensures { IsTrue result ↔ AreSimilar a.now b.now }
 {
-    let mut found = false;
-    for place in 0..a.len().min(b.len()) + 1 {
-        found = either(found, differ_at(a, b, place));
+    if a.len() < 4 && b.len() < 4 || same_letters(a, b) {
+        return false;
     }
-    (a.len() >= 4 || b.len() >= 4) && !same_letters(a, b) && found
+    for place in 0..a.len().min(b.len()) + 1 {
+        if differ_at(a, b, place) {
+            return true;
+        }
+    }
+    false
 }

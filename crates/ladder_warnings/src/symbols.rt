@@ -1,6 +1,6 @@
 //! What cells do with variables and instances.
 
-ghost use Rattle.std.specs.Prelude.{◌≡◌, ◌↔◌, ◌||◌, IsTrue, Some};
+ghost use Rattle.std.specs.Prelude.{◌≡◌, ◌↔◌, IsTrue, Some};
 ghost use Rattle.ladder_grid.specs.Program.{block_in};
 ghost use Rattle.ladder_warnings.specs.Warned.{Clashes, IsLatch, IsOfKind, Reads, operand_of};
 ghost use Rattle.ladder_warnings.specs.Warnings.{symbol_of};
@@ -8,12 +8,6 @@ ghost use Rattle.ladder_warnings.specs.Warnings.{symbol_of};
 use ladder_grid::{Cell, Operand};
 use ladder_page::CoilMode;
 use ladder_vars::{Decls, Symbol, VarKind};
-
-pub(crate) fn either(a: bool, b: bool) -> bool
-    ensures { result ≡ (a || b) }
-{
-    a || b
-}
 
 /// What a contact reads.
 pub(crate) fn operand_of(cell: Cell) -> Option<Symbol>

@@ -5,7 +5,6 @@ ghost use Rattle.ladder_page.specs.declared.geometry.TheConstants.{COLUMNS, ROWS
 ghost use Rattle.ladder_warnings.specs.Ways.{AlwaysLeaves, IsWired, IsWiredBy};
 ghost use Rattle.ladder_warnings.specs.Reaching.{AreWired};
 
-use crate::symbols::either;
 use ladder_grid::{Cell, Program};
 use ladder_page::geometry::ROWS;
 
@@ -38,14 +37,12 @@ fn is_wired(program: &Program, rung: usize, row: usize, column: usize, wired: &[
     requires wired { AreWired program.now rung column wired.now }
     ensures { IsTrue result ↔ IsWired program.now rung (column + 1) row }
 {
-    let mut found = false;
     for from in 0..ROWS {
-        found = either(
-            found,
-            is_wired_by(program, rung, row, from, column, wired[from]),
-        );
+        if is_wired_by(program, rung, row, from, column, wired[from]) {
+            return true;
+        }
     }
-    found
+    false
 }
 
 /// Which left ends of cells in the next column wires connect to the left rail; `wired`: which in this one.

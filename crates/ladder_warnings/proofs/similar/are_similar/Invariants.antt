@@ -1,7 +1,6 @@
-use Rattle.std.proofs.Common.{◌↔◌, IsTrue}
 use Rattle.ladder_warnings.specs.Similar.{DifferAt}
 use Rattle.ladder_warnings.specs.Below.{SomeBelow}
 use Rattle.ladder_warnings.proofs.similar.are_similar.Given as goal
 
 abbrev pub invariant-loop-place : goal.invariant-loop-place
-invariant-loop-place l = IsTrue l.found ↔ SomeBelow l.place (DifferAt l.a l.b)
+invariant-loop-place l = SomeBelow l.place (DifferAt l.a l.b) → ⊥

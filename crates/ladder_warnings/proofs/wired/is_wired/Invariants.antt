@@ -1,7 +1,6 @@
-use Rattle.std.proofs.Common.{◌↔◌, IsTrue}
 use Rattle.ladder_warnings.specs.Below.{SomeBelow}
 use Rattle.ladder_warnings.specs.Reaching.{WiresFrom}
 use Rattle.ladder_warnings.proofs.wired.is_wired.Given as goal
 
 abbrev pub invariant-loop-from : goal.invariant-loop-from
-invariant-loop-from l = IsTrue l.found ↔ SomeBelow l.from (WiresFrom l.program l.rung l.row l.column)
+invariant-loop-from l = SomeBelow l.from (WiresFrom l.program l.rung l.row l.column) → ⊥
