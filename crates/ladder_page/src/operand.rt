@@ -49,7 +49,11 @@ pub(crate) fn word_in(chars: &[u8]) -> &[u8]
 {
     let text = &chars[..chars.len() - spaces_after(chars)];
     let before = spaces_before(chars);
-    if before < text.len() { &text[before..] } else { &[] }
+    if before < text.len() {
+        &text[before..]
+    } else {
+        &[]
+    }
 }
 
 fn same_letters(a: &[u8], b: &[u8]) -> bool
