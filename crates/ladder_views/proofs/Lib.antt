@@ -1,3 +1,4 @@
+pub mod Abouts
 pub mod Endings
 pub mod Growing
 pub mod Names

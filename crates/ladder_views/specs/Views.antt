@@ -21,6 +21,7 @@ use Rattle.ladder_trace.specs.declared.fault.SimFault.{SimFault}
 use Rattle.ladder_trace.specs.declared.recording.Film.{Film}
 use Rattle.ladder_trace.specs.Simulation.{Films, SimulatesEvery, WatchesEvery, WavesEvery}
 use Rattle.ladder_records.specs.Text.{lines_text}
+use Rattle.ladder_warnings.specs.Told.{Told}
 use Rattle.ladder_warnings.specs.Warnings.{warning_rows}
 use Rattle.ladder_setting.specs.declared.fault.ToolFault.{ToolFault}
 use Rattle.ladder_setting.specs.declared.fault.ToolFault.TheVariants as fault
@@ -43,13 +44,17 @@ check_line p =
     ++ (decimal (length p.decls.instances) ++ codes "\n")))))
 
 -- The same, and a row for each warning where it is warned.
-abbrev pub check_text : Bool → Drawing → List ℕ
-check_text false p = check_line p
-check_text true p = check_line p ++ lines_text (warning_rows p)
+abbrev pub check_text : Told → Bool → Drawing → List ℕ
+check_text told false p = check_line p
+check_text told true p = check_line p ++ lines_text (warning_rows told p)
 
 -- The text about the program is written: whole, or as far as `Written` says.
 abbrev pub Prints : (Drawing → List ℕ) → Given → (List ℕ → Type 0) → Type 0
 Prints about g Written = (p : Drawing) × HasProgram g.aliases g.program p × Written (about p)
+
+-- The same of a check, with rows for what is told.
+abbrev pub Checks : Bool → Given → (List ℕ → Type 0) → Type 0
+Checks warns g Written = (told : Told) × Prints (check_text told warns) g Written
 
 -- ---- the drawing with its power flow
 

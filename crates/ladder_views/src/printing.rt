@@ -4,9 +4,10 @@ ghost use Rattle.std.specs.Prelude.{◌≡◌, ◌≤◌, ◌⊎◌};
 ghost use Rattle.ladder_setting.specs.Setting.{given_by};
 ghost use Rattle.ladder_text.specs.Log.{Puts, PutsAll, PutsPrefix, WriteLog};
 ghost use Rattle.ladder_setting.specs.Setting.{HasProgramFault};
-ghost use Rattle.ladder_views.specs.About.{about_text};
+ghost use Rattle.ladder_views.specs.About.{PrintsAbout, about_text};
 ghost use Rattle.ladder_setting.specs.Reports.{Refuses, IsReported, logs};
-ghost use Rattle.ladder_views.specs.Views.{Prints, check_line, check_text};
+ghost use Rattle.ladder_views.specs.Views.{check_line, check_text};
+ghost use Rattle.ladder_warnings.specs.Told.{Told};
 
 use ladder_grid::Program;
 use ladder_setting::{Texts, ToolFault, read_given_program, report};
@@ -41,7 +42,7 @@ fn put_counts<O: Sink>(program: &Program, out: &mut O) -> Result<(), WriteFault>
 }
 
 fn put_check<O: Sink>(warns: bool, program: &Program, out: &mut O) -> Result<(), WriteFault>
-    ensures { Puts (O.log out.old) (O.log out.new) result (check_text warns program.now) }
+    ensures { (told : Told) → Puts (O.log out.old) (O.log out.new) result (check_text told warns program.now) }
 {
     put_counts(program, out)?;
     if warns {
@@ -51,7 +52,7 @@ fn put_check<O: Sink>(warns: bool, program: &Program, out: &mut O) -> Result<(),
 }
 
 fn put_about<O: Sink>(about: About, program: &Program, out: &mut O) -> Result<(), WriteFault>
-    ensures { Puts (O.log out.old) (O.log out.new) result (about_text about program.now) }
+    ensures { (told : Told) → Puts (O.log out.old) (O.log out.new) result (about_text told about program.now) }
 {
     match about {
         About::Check { warns } => put_check(warns, program, out),
@@ -71,9 +72,9 @@ pub fn print<O: Sink, E: Sink>(
     err: &mut E,
 ) -> u8
     ensures status { result ≤ 1 }
-    ensures done { result ≡ 0 → Prints (about_text about) (given_by texts.now) (PutsAll (O.log out.old) (O.log out.new)) × (E.log err.new ≡ E.log err.old) }
+    ensures done { result ≡ 0 → PrintsAbout about (given_by texts.now) (PutsAll (O.log out.old) (O.log out.new)) × (E.log err.new ≡ E.log err.old) }
     ensures failed { (save : WriteLog) → result ≡ 1 → Refuses (given_by texts.now) (HasProgramFault (given_by texts.now)) (logs (O.log out.old) save (E.log err.old)) (logs (O.log out.new) save (E.log err.new))
-        ⊎ (Prints (about_text about) (given_by texts.now) (PutsPrefix (O.log out.old) (O.log out.new)) × IsReported (given_by texts.now) (E.log err.old) (E.log err.new) ToolFault.Write) }
+        ⊎ (PrintsAbout about (given_by texts.now) (PutsPrefix (O.log out.old) (O.log out.new)) × IsReported (given_by texts.now) (E.log err.old) (E.log err.new) ToolFault.Write) }
 {
     let program = match read_given_program(alloc, texts) {
         Ok(program) => program,

@@ -22,6 +22,7 @@ use Rattle.ladder_warnings.specs.Warned.{coil_in, Clashes, HasCellAt, HasCellBef
 use Rattle.ladder_warnings.specs.Routes.{HasRoute, IsRoute, LeadsNowhere, LeadsThrough}
 use Rattle.ladder_warnings.specs.Ways.{Follows, IsNeverReached, IsReached, IsWay, IsWired, IsWiredBy}
 use Rattle.ladder_warnings.specs.Below.{SomeBelow}
+use Rattle.ladder_warnings.specs.Told.{Told}
 use Rattle.ladder_warnings.specs.Deciding.{alike, both, either, five, four, is_below, is_equal, is_off, is_on, is_some_and, neither, some_below, three}
 
 -- ---- crossings and rows
@@ -218,3 +219,8 @@ unfolding AreSimilar
 similar_or_not a b =
     three (either (is_below 3 (length a)) (is_below 3 (length b))) (is_off _)
     (some_below (DifferAt a b) (min (length a) (length b) + 1) (λ n l. differ_at a b n))
+
+-- ---- both
+
+pub decided : Told
+decided = record { warned = warned_or_not; similar = similar_or_not }

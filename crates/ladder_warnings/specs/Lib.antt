@@ -5,6 +5,7 @@ pub mod Leading
 pub mod Reaching
 pub mod Routes
 pub mod Similar
+pub mod Told
 pub mod Warned
 pub mod Warnings
 pub mod Ways

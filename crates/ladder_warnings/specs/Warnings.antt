@@ -1,6 +1,6 @@
 -- The rows of all warnings.
 -- Rungs, rows and columns are counted from 0. Places go by rung, column and row.
-use Rattle.std.specs.Prelude.{◌∷◌, ◌++◌, ◌+◌, ℕ, List, [], Option, Some, codes, decimal, length, slice_get, slice_index_or}
+use Rattle.std.specs.Prelude.{◌∷◌, ◌++◌, ◌+◌, ℕ, List, [], Option, Some, codes, decimal, length, slice_index_or}
 use Rattle.std.specs.List.{flat_map, range_with_len}
 use Rattle.std.specs.Option.{option_map_or}
 use Rattle.ladder_vars.specs.Decls.{Declared, names_of, symbol_name}
@@ -14,11 +14,11 @@ use Rattle.ladder_records.specs.Left.{Fields}
 use Rattle.ladder_warnings.specs.declared.warning.Warning.{Warning}
 use Rattle.ladder_warnings.specs.declared.warning.Warning.TheVariants.{LooseCrossing, Apart, LeadsNowhere, WrittenTwice, NeverWritten, NeverRead, NeverReached}
 use Rattle.ladder_warnings.specs.Warned.{operand_of}
-use Rattle.ladder_warnings.specs.Decided.{similar_or_not, warned_or_not}
+use Rattle.ladder_warnings.specs.Told.{Told}
 
 -- ---- rows of the text
 
--- The row where something holds, and none where it does not. Whether it does is told with a proof of it, or that there is none.
+-- the row where something holds, and none where it does not
 abbrev pub row_if : {Holds : Type 0} → Dec Holds → Fields → List Fields
 row_if (yes holds) row = row ∷ []
 row_if (no fails) row = []
@@ -53,19 +53,19 @@ abbrev pub warning_row : Drawing → ℕ → Warning → Fields
 warning_row d n w =
     at_place (λ rung row column. codes "warning" ∷ warning_word w ∷ decimal (rung + 1) ∷ decimal (row + 1) ∷ decimal (column + 1) ∷ warned_name d n w ∷ []) n
 
-abbrev pub row_if_warned : Drawing → ℕ → Warning → List Fields
-row_if_warned d n w = row_if (warned_or_not d n w) (warning_row d n w)
+abbrev pub row_if_warned : Told → Drawing → ℕ → Warning → List Fields
+row_if_warned told d n w = row_if (told.warned d n w) (warning_row d n w)
 
 -- all warnings, in the order in which they are reported at one place
 abbrev pub all_warnings : List Warning
 all_warnings = LooseCrossing ∷ Apart ∷ LeadsNowhere ∷ WrittenTwice ∷ NeverWritten ∷ NeverRead ∷ NeverReached ∷ []
 
-unfoldable pub rows_at : Drawing → ℕ → List Fields
-rows_at d n = flat_map (row_if_warned d n) all_warnings
+unfoldable pub rows_at : Told → Drawing → ℕ → List Fields
+rows_at told d n = flat_map (row_if_warned told d n) all_warnings
 
 -- A row for each warning of each place, in the order of places.
-unfoldable pub place_rows : Drawing → List Fields
-place_rows d = flat_map (rows_at d) (range_with_len 0 (length d.sites))
+unfoldable pub place_rows : Told → Drawing → List Fields
+place_rows told d = flat_map (rows_at told d) (range_with_len 0 (length d.sites))
 
 -- ---- names that are similar
 
@@ -77,21 +77,21 @@ name_at_number declared n = slice_index_or (names_of declared) n []
 abbrev pub similar_row : List ℕ → List ℕ → Fields
 similar_row name earlier = codes "warning" ∷ codes "similar_names" ∷ [] ∷ [] ∷ [] ∷ (name ++ (codes " " ++ earlier)) ∷ []
 
-abbrev pub row_if_similar : List ℕ → List ℕ → List Fields
-row_if_similar name earlier = row_if (similar_or_not name earlier) (similar_row name earlier)
+abbrev pub row_if_similar : Told → List ℕ → List ℕ → List Fields
+row_if_similar told name earlier = row_if (told.similar name earlier) (similar_row name earlier)
 
 -- the row of two names by their numbers, where they are similar
-abbrev pub row_of_names : Declared → ℕ → ℕ → List Fields
-row_of_names declared n earlier = row_if_similar (name_at_number declared n) (name_at_number declared earlier)
+abbrev pub row_of_names : Told → Declared → ℕ → ℕ → List Fields
+row_of_names told declared n earlier = row_if_similar told (name_at_number declared n) (name_at_number declared earlier)
 
 -- the rows of a name with those before it
-unfoldable pub rows_of_name : Declared → ℕ → List Fields
-rows_of_name declared n = flat_map (row_of_names declared n) (range_with_len 0 n)
+unfoldable pub rows_of_name : Told → Declared → ℕ → List Fields
+rows_of_name told declared n = flat_map (row_of_names told declared n) (range_with_len 0 n)
 
 -- A row for each two names that are similar.
-unfoldable pub name_rows : Declared → List Fields
-name_rows declared = flat_map (rows_of_name declared) (range_with_len 0 (length (names_of declared)))
+unfoldable pub name_rows : Told → Declared → List Fields
+name_rows told declared = flat_map (rows_of_name told declared) (range_with_len 0 (length (names_of declared)))
 
 -- All rows: those of names, and then those of places.
-unfoldable pub warning_rows : Drawing → List Fields
-warning_rows d = name_rows d.decls ++ place_rows d
+unfoldable pub warning_rows : Told → Drawing → List Fields
+warning_rows told d = name_rows told d.decls ++ place_rows told d

@@ -4,6 +4,7 @@ ghost use Rattle.std.specs.Prelude.{◌≡◌, ◌<◌, ◌≤◌, ◌*◌, ◌�
 ghost use Rattle.ladder_vars.specs.Decls.{names_of};
 ghost use Rattle.ladder_records.specs.Text.{lines_text};
 ghost use Rattle.ladder_text.specs.Block.{Sends};
+ghost use Rattle.ladder_warnings.specs.Decided.{decided};
 ghost use Rattle.ladder_warnings.specs.Warnings.{name_at_number, name_rows, row_of_names, rows_of_name, similar_row};
 
 use crate::similar::are_similar;
@@ -58,8 +59,8 @@ fn add_if_similar<W: Sink>(
     writer: &mut W,
 ) -> Result<u64, WriteFault>
     requires numbers { (number < length (names_of decls.now)) × (earlier < length (names_of decls.now)) }
-    ensures sends { Sends (W.log writer.old) (W.log writer.new) block.old block.new result (lines_text (row_of_names decls.now number earlier)) }
-    ensures count { IfOk result (λ n. n ≡ length (row_of_names decls.now number earlier)) }
+    ensures sends { Sends (W.log writer.old) (W.log writer.new) block.old block.new result (lines_text (row_of_names decided decls.now number earlier)) }
+    ensures count { IfOk result (λ n. n ≡ length (row_of_names decided decls.now number earlier)) }
     ensures few { IfOk result (λ n. n ≤ 1) }
 {
     let (name, other) = (name_at(decls, number), name_at(decls, earlier));
@@ -79,8 +80,8 @@ fn add_name<W: Sink>(
 ) -> Result<u64, WriteFault>
     requires numbers { number < length (names_of decls.now) }
     requires few { number < 320 }
-    ensures sends { Sends (W.log writer.old) (W.log writer.new) block.old block.new result (lines_text (rows_of_name decls.now number)) }
-    ensures count { IfOk result (λ n. n ≡ length (rows_of_name decls.now number)) }
+    ensures sends { Sends (W.log writer.old) (W.log writer.new) block.old block.new result (lines_text (rows_of_name decided decls.now number)) }
+    ensures count { IfOk result (λ n. n ≡ length (rows_of_name decided decls.now number)) }
     ensures few { IfOk result (λ n. n ≤ 320) }
 {
     let mut rows = 0u64;
@@ -97,8 +98,8 @@ pub(crate) fn add_names<W: Sink>(
     decls: &Decls,
     writer: &mut W,
 ) -> Result<u64, WriteFault>
-    ensures sends { Sends (W.log writer.old) (W.log writer.new) block.old block.new result (lines_text (name_rows decls.now)) }
-    ensures count { IfOk result (λ n. n ≡ length (name_rows decls.now)) }
+    ensures sends { Sends (W.log writer.old) (W.log writer.new) block.old block.new result (lines_text (name_rows decided decls.now)) }
+    ensures count { IfOk result (λ n. n ≡ length (name_rows decided decls.now)) }
     ensures few { IfOk result (λ n. n ≤ 320 * 320) }
 {
     let mut rows = 0u64;

@@ -5,6 +5,8 @@ ghost use Rattle.ladder_page.specs.declared.geometry.TheConstants.{PLACES, RUNGS
 ghost use Rattle.ladder_records.specs.Text.{line_text, lines_text};
 ghost use Rattle.ladder_text.specs.Block.{Sends};
 ghost use Rattle.ladder_text.specs.Log.{Puts};
+ghost use Rattle.ladder_warnings.specs.Decided.{decided};
+ghost use Rattle.ladder_warnings.specs.Told.{Told};
 ghost use Rattle.ladder_warnings.specs.Warnings.{place_rows, row_if_warned, rows_at, warned_name, warning_row, warning_rows};
 
 use crate::names::add_names;
@@ -79,8 +81,8 @@ fn add_if_warned<W: Sink>(
     writer: &mut W,
 ) -> Result<u64, WriteFault>
     requires { place < PLACES * program.now.rungs }
-    ensures sends { Sends (W.log writer.old) (W.log writer.new) block.old block.new result (lines_text (row_if_warned program.now place warning)) }
-    ensures count { IfOk result (λ n. n ≡ length (row_if_warned program.now place warning)) }
+    ensures sends { Sends (W.log writer.old) (W.log writer.new) block.old block.new result (lines_text (row_if_warned decided program.now place warning)) }
+    ensures count { IfOk result (λ n. n ≡ length (row_if_warned decided program.now place warning)) }
     ensures few { IfOk result (λ n. n ≤ 1) }
 {
     if !is_warned(program, place, warning) {
@@ -98,8 +100,8 @@ fn add_place<W: Sink>(
     writer: &mut W,
 ) -> Result<u64, WriteFault>
     requires { place < PLACES * program.now.rungs }
-    ensures sends { Sends (W.log writer.old) (W.log writer.new) block.old block.new result (lines_text (rows_at program.now place)) }
-    ensures count { IfOk result (λ n. n ≡ length (rows_at program.now place)) }
+    ensures sends { Sends (W.log writer.old) (W.log writer.new) block.old block.new result (lines_text (rows_at decided program.now place)) }
+    ensures count { IfOk result (λ n. n ≡ length (rows_at decided program.now place)) }
     ensures few { IfOk result (λ n. n ≤ 7) }
 {
     let mut rows = 0u64;
@@ -116,8 +118,8 @@ fn add_places<W: Sink>(
     program: &Program,
     writer: &mut W,
 ) -> Result<u64, WriteFault>
-    ensures sends { Sends (W.log writer.old) (W.log writer.new) block.old block.new result (lines_text (place_rows program.now)) }
-    ensures count { IfOk result (λ n. n ≡ length (place_rows program.now)) }
+    ensures sends { Sends (W.log writer.old) (W.log writer.new) block.old block.new result (lines_text (place_rows decided program.now)) }
+    ensures count { IfOk result (λ n. n ≡ length (place_rows decided program.now)) }
     ensures few { IfOk result (λ n. n ≤ 7 * (PLACES * RUNGS)) }
 {
     let mut rows = 0u64;
@@ -135,8 +137,8 @@ fn add_places<W: Sink>(
 ///
 /// X6: the writer failed. What was written is a prefix of the text.
 pub fn write_warnings<W: Sink>(program: &Program, writer: &mut W) -> Result<u64, WriteFault>
-    ensures wrote { Puts (W.log writer.old) (W.log writer.new) result (lines_text (warning_rows program.now)) }
-    ensures rows { IfOk result (λ n. n ≡ length (warning_rows program.now)) }
+    ensures wrote { (told : Told) → Puts (W.log writer.old) (W.log writer.new) result (lines_text (warning_rows told program.now)) }
+    ensures rows { IfOk result (λ n. (told : Told) → n ≡ length (warning_rows told program.now)) }
 {
     let mut block = Block::new();
     let names = add_names(&mut block, program.decls(), writer)?;

@@ -1,12 +1,13 @@
 use Rattle.std.specs.Prelude.{◌≡◌, ◌≤◌, length}
 use Rattle.ladder_records.specs.Text.{lines_text}
 use Rattle.ladder_text.specs.Block.{SendsAll}
+use Rattle.ladder_warnings.specs.Decided.{decided}
 use Rattle.ladder_warnings.specs.Warnings.{row_of_names}
 use Rattle.ladder_warnings.proofs.Rows.{rows_to}
 use Rattle.ladder_warnings.proofs.names.add_name.Given as goal
 
 abbrev pub invariant-loop-earlier : goal.invariant-loop-earlier
 invariant-loop-earlier g l =
-    SendsAll (g.W.Sink.log l.fn.writer) (g.W.Sink.log l.writer) l.fn.block l.block (lines_text (rows_to (row_of_names l.decls l.number) l.earlier))
-    × (l.rows ≡ length (rows_to (row_of_names l.decls l.number) l.earlier))
+    SendsAll (g.W.Sink.log l.fn.writer) (g.W.Sink.log l.writer) l.fn.block l.block (lines_text (rows_to (row_of_names decided l.decls l.number) l.earlier))
+    × (l.rows ≡ length (rows_to (row_of_names decided l.decls l.number) l.earlier))
     × (l.rows ≤ l.earlier)

@@ -1,12 +1,13 @@
 use Rattle.std.specs.Prelude.{◌≡◌, ◌≤◌, ◌*◌, length}
 use Rattle.ladder_records.specs.Text.{lines_text}
 use Rattle.ladder_text.specs.Block.{SendsAll}
+use Rattle.ladder_warnings.specs.Decided.{decided}
 use Rattle.ladder_warnings.specs.Warnings.{rows_of_name}
 use Rattle.ladder_warnings.proofs.Rows.{rows_to}
 use Rattle.ladder_warnings.proofs.names.add_names.Given as goal
 
 abbrev pub invariant-loop-number : goal.invariant-loop-number
 invariant-loop-number g l =
-    SendsAll (g.W.Sink.log l.fn.writer) (g.W.Sink.log l.writer) l.fn.block l.block (lines_text (rows_to (rows_of_name l.decls) l.number))
-    × (l.rows ≡ length (rows_to (rows_of_name l.decls) l.number))
+    SendsAll (g.W.Sink.log l.fn.writer) (g.W.Sink.log l.writer) l.fn.block l.block (lines_text (rows_to (rows_of_name decided l.decls) l.number))
+    × (l.rows ≡ length (rows_to (rows_of_name decided l.decls) l.number))
     × (l.rows ≤ 320 * l.number)

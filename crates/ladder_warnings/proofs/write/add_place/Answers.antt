@@ -6,6 +6,7 @@ use Rattle.ladder_text.specs.Block.{SendsAll}
 use Rattle.ladder_text.proofs.Sending.{sends_err}
 use Rattle.ladder_warnings.specs.declared.warning.Warning.{Warning}
 use Rattle.ladder_warnings.specs.declared.warning.Warning.TheVariants.{LooseCrossing}
+use Rattle.ladder_warnings.specs.Decided.{decided}
 use Rattle.ladder_warnings.specs.Warnings.{all_warnings, row_if_warned, rows_at}
 use Rattle.ladder_warnings.proofs.Rows.{rows_apart, rows_more, rows_prefix, rows_sent}
 use Rattle.ladder_warnings.proofs.write.add_place.Goals as goal
@@ -13,7 +14,7 @@ use Rattle.ladder_warnings.proofs.write.add_place.Goals as goal
 pub returns-in_err-more-clause-sends : goal.returns-in_err-more-clause-sends
 unfolding rows_at
 returns-in_err-more-clause-sends g c = sends_err _ _ _ _ _ _ c.from_residual.ensures.0
-    (let rows = row_if_warned c.args.program.now c.args.place in
+    (let rows = row_if_warned decided c.args.program.now c.args.place in
     let i = c.loop-warning.warning-index in
     let h : i < length all_warnings = rw c.as_slice-warning-items.ensures at c.loop-warning-test.true in
     let here : Warning = get_or all_warnings i LooseCrossing in
@@ -24,7 +25,7 @@ returns-in_err-more-clause-sends g c = sends_err _ _ _ _ _ _ c.from_residual.ens
 pub loop-warning-preserved : goal.loop-warning-preserved
 loop-warning-preserved g c =
     let inv = c.loop-warning.invariant in
-    let rows = row_if_warned c.args.program.now c.args.place in
+    let rows = row_if_warned decided c.args.program.now c.args.place in
     let i = c.loop-warning.warning-index in
     let here : Warning = get_or all_warnings i LooseCrossing in
     let h : i < length all_warnings = rw c.as_slice-warning-items.ensures at c.loop-warning-test.true in
@@ -40,7 +41,7 @@ unfolding rows_at
 returns-clause-sends g c =
     let i = c.loop-warning.warning-index in
     let all = take_all i all_warnings (rw c.as_slice-warning-items.ensures at c.loop-warning-test.false) in
-    subst (λ some. SendsAll (g.W.Sink.log c.args.writer.now) (g.W.Sink.log c.loop-warning.writer) c.args.block.now c.loop-warning.block (lines_text (flat_map (row_if_warned c.args.program.now c.args.place) some)))
+    subst (λ some. SendsAll (g.W.Sink.log c.args.writer.now) (g.W.Sink.log c.loop-warning.writer) c.args.block.now c.loop-warning.block (lines_text (flat_map (row_if_warned decided c.args.program.now c.args.place) some)))
     all c.loop-warning.invariant.0
 
 pub returns-clause-count : goal.returns-clause-count
@@ -48,4 +49,4 @@ unfolding rows_at
 returns-clause-count g c =
     let i = c.loop-warning.warning-index in
     let all = take_all i all_warnings (rw c.as_slice-warning-items.ensures at c.loop-warning-test.false) in
-    omega (arith, c.loop-warning.invariant.1, ap (λ some. length (flat_map (row_if_warned c.args.program.now c.args.place) some)) all)
+    omega (arith, c.loop-warning.invariant.1, ap (λ some. length (flat_map (row_if_warned decided c.args.program.now c.args.place) some)) all)

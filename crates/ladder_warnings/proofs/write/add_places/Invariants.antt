@@ -1,12 +1,13 @@
 use Rattle.std.specs.Prelude.{◌≡◌, ◌≤◌, ◌*◌, length}
 use Rattle.ladder_records.specs.Text.{lines_text}
 use Rattle.ladder_text.specs.Block.{SendsAll}
+use Rattle.ladder_warnings.specs.Decided.{decided}
 use Rattle.ladder_warnings.specs.Warnings.{rows_at}
 use Rattle.ladder_warnings.proofs.Rows.{rows_to}
 use Rattle.ladder_warnings.proofs.write.add_places.Given as goal
 
 abbrev pub invariant-loop-place : goal.invariant-loop-place
 invariant-loop-place g l =
-    SendsAll (g.W.Sink.log l.fn.writer) (g.W.Sink.log l.writer) l.fn.block l.block (lines_text (rows_to (rows_at l.program) l.place))
-    × (l.rows ≡ length (rows_to (rows_at l.program) l.place))
+    SendsAll (g.W.Sink.log l.fn.writer) (g.W.Sink.log l.writer) l.fn.block l.block (lines_text (rows_to (rows_at decided l.program) l.place))
+    × (l.rows ≡ length (rows_to (rows_at decided l.program) l.place))
     × (l.rows ≤ 7 * l.place)
