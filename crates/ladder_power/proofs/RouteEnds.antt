@@ -8,7 +8,7 @@ use Rattle.std.proofs.lemmas.List.{get_or-set_other}
 use Rattle.std.proofs.lemmas.Grind.{get_or-set_at}
 use Rattle.std.proofs.lemmas.List.Folds.{list_any-append}
 use Rattle.ladder_page.specs.declared.geometry.TheConstants.{ROWS, PLACES}
-use Rattle.ladder_grid.specs.Program.{Drawing, feeds, is_block, joined, site_at}
+use Rattle.ladder_grid.specs.Program.{Drawing, feeds, is_block, site_at}
 use Rattle.ladder_grid.specs.declared.cell.Cell.{Cell}
 use Rattle.ladder_scan.specs.declared.seen.Mark.{Mark}
 use Rattle.ladder_scan.specs.Cells.{place_at}

@@ -29,29 +29,23 @@ joint_char m b =
     if b == dash then wire_char m.evaluated m.left
     else (if not m.left then b else (if b == plus then 35 else (if b == bar then 33 else b)))
 
--- A character at a joint's place of a name line: a vertical link with power is `!`.
-abbrev pub link_char : Mark → ℕ → ℕ
-link_char m b = if m.left && b == bar then 33 else b
-
 -- A character of a cell; front: only dashes come before it. Dashes in front have the power of the left link, those behind the symbol
 -- what the cell lets through. The symbol of what is on has brackets: `[` (91) and `]` (93) for bars, and `{` (123) and `}` (125) for
 -- `(` (40) and `)` (41).
-abbrev pub symbol_char : Bool → ℕ → ℕ
-symbol_char front b =
-    if b == bar then (if front then 91 else 93) else (if b == 40 then 123 else (if b == 41 then 125 else b))
-
 abbrev pub cell_char : Mark → Bool → ℕ → ℕ
 cell_char m front b =
-    if b == dash then wire_char m.evaluated (if front then m.left else m.right) else (if m.on then symbol_char front b else b)
+    if b == dash then wire_char m.evaluated (if front then m.left else m.right)
+    else (if not m.on then b
+    else (if b == bar then (if front then 91 else 93) else (if b == 40 then 123 else (if b == 41 then 125 else b))))
 
 -- The character at a place of a line of a rung. Line 2 * r has the names of row r and the vertical links from the row above, line
--- 2 * r + 1 its joints and cells. The rails are left as they are, and what comes after them.
+-- 2 * r + 1 its joints and cells. A vertical link with power is `!` in both. The rails are left as they are, and what comes after them.
 abbrev pub shown_at : List Mark → ℕ → ℕ → List ℕ → ℕ → ℕ
 shown_at marks rung line text at =
     let b = slice_index_or text at space in
     let m = mark_in marks rung (line / 2) (at / PITCH) in
     if at == 0 || nat_le RAIL at then b
-    else (if line % 2 == 0 then (if at % PITCH == 0 then link_char m b else b)
+    else (if line % 2 == 0 then (if at % PITCH == 0 && (m.left && b == bar) then 33 else b)
     else (if at % PITCH == 0 then joint_char m b
     else cell_char m (list_all (λ c. c == dash) (slice_range text (PITCH * (at / PITCH) + 1) at)) b))
 

@@ -1,11 +1,8 @@
 -- Why a coil has no power: where power ends on each route to it. Rungs, rows, columns and places are counted from 0, and written from 1.
-use Rattle.std.specs.Prelude.{ℕ, ◌+◌, ◌%◌, ◌/◌, ◌==◌, Bool, true, false, if◌then◌else◌, List, [], ◌++◌, codes, decimal, slice_get, Option, Some, None, zero, suc}
+use Rattle.std.specs.Prelude.{ℕ, ◌+◌, ◌%◌, ◌/◌, ◌==◌, Bool, true, false, if◌then◌else◌, List, [], ◌++◌, codes, decimal, Option, Some, None, zero, suc}
 use Rattle.std.specs.List.{list_any}
 use Rattle.std.specs.Option.{option_or}
 use Rattle.ladder_vars.specs.Decls.{Declared, instance_name, output_suffix, var_name}
-use Rattle.ladder_vars.specs.Kind.{traits_of}
-use Rattle.ladder_vars.specs.declared.kind.Output.{Output}
-use Rattle.ladder_vars.specs.declared.kind.Output.TheVariants as output
 use Rattle.ladder_page.specs.declared.geometry.TheConstants.{ROWS, PLACES}
 use Rattle.ladder_page.specs.declared.mode.Mode.TheVariants.{Plain, Negated, Rising, Falling}
 use Rattle.ladder_grid.specs.declared.cell.Operand.TheVariants as operand

@@ -2,10 +2,7 @@
 
 ghost use Rattle.std.specs.Prelude.{◌≡◌, ◌<◌, ◌≤◌, ◌-◌, ◌+◌, ◌%◌, ◌/◌, ◌&&◌, ◌*◌, false};
 ghost use Rattle.ladder_page.specs.declared.geometry.TheConstants.{COLUMNS, PLACES, ROWS, RUNGS};
-ghost use Rattle.ladder_grid.specs.Program.{is_block};
 ghost use Rattle.ladder_power.specs.Ends.{AreAnswers, any_past, any_to, is_ended, is_live, of_rung};
-ghost use Rattle.ladder_power.specs.Show.{mark_in};
-ghost use Rattle.ladder_power.specs.Why.{ends_at, is_closed};
 
 use crate::show::mark_in;
 use ladder_grid::{Cell, Program};
@@ -20,32 +17,6 @@ pub(crate) struct Rung<'a> {
     pub number: usize,
 }
 
-fn is_block(cell: Cell) -> bool
-    ensures { result ≡ is_block cell }
-{
-    match cell {
-        Cell::Block { .. } => true,
-        Cell::Empty
-        | Cell::Wire
-        | Cell::Contact { .. }
-        | Cell::Coil { .. }
-        | Cell::Lower { .. }
-        | Cell::Jump { .. }
-        | Cell::Return => false,
-    }
-}
-
-fn is_closed(mark: Mark, cell: Cell) -> bool
-    ensures { result ≡ is_closed mark cell }
-{
-    match cell {
-        Cell::Wire | Cell::Coil { .. } => true,
-        Cell::Contact { .. } => mark.on,
-        Cell::Empty | Cell::Block { .. } | Cell::Lower { .. } | Cell::Jump { .. } | Cell::Return =>
-            false,
-    }
-}
-
 /// Whether power comes past a cell.
 fn passes(rung: Rung<'_>, row: usize, column: usize, live: bool) -> bool
     requires number { rung.number < rung.program.now.rungs }
@@ -56,11 +27,11 @@ fn passes(rung: Rung<'_>, row: usize, column: usize, live: bool) -> bool
     ensures { result ≡ any_past (of_rung is_live rung.entry) rung.entry.program.now rung.entry.number row column }
 {
     let mark = mark_in(rung.marks, rung.number, row, column);
-    let cell = rung.program.cell(rung.number, row, column);
-    if is_block(cell) {
-        mark.right
-    } else {
-        live & is_closed(mark, cell)
+    match rung.program.cell(rung.number, row, column) {
+        Cell::Block { .. } => mark.right,
+        Cell::Wire | Cell::Coil { .. } => live,
+        Cell::Contact { .. } => live & mark.on,
+        Cell::Empty | Cell::Lower { .. } | Cell::Jump { .. } | Cell::Return => false,
     }
 }
 
@@ -75,12 +46,13 @@ fn ends(rung: Rung<'_>, row: usize, column: usize, live: bool, ended: bool, end:
     ensures { result ≡ any_past (of_rung (is_ended end) rung.entry) rung.entry.program.now rung.entry.number row column }
 {
     let mark = mark_in(rung.marks, rung.number, row, column);
-    let cell = rung.program.cell(rung.number, row, column);
     let here = ROWS * column + row == end;
-    if is_block(cell) {
-        !mark.right & here
-    } else {
-        ended | (live & !is_closed(mark, cell) & here)
+    match rung.program.cell(rung.number, row, column) {
+        Cell::Block { .. } => !mark.right & here,
+        Cell::Wire | Cell::Coil { .. } => ended,
+        Cell::Contact { .. } => ended | (live & !mark.on & here),
+        Cell::Empty | Cell::Lower { .. } | Cell::Jump { .. } | Cell::Return => ended
+            | (live & here),
     }
 }
 
@@ -141,7 +113,7 @@ pub(crate) fn live_places(rung: Rung<'_>) -> [bool; PLACES]
 }
 
 /// Whether power ends at the place `end` on a route to each place.
-fn ended_places(rung: Rung<'_>, live: &[bool], end: usize) -> [bool; PLACES]
+pub(crate) fn ended_places(rung: Rung<'_>, live: &[bool], end: usize) -> [bool; PLACES]
     requires number { rung.number < rung.program.now.rungs }
     requires live { AreAnswers (of_rung is_live rung) rung.program.now rung.number PLACES live.now }
     ensures { AreAnswers (of_rung (is_ended end) rung.entry) rung.entry.program.now rung.entry.number PLACES result }
@@ -151,14 +123,4 @@ fn ended_places(rung: Rung<'_>, live: &[bool], end: usize) -> [bool; PLACES]
         ended[at] = is_ended(rung, at, live, &ended, end);
     }
     ended
-}
-
-/// Whether power ends at the place `end` on a route to the place `at`.
-pub(crate) fn ends_at(rung: Rung<'_>, live: &[bool], at: usize, end: usize) -> bool
-    requires number { rung.number < rung.program.now.rungs }
-    requires at { at < PLACES }
-    requires live { AreAnswers (of_rung is_live rung) rung.program.now rung.number PLACES live.now }
-    ensures { result ≡ ends_at rung.entry.program.now rung.entry.marks.now rung.entry.number (at % ROWS) (at / ROWS) end }
-{
-    ended_places(rung, live, end)[at]
 }

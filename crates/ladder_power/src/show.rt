@@ -5,7 +5,9 @@ ghost use Rattle.std.specs.List.{list_all};
 ghost use Rattle.ladder_page.specs.declared.geometry.TheConstants.{RUNGS};
 ghost use Rattle.ladder_page.specs.Bytes.{dash};
 ghost use Rattle.ladder_text.specs.Block.{Sends};
-ghost use Rattle.ladder_power.specs.Show.{cell_char, joint_char, link_char, mark_in, shown_at, shown_line, symbol_char, wire_char};
+ghost use Rattle.ladder_scan.specs.Cells.{place_at};
+ghost use Rattle.ladder_scan.specs.Seen.{mark_at};
+ghost use Rattle.ladder_power.specs.Show.{cell_char, joint_char, shown_at, shown_line, wire_char};
 
 use ladder_page::geometry::{PITCH, PLACES, RAIL, ROWS};
 use ladder_scan::Mark;
@@ -16,7 +18,7 @@ pub fn mark_in(marks: &[Mark], rung: usize, row: usize, column: usize) -> Mark
     requires rung { rung < RUNGS }
     requires row { row < 2 ^ 59 }
     requires column { column < 2 ^ 32 }
-    ensures { result ≡ mark_in marks.now rung row column }
+    ensures { result ≡ mark_at marks.now rung (place_at row column) }
 {
     match marks.get(PLACES * rung + (ROWS * column + row)) {
         Some(mark) => *mark,
@@ -55,32 +57,20 @@ fn joint_char(mark: Mark, b: u8) -> u8
     }
 }
 
-fn link_char(mark: Mark, b: u8) -> u8
-    ensures { result ≡ link_char mark b }
+fn cell_char(mark: Mark, front: bool, b: u8) -> u8
+    ensures { result ≡ cell_char mark front b }
 {
-    if mark.left && b == b'|' { b'!' } else { b }
-}
-
-fn symbol_char(front: bool, b: u8) -> u8
-    ensures { result ≡ symbol_char front b }
-{
+    if b == b'-' {
+        return wire_char(mark.evaluated, if front { mark.left } else { mark.right });
+    }
+    if !mark.on {
+        return b;
+    }
     match b {
         b'|' => { if front { b'[' } else { b']' } }
         b'(' => b'{',
         b')' => b'}',
         _ => b,
-    }
-}
-
-fn cell_char(mark: Mark, front: bool, b: u8) -> u8
-    ensures { result ≡ cell_char mark front b }
-{
-    if b == b'-' {
-        wire_char(mark.evaluated, if front { mark.left } else { mark.right })
-    } else if mark.on {
-        symbol_char(front, b)
-    } else {
-        b
     }
 }
 
@@ -104,8 +94,8 @@ fn shown_at(marks: &[Mark], rung: usize, line: usize, text: &[u8], at: usize) ->
     }
     let mark = mark_in(marks, rung, line / 2, at / PITCH);
     if line % 2 == 0 {
-        return if at % PITCH == 0 {
-            link_char(mark, b)
+        return if at % PITCH == 0 && mark.left && b == b'|' {
+            b'!'
         } else {
             b
         };

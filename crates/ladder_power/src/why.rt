@@ -7,7 +7,7 @@ ghost use Rattle.ladder_text.specs.Block.{Sends};
 ghost use Rattle.ladder_power.specs.Ends.{AreAnswers, is_live, of_rung};
 ghost use Rattle.ladder_power.specs.Why.{coil_head, coil_notes, dead_notes, end_line, end_note, end_notes, evaluated_above, open_name, open_output, open_reason, passed_note, place_notes, power_notes, rung_why, why};
 
-use crate::ends::{Rung, ends_at, live_places};
+use crate::ends::{Rung, ended_places, live_places};
 use crate::show::mark_in;
 use ladder_grid::{Cell, Operand, Program};
 use ladder_page::Mode;
@@ -138,7 +138,7 @@ fn add_end_note<W: Sink>(
     requires end { end < PLACES }
     ensures { Sends (W.log writer.old) (W.log writer.new) block.old block.new result (end_note rung.entry.program.now rung.entry.marks.now rung.entry.number at end) }
 {
-    if ends_at(rung, live, at, end) {
+    if ended_places(rung, live, end)[at] {
         add_end_line(block, rung, end, writer)
     } else {
         block.add(b"", writer)
@@ -252,7 +252,7 @@ fn add_coil_head<W: Sink>(
 {
     let pieces = [
         Piece::Text(b"(* "),
-        Piece::Text(var_name(rung.program.decls(), var)),
+        Piece::Text(rung.program.decls().var_name(var)),
         Piece::Text(b" in rung "),
         Piece::Number((rung.number + 1) as u64),
         Piece::Text(b", row "),

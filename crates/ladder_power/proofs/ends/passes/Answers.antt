@@ -1,14 +1,55 @@
-use Rattle.std.proofs.Common.{sym, ap, ◌∙◌, ◌&&◌, true, false}
+use Rattle.std.proofs.Common.{◌≡◌, ◌∙◌, ◌&&◌, Bool, true, false, cond, ap, sym, refl, inl, inr}
+use Rattle.ladder_grid.specs.declared.cell.Cell.{Cell}
+use Rattle.ladder_grid.specs.Program.{is_block}
+use Rattle.ladder_power.specs.Why.{is_closed}
 use Rattle.ladder_power.proofs.RouteEnds.{past_live}
 use Rattle.ladder_power.proofs.ends.passes.Goals as goal
 
-pub returns-then-is_block : goal.returns-then-is_block
-returns-then-is_block c =
-    sym (past_live c.args.rung.program.now c.args.rung.marks.now c.args.rung.number c.args.row c.args.column c.mark_in-mark.result c.cell-cell.result true c.args.live
-    c.requires.row c.cell-cell.ensures c.mark_in-mark.ensures c.if-is_block.ensures c.requires.live)
+always : (b : Bool) → (b && true) ≡ b
+always true = refl
+always false = refl
 
-pub returns-else-is_block : goal.returns-else-is_block
-returns-else-is_block c =
-    ap (λ b. c.args.live && b) c.is_closed.ensures
-    ∙ sym (past_live c.args.rung.program.now c.args.rung.marks.now c.args.rung.number c.args.row c.args.column c.mark_in-mark.result c.cell-cell.result false c.args.live
-    c.requires.row c.cell-cell.ensures c.mark_in-mark.ensures c.if-is_block.ensures c.requires.live)
+never : (b : Bool) → (b && false) ≡ false
+never true = refl
+never false = refl
+
+pub returns-in-Block : goal.returns-in-Block
+returns-in-Block c =
+    let x = c.args.rung in
+    let m = c.mark_in-mark.result in
+    let past = λ (y : Cell). cond (is_block y) m.right (c.args.live && is_closed m y) in
+    sym (past_live x.program.now x.marks.now x.number c.args.row c.args.column m c.cell.result (is_block c.cell.result) c.args.live
+    c.requires.row c.cell.ensures c.mark_in-mark.ensures refl c.requires.live
+    ∙ ap past c.in-Block.is)
+
+pub returns-in-Wire : goal.returns-in-Wire
+returns-in-Wire c =
+    let x = c.args.rung in
+    let m = c.mark_in-mark.result in
+    let past = λ (y : Cell). cond (is_block y) m.right (c.args.live && is_closed m y) in
+    sym (past_live x.program.now x.marks.now x.number c.args.row c.args.column m c.cell.result (is_block c.cell.result) c.args.live
+    c.requires.row c.cell.ensures c.mark_in-mark.ensures refl c.requires.live
+    ∙ elim c.in-Wire.is [ inl wire ↦ ap past wire ∙ always c.args.live | inr (mode, var, memory, coil) ↦ ap past coil ∙ always c.args.live ])
+
+pub returns-in-Contact : goal.returns-in-Contact
+returns-in-Contact c =
+    let x = c.args.rung in
+    let m = c.mark_in-mark.result in
+    let past = λ (y : Cell). cond (is_block y) m.right (c.args.live && is_closed m y) in
+    sym (past_live x.program.now x.marks.now x.number c.args.row c.args.column m c.cell.result (is_block c.cell.result) c.args.live
+    c.requires.row c.cell.ensures c.mark_in-mark.ensures refl c.requires.live
+    ∙ ap past c.in-Contact.is)
+
+pub returns-in-Empty : goal.returns-in-Empty
+returns-in-Empty c =
+    let x = c.args.rung in
+    let m = c.mark_in-mark.result in
+    let past = λ (y : Cell). cond (is_block y) m.right (c.args.live && is_closed m y) in
+    sym (past_live x.program.now x.marks.now x.number c.args.row c.args.column m c.cell.result (is_block c.cell.result) c.args.live
+    c.requires.row c.cell.ensures c.mark_in-mark.ensures refl c.requires.live
+    ∙ elim c.in-Empty.is [
+      | inl empty ↦ ap past empty ∙ never c.args.live
+      | inr (inl (inst, second, lower)) ↦ ap past lower ∙ never c.args.live
+      | inr (inr (inl (target, jump))) ↦ ap past jump ∙ never c.args.live
+      | inr (inr (inr return)) ↦ ap past return ∙ never c.args.live
+    ])
