@@ -20,13 +20,9 @@ quoted_byte b = if nat_lt b space || b == 127 then 63 else b
 abbrev pub padded : ℕ → List ℕ
 padded n = replicate (DIGITS - length (decimal n)) space ++ decimal n
 
--- the mark in front of the line where the fault shows
-abbrev pub mark : Bool → List ℕ
-mark is_it = if is_it then codes "> " else codes "  "
-
--- the number of a line
+-- The number of a line, with a mark in front of it where it is the line where the fault shows.
 abbrev pub numbered : Bool → ℕ → List ℕ
-numbered is_it number = mark is_it ++ (padded number ++ codes " | ")
+numbered is_it number = (if is_it then codes "> " else codes "  ") ++ (padded number ++ codes " | ")
 
 -- A line with its number, its first WIDTH bytes.
 abbrev pub quoted : Bool → ℕ → List ℕ → List ℕ
@@ -59,16 +55,12 @@ marks_text (Some m) = codes "        | " ++ (replicate m.indent space ++ (replic
 abbrev pub MayStand : Marks → Type 0
 MayStand m = (m.indent ≤ WIDEST) × (m.count ≤ CELL)
 
--- the rules of what stands between two cells
-abbrev pub is_of_joints : GridRule → Bool
-is_of_joints rule.BadJoint = true
-is_of_joints rule.BrokenVertical = true
-is_of_joints other = false
-
--- The marks under what breaks a rule in a column: one under the joint on its left, or one under each character of its cell.
+-- The marks under what breaks a rule in a column: one under the joint on its left, for a rule of what stands between two cells, or one under
+-- each character of its cell.
 abbrev pub marks_in : GridRule → ℕ → Marks
-marks_in r column =
-    if is_of_joints r then record { indent = PITCH * column; count = 1 } else record { indent = PITCH * column + 1; count = CELL }
+marks_in rule.BadJoint column = record { indent = PITCH * column; count = 1 }
+marks_in rule.BrokenVertical column = record { indent = PITCH * column; count = 1 }
+marks_in other column = record { indent = PITCH * column + 1; count = CELL }
 
 -- What is told of a fault: its sentence, and the lines where it shows, with marks under the column where it is known.
 abbrev pub reason_text : List ℕ → GridFault → Option ℕ → List ℕ

@@ -6,7 +6,7 @@ ghost use Rattle.ladder_page.specs.Bytes.{line_feed, space};
 ghost use Rattle.ladder_reasons.specs.declared.quote.TheConstants.{DIGITS, WIDEST, WIDTH};
 ghost use Rattle.ladder_page.specs.declared.geometry.TheConstants.{CELL};
 ghost use Rattle.ladder_text.specs.Block.{Sends};
-ghost use Rattle.ladder_reasons.specs.Reasons.{MayStand, caret, mark, marks_text, near, numbered, quote, quoted, quoted_byte};
+ghost use Rattle.ladder_reasons.specs.Reasons.{MayStand, caret, marks_text, near, numbered, quote, quoted, quoted_byte};
 
 use itoa::Buffer;
 use ladder_page::geometry::{CELL, RAIL};
@@ -103,12 +103,6 @@ fn missing(number: usize) -> usize
     DIGITS.saturating_sub(buffer.format(number).len())
 }
 
-fn mark(is_it: bool) -> &'static [u8]
-    ensures { result.now ≡ mark is_it }
-{
-    if is_it { b"> " } else { b"  " }
-}
-
 /// Adds the number of a line.
 fn add_number<W: Sink>(
     block: &mut Block,
@@ -119,7 +113,7 @@ fn add_number<W: Sink>(
     ensures { Sends (W.log writer.old) (W.log writer.new) block.old block.new result (numbered is_it number) }
 {
     let pieces = [
-        Piece::Text(mark(is_it)),
+        Piece::Text(if is_it { b"> " } else { b"  " }),
         Piece::Text(spaces(missing(number))),
         Piece::Number(number as u64),
         Piece::Text(b" | "),

@@ -4,7 +4,7 @@ ghost use Rattle.std.specs.Prelude.{◌≡◌, ◌≤◌, ◌++◌, codes, optio
 ghost use Rattle.ladder_page.specs.declared.geometry.TheConstants.{COLUMNS};
 ghost use Rattle.ladder_text.specs.Block.{Sends};
 ghost use Rattle.ladder_text.specs.Log.{Puts};
-ghost use Rattle.ladder_reasons.specs.Reasons.{MayStand, is_of_joints, marks_in, marks_text, near, reason_text, ruler};
+ghost use Rattle.ladder_reasons.specs.Reasons.{MayStand, marks_in, marks_text, near, reason_text, ruler};
 
 use crate::quote::{Marks, add_near};
 use crate::sentence::{grid_sentence, var_sentence};
@@ -29,12 +29,20 @@ fn add_sentence<W: Sink>(
     block.add(b"\n", writer)
 }
 
-/// Whether the rule is one of what stands between two cells.
-fn is_of_joints(rule: GridRule) -> bool
-    ensures { result ≡ is_of_joints rule }
+/// The marks under what breaks a rule in a column, where that is known.
+fn marks(rule: GridRule, column: Option<usize>) -> Option<Marks>
+    requires { IfSome column (λ c. c ≤ COLUMNS) }
+    ensures value { result ≡ option_map (marks_in rule) column }
+    ensures stand { IfSome result MayStand }
 {
+    let Some(column) = column else {
+        return None;
+    };
     match rule {
-        GridRule::BadJoint | GridRule::BrokenVertical => true,
+        GridRule::BadJoint | GridRule::BrokenVertical => Some(Marks {
+            indent: PITCH * column,
+            count: 1,
+        }),
         GridRule::TooWide
         | GridRule::TooTall
         | GridRule::BadCell
@@ -47,37 +55,10 @@ fn is_of_joints(rule: GridRule) -> bool
         | GridRule::DrawnTwice
         | GridRule::LabelFault
         | GridRule::TwoJumps
-        | GridRule::TooManyRungs => false,
-    }
-}
-
-/// The marks under what breaks a rule in a column.
-fn marks_in(rule: GridRule, column: usize) -> Marks
-    requires { column ≤ COLUMNS }
-    ensures value { result ≡ marks_in rule column }
-    ensures stand { MayStand result }
-{
-    if is_of_joints(rule) {
-        Marks {
-            indent: PITCH * column,
-            count: 1,
-        }
-    } else {
-        Marks {
+        | GridRule::TooManyRungs => Some(Marks {
             indent: PITCH * column + 1,
             count: CELL,
-        }
-    }
-}
-
-fn marks(rule: GridRule, column: Option<usize>) -> Option<Marks>
-    requires { IfSome column (λ c. c ≤ COLUMNS) }
-    ensures value { result ≡ option_map (marks_in rule) column }
-    ensures stand { IfSome result MayStand }
-{
-    match column {
-        Some(column) => Some(marks_in(rule, column)),
-        None => None,
+        }),
     }
 }
 

@@ -1,16 +1,11 @@
--- Texts by what the code finds: the note of a variable, and what stands behind a drawing.
-use Rattle.std.proofs.Common.{◌≡◌, ◌∙◌, ℕ, Bool, true, false, cond, List, [], Result, Some, None, get_or, slice_get, ap, sym, subst, ◌++◌, append-nil}
+-- The note of a variable by what the code finds.
+use Rattle.std.proofs.Common.{◌≡◌, ◌∙◌, ℕ, Bool, true, false, cond, List, [], Result, Some, None, get_or, slice_get, ap, sym, subst}
 use Rattle.ladder_vars.specs.Decls.{Declared}
 use Rattle.ladder_vars.specs.declared.decls.Var.{Var}
-use Rattle.ladder_grid.specs.Program.{Drawing}
 use Rattle.ladder_scan.specs.Standing.{Standing}
 use Rattle.ladder_text.specs.Block.{Sends}
 use Rattle.ladder_text.specs.Log.{WriteLog}
-use Rattle.ladder_show.specs.declared.picture.Style.{Style}
-use Rattle.ladder_show.specs.declared.picture.Style.TheVariants.{Marked, MarkedFrame, Page, PageFrame}
-use Rattle.ladder_show.specs.Notes.{is_among, noted_before, numbered_note, tail_line, value_text, var_note}
-use Rattle.ladder_show.specs.Pictures.{tail_end}
-use Rattle.ladder_show.specs.Showing.{tail_of}
+use Rattle.ladder_show.specs.Notes.{is_among, noted_before, numbered_note, value_text, var_note}
 
 -- a text is sent where an equal one is
 pub sends_as : {T E : Type 0} (a b : WriteLog) (w0 w1 : List ℕ) (r : Result T E) (text other : List ℕ) → text ≡ other → Sends a b w0 w1 r text → Sends a b w0 w1 r other
@@ -36,9 +31,3 @@ not_among inputs d after number v found among =
 
 pub not_declared : (inputs : Bool) (d : Declared) (after : Standing) (number : ℕ) → slice_get d.vars number ≡ None → [] ≡ numbered_note inputs d after number
 not_declared inputs d after number missed = ap (var_note inputs after (noted_before inputs d.vars number) number) (sym missed)
-
-pub tail_ended : (style : Style) (p : Drawing) (after : Standing) (end : List ℕ) → end ≡ tail_end style → tail_line p after ++ end ≡ tail_of style p after
-tail_ended Marked p after end e = ap (λ t. tail_line p after ++ t) e ∙ append-nil (tail_line p after)
-tail_ended MarkedFrame p after end e = ap (λ t. tail_line p after ++ t) e
-tail_ended Page p after end e = ap (λ t. tail_line p after ++ t) e
-tail_ended PageFrame p after end e = ap (λ t. tail_line p after ++ t) e

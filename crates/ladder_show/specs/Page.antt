@@ -51,36 +51,26 @@ closing (Joint false) = codes "</i>"
 closing (Joint true) = codes "</b>"
 closing On = codes "</b>"
 
-abbrev pub rail_look : ℕ → Look
-rail_look b = if b == bar then Rail else Plain
-
 abbrev pub wire_look : Bool → Bool → Look
 wire_look evaluated power = if evaluated then Wire power else Passed
 
--- A character at a joint's place, by what is seen at the cell on its right.
-abbrev pub joint_look : Mark → ℕ → Look
-joint_look m b =
-    if b == dash then wire_look m.evaluated m.left
-    else (if b == plus then Joint m.left else (if b == bar then Link m.left else Plain))
-
--- A character of a cell; front: only dashes come before it; blank: only blanks are left of the cell. Dashes in front have the power of the
--- left link, those behind the symbol what the cell lets through.
-abbrev pub cell_look : Mark → Bool → Bool → ℕ → Look
-cell_look m front blank b =
-    if b == dash then wire_look m.evaluated (if front then m.left else m.right) else (if m.on && not blank then On else Plain)
-
 -- The character at a place of a line of a rung. Line 2 * r has the names of row r and the vertical links from the row above, line
--- 2 * r + 1 its joints and cells. What comes after the right rail is plain.
+-- 2 * r + 1 its joints and cells. What comes after the right rail is plain. At a joint's place it looks by what is seen at the cell on its
+-- right. In a cell, dashes with only dashes before them have the power of the left link, those behind the symbol what the cell lets through;
+-- of a symbol that is on, all is on but the blanks behind it.
 abbrev pub look_at : List Mark → ℕ → ℕ → List ℕ → ℕ → Look
 look_at marks rung line text at =
     let b = slice_index_or text at space in
     let m = mark_in marks rung (line / 2) (at / PITCH) in
-    if at == 0 || at == RAIL then rail_look b
+    if at == 0 || at == RAIL then (if b == bar then Rail else Plain)
     else (if nat_le RAIL at then Plain
-    else (if at % PITCH == 0 then joint_look m b
+    else (if at % PITCH == 0 then
+    (if b == dash then wire_look m.evaluated m.left
+    else (if b == plus then Joint m.left else (if b == bar then Link m.left else Plain)))
     else (if line % 2 == 0 then Plain
-    else cell_look m (list_all (λ c. c == dash) (slice_range text (PITCH * (at / PITCH) + 1) at))
-    (list_all (λ c. c == space) (slice_range text at (PITCH * (at / PITCH) + PITCH))) b)))
+    else (if b == dash then
+    wire_look m.evaluated (if list_all (λ c. c == dash) (slice_range text (PITCH * (at / PITCH) + 1) at) then m.left else m.right)
+    else (if m.on && not (list_all (λ c. c == space) (slice_range text at (PITCH * (at / PITCH) + PITCH))) then On else Plain)))))
 
 -- ---- lines
 

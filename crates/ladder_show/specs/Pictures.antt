@@ -1,5 +1,5 @@
 -- Private: what the code holds while it writes a drawing.
-use Rattle.std.specs.Prelude.{◌≡◌, ◌≤◌, ◌<◌, ◌^◌, ◌++◌, ℕ, ℤ, List, [], codes, decimal, length, map}
+use Rattle.std.specs.Prelude.{◌≡◌, ◌≤◌, ◌<◌, ◌^◌, ◌++◌, ℕ, ℤ, List, codes, decimal, length, map}
 use Rattle.std.specs.Fmt.{signed_decimal}
 use Rattle.ladder_page.specs.declared.geometry.TheConstants.{RUNGS}
 use Rattle.ladder_page.specs.declared.lines.Part.{Part}
@@ -12,8 +12,6 @@ use Rattle.ladder_scan.specs.declared.seen.Mark.{Mark}
 use Rattle.ladder_show.specs.declared.look.Look.{Look}
 use Rattle.ladder_show.specs.declared.look.RungLine.{RungLine}
 use Rattle.ladder_show.specs.declared.picture.Picture.{Picture}
-use Rattle.ladder_show.specs.declared.picture.Style.{Style}
-use Rattle.ladder_show.specs.declared.picture.Style.TheVariants.{Marked, MarkedFrame, Page, PageFrame}
 use Rattle.ladder_show.specs.Page.{look_at}
 use Rattle.ladder_show.specs.Showing.{OneScan, drawn_of, state_after}
 
@@ -51,10 +49,3 @@ timer_note name preset elapsed =
 abbrev pub counter_note : List ℕ → ℕ → ℤ → List ℕ
 counter_note name preset value =
     codes "(* " ++ (name ++ (codes ".CV " ++ (signed_decimal value ++ (codes " of " ++ (decimal preset ++ codes " *)\n")))))
-
--- What stands behind the last line of a drawing.
-abbrev pub tail_end : Style → List ℕ
-tail_end Marked = []
-tail_end MarkedFrame = codes "\n"
-tail_end Page = codes "</pre>\n</html>\n"
-tail_end PageFrame = codes "</pre>\n"

@@ -4,7 +4,7 @@ ghost use Rattle.std.specs.Prelude.{◌≡◌, ◌<◌, ◌^◌, ◌≤◌, ◌=
 ghost use Rattle.std.specs.List.{list_all};
 ghost use Rattle.ladder_page.specs.declared.geometry.TheConstants.{PITCH, RUNGS};
 ghost use Rattle.ladder_page.specs.Bytes.{space};
-ghost use Rattle.ladder_show.specs.Page.{before, cell_look, closing, joint_look, opening, rail_look, wire_look};
+ghost use Rattle.ladder_show.specs.Page.{before, closing, opening, wire_look};
 ghost use Rattle.ladder_show.specs.Pictures.{looks_of};
 
 use ladder_page::geometry::{PITCH, RAIL};
@@ -66,12 +66,6 @@ pub(crate) fn closing(look: Look) -> &'static [u8]
     }
 }
 
-fn rail_look(b: u8) -> Look
-    ensures { result ≡ rail_look b }
-{
-    if b == b'|' { Look::Rail } else { Look::Plain }
-}
-
 fn wire_look(evaluated: bool, power: bool) -> Look
     ensures { result ≡ wire_look evaluated power }
 {
@@ -79,29 +73,6 @@ fn wire_look(evaluated: bool, power: bool) -> Look
         Look::Wire(power)
     } else {
         Look::Passed
-    }
-}
-
-fn joint_look(mark: Mark, b: u8) -> Look
-    ensures { result ≡ joint_look mark b }
-{
-    match b {
-        b'-' => wire_look(mark.evaluated, mark.left),
-        b'+' => Look::Joint(mark.left),
-        b'|' => Look::Link(mark.left),
-        _ => Look::Plain,
-    }
-}
-
-fn cell_look(mark: Mark, front: bool, blank: bool, b: u8) -> Look
-    ensures { result ≡ cell_look mark front blank b }
-{
-    if b == b'-' {
-        wire_look(mark.evaluated, if front { mark.left } else { mark.right })
-    } else if mark.on && !blank {
-        Look::On
-    } else {
-        Look::Plain
     }
 }
 
@@ -129,20 +100,32 @@ pub(crate) fn look_at(line: RungLine<'_>, at: usize) -> Look
 {
     let b = line.text[at];
     if at == 0 || at == RAIL {
-        return rail_look(b);
+        return if b == b'|' { Look::Rail } else { Look::Plain };
     }
     if RAIL < at {
         return Look::Plain;
     }
     let mark = mark_in(line.marks, line.rung, line.line / 2, at / PITCH);
     if at % PITCH == 0 {
-        return joint_look(mark, b);
+        return match b {
+            b'-' => wire_look(mark.evaluated, mark.left),
+            b'+' => Look::Joint(mark.left),
+            b'|' => Look::Link(mark.left),
+            _ => Look::Plain,
+        };
     }
     if line.line % 2 == 0 {
         return Look::Plain;
     }
-    let front = are_dashes(&line.text[PITCH * (at / PITCH) + 1..at]);
-    cell_look(mark, front, is_blank_from(line.text, at), b)
+    if b == b'-' {
+        let front = are_dashes(&line.text[PITCH * (at / PITCH) + 1..at]);
+        return wire_look(mark.evaluated, if front { mark.left } else { mark.right });
+    }
+    if mark.on && !is_blank_from(line.text, at) {
+        Look::On
+    } else {
+        Look::Plain
+    }
 }
 
 /// How the character before a place looks.

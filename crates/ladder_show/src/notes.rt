@@ -290,7 +290,7 @@ pub(crate) fn add_above<W: Sink>(
 }
 
 /// Adds what is below it.
-fn add_tail<W: Sink>(
+pub(crate) fn add_tail<W: Sink>(
     block: &mut Block,
     picture: Picture<'_>,
     writer: &mut W,

@@ -1,15 +1,15 @@
 //! The whole text: the lines with their marks, and what is noted beside them.
 
-ghost use Rattle.std.specs.Prelude.{◌≡◌, ◌<◌, length, map, position};
+ghost use Rattle.std.specs.Prelude.{◌<◌, length, position};
 ghost use Rattle.ladder_text.specs.Block.{Sends};
 ghost use Rattle.ladder_text.specs.Log.{Puts};
 ghost use Rattle.ladder_show.specs.Marked.{is_line_of};
-ghost use Rattle.ladder_show.specs.Pictures.{Fits, lines_drawn, of_picture, tail_end};
+ghost use Rattle.ladder_show.specs.Pictures.{Fits, lines_drawn, of_picture};
 ghost use Rattle.ladder_show.specs.Showing.{end_of, film_start, head_of, tail_of, whole_of, why_of, why_on};
-ghost use Rattle.ladder_show.specs.Notes.{is_left_out, kept_line, noted_line, noted_lines, notes_behind};
+ghost use Rattle.ladder_show.specs.Notes.{kept_line, noted_line, noted_lines, notes_behind};
 
 use crate::marked::{add_whole_line, rung_of};
-use crate::notes::{add_above, add_rung_notes, add_tail_with};
+use crate::notes::{add_above, add_rung_notes, add_tail, add_tail_with};
 use crate::page::{add_drawn_line, add_frame_head, add_frames_start, add_page_head};
 use crate::picture::{Picture, Style};
 use ladder_power::add_why;
@@ -68,13 +68,6 @@ fn add_noted_line<W: Sink>(
     add_notes_behind(block, picture, line, writer)
 }
 
-fn is_left_out(lines: &[&[u8]], line: usize) -> bool
-    requires { line < length lines.now }
-    ensures { result ≡ is_left_out (map (λ l. l.now) lines.now) line }
-{
-    line == 0 || (line + 1 == lines.len() && lines[line].is_empty())
-}
-
 fn add_kept_line<W: Sink>(
     block: &mut Block,
     picture: Picture<'_>,
@@ -85,7 +78,8 @@ fn add_kept_line<W: Sink>(
     requires line { line < length picture.lines.now }
     ensures { Sends (W.log writer.old) (W.log writer.new) block.old block.new result (of_picture (kept_line (lines_drawn picture.entry)) picture.entry line) }
 {
-    if is_left_out(picture.lines, line) {
+    let last = line + 1 == picture.lines.len();
+    if line == 0 || (last && picture.lines[line].is_empty()) {
         block.add(b"", writer)
     } else {
         add_noted_line(block, picture, line, writer)
@@ -152,18 +146,6 @@ fn add_why_of<W: Sink>(
     }
 }
 
-/// What stands behind the last line.
-fn tail_end(style: Style) -> &'static [u8]
-    ensures { result.now ≡ tail_end style }
-{
-    match style {
-        Style::Marked => b"",
-        Style::MarkedFrame => b"\n",
-        Style::Page => b"</pre>\n</html>\n",
-        Style::PageFrame => b"</pre>\n",
-    }
-}
-
 /// Adds what stands last.
 fn add_tail_of<W: Sink>(
     block: &mut Block,
@@ -172,7 +154,12 @@ fn add_tail_of<W: Sink>(
 ) -> Result<(), WriteFault>
     ensures { Sends (W.log writer.old) (W.log writer.new) block.old block.new result (tail_of picture.entry.style picture.entry.program.now picture.entry.after.now) }
 {
-    add_tail_with(block, picture, tail_end(picture.style), writer)
+    match picture.style {
+        Style::Marked => add_tail(block, picture, writer),
+        Style::MarkedFrame => add_tail_with(block, picture, b"\n", writer),
+        Style::Page => add_tail_with(block, picture, b"</pre>\n</html>\n", writer),
+        Style::PageFrame => add_tail_with(block, picture, b"</pre>\n", writer),
+    }
 }
 
 /// Adds what is below them.

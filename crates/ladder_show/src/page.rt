@@ -4,7 +4,7 @@ ghost use Rattle.std.specs.Prelude.{◌≡◌, ◌<◌, ◌^◌, length, positio
 ghost use Rattle.ladder_page.specs.declared.geometry.TheConstants.{RUNGS};
 ghost use Rattle.ladder_page.specs.Bytes.{space};
 ghost use Rattle.ladder_text.specs.Block.{Sends};
-ghost use Rattle.ladder_show.specs.Page.{button, button_start, drawn_in, drawn_line, drawn_place, drawn_whole, escaped, escaped_line, frame_head, frames_start, frames_style, page_begun, page_head, page_legend, page_opening, page_start, page_style, turn};
+ghost use Rattle.ladder_show.specs.Page.{button, drawn_in, drawn_line, drawn_place, drawn_whole, escaped, escaped_line, frame_head, frames_start, page_begun, page_head, page_start, turn};
 ghost use Rattle.ladder_show.specs.Pictures.{Fits, lines_of, looks_of};
 ghost use Rattle.ladder_power.specs.Show.{each};
 ghost use Rattle.ladder_show.specs.Marked.{is_line_of};
@@ -203,59 +203,19 @@ pub(crate) fn add_drawn_line<W: Sink>(
     block.add(b"\n", writer)
 }
 
-/// What begins each page.
-#[tactic(auto, unfolding(crate::specs::Page::page_opening))]
-fn page_opening() -> &'static [u8]
-    ensures { result.now ≡ page_opening }
-{
-    PAGE_OPENING
-}
-
-/// The style of each page.
-#[tactic(auto, unfolding(crate::specs::Page::page_style))]
-fn page_style() -> &'static [u8]
-    ensures { result.now ≡ page_style }
-{
-    PAGE_STYLE
-}
-
-/// What a page of many pictures adds to its style.
-#[tactic(auto, unfolding(crate::specs::Page::frames_style))]
-fn frames_style() -> &'static [u8]
-    ensures { result.now ≡ frames_style }
-{
-    FRAMES_STYLE
-}
-
-/// What begins a button.
-#[tactic(auto, unfolding(crate::specs::Page::button_start))]
-fn button_start() -> &'static [u8]
-    ensures { result.now ≡ button_start }
-{
-    BUTTON_START
-}
-
-/// What the looks mean.
-#[tactic(auto, unfolding(crate::specs::Page::page_legend))]
-fn page_legend() -> &'static [u8]
-    ensures { result.now ≡ page_legend }
-{
-    PAGE_LEGEND
-}
-
 /// Adds what begins a page with this title and the rest of its style.
-fn add_page_begun<W: Sink>(
+fn add_page_begun<'a, W: Sink>(
     block: &mut Block,
-    title: &[u8],
-    rest: &[u8],
+    title: &'a [u8],
+    rest: &'a [u8],
     writer: &mut W,
 ) -> Result<(), WriteFault>
     ensures { Sends (W.log writer.old) (W.log writer.new) block.old block.new result (page_begun title.now rest.now) }
 {
     let pieces = [
-        Piece::Text(page_opening()),
+        Piece::Text(PAGE_OPENING),
         Piece::Text(title),
-        Piece::Text(page_style()),
+        Piece::Text(PAGE_STYLE),
         Piece::Text(rest),
     ];
     add_pieces(block, pieces.as_slice(), writer)
@@ -270,11 +230,11 @@ fn add_page_start<W: Sink>(block: &mut Block, writer: &mut W) -> Result<(), Writ
 }
 
 /// Adds what begins a page of many pictures.
-#[tactic(auto, unfolding(crate::specs::Page::frames_start))]
+#[tactic(auto, unfolding(crate::specs::Page::frames_start, crate::specs::Page::frames_style))]
 pub(crate) fn add_frames_start<W: Sink>(block: &mut Block, writer: &mut W) -> Result<(), WriteFault>
     ensures { Sends (W.log writer.old) (W.log writer.new) block.old block.new result frames_start }
 {
-    add_page_begun(block, b"film", frames_style(), writer)
+    add_page_begun(block, b"film", FRAMES_STYLE, writer)
 }
 
 /// Adds what is above the lines of a page.
@@ -286,15 +246,16 @@ pub(crate) fn add_page_head<W: Sink>(
     ensures { Sends (W.log writer.old) (W.log writer.new) block.old block.new result (page_head picture.entry.program.now picture.entry.after.now) }
 {
     add_page_start(block, writer)?;
-    add_above(block, picture, page_legend(), writer)
+    add_above(block, picture, PAGE_LEGEND, writer)
 }
 
 /// Adds the button of a picture.
+#[tactic(auto, unfolding(crate::specs::Page::button_start))]
 fn add_button<W: Sink>(block: &mut Block, after: &State, writer: &mut W) -> Result<(), WriteFault>
     ensures { Sends (W.log writer.old) (W.log writer.new) block.old block.new result (button after.now) }
 {
     let pieces = [
-        Piece::Text(button_start()),
+        Piece::Text(BUTTON_START),
         Piece::Number(after.moment()),
         Piece::Text(b" ms\">\n<pre>\n"),
     ];
@@ -310,5 +271,5 @@ pub(crate) fn add_frame_head<W: Sink>(
     ensures { Sends (W.log writer.old) (W.log writer.new) block.old block.new result (frame_head picture.entry.program.now picture.entry.after.now) }
 {
     add_button(block, picture.after, writer)?;
-    add_above(block, picture, page_legend(), writer)
+    add_above(block, picture, PAGE_LEGEND, writer)
 }

@@ -6,7 +6,7 @@ ghost use Rattle.ladder_vars.specs.declared.decls.Symbol.TheVariants.{Instance, 
 ghost use Rattle.ladder_power.specs.Show.{each};
 ghost use Rattle.ladder_vars.specs.Decls.{instance_name};
 ghost use Rattle.ladder_waves.specs.Lines.{line_of};
-ghost use Rattle.ladder_waves.specs.Waves.{change_line, declaration, for_each, output_name, output_word, scope_line, value_line, value_of, wire_line};
+ghost use Rattle.ladder_waves.specs.Waves.{change_line, declaration, for_each, output_name, scope_line, value_line, value_of, wire_line};
 
 use ladder_scan::State;
 use ladder_text::{Block, Piece, Sink, WriteFault, add_pieces};
@@ -23,20 +23,14 @@ pub(crate) enum Lines<'a> {
     Changes(&'a State, &'a State),
 }
 
-fn output_word(output: Output) -> &'static [u8]
-    ensures { result.now ≡ output_word output }
-{
-    match output {
-        Output::Q => b"Q",
-        Output::Q1 => b"Q1",
-    }
-}
-
 fn output_name(decls: &Decls, inst: usize) -> &'static [u8]
     ensures { result.now ≡ output_name decls.now inst }
 {
     match decls.instances().get(inst) {
-        Some(instance) => output_word(instance.kind.traits().output),
+        Some(instance) => match instance.kind.traits().output {
+            Output::Q => b"Q",
+            Output::Q1 => b"Q1",
+        },
         None => b"",
     }
 }

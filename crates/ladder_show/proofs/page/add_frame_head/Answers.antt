@@ -11,7 +11,8 @@ returns-in_err-add_button g c = sends_err _ _ _ _ _ _ c.from_residual.ensures.0
     (sends_none _ c.args.block.now) c.in_err-add_button.ensures)
 
 pub returns : goal.returns
+unfolding page_legend
 returns g c =
     let x = c.args.picture in
     sends_last _ _ _ _ _ _ (frame_head x.program.now x.after.now) (button x.after.now) (above x.program.now x.after.now page_legend) _ refl
-    c.in_ok-add_button.ensures (rw c.page_legend.ensures at c.add_above.ensures)
+    c.in_ok-add_button.ensures c.add_above.ensures

@@ -11,7 +11,8 @@ returns-in_err-add_page_start g c = sends_err _ _ _ _ _ _ c.from_residual.ensure
     (sends_none _ c.args.block.now) c.in_err-add_page_start.ensures)
 
 pub returns : goal.returns
+unfolding page_legend
 returns g c =
     let x = c.args.picture in
     sends_last _ _ _ _ _ _ (page_head x.program.now x.after.now) page_start (above x.program.now x.after.now page_legend) _ refl
-    c.in_ok-add_page_start.ensures (rw c.page_legend.ensures at c.add_above.ensures)
+    c.in_ok-add_page_start.ensures c.add_above.ensures
