@@ -1,6 +1,6 @@
 //! Whether a program has what a project has.
 
-ghost use Rattle.std.specs.Prelude.{◌≡◌, ◌↔◌, ◌+◌, ◌/◌, ◌%◌, ◌<◌, ◌≤◌, All, IsTrue, Some, length, not, slice_get, true};
+ghost use Rattle.std.specs.Prelude.{◌≡◌, ◌↔◌, ◌+◌, ◌-◌, ◌/◌, ◌%◌, ◌<◌, ◌≤◌, All, IsTrue, Some, length, not, slice_get, true};
 ghost use Rattle.std.specs.List.{list_all};
 ghost use Rattle.ladder_page.specs.declared.geometry.TheConstants.{COLUMNS, PLACES, ROWS};
 ghost use Rattle.ladder_grid.specs.Program.{feeds};
