@@ -60,13 +60,10 @@ is_among false v = not (is_input v)
 abbrev pub noted_before : Bool → List Var → ℕ → ℕ
 noted_before inputs vars var = count_by (is_among inputs) (take var vars)
 
--- What stands before a value, where so many come before it: a comment has eight values.
-abbrev pub lead : ℕ → List ℕ
-lead many = if nat_lt 0 many && many % 8 == 0 then codes " *)\n(* " else codes " "
-
+-- A value, where so many come before it: a comment has eight values.
 abbrev pub value_text : ℕ → List ℕ → Bool → List ℕ
-value_text many name true = lead many ++ (name ++ codes "=1")
-value_text many name false = lead many ++ (name ++ codes "=0")
+value_text many name value =
+    (if nat_lt 0 many && many % 8 == 0 then codes " *)\n(* " else codes " ") ++ (name ++ (if value then codes "=1" else codes "=0"))
 
 -- a variable with its value, where it is one of these
 abbrev pub var_note : Bool → Standing → ℕ → ℕ → Option Var → List ℕ

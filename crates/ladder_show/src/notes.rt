@@ -3,7 +3,7 @@
 ghost use Rattle.std.specs.Prelude.{◌≡◌, ◌<◌, ◌≤◌, ◌+◌, ◌++◌, length, option_map};
 ghost use Rattle.ladder_page.specs.declared.geometry.TheConstants.{PLACES};
 ghost use Rattle.ladder_text.specs.Block.{Sends};
-ghost use Rattle.ladder_show.specs.Notes.{above, cell_note, instance_note, is_among, lead, moment_text, noted_before, numbered_note, place_note, rung_notes, stored_note, tail_line, value_text, var_notes};
+ghost use Rattle.ladder_show.specs.Notes.{above, cell_note, instance_note, is_among, moment_text, noted_before, numbered_note, place_note, rung_notes, stored_note, tail_line, value_text, var_notes};
 ghost use Rattle.ladder_show.specs.Pictures.{counter_note, timer_note};
 
 use crate::picture::Picture;
@@ -179,16 +179,6 @@ fn is_among(inputs: bool, var: &Var) -> bool
     }
 }
 
-fn lead(many: usize) -> &'static [u8]
-    ensures { result.now ≡ lead many }
-{
-    if 0 < many && many % 8 == 0 {
-        b" *)\n(* "
-    } else {
-        b" "
-    }
-}
-
 fn add_value<W: Sink>(
     block: &mut Block,
     many: usize,
@@ -198,12 +188,17 @@ fn add_value<W: Sink>(
 ) -> Result<(), WriteFault>
     ensures { Sends (W.log writer.old) (W.log writer.new) block.old block.new result (value_text many name.now value) }
 {
+    let lead = if 0 < many && many % 8 == 0 {
+        Piece::Text(b" *)\n(* ")
+    } else {
+        Piece::Text(b" ")
+    };
     let end = if value {
         Piece::Text(b"=1")
     } else {
         Piece::Text(b"=0")
     };
-    let pieces = [Piece::Text(lead(many)), Piece::Text(name), end];
+    let pieces = [lead, Piece::Text(name), end];
     add_pieces(block, pieces.as_slice(), writer)
 }
 

@@ -1,29 +1,27 @@
 -- The words of a header, one after the other.
 use Rattle.std.proofs.Common.{◌≡◌, ◌∙◌, ◌-◌, ◌<◌, ◌≤◌, ◌++◌, ◌∷◌, ◌==◌, ◌||◌, [], ℕ, suc, zero, Bool, true, false, List, Some, All, inl, refl, sym, subst, ap, ap₂, arith, codes, drop, take, length, map, slice_get, get_or}
 use Rattle.std.specs.List.{AllByRecursion, Contains, IsDistinct, list_any}
-use Rattle.std.specs.Cmp.Lexicographic.{other_text, same_text}
 use Rattle.std.proofs.lemmas.Cmp.{nat_eq_equiv}
 use Rattle.std.proofs.lemmas.List.{map-append}
 use Rattle.std.proofs.lemmas.Map.Views.{Contains-from_any, exact_unsigned_eq}
 use Rattle.csv.specs.Records.{field_at}
 use Rattle.ladder_records.specs.Left.{Fields}
 use Rattle.ladder_vars.specs.Decls.{Declared}
-use Rattle.ladder_trace.specs.Room.{is_moment}
 use Rattle.ladder_trace.specs.Simulation.{IsBadHeader}
 use Rattle.ladder_trace.specs.Stimulus.{IsHeader, input_named}
 use Rattle.ladder_trace.proofs.Lists.{some_same}
 
-pub is_headed : (fs : Fields) → is_moment (field_at fs 0) ≡ true → fs ≡ codes "moment" ∷ drop 1 fs
+pub is_headed : (fs : Fields) → field_at fs 0 ≡ Some (codes "moment") → fs ≡ codes "moment" ∷ drop 1 fs
 unfolding field_at
-is_headed [] e = let bad : false ≡ true = e in cc
-is_headed (f ∷ fs) e = ap (λ x. x ∷ fs) (same_text f (codes "moment") (sym e))
+is_headed [] e = cc
+is_headed (f ∷ fs) e = ap (λ x. x ∷ fs) (some_same e)
 
-headed : (fs : Fields) (word : List ℕ) → slice_get fs 0 ≡ Some word → word ≡ codes "moment" → is_moment (field_at fs 0) ≡ false → ⊥
+headed : (fs : Fields) (word : List ℕ) → slice_get fs 0 ≡ Some word → word ≡ codes "moment" → (field_at fs 0 ≡ Some (codes "moment") → ⊥) → ⊥
 unfolding field_at
 headed [] word there same e = cc
-headed (f ∷ fs) word there same e = other_text f (codes "moment") (sym e) (some_same there ∙ same)
+headed (f ∷ fs) word there same e = e (there ∙ ap Some same)
 
-pub bad_first : (d : Declared) (fs : Fields) (rows : List Fields) → is_moment (field_at fs 0) ≡ false → IsBadHeader d (fs ∷ rows)
+pub bad_first : (d : Declared) (fs : Fields) (rows : List Fields) → (field_at fs 0 ≡ Some (codes "moment") → ⊥) → IsBadHeader d (fs ∷ rows)
 bad_first d fs rows e = inl (λ (r, here, (word, there, same)). headed fs word (subst (λ (x : Fields). slice_get x 0 ≡ Some word) (sym (some_same here)) there) same e)
 
 -- the words name the inputs at these places, no two the same

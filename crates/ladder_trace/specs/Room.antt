@@ -25,11 +25,6 @@ pub record IsReady (p : Drawing) (room : Room) : Type 0 where
   pub empty : room.block ≡ []
   pub fits : Fits p room.before
 
--- The field is the word for the moment.
-abbrev pub is_moment : Option (List ℕ) → Bool
-is_moment (Some field) = bytes_eq field (codes "moment")
-is_moment None = false
-
 -- The field is the bit of ON.
 abbrev pub is_on : Option (List ℕ) → Bool
 is_on (Some field) = bytes_eq field (codes "1")

@@ -12,13 +12,12 @@ use Rattle.ladder_records.specs.Text.{bit_text}
 
 -- ---- the header
 
--- The place of a variable among the inputs, in order of declaration, where it is one.
-abbrev pub place_of : List Var → ℕ → Option ℕ
-place_of vars number = if is_input_at (slice_get vars number) then Some (count_by is_input (take number vars)) else None
-
--- The place of the input that a declared symbol is, where it is one.
+-- The place of a declared symbol among the inputs, in order of declaration, where it is one.
 abbrev pub input_in : List Var → Option Symbol → Option ℕ
-input_in vars declared = elim declared [ Some (symbol.Var number) ↦ place_of vars number | _ ↦ None ]
+input_in vars declared = elim declared [
+  | Some (symbol.Var number) ↦ if is_input_at (slice_get vars number) then Some (count_by is_input (take number vars)) else None
+  | _ ↦ None
+]
 
 -- The input that a word names, in any letter case.
 abbrev pub input_named : Declared → List ℕ → Option ℕ

@@ -1,13 +1,12 @@
 //! The header of a stimulus: the inputs that it names.
 
-ghost use Rattle.std.specs.Prelude.{◌≡◌, ◌<◌, ◌≤◌, ◌==◌, [], All, List, IfErr, IfOk, IfSome, count_by, length, slice_index_or, take};
+ghost use Rattle.std.specs.Prelude.{◌≡◌, ◌<◌, ◌≤◌, ◌==◌, ◌↔◌, [], All, List, IfErr, IfOk, IfSome, IsTrue, Some, codes, count_by, length, slice_index_or, take};
 ghost use Rattle.std.specs.List.{list_any};
 ghost use Rattle.csv.specs.Records.{field_at, fields_of};
 ghost use Rattle.ladder_records.specs.Left.{Fields};
 ghost use Rattle.ladder_vars.specs.Decls.{is_input};
-ghost use Rattle.ladder_trace.specs.Room.{is_moment};
 ghost use Rattle.ladder_trace.specs.Steps.{NoColumns};
-ghost use Rattle.ladder_trace.specs.Stimulus.{input_named, place_of, IsHeader};
+ghost use Rattle.ladder_trace.specs.Stimulus.{input_named, IsHeader};
 
 use crate::fault::SimFault;
 use csv::ByteRecord;
@@ -22,20 +21,6 @@ fn inputs_before(vars: &[Var], number: usize) -> usize
     vars[..number].iter().filter(|var| var.is_input()).count()
 }
 
-/// The place of a variable among the inputs, where it is one.
-fn place_of(vars: &[Var], number: usize) -> Option<usize>
-    ensures place { result ≡ place_of vars.now number }
-    ensures below { IfSome result (λ place. place < count_by is_input vars.now) }
-{
-    if vars.len() <= number {
-        return None;
-    }
-    if !vars[number].is_input() {
-        return None;
-    }
-    Some(inputs_before(vars, number))
-}
-
 /// The place of an input among the inputs, by its name.
 fn input_named(decls: &Decls, word: &[u8]) -> Option<usize>
     ensures place { result ≡ input_named decls.now word.now }
@@ -44,10 +29,18 @@ fn input_named(decls: &Decls, word: &[u8]) -> Option<usize>
     let Some(name) = Name::new(word) else {
         return None;
     };
-    match decls.find(&name) {
-        Some(Symbol::Var(number)) => place_of(decls.vars(), number),
-        Some(Symbol::Instance(_)) | None => None,
+    let number = match decls.find(&name) {
+        Some(Symbol::Var(number)) => number,
+        Some(Symbol::Instance(_)) | None => return None,
+    };
+    let vars = decls.vars();
+    if vars.len() <= number {
+        return None;
     }
+    if !vars[number].is_input() {
+        return None;
+    }
+    Some(inputs_before(vars, number))
 }
 
 /// The place of the input that a field names.
@@ -70,7 +63,7 @@ fn is_named(columns: &[usize], place: usize) -> bool
 
 /// Whether the first field is the word for the moment.
 fn is_moment(row: &ByteRecord) -> bool
-    ensures { result ≡ is_moment (field_at (fields_of row.now) 0) }
+    ensures { IsTrue result ↔ (field_at (fields_of row.now) 0 ≡ Some (codes "moment")) }
 {
     match row.get(0) {
         Some(field) => field == b"moment".as_slice(),

@@ -6,12 +6,15 @@ use Rattle.ladder_trace.proofs.HeaderWords.{AreColumns, all_more, bad_first, col
 use Rattle.ladder_trace.proofs.Lists.{there_at}
 use Rattle.ladder_trace.proofs.header.columns.Goals as goal
 
+off_on : false ≡ true → ⊥
+off_on h = cc
+
 pub returns-then-not-is_moment-clause-refused : goal.returns-then-not-is_moment-clause-refused
 returns-then-not-is_moment-clause-refused c = λ rows.
-    (refl, bad_first c.args.decls.now (fields_of c.args.row.now) rows (sym c.is_moment.ensures ∙ c.if-not-is_moment.true))
+    (refl, bad_first c.args.decls.now (fields_of c.args.row.now) rows (λ h. off_on (sym c.if-not-is_moment.true ∙ c.is_moment.ensures.1 h)))
 
 pub loop-number-init : goal.loop-number-init
-loop-number-init c = (omega arith, is_headed (fields_of c.args.row.now) (sym c.is_moment.ensures ∙ c.if-not-is_moment.false), subst (AreColumns c.args.decls.now []) (sym c.new-columns.ensures.items) (columns_none c.args.decls.now), λ k d h. absurd (omega (arith, h, ap length c.new-columns.ensures.items)))
+loop-number-init c = (omega arith, is_headed (fields_of c.args.row.now) (c.is_moment.ensures.0 c.if-not-is_moment.false), subst (AreColumns c.args.decls.now []) (sym c.new-columns.ensures.items) (columns_none c.args.decls.now), λ k d h. absurd (omega (arith, h, ap length c.new-columns.ensures.items)))
 
 pub returns-in_default-clause-refused : goal.returns-in_default-clause-refused
 returns-in_default-clause-refused c = λ rows.
