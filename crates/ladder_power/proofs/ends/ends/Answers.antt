@@ -1,6 +1,7 @@
 use Rattle.std.proofs.Common.{◌≡◌, ◌∙◌, ◌&&◌, ◌||◌, ◌==◌, Bool, true, false, not, cond, ap, sym, refl, inl, inr}
 use Rattle.ladder_scan.specs.Cells.{place_at}
 use Rattle.ladder_grid.specs.declared.cell.Cell.{Cell}
+use Rattle.ladder_grid.specs.declared.cell.Cell.TheVariants.{Block, Contact}
 use Rattle.ladder_grid.specs.Program.{is_block}
 use Rattle.ladder_power.specs.Why.{is_closed}
 use Rattle.ladder_power.proofs.RouteEnds.{past_ended}
@@ -18,12 +19,8 @@ shut ended false here = refl
 pub returns-in-Block : goal.returns-in-Block
 returns-in-Block c =
     let x = c.args.rung in
-    let m = c.mark_in-mark.result in
-    let here = place_at c.args.row c.args.column == c.args.end in
-    let past = λ (y : Cell). cond (is_block y) (not m.right && here) (c.args.ended || ((c.args.live && not (is_closed m y)) && here)) in
-    sym (past_ended x.program.now x.marks.now x.number c.args.end c.args.row c.args.column m c.cell.result (is_block c.cell.result) c.args.live c.args.ended
-    c.requires.row c.cell.ensures c.mark_in-mark.ensures refl c.requires.live c.requires.ended
-    ∙ ap past c.in-Block.is)
+    sym (past_ended x.program.now x.marks.now x.number c.args.end c.args.row c.args.column c.mark_in-mark.result (Block c.in-Block.inst) true c.args.live c.args.ended
+    c.requires.row (sym c.in-Block.is ∙ c.cell.ensures) c.mark_in-mark.ensures refl c.requires.live c.requires.ended)
 
 pub returns-in-Wire : goal.returns-in-Wire
 returns-in-Wire c =
@@ -41,12 +38,8 @@ returns-in-Wire c =
 pub returns-in-Contact : goal.returns-in-Contact
 returns-in-Contact c =
     let x = c.args.rung in
-    let m = c.mark_in-mark.result in
-    let here = place_at c.args.row c.args.column == c.args.end in
-    let past = λ (y : Cell). cond (is_block y) (not m.right && here) (c.args.ended || ((c.args.live && not (is_closed m y)) && here)) in
-    sym (past_ended x.program.now x.marks.now x.number c.args.end c.args.row c.args.column m c.cell.result (is_block c.cell.result) c.args.live c.args.ended
-    c.requires.row c.cell.ensures c.mark_in-mark.ensures refl c.requires.live c.requires.ended
-    ∙ ap past c.in-Contact.is)
+    sym (past_ended x.program.now x.marks.now x.number c.args.end c.args.row c.args.column c.mark_in-mark.result (Contact c.in-Contact.mode c.in-Contact.operand c.in-Contact.memory) false c.args.live c.args.ended
+    c.requires.row (sym c.in-Contact.is ∙ c.cell.ensures) c.mark_in-mark.ensures refl c.requires.live c.requires.ended)
 
 pub returns-in-Empty : goal.returns-in-Empty
 returns-in-Empty c =

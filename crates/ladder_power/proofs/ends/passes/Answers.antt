@@ -1,5 +1,6 @@
 use Rattle.std.proofs.Common.{◌≡◌, ◌∙◌, ◌&&◌, Bool, true, false, cond, ap, sym, refl, inl, inr}
 use Rattle.ladder_grid.specs.declared.cell.Cell.{Cell}
+use Rattle.ladder_grid.specs.declared.cell.Cell.TheVariants.{Block, Contact}
 use Rattle.ladder_grid.specs.Program.{is_block}
 use Rattle.ladder_power.specs.Why.{is_closed}
 use Rattle.ladder_power.proofs.RouteEnds.{past_live}
@@ -16,11 +17,8 @@ never false = refl
 pub returns-in-Block : goal.returns-in-Block
 returns-in-Block c =
     let x = c.args.rung in
-    let m = c.mark_in-mark.result in
-    let past = λ (y : Cell). cond (is_block y) m.right (c.args.live && is_closed m y) in
-    sym (past_live x.program.now x.marks.now x.number c.args.row c.args.column m c.cell.result (is_block c.cell.result) c.args.live
-    c.requires.row c.cell.ensures c.mark_in-mark.ensures refl c.requires.live
-    ∙ ap past c.in-Block.is)
+    sym (past_live x.program.now x.marks.now x.number c.args.row c.args.column c.mark_in-mark.result (Block c.in-Block.inst) true c.args.live
+    c.requires.row (sym c.in-Block.is ∙ c.cell.ensures) c.mark_in-mark.ensures refl c.requires.live)
 
 pub returns-in-Wire : goal.returns-in-Wire
 returns-in-Wire c =
@@ -34,11 +32,8 @@ returns-in-Wire c =
 pub returns-in-Contact : goal.returns-in-Contact
 returns-in-Contact c =
     let x = c.args.rung in
-    let m = c.mark_in-mark.result in
-    let past = λ (y : Cell). cond (is_block y) m.right (c.args.live && is_closed m y) in
-    sym (past_live x.program.now x.marks.now x.number c.args.row c.args.column m c.cell.result (is_block c.cell.result) c.args.live
-    c.requires.row c.cell.ensures c.mark_in-mark.ensures refl c.requires.live
-    ∙ ap past c.in-Contact.is)
+    sym (past_live x.program.now x.marks.now x.number c.args.row c.args.column c.mark_in-mark.result (Contact c.in-Contact.mode c.in-Contact.operand c.in-Contact.memory) false c.args.live
+    c.requires.row (sym c.in-Contact.is ∙ c.cell.ensures) c.mark_in-mark.ensures refl c.requires.live)
 
 pub returns-in-Empty : goal.returns-in-Empty
 returns-in-Empty c =
