@@ -11,5 +11,5 @@ use Rattle.ladder_views.specs.About.{PrintsAbout, about_text}
 
 pub about_prints : (about : About) (g : Given) (Written : List ℕ → Type 0) (p : Drawing) → HasProgram g.aliases g.program p
     → ((told : Told) → Written (about_text told about p)) → PrintsAbout about g Written
-about_prints (Check warns) g Written p has all = (decided, p, has, all decided)
+about_prints (Check warns) g Written p has all = (decided, (p, has, all decided))
 about_prints Uses g Written p has all = (p, has, all decided)

@@ -1,4 +1,7 @@
-use Rattle.std.proofs.Common.{refl, inl}
+use Rattle.std.proofs.Common.{refl, inl, inr}
+use Rattle.ladder_setting.specs.Setting.{given_by}
+use Rattle.ladder_text.specs.Log.{PutsAll, PutsPrefix}
+use Rattle.ladder_views.proofs.Abouts.{about_prints}
 use Rattle.ladder_views.proofs.printing.print.Goals as goal
 
 pub returns-in-Err-clause-failed : goal.returns-in-Err-clause-failed
@@ -9,3 +12,17 @@ returns-in-Err-clause-failed g c = λ save status. inl (record {
   unsaved = refl {a = save};
   reported = c.report.ensures.line;
 })
+
+pub returns-in_default-clause-failed : goal.returns-in_default-clause-failed
+returns-in_default-clause-failed g c = λ save status. inr (
+  about_prints c.args.about (given_by c.args.texts.now) (PutsPrefix (g.O.Sink.log c.args.out.now) (g.O.Sink.log c.put_about.new.out)) c.in-Ok.program c.in-Ok.ensures.program
+      (λ told. c.in_default.ensures told),
+  c.report-in_default.ensures.line,
+)
+
+pub returns-clause-done : goal.returns-clause-done
+returns-clause-done g c = λ status. (
+  about_prints c.args.about (given_by c.args.texts.now) (PutsAll (g.O.Sink.log c.args.out.now) (g.O.Sink.log c.put_about.new.out)) c.in-Ok.program c.in-Ok.ensures.program
+      (λ told. c.in-Ok-put_about.ensures told),
+  refl,
+)

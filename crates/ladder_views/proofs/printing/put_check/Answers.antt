@@ -2,6 +2,7 @@ use Rattle.std.proofs.Common.{Bool, true, false}
 use Rattle.ladder_grid.specs.Program.{Drawing}
 use Rattle.ladder_records.specs.Text.{lines_text}
 use Rattle.ladder_text.specs.Log.{PutsPrefix, WriteLog}
+use Rattle.ladder_text.proofs.Puts.{puts_more}
 use Rattle.ladder_text.proofs.Sending.{puts_err}
 use Rattle.ladder_warnings.specs.Told.{Told}
 use Rattle.ladder_warnings.specs.Warnings.{warning_rows}
@@ -20,3 +21,7 @@ returns-in_err-put_counts g c = λ told. puts_err _ _ _ _ c.from_residual.ensure
 pub returns-in_err-write_warnings : goal.returns-in_err-write_warnings
 returns-in_err-write_warnings g c = λ told. puts_err _ _ _ _ c.from_residual-in_err-write_warnings.ensures.0
     (rw c.if-warns.true (prefix_next _ _ _ (check_line c.args.program.now) (lines_text (warning_rows told c.args.program.now)) c.in_ok-put_counts.ensures (c.in_err-write_warnings.ensures.wrote told)))
+
+pub returns-in_ok-write_warnings : goal.returns-in_ok-write_warnings
+returns-in_ok-write_warnings g c = λ told.
+    rw c.if-warns.true (puts_more _ _ _ (check_line c.args.program.now) (lines_text (warning_rows told c.args.program.now)) c.in_ok-put_counts.ensures (c.in_ok-write_warnings.ensures.wrote told))
