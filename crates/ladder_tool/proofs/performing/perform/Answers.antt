@@ -2,6 +2,11 @@ use Rattle.std.proofs.Common.{inr, refl}
 use Rattle.ladder_tool.proofs.Endings.{with_second, with_third}
 use Rattle.ladder_tool.proofs.performing.perform.Goals as goal
 
+pub returns-in-Check-clause-done : goal.returns-in-Check-clause-done
+returns-in-Check-clause-done g c = λ status.
+    let done = c.print.ensures.done status in
+    rw c.in-Check.is (done.0, refl, done.1)
+
 pub returns-in-Check-clause-failed : goal.returns-in-Check-clause-failed
 returns-in-Check-clause-failed g c = λ status.
     rw c.in-Check.is (with_second refl (c.print.ensures.failed (g.S.Sink.log c.args.save.now) status))
