@@ -4,7 +4,7 @@ use Rattle.ladder_page.specs.declared.form.Form.{Form}
 use Rattle.ladder_page.specs.declared.form.Form.TheVariants.{Empty, Wire, Contact, Coil, Block, Lower, Jump, Return}
 use Rattle.ladder_page.specs.Gap.{Labels}
 use Rattle.ladder_rules.specs.PageRules.{target_of}
-use Rattle.ladder_rules.specs.Checks.{jump_label, target_to, leads_nowhere}
+use Rattle.ladder_rules.specs.Checks.{jump_label, target_to}
 
 pub target_is : (labels : Labels) (k : ℕ) (form : Option Form) → target_of labels k form ≡ target_to labels k (jump_label form)
 target_is labels k None = refl
@@ -19,7 +19,3 @@ target_is labels k (Some Return) = refl
 
 pub target_told : (labels : Labels) (k : ℕ) (form : Option Form) (label : Option (List ℕ)) → label ≡ jump_label form → target_to labels k label ≡ target_of labels k form
 target_told labels k form label is = ap (target_to labels k) is ∙ sym (target_is labels k form)
-
-pub nowhere_so : (labels : Labels) (k : ℕ) (form : Option Form) (label : List ℕ) → form ≡ Some (Jump label) → target_of labels k form ≡ None
-    → leads_nowhere labels k form ≡ true
-nowhere_so labels k form label is none = rw is (ap is_none (ap (target_of labels k) (sym is) ∙ none))

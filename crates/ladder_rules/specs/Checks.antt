@@ -18,26 +18,11 @@ use Rattle.ladder_rules.specs.Rules.{HoldsBefore, IsDrawnAt, BreaksAt}
 abbrev pub label_of : Lines → Part → Option (List ℕ)
 label_of lines p = label_before lines p.from (p.start - p.from)
 
-abbrev pub is_used : Labels → List ℕ → Bool
-is_used labels word = list_any (is_named word) labels
-
-abbrev pub has_odd_byte : List ℕ → Bool
-has_odd_byte text = list_any (λ b. not (b == 9 || (nat_le space b && nat_le b 126))) text
-
-abbrev pub is_label_line : Lines → ℕ → Bool
-is_label_line lines line = is_some (label_in (line_at lines line))
-
-abbrev pub is_dirty : List ℕ → Bool
-is_dirty line = list_any (λ b. not (nat_le space b && nat_le b 126)) line
-
 abbrev pub is_dirty_at : Lines → ℕ → Bool
-is_dirty_at rung line = is_dirty (line_at rung line)
-
-abbrev pub is_wide : List ℕ → Bool
-is_wide line = has_text (drop (RAIL + 1) line)
+is_dirty_at rung line = list_any (λ b. not (nat_le space b && nat_le b 126)) (line_at rung line)
 
 abbrev pub is_wide_at : Lines → ℕ → Bool
-is_wide_at rung line = is_wide (line_at rung line)
+is_wide_at rung line = has_text (drop (RAIL + 1) (line_at rung line))
 
 abbrev pub IsDrawnBefore : Page → ℕ → ℕ → ℕ → ℕ → Type 0
 IsDrawnBefore page inst k r c = HoldsBefore (IsDrawnAt page inst) k r c
@@ -64,7 +49,3 @@ later k target = option_and_then (λ t. if nat_lt k t then Some t else None) tar
 abbrev pub target_to : Labels → ℕ → Option (List ℕ) → Option ℕ
 target_to labels k None = None
 target_to labels k (Some label) = later k (position (is_named label) labels)
-
--- a jump has no target
-abbrev pub leads_nowhere : Labels → ℕ → Option Form → Bool
-leads_nowhere labels k form = is_some (jump_label form) && is_none (target_of labels k form)

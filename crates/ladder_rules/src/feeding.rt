@@ -3,22 +3,12 @@
 ghost use Rattle.std.specs.Prelude.{◌≡◌, ◌<◌, ◌↔◌, length, IsTrue};
 ghost use Rattle.ladder_page.specs.declared.geometry.TheConstants.{ROWS, COLUMNS};
 ghost use Rattle.ladder_page.specs.Seen.{seen};
-ghost use Rattle.ladder_rules.specs.Feeding.{passes_on, right_link, enters, IsFed, IsUnfed};
+ghost use Rattle.ladder_rules.specs.Feeding.{right_link, enters, IsFed, IsUnfed};
 
 use ladder_page::geometry::{CELL, PITCH, ROWS};
 use ladder_page::page::{form_at, rung_at};
 use ladder_page::picture::{ch, joint, same_group};
 use ladder_page::{Form, PageView};
-
-fn passes_on(form: &Option<Form>) -> bool
-    ensures { result ≡ passes_on form.now }
-{
-    match form {
-        Some(Form::Lower(_, _) | Form::Jump(_) | Form::Return) => false,
-        Some(Form::Empty | Form::Wire | Form::Contact(_) | Form::Coil(_) | Form::Block(_)) | None =>
-            { true }
-    }
-}
 
 /// Whether a cell has a right link.
 pub fn right_link(page: PageView<'_, '_>, rung: usize, row: usize, column: usize) -> bool
@@ -27,8 +17,11 @@ pub fn right_link(page: PageView<'_, '_>, rung: usize, row: usize, column: usize
     requires columns { column < COLUMNS }
     ensures { result ≡ right_link (seen page.entry) rung row column }
 {
-    passes_on(&form_at(page, rung, row, column))
-        && ch(rung_at(page, rung), 2 * row + 1, PITCH * column + CELL) != b' '
+    match form_at(page, rung, row, column) {
+        Some(Form::Lower(_, _) | Form::Jump(_) | Form::Return) => false,
+        Some(Form::Empty | Form::Wire | Form::Contact(_) | Form::Coil(_) | Form::Block(_)) | None =>
+            { ch(rung_at(page, rung), 2 * row + 1, PITCH * column + CELL) != b' ' }
+    }
 }
 
 fn enters(page: PageView<'_, '_>, rung: usize, row: usize, column: usize) -> bool

@@ -2,20 +2,13 @@
 
 ghost use Rattle.std.specs.Prelude.{◌≡◌, ◌≤◌, ◌<◌, ◌*◌, ◌↔◌, ℕ, length, slice_index_or, false, None, Some, IsTrue, IfOk};
 ghost use Rattle.ladder_page.specs.declared.geometry.TheConstants.{RUNGS, PLACES};
-ghost use Rattle.ladder_page.specs.Tables.{place_read, noted, AreFirsts, HasBlock, IsBefore};
+ghost use Rattle.ladder_page.specs.Tables.{noted, AreFirsts, HasBlock, IsBefore};
 
 use ladder_page::geometry::{COLUMNS, PLACES, place};
 use ladder_page::operand::block_drawn;
 use ladder_page::{Form, NameOver, Reference};
 use ladder_vars::Decls;
 use std::alloc::{AllocError, Global};
-
-fn place_read(n: usize) -> usize
-    requires { n < PLACES * RUNGS }
-    ensures { result ≡ place_read n }
-{
-    place(n / PLACES, n % PLACES / COLUMNS, n % PLACES % COLUMNS)
-}
 
 fn name_in(overs: &[NameOver], at: usize) -> Option<Reference>
     ensures { result ≡ (slice_index_or overs.now at (record { written = false; name = None })).name }
@@ -38,7 +31,7 @@ fn block_in(decls: &Decls, forms: &[Option<Form>], overs: &[NameOver], n: usize)
     requires { n < PLACES * RUNGS }
     ensures { (inst : ℕ) → (result ≡ Some inst) ↔ HasBlock decls.now forms.now overs.now n inst }
 {
-    let at = place_read(n);
+    let at = place(n / PLACES, n % PLACES / COLUMNS, n % PLACES % COLUMNS);
     block_drawn(decls, form_in(forms, at), name_in(overs, at))
 }
 

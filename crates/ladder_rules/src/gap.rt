@@ -1,11 +1,12 @@
 //! The rules of the lines before a rung and after the last one: each is blank or a label.
 
-ghost use Rattle.std.specs.Prelude.{◌≡◌, ◌≤◌, ◌<◌, ◌+◌, ℕ, length, map, IfSome, IfNone, IfOk, IfErr, true};
+ghost use Rattle.std.specs.Prelude.{◌≡◌, ◌≤◌, ◌<◌, ◌+◌, ℕ, length, map, IfSome, IfNone, IfOk, IfErr, true, is_some, not, nat_le, ◌==◌, ◌&&◌, ◌||◌};
+ghost use Rattle.std.specs.List.{list_any};
 ghost use Rattle.std.specs.Option.{option_or};
-ghost use Rattle.ladder_page.specs.Gap.{label_in, label_before};
+ghost use Rattle.ladder_page.specs.Bytes.{space};
+ghost use Rattle.ladder_page.specs.Gap.{is_named, label_in, label_before};
 ghost use Rattle.ladder_page.specs.Picture.{line_at};
-ghost use Rattle.ladder_rules.specs.Gap.{bad_label, GapBreaks, IsSoundGap};
-ghost use Rattle.ladder_rules.specs.Checks.{is_used, has_odd_byte, is_label_line};
+ghost use Rattle.ladder_rules.specs.Gap.{GapBreaks, IsSoundGap};
 ghost use Rattle.ladder_rules.specs.declared.fault.Rule.{Rule};
 
 use crate::fault::{GridRule, Rule};
@@ -13,34 +14,11 @@ use ladder_page::gap::{is_blank_line, is_named, label_in};
 use ladder_page::picture::line_at;
 use ladder_vars::Name;
 
-fn is_used(labels: &[Option<Name>], word: &Name) -> bool
-    ensures { result ≡ is_used labels.now word.now }
+/// Whether an earlier rung has the label.
+fn is_taken(labels: &[Option<Name>], word: &Name) -> bool
+    ensures { result ≡ list_any (is_named word.now) labels.now }
 {
     labels.iter().any(|label| is_named(label, word))
-}
-
-fn has_odd_byte(text: &[u8]) -> bool
-    ensures { result ≡ has_odd_byte text.now }
-{
-    text.iter()
-        .any(|b| !(*b == b'\t' || (b' ' <= *b && *b <= b'~')))
-}
-
-fn bad_label(
-    before: Option<Name>,
-    labels: &[Option<Name>],
-    label: &Option<Name>,
-    text: &[u8],
-) -> bool
-    ensures { result ≡ bad_label before labels.now label.now text.now }
-{
-    match label {
-        None => !is_blank_line(text),
-        Some(word) => match before {
-            None => is_used(labels, word),
-            Some(_) => true,
-        },
-    }
 }
 
 fn first_of(before: &Option<Name>, label: Option<Name>) -> Option<Name>
@@ -50,6 +28,14 @@ fn first_of(before: &Option<Name>, label: Option<Name>) -> Option<Name>
         Some(first) => Some(*first),
         None => label,
     }
+}
+
+/// Whether there is a byte that is neither a tab nor a printable character.
+fn has_odd_byte(text: &[u8]) -> bool
+    ensures { result ≡ list_any (λ b. not (b == 9 || (nat_le space b && nat_le b 126))) text.now }
+{
+    text.iter()
+        .any(|b| !(*b == b'\t' || (b' ' <= *b && *b <= b'~')))
 }
 
 /// The label that the n-th line of the gap is, or the first rule that it breaks, `before` being the gap's label so far.
@@ -79,11 +65,10 @@ fn label_on(
     if blank {
         return Ok(None);
     }
-    let label = label_in(text);
-    if bad_label(before, labels, &label, text) {
-        return Err(Rule::Grid(GridRule::LabelFault));
+    match label_in(text) {
+        Some(word) if before.is_none() && !is_taken(labels, &word) => Ok(Some(word)),
+        Some(_) | None => Err(Rule::Grid(GridRule::LabelFault)),
     }
-    Ok(label)
 }
 
 /// The label in the gap of `count` lines, or the first rule that is broken there, with the line of the gap.
@@ -112,20 +97,14 @@ pub(crate) fn read_gap(
     Ok(label)
 }
 
-fn is_label_line(lines: &[&[u8]], line: usize) -> bool
-    ensures { result ≡ is_label_line (map (λ l. l.now) lines.now) line }
-{
-    label_in(line_at(lines, line)).is_some()
-}
-
 /// The first line of the gap that is a label.
 pub(crate) fn label_line(lines: &[&[u8]], from: usize, count: usize) -> Option<usize>
     requires within { from + count ≤ length lines.now }
-    ensures some { IfSome result (λ n. (n < count) × (is_label_line (map (λ l. l.now) lines.now) (from + n) ≡ true)) }
-    ensures none { IfNone result ((n : ℕ) → n < count → is_label_line (map (λ l. l.now) lines.now) (from + n) ≡ true → ⊥) }
+    ensures some { IfSome result (λ n. (n < count) × (is_some (label_in (line_at (map (λ l. l.now) lines.now) (from + n))) ≡ true)) }
+    ensures none { IfNone result ((n : ℕ) → n < count → is_some (label_in (line_at (map (λ l. l.now) lines.now) (from + n))) ≡ true → ⊥) }
 {
     for n in 0..count {
-        if is_label_line(lines, from + n) {
+        if label_in(line_at(lines, from + n)).is_some() {
             return Some(n);
         }
     }

@@ -1,11 +1,12 @@
 //! The rules of a whole page.
 
-ghost use Rattle.std.specs.Prelude.{◌≡◌, ◌≤◌, ◌<◌, ◌+◌, ℕ, length, map, take, position, IfSome, IfNone, IfOk, IfErr};
+ghost use Rattle.std.specs.Prelude.{◌≡◌, ◌≤◌, ◌<◌, ◌+◌, ◌↔◌, ℕ, List, length, map, take, position, Some, None, IsTrue, IfSome, IfNone, IfOk, IfErr};
 ghost use Rattle.ladder_page.specs.declared.geometry.TheConstants.{RUNGS, LINES};
+ghost use Rattle.ladder_page.specs.declared.form.Form.TheVariants.{Jump};
 ghost use Rattle.ladder_page.specs.Gap.{is_named};
 ghost use Rattle.ladder_page.specs.Seen.{seen, part_at};
 ghost use Rattle.ladder_page.specs.Page.{labels_of};
-ghost use Rattle.ladder_rules.specs.Checks.{label_of, leads_nowhere};
+ghost use Rattle.ladder_rules.specs.Checks.{label_of};
 ghost use Rattle.ladder_rules.specs.PageRules.{target_of, PartBreaks, EndBreaks, TargetBreaks};
 ghost use Rattle.ladder_rules.specs.Stops.{IsSoundPage, IsBrokenIn, IsNear};
 ghost use Rattle.ladder_rules.specs.declared.fault.Stop.TheVariants.{Broken};
@@ -125,8 +126,9 @@ pub fn target_of(labels: &[Option<Name>], rung: usize, form: &Option<Form>) -> O
     }
 }
 
+/// Whether it is a jump without a target.
 fn leads_nowhere(labels: &[Option<Name>], rung: usize, form: &Option<Form>) -> bool
-    ensures { result ≡ leads_nowhere labels.now rung form.now }
+    ensures { IsTrue result ↔ ((label : List ℕ) × (form.now ≡ Some (Jump label)) × (target_of labels.now rung form.now ≡ None)) }
 {
     match form {
         Some(Form::Jump(_)) => target_of(labels, rung, form).is_none(),

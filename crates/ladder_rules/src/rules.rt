@@ -27,52 +27,31 @@ use ladder_page::picture::{ch, half_line, joint};
 use ladder_page::{Form, Half, PageView};
 use ladder_vars::{BlockKind, Pin};
 
-/// Whether what stands at a joint's place, or at the right rail, may stand there.
-fn fits_joint(
-    page: PageView<'_, '_>,
-    rung: usize,
-    row: usize,
-    half: Half,
-    column: usize,
-    b: u8,
-) -> bool
-    requires rungs { rung < length page.parts.now }
-    requires rows { row < ROWS }
-    requires columns { column ≤ COLUMNS }
-    ensures { result ≡ fits_joint (seen page.entry) rung row half column b }
-{
-    if b == b' ' {
-        return true;
-    }
-    if column == COLUMNS {
-        return is_branch(b);
-    }
-    match half {
-        Half::Name => b == b'|',
-        Half::Wire => {
-            if right_link(page, rung, row, column.saturating_sub(1)) {
-                return b == b'+' || b == b'-';
-            }
-            let right = ch(rung_at(page, rung), 2 * row + 1, PITCH * column + 1);
-            b == b'+' || (b == b'|' && right != b'-')
-        }
-    }
-}
-
+/// Whether what stands at a joint's place, or at the right rail, may not stand there.
 fn is_odd_joint(page: PageView<'_, '_>, rung: usize, row: usize, half: Half, column: usize) -> bool
     requires rungs { rung < length page.parts.now }
     requires rows { row < ROWS }
     requires columns { column ≤ COLUMNS }
     ensures { IsTrue result ↔ (fits_joint (seen page.entry) rung row half column (ch (rung_at (seen page.entry) rung) (half_line row half) (PITCH * column)) ≡ false) }
 {
-    !fits_joint(
-        page,
-        rung,
-        row,
-        half,
-        column,
-        ch(rung_at(page, rung), half_line(row, half), PITCH * column),
-    )
+    let lines = rung_at(page, rung);
+    let b = ch(lines, half_line(row, half), PITCH * column);
+    if b == b' ' {
+        return false;
+    }
+    if column == COLUMNS {
+        return !is_branch(b);
+    }
+    match half {
+        Half::Name => b != b'|',
+        Half::Wire => {
+            if right_link(page, rung, row, column.saturating_sub(1)) {
+                return b != b'+' && b != b'-';
+            }
+            let right = ch(lines, 2 * row + 1, PITCH * column + 1);
+            b != b'+' && (b != b'|' || right == b'-')
+        }
+    }
 }
 
 fn is_branch(b: u8) -> bool

@@ -1,9 +1,11 @@
 //! The rules of one rung.
 
-ghost use Rattle.std.specs.Prelude.{◌≡◌, ◌<◌, ◌+◌, ℕ, length, map, IfSome, IfNone, [], true, drop};
+ghost use Rattle.std.specs.Prelude.{◌≡◌, ◌<◌, ◌+◌, ℕ, length, map, IfSome, IfNone, [], true, drop, not, nat_le, ◌&&◌};
+ghost use Rattle.std.specs.List.{list_any};
+ghost use Rattle.ladder_page.specs.Bytes.{space};
 ghost use Rattle.ladder_page.specs.declared.geometry.TheConstants.{RUNGS, LINES};
 ghost use Rattle.ladder_page.specs.Seen.{seen, part_at};
-ghost use Rattle.ladder_rules.specs.Checks.{is_dirty, is_dirty_at, is_wide, is_wide_at};
+ghost use Rattle.ladder_rules.specs.Checks.{is_dirty_at, is_wide_at};
 ghost use Rattle.ladder_rules.specs.Rung.{RungBreaks, IsSoundRung};
 
 use crate::fault::{GridRule, Rule};
@@ -17,7 +19,7 @@ use ladder_page::picture::{has_text, line_at};
 const PAST_RAIL: usize = RAIL + 1;
 
 fn is_dirty(line: &[u8]) -> bool
-    ensures { result ≡ is_dirty line.now }
+    ensures { result ≡ list_any (λ b. not (nat_le space b && nat_le b 126)) line.now }
 {
     line.iter().any(|b| !(b' ' <= *b && *b <= b'~'))
 }
@@ -30,12 +32,6 @@ fn past(line: &[u8], place: usize) -> &[u8]
     } else {
         &[]
     }
-}
-
-fn is_wide(line: &[u8]) -> bool
-    ensures { result ≡ is_wide line.now }
-{
-    has_text(past(line, PAST_RAIL))
 }
 
 fn dirty_line(lines: &[&[u8]]) -> Option<usize>
@@ -55,7 +51,7 @@ fn wide_line(lines: &[&[u8]]) -> Option<usize>
     ensures none { IfNone result ((line : ℕ) → line < length lines.now → is_wide_at (map (λ l. l.now) lines.now) line ≡ true → ⊥) }
 {
     for line in 0..lines.len() {
-        if is_wide(line_at(lines, line)) {
+        if has_text(past(line_at(lines, line), PAST_RAIL)) {
             return Some(line);
         }
     }

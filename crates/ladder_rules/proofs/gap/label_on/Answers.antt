@@ -1,13 +1,12 @@
-use Rattle.std.proofs.Common.{◌≡◌, ℕ, ◌+◌, inl, inr, true, false, not, cond, ◌&&◌, ◌==◌, List, [], ◌∷◌, ◌++◌, codes, Option, Some, None, map, refl, sym, ap, ◌∙◌, rules}
-use Rattle.std.specs.List.{list_all, filter}
+use Rattle.std.proofs.Common.{◌≡◌, ℕ, ◌+◌, inl, inr, true, false, not, cond, ◌&&◌, ◌||◌, nat_le, ◌==◌, List, [], ◌∷◌, ◌++◌, codes, Option, Some, None, map, refl, sym, ap, ◌∙◌, rules}
+use Rattle.std.specs.List.{list_all, list_any, filter}
 use Rattle.std.specs.Str.{bytes_eq}
 use Rattle.std.proofs.lemmas.Bool.{and_parts, or_cases, eqb-true, false≢true}
 use Rattle.ladder_page.specs.Bytes.{space}
 use Rattle.ladder_page.specs.Form.{is_label_name}
-use Rattle.ladder_page.specs.Gap.{Labels, is_gap_blank, first_word, label_in, label_before}
+use Rattle.ladder_page.specs.Gap.{Labels, is_gap_blank, is_named, first_word, label_in, label_before}
 use Rattle.ladder_page.specs.Picture.{Lines, line_at}
 use Rattle.ladder_rules.specs.Gap.{bad_label, GapBreaks}
-use Rattle.ladder_rules.specs.Checks.{has_odd_byte}
 use Rattle.ladder_rules.specs.declared.fault.Rule.{Rule}
 use Rattle.ladder_rules.specs.declared.fault.Rule.TheVariants.{BadByte, Unfinished, Grid}
 use Rattle.ladder_rules.specs.declared.fault.GridRule.TheVariants as rule
@@ -28,7 +27,7 @@ no_label text blank =
     ∙ elim (is_label_name word) as (λ t. (t && false) ≡ false) [ true ↦ refl | false ↦ refl ] in
     sym (ap (λ t. cond t (Some word) None) none)
 
-no_odd_byte : (text : List ℕ) → list_all is_gap_blank text ≡ true → has_odd_byte text ≡ false
+no_odd_byte : (text : List ℕ) → list_all is_gap_blank text ≡ true → list_any (λ b. not (b == 9 || (nat_le space b && nat_le b 126))) text ≡ false
 no_odd_byte [] blank = refl
 no_odd_byte (b ∷ bs) blank =
     let parts = and_parts (is_gap_blank b) (list_all is_gap_blank bs) blank in
@@ -52,3 +51,19 @@ returns-then-blank-clause-label c = no_label _ (search rules)
 
 pub returns-then-blank-clause-kept : goal.returns-then-blank-clause-kept
 returns-then-blank-clause-kept c = kept (map (λ l. l.now) c.args.lines.now) c.args.from c.args.n c.args.unclosed c.args.labels.now (search rules) (search rules)
+
+named : (lines : Lines) (from n : ℕ) (unclosed : Option ℕ) (labels : Labels) (word : List ℕ)
+    → list_any (λ b. not (b == 9 || (nat_le space b && nat_le b 126))) (line_at lines (from + n)) ≡ false → (unclosed ≡ Some (from + n) → ⊥)
+    → label_before lines from n ≡ None → label_in (line_at lines (from + n)) ≡ Some word → list_any (is_named word) labels ≡ false
+    → (r : Rule) → GapBreaks r lines from unclosed labels n → ⊥
+named lines from n unclosed labels word clean closed first label new BadByte broken = false≢true (sym clean ∙ broken)
+named lines from n unclosed labels word clean closed first label new Unfinished broken = closed broken
+named lines from n unclosed labels word clean closed first label new (Grid rule.LabelFault) broken =
+    let good : bad_label (label_before lines from n) labels (label_in (line_at lines (from + n))) (line_at lines (from + n)) ≡ false = rw (first, label) new in
+    false≢true (sym good ∙ broken)
+named lines from n unclosed labels word clean closed first label new (Grid other) broken = broken
+
+pub returns-in-Some-clause-kept : goal.returns-in-Some-clause-kept
+returns-in-Some-clause-kept c =
+    named (map (λ l. l.now) c.args.lines.now) c.args.from c.args.n c.args.unclosed c.args.labels.now c.in-Some.word
+    (search rules) (search rules) (search rules) (search rules) (search rules)
