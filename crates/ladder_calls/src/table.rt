@@ -62,12 +62,6 @@ fn common_part(chosen: &[bool], height: u32, base: u64) -> Option<bool>
     common(&chosen[from..from + size(height)])
 }
 
-fn digit(chosen: bool) -> u64
-    ensures { result ≡ digit chosen }
-{
-    u64::from(chosen)
-}
-
 /// Two entries as bits, the first one of weight 1.
 fn pair(chosen: &[bool], base: u64) -> u64
     requires within { base + 2 ≤ length chosen.now }
@@ -75,7 +69,7 @@ fn pair(chosen: &[bool], base: u64) -> u64
     ensures { result ≡ pair chosen.now base }
 {
     let from = base as usize;
-    digit(chosen[from]) + 2 * digit(chosen[from + 1])
+    u64::from(chosen[from]) + 2 * u64::from(chosen[from + 1])
 }
 
 impl Table {

@@ -10,7 +10,6 @@ ghost use Rattle.ladder_scan.specs.Gating.{IsPlaced};
 ghost use Rattle.ladder_known.specs.KnownScan.{changed_in};
 ghost use Rattle.ladder_glance.specs.Evaluating.{changed_by, changes_by};
 
-use crate::gates::operand;
 use crate::keep::Keep;
 use crate::knowledge::Knowledge;
 use ladder_elements::Signal;
@@ -75,12 +74,12 @@ fn change<S: Signal, B: Keep<S>>(
     let link = links[action.left as usize];
     match action.cell {
         Cell::Contact {
-            operand: seen_at,
+            operand,
             memory,
             ..
         } => {
             let before = known.memory(memory);
-            known.remember(memory, S::choose(guard, operand(start, seen_at), before));
+            known.remember(memory, S::choose(guard, start.operand(operand), before));
         }
         Cell::Coil { mode, var, memory } => write(guard, mode, var, memory, link, known),
         Cell::Block { inst } => {

@@ -3,7 +3,6 @@
 ghost use Rattle.std.specs.Prelude.{◌≡◌, ◌<◌, length, All};
 ghost use Rattle.ladder_grid.specs.declared.gates.TheConstants.{LINKS};
 ghost use Rattle.ladder_grid.specs.Gates.{gates_of};
-ghost use Rattle.ladder_scan.specs.Cells.{contact, operand_value};
 ghost use Rattle.ladder_scan.specs.Programs.{diagram_of, IsSound};
 ghost use Rattle.ladder_scan.specs.Gating.{IsInside};
 ghost use Rattle.ladder_known.specs.KnownScan.{frame_in};
@@ -12,33 +11,11 @@ ghost use Rattle.ladder_glance.specs.Evaluating.{own_in, let_in, passed_in, ran_
 use crate::keep::Keep;
 use crate::knowledge::Knowledge;
 use ladder_elements::{Operations, Signal};
+use ladder_grid::Cell;
 use ladder_grid::gates::{Gate, Literal};
-use ladder_grid::{Cell, Operand};
-use ladder_page::Mode;
-use ladder_scan::gates::set_rails;
+use ladder_scan::gates::{contact, set_rails};
 use ladder_scan::scene::{Scene, cell, instance};
 use ladder_scan::signals::Signals;
-
-/// What a contact sees of its operand.
-pub(crate) fn operand<S: Operations>(seen: &Signals<S>, operand: Operand) -> S
-    ensures { result ≡ operand_value S.algebra seen.now operand }
-{
-    match operand {
-        Operand::Var(var) => seen.value(var),
-        Operand::Output(inst) => seen.end(inst),
-    }
-}
-
-fn contact<S: Operations>(mode: Mode, operand: S, memory: S) -> S
-    ensures { result ≡ contact S.algebra mode operand memory }
-{
-    match mode {
-        Mode::Plain => operand,
-        Mode::Negated => operand.not(),
-        Mode::Rising => operand.and(memory.not()),
-        Mode::Falling => operand.not().and(memory),
-    }
-}
 
 /// What a cell lets through by itself, by its left link and its second input.
 fn through_cell<S: Signal, B: Keep<S>>(
@@ -60,9 +37,9 @@ fn through_cell<S: Signal, B: Keep<S>>(
         }
         Cell::Contact {
             mode,
-            operand: seen_at,
+            operand,
             memory,
-        } => left.and(contact(mode, operand(seen, seen_at), known.memory(memory))),
+        } => left.and(contact(mode, seen.operand(operand), known.memory(memory))),
         Cell::Wire | Cell::Coil { .. } => left.and(S::known(true)),
         Cell::Empty | Cell::Lower { .. } | Cell::Jump { .. } | Cell::Return => left.and(S::known(
             false,

@@ -1,12 +1,11 @@
 //! One scan over what is known.
 
-ghost use Rattle.std.specs.Prelude.{◌≡◌, ◌<◌, ◌&&◌, if◌then◌else◌, nat_lt, true, false, length, All};
+ghost use Rattle.std.specs.Prelude.{◌≡◌, ◌<◌, true, false, length, All};
 ghost use Rattle.ladder_grid.specs.declared.gates.TheConstants.{LINKS};
 ghost use Rattle.ladder_grid.specs.Gates.{left_of};
 ghost use Rattle.ladder_scan.specs.Programs.{diagram_of, IsSound};
 ghost use Rattle.ladder_scan.specs.Gating.{among};
 ghost use Rattle.ladder_known.specs.KnownScan.{taken_by};
-ghost use Rattle.ladder_look.specs.Gating.{guard_by};
 ghost use Rattle.ladder_known.specs.KnownScan.{after_known, evaluated_in, link_in, passed};
 ghost use Rattle.ladder_glance.specs.Sizes.{AreAsLong, HasSizes, IsSpareFor, AreRoomy};
 
@@ -17,34 +16,11 @@ use crate::knowledge::Knowledge;
 use crate::room::Room;
 use ladder_elements::{Operations, Signal};
 use ladder_grid::Program;
-use ladder_grid::gates::{LINKS, Leap};
+use ladder_grid::gates::LINKS;
+use ladder_look::guard_by;
 use ladder_scan::gates::link_at;
 use ladder_scan::scene::{Scene, checked};
 use ladder_scan::signals::Signals;
-
-/// The guard so far, AND NOT that the jump is taken, where it passes over the rung.
-fn under<S: Operations>(leap: Leap, taken: &[S], rung: usize, all: S) -> S
-    ensures { result ≡ (if nat_lt leap.rung rung && nat_lt rung leap.target
-        then S.algebra.meet all (S.algebra.inverse (among S.algebra taken.now leap.rung)) else all) }
-{
-    if leap.rung < rung && rung < leap.target {
-        all.and(link_at(taken, leap.rung).not())
-    } else {
-        all
-    }
-}
-
-/// The AND, over the earlier rungs with a jump past the rung, of NOT that this jump is taken.
-#[tactic(auto, using(ladder_look::proofs::Exits::guard_step))]
-fn guard_by<S: Operations>(leaps: &[Leap], taken: &[S], rung: usize) -> S
-    ensures { result ≡ guard_by S.algebra taken.now rung leaps.now (S.algebra.known true) }
-{
-    let mut all = S::known(true);
-    for leap in leaps {
-        all = under(*leap, taken, rung, all);
-    }
-    all
-}
 
 /// Whether the jump of a rung is taken, by its guard and its links.
 fn leaves<S: Operations>(program: &Program, rung: usize, guard: S, links: &[S]) -> S

@@ -13,3 +13,4 @@ pub use by_steps::look_by_steps;
 pub use lane::look_in_lane;
 pub use likening::liken;
 pub use looking::{Work, look};
+pub use steps::guard_by;

@@ -227,7 +227,7 @@ fn under<S: Operations>(leap: Leap, taken: &[S], rung: usize, all: S) -> S
 
 /// The AND, over the earlier rungs with a jump past the rung, of NOT that this jump is taken.
 #[tactic(auto, using(crate::proofs::Exits::guard_step))]
-pub(crate) fn guard_by<S: Operations>(leaps: &[Leap], taken: &[S], rung: usize) -> S
+pub fn guard_by<S: Operations>(leaps: &[Leap], taken: &[S], rung: usize) -> S
     ensures { result ≡ guard_by S.algebra taken.now rung leaps.now (S.algebra.known true) }
 {
     let mut all = S::known(true);

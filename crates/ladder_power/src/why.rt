@@ -16,47 +16,41 @@ use ladder_scan::Mark;
 use ladder_text::{Block, Piece, Sink, WriteFault, add_pieces};
 use ladder_vars::Decls;
 
-fn open_name(decls: &Decls, cell: Cell) -> &[u8]
-    ensures { result.now ≡ open_name decls.now cell }
+/// The name of what ends power at a cell, and its output.
+struct Open<'a> {
+    name: &'a [u8],
+    output: &'static [u8],
+}
+
+fn open_at(decls: &Decls, cell: Cell) -> Open<'_>
+    ensures name { result.name.now ≡ open_name decls.now cell }
+    ensures output { result.output.now ≡ open_output decls.now cell }
 {
     match cell {
         Cell::Contact {
             operand: Operand::Var(var),
             ..
-        } => decls.var_name(var),
+        } => Open {
+            name: decls.var_name(var),
+            output: b"",
+        },
         Cell::Contact {
             operand: Operand::Output(inst),
             ..
         }
-        | Cell::Block { inst } => { decls.instance_name(inst) }
+        | Cell::Block { inst } => Open {
+            name: decls.instance_name(inst),
+            output: decls.output_suffix(inst),
+        },
         Cell::Empty
         | Cell::Wire
         | Cell::Coil { .. }
         | Cell::Lower { .. }
         | Cell::Jump { .. }
-        | Cell::Return => b"",
-    }
-}
-
-fn open_output(decls: &Decls, cell: Cell) -> &'static [u8]
-    ensures { result.now ≡ open_output decls.now cell }
-{
-    match cell {
-        Cell::Contact {
-            operand: Operand::Output(inst),
-            ..
-        }
-        | Cell::Block { inst } => decls.output_suffix(inst),
-        Cell::Contact {
-            operand: Operand::Var(_),
-            ..
-        }
-        | Cell::Empty
-        | Cell::Wire
-        | Cell::Coil { .. }
-        | Cell::Lower { .. }
-        | Cell::Jump { .. }
-        | Cell::Return => b"",
+        | Cell::Return => Open {
+            name: b"",
+            output: b"",
+        },
     }
 }
 
@@ -110,14 +104,15 @@ fn add_end_line<W: Sink>(
     ensures { Sends (W.log writer.old) (W.log writer.new) block.old block.new result (end_line rung.entry.program.now rung.entry.number end) }
 {
     let cell = cell_at(rung, end);
+    let open = open_at(rung.program.decls(), cell);
     let pieces = [
         Piece::Text(b"(* row "),
         Piece::Number((end % ROWS + 1) as u64),
         Piece::Text(b", column "),
         Piece::Number((end / ROWS + 1) as u64),
         Piece::Text(b": "),
-        Piece::Text(open_name(rung.program.decls(), cell)),
-        Piece::Text(open_output(rung.program.decls(), cell)),
+        Piece::Text(open.name),
+        Piece::Text(open.output),
         Piece::Text(open_reason(cell)),
         Piece::Text(b" *)\n"),
     ];

@@ -1,5 +1,5 @@
 -- The records of a csv text, and the text of records that need no quotes.
-use Rattle.std.specs.Prelude.{if◌then◌else◌, ◌≡◌, ◌<◌, ◌++◌, ◌∷◌, ⊤, ℕ, Bool, false, List, [], codes, flat_map, length}
+use Rattle.std.specs.Prelude.{if◌then◌else◌, ◌≡◌, ◌<◌, ◌++◌, ◌∷◌, ⊤, ℕ, Bool, false, List, [], Option, Some, None, bytes_eq, codes, flat_map, length}
 use Rattle.std.specs.List.{list_any}
 use Rattle.csv.specs.Reading.{default_config, records, strip_bom}
 use Rattle.csv.specs.Writing.{default_writer, needs_byte}
@@ -12,6 +12,11 @@ records_of text = records default_config (strip_bom text)
 -- the field of a bit: 1 for ON, 0 for OFF
 abbrev pub bit_text : Bool → List ℕ
 bit_text bit = if bit then codes "1" else codes "0"
+
+-- the field is that of ON
+abbrev pub is_on : Option (List ℕ) → Bool
+is_on (Some field) = bytes_eq field (codes "1")
+is_on None = false
 
 -- fields with a comma before each
 abbrev pub after_commas : Fields → List ℕ

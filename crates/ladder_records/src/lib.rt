@@ -9,4 +9,4 @@ mod row;
 pub use field::{bit_field, read_number, read_signed};
 pub use line::{add_field, add_line};
 pub use records::{Records, next, read_from};
-pub use row::is_record;
+pub use row::{is_on, is_record};

@@ -29,7 +29,8 @@ pub fn link_at<S: Operations>(links: &[S], place: usize) -> S
     }
 }
 
-fn contact<S: Operations>(mode: Mode, operand: S, memory: S) -> S
+/// What a contact lets through, by what it reads and what its memory stores.
+pub fn contact<S: Operations>(mode: Mode, operand: S, memory: S) -> S
     ensures { result ≡ contact S.algebra mode operand memory }
 {
     match mode {

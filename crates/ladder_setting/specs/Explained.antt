@@ -5,18 +5,12 @@ use Rattle.ladder_questions.specs.declared.fault.CauseFault.TheVariants as cause
 use Rattle.ladder_grid.specs.declared.fault.GridFault.TheVariants.{Grid}
 use Rattle.ladder_rules.specs.Columns.{IsColumnOf}
 use Rattle.ladder_reasons.specs.Reasons.{reason_text}
-use Rattle.ladder_state.specs.declared.fault.StateFault.{StateFault}
 use Rattle.ladder_state.specs.declared.fault.StateFault.TheVariants as state
-use Rattle.ladder_text.specs.declared.fault.ReadFault.{ReadFault}
 use Rattle.ladder_text.specs.declared.fault.ReadFault.TheVariants as read
-use Rattle.ladder_trace.specs.declared.fault.SimFault.{SimFault}
 use Rattle.ladder_trace.specs.declared.fault.SimFault.TheVariants as sim
 use Rattle.ladder_setting.specs.declared.fault.ToolFault.{ToolFault}
 use Rattle.ladder_setting.specs.declared.fault.ToolFault.TheVariants as fault
 use Rattle.ladder_setting.specs.FaultLine.{fault_line}
-
-abbrev pub memory_sentence : List ℕ
-memory_sentence = codes "X7: out of memory"
 
 -- why there is no list of causes, or no scan to show
 abbrev pub cause_sentence : CauseFault → List ℕ
@@ -28,36 +22,27 @@ cause_sentence cause.RepeatedInput = codes "C5: an input is listed twice"
 cause_sentence cause.AfterOutOfRange = codes "C6: the listed inputs have no such number"
 cause_sentence cause.Memory = codes "C7: out of memory"
 
-abbrev pub read_sentence : ReadFault → List ℕ
-read_sentence read.Read = codes "X1: the file can't be read"
-read_sentence read.TooLong = codes "X5: the file is too long"
-read_sentence read.Memory = memory_sentence
-
-abbrev pub state_sentence : StateFault → List ℕ
-state_sentence (state.BadRow row) = codes "X2: the record is none of a state of this program; records are counted from 1"
-state_sentence state.Memory = memory_sentence
-
--- why a simulation ended; its records are counted from 1, the header included
-abbrev pub sim_sentence : SimFault → List ℕ
-sim_sentence (sim.BadRow row) = codes "X2: the record isn't a moment with a 0 or 1 for each name of the header, which is record 1"
-sim_sentence (sim.UnknownName row) = codes "X3: a name of the header isn't an input of this program"
-sim_sentence (sim.MomentBack row) = codes "X4: the moment is before that of the record above it, or of the state; the header is record 1"
-sim_sentence (sim.TooLong row) = codes "X5: there are too many records; the header is record 1"
-sim_sentence sim.Write = codes "X6: a write failed"
-sim_sentence sim.Memory = memory_sentence
-
 -- the sentence of a fault that shows in no program text
 abbrev pub sentence : ToolFault → List ℕ
 sentence (fault.Title f) = codes "A1: this alias is the name or the alias of another declaration"
 sentence (fault.Cause f) = cause_sentence f
 sentence fault.NoScans = codes "C8: there are no such scans: none, too many, or one past the last moment"
-sentence (fault.Read kind f) = read_sentence f
-sentence (fault.State f) = state_sentence f
+sentence (fault.Read kind read.Read) = codes "X1: the file can't be read"
+sentence (fault.Read kind read.TooLong) = codes "X5: the file is too long"
+sentence (fault.Read kind read.Memory) = codes "X7: out of memory"
+sentence (fault.State (state.BadRow row)) = codes "X2: the record is none of a state of this program; records are counted from 1"
+sentence (fault.State state.Memory) = codes "X7: out of memory"
 sentence (fault.Word number) = codes "X3: the word names no variable; COIL is word 1, and the first INPUT the next one"
 sentence (fault.Watched number) = codes "X3: the name is that of no variable and no instance; names that are watched are counted from 1"
-sentence (fault.Sim f) = sim_sentence f
+-- the records of a simulation are counted from 1, the header included
+sentence (fault.Sim (sim.BadRow row)) = codes "X2: the record isn't a moment with a 0 or 1 for each name of the header, which is record 1"
+sentence (fault.Sim (sim.UnknownName row)) = codes "X3: a name of the header isn't an input of this program"
+sentence (fault.Sim (sim.MomentBack row)) = codes "X4: the moment is before that of the record above it, or of the state; the header is record 1"
+sentence (fault.Sim (sim.TooLong row)) = codes "X5: there are too many records; the header is record 1"
+sentence (fault.Sim sim.Write) = codes "X6: a write failed"
+sentence (fault.Sim sim.Memory) = codes "X7: out of memory"
 sentence fault.Write = codes "X6: a write failed"
-sentence fault.Memory = memory_sentence
+sentence fault.Memory = codes "X7: out of memory"
 sentence other = codes "usage: the words are not those of a request"
 
 -- The column, where one is marked, is one in which the program text breaks the rule of the fault.

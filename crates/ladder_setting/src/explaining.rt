@@ -3,7 +3,7 @@
 ghost use Rattle.std.specs.Prelude.{◌≡◌, ◌≤◌, ◌++◌, codes, IfSome};
 ghost use Rattle.ladder_page.specs.declared.geometry.TheConstants.{COLUMNS};
 ghost use Rattle.ladder_text.specs.Log.{Puts};
-ghost use Rattle.ladder_setting.specs.Explained.{cause_sentence, explained, read_sentence, report_of, sentence, sim_sentence, state_sentence};
+ghost use Rattle.ladder_setting.specs.Explained.{cause_sentence, explained, report_of, sentence};
 
 use crate::fault::{ToolFault, write_fault};
 use ladder_questions::CauseFault;
@@ -11,8 +11,6 @@ use ladder_reasons::write_reason;
 use ladder_state::StateFault;
 use ladder_text::{Piece, ReadFault, Sink, WriteFault, put_pieces};
 use ladder_trace::SimFault;
-
-const MEMORY: &[u8] = b"X7: out of memory";
 
 fn cause_sentence(fault: CauseFault) -> &'static [u8]
     ensures { result.now ≡ cause_sentence fault }
@@ -28,44 +26,6 @@ fn cause_sentence(fault: CauseFault) -> &'static [u8]
     }
 }
 
-fn read_sentence(fault: ReadFault) -> &'static [u8]
-    ensures { result.now ≡ read_sentence fault }
-{
-    match fault {
-        ReadFault::Read => b"X1: the file can't be read",
-        ReadFault::TooLong => { b"X5: the file is too long" }
-        ReadFault::Memory => MEMORY,
-    }
-}
-
-fn state_sentence(fault: StateFault) -> &'static [u8]
-    ensures { result.now ≡ state_sentence fault }
-{
-    match fault {
-        StateFault::BadRow { .. } => {
-            b"X2: the record is none of a state of this program; records are counted from 1"
-        }
-        StateFault::Memory => MEMORY,
-    }
-}
-
-fn sim_sentence(fault: SimFault) -> &'static [u8]
-    ensures { result.now ≡ sim_sentence fault }
-{
-    match fault {
-        SimFault::BadRow { .. } => {
-            b"X2: the record isn't a moment with a 0 or 1 for each name of the header, which is record 1"
-        }
-        SimFault::UnknownName { .. } => b"X3: a name of the header isn't an input of this program",
-        SimFault::MomentBack { .. } => {
-            b"X4: the moment is before that of the record above it, or of the state; the header is record 1"
-        }
-        SimFault::TooLong { .. } => b"X5: there are too many records; the header is record 1",
-        SimFault::Write => b"X6: a write failed",
-        SimFault::Memory => MEMORY,
-    }
-}
-
 /// The sentence of a fault; of one of a program text `write_reason` says more.
 fn sentence(fault: ToolFault) -> &'static [u8]
     ensures { result.now ≡ sentence fault }
@@ -76,17 +36,32 @@ fn sentence(fault: ToolFault) -> &'static [u8]
         ToolFault::NoScans => {
             b"C8: there are no such scans: none, too many, or one past the last moment"
         }
-        ToolFault::Read(_, fault) => read_sentence(fault),
-        ToolFault::State(fault) => state_sentence(fault),
+        ToolFault::Read(_, ReadFault::Read) => b"X1: the file can't be read",
+        ToolFault::Read(_, ReadFault::TooLong) => b"X5: the file is too long",
+        ToolFault::State(StateFault::BadRow { .. }) => {
+            b"X2: the record is none of a state of this program; records are counted from 1"
+        }
         ToolFault::Word { .. } => {
             b"X3: the word names no variable; COIL is word 1, and the first INPUT the next one"
         }
         ToolFault::Watched { .. } => {
             b"X3: the name is that of no variable and no instance; names that are watched are counted from 1"
         }
-        ToolFault::Sim(fault) => sim_sentence(fault),
-        ToolFault::Write => b"X6: a write failed",
-        ToolFault::Memory => MEMORY,
+        ToolFault::Sim(SimFault::BadRow { .. }) => {
+            b"X2: the record isn't a moment with a 0 or 1 for each name of the header, which is record 1"
+        }
+        ToolFault::Sim(SimFault::UnknownName { .. }) =>
+            b"X3: a name of the header isn't an input of this program",
+        ToolFault::Sim(SimFault::MomentBack { .. }) => {
+            b"X4: the moment is before that of the record above it, or of the state; the header is record 1"
+        }
+        ToolFault::Sim(SimFault::TooLong { .. }) =>
+            b"X5: there are too many records; the header is record 1",
+        ToolFault::Write | ToolFault::Sim(SimFault::Write) => b"X6: a write failed",
+        ToolFault::Memory
+        | ToolFault::Read(_, ReadFault::Memory)
+        | ToolFault::State(StateFault::Memory)
+        | ToolFault::Sim(SimFault::Memory) => b"X7: out of memory",
         ToolFault::Grid(_) | ToolFault::Usage => b"usage: the words are not those of a request",
     }
 }

@@ -2,11 +2,10 @@
 
 ghost use Rattle.std.specs.Prelude.{◌≡◌, ◌∷◌, ◌++◌, ◌+◌, ◌≤◌, IfOk, IfErr, List, Some, ℕ, length, map, option_map, string_bytes};
 ghost use Rattle.ladder_setting.specs.Variables.{AreListed, AreVariables, variable_of};
-ghost use Rattle.ladder_vars.specs.Decls.{is_input};
-ghost use Rattle.ladder_questions.specs.Assignment.{input_variables};
 ghost use Rattle.ladder_setting.specs.Reports.{HasWordFault, names_in};
 
 use crate::fault::ToolFault;
+use ladder_questions::source::input_variables;
 use ladder_vars::{Decls, Name, Symbol};
 use std::alloc::Global;
 
@@ -99,27 +98,12 @@ fn listed_variables(
         → IfErr result (HasWordFault decls.now (before ++ map string_bytes words.now)) }
 {
     if all {
-        return all_inputs(alloc, decls);
-    }
-    named_variables(alloc, decls, words, first)
-}
-
-/// All inputs, in order of declaration.
-fn all_inputs(alloc: Global, decls: &Decls) -> Result<Vec<usize>, ToolFault>
-    ensures ok { IfOk result (λ v. v.items ≡ input_variables (map is_input decls.now.vars)) }
-    ensures fault { IfErr result (λ f. f ≡ ToolFault.Memory) }
-{
-    let vars = decls.vars();
-    let mut inputs = Vec::new(alloc);
-    for var in 0..vars.len() {
-        if !vars[var].is_input() {
-            continue;
-        }
-        let Ok(()) = inputs.push(var) else {
+        let Ok(inputs) = input_variables(alloc, decls.vars()) else {
             return Err(ToolFault::Memory);
         };
+        return Ok(inputs);
     }
-    Ok(inputs)
+    named_variables(alloc, decls, words, first)
 }
 
 /// The variables that the words name, of which the first has this number; the words before it name variables.

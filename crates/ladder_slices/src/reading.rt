@@ -4,36 +4,13 @@ ghost use Rattle.std.specs.Prelude.{◌≡◌, ◌<◌, length, true};
 ghost use Rattle.ladder_grid.specs.declared.steps.Step.{Step};
 ghost use Rattle.ladder_scan.specs.Programs.{diagram_of};
 ghost use Rattle.ladder_look.specs.Stepping.{IsWithin};
-ghost use Rattle.ladder_slices.specs.Slicing.{by_gate, by_own, cell_ends, cell_values, keeps, keeps_act, keeps_own, mark, operand_ends, operand_values, reads};
+ghost use Rattle.ladder_slices.specs.Slicing.{by_gate, by_own, cell_ends, cell_values, keeps, mark, operand_ends, operand_values, reads};
 
 use crate::marks::Marks;
 use ladder_grid::gates::OWN;
 use ladder_grid::steps::{Rare, Spot, Step};
 use ladder_grid::{Cell, Operand, Program};
 use ladder_scan::scene::cell;
-
-/// Whether something reads what a gate gives, or what its cell alone lets through.
-fn keeps_own(marks: &Marks, spot: Spot) -> bool
-    ensures { result ≡ keeps_own marks.now spot }
-{
-    marks.has_link(spot.place as usize) || marks.has_link(OWN + spot.place as usize)
-}
-
-/// Whether something reads what a cell writes.
-fn keeps_act(marks: &Marks, cell: Cell) -> bool
-    ensures { result ≡ keeps_act marks.now cell }
-{
-    match cell {
-        Cell::Coil { var, .. } => marks.has_value(var),
-        Cell::Block { inst } => marks.has_end(inst),
-        Cell::Empty
-        | Cell::Wire
-        | Cell::Contact { .. }
-        | Cell::Lower { .. }
-        | Cell::Jump { .. }
-        | Cell::Return => false,
-    }
-}
 
 fn keeps_rare(program: &Program, marks: &Marks, rare: Rare) -> bool
     requires { IsWithin program.now.rungs (length program.now.decls.vars) (Step.Rare rare) }
@@ -44,14 +21,23 @@ fn keeps_rare(program: &Program, marks: &Marks, rare: Rare) -> bool
         | Rare::Rising { spot, .. }
         | Rare::Falling { spot, .. }
         | Rare::Block { spot, .. }
-        | Rare::Own { spot, .. } => keeps_own(marks, spot),
+        | Rare::Own { spot, .. } => {
+            marks.has_link(spot.place as usize) || marks.has_link(OWN + spot.place as usize)
+        }
         Rare::Store { var, .. } | Rare::Set { var, .. } | Rare::Reset { var, .. } => {
             marks.has_value(var as usize)
         }
         Rare::End { inst, .. } => marks.has_end(inst as usize),
-        Rare::Act { rung, place, .. } => {
-            keeps_act(marks, cell(program, rung as usize, place as usize))
-        }
+        Rare::Act { rung, place, .. } => match cell(program, rung as usize, place as usize) {
+            Cell::Coil { var, .. } => marks.has_value(var),
+            Cell::Block { inst } => marks.has_end(inst),
+            Cell::Empty
+            | Cell::Wire
+            | Cell::Contact { .. }
+            | Cell::Lower { .. }
+            | Cell::Jump { .. }
+            | Cell::Return => false,
+        },
         Rare::Leave { .. } | Rare::Turn { .. } => marks.has_guards(),
     }
 }

@@ -12,8 +12,8 @@ use Rattle.ladder_scan.proofs.Possible.{can_possible, can_shape, can_store}
 use Rattle.ladder_elements.specs.Blocks.{new_block}
 use Rattle.ladder_elements.specs.declared.block.Stored.{Stored}
 use Rattle.ladder_elements.specs.declared.block.Stored.TheVariants.{Timer, Counter, Bistable}
-use Rattle.ladder_records.specs.Text.{bit_text}
-use Rattle.ladder_state.specs.Item.{is_on, IsBlockRecord}
+use Rattle.ladder_records.specs.Text.{bit_text, is_on}
+use Rattle.ladder_state.specs.Item.{IsBlockRecord}
 use Rattle.ladder_state.specs.StateText.{block_record}
 
 pub some_same : {A : Type 0} {x y : A} → Some x ≡ Some y → x ≡ y

@@ -1,13 +1,9 @@
 -- Private to the reading of a state: what the record of an instance says.
-use Rattle.std.specs.Prelude.{◌≡◌, ℕ, List, Option, Some, None, Bool, false, codes, bytes_eq}
+use Rattle.std.specs.Prelude.{◌≡◌, ℕ, List}
 use Rattle.ladder_records.specs.Left.{Fields}
 use Rattle.ladder_elements.specs.declared.block.Stored.{Stored}
 use Rattle.ladder_scan.specs.RungByRung.{IsPossible, shape}
 use Rattle.ladder_state.specs.StateText.{block_record}
-
-abbrev pub is_on : Option (List ℕ) → Bool
-is_on None = false
-is_on (Some field) = bytes_eq field (codes "1")
 
 -- the record says that an instance of this name and shape stores this, and it can at this moment
 pub record IsBlockRecord (name : List ℕ) (wanted : Stored) (moment : ℕ) (fields : Fields) (s : Stored) : Type 0 where

@@ -7,7 +7,7 @@ ghost use Rattle.ladder_vars.specs.declared.kind.BlockKind.TheVariants.{Ton, Ctu
 ghost use Rattle.ladder_elements.specs.Blocks.{new_block};
 ghost use Rattle.ladder_elements.specs.declared.block.Stored.{Stored};
 ghost use Rattle.ladder_scan.specs.Standing.{CanStore};
-ghost use Rattle.ladder_state.specs.Item.{is_on, IsBlockRecord};
+ghost use Rattle.ladder_state.specs.Item.{IsBlockRecord};
 ghost use Rattle.ladder_state.specs.StateText.{block_record, memory_record, var_record};
 ghost use Rattle.ladder_state.specs.Parts.{moment_record};
 
@@ -15,7 +15,7 @@ use csv::ByteRecord;
 use itoa::Buffer;
 use ladder_elements::Stored;
 use ladder_page::geometry::{PLACES, ROWS};
-use ladder_records::{bit_field, is_record, read_number, read_signed};
+use ladder_records::{bit_field, is_on, is_record, read_number, read_signed};
 use ladder_vars::{BlockKind, Instance, Var};
 
 fn is_moment(field: &[u8], row: &ByteRecord) -> bool
@@ -92,15 +92,6 @@ pub(crate) fn read_memory(place: usize, row: &ByteRecord) -> Option<bool>
         return Some(false);
     }
     None
-}
-
-fn is_on(row: &ByteRecord, number: usize) -> bool
-    ensures { result ≡ is_on (field_at (fields_of row.now) number) }
-{
-    match row.get(number) {
-        Some(field) => field == b"1".as_slice(),
-        None => false,
-    }
 }
 
 fn is_timer(

@@ -5,8 +5,8 @@ use Rattle.std.specs.Cmp.Lexicographic.{same_text}
 use Rattle.std.proofs.lemmas.List.{length-map}
 use Rattle.csv.specs.Records.{field_at}
 use Rattle.ladder_records.specs.Left.{Fields}
-use Rattle.ladder_records.specs.Text.{bit_text}
-use Rattle.ladder_trace.specs.Room.{bits_of, is_on}
+use Rattle.ladder_records.specs.Text.{bit_text, is_on}
+use Rattle.ladder_trace.specs.Room.{bits_of}
 use Rattle.ladder_trace.specs.Stimulus.{IsRow, are_bits, is_bit}
 use Rattle.ladder_trace.proofs.Lists.{all_first, some_same}
 

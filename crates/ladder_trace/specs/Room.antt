@@ -1,10 +1,11 @@
 -- Private to the simulation: what its inner functions allocate before a first write, how they read a field, and choose variables.
-use Rattle.std.specs.Prelude.{◌≡◌, ◌∷◌, ◌*◌, ℕ, List, [], Bool, true, false, Option, Some, None, codes, bytes_eq, drop, length, map, slice_index_or}
+use Rattle.std.specs.Prelude.{◌≡◌, ◌∷◌, ◌*◌, ℕ, List, [], Bool, Some, drop, length, map, slice_index_or}
 use Rattle.std.specs.List.{count_by}
 use Rattle.ladder_vars.specs.declared.decls.Var.{Var}
 use Rattle.ladder_vars.specs.Decls.{is_input}
 use Rattle.ladder_grid.specs.Program.{Drawing}
 use Rattle.ladder_records.specs.Left.{Fields}
+use Rattle.ladder_records.specs.Text.{is_on}
 use Rattle.ladder_scan.specs.Standing.{Fits}
 use Rattle.ladder_trace.specs.declared.simulation.Room.{Room}
 use Rattle.ladder_trace.specs.Trace.{is_output, values_of}
@@ -24,11 +25,6 @@ pub record IsReady (p : Drawing) (room : Room) : Type 0 where
   pub line : length room.line.items ≡ 2 * length room.outputs.items
   pub empty : room.block ≡ []
   pub fits : Fits p room.before
-
--- The field is the bit of ON.
-abbrev pub is_on : Option (List ℕ) → Bool
-is_on (Some field) = bytes_eq field (codes "1")
-is_on None = false
 
 -- These are the bits of a record, after its moment.
 abbrev pub bits_of : Fields → List Bool

@@ -3,24 +3,15 @@
 ghost use Rattle.std.specs.Prelude.{◌≡◌, ◌<◌, ◌+◌, All, IfOk, IfSome, None, count_by, drop, false, length, map, slice_index_or};
 ghost use Rattle.csv.specs.Records.{field_at, fields_of};
 ghost use Rattle.ladder_vars.specs.Decls.{is_input};
-ghost use Rattle.ladder_trace.specs.Room.{ArePicked, bits_of, is_on};
+ghost use Rattle.ladder_trace.specs.Room.{ArePicked, bits_of};
 ghost use Rattle.ladder_trace.specs.Simulation.{IsNoRow};
 ghost use Rattle.ladder_trace.specs.Stimulus.{are_bits, given_by, is_bit, IsRow};
 
 use csv::ByteRecord;
-use ladder_records::read_number;
+use ladder_records::{is_on, read_number};
 use ladder_scan::State;
 use ladder_vars::Var;
 use std::alloc::{AllocError, Global};
-
-fn is_on(row: &ByteRecord, number: usize) -> bool
-    ensures { result ≡ is_on (field_at (fields_of row.now) number) }
-{
-    match row.get(number) {
-        Some(field) => field == b"1".as_slice(),
-        None => false,
-    }
-}
 
 fn is_bit(row: &ByteRecord, number: usize) -> bool
     ensures { result ≡ is_bit (field_at (fields_of row.now) number) }

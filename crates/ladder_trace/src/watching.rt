@@ -9,7 +9,7 @@ ghost use Rattle.ladder_text.specs.Log.{Puts};
 ghost use Rattle.ladder_text.specs.Pieces.{piece_text};
 ghost use Rattle.ladder_trace.specs.Room.{ArePicked};
 ghost use Rattle.ladder_trace.specs.Trace.{is_output, watched_header, watched_row};
-ghost use Rattle.ladder_trace.specs.Watching.{column_name, column_text, elapsed, preset_of};
+ghost use Rattle.ladder_trace.specs.Watching.{column_name, column_text, elapsed, preset_of, stored_of};
 
 use crate::column::Column;
 use crate::trace::{add_bits, add_moment, add_names};
@@ -19,15 +19,6 @@ use ladder_records::add_field;
 use ladder_scan::State;
 use ladder_text::{Block, Piece, Sink, WriteFault, add_pieces};
 use ladder_vars::Decls;
-
-fn preset_of(decls: &Decls, inst: usize) -> u64
-    ensures { result ≡ preset_of decls.now inst }
-{
-    match decls.instances().get(inst) {
-        Some(instance) => instance.preset as u64,
-        None => 0,
-    }
-}
 
 /// Adds a name of two parts, after a comma.
 fn add_name<'a, W: Sink>(
@@ -106,16 +97,22 @@ pub(crate) fn write_watched_header<W: Sink>(
     Ok(())
 }
 
-/// How long a timer has run at a moment, at most its preset; 0 where it doesn't run.
-fn elapsed(preset: u64, now: u64, stored: Stored) -> u64
-    ensures { result ≡ elapsed preset now stored }
+/// How long a timer has run, at most its preset; 0 where it doesn't run.
+fn elapsed(decls: &Decls, state: &State, inst: usize) -> u64
+    ensures { result ≡ elapsed (preset_of decls.now inst) state.now.moment (stored_of state.now inst) }
 {
-    match stored {
+    let Some(instance) = decls.instances().get(inst) else {
+        return 0;
+    };
+    match state.stored(inst) {
         Stored::Timer {
             running: true,
             start,
             ..
-        } => now.saturating_sub(start).min(preset),
+        } => state
+            .moment()
+            .saturating_sub(start)
+            .min(instance.preset as u64),
         Stored::Timer { running: false, .. } | Stored::Counter { .. } | Stored::Bistable { .. } =>
             0,
     }
@@ -164,8 +161,7 @@ fn add_column_value<W: Sink>(
         Column::Value(var) => block.add(bit_after_comma(state.value_or_off(var)), writer),
         Column::Output(inst) => block.add(bit_after_comma(state.stored(inst).q()), writer),
         Column::Elapsed(inst) => {
-            let time = elapsed(preset_of(decls, inst), state.moment(), state.stored(inst));
-            add_number(block, Piece::Number(time), writer)
+            add_number(block, Piece::Number(elapsed(decls, state, inst)), writer)
         }
         Column::Count(inst) => {
             let count = count_of(state.stored(inst));

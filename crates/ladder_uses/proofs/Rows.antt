@@ -11,9 +11,6 @@ use Rattle.std.proofs.lemmas.Option.{get_or_from_slice_get, slice_get_read, slic
 use Rattle.ladder_vars.specs.Decls.{Declared}
 use Rattle.ladder_vars.specs.declared.decls.Symbol.{Symbol}
 use Rattle.ladder_vars.specs.declared.decls.Symbol.TheVariants as symbol
-use Rattle.ladder_grid.specs.declared.cell.Cell.{Cell}
-use Rattle.ladder_grid.specs.declared.cell.Cell.TheVariants as cell
-use Rattle.ladder_grid.specs.declared.cell.Operand.TheVariants as operand
 use Rattle.ladder_grid.specs.Program.{Drawing, cell_in}
 use Rattle.ladder_text.specs.Block.{SendsAll}
 use Rattle.ladder_text.specs.Log.{PutsPrefix, WriteLog}
@@ -22,7 +19,7 @@ use Rattle.ladder_records.specs.Left.{Fields}
 use Rattle.ladder_records.specs.Text.{lines_text}
 use Rattle.ladder_records.proofs.Commas.{lines_text-append}
 use Rattle.ladder_uses.specs.declared.usage.Use.{Use}
-use Rattle.ladder_uses.specs.Usage.{if_of, row_of, use_in}
+use Rattle.ladder_uses.specs.Usage.{row_of}
 use Rattle.ladder_uses.specs.Uses.{or_unused, place_rows, symbols_of, use_of, use_row}
 
 -- one item more
@@ -81,27 +78,6 @@ instance_at d n h past =
     ∙ get_or-map-range_with_len symbol.Instance 0 (length d.instances) k k (symbol.Instance k) (omega (arith, below, past)) (omega arith)))
 
 -- ---- the places of a symbol
-
--- what the code asks of a cell is how it uses the symbol
-pub use_same : (s : Symbol) (c : Cell) → if_of s (use_in c) ≡ use_of s c
-use_same (symbol.Var v) cell.Empty = refl
-use_same (symbol.Var v) cell.Wire = refl
-use_same (symbol.Var v) (cell.Contact m (operand.Var var) memory) = refl
-use_same (symbol.Var v) (cell.Contact m (operand.Output inst) memory) = refl
-use_same (symbol.Var v) (cell.Coil m var memory) = refl
-use_same (symbol.Var v) (cell.Block inst) = refl
-use_same (symbol.Var v) (cell.Lower inst linked) = refl
-use_same (symbol.Var v) (cell.Jump target) = refl
-use_same (symbol.Var v) cell.Return = refl
-use_same (symbol.Instance i) cell.Empty = refl
-use_same (symbol.Instance i) cell.Wire = refl
-use_same (symbol.Instance i) (cell.Contact m (operand.Var var) memory) = refl
-use_same (symbol.Instance i) (cell.Contact m (operand.Output inst) memory) = refl
-use_same (symbol.Instance i) (cell.Coil m var memory) = refl
-use_same (symbol.Instance i) (cell.Block inst) = refl
-use_same (symbol.Instance i) (cell.Lower inst linked) = refl
-use_same (symbol.Instance i) (cell.Jump target) = refl
-use_same (symbol.Instance i) cell.Return = refl
 
 one_row : (name : List ℕ) (place : ℕ) (o : Option Use) (rows : List Fields) → cons_option (option_map (λ used. use_row name used place) o) rows ≡ row_of name place o ++ rows
 one_row name place None rows = refl

@@ -3,7 +3,6 @@
 ghost use Rattle.std.specs.Prelude.{◌≡◌, ◌*◌, ◌<◌};
 ghost use Rattle.ladder_page.specs.declared.geometry.TheConstants.{PLACES};
 ghost use Rattle.ladder_grid.specs.Program.{cell_in};
-ghost use Rattle.ladder_uses.specs.Usage.{if_of, same_symbol, use_in};
 ghost use Rattle.ladder_uses.specs.Uses.{use_of, use_word};
 
 use ladder_grid::{Cell, Operand, Program};
@@ -41,45 +40,21 @@ pub(crate) fn use_word(used: Use) -> &'static [u8]
     }
 }
 
-/// What a cell uses, and how.
-fn use_in(cell: Cell) -> Option<(Symbol, Use)>
-    ensures { result ≡ use_in cell }
-{
-    match cell {
-        Cell::Contact { mode, operand, .. } => match operand {
-            Operand::Var(var) => Some((Symbol::Var(var), Use::Contact(mode))),
-            Operand::Output(inst) => Some((Symbol::Instance(inst), Use::Contact(mode))),
-        },
-        Cell::Coil { mode, var, .. } => Some((Symbol::Var(var), Use::Coil(mode))),
-        Cell::Block { inst } => Some((Symbol::Instance(inst), Use::Block)),
-        Cell::Empty | Cell::Wire | Cell::Lower { .. } | Cell::Jump { .. } | Cell::Return => None,
-    }
-}
-
-fn same_symbol(a: Symbol, b: Symbol) -> bool
-    ensures { result ≡ same_symbol a b }
-{
-    match (a, b) {
-        (Symbol::Var(a), Symbol::Var(b)) | (Symbol::Instance(a), Symbol::Instance(b)) => a == b,
-        (Symbol::Var(_), Symbol::Instance(_)) | (Symbol::Instance(_), Symbol::Var(_)) => false,
-    }
-}
-
-/// The use, if it is one of the symbol.
-fn if_of(symbol: Symbol, used: Option<(Symbol, Use)>) -> Option<Use>
-    ensures { result ≡ if_of symbol used }
-{
-    match used {
-        Some((other, used)) if same_symbol(symbol, other) => Some(used),
-        Some(_) | None => None,
-    }
-}
-
 /// How a cell uses the symbol, if it does.
 fn use_of(symbol: Symbol, cell: Cell) -> Option<Use>
     ensures { result ≡ use_of symbol cell }
 {
-    if_of(symbol, use_in(cell))
+    let (used, how) = match cell {
+        Cell::Contact { mode, operand, .. } => match operand {
+            Operand::Var(var) => (Symbol::Var(var), Use::Contact(mode)),
+            Operand::Output(inst) => (Symbol::Instance(inst), Use::Contact(mode)),
+        },
+        Cell::Coil { mode, var, .. } => (Symbol::Var(var), Use::Coil(mode)),
+        Cell::Block { inst } => (Symbol::Instance(inst), Use::Block),
+        Cell::Empty | Cell::Wire | Cell::Lower { .. } | Cell::Jump { .. } | Cell::Return =>
+            return None,
+    };
+    if symbol == used { Some(how) } else { None }
 }
 
 /// How the cell at a place uses the symbol, if it does. Places go by rung, column and row.

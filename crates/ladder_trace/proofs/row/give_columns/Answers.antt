@@ -1,6 +1,7 @@
 use Rattle.std.proofs.Common.{◌≡◌, ◌∙◌, suc, Some, add-one, ap, arith, get_or, length-set, refl, set, sym, take_all}
 use Rattle.csv.specs.Records.{field_at, fields_of}
-use Rattle.ladder_trace.specs.Room.{bits_of, is_on}
+use Rattle.ladder_records.specs.Text.{is_on}
+use Rattle.ladder_trace.specs.Room.{bits_of}
 use Rattle.ladder_trace.specs.Stimulus.{given_by}
 use Rattle.ladder_trace.proofs.Bits.{bit_at}
 use Rattle.ladder_trace.proofs.Lists.{given_next, there_at}

@@ -2,7 +2,7 @@ use Rattle.std.proofs.Common.{◌≡◌, false, map}
 use Rattle.std.specs.Prelude.{filter, slice_index_or}
 use Rattle.std.specs.List.{range_with_len}
 use Rattle.ladder_vars.specs.Decls.{is_input}
-use Rattle.ladder_relevant.proofs.relevant.input_variables.Given as goal
+use Rattle.ladder_questions.proofs.source.input_variables.Given as goal
 
 abbrev pub invariant-loop-var : goal.invariant-loop-var
 invariant-loop-var l = record {

@@ -1,7 +1,7 @@
 use Rattle.std.proofs.Common.{◌≡◌, ◌∙◌, sym, true, false}
 use Rattle.ladder_vars.specs.Decls.{is_input}
 use Rattle.ladder_questions.proofs.SourceLaws.{passed_over, taken_up}
-use Rattle.ladder_relevant.proofs.relevant.input_variables.Goals as goal
+use Rattle.ladder_questions.proofs.source.input_variables.Goals as goal
 
 pub loop-var-preserved-then-not-is_input : goal.loop-var-preserved-then-not-is_input
 loop-var-preserved-then-not-is_input c =
