@@ -1,11 +1,22 @@
--- The sentence of each rule that a program text can break.
+-- The number and the sentence of each rule that a program text can break.
 use Rattle.std.specs.Prelude.{ℕ, List, codes}
 use Rattle.ladder_vars.specs.declared.fault.VarRule.{VarRule}
 use Rattle.ladder_vars.specs.declared.fault.VarRule.TheVariants as var
 use Rattle.ladder_rules.specs.declared.fault.GridRule.{GridRule}
 use Rattle.ladder_rules.specs.declared.fault.GridRule.TheVariants as rule
 
--- the rules of the declarations
+-- the rules of the declarations, V1 to V9
+abbrev pub var_number : VarRule → ℕ
+var_number var.BadByte = 1
+var_number var.BadToken = 2
+var_number var.BadName = 3
+var_number var.Duplicate = 4
+var_number var.DuplicateAddress = 5
+var_number var.BadPreset = 6
+var_number var.TooMany = 7
+var_number var.Unfinished = 8
+var_number var.Memory = 9
+
 abbrev pub var_sentence : VarRule → List ℕ
 var_sentence var.BadByte = codes "V1: this byte may stand in comments only"
 var_sentence var.BadToken = codes "V2: this token may not stand here"
@@ -17,7 +28,24 @@ var_sentence var.TooMany = codes "V7: there are too many variables or instances"
 var_sentence var.Unfinished = codes "V8: the text ends too early"
 var_sentence var.Memory = codes "V9: out of memory"
 
--- the rules of the drawing
+-- the rules of the drawing, G1 to G15
+abbrev pub grid_number : GridRule → ℕ
+grid_number rule.TooWide = 1
+grid_number rule.TooTall = 2
+grid_number rule.BadCell = 3
+grid_number rule.BadJoint = 4
+grid_number rule.BrokenVertical = 5
+grid_number rule.Unfed = 6
+grid_number rule.NameMissing = 7
+grid_number rule.NameWithoutSymbol = 8
+grid_number rule.Undeclared = 9
+grid_number rule.WrongKind = 10
+grid_number rule.BlockShape = 11
+grid_number rule.DrawnTwice = 12
+grid_number rule.LabelFault = 13
+grid_number rule.TwoJumps = 14
+grid_number rule.TooManyRungs = 15
+
 abbrev pub grid_sentence : GridRule → List ℕ
 grid_sentence rule.TooWide = codes "G1: past the right rail there may be spaces alone"
 grid_sentence rule.TooTall = codes "G2: a rung has at most 12 lines"

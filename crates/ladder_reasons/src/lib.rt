@@ -3,6 +3,7 @@
 
 mod quote;
 mod reason;
-mod sentence;
+mod rule;
 
 pub use reason::write_reason;
+pub use rule::{RuleText, grid_rule, var_rule};

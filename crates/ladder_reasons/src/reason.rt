@@ -7,7 +7,7 @@ ghost use Rattle.ladder_text.specs.Log.{Puts};
 ghost use Rattle.ladder_reasons.specs.Reasons.{MayStand, marks_in, marks_text, near, reason_text, ruler};
 
 use crate::quote::{Marks, add_near};
-use crate::sentence::{grid_sentence, var_sentence};
+use crate::rule::{grid_rule, var_rule};
 use ladder_grid::GridFault;
 use ladder_page::geometry::{CELL, PITCH};
 use ladder_rules::GridRule;
@@ -89,11 +89,11 @@ fn add_reason<W: Sink>(
 {
     match *fault {
         GridFault::Vars(fault) => {
-            add_sentence(block, var_sentence(fault.rule), writer)?;
+            add_sentence(block, var_rule(fault.rule).sentence, writer)?;
             add_near(block, text, fault.line, None, writer)
         }
         GridFault::Grid { rule, line, .. } => {
-            add_sentence(block, grid_sentence(rule), writer)?;
+            add_sentence(block, grid_rule(rule).sentence, writer)?;
             add_place(block, text, line, marks(rule, column), writer)
         }
     }

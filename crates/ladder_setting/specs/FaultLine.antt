@@ -3,8 +3,7 @@ use Rattle.std.specs.Prelude.{◌++◌, ℕ, List, codes, decimal}
 use Rattle.ladder_vars.specs.declared.fault.VarRule.{VarRule}
 use Rattle.ladder_vars.specs.declared.fault.VarRule.TheVariants as var
 use Rattle.ladder_grid.specs.declared.fault.GridFault.TheVariants as grid
-use Rattle.ladder_rules.specs.declared.fault.GridRule.{GridRule}
-use Rattle.ladder_rules.specs.declared.fault.GridRule.TheVariants as rule
+use Rattle.ladder_reasons.specs.Sentences.{grid_number, var_number}
 use Rattle.ladder_questions.specs.declared.fault.CauseFault.{CauseFault}
 use Rattle.ladder_questions.specs.declared.fault.CauseFault.TheVariants as cause
 use Rattle.ladder_text.specs.declared.fault.ReadFault.TheVariants as read
@@ -14,36 +13,6 @@ use Rattle.ladder_setting.specs.declared.fault.TextKind.{TextKind}
 use Rattle.ladder_setting.specs.declared.fault.TextKind.TheVariants as kind
 use Rattle.ladder_setting.specs.declared.fault.ToolFault.{ToolFault}
 use Rattle.ladder_setting.specs.declared.fault.ToolFault.TheVariants as fault
-
--- the rules of the declarations, V1 to V9
-abbrev pub var_number : VarRule → ℕ
-var_number var.BadByte = 1
-var_number var.BadToken = 2
-var_number var.BadName = 3
-var_number var.Duplicate = 4
-var_number var.DuplicateAddress = 5
-var_number var.BadPreset = 6
-var_number var.TooMany = 7
-var_number var.Unfinished = 8
-var_number var.Memory = 9
-
--- the rules of the drawing, G1 to G15
-abbrev pub grid_number : GridRule → ℕ
-grid_number rule.TooWide = 1
-grid_number rule.TooTall = 2
-grid_number rule.BadCell = 3
-grid_number rule.BadJoint = 4
-grid_number rule.BrokenVertical = 5
-grid_number rule.Unfed = 6
-grid_number rule.NameMissing = 7
-grid_number rule.NameWithoutSymbol = 8
-grid_number rule.Undeclared = 9
-grid_number rule.WrongKind = 10
-grid_number rule.BlockShape = 11
-grid_number rule.DrawnTwice = 12
-grid_number rule.LabelFault = 13
-grid_number rule.TwoJumps = 14
-grid_number rule.TooManyRungs = 15
 
 -- the reasons why there is no list of causes, C1 to C7; C8, of one over several scans, stands below
 abbrev pub cause_number : CauseFault → ℕ

@@ -3,28 +3,13 @@
 ghost use Rattle.std.specs.Prelude.{◌≡◌, ◌≤◌, ◌++◌, codes, IfSome};
 ghost use Rattle.ladder_page.specs.declared.geometry.TheConstants.{COLUMNS};
 ghost use Rattle.ladder_text.specs.Log.{Puts};
-ghost use Rattle.ladder_setting.specs.Explained.{cause_sentence, explained, report_of, sentence};
+ghost use Rattle.ladder_setting.specs.Explained.{explained, report_of, sentence};
 
-use crate::fault::{ToolFault, write_fault};
-use ladder_questions::CauseFault;
+use crate::fault::{ToolFault, cause_rule, write_fault};
 use ladder_reasons::write_reason;
 use ladder_state::StateFault;
 use ladder_text::{Piece, ReadFault, Sink, WriteFault, put_pieces};
 use ladder_trace::SimFault;
-
-fn cause_sentence(fault: CauseFault) -> &'static [u8]
-    ensures { result.now ≡ cause_sentence fault }
-{
-    match fault {
-        CauseFault::MomentBack => b"C1: the moment is before the one that the state stores",
-        CauseFault::NotACoil => b"C2: no coil writes this variable",
-        CauseFault::TooManyFree => b"C3: too many inputs are listed",
-        CauseFault::NotAnInput => b"C4: a listed variable isn't an input",
-        CauseFault::RepeatedInput => b"C5: an input is listed twice",
-        CauseFault::AfterOutOfRange => b"C6: the listed inputs have no such number",
-        CauseFault::Memory => b"C7: out of memory",
-    }
-}
 
 /// The sentence of a fault; of one of a program text `write_reason` says more.
 fn sentence(fault: ToolFault) -> &'static [u8]
@@ -32,7 +17,7 @@ fn sentence(fault: ToolFault) -> &'static [u8]
 {
     match fault {
         ToolFault::Title(_) => { b"A1: this alias is the name or the alias of another declaration" }
-        ToolFault::Cause(fault) => cause_sentence(fault),
+        ToolFault::Cause(fault) => cause_rule(fault).sentence,
         ToolFault::NoScans => {
             b"C8: there are no such scans: none, too many, or one past the last moment"
         }

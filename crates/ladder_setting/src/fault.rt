@@ -2,12 +2,13 @@
 
 ghost use Rattle.std.specs.Prelude.{◌≡◌};
 ghost use Rattle.ladder_text.specs.Log.{Puts};
-ghost use Rattle.ladder_setting.specs.FaultLine.{cause_number, fault_line, grid_number, kind_word, numbered, var_line, var_number};
+ghost use Rattle.ladder_setting.specs.FaultLine.{cause_number, fault_line, kind_word, numbered, var_line};
+ghost use Rattle.ladder_setting.specs.Explained.{cause_sentence};
 ghost use Rattle.ladder_setting.specs.declared.fault.ToolFault.TheVariants.{Read, Sim};
 
 use ladder_grid::GridFault;
 use ladder_questions::CauseFault;
-use ladder_rules::GridRule;
+use ladder_reasons::{RuleText, grid_rule, var_rule};
 use ladder_state::StateFault;
 use ladder_text::{Piece, ReadFault, Sink, WriteFault, put, put_pieces};
 use ladder_trace::SimFault;
@@ -74,7 +75,7 @@ pub fn write_fault<W: Sink>(fault: &ToolFault, writer: &mut W) -> Result<(), Wri
         ToolFault::Grid(GridFault::Grid { rule, rung, line }) => {
             let pieces = [
                 Piece::Text(b"fault G"),
-                Piece::Number(grid_number(rule)),
+                Piece::Number(grid_rule(rule).number),
                 Piece::Text(b" rung "),
                 Piece::Number(rung as u64),
                 Piece::Text(b" line "),
@@ -84,7 +85,7 @@ pub fn write_fault<W: Sink>(fault: &ToolFault, writer: &mut W) -> Result<(), Wri
             put_pieces(writer, pieces.as_slice())
         }
         ToolFault::Title(fault) => write_numbered(b"fault A1 line ", fault.line as u64, writer),
-        ToolFault::Cause(fault) => write_numbered(b"fault C", cause_number(fault), writer),
+        ToolFault::Cause(fault) => write_numbered(b"fault C", cause_rule(fault).number, writer),
         ToolFault::NoScans => put(writer, b"fault C8\n"),
         ToolFault::Read(kind, fault) => write_read_fault(kind, fault, writer),
         ToolFault::State(StateFault::BadRow { row }) => {
@@ -108,7 +109,7 @@ fn write_var_fault<W: Sink>(fault: VarFault, writer: &mut W) -> Result<(), Write
     }
     let pieces = [
         Piece::Text(b"fault V"),
-        Piece::Number(var_number(fault.rule)),
+        Piece::Number(var_rule(fault.rule).number),
         Piece::Text(b" line "),
         Piece::Number(fault.line as u64),
         Piece::Text(b"\n"),
@@ -168,54 +169,39 @@ fn kind_word(kind: TextKind) -> &'static [u8]
     }
 }
 
-fn var_number(rule: VarRule) -> u64
-    ensures { result ≡ var_number rule }
-{
-    match rule {
-        VarRule::BadByte => 1,
-        VarRule::BadToken => 2,
-        VarRule::BadName => 3,
-        VarRule::Duplicate => 4,
-        VarRule::DuplicateAddress => 5,
-        VarRule::BadPreset => 6,
-        VarRule::TooMany => 7,
-        VarRule::Unfinished => 8,
-        VarRule::Memory => 9,
-    }
-}
-
-fn grid_number(rule: GridRule) -> u64
-    ensures { result ≡ grid_number rule }
-{
-    match rule {
-        GridRule::TooWide => 1,
-        GridRule::TooTall => 2,
-        GridRule::BadCell => 3,
-        GridRule::BadJoint => 4,
-        GridRule::BrokenVertical => 5,
-        GridRule::Unfed => 6,
-        GridRule::NameMissing => 7,
-        GridRule::NameWithoutSymbol => 8,
-        GridRule::Undeclared => 9,
-        GridRule::WrongKind => 10,
-        GridRule::BlockShape => 11,
-        GridRule::DrawnTwice => 12,
-        GridRule::LabelFault => 13,
-        GridRule::TwoJumps => 14,
-        GridRule::TooManyRungs => 15,
-    }
-}
-
-fn cause_number(fault: CauseFault) -> u64
-    ensures { result ≡ cause_number fault }
+/// The number of a reason why there is no list of causes, and its sentence.
+pub(crate) fn cause_rule(fault: CauseFault) -> RuleText
+    ensures number { result.number ≡ cause_number fault }
+    ensures sentence { result.sentence.now ≡ cause_sentence fault }
 {
     match fault {
-        CauseFault::MomentBack => 1,
-        CauseFault::NotACoil => 2,
-        CauseFault::TooManyFree => 3,
-        CauseFault::NotAnInput => 4,
-        CauseFault::RepeatedInput => 5,
-        CauseFault::AfterOutOfRange => 6,
-        CauseFault::Memory => 7,
+        CauseFault::MomentBack => RuleText {
+            number: 1,
+            sentence: b"C1: the moment is before the one that the state stores",
+        },
+        CauseFault::NotACoil => RuleText {
+            number: 2,
+            sentence: b"C2: no coil writes this variable",
+        },
+        CauseFault::TooManyFree => RuleText {
+            number: 3,
+            sentence: b"C3: too many inputs are listed",
+        },
+        CauseFault::NotAnInput => RuleText {
+            number: 4,
+            sentence: b"C4: a listed variable isn't an input",
+        },
+        CauseFault::RepeatedInput => RuleText {
+            number: 5,
+            sentence: b"C5: an input is listed twice",
+        },
+        CauseFault::AfterOutOfRange => RuleText {
+            number: 6,
+            sentence: b"C6: the listed inputs have no such number",
+        },
+        CauseFault::Memory => RuleText {
+            number: 7,
+            sentence: b"C7: out of memory",
+        },
     }
 }

@@ -35,34 +35,34 @@ pub(crate) struct RungLine<'a> {
     pub text: &'a [u8],
 }
 
-/// The tag before characters that look so.
-pub(crate) fn opening(look: Look) -> &'static [u8]
-    ensures { result.now ≡ opening look }
-{
-    match look {
-        Look::Plain => b"",
-        Look::Rail => b"<i class=r>",
-        Look::Passed => b"<i class=p>",
-        Look::Wire(false) => b"<i class=w>",
-        Look::Wire(true) => b"<b class=w>",
-        Look::Link(false) => b"<i class=v>",
-        Look::Link(true) => b"<b class=v>",
-        Look::Joint(false) => b"<i class=j>",
-        Look::Joint(true) => b"<b class=j>",
-        Look::On => b"<b class=s>",
-    }
+/// The tags before and behind characters.
+pub(crate) struct Tags {
+    pub opening: &'static [u8],
+    pub closing: &'static [u8],
 }
 
-/// The tag behind them.
-pub(crate) fn closing(look: Look) -> &'static [u8]
-    ensures { result.now ≡ closing look }
+fn tags(opening: &'static [u8], closing: &'static [u8]) -> Tags
+    ensures { (result.opening.now ≡ opening.now) × (result.closing.now ≡ closing.now) }
+{
+    Tags { opening, closing }
+}
+
+/// The tags of characters that look so.
+pub(crate) fn tags_of(look: Look) -> Tags
+    ensures opening { result.opening.now ≡ opening look }
+    ensures closing { result.closing.now ≡ closing look }
 {
     match look {
-        Look::Plain => b"",
-        Look::Rail | Look::Passed | Look::Wire(false) | Look::Link(false) | Look::Joint(false) => {
-            b"</i>"
-        }
-        Look::Wire(true) | Look::Link(true) | Look::Joint(true) | Look::On => b"</b>",
+        Look::Plain => tags(b"", b""),
+        Look::Rail => tags(b"<i class=r>", b"</i>"),
+        Look::Passed => tags(b"<i class=p>", b"</i>"),
+        Look::Wire(false) => tags(b"<i class=w>", b"</i>"),
+        Look::Wire(true) => tags(b"<b class=w>", b"</b>"),
+        Look::Link(false) => tags(b"<i class=v>", b"</i>"),
+        Look::Link(true) => tags(b"<b class=v>", b"</b>"),
+        Look::Joint(false) => tags(b"<i class=j>", b"</i>"),
+        Look::Joint(true) => tags(b"<b class=j>", b"</b>"),
+        Look::On => tags(b"<b class=s>", b"</b>"),
     }
 }
 

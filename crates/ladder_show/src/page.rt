@@ -9,7 +9,7 @@ ghost use Rattle.ladder_show.specs.Pictures.{Fits, lines_of, looks_of};
 ghost use Rattle.ladder_power.specs.Show.{each};
 ghost use Rattle.ladder_show.specs.Marked.{is_line_of};
 
-use crate::look::{Look, RungLine, closing, look_at, look_before, opening};
+use crate::look::{Look, RungLine, look_at, look_before, tags_of};
 use crate::marked::rung_of;
 use crate::notes::add_above;
 use crate::picture::Picture;
@@ -95,11 +95,11 @@ fn add_turn<W: Sink>(
 ) -> Result<(), WriteFault>
     ensures { Sends (W.log writer.old) (W.log writer.new) block.old block.new result (turn from to) }
 {
-    let (before, after) = (opening(from), opening(to));
-    if before == after {
+    let (before, after) = (tags_of(from), tags_of(to));
+    if before.opening == after.opening {
         return block.add(b"", writer);
     }
-    let tags = [Piece::Text(closing(from)), Piece::Text(after)];
+    let tags = [Piece::Text(before.closing), Piece::Text(after.opening)];
     add_pieces(block, tags.as_slice(), writer)
 }
 
@@ -146,7 +146,7 @@ fn add_rung_line<W: Sink>(
     ensures { Sends (W.log writer.old) (W.log writer.new) block.old block.new result (drawn_line line.entry.marks.now line.entry.rung line.entry.line line.entry.text.now) }
 {
     add_places(block, line, writer)?;
-    block.add(closing(look_before(line, line.text.len())), writer)
+    block.add(tags_of(look_before(line, line.text.len())).closing, writer)
 }
 
 /// Adds a line that is of no rung.

@@ -87,39 +87,23 @@ impl Signal for Rails {
     ghost allowed = { rails_allowed };
 }
 
-fn lane_on(t: u32) -> u64
-    ensures { result ≡ lane_on t }
+/// The lanes that are ON and those that are OFF for the open bit of weight 2 ^ t.
+fn open_lanes(t: u32) -> (u64, u64)
+    ensures on { result.0 ≡ lane_on t }
+    ensures off { result.1 ≡ lane_off t }
 {
     if t == 1 {
-        0x8888_8888_8888_8888
+        (0x8888_8888_8888_8888, 0x2222_2222_2222_2222)
     } else if t == 2 {
-        0xE0E0_E0E0_E0E0_E0E0
+        (0xE0E0_E0E0_E0E0_E0E0, 0x0E0E_0E0E_0E0E_0E0E)
     } else if t == 3 {
-        0xFE00_FE00_FE00_FE00
+        (0xFE00_FE00_FE00_FE00, 0x00FE_00FE_00FE_00FE)
     } else if t == 4 {
-        0xFFFE_0000_FFFE_0000
+        (0xFFFE_0000_FFFE_0000, 0x0000_FFFE_0000_FFFE)
     } else if t == 5 {
-        0xFFFF_FFFE_0000_0000
+        (0xFFFF_FFFE_0000_0000, 0x0000_0000_FFFF_FFFE)
     } else {
-        0
-    }
-}
-
-fn lane_off(t: u32) -> u64
-    ensures { result ≡ lane_off t }
-{
-    if t == 1 {
-        0x2222_2222_2222_2222
-    } else if t == 2 {
-        0x0E0E_0E0E_0E0E_0E0E
-    } else if t == 3 {
-        0x00FE_00FE_00FE_00FE
-    } else if t == 4 {
-        0x0000_FFFE_0000_FFFE
-    } else if t == 5 {
-        0x0000_0000_FFFF_FFFE
-    } else {
-        0
+        (0, 0)
     }
 }
 
@@ -131,10 +115,8 @@ impl Rails {
         if shift < unit {
             Rails { on: 0, off: 0 }
         } else {
-            Rails {
-                on: lane_on(shift - unit),
-                off: lane_off(shift - unit),
-            }
+            let (on, off) = open_lanes(shift - unit);
+            Rails { on, off }
         }
     }
 

@@ -20,4 +20,4 @@ returns g c =
     let places = each (drawn_place looks text) (length text) in
     let end = closing (before looks (length text)) in
     sends_last _ _ _ _ _ _ (places ++ end) places end _ refl c.in_ok-add_places.ensures
-    (rw (c.closing.ensures, c.look_before.ensures) at c.add.ensures)
+    (rw (c.tags_of.ensures.closing, c.look_before.ensures) at c.add.ensures)
