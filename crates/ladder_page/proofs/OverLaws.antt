@@ -1,5 +1,5 @@
 -- The table of what stands over the cells has it for each.
-use Rattle.std.proofs.Common.{◌≡◌, ℕ, ◌*◌, ◌<◌, min, List, length, slice_index_or, arith}
+use Rattle.std.proofs.Common.{◌≡◌, ℕ, ◌*◌, ◌<◌, min, List, length, slice_index_or, refl, ◌∙◌, arith}
 use Rattle.ladder_page.specs.declared.geometry.TheConstants.{RUNGS, ROWS, COLUMNS, PLACES}
 use Rattle.ladder_vars.specs.Decls.{Declared}
 use Rattle.ladder_page.specs.declared.lines.Part.{Part}
@@ -25,3 +25,9 @@ pub over_at : (decls : Declared) (lines : Lines) (parts : List Part) (overs : Li
     → overs ≡ overs_of decls lines parts → n ≡ place k r c → k < length parts → k < RUNGS → r < ROWS → c < COLUMNS
     → slice_index_or overs n d ≡ over_with decls (text_over (rung_of lines (part_in parts k)) r c)
 over_at decls lines parts overs n d k r c told here below few rows columns = rw (told, here) (over_told decls lines parts d k r c below few rows columns)
+
+-- what these characters over a cell are is what is over it
+pub read_over : (decls : Declared) (lines : Lines) (parts : List Part) (k r c : ℕ) (rung : Lines) (chars : List ℕ) (over : NameOver) → rung ≡ rung_of lines (part_in parts k)
+    → chars ≡ text_over rung r c → over ≡ over_with decls chars → over ≡ over_read decls lines parts k r c
+unfolding over_read
+read_over decls lines parts k r c rung chars over at is told = told ∙ rw (is, at) refl

@@ -2,8 +2,8 @@
 
 ghost use Rattle.std.specs.Prelude.{◌≡◌, ◌+◌, ◌<◌, map, length, All, IfOk};
 ghost use Rattle.ladder_page.specs.declared.geometry.TheConstants.{RUNGS, ROWS, COLUMNS};
-ghost use Rattle.ladder_page.specs.ReadLines.{IsWithin, form_read, forms_of};
-ghost use Rattle.ladder_page.specs.Tables.{over_with, over_read, overs_of};
+ghost use Rattle.ladder_page.specs.ReadLines.{IsWithin, forms_of};
+ghost use Rattle.ladder_page.specs.Tables.{over_with, overs_of};
 ghost use Rattle.ladder_page.specs.Picture.{has_text};
 ghost use Rattle.ladder_page.specs.Texts.{text_over};
 ghost use Rattle.ladder_page.specs.Lines.{part_in, rung_of};
@@ -48,23 +48,6 @@ pub fn rung_at<'a, 'b>(page: PageView<'a, 'b>, rung: usize) -> &'a [&'b [u8]]
     rung_in(page.lines, page.parts, rung)
 }
 
-#[tactic(auto, unfolding(crate::specs::ReadLines::form_read))]
-fn form_read(
-    lines: &[&[u8]],
-    parts: &[Part],
-    rung: usize,
-    row: usize,
-    column: usize,
-) -> Option<Form>
-    requires rungs { rung < length parts.now }
-    requires within { All (IsWithin (length lines.now)) parts.now }
-    requires rows { row < ROWS }
-    requires columns { column < COLUMNS }
-    ensures { result ≡ form_read (map (λ l. l.now) lines.now) parts.now rung row column }
-{
-    form_of(&text_at(rung_in(lines, parts, rung), 2 * row + 1, column))
-}
-
 /// What the cells of the first hundred rungs are.
 #[tactic(auto, unfolding(crate::specs::ReadLines::forms_of))]
 pub fn forms(
@@ -77,37 +60,11 @@ pub fn forms(
 {
     let mut forms = Vec::new(alloc);
     for n in 0..PLACES * parts.len().min(RUNGS) {
-        forms.push(form_read(
-            lines,
-            parts,
-            n / PLACES,
-            n % PLACES % ROWS,
-            n % PLACES / ROWS,
-        ))?;
+        let rung = rung_in(lines, parts, n / PLACES);
+        let chars = text_at(rung, 2 * (n % PLACES % ROWS) + 1, n % PLACES / ROWS);
+        forms.push(form_of(&chars))?;
     }
     Ok(forms)
-}
-
-#[tactic(auto, unfolding(crate::specs::Tables::over_read))]
-fn over_read(
-    decls: &Decls,
-    lines: &[&[u8]],
-    parts: &[Part],
-    rung: usize,
-    row: usize,
-    column: usize,
-) -> NameOver
-    requires rungs { rung < length parts.now }
-    requires within { All (IsWithin (length lines.now)) parts.now }
-    requires rows { row < ROWS }
-    requires columns { column < COLUMNS }
-    ensures { result ≡ over_read decls.now (map (λ l. l.now) lines.now) parts.now rung row column }
-{
-    let chars = text_at(rung_in(lines, parts, rung), 2 * row, column);
-    NameOver {
-        written: has_text(&chars),
-        name: refer_to(decls, word_in(&chars)),
-    }
 }
 
 /// What stands over the cells of the first hundred rungs.
@@ -123,14 +80,12 @@ pub fn overs(
 {
     let mut overs = Vec::new(alloc);
     for n in 0..PLACES * parts.len().min(RUNGS) {
-        overs.push(over_read(
-            decls,
-            lines,
-            parts,
-            n / PLACES,
-            n % PLACES % ROWS,
-            n % PLACES / ROWS,
-        ))?;
+        let rung = rung_in(lines, parts, n / PLACES);
+        let chars = text_at(rung, 2 * (n % PLACES % ROWS), n % PLACES / ROWS);
+        overs.push(NameOver {
+            written: has_text(&chars),
+            name: refer_to(decls, word_in(&chars)),
+        })?;
     }
     Ok(overs)
 }

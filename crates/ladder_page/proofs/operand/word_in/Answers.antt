@@ -1,7 +1,5 @@
-use Rattle.std.proofs.Common.{◌≡◌, ◌-◌, ◌==◌, List, ℕ, length, take, drop, refl, sym, ◌∙◌, arith, length-drop, rules}
+use Rattle.std.proofs.Common.{◌≡◌, ◌-◌, List, ℕ, length, take, drop, refl, sym, ◌∙◌, arith, length-drop}
 use Rattle.std.proofs.lemmas.List.{drop_all, take_all}
-use Rattle.std.specs.List.{prefix_len, suffix_len}
-use Rattle.ladder_page.specs.Bytes.{space}
 use Rattle.ladder_page.specs.Operand.{word_in}
 use Rattle.ladder_page.proofs.operand.word_in.Goals as goal
 
