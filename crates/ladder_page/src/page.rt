@@ -1,13 +1,15 @@
 //! What is where on the page that a drawing is read from.
 
-ghost use Rattle.std.specs.Prelude.{◌≡◌, ◌+◌, ◌<◌, map, length, All, IfOk};
+ghost use Rattle.std.specs.Prelude.{◌≡◌, ◌+◌, ◌<◌, map, length, slice_index_or, All, IfOk, None};
 ghost use Rattle.ladder_page.specs.declared.geometry.TheConstants.{RUNGS, ROWS, COLUMNS};
 ghost use Rattle.ladder_page.specs.ReadLines.{IsWithin, forms_of};
 ghost use Rattle.ladder_page.specs.Tables.{over_with, overs_of};
 ghost use Rattle.ladder_page.specs.Picture.{has_text};
 ghost use Rattle.ladder_page.specs.Texts.{text_over};
 ghost use Rattle.ladder_page.specs.Lines.{part_in, rung_of};
-ghost use Rattle.ladder_page.specs.Page.{rung_at, form_at, name_over, instance_at};
+ghost use Rattle.ladder_page.specs.Geometry.{place};
+ghost use Rattle.ladder_page.specs.Operand.{word_in, refer_to};
+ghost use Rattle.ladder_page.specs.Page.{rung_at};
 ghost use Rattle.ladder_page.specs.Seen.{instance_above, seen, part_at};
 
 use crate::form::{Form, form_at as form_of};
@@ -33,7 +35,7 @@ fn rung_in<'a, 'b>(lines: &'a [&'b [u8]], parts: &[Part], rung: usize) -> &'a [&
 /// The rung and its gap.
 pub fn part_at(page: PageView<'_, '_>, rung: usize) -> Part
     requires rungs { rung < length page.parts.now }
-    ensures value { result ≡ part_at (seen page.entry) rung }
+    ensures value { result ≡ part_in page.entry.parts.now rung }
     ensures within { IsWithin (length page.entry.lines.now) result }
 {
     page.parts[rung]
@@ -94,7 +96,7 @@ pub fn overs(
 pub fn form_at(page: PageView<'_, '_>, rung: usize, row: usize, column: usize) -> Option<Form>
     requires rows { row < ROWS }
     requires columns { column < COLUMNS }
-    ensures { result ≡ form_at (seen page.entry) rung row column }
+    ensures { result ≡ slice_index_or page.entry.forms.now (place rung row column) None }
 {
     if rung > page.forms.len() / PLACES {
         return None;
@@ -139,32 +141,13 @@ pub fn name_over(
     requires few { rung < RUNGS }
     requires rows { row < ROWS }
     requires columns { column < COLUMNS }
-    ensures { result ≡ name_over (seen page.entry) rung row column }
+    ensures { result ≡ refer_to page.entry.decls.now (word_in (text_over (rung_at (seen page.entry) rung) row column)) }
 {
     over_at(page, rung, row, column).name
 }
 
-/// The instance that the block at a place is.
-#[tactic(auto, unfolding(crate::specs::Page::instance_at))]
-pub(crate) fn instance_at(
-    page: PageView<'_, '_>,
-    rung: usize,
-    row: usize,
-    column: usize,
-) -> Option<usize>
-    requires rungs { rung < length page.parts.now }
-    requires few { rung < RUNGS }
-    requires rows { row < ROWS }
-    requires columns { column < COLUMNS }
-    ensures { result ≡ instance_at (seen page.entry) rung row column }
-{
-    instance_on(
-        form_at(page, rung, row, column),
-        name_over(page, rung, row, column),
-    )
-}
-
 /// The instance of the block over a cell.
+#[tactic(auto, unfolding(crate::specs::Page::instance_at))]
 pub fn instance_above(
     page: PageView<'_, '_>,
     rung: usize,
@@ -180,6 +163,9 @@ pub fn instance_above(
     if row == 0 {
         None
     } else {
-        instance_at(page, rung, row - 1, column)
+        instance_on(
+            form_at(page, rung, row - 1, column),
+            name_over(page, rung, row - 1, column),
+        )
     }
 }

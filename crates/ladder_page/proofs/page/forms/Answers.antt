@@ -1,5 +1,6 @@
 use Rattle.std.proofs.Common.{◌/◌, ◌%◌, map, ◌∙◌, rules}
 use Rattle.ladder_page.specs.declared.geometry.TheConstants.{ROWS, PLACES}
+use Rattle.ladder_page.specs.Picture.{text_at}
 use Rattle.ladder_page.specs.Geometry.{at_place}
 use Rattle.ladder_page.specs.ReadLines.{form_read}
 use Rattle.ladder_page.proofs.PlaceLaws.{no_place_yet, one_place_more}
@@ -10,6 +11,7 @@ pub loop-n-init : goal.loop-n-init
 loop-n-init c = rw c.new-forms.ensures.items (no_place_yet _)
 
 pub loop-n-preserved : goal.loop-n-preserved
+unfolding text_at
 loop-n-preserved c =
     let lines = map (λ x. x.now) c.args.lines.now in
     let n = c.loop-n.n in
