@@ -1,11 +1,11 @@
 -- What `form_at` finds is the form of the characters, and each form is found.
-use Rattle.std.proofs.Common.{◌≡◌, ℕ, zero, suc, ◌≤◌, ◌⊎◌, inl, inr, Bool, true, false, cond, ◌==◌, ◌||◌, ◌&&◌, nat_le, codes, take, drop, List, [], ◌∷◌, ◌++◌, length, replicate, Option, Some, None, refl, sym, ap, ◌∙◌, arith}
-use Rattle.std.specs.List.{list_all, prefix_len, AllByRecursion, Contains}
+use Rattle.std.proofs.Common.{◌≡◌, ◌↔◌, ℕ, zero, suc, ◌+◌, ◌≤◌, ◌⊎◌, inl, inr, Bool, true, false, cond, ◌==◌, ◌||◌, ◌&&◌, nat_le, codes, take, drop, List, [], ◌∷◌, ◌++◌, length, replicate, Option, Some, None, option_map, subst, refl, sym, ap, ◌∙◌, arith}
+use Rattle.std.specs.List.{find, list_all, prefix_len, AllByRecursion, Contains}
 use Rattle.std.specs.Str.{bytes_eq}
 use Rattle.std.specs.Char.{is_ascii_alphabetic}
 use Rattle.std.specs.Int.{is_in_range}
 use Rattle.std.proofs.lemmas.Bool.{eq-eqb, ne_eqb, eqb-true, eqb-false, and_parts, or_cases, true≢false}
-use Rattle.std.proofs.lemmas.List.{length-append, length-replicate, take-append-drop}
+use Rattle.std.proofs.lemmas.List.{length-replicate, take-append-drop}
 use Rattle.std.proofs.Math.Seq.{take-append_seam, drop-append_seam}
 use Rattle.std.proofs.lemmas.Slice.Eq.{bytes_eq-Decides}
 use Rattle.std.specs.Option.{option_or}
@@ -15,7 +15,12 @@ use Rattle.ladder_page.specs.Bytes.{dash, space}
 use Rattle.ladder_page.specs.declared.form.Form.{Form}
 use Rattle.ladder_page.specs.declared.form.Form.TheVariants.{Jump, Return}
 use Rattle.ladder_page.specs.Form.{whole_cells, symbols, is_label_name, HasMark, HasForm, IsFormOf}
-use Rattle.ladder_page.specs.ReadForm.{Table, Lists, lookup, after_dashes, is_filler, symbol_at, label_at, behind_label, label_named, jump_with, jump_to, jump_at, return_at, mark_at, marked_at, form_at}
+use Rattle.ladder_page.specs.Picture.{Lines}
+use Rattle.ladder_page.specs.Texts.{cell_text}
+use Rattle.ladder_page.specs.Lines.{part_in, rung_of}
+use Rattle.ladder_page.specs.ReadLines.{form_read}
+use Rattle.ladder_page.specs.declared.lines.Part.{Part}
+use Rattle.ladder_page.specs.ReadForm.{Table, Lists, lookup, dashes, is_filler, symbol_at, label_at, behind_label, label_named, jump_with, jump_to, jump_at, return_at, mark_at, marked_at, form_at}
 
 -- ---- what a table has
 
@@ -96,24 +101,38 @@ of_each P (e ∷ es) text s all (inr h) = of_each P es text s all.1 h
 lookup_lists : (t : Table) (text : List ℕ) (s : Form) → lookup t text ≡ Some s → Lists t text s
 lookup_lists [] text s h = cc
 lookup_lists (e ∷ es) text s h =
-    elim (bytes_eq e.0 text) as (λ b. bytes_eq e.0 text ≡ b → cond b (Some e.1) (lookup es text) ≡ Some s → Lists (e ∷ es) text s) [
+    elim (bytes_eq e.0 text) as (λ b. bytes_eq e.0 text ≡ b → option_map (λ x. x.1) (cond b (Some e) (find (λ x. bytes_eq x.0 text) es)) ≡ Some s → Lists (e ∷ es) text s) [
       | true ↦ λ same given. inl (sym ((bytes_eq-Decides e.0 text).0 same), cc)
       | false ↦ λ _ given. inr (lookup_lists es text s given)
     ] refl h
 
-dashes_before : (n b : ℕ) (bs : List ℕ) → (b == 45) ≡ false → after_dashes (replicate n 45 ++ (b ∷ bs)) ≡ b ∷ bs
-dashes_before zero b bs h = ap (λ t. cond t (after_dashes bs) (b ∷ bs)) h
-dashes_before (suc n) b bs h = dashes_before n b bs h
+pub prefix_stops : (p : ℕ → Bool) (xs ys : List ℕ) → list_all p xs ≡ true → prefix_len p ys ≡ 0 → prefix_len p (xs ++ ys) ≡ length xs
+prefix_stops p [] ys all none = none
+prefix_stops p (x ∷ xs) ys all none =
+    let both = and_parts (p x) (list_all p xs) all in
+    rw both.0 (omega (arith, prefix_stops p xs ys both.1 none))
+
+pub list_all-replicate : (n b : ℕ) → list_all (λ x. x == b) (replicate n b) ≡ true
+list_all-replicate zero b = refl
+list_all-replicate (suc n) b = let same : (b == b) ≡ true = eq-eqb b b refl in rw same (list_all-replicate n b)
+
+dashes_before : (n b : ℕ) (bs : List ℕ) → (b == 45) ≡ false → dashes (replicate n 45 ++ (b ∷ bs)) ≡ n
+dashes_before n b bs h = prefix_stops (λ x. x == 45) (replicate n 45) (b ∷ bs) (list_all-replicate n 45) (rw h refl) ∙ length-replicate n 45
+
+behind_them : (text rest : List ℕ) (before b : ℕ) (bs : List ℕ) → rest ≡ b ∷ bs → (b == 45) ≡ false → 1 ≤ before → text ≡ replicate before 45 ++ rest
+    → marked_at text ≡ mark_at rest
+unfolding marked_at
+behind_them text rest before b bs front apart some spelled =
+    let count : dashes text ≡ before = rw (spelled, front) (dashes_before before b bs apart) in
+    let none : (before == 0) ≡ false = ne_eqb _ _ (λ e. omega (arith, e)) in
+    let taken : drop before text ≡ rest = rw spelled (subst (λ n. drop n (replicate before 45 ++ rest) ≡ rest) (length-replicate before 45) (drop-append_seam (replicate before 45) rest)) in
+    rw (count, none, taken) refl
 
 or_true : (b : Bool) → (b || true) ≡ true
 or_true true = refl
 or_true false = refl
 
 -- dashes alone, or spaces alone
-pub list_all-replicate : (n b : ℕ) → list_all (λ x. x == b) (replicate n b) ≡ true
-list_all-replicate zero b = refl
-list_all-replicate (suc n) b = let same : (b == b) ≡ true = eq-eqb b b refl in rw same (list_all-replicate n b)
-
 is_filler-replicate : (n b : ℕ) → (b ≡ 45) ⊎ (b ≡ 32) → is_filler (replicate n b) ≡ true
 is_filler-replicate n b (inl h) = rw (h, list_all-replicate n 45) refl
 is_filler-replicate n b (inr h) = rw (h, list_all-replicate n 32) (or_true (list_all (λ x. x == 45) (replicate n 32)))
@@ -122,17 +141,13 @@ is_filler-replicate n b (inr h) = rw (h, list_all-replicate n 32) (or_true (list
 pub marked_symbol : (a b c : ℕ) (s : Form) → (a == 45) ≡ false → (a == 62) ≡ false → (a == 60) ≡ false → lookup symbols (a ∷ b ∷ c ∷ []) ≡ Some s
     → (before after filler : ℕ) → 1 ≤ before → (filler ≡ 45) ⊎ (filler ≡ 32)
     → marked_at (replicate before 45 ++ ((a ∷ b ∷ c ∷ []) ++ replicate after filler)) ≡ Some s
-unfolding marked_at
-marked_symbol a b c s apart no_jump no_return known before after filler dashes kind =
-    let tail : List ℕ = replicate after filler in
-    let taken : after_dashes (replicate before 45 ++ (a ∷ b ∷ c ∷ tail)) ≡ a ∷ b ∷ c ∷ tail = dashes_before before a (b ∷ c ∷ tail) apart in
-    let shorter : (length (a ∷ b ∷ c ∷ tail) == length (replicate before 45 ++ (a ∷ b ∷ c ∷ tail))) ≡ false
-    = ne_eqb _ _ (λ e. omega (arith, e, length-append {A = ℕ} (replicate before 45) (a ∷ b ∷ c ∷ tail), length-replicate {A = ℕ} before 45)) in
-    rw (taken, shorter, no_jump, no_return, is_filler-replicate after filler kind, known) refl
+marked_symbol a b c s apart no_jump no_return known before after filler some kind =
+    behind_them _ _ before a (b ∷ c ∷ replicate after filler) refl apart some refl
+    ∙ rw (no_jump, no_return, is_filler-replicate after filler kind, known) refl
 
 -- a cell with a symbol is none of those that are spelled in one way
 unmarked : AllByRecursion (λ e. marked_at e.0 ≡ None) whole_cells
-unfolding marked_at return_at
+unfolding marked_at
 unmarked = (refl, (refl, (refl, (refl, (refl, (refl, (refl, (refl, (refl, (refl, (refl, (refl, (refl, (refl, (refl, tt)))))))))))))))
 
 pub whole_found : (text : List ℕ) (s : Form) → Lists whole_cells text s → form_at text ≡ Some s
@@ -170,12 +185,6 @@ each_symbol_marks = (
 )
 
 -- ---- jumps and returns
-pub prefix_stops : (p : ℕ → Bool) (xs ys : List ℕ) → list_all p xs ≡ true → prefix_len p ys ≡ 0 → prefix_len p (xs ++ ys) ≡ length xs
-prefix_stops p [] ys all none = none
-prefix_stops p (x ∷ xs) ys all none =
-    let both = and_parts (p x) (list_all p xs) all in
-    rw both.0 (omega (arith, prefix_stops p xs ys both.1 none))
-
 no_name_space : (n : ℕ) → prefix_len is_name_byte (replicate n 32) ≡ 0
 no_name_space zero = refl
 no_name_space (suc n) = refl
@@ -196,15 +205,6 @@ label_bytes word h =
     let named = and_parts (nat_le (length word) 8) (is_name word) h in
     form_bytes word (and_parts (has_name_form word) _ named.1).0
 
-behind_dashes : (text rest : List ℕ) (before b : ℕ) (bs : List ℕ) → rest ≡ b ∷ bs → (b == 45) ≡ false → 1 ≤ before → text ≡ replicate before 45 ++ rest
-    → marked_at text ≡ mark_at rest
-unfolding marked_at
-behind_dashes text rest before b bs front apart dashes spelled =
-    let taken : after_dashes text ≡ rest = rw (spelled, front) (dashes_before before b bs apart) in
-    let shorter : (length rest == length text) ≡ false
-    = ne_eqb _ _ (λ e. omega (arith, e, ap length spelled, dashes, length-append {A = ℕ} (replicate before 45) rest, length-replicate {A = ℕ} before 45)) in
-    rw (taken, shorter) refl
-
 jump_found : (label : List ℕ) (after : ℕ) → is_label_name label ≡ true → jump_to (label ++ replicate after 32) ≡ Some (Jump label)
 unfolding label_at behind_label
 jump_found label after named =
@@ -213,7 +213,6 @@ jump_found label after named =
     rw (stop, take-append_seam label (replicate after 32), drop-append_seam label (replicate after 32), list_all-replicate after 32, named) refl
 
 return_found : (after : ℕ) → mark_at (codes "<RETURN>" ++ replicate after 32) ≡ Some Return
-unfolding return_at
 return_found after = rw (list_all-replicate after 32) refl
 
 leap_found : (text : List ℕ) (s : Form) → HasLeap text s → marked_at text ≡ Some s
@@ -221,35 +220,13 @@ leap_found text s h =
     elim h.leaps [
       | inl ret ↦
           let spelled : text ≡ replicate h.before 45 ++ (codes "<RETURN>" ++ replicate h.after 32) = rw ret.0 at h.spelled in
-          behind_dashes text (codes "<RETURN>" ++ replicate h.after 32) h.before 60 _ refl refl h.some_dashes spelled
+          behind_them text (codes "<RETURN>" ++ replicate h.after 32) h.before 60 _ refl refl h.some_dashes spelled
           ∙ return_found h.after ∙ ap (λ x. Some x) (sym ret.1)
       | inr to ↦
           let spelled : text ≡ replicate h.before 45 ++ (62 ∷ 62 ∷ (to.0 ++ replicate h.after 32)) = rw to.1 at h.spelled in
-          behind_dashes text (62 ∷ 62 ∷ (to.0 ++ replicate h.after 32)) h.before 62 _ refl refl h.some_dashes spelled
+          behind_them text (62 ∷ 62 ∷ (to.0 ++ replicate h.after 32)) h.before 62 _ refl refl h.some_dashes spelled
           ∙ jump_found to.0 h.after to.2 ∙ ap (λ x. Some x) (sym to.3)
     ]
-
-pub form_found : (text : List ℕ) (s : Form) → HasForm text s → form_at text ≡ Some s
-unfolding Marks
-form_found text s (inl h) = whole_found text s (lists_of whole_cells text s h)
-form_found text s (inr h) =
-    elim (either_mark text s h) [
-      | inl symbol ↦
-          marked_found text s (rw symbol.spelled (of_each Marks symbols symbol.symbol s each_symbol_marks symbol.listed symbol.before symbol.after symbol.filler
-          symbol.some_dashes symbol.dashes_or_spaces))
-      | inr leap ↦ marked_found text s (leap_found text s leap)
-    ]
-
-dashes_taken : (text : List ℕ) → (n : ℕ) × (text ≡ replicate n 45 ++ after_dashes text)
-dashes_taken [] = (0, refl)
-dashes_taken (b ∷ bs) =
-    elim (b == 45) as (λ t. (b == 45) ≡ t → (n : ℕ) × (b ∷ bs ≡ replicate n 45 ++ cond t (after_dashes bs) (b ∷ bs))) [
-      | true ↦ λ is_dash.
-          let more : (n : ℕ) × (bs ≡ replicate n 45 ++ after_dashes bs) = dashes_taken bs in
-          let same : b ≡ 45 = eqb-true b 45 is_dash in
-          (suc more.0, rw same (ap (λ z. 45 ∷ z) more.1))
-      | false ↦ λ _. (0, refl)
-    ] refl
 
 replicate_from_all : (b : ℕ) (xs : List ℕ) → list_all (λ x. x == b) xs ≡ true → xs ≡ replicate (length xs) b
 replicate_from_all b [] h = refl
@@ -338,7 +315,7 @@ jump_at_known (a ∷ b ∷ text) s front h =
     ] refl h
 
 return_known : (text : List ℕ) (s : Form) → return_at text ≡ Some s → Leap text s
-unfolding Leap return_at
+unfolding Leap
 return_known text s h =
     elim (bytes_eq (codes "<RETURN>") (take 8 text) && list_all (λ b. b == 32) (drop 8 text)) as
     (λ t. (bytes_eq (codes "<RETURN>") (take 8 text) && list_all (λ b. b == 32) (drop 8 text)) ≡ t → cond t (Some Return) None ≡ Some s → Leap text s) [
@@ -364,20 +341,41 @@ mark_known text rest s before some taken h =
           ] other
     ] refl h
 
+dashes_front : (b : ℕ) (xs : List ℕ) → take (prefix_len (λ x. x == b) xs) xs ≡ replicate (prefix_len (λ x. x == b) xs) b
+dashes_front b [] = refl
+dashes_front b (x ∷ xs) =
+    let n : ℕ = prefix_len (λ y. y == b) xs in
+    let more : 1 + n ≡ suc n = omega arith in
+    elim (x == b) as (λ t. (x == b) ≡ t → take (cond t (1 + n) 0) (x ∷ xs) ≡ replicate (cond t (1 + n) 0) b) [
+      | true ↦ λ is. let same : x ≡ b = eqb-true x b is in rw (more, same) (ap (λ z. b ∷ z) (dashes_front b xs))
+      | false ↦ λ _. refl
+    ] refl
+
 marked_known : (text : List ℕ) (s : Form) → marked_at text ≡ Some s → HasSymbol text s ⊎ HasLeap text s
 unfolding marked_at
 marked_known text s h =
-    elim (length (after_dashes text) == length text) as (λ t. (length (after_dashes text) == length text) ≡ t
-    → cond t None (mark_at (after_dashes text)) ≡ Some s → HasSymbol text s ⊎ HasLeap text s) [
+    elim (dashes text == 0) as (λ t. (dashes text == 0) ≡ t → cond t None (mark_at (drop (dashes text) text)) ≡ Some s → HasSymbol text s ⊎ HasLeap text s) [
       | true ↦ λ _ known. cc
-      | false ↦ λ shorter known.
-          let taken = dashes_taken text in
-          let some_dash : 1 ≤ taken.0 = elim taken.0 as (λ n. text ≡ replicate n 45 ++ after_dashes text → 1 ≤ n) [
-            | zero ↦ λ e. absurd (eqb-false _ _ shorter (ap length (sym e)))
-            | suc n ↦ λ _. omega arith
-          ] taken.1 in
-          mark_known text (after_dashes text) s taken.0 some_dash taken.1 known
+      | false ↦ λ some known.
+          let taken : text ≡ replicate (dashes text) 45 ++ drop (dashes text) text
+          = sym (take-append-drop (dashes text) text) ∙ ap (λ z. z ++ drop (dashes text) text) (dashes_front 45 text) in
+          let one : 1 ≤ dashes text = omega (arith, eqb-false _ _ some) in
+          mark_known text (drop (dashes text) text) s (dashes text) one taken known
     ] refl h
+
+mark_found : (text : List ℕ) (s : Form) → HasMark text s → marked_at text ≡ Some s
+unfolding Marks
+mark_found text s h =
+    elim (either_mark text s h) [
+      | inl symbol ↦
+          rw symbol.spelled (of_each Marks symbols symbol.symbol s each_symbol_marks symbol.listed symbol.before symbol.after symbol.filler symbol.some_dashes
+          symbol.dashes_or_spaces)
+      | inr leap ↦ leap_found text s leap
+    ]
+
+pub form_found : (text : List ℕ) (s : Form) → HasForm text s → form_at text ≡ Some s
+form_found text s (inl h) = whole_found text s (lists_of whole_cells text s h)
+form_found text s (inr h) = marked_found text s (mark_found text s h)
 
 pub form_known : (text : List ℕ) (s : Form) → form_at text ≡ Some s → HasForm text s
 unfolding form_at
@@ -397,8 +395,35 @@ form_one chars a b is_a is_b =
 pub forms_told : (chars : List ℕ) → IsFormOf chars (form_at chars)
 forms_told chars = λ form. (form_known chars form, form_found chars form)
 
+-- What the same is told of is one.
+pub told_one : {A : Type 0} (P : A → Type 0) (a b : Option A) → ((x : A) → (a ≡ Some x) ↔ P x) → ((x : A) → (b ≡ Some x) ↔ P x) → a ≡ b
+told_one P None None f g = refl
+told_one P (Some x) b f g = sym ((g x).1 ((f x).0 refl))
+told_one P None (Some y) f g = (f y).1 ((g y).0 refl)
+
 -- Characters are one form, or none.
 pub form_of_one : (chars : List ℕ) (a b : Option Form) → IsFormOf chars a → IsFormOf chars b → a ≡ b
-form_of_one chars None None is_a is_b = refl
-form_of_one chars (Some a) b is_a is_b = sym ((is_b a).1 ((is_a a).0 refl))
-form_of_one chars None (Some b) is_a is_b = (is_a b).1 ((is_b b).0 refl)
+form_of_one chars = told_one (HasForm chars)
+
+-- The form is that of the whole cell, where the characters are one, and otherwise that of the mark behind the dashes.
+told_by : (chars : List ℕ) (o : Option Form) → form_at chars ≡ o → IsFormOf chars o
+told_by chars o is form = (λ e. form_known chars form (is ∙ e), λ h. sym is ∙ form_found chars form h)
+
+pub whole_told : (chars : List ℕ) (whole : Option Form) (s : Form) → whole ≡ lookup whole_cells chars → whole ≡ Some s → IsFormOf chars (Some s)
+unfolding form_at
+whole_told chars whole s is known = told_by chars (Some s) (rw (sym is, known) refl)
+
+pub plain_told : (chars : List ℕ) (whole : Option Form) → whole ≡ lookup whole_cells chars → whole ≡ None → dashes chars ≡ 0 → IsFormOf chars None
+unfolding form_at marked_at
+plain_told chars whole is none no_dash = told_by chars None (rw (sym is, none, no_dash) refl)
+
+pub marked_told : (chars : List ℕ) (n : ℕ) (whole o : Option Form) → n ≡ dashes chars → whole ≡ lookup whole_cells chars → whole ≡ None → (n == 0) ≡ false
+    → o ≡ mark_at (drop n chars) → IsFormOf chars o
+unfolding form_at marked_at
+marked_told chars n whole o count is none some mark = told_by chars o (rw (sym is, none, sym count, some) (sym mark))
+
+-- what is told of the characters of a cell is told of the cell
+pub read_told : (lines : Lines) (parts : List Part) (k r c : ℕ) (rung : Lines) (chars : List ℕ) (o : Option Form) → rung ≡ rung_of lines (part_in parts k)
+    → chars ≡ cell_text rung r c → IsFormOf chars o → o ≡ form_read lines parts k r c
+unfolding form_read
+read_told lines parts k r c rung chars o at is told = form_of_one chars o (form_at chars) told (forms_told chars) ∙ rw (is, at) refl

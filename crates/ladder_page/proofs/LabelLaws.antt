@@ -8,22 +8,22 @@ use Rattle.std.proofs.lemmas.List.{take-append-drop}
 use Rattle.std.proofs.Math.Seq.{take-append_seam, drop-append_seam}
 use Rattle.ladder_vars.specs.Name.{is_name, is_name_byte, has_name_form}
 use Rattle.ladder_page.specs.Form.{is_label_name}
-use Rattle.ladder_page.specs.Gap.{is_gap_blank, first_word, label_in, IsLabelIn}
-use Rattle.ladder_page.specs.Labels.{is_blank_line, after_blanks, word_at, behind_word, ends_label, is_label, label_read}
+use Rattle.ladder_page.specs.Gap.{is_gap_blank, label_in, IsLabelIn}
+use Rattle.ladder_page.specs.Labels.{after_blanks, word_at, behind_word, ends_label, is_label, label_read}
 use Rattle.ladder_page.proofs.FormLaws.{prefix_stops, form_bytes, label_bytes}
 
-blanks_taken : (text : List ℕ) → (before : List ℕ) × (text ≡ before ++ after_blanks text) × (is_blank_line before ≡ true)
+blanks_taken : (text : List ℕ) → (before : List ℕ) × (text ≡ before ++ after_blanks text) × (list_all is_gap_blank before ≡ true)
 blanks_taken [] = ([], refl, refl)
 blanks_taken (b ∷ bs) =
-    elim (is_gap_blank b) as (λ t. is_gap_blank b ≡ t → (before : List ℕ) × (b ∷ bs ≡ before ++ cond t (after_blanks bs) (b ∷ bs)) × (is_blank_line before ≡ true)) [
-      | true ↦ λ e. let t = blanks_taken bs in (b ∷ t.0, ap (λ z. b ∷ z) t.1, rw (e, t.2) refl)
+    elim (is_gap_blank b) as (λ t. is_gap_blank b ≡ t → (before : List ℕ) × (b ∷ bs ≡ before ++ drop (cond t (1 + prefix_len is_gap_blank bs) 0) (b ∷ bs)) × (list_all is_gap_blank before ≡ true)) [
+      | true ↦ λ e. let t = blanks_taken bs in rw one-add (b ∷ t.0, ap (λ z. b ∷ z) t.1, rw (e, t.2) refl)
       | false ↦ λ e. ([], refl, refl)
     ] refl
 
-colon_taken : (text : List ℕ) → ends_label text ≡ true → (after : List ℕ) × (text ≡ 58 ∷ after) × (is_blank_line after ≡ true)
+colon_taken : (text : List ℕ) → ends_label text ≡ true → (after : List ℕ) × (text ≡ 58 ∷ after) × (list_all is_gap_blank after ≡ true)
 colon_taken [] h = absurd (true≢false (sym h))
 colon_taken (b ∷ bs) h =
-    let parts = and_parts (b == 58) (is_blank_line bs) h in
+    let parts = and_parts (b == 58) (list_all is_gap_blank bs) h in
     (bs, ap (λ z. z ∷ bs) (eqb-true b 58 parts.0), parts.1)
 
 read_known : (text label : List ℕ) → label_read text ≡ Some label → IsLabelIn text label
@@ -55,16 +55,16 @@ read_known text label h =
           }
     ] refl h
 
-blanks_off : (before text : List ℕ) → is_blank_line before ≡ true → after_blanks (before ++ text) ≡ after_blanks text
+blanks_off : (before text : List ℕ) → list_all is_gap_blank before ≡ true → after_blanks (before ++ text) ≡ after_blanks text
 blanks_off [] text h = refl
-blanks_off (b ∷ bs) text h = let parts = and_parts (is_gap_blank b) (is_blank_line bs) h in rw parts.0 (blanks_off bs text parts.1)
+blanks_off (b ∷ bs) text h = let parts = and_parts (is_gap_blank b) (list_all is_gap_blank bs) h in rw (parts.0, one-add) (blanks_off bs text parts.1)
 
 abbrev is_name_start : ℕ → Bool
 is_name_start b = is_ascii_alphabetic b || b == 95
 
 start_stays : (b : ℕ) (bs : List ℕ) → is_name_start b ≡ true → after_blanks (b ∷ bs) ≡ b ∷ bs
 start_stays b bs h =
-    elim (is_gap_blank b) as (λ t. is_gap_blank b ≡ t → cond t (after_blanks bs) (b ∷ bs) ≡ b ∷ bs) [
+    elim (is_gap_blank b) as (λ t. is_gap_blank b ≡ t → drop (cond t (1 + prefix_len is_gap_blank bs) 0) (b ∷ bs) ≡ b ∷ bs) [
       | false ↦ λ _. refl
       | true ↦ λ e. elim (or_cases (b == 32) (b == 9) e) [
         | inl space ↦ absurd (true≢false (sym h ∙ ap is_name_start (eqb-true b 32 space)))
@@ -78,10 +78,10 @@ name_stays label tail h = named label tail (and_parts (has_name_form label) _ (a
   named [] tail h = absurd (true≢false (sym h))
   named (b ∷ bs) tail h = start_stays b (bs ++ tail) (and_parts (is_name_start b) _ h).0
 
-no_name_blank : (middle after : List ℕ) → is_blank_line middle ≡ true → prefix_len is_name_byte (middle ++ (58 ∷ after)) ≡ 0
+no_name_blank : (middle after : List ℕ) → list_all is_gap_blank middle ≡ true → prefix_len is_name_byte (middle ++ (58 ∷ after)) ≡ 0
 no_name_blank [] after h = refl
 no_name_blank (b ∷ bs) after h =
-    elim (or_cases (b == 32) (b == 9) (and_parts (is_gap_blank b) (is_blank_line bs) h).0) [
+    elim (or_cases (b == 32) (b == 9) (and_parts (is_gap_blank b) (list_all is_gap_blank bs) h).0) [
       | inl space ↦ rw (eqb-true b 32 space) refl
       | inr tab ↦ rw (eqb-true b 9 tab) refl
     ]
@@ -102,21 +102,13 @@ read_found text label h =
 
 -- ---- the same in one test
 
-blanks_dropped : (text : List ℕ) → drop (prefix_len is_gap_blank text) text ≡ after_blanks text
-blanks_dropped [] = refl
-blanks_dropped (b ∷ bs) =
-    elim (is_gap_blank b) as (λ t. drop (cond t (1 + prefix_len is_gap_blank bs) 0) (b ∷ bs) ≡ cond t (after_blanks bs) (b ∷ bs)) [
-      | true ↦ rw one-add (blanks_dropped bs)
-      | false ↦ refl
-    ]
-
 inked : List ℕ → List ℕ
 inked text = filter (λ b. not (is_gap_blank b)) text
 
-inked_blanks : (bs tail : List ℕ) → is_blank_line bs ≡ true → inked (bs ++ tail) ≡ inked tail
+inked_blanks : (bs tail : List ℕ) → list_all is_gap_blank bs ≡ true → inked (bs ++ tail) ≡ inked tail
 unfolding inked
 inked_blanks [] tail h = refl
-inked_blanks (b ∷ bs) tail h = let parts = and_parts (is_gap_blank b) (is_blank_line bs) h in rw parts.0 (inked_blanks bs tail parts.1)
+inked_blanks (b ∷ bs) tail h = let parts = and_parts (is_gap_blank b) (list_all is_gap_blank bs) h in rw parts.0 (inked_blanks bs tail parts.1)
 
 name_inked : (b : ℕ) → is_name_byte b ≡ true → is_gap_blank b ≡ false
 name_inked b h =
@@ -139,11 +131,11 @@ same_front : (word a b : List ℕ) → bytes_eq (word ++ a) (word ++ b) ≡ byte
 same_front [] a b = refl
 same_front (x ∷ xs) a b = let same : (x == x) ≡ true = eq-eqb x x refl in rw same (same_front xs a b)
 
-none_inked : (bs : List ℕ) → is_blank_line bs ≡ bytes_eq (inked bs) []
+none_inked : (bs : List ℕ) → list_all is_gap_blank bs ≡ bytes_eq (inked bs) []
 unfolding inked
 none_inked [] = refl
 none_inked (b ∷ bs) =
-    elim (is_gap_blank b) as (λ t. (t && is_blank_line bs) ≡ bytes_eq (cond (not t) (b ∷ filter (λ x. not (is_gap_blank x)) bs) (filter (λ x. not (is_gap_blank x)) bs)) []) [
+    elim (is_gap_blank b) as (λ t. (t && list_all is_gap_blank bs) ≡ bytes_eq (cond (not t) (b ∷ filter (λ x. not (is_gap_blank x)) bs) (filter (λ x. not (is_gap_blank x)) bs)) []) [
       | true ↦ none_inked bs
       | false ↦ refl
     ]
@@ -152,9 +144,9 @@ colon_inked : (text : List ℕ) → ends_label (after_blanks text) ≡ bytes_eq 
 unfolding inked
 colon_inked [] = refl
 colon_inked (b ∷ bs) =
-    elim (is_gap_blank b) as (λ t. ends_label (cond t (after_blanks bs) (b ∷ bs))
+    elim (is_gap_blank b) as (λ t. ends_label (drop (cond t (1 + prefix_len is_gap_blank bs) 0) (b ∷ bs))
     ≡ bytes_eq (cond (not t) (b ∷ filter (λ x. not (is_gap_blank x)) bs) (filter (λ x. not (is_gap_blank x)) bs)) (58 ∷ [])) [
-      | true ↦ colon_inked bs
+      | true ↦ rw one-add (colon_inked bs)
       | false ↦ ap (λ t. (b == 58) && t) (none_inked bs)
     ]
 
@@ -173,15 +165,13 @@ label_same text =
     let word : List ℕ = take (prefix_len is_name_byte t) t in
     let rest : List ℕ = drop (prefix_len is_name_byte t) t in
     let front = blanks_taken text in
-    let first : first_word text ≡ word = ap (λ z. take (prefix_len is_name_byte z) z) (blanks_dropped text) in
     let ends : is_name word ≡ true → ends_label (after_blanks rest) ≡ bytes_eq (inked text) (word ++ (58 ∷ [])) = λ named.
     let whole : inked text ≡ word ++ inked rest
     = ap inked front.1 ∙ inked_blanks front.0 t front.2 ∙ ap inked (sym (take-append-drop (prefix_len is_name_byte t) t)) ∙ inked_name word rest (word_bytes word named) in
     colon_inked rest ∙ sym (same_front word (inked rest) (58 ∷ [])) ∙ ap (λ z. bytes_eq z (word ++ (58 ∷ []))) (sym whole) in
     let test : (nat_le (length word) 8 && (ends_label (after_blanks rest) && is_name word)) ≡ ((nat_le (length word) 8 && is_name word) && bytes_eq (inked text) (word ++ (58 ∷ [])))
     = swapped (nat_le (length word) 8) (ends_label (after_blanks rest)) (is_name word) (bytes_eq (inked text) (word ++ (58 ∷ []))) ends in
-    ap (λ w. cond (is_label_name w && bytes_eq (inked text) (w ++ (58 ∷ []))) (Some w) None) first
-    ∙ ap (λ b. cond b (Some word) None) (sym test)
+    ap (λ b. cond b (Some word) None) (sym test)
 
 pub label_told : (text : List ℕ) (label : Option (List ℕ)) → label ≡ label_read text → label ≡ label_in text
 label_told text label is = is ∙ sym (label_same text)

@@ -10,9 +10,9 @@ use Rattle.ladder_page.specs.Texts.{cell_text}
 use Rattle.ladder_page.specs.Form.{IsFormOf}
 use Rattle.ladder_page.specs.Page.{Page, ReadsAs}
 use Rattle.ladder_page.specs.ReadLines.{page, lines_of, unclosed_line, parts_of, form_read, forms_of, page_with, page_of}
-use Rattle.ladder_page.proofs.FormLaws.{forms_told, form_of_one}
+use Rattle.ladder_page.proofs.FormLaws.{forms_told, form_of_one, told_one}
 use Rattle.ladder_page.proofs.CutLaws.{lines_are}
-use Rattle.ladder_page.proofs.UnclosedLaws.{unclosed_is, same_line}
+use Rattle.ladder_page.proofs.UnclosedLaws.{unclosed_is}
 use Rattle.ladder_page.proofs.CutText.{pieces_of}
 use Rattle.ladder_page.proofs.PartLaws.{parts_are, parts_same}
 use Rattle.ladder_page.proofs.PlaceLaws.{length-all_places, all_places-drawn, same_list}
@@ -50,7 +50,7 @@ one_forms text p r =
 pub one_page : (text : List ℕ) (p : Page) → ReadsAs text p → p ≡ page_of p.decls text
 one_page text p r =
     let lines : p.lines ≡ lines_of text = r.lines ∙ sym (lines_are r.pieces text r.cut) in
-    let unclosed : p.unclosed ≡ unclosed_line text = same_line _ _ _ r.unclosed (unclosed_is r.pieces text r.cut) in
+    let unclosed : p.unclosed ≡ unclosed_line text = told_one _ _ _ r.unclosed (unclosed_is r.pieces text r.cut) in
     let parts : p.parts ≡ parts_of (lines_of text)
     = parts_same (lines_of text) p.parts (parts_of (lines_of text)) (subst (λ l. AreRungs l 0 p.parts) lines r.rungs) (parts_are (lines_of text)) in
     ap (page p.decls p.lines p.unclosed p.parts) (one_forms text p r)

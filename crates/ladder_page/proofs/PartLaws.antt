@@ -1,10 +1,11 @@
 -- The rungs of lines are the parts that the reader makes, and no others.
 use Rattle.std.proofs.Common.{◌≡◌, ℕ, suc, ◌+◌, ◌-◌, ◌<◌, ◌≤◌, inl, inr, Bool, true, false, cond, nat_le, ◌&&◌, List, [], ◌∷◌, slice_index_or, Option, Some, None, refl, sym, ap, ◌∙◌, arith}
 use Rattle.std.proofs.lemmas.Bool.{cases_lt, false≢true, le-leb}
+use Rattle.ladder_vars.specs.Text.{begins}
+use Rattle.ladder_page.specs.Bytes.{is_upright}
 use Rattle.ladder_page.specs.declared.lines.Part.{Part}
 use Rattle.ladder_page.specs.Picture.{Lines}
 use Rattle.ladder_page.specs.Lines.{is_rung_line, IsRung, AreRungs}
-use Rattle.ladder_page.specs.ReadLines.{begins_rung}
 use Rattle.ladder_page.specs.ReadLines.{parts_from, parts_of}
 
 -- ---- no others
@@ -63,17 +64,17 @@ module _ (lines : Lines) where
   following : (line : ℕ) (l : List ℕ) (ls : Lines) → Follow line (l ∷ ls) → Follow (line + 1) ls
   following line l ls h = λ k. let same : line + 1 + k ≡ line + suc k = omega arith in ap (λ n. slice_index_or lines n []) same ∙ h (suc k)
 
-  here : (line : ℕ) (l : List ℕ) (ls : Lines) → 1 ≤ line → Follow line (l ∷ ls) → is_rung_line lines line ≡ begins_rung l
+  here : (line : ℕ) (l : List ℕ) (ls : Lines) → 1 ≤ line → Follow line (l ∷ ls) → is_rung_line lines line ≡ begins is_upright l
   here line l ls some h =
       let first : nat_le 1 line ≡ true = le-leb 1 line some in
       let same : line ≡ line + 0 = omega arith in
-      ap (λ t. t && begins_rung (slice_index_or lines line [])) first ∙ ap (λ n. begins_rung (slice_index_or lines n [])) same ∙ ap begins_rung (h 0)
+      ap (λ t. t && begins is_upright (slice_index_or lines line [])) first ∙ ap (λ n. begins is_upright (slice_index_or lines n [])) same ∙ ap (begins is_upright) (h 0)
 
   past : (line : ℕ) → Follow line [] → (n : ℕ) → line ≤ n → is_rung_line lines n ≡ false
   past line h n below =
       let same_place : n ≡ line + (n - line) = omega (arith, below) in
       let nothing : slice_index_or lines n [] ≡ [] = ap (λ m. slice_index_or lines m []) same_place ∙ h (n - line) in
-      ap (λ l. nat_le 1 n && begins_rung l) nothing ∙ and_off (nat_le 1 n)
+      ap (λ l. nat_le 1 n && begins is_upright l) nothing ∙ and_off (nat_le 1 n)
 
   abbrev NoneIn : ℕ → ℕ → Type 0
   NoneIn from to = (n : ℕ) → from ≤ n → n < to → is_rung_line lines n ≡ false
@@ -115,18 +116,18 @@ module _ (lines : Lines) where
   parts_hold [] at line None first h stands = λ n above. elim (cases_lt n line) [ inl less ↦ stands.1 n above less | inr more ↦ past line h n more ]
   parts_hold [] at line (Some s) first h r = (refl, ended at s line r (past line h line (omega arith)), λ n above. past line h n above)
   parts_hold (l ∷ ls) at line None first h stands =
-      let is : is_rung_line lines line ≡ begins_rung l = here line l ls first h in
+      let is : is_rung_line lines line ≡ begins is_upright l = here line l ls first h in
       let rest : Follow (line + 1) ls = following line l ls h in
       let later : 1 ≤ line + 1 = omega arith in
-      elim (begins_rung l) as (λ t. begins_rung l ≡ t → AreRungs lines at (cond t (parts_from at (line + 1) (Some line) ls) (parts_from at (line + 1) None ls))) [
+      elim (begins is_upright l) as (λ t. begins is_upright l ≡ t → AreRungs lines at (cond t (parts_from at (line + 1) (Some line) ls) (parts_from at (line + 1) None ls))) [
         | true ↦ λ e. parts_hold ls at (line + 1) (Some line) later rest (begun at line stands.0 stands.1 (is ∙ e))
         | false ↦ λ e. parts_hold ls at (line + 1) None later rest (omega (arith, stands.0), longer false at line stands.1 (is ∙ e))
       ] refl
   parts_hold (l ∷ ls) at line (Some s) first h r =
-      let is : is_rung_line lines line ≡ begins_rung l = here line l ls first h in
+      let is : is_rung_line lines line ≡ begins is_upright l = here line l ls first h in
       let rest : Follow (line + 1) ls = following line l ls h in
       let later : 1 ≤ line + 1 = omega arith in
-      elim (begins_rung l) as (λ t. begins_rung l ≡ t
+      elim (begins is_upright l) as (λ t. begins is_upright l ≡ t
       → AreRungs lines at (cond t (parts_from at (line + 1) (Some s) ls) (part at s line ∷ parts_from line (line + 1) None ls))) [
         | true ↦ λ e. parts_hold ls at (line + 1) (Some s) later rest (gone_on at s line r (is ∙ e))
         | false ↦ λ e. (

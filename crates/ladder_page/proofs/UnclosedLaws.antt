@@ -234,9 +234,3 @@ unclosed_is ps text h line =
     let same : unclosed_line text ≡ unclosed_in 0 ps = unclosed_from_is false ps text 0 h in
     through (λ e. sym same ∙ e, λ e. same ∙ e) (through (tells false ps text 0 line h)
     (λ f. (f.0, f.1, f.2, omega (arith, f.3)), λ f. (f.0, f.1, f.2, omega (arith, f.3))))
-
--- Two lines of which the same holds are one.
-pub same_line : (P : ℕ → Type 0) (a b : Option ℕ) → ((n : ℕ) → (a ≡ Some n) ↔ P n) → ((n : ℕ) → (b ≡ Some n) ↔ P n) → a ≡ b
-same_line P None None f g = refl
-same_line P None (Some y) f g = (f y).1 ((g y).0 refl)
-same_line P (Some x) b f g = sym ((g x).1 ((f x).0 refl))

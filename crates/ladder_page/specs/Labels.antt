@@ -4,12 +4,8 @@ use Rattle.std.specs.List.{list_all, prefix_len}
 use Rattle.ladder_vars.specs.Name.{is_name, is_name_byte}
 use Rattle.ladder_page.specs.Gap.{is_gap_blank}
 
-abbrev pub is_blank_line : List ℕ → Bool
-is_blank_line text = list_all is_gap_blank text
-
 abbrev pub after_blanks : List ℕ → List ℕ
-after_blanks [] = []
-after_blanks (b ∷ bs) = if is_gap_blank b then after_blanks bs else b ∷ bs
+after_blanks text = drop (prefix_len is_gap_blank text) text
 
 -- the word at the start, and what follows it and after blanks
 unfoldable pub word_at : List ℕ → List ℕ
@@ -21,7 +17,7 @@ behind_word text = after_blanks (drop (prefix_len is_name_byte text) text)
 -- a colon (58), and only blanks after it
 abbrev pub ends_label : List ℕ → Bool
 ends_label [] = false
-ends_label (b ∷ bs) = b == 58 && is_blank_line bs
+ends_label (b ∷ bs) = b == 58 && list_all is_gap_blank bs
 
 abbrev pub is_label : List ℕ → Bool
 is_label text = nat_le (length (word_at text)) 8 && (ends_label (behind_word text) && is_name (word_at text))

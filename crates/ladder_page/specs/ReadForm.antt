@@ -1,6 +1,6 @@
 -- Private: the form of a cell as the code finds it. That this is the form of Form.antt, both ways, is the law `cell_forms`.
-use Rattle.std.specs.Prelude.{◌≡◌, ◌⊎◌, ℕ, Bool, ◌&&◌, ◌||◌, ◌==◌, List, [], ◌∷◌, length, take, drop, codes, Option, Some, None, if◌then◌else◌}
-use Rattle.std.specs.List.{list_all, prefix_len}
+use Rattle.std.specs.Prelude.{◌≡◌, ◌⊎◌, ℕ, Bool, ◌&&◌, ◌||◌, ◌==◌, List, [], ◌∷◌, take, drop, codes, Option, Some, None, option_map, if◌then◌else◌}
+use Rattle.std.specs.List.{find, list_all, prefix_len}
 use Rattle.std.specs.Option.{option_or}
 use Rattle.std.specs.Str.{bytes_eq}
 use Rattle.ladder_vars.specs.Name.{is_name_byte}
@@ -20,12 +20,10 @@ Lists [] chars form = ⊥
 Lists (e ∷ es) chars form = ((chars ≡ e.0) × (form ≡ e.1)) ⊎ Lists es chars form
 
 abbrev pub lookup : Table → List ℕ → Option Form
-lookup [] chars = None
-lookup (e ∷ es) chars = if bytes_eq e.0 chars then Some e.1 else lookup es chars
+lookup table chars = option_map (λ e. e.1) (find (λ e. bytes_eq e.0 chars) table)
 
-abbrev pub after_dashes : List ℕ → List ℕ
-after_dashes [] = []
-after_dashes (b ∷ bs) = if b == dash then after_dashes bs else b ∷ bs
+abbrev pub dashes : List ℕ → ℕ
+dashes chars = prefix_len (λ b. b == dash) chars
 
 abbrev pub is_filler : List ℕ → Bool
 is_filler tail = list_all (λ b. b == dash) tail || list_all (λ b. b == space) tail
@@ -57,7 +55,7 @@ abbrev pub jump_at : List ℕ → Option Form
 jump_at (a ∷ b ∷ text) = if b == 62 then jump_to text else None
 jump_at _ = None
 
-unfoldable pub return_at : List ℕ → Option Form
+abbrev pub return_at : List ℕ → Option Form
 return_at text = if bytes_eq (codes "<RETURN>") (take 8 text) && list_all (λ b. b == space) (drop 8 text) then Some Return else None
 
 -- 62 is `>`, 60 is `<`
@@ -65,7 +63,7 @@ abbrev pub mark_at : List ℕ → Option Form
 mark_at text = if begins_with 62 text then jump_at text else (if begins_with 60 text then return_at text else symbol_at text)
 
 unfoldable pub marked_at : List ℕ → Option Form
-marked_at chars = if length (after_dashes chars) == length chars then None else mark_at (after_dashes chars)
+marked_at chars = if dashes chars == 0 then None else mark_at (drop (dashes chars) chars)
 
 unfoldable pub form_at : List ℕ → Option Form
 form_at chars = option_or (lookup whole_cells chars) (marked_at chars)

@@ -99,16 +99,13 @@ unclosed_line text = unclosed_from inside.Plain 0 None text
 abbrev pub lines_of : List ℕ → Lines
 lines_of text = slice_split (λ b. b == line_feed) (blanked_from inside.Plain text)
 
-abbrev pub begins_rung : List ℕ → Bool
-begins_rung line = begins is_upright line
-
 -- at: the line after the rung before; line: the number of the next line; run: where the rung began that goes on
 abbrev pub parts_from : ℕ → ℕ → Option ℕ → Lines → List Part
 parts_from at line None [] = []
 parts_from at line (Some s) [] = record { from = at; start = s; end = line } ∷ []
-parts_from at line None (l ∷ ls) = if begins_rung l then parts_from at (line + 1) (Some line) ls else parts_from at (line + 1) None ls
+parts_from at line None (l ∷ ls) = if begins is_upright l then parts_from at (line + 1) (Some line) ls else parts_from at (line + 1) None ls
 parts_from at line (Some s) (l ∷ ls) =
-    if begins_rung l then parts_from at (line + 1) (Some s) ls
+    if begins is_upright l then parts_from at (line + 1) (Some s) ls
     else record { from = at; start = s; end = line } ∷ parts_from line (line + 1) None ls
 
 -- The first line is a gap line in any case.

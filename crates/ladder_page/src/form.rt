@@ -1,9 +1,12 @@
 //! The forms of a cell.
 
-ghost use Rattle.std.specs.Prelude.{◌≡◌, ◌==◌, map};
-ghost use Rattle.std.specs.List.{list_all};
+ghost use Rattle.std.specs.Prelude.{◌≡◌, ◌≤◌, ◌==◌, ◌&&◌, ◌||◌, ◌↔◌, ℕ, List, codes, drop, length, map, take, option_map, Some};
+ghost use Rattle.std.specs.List.{find, list_all, prefix_len};
 ghost use Rattle.std.specs.Str.{bytes_eq};
-ghost use Rattle.ladder_page.specs.ReadForm.{lookup, after_dashes, is_filler, symbol_at, jump_to, return_at, mark_at, marked_at, form_at};
+ghost use Rattle.ladder_page.specs.Form.{HasForm};
+ghost use Rattle.ladder_page.specs.ReadForm.{jump_to, mark_at};
+ghost use Rattle.ladder_page.specs.Bytes.{dash, space};
+ghost use Rattle.ladder_page.specs.declared.form.Form.{Form};
 
 use crate::gap::word_len;
 use crate::mode::{CoilMode, Mode};
@@ -65,8 +68,9 @@ fn same_bytes(a: &[u8], b: &[u8]) -> bool
     a == b
 }
 
+/// The form that a table has for a spelling.
 fn lookup(mut table: &[(&[u8], Form)], chars: &[u8]) -> Option<Form>
-    ensures { result ≡ lookup (map (λ e. (e.0.now, e.1)) table.entry.now) chars.now }
+    ensures { result ≡ option_map (λ (e : List ℕ × Form). e.1) (find (λ e. bytes_eq e.0 chars.now) (map (λ e. (e.0.now, e.1)) table.entry.now)) }
 {
     while let [entry, rest @ ..] = table {
         if same_bytes(entry.0, chars) {
@@ -77,41 +81,10 @@ fn lookup(mut table: &[(&[u8], Form)], chars: &[u8]) -> Option<Form>
     None
 }
 
-fn after_dashes(mut chars: &[u8]) -> &[u8]
-    ensures { result.now ≡ after_dashes chars.entry.now }
-{
-    while let [b'-', rest @ ..] = chars {
-        chars = rest;
-    }
-    chars
-}
-
 fn all_are(byte: u8, chars: &[u8]) -> bool
     ensures { result ≡ list_all (λ b. b == byte) chars.now }
 {
     chars.iter().all(|b| *b == byte)
-}
-
-fn is_filler(tail: &[u8]) -> bool
-    ensures { result ≡ is_filler tail.now }
-{
-    all_are(b'-', tail) || all_are(b' ', tail)
-}
-
-/// The symbol at the start, where nothing but its filler follows.
-fn symbol_at(chars: &[u8]) -> Option<Form>
-    ensures { result ≡ symbol_at chars.now }
-{
-    match chars {
-        [] | [_] | [_, _] => None,
-        [a, b, c, tail @ ..] => {
-            if is_filler(tail) {
-                lookup(&SYMBOLS, &[*a, *b, *c])
-            } else {
-                None
-            }
-        }
-    }
 }
 
 /// A jump to the label at the start, where only spaces follow.
@@ -127,48 +100,69 @@ fn jump_to(text: &[u8]) -> Option<Form>
     }
 }
 
-#[tactic(auto, unfolding(crate::specs::ReadForm::return_at))]
-fn return_at(text: &[u8]) -> Option<Form>
-    ensures { result ≡ return_at text.now }
+/// How many dashes there are at the start.
+fn dashes_before(chars: &[u8]) -> usize
+    ensures value { result ≡ prefix_len (λ b. b == dash) chars.now }
+    ensures within { result ≤ length chars.now }
 {
-    let end = text.len().min(8);
-    if same_bytes(b"<RETURN>", &text[..end]) && all_are(b' ', &text[end..]) {
-        Some(Form::Return)
-    } else {
-        None
-    }
+    chars.iter().take_while(|b| **b == b'-').count()
 }
 
+/// Whether these are only dashes, or only spaces.
+fn is_filler(tail: &[u8]) -> bool
+    ensures { result ≡ (list_all (λ b. b == dash) tail.now || list_all (λ b. b == space) tail.now) }
+{
+    all_are(b'-', tail) || all_are(b' ', tail)
+}
+
+/// Whether this is `<RETURN>` and spaces.
+fn is_return(text: &[u8]) -> bool
+    ensures { result ≡ (bytes_eq (codes "<RETURN>") (take 8 text.now) && list_all (λ b. b == space) (drop 8 text.now)) }
+{
+    let end = text.len().min(8);
+    same_bytes(b"<RETURN>", &text[..end]) && all_are(b' ', &text[end..])
+}
+
+/// The form of a mark, which nothing but its filler follows.
 fn mark_at(text: &[u8]) -> Option<Form>
     ensures { result ≡ mark_at text.now }
 {
     match text {
         [b'>', b'>', label @ ..] => jump_to(label),
         [b'>', ..] => None,
-        [b'<', ..] => return_at(text),
-        _ => symbol_at(text),
-    }
-}
-
-#[tactic(auto, unfolding(crate::specs::ReadForm::marked_at))]
-fn marked_at(chars: &[u8]) -> Option<Form>
-    ensures { result ≡ marked_at chars.now }
-{
-    let rest = after_dashes(chars);
-    if rest.len() == chars.len() {
-        None
-    } else {
-        mark_at(rest)
+        [b'<', ..] => {
+            if is_return(text) {
+                Some(Form::Return)
+            } else {
+                None
+            }
+        }
+        _ => match text {
+            [a, b, c, tail @ ..] => {
+                if is_filler(tail) {
+                    lookup(&SYMBOLS, &[*a, *b, *c])
+                } else {
+                    None
+                }
+            }
+            [] | [_] | [_, _] => None,
+        },
     }
 }
 
 /// The form that a cell's characters have.
-#[tactic(auto, unfolding(crate::specs::ReadForm::form_at))]
 pub(crate) fn form_at(chars: &[u8]) -> Option<Form>
-    ensures { result ≡ form_at chars.now }
+    ensures { (form : Form) → (result ≡ Some form) ↔ HasForm chars.now form }
 {
+    let (dashes, rest) = chars.split_at(dashes_before(chars));
     match lookup(&WHOLE_CELLS, chars) {
         Some(form) => Some(form),
-        None => marked_at(chars),
+        None => {
+            if dashes.is_empty() {
+                None
+            } else {
+                mark_at(rest)
+            }
+        }
     }
 }

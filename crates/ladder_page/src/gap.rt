@@ -1,39 +1,37 @@
 //! Labels, and blank lines.
 
-ghost use Rattle.std.specs.Prelude.{◌≡◌, ◌≤◌, length};
-ghost use Rattle.std.specs.List.{prefix_len};
+ghost use Rattle.std.specs.Prelude.{◌≡◌, ◌≤◌, length, drop};
+ghost use Rattle.std.specs.List.{list_all, prefix_len};
 ghost use Rattle.ladder_vars.specs.Name.{is_name_byte};
 ghost use Rattle.ladder_page.specs.Gap.{is_gap_blank, label_in, is_named};
-ghost use Rattle.ladder_page.specs.Labels.{after_blanks, ends_label, is_blank_line};
 
 use ladder_vars::Name;
 
-fn is_gap_blank(b: u8) -> bool
-    ensures { result ≡ is_gap_blank b }
+/// How many blanks there are at the start.
+fn blanks_before(text: &[u8]) -> usize
+    ensures value { result ≡ prefix_len is_gap_blank text.now }
+    ensures within { result ≤ length text.now }
 {
-    b == b' ' || b == b'\t'
+    text.iter()
+        .take_while(|b| **b == b' ' || **b == b'\t')
+        .count()
 }
 
-fn after_blanks(mut text: &[u8]) -> &[u8]
-    ensures { result.now ≡ after_blanks text.entry.now }
+/// What follows the blanks at the start.
+fn after_blanks(text: &[u8]) -> &[u8]
+    ensures { result.now ≡ drop (prefix_len is_gap_blank text.now) text.now }
 {
-    while let [b, rest @ ..] = text {
-        if !is_gap_blank(*b) {
-            return text;
-        }
-        text = rest;
-    }
-    text
+    text.split_at(blanks_before(text)).1
 }
 
 /// Whether the line is blank.
 pub fn is_blank_line(text: &[u8]) -> bool
-    ensures { result ≡ is_blank_line text.now }
+    ensures { result ≡ list_all is_gap_blank text.now }
 {
     // Each byte is looked at, wherever the first other one is, so that many are tested at once.
     let mut blank = true;
     for b in text {
-        blank &= is_gap_blank(*b);
+        blank &= *b == b' ' || *b == b'\t';
     }
     blank
 }
@@ -48,25 +46,21 @@ pub(crate) fn word_len(text: &[u8]) -> usize
         .count()
 }
 
-fn ends_label(text: &[u8]) -> bool
-    ensures { result ≡ ends_label text.now }
-{
-    match text {
-        [] => false,
-        [b, rest @ ..] => *b == b':' && is_blank_line(rest),
-    }
-}
-
 /// The label that the line is, where it is one.
 pub fn label_in(text: &[u8]) -> Option<Name>
     ensures { result ≡ label_in text.now }
 {
     let text = after_blanks(text);
     let (word, rest) = text.split_at(word_len(text));
-    if word.len() <= 8 && ends_label(after_blanks(rest)) {
-        Name::new(word)
-    } else {
-        None
+    match after_blanks(rest) {
+        [] => None,
+        [b, end @ ..] => {
+            if word.len() <= 8 && *b == b':' && is_blank_line(end) {
+                Name::new(word)
+            } else {
+                None
+            }
+        }
     }
 }
 

@@ -1,8 +1,6 @@
 //! The geometry of a drawing: how many rungs, rows and columns there are, and where a cell stands in its lines.
 
-ghost use Rattle.std.specs.Prelude.{◌≡◌, ◌<◌};
-ghost use Rattle.ladder_page.specs.Geometry.{place};
-ghost use Rattle.ladder_page.specs.AllPlaces.{reading_place};
+ghost use Rattle.std.specs.Prelude.{◌≡◌, ◌+◌, ◌*◌, ◌<◌};
 
 /// The most rungs of a program.
 pub const RUNGS: usize = 100;
@@ -33,7 +31,7 @@ pub fn place(rung: usize, row: usize, column: usize) -> usize
     requires rungs { rung < RUNGS }
     requires rows { row < ROWS }
     requires columns { column < COLUMNS }
-    ensures { result ≡ place rung row column }
+    ensures { result ≡ PLACES * rung + (ROWS * column + row) }
 {
     PLACES * rung + (ROWS * column + row)
 }
@@ -43,7 +41,7 @@ pub fn reading_place(rung: usize, row: usize, column: usize) -> usize
     requires rungs { rung < RUNGS }
     requires rows { row < ROWS }
     requires columns { column < COLUMNS }
-    ensures { result ≡ reading_place rung row column }
+    ensures { result ≡ PLACES * rung + (COLUMNS * row + column) }
 {
     PLACES * rung + (COLUMNS * row + column)
 }

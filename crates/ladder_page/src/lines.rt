@@ -3,9 +3,10 @@
 ghost use Rattle.std.specs.Prelude.{◌≡◌, ◌≤◌, ◌+◌, ◌-◌, ◌++◌, ◌==◌, length, map, take, drop, IfOk, OnOk, All, None};
 ghost use Rattle.std.specs.List.{slice_split, prefix_len};
 ghost use Rattle.ladder_page.specs.Bytes.{line_feed};
-ghost use Rattle.ladder_page.specs.Lines.{last_gap};
+ghost use Rattle.ladder_vars.specs.Text.{begins};
+ghost use Rattle.ladder_page.specs.Lines.{part_in};
 ghost use Rattle.ladder_page.specs.Bytes.{is_upright};
-ghost use Rattle.ladder_page.specs.ReadLines.{after_plain, next_inside, is_shown, shown_byte, blanked_from, unclosed_line, is_settled, shown_run, begins_rung, parts_from, parts_of, IsWithin};
+ghost use Rattle.ladder_page.specs.ReadLines.{next_inside, shown_byte, blanked_from, unclosed_line, is_settled, shown_run, parts_from, parts_of, IsWithin};
 ghost use Rattle.ladder_page.specs.declared.lines.Inside.TheVariants as inside;
 
 use std::alloc::{AllocError, Global};
@@ -43,32 +44,22 @@ fn is_rung_start(b: u8) -> bool
     b == b'|' || b == b'+'
 }
 
-fn after_plain(b: u8, after: &[u8]) -> Inside
-    ensures { result ≡ after_plain b after.now }
-{
-    if b == b'\n' {
-        Inside::LineStart
-    } else if b == b'(' && matches!(after, [b'*', ..]) {
-        Inside::Opening
-    } else if b == b'/' && matches!(after, [b'/', ..]) {
-        Inside::LineComment
-    } else {
-        Inside::Plain
-    }
-}
-
 fn next_inside(inside: Inside, b: u8, after: &[u8]) -> Inside
     ensures { result ≡ next_inside inside b after.now }
 {
     match inside {
-        Inside::LineStart => {
-            if is_rung_start(b) {
-                Inside::RungLine
+        Inside::LineStart if is_rung_start(b) => Inside::RungLine,
+        Inside::LineStart | Inside::Plain => {
+            if b == b'\n' {
+                Inside::LineStart
+            } else if b == b'(' && matches!(after, [b'*', ..]) {
+                Inside::Opening
+            } else if b == b'/' && matches!(after, [b'/', ..]) {
+                Inside::LineComment
             } else {
-                after_plain(b, after)
+                Inside::Plain
             }
         }
-        Inside::Plain => after_plain(b, after),
         Inside::RungLine => {
             if b == b'\n' {
                 Inside::LineStart
@@ -95,15 +86,6 @@ fn next_inside(inside: Inside, b: u8, after: &[u8]) -> Inside
     }
 }
 
-fn is_shown(inside: Inside) -> bool
-    ensures { result ≡ is_shown inside }
-{
-    match inside {
-        Inside::LineStart | Inside::Plain | Inside::RungLine => true,
-        Inside::Opening | Inside::Block | Inside::Closing | Inside::LineComment => false,
-    }
-}
-
 /// What the lines show of a byte, where `next` is what the next one stands in.
 fn shown_byte(inside: Inside, next: Inside, b: u8, after: &[u8]) -> u8
     requires { next ≡ next_inside inside b after.now }
@@ -113,10 +95,18 @@ fn shown_byte(inside: Inside, next: Inside, b: u8, after: &[u8]) -> u8
         b'\n'
     } else if b == b'\r' && matches!(after, [b'\n', ..]) {
         b' '
-    } else if is_shown(inside) && is_shown(next) {
-        b
     } else {
-        b' '
+        match (inside, next) {
+            (
+                Inside::LineStart | Inside::Plain | Inside::RungLine,
+                Inside::LineStart | Inside::Plain | Inside::RungLine,
+            ) => b,
+            (
+                Inside::LineStart | Inside::Plain | Inside::RungLine,
+                Inside::Opening | Inside::Block | Inside::Closing | Inside::LineComment,
+            )
+            | (Inside::Opening | Inside::Block | Inside::Closing | Inside::LineComment, _) => b' ',
+        }
     }
 }
 
@@ -148,11 +138,13 @@ fn show_run(seen: &mut Vec<u8>, inside: Inside, run: &[u8]) -> Result<(), AllocE
     ensures { OnOk result (seen.new.items ≡ seen.old.items ++ shown_run inside run.now) }
 {
     if run.is_empty() {
-        Ok(())
-    } else if is_shown(inside) {
-        seen.extend_from_slice(run)
-    } else {
-        seen.resize(seen.len() + run.len(), b' ')
+        return Ok(());
+    }
+    match inside {
+        Inside::LineStart | Inside::Plain | Inside::RungLine => seen.extend_from_slice(run),
+        Inside::Opening | Inside::Block | Inside::Closing | Inside::LineComment => {
+            seen.resize(seen.len() + run.len(), b' ')
+        }
     }
 }
 
@@ -212,7 +204,7 @@ pub fn lines(alloc: Global, text: &[u8]) -> Result<Vec<&[u8]>, AllocError>
 }
 
 fn begins_rung(line: &[u8]) -> bool
-    ensures { result ≡ begins_rung line.now }
+    ensures { result ≡ begins is_upright line.now }
 {
     match line {
         [] => false,
@@ -286,11 +278,10 @@ pub(crate) fn lines_between<'a, 'b>(
 
 /// The line after the last rung.
 pub fn last_gap(parts: &[Part]) -> usize
-    ensures { result ≡ last_gap parts.now }
+    ensures { result ≡ (part_in parts.now (length parts.now - 1)).end }
 {
-    if parts.is_empty() {
-        0
-    } else {
-        parts[parts.len() - 1].end
+    match parts {
+        [] => 0,
+        [.., last] => last.end,
     }
 }

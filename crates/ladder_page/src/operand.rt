@@ -1,16 +1,17 @@
 //! What the text over a cell stands for.
 
-ghost use Rattle.std.specs.Prelude.{◌≡◌, ◌≤◌, ◌==◌, ◌↔◌, ℕ, IsTrue, Some, true, length, slice_get, option_map};
+ghost use Rattle.std.specs.Prelude.{◌≡◌, ◌≤◌, ◌-◌, ◌==◌, ◌&&◌, ◌↔◌, ℕ, nat_le, IsTrue, Some, true, drop, length, slice_get, option_map};
 ghost use Rattle.std.specs.List.{prefix_len, suffix_len};
 ghost use Rattle.ladder_page.specs.Bytes.{space};
 ghost use Rattle.ladder_vars.specs.Decls.{is_input};
 ghost use Rattle.ladder_vars.specs.Name.{same_letters};
 ghost use Rattle.ladder_vars.specs.Kind.{traits_of};
-ghost use Rattle.ladder_page.specs.Operand.{word_in, ends_in, reference, refer_to, instance_on, MayHave};
+ghost use Rattle.ladder_page.specs.Operand.{IsWordIn, reference, refer_to, instance_on, MayHave};
 ghost use Rattle.ladder_page.specs.declared.operand.Reference.{Reference};
 ghost use Rattle.ladder_page.specs.Suiting.{DrawsBlock};
 
 use crate::form::Form;
+use ladder_times::same_letters;
 use ladder_vars::{BlockKind, Decls, Name, Output, Symbol};
 
 /// A declared name, with `.Q` or `.Q1` or without them.
@@ -45,7 +46,7 @@ fn spaces_after(chars: &[u8]) -> usize
 
 /// The characters without the spaces at both ends.
 pub(crate) fn word_in(chars: &[u8]) -> &[u8]
-    ensures { result.now ≡ word_in chars.now }
+    ensures { IsWordIn chars.now result.now }
 {
     let text = &chars[..chars.len() - spaces_after(chars)];
     let before = spaces_before(chars);
@@ -56,15 +57,9 @@ pub(crate) fn word_in(chars: &[u8]) -> &[u8]
     }
 }
 
-fn same_letters(a: &[u8], b: &[u8]) -> bool
-    ensures { result ≡ same_letters a.now b.now }
-{
-    a.eq_ignore_ascii_case(b)
-}
-
 /// Whether the word ends so, in any letter case.
 fn ends_in(suffix: &[u8], word: &[u8]) -> bool
-    ensures { result ≡ ends_in suffix.now word.now }
+    ensures { result ≡ (nat_le (length suffix.now) (length word.now) && same_letters (drop (length word.now - length suffix.now) word.now) suffix.now) }
 {
     suffix.len() <= word.len() && same_letters(&word[word.len() - suffix.len()..], suffix)
 }

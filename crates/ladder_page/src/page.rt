@@ -1,13 +1,15 @@
 //! What is where on the page that a drawing is read from.
 
-ghost use Rattle.std.specs.Prelude.{◌≡◌, ◌+◌, ◌<◌, map, length, All, IfOk};
+ghost use Rattle.std.specs.Prelude.{◌≡◌, ◌+◌, ◌<◌, map, length, slice_index_or, All, IfOk, None};
 ghost use Rattle.ladder_page.specs.declared.geometry.TheConstants.{RUNGS, ROWS, COLUMNS};
-ghost use Rattle.ladder_page.specs.ReadLines.{IsWithin, form_read, forms_of};
-ghost use Rattle.ladder_page.specs.Tables.{over_with, over_read, overs_of};
+ghost use Rattle.ladder_page.specs.ReadLines.{IsWithin, forms_of};
+ghost use Rattle.ladder_page.specs.Tables.{over_with, overs_of};
 ghost use Rattle.ladder_page.specs.Picture.{has_text};
 ghost use Rattle.ladder_page.specs.Texts.{text_over};
 ghost use Rattle.ladder_page.specs.Lines.{part_in, rung_of};
-ghost use Rattle.ladder_page.specs.Page.{rung_at, form_at, name_over, instance_at};
+ghost use Rattle.ladder_page.specs.Geometry.{place};
+ghost use Rattle.ladder_page.specs.Operand.{word_in, refer_to};
+ghost use Rattle.ladder_page.specs.Page.{rung_at};
 ghost use Rattle.ladder_page.specs.Seen.{instance_above, seen, part_at};
 
 use crate::form::{Form, form_at as form_of};
@@ -33,7 +35,7 @@ fn rung_in<'a, 'b>(lines: &'a [&'b [u8]], parts: &[Part], rung: usize) -> &'a [&
 /// The rung and its gap.
 pub fn part_at(page: PageView<'_, '_>, rung: usize) -> Part
     requires rungs { rung < length page.parts.now }
-    ensures value { result ≡ part_at (seen page.entry) rung }
+    ensures value { result ≡ part_in page.entry.parts.now rung }
     ensures within { IsWithin (length page.entry.lines.now) result }
 {
     page.parts[rung]
@@ -48,23 +50,6 @@ pub fn rung_at<'a, 'b>(page: PageView<'a, 'b>, rung: usize) -> &'a [&'b [u8]]
     rung_in(page.lines, page.parts, rung)
 }
 
-#[tactic(auto, unfolding(crate::specs::ReadLines::form_read))]
-fn form_read(
-    lines: &[&[u8]],
-    parts: &[Part],
-    rung: usize,
-    row: usize,
-    column: usize,
-) -> Option<Form>
-    requires rungs { rung < length parts.now }
-    requires within { All (IsWithin (length lines.now)) parts.now }
-    requires rows { row < ROWS }
-    requires columns { column < COLUMNS }
-    ensures { result ≡ form_read (map (λ l. l.now) lines.now) parts.now rung row column }
-{
-    form_of(&text_at(rung_in(lines, parts, rung), 2 * row + 1, column))
-}
-
 /// What the cells of the first hundred rungs are.
 #[tactic(auto, unfolding(crate::specs::ReadLines::forms_of))]
 pub fn forms(
@@ -77,37 +62,11 @@ pub fn forms(
 {
     let mut forms = Vec::new(alloc);
     for n in 0..PLACES * parts.len().min(RUNGS) {
-        forms.push(form_read(
-            lines,
-            parts,
-            n / PLACES,
-            n % PLACES % ROWS,
-            n % PLACES / ROWS,
-        ))?;
+        let rung = rung_in(lines, parts, n / PLACES);
+        let chars = text_at(rung, 2 * (n % PLACES % ROWS) + 1, n % PLACES / ROWS);
+        forms.push(form_of(&chars))?;
     }
     Ok(forms)
-}
-
-#[tactic(auto, unfolding(crate::specs::Tables::over_read))]
-fn over_read(
-    decls: &Decls,
-    lines: &[&[u8]],
-    parts: &[Part],
-    rung: usize,
-    row: usize,
-    column: usize,
-) -> NameOver
-    requires rungs { rung < length parts.now }
-    requires within { All (IsWithin (length lines.now)) parts.now }
-    requires rows { row < ROWS }
-    requires columns { column < COLUMNS }
-    ensures { result ≡ over_read decls.now (map (λ l. l.now) lines.now) parts.now rung row column }
-{
-    let chars = text_at(rung_in(lines, parts, rung), 2 * row, column);
-    NameOver {
-        written: has_text(&chars),
-        name: refer_to(decls, word_in(&chars)),
-    }
 }
 
 /// What stands over the cells of the first hundred rungs.
@@ -123,14 +82,12 @@ pub fn overs(
 {
     let mut overs = Vec::new(alloc);
     for n in 0..PLACES * parts.len().min(RUNGS) {
-        overs.push(over_read(
-            decls,
-            lines,
-            parts,
-            n / PLACES,
-            n % PLACES % ROWS,
-            n % PLACES / ROWS,
-        ))?;
+        let rung = rung_in(lines, parts, n / PLACES);
+        let chars = text_at(rung, 2 * (n % PLACES % ROWS), n % PLACES / ROWS);
+        overs.push(NameOver {
+            written: has_text(&chars),
+            name: refer_to(decls, word_in(&chars)),
+        })?;
     }
     Ok(overs)
 }
@@ -139,7 +96,7 @@ pub fn overs(
 pub fn form_at(page: PageView<'_, '_>, rung: usize, row: usize, column: usize) -> Option<Form>
     requires rows { row < ROWS }
     requires columns { column < COLUMNS }
-    ensures { result ≡ form_at (seen page.entry) rung row column }
+    ensures { result ≡ slice_index_or page.entry.forms.now (place rung row column) None }
 {
     if rung > page.forms.len() / PLACES {
         return None;
@@ -184,32 +141,13 @@ pub fn name_over(
     requires few { rung < RUNGS }
     requires rows { row < ROWS }
     requires columns { column < COLUMNS }
-    ensures { result ≡ name_over (seen page.entry) rung row column }
+    ensures { result ≡ refer_to page.entry.decls.now (word_in (text_over (rung_at (seen page.entry) rung) row column)) }
 {
     over_at(page, rung, row, column).name
 }
 
-/// The instance that the block at a place is.
-#[tactic(auto, unfolding(crate::specs::Page::instance_at))]
-pub(crate) fn instance_at(
-    page: PageView<'_, '_>,
-    rung: usize,
-    row: usize,
-    column: usize,
-) -> Option<usize>
-    requires rungs { rung < length page.parts.now }
-    requires few { rung < RUNGS }
-    requires rows { row < ROWS }
-    requires columns { column < COLUMNS }
-    ensures { result ≡ instance_at (seen page.entry) rung row column }
-{
-    instance_on(
-        form_at(page, rung, row, column),
-        name_over(page, rung, row, column),
-    )
-}
-
 /// The instance of the block over a cell.
+#[tactic(auto, unfolding(crate::specs::Page::instance_at))]
 pub fn instance_above(
     page: PageView<'_, '_>,
     rung: usize,
@@ -225,6 +163,9 @@ pub fn instance_above(
     if row == 0 {
         None
     } else {
-        instance_at(page, rung, row - 1, column)
+        instance_on(
+            form_at(page, rung, row - 1, column),
+            name_over(page, rung, row - 1, column),
+        )
     }
 }

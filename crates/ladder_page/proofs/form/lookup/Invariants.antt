@@ -1,9 +1,13 @@
-use Rattle.std.proofs.Common.{◌≡◌, length, map}
-use Rattle.ladder_page.specs.ReadForm.{lookup}
+use Rattle.std.proofs.Common.{◌≡◌, ℕ, List, length, map}
+use Rattle.std.specs.List.{find}
+use Rattle.std.specs.Str.{bytes_eq}
+use Rattle.ladder_page.specs.declared.form.Form.{Form}
 use Rattle.ladder_page.proofs.form.lookup.Given as goal
 
 abbrev pub invariant-loop-table : goal.invariant-loop-table
-invariant-loop-table l = lookup (map (λ e. (e.0.now, e.1)) l.table) l.chars ≡ lookup (map (λ e. (e.0.now, e.1)) l.initial.table) l.chars
+invariant-loop-table l =
+    find (λ (e : List ℕ × Form). bytes_eq e.0 l.chars) (map (λ e. (e.0.now, e.1)) l.table)
+    ≡ find (λ (e : List ℕ × Form). bytes_eq e.0 l.chars) (map (λ e. (e.0.now, e.1)) l.initial.table)
 
 abbrev pub decreases-loop-table : goal.decreases-loop-table
 decreases-loop-table l = length l.table

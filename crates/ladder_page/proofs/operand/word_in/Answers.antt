@@ -1,9 +1,11 @@
-use Rattle.std.proofs.Common.{◌≡◌, ◌-◌, ◌==◌, List, ℕ, length, take, drop, refl, sym, ◌∙◌, arith, length-drop, rules}
+use Rattle.std.proofs.Common.{◌≡◌, ◌-◌, List, ℕ, length, take, drop, refl, sym, subst, ◌∙◌, arith, length-drop}
 use Rattle.std.proofs.lemmas.List.{drop_all, take_all}
-use Rattle.std.specs.List.{prefix_len, suffix_len}
-use Rattle.ladder_page.specs.Bytes.{space}
-use Rattle.ladder_page.specs.Operand.{word_in}
+use Rattle.ladder_page.specs.Operand.{word_in, IsWordIn}
+use Rattle.ladder_page.proofs.WordLaws.{word_found}
 use Rattle.ladder_page.proofs.operand.word_in.Goals as goal
+
+told : (chars word : List ℕ) → word ≡ word_in chars → IsWordIn chars word
+told chars word is = subst (IsWordIn chars) (sym is) (word_found chars)
 
 pub returns-then-before-text : goal.returns-then-before-text
 unfolding word_in
@@ -11,10 +13,10 @@ returns-then-before-text c =
     let text : List ℕ = take (length c.args.chars.now - c.spaces_after.result) c.args.chars.now in
     let whole : take (length text - c.spaces_before-before.result) (drop c.spaces_before-before.result text) ≡ drop c.spaces_before-before.result text
     = take_all _ _ (omega (arith, length-drop c.spaces_before-before.result text)) in
-    whole ∙ rw (c.spaces_after.ensures.value, c.spaces_before-before.ensures.value) refl
+    told c.args.chars.now _ (whole ∙ rw (c.spaces_after.ensures.value, c.spaces_before-before.ensures.value) refl)
 
 pub returns-else-before-text : goal.returns-else-before-text
 unfolding word_in
 returns-else-before-text c =
     let text : List ℕ = take (length c.args.chars.now - c.spaces_after.result) c.args.chars.now in
-    sym (drop_all c.spaces_before-before.result text (omega (arith, c.if-before-text.false))) ∙ rw (c.spaces_after.ensures.value, c.spaces_before-before.ensures.value) refl
+    told c.args.chars.now _ (sym (drop_all c.spaces_before-before.result text (omega (arith, c.if-before-text.false))) ∙ rw (c.spaces_after.ensures.value, c.spaces_before-before.ensures.value) refl)

@@ -1,9 +1,0 @@
-use Rattle.std.proofs.Common.{◌≡◌, length}
-use Rattle.ladder_page.specs.Labels.{after_blanks}
-use Rattle.ladder_page.proofs.gap.after_blanks.Given as goal
-
-abbrev pub invariant-loop-text : goal.invariant-loop-text
-invariant-loop-text l = after_blanks l.text ≡ after_blanks l.initial.text
-
-abbrev pub decreases-loop-text : goal.decreases-loop-text
-decreases-loop-text l = length l.text
