@@ -13,7 +13,7 @@ use crate::knowledge::Knowledge;
 use ladder_elements::{Operations, Signal};
 use ladder_grid::Cell;
 use ladder_grid::gates::{Gate, Literal};
-use ladder_scan::gates::{contact, set_rails};
+use ladder_scan::gates::{closed, set_rails};
 use ladder_scan::scene::{Scene, cell, instance};
 use ladder_scan::signals::Signals;
 
@@ -35,11 +35,7 @@ fn through_cell<S: Signal, B: Keep<S>>(
             let after = known.kept(inst).step(kind, preset, left, below, scene.now);
             after.q()
         }
-        Cell::Contact {
-            mode,
-            operand,
-            memory,
-        } => left.and(contact(mode, seen.operand(operand), known.memory(memory))),
+        Cell::Contact { memory, .. } => left.and(closed(cell, seen, known.memory(memory))),
         Cell::Wire | Cell::Coil { .. } => left.and(S::known(true)),
         Cell::Empty | Cell::Lower { .. } | Cell::Jump { .. } | Cell::Return => left.and(S::known(
             false,

@@ -1,5 +1,5 @@
 -- Rows that vertical links join, from row to row.
-use Rattle.std.proofs.Common.{◌≡◌, ℕ, suc, ◌+◌, ◌&&◌, Bool, true, false, refl, sym, ap, ap₂, ◌∙◌, add-one}
+use Rattle.std.proofs.Common.{◌≡◌, ℕ, suc, ◌+◌, ◌&&◌, Bool, true, false, refl, ap, ◌∙◌, add-one}
 use Rattle.std.specs.List.{list_all, range_with_len}
 use Rattle.std.proofs.lemmas.List.Folds.{list_all-append}
 use Rattle.ladder_grid.specs.Program.{Drawing, joined, site_at}
@@ -28,6 +28,7 @@ module _ (d : Drawing) (rung row column : ℕ) where
       alone true = refl
       alone false = refl
 
-  pub joined_step : (n : ℕ) (all here : Bool) → all ≡ joined d rung row column n → here ≡ (site_at d rung (row + n) column).vertical
-      → (all && here) ≡ joined d rung row column (n + 1)
-  joined_step n all here before step = ap₂ (λ a b. a && b) before step ∙ sym (joined_more n) ∙ ap (joined d rung row column) (sym (add-one n))
+  pub joined_next : (n : ℕ) → joined d rung row column (n + 1) ≡ (joined d rung row column n && (site_at d rung (row + n) column).vertical)
+  joined_next n = ap (joined d rung row column) (add-one n) ∙ joined_more n
+
+pub ruleset join_step = (joined_none, joined_next)

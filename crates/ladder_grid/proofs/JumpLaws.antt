@@ -1,5 +1,5 @@
 -- Where the jump of a rung is.
-use Rattle.std.proofs.Common.{◌≡◌, ℕ, ◌+◌, ◌*◌, ◌/◌, ◌%◌, ◌<◌, ◌≤◌, ◌++◌, List, [], ◌∷◌, Option, Some, None, zero, suc, slice_get, arith, refl, sym, ap, subst, ◌∙◌}
+use Rattle.std.proofs.Common.{◌≡◌, ℕ, ◌+◌, ◌*◌, ◌/◌, ◌%◌, ◌<◌, ◌≤◌, ◌++◌, List, [], ◌∷◌, Option, Some, None, zero, suc, slice_get, add-one, arith, refl, sym, ap, subst, ◌∙◌}
 use Rattle.std.specs.Prelude.{option_map}
 use Rattle.std.specs.Option.{option_or}
 use Rattle.std.specs.List.{cons_option, filter_map, range_with_len}
@@ -33,6 +33,14 @@ next_jump d rung n =
 pub last_jump : (d : Drawing) (rung : ℕ) → first_jump d rung PLACES ≡ jump_of d rung
 unfolding jump_of
 last_jump d rung = refl
+
+pub no_jump : (d : Drawing) (rung : ℕ) → None ≡ first_jump d rung 0
+no_jump d rung = refl
+
+pub jump_next : (d : Drawing) (rung n : ℕ) → first_jump d rung (n + 1) ≡ option_or (first_jump d rung n) (jump_at d rung n)
+jump_next d rung n = ap (first_jump d rung) (add-one n) ∙ next_jump d rung n
+
+pub ruleset jump_step = (no_jump, jump_next)
 
 -- ---- its place
 

@@ -1,11 +1,54 @@
--- One turn of the loops that make the steps of a program.
-use Rattle.std.proofs.Common.{◌≡◌, ℕ, ◌+◌, ◌++◌, ◌||◌, Bool, false, List, [], Option, map, filter_map, add-one, refl, ap, ap₂, ◌∙◌}
+-- One turn of the loops that make the gates, the actions and the steps of a program.
+use Rattle.std.proofs.Common.{◌≡◌, ℕ, ◌+◌, ◌++◌, ◌||◌, Bool, true, false, List, [], ◌∷◌, Option, Some, None, if◌then◌else◌, map, filter_map, add-one, refl, ap, ap₂, ◌∙◌}
 use Rattle.std.proofs.lemmas.List.{append_assoc}
+use Rattle.ladder_grid.specs.declared.gates.Gate.{Gate}
+use Rattle.ladder_grid.specs.declared.gates.Action.{Action}
 use Rattle.ladder_grid.specs.declared.gates.Exit.{Exit}
 use Rattle.ladder_grid.specs.declared.steps.Step.{Step}
-use Rattle.ladder_grid.specs.Gates.{gates_of, actions_of, exit_of}
-use Rattle.ladder_grid.specs.Program.{Drawing, jump_of}
+use Rattle.ladder_grid.specs.Gates.{has_gate, gate_at, gates_before, gates_of, acts, action_at, actions_before, actions_of, exit_of}
+use Rattle.ladder_grid.specs.Program.{Drawing, cell_of, jump_of}
 use Rattle.ladder_grid.specs.Steps.{gate_step, action_step, turned_by, turns_before, turn_steps, exit_steps, rung_steps, steps_below}
+
+-- ---- gates and actions
+
+taken : {A : Type 0} (b : Bool) (x y : A) (xs : List A) → (if b then Some x else None) ≡ Some y → (if b then xs ++ x ∷ [] else xs) ≡ xs ++ y ∷ []
+taken true x y xs h = cc
+taken false x y xs h = cc
+
+not_taken : {A : Type 0} (b : Bool) (x : A) (xs : List A) → (if b then Some x else None) ≡ None → (if b then xs ++ x ∷ [] else xs) ≡ xs
+not_taken true x xs h = cc
+not_taken false x xs h = refl
+
+module _ (d : Drawing) (rung : ℕ) where
+  pub gates_none : [] ≡ gates_before d rung 0
+  unfolding gates_before
+  gates_none = refl
+
+  pub gates_more : (at : ℕ) (gate : Gate) → (if has_gate d rung at then Some (gate_at d rung at) else None) ≡ Some gate
+      → gates_before d rung (at + 1) ≡ gates_before d rung at ++ gate ∷ []
+  unfolding gates_before
+  gates_more at gate h = rw (add-one) (taken (has_gate d rung at) _ _ _ h)
+
+  pub gates_same : (at : ℕ) → (if has_gate d rung at then Some (gate_at d rung at) else None) ≡ None → gates_before d rung (at + 1) ≡ gates_before d rung at
+  unfolding gates_before
+  gates_same at h = rw (add-one) (not_taken (has_gate d rung at) _ _ h)
+
+  pub actions_none : [] ≡ actions_before d rung 0
+  unfolding actions_before
+  actions_none = refl
+
+  pub actions_more : (at : ℕ) (action : Action) → (if acts (cell_of d rung at) then Some (action_at d rung at) else None) ≡ Some action
+      → actions_before d rung (at + 1) ≡ actions_before d rung at ++ action ∷ []
+  unfolding actions_before
+  actions_more at action h = rw (add-one) (taken (acts (cell_of d rung at)) _ _ _ h)
+
+  pub actions_same : (at : ℕ) → (if acts (cell_of d rung at) then Some (action_at d rung at) else None) ≡ None → actions_before d rung (at + 1) ≡ actions_before d rung at
+  unfolding actions_before
+  actions_same at h = rw (add-one) (not_taken (acts (cell_of d rung at)) _ _ h)
+
+pub ruleset rung_step = (gates_none, gates_more, gates_same, actions_none, actions_more, actions_same)
+
+-- ---- steps
 
 pub turns_none : (d : Drawing) (n : ℕ) → false ≡ turns_before d n 0
 unfolding turns_before

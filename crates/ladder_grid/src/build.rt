@@ -12,8 +12,7 @@ ghost use Rattle.ladder_grid.specs.Reading.{IsDrawn};
 
 use crate::cell::Cell;
 use crate::program::Program;
-use crate::sheet::has_memory;
-use crate::site::{Site, cell_drawn, site_with};
+use crate::site::{Site, site_drawn};
 use ladder_page::PageView;
 use ladder_page::geometry::{PLACES, ROWS, RUNGS};
 use ladder_page::lines::{lines, parts, shown_text};
@@ -30,7 +29,24 @@ fn after_memory(number: usize, cell: &Cell) -> usize
     ensures value { result ≡ (if has_memory cell.now then number + 1 else number) }
     ensures close { result ≤ number + 1 }
 {
-    if has_memory(cell) { number + 1 } else { number }
+    match cell {
+        Cell::Contact {
+            memory: Some(_),
+            ..
+        }
+        | Cell::Coil {
+            memory: Some(_),
+            ..
+        } => number + 1,
+        Cell::Contact { memory: None, .. }
+        | Cell::Coil { memory: None, .. }
+        | Cell::Empty
+        | Cell::Wire
+        | Cell::Block { .. }
+        | Cell::Lower { .. }
+        | Cell::Jump { .. }
+        | Cell::Return => number,
+    }
 }
 
 /// What is at each place, by rung, column and row; memories are numbered in this order.
@@ -46,7 +62,7 @@ fn sites(
     let mut sites = Vec::new(alloc);
     let mut next = 0;
     for n in 0..PLACES * page.parts.len() {
-        let cell = cell_drawn(
+        let site = site_drawn(
             page,
             labels,
             next,
@@ -54,8 +70,8 @@ fn sites(
             n % PLACES % ROWS,
             n % PLACES / ROWS,
         );
-        sites.push(site_with(page, cell, n / PLACES, n % PLACES % ROWS, n % PLACES / ROWS))?;
-        next = after_memory(next, &cell);
+        sites.push(site)?;
+        next = after_memory(next, &site.cell);
     }
     Ok(sites)
 }

@@ -3,10 +3,10 @@
 //! The links of a rung are kept in one list, by the places of the cells: what a gate gives is at the place of its cell, and what a
 //! cell by itself lets through `OWN` further on.
 
-ghost use Rattle.std.specs.Prelude.{◌≡◌, ◌<◌, ◌≤◌, ◌+◌, ◌*◌, ◌-◌, ◌/◌, length, map, ◌&&◌, ◌||◌, IfOk, if◌then◌else◌};
+ghost use Rattle.std.specs.Prelude.{◌≡◌, ◌<◌, ◌≤◌, ◌+◌, ◌*◌, ◌-◌, ◌==◌, Some, None, length, map, IfOk, if◌then◌else◌};
 ghost use Rattle.ladder_page.specs.declared.geometry.TheConstants.{RUNGS, ROWS, COLUMNS, PLACES};
-ghost use Rattle.ladder_grid.specs.Program.{cell_of, jump_of};
-ghost use Rattle.ladder_grid.specs.Gates.{last_feeder, left_of, other_of, below_of, literal_of, gate_at, has_gate, gates_of, acts, action_at, actions_of, exit_by, leaps_below};
+ghost use Rattle.ladder_grid.specs.Program.{cell_of, feeds, jump_of};
+ghost use Rattle.ladder_grid.specs.Gates.{last_of, below_of, gate_at, has_gate, gates_of, acts, action_at, actions_of, exit_of, leaps_below};
 ghost use Rattle.ladder_grid.specs.Sheet.{drawing_of, HasGates, HasActions, HasJumps, HasExits};
 
 use crate::cell::{Cell, Operand};
@@ -76,27 +76,23 @@ pub struct Leap {
     pub target: usize,
 }
 
-fn cell_of(sheet: Sheet<'_>, rung: usize, at: usize) -> Cell
-    requires rungs { rung < RUNGS }
-    requires places { at ≤ PLACES }
-    ensures { result ≡ cell_of (drawing_of sheet.entry) rung at }
-{
-    site_in(sheet, PLACES * rung + at).cell
-}
-
 fn later(is_fed: bool, place: u8, last: u8) -> u8
     ensures { result ≡ (if is_fed then place else last) }
 {
     if is_fed { place } else { last }
 }
 
-/// The place of the last row below `count` in the column before that feeds a cell; OFF where none does.
-fn last_feeder(sheet: Sheet<'_>, rung: usize, row: usize, column: usize, count: usize) -> u8
+/// Where the OR is of what the rows below `count` in the column before bring into the group of a cell: at the place of the last of
+/// them that feeds it, or OFF where none does. In the first column it is ON.
+pub(crate) fn feeder(sheet: Sheet<'_>, rung: usize, row: usize, column: usize, count: usize) -> u8
     requires rungs { rung < RUNGS }
-    requires columns { (1 ≤ column) × (column < COLUMNS) }
+    requires columns { column < COLUMNS }
     requires rows { (row < ROWS) × (count ≤ ROWS) }
-    ensures { result ≡ last_feeder (drawing_of sheet.entry) rung row column count }
+    ensures { result ≡ (if column == 0 then ON else last_of (feeds (drawing_of sheet.entry) rung row column) (ROWS * (column - 1)) count) }
 {
+    if column == 0 {
+        return ON as u8;
+    }
     let mut last: u8 = OFF as u8;
     for from in 0..count {
         last = later(
@@ -108,30 +104,6 @@ fn last_feeder(sheet: Sheet<'_>, rung: usize, row: usize, column: usize, count: 
     last
 }
 
-pub(crate) fn left_of(sheet: Sheet<'_>, rung: usize, at: usize) -> u8
-    requires rungs { rung < RUNGS }
-    requires places { at < PLACES }
-    ensures { result ≡ left_of (drawing_of sheet.entry) rung at }
-{
-    if at / ROWS == 0 {
-        ON as u8
-    } else {
-        last_feeder(sheet, rung, at % ROWS, at / ROWS, ROWS)
-    }
-}
-
-fn other_of(sheet: Sheet<'_>, rung: usize, at: usize) -> u8
-    requires rungs { rung < RUNGS }
-    requires places { at < PLACES }
-    ensures { result ≡ other_of (drawing_of sheet.entry) rung at }
-{
-    if at / ROWS + 1 < COLUMNS {
-        last_feeder(sheet, rung, at % ROWS, at / ROWS + 1, at % ROWS)
-    } else {
-        OFF as u8
-    }
-}
-
 pub(crate) fn below_of(sheet: Sheet<'_>, rung: usize, at: usize) -> u8
     requires rungs { rung < RUNGS }
     requires places { at < PLACES }
@@ -140,8 +112,9 @@ pub(crate) fn below_of(sheet: Sheet<'_>, rung: usize, at: usize) -> u8
     if at % ROWS + 1 >= ROWS {
         return OFF as u8;
     }
-    match cell_of(sheet, rung, at + 1) {
-        Cell::Lower { linked: true, .. } => left_of(sheet, rung, at + 1),
+    let next = at + 1;
+    match site_in(sheet, PLACES * rung + next).cell {
+        Cell::Lower { linked: true, .. } => feeder(sheet, rung, next % ROWS, next / ROWS, ROWS),
         Cell::Lower { linked: false, .. }
         | Cell::Empty
         | Cell::Wire
@@ -153,74 +126,60 @@ pub(crate) fn below_of(sheet: Sheet<'_>, rung: usize, at: usize) -> u8
     }
 }
 
-fn literal_of(cell: Cell) -> Literal
-    ensures { result ≡ literal_of cell }
-{
-    match cell {
-        Cell::Contact {
-            mode: Mode::Plain,
-            operand: Operand::Var(var),
-            ..
-        } if var < VARIABLES => Literal::Is(var as u16),
-        Cell::Contact {
-            mode: Mode::Negated,
-            operand: Operand::Var(var),
-            ..
-        } if var < VARIABLES => Literal::Not(var as u16),
-        Cell::Contact { .. }
-        | Cell::Empty
-        | Cell::Wire
-        | Cell::Coil { .. }
-        | Cell::Block { .. }
-        | Cell::Lower { .. }
-        | Cell::Jump { .. }
-        | Cell::Return => Literal::Other,
-    }
-}
-
-fn gate_at(sheet: Sheet<'_>, rung: usize, at: usize) -> Gate
+/// The gate of a cell that is a block, or whose right link enters the group on its right.
+fn gate_at(sheet: Sheet<'_>, rung: usize, at: usize) -> Option<Gate>
     requires rungs { rung < RUNGS }
     requires places { at < PLACES }
-    ensures { result ≡ gate_at (drawing_of sheet.entry) rung at }
+    ensures { result ≡ (if has_gate (drawing_of sheet.entry) rung at then Some (gate_at (drawing_of sheet.entry) rung at) else None) }
 {
-    Gate {
+    let (row, column) = (at % ROWS, at / ROWS);
+    let cell = site_in(sheet, PLACES * rung + at).cell;
+    let is_inside = column + 1 < COLUMNS;
+    let feeds_on = is_inside && feeds(sheet, rung, row, column + 1, row);
+    if !(matches!(cell, Cell::Block { .. }) || feeds_on) {
+        return None;
+    }
+    Some(Gate {
         place: at as u8,
-        left: left_of(sheet, rung, at),
+        left: feeder(sheet, rung, row, column, ROWS),
         below: below_of(sheet, rung, at),
-        other: other_of(sheet, rung, at),
-        literal: literal_of(cell_of(sheet, rung, at)),
-    }
+        other: if is_inside {
+            feeder(sheet, rung, row, column + 1, row)
+        } else {
+            OFF as u8
+        },
+        literal: match cell {
+            Cell::Contact {
+                mode: Mode::Plain,
+                operand: Operand::Var(var),
+                ..
+            } if var < VARIABLES => Literal::Is(var as u16),
+            Cell::Contact {
+                mode: Mode::Negated,
+                operand: Operand::Var(var),
+                ..
+            } if var < VARIABLES => Literal::Not(var as u16),
+            Cell::Contact { .. }
+            | Cell::Empty
+            | Cell::Wire
+            | Cell::Coil { .. }
+            | Cell::Block { .. }
+            | Cell::Lower { .. }
+            | Cell::Jump { .. }
+            | Cell::Return => Literal::Other,
+        },
+    })
 }
 
-/// Whether the cell is a block, or its right link enters the group on its right.
-fn has_gate(sheet: Sheet<'_>, rung: usize, at: usize) -> bool
-    requires rungs { rung < RUNGS }
-    requires places { at < PLACES }
-    ensures { result ≡ has_gate (drawing_of sheet.entry) rung at }
-{
-    match cell_of(sheet, rung, at) {
-        Cell::Block { .. } => true,
-        Cell::Empty
-        | Cell::Wire
-        | Cell::Contact { .. }
-        | Cell::Coil { .. }
-        | Cell::Lower { .. }
-        | Cell::Jump { .. }
-        | Cell::Return => {
-            at / ROWS + 1 < COLUMNS && feeds(sheet, rung, at % ROWS, at / ROWS + 1, at % ROWS)
-        }
-    }
-}
-
-#[tactic(auto, unfolding(crate::specs::Gates::gates_of))]
+#[tactic(auto, unfolding(crate::specs::Gates::gates_of), using(crate::proofs::StepLaws::rung_step))]
 fn rung_gates(alloc: Global, sheet: Sheet<'_>, rung: usize) -> Result<Vec<Gate>, AllocError>
     requires rungs { rung < RUNGS }
     ensures { IfOk result (λ v. v.items ≡ gates_of (drawing_of sheet.entry) rung) }
 {
     let mut gates: Vec<Gate> = Vec::new(alloc);
     for at in 0..PLACES {
-        if has_gate(sheet, rung, at) {
-            gates.push(gate_at(sheet, rung, at))?;
+        if let Some(gate) = gate_at(sheet, rung, at) {
+            gates.push(gate)?;
         }
     }
     Ok(gates)
@@ -240,38 +199,43 @@ pub(crate) fn gates(alloc: Global, sheet: Sheet<'_>) -> Result<Vec<Vec<Gate>>, A
     Ok(gates)
 }
 
-fn acts(cell: Cell) -> bool
-    ensures { result ≡ acts cell }
-{
-    match cell {
-        Cell::Contact { memory, .. } => memory.is_some(),
-        Cell::Coil { .. } | Cell::Block { .. } => true,
-        Cell::Empty | Cell::Wire | Cell::Lower { .. } | Cell::Jump { .. } | Cell::Return => false,
-    }
-}
-
-fn action_at(sheet: Sheet<'_>, rung: usize, at: usize) -> Action
+/// What a cell does that writes a variable, a memory or an instance.
+fn action_at(sheet: Sheet<'_>, rung: usize, at: usize) -> Option<Action>
     requires rungs { rung < RUNGS }
     requires places { at < PLACES }
-    ensures { result ≡ action_at (drawing_of sheet.entry) rung at }
+    ensures { result ≡ (if acts (cell_of (drawing_of sheet.entry) rung at) then Some (action_at (drawing_of sheet.entry) rung at) else None) }
 {
-    Action {
-        cell: cell_of(sheet, rung, at),
-        place: at as u8,
-        left: left_of(sheet, rung, at),
-        below: below_of(sheet, rung, at),
+    let cell = site_in(sheet, PLACES * rung + at).cell;
+    match cell {
+        Cell::Contact {
+            memory: Some(_),
+            ..
+        }
+        | Cell::Coil { .. }
+        | Cell::Block { .. } => Some(Action {
+            cell,
+            place: at as u8,
+            left: feeder(sheet, rung, at % ROWS, at / ROWS, ROWS),
+            below: below_of(sheet, rung, at),
+        }),
+        Cell::Contact { memory: None, .. }
+        | Cell::Empty
+        | Cell::Wire
+        | Cell::Lower { .. }
+        | Cell::Jump { .. }
+        | Cell::Return => None,
     }
 }
 
-#[tactic(auto, unfolding(crate::specs::Gates::actions_of))]
+#[tactic(auto, unfolding(crate::specs::Gates::actions_of), using(crate::proofs::StepLaws::rung_step))]
 fn rung_actions(alloc: Global, sheet: Sheet<'_>, rung: usize) -> Result<Vec<Action>, AllocError>
     requires rungs { rung < RUNGS }
     ensures { IfOk result (λ v. v.items ≡ actions_of (drawing_of sheet.entry) rung) }
 {
     let mut actions: Vec<Action> = Vec::new(alloc);
     for at in 0..PLACES {
-        if acts(cell_of(sheet, rung, at)) {
-            actions.push(action_at(sheet, rung, at))?;
+        if let Some(action) = action_at(sheet, rung, at) {
+            actions.push(action)?;
         }
     }
     Ok(actions)
@@ -295,11 +259,11 @@ pub(crate) fn actions(alloc: Global, sheet: Sheet<'_>) -> Result<Vec<Vec<Action>
 fn exit_by(sheet: Sheet<'_>, rung: usize, jump: Option<Jump>) -> Option<Exit>
     requires rungs { rung < RUNGS }
     requires jump { jump ≡ jump_of (drawing_of sheet) rung }
-    ensures { result ≡ exit_by (drawing_of sheet.entry) rung jump }
+    ensures { result ≡ exit_of (drawing_of sheet.entry) rung }
 {
     match jump {
         Some((row, column, target)) => Some(Exit {
-            left: left_of(sheet, rung, ROWS * column + row),
+            left: feeder(sheet, rung, row, column, ROWS),
             target,
         }),
         None => None,

@@ -94,45 +94,30 @@ fn cell_with(
     }
 }
 
-/// The cell at a place; `number` is that of the next memory.
-pub(crate) fn cell_drawn(
+/// What is at a place; `number` is that of the next memory.
+pub(crate) fn site_drawn(
     page: PageView<'_, '_>,
     labels: &[Option<Name>],
     number: usize,
     rung: usize,
     row: usize,
     column: usize,
-) -> Cell
+) -> Site
     requires rungs { rung < length page.parts.now }
     requires few { rung < RUNGS }
     requires known { labels.now ≡ labels_of (map (λ l. l.now) page.lines.now) page.parts.now }
     requires rows { row < ROWS }
     requires columns { column < COLUMNS }
-    ensures { result ≡ cell_drawn (seen page.entry) number rung row column }
+    ensures { result ≡ record (site_drawn (seen page.entry) rung row column) { cell = cell_drawn (seen page.entry) number rung row column } }
 {
     let form = form_at(page, rung, row, column);
-    cell_with(
+    let cell = cell_with(
         number,
         form,
         name_over(page, rung, row, column).map(|name| name.symbol),
         instance_above(page, rung, row, column),
         target_of(labels, rung, &form),
-    )
-}
-
-/// What is at a place that has this cell.
-pub(crate) fn site_with(
-    page: PageView<'_, '_>,
-    cell: Cell,
-    rung: usize,
-    row: usize,
-    column: usize,
-) -> Site
-    requires rungs { rung < length page.parts.now }
-    requires rows { row < ROWS }
-    requires columns { column < COLUMNS }
-    ensures { result ≡ record (site_drawn (seen page.entry) rung row column) { cell = cell } }
-{
+    );
     Site {
         cell,
         right_link: right_link(page, rung, row, column),

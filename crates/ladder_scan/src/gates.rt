@@ -5,7 +5,7 @@ ghost use Rattle.ladder_vars.specs.Kind.{largest_preset};
 ghost use Rattle.ladder_grid.specs.declared.gates.TheConstants.{ON, OFF, OWN, LINKS};
 ghost use Rattle.ladder_grid.specs.Gates.{gates_of};
 ghost use Rattle.ladder_elements.specs.Blocks.{step, q_of};
-ghost use Rattle.ladder_scan.specs.Cells.{closed, contact, q_from};
+ghost use Rattle.ladder_scan.specs.Cells.{closed, q_from};
 ghost use Rattle.ladder_scan.specs.Programs.{diagram_of, IsSound};
 ghost use Rattle.ladder_scan.specs.Gating.{among, own, passed, ran, IsInside, AreLinks, AreValues};
 
@@ -29,24 +29,21 @@ pub fn link_at<S: Operations>(links: &[S], place: usize) -> S
     }
 }
 
-/// What a contact lets through, by what it reads and what its memory stores.
-pub fn contact<S: Operations>(mode: Mode, operand: S, memory: S) -> S
-    ensures { result ≡ contact S.algebra mode operand memory }
-{
-    match mode {
-        Mode::Plain => operand,
-        Mode::Negated => operand.not(),
-        Mode::Rising => operand.and(memory.not()),
-        Mode::Falling => operand.not().and(memory),
-    }
-}
-
-pub(crate) fn closed<S: Operations>(cell: Cell, seen: &Signals<S>, memory: S) -> S
+/// What a cell that is no block lets through by itself, by what its memory stores.
+pub fn closed<S: Operations>(cell: Cell, seen: &Signals<S>, memory: S) -> S
     ensures { result ≡ closed S.algebra seen.now memory cell }
 {
     match cell {
         Cell::Wire | Cell::Coil { .. } => S::known(true),
-        Cell::Contact { mode, operand, .. } => contact(mode, seen.operand(operand), memory),
+        Cell::Contact { mode, operand, .. } => {
+            let operand = seen.operand(operand);
+            match mode {
+                Mode::Plain => operand,
+                Mode::Negated => operand.not(),
+                Mode::Rising => operand.and(memory.not()),
+                Mode::Falling => operand.not().and(memory),
+            }
+        }
         Cell::Empty | Cell::Block { .. } | Cell::Lower { .. } | Cell::Jump { .. } | Cell::Return =>
             S::known(false),
     }

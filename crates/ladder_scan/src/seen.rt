@@ -50,47 +50,6 @@ fn is_on(closed: bool, after: &Storage, cell: Cell) -> bool
     }
 }
 
-/// A place of a rung that was evaluated.
-fn mark_in(
-    scene: Scene<'_>,
-    before: &Storage,
-    start: &Signals<bool>,
-    links: &[bool],
-    after: &Storage,
-    place: usize,
-) -> Mark
-    requires rung { scene.rung < scene.program.now.rungs }
-    requires place { place < PLACES }
-    requires program { IsSound (diagram_of scene.program.now) }
-    requires start { start.now ≡ frame_of before.now }
-    requires links { AreLinks plain scene.program.now before.now.kept scene.now scene.rung (frame_of before.now) links.now }
-    requires after { after.now ≡ evaluated (diagram_of scene.program.now) scene.now scene.rung before.now }
-    ensures { result ≡ mark_in (diagram_of scene.entry.program.now) scene.entry.now scene.entry.rung before.now place }
-{
-    let cell = cell(scene.program, scene.rung, place);
-    let left = link_at(links, scene.program.left(scene.rung, place) as usize);
-    let below = link_at(links, scene.program.below(scene.rung, place) as usize);
-    let closed = closed(cell, start, before.memory(cell));
-    Mark {
-        evaluated: true,
-        left,
-        right: through_cell(scene, before, start, cell, left, below),
-        on: is_on(closed, after, cell),
-    }
-}
-
-/// A place of a rung that was passed over.
-fn mark_passed(held: &Storage, cell: Cell) -> Mark
-    ensures { result ≡ mark_passed held.now cell }
-{
-    Mark {
-        evaluated: false,
-        left: false,
-        right: false,
-        on: is_on(false, held, cell),
-    }
-}
-
 /// Adds the places of a rung that was evaluated.
 fn add_seen(
     scene: Scene<'_>,
@@ -109,7 +68,16 @@ fn add_seen(
         ++ first_places (mark_in (diagram_of scene.entry.program.now) scene.entry.now scene.entry.rung before.now) PLACES) }
 {
     for place in 0..PLACES {
-        marks.push(mark_in(scene, before, start, links, after, place))?;
+        let cell = cell(scene.program, scene.rung, place);
+        let left = link_at(links, scene.program.left(scene.rung, place) as usize);
+        let below = link_at(links, scene.program.below(scene.rung, place) as usize);
+        let closed = closed(cell, start, before.memory(cell));
+        marks.push(Mark {
+            evaluated: true,
+            left,
+            right: through_cell(scene, before, start, cell, left, below),
+            on: is_on(closed, after, cell),
+        })?;
     }
     Ok(())
 }
@@ -121,7 +89,13 @@ fn add_passed(scene: Scene<'_>, held: &Storage, marks: &mut Vec<Mark>) -> Result
         ++ first_places (λ place. mark_passed held.now ((diagram_of scene.entry.program.now).cell scene.entry.rung place)) PLACES) }
 {
     for place in 0..PLACES {
-        marks.push(mark_passed(held, cell(scene.program, scene.rung, place)))?;
+        let cell = cell(scene.program, scene.rung, place);
+        marks.push(Mark {
+            evaluated: false,
+            left: false,
+            right: false,
+            on: is_on(false, held, cell),
+        })?;
     }
     Ok(())
 }

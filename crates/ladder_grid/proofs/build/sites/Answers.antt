@@ -43,7 +43,7 @@ loop-n-preserved c =
     record {
       so_far = c.in_ok-push.ensures.items
           ∙ one_place_more _ (at_place (site_drawn page)) c.loop-n.n _ i.so_far
-          (c.site_with.ensures ∙ site_is page c.loop-n.n _ _ i.number c.cell_drawn-cell.ensures);
-      number = next_is page c.loop-n.n _ _ _ i.number c.cell_drawn-cell.ensures c.after_memory-next.ensures.value;
+          (c.site_drawn-site.ensures ∙ site_is page c.loop-n.n _ _ i.number refl);
+      number = next_is page c.loop-n.n _ _ _ i.number (ap (λ s. s.cell) c.site_drawn-site.ensures) c.after_memory-next.ensures.value;
       small = omega (arith, i.small, c.after_memory-next.ensures.close);
     }

@@ -1,25 +1,33 @@
-use Rattle.std.proofs.Common.{◌<◌, arith, sym, ◌∙◌}
-use Rattle.ladder_page.specs.declared.geometry.TheConstants.{ROWS, COLUMNS}
+use Rattle.std.proofs.Common.{◌≡◌, ℕ, ◌+◌, ◌*◌, ◌/◌, ◌%◌, ◌<◌, ◌≤◌, ◌==◌, Option, Some, arith, sym, ap, ap₂, ◌∙◌, if◌then◌else◌}
+use Rattle.ladder_page.specs.declared.geometry.TheConstants.{ROWS}
+use Rattle.ladder_grid.specs.declared.gates.TheConstants.{ON}
+use Rattle.ladder_grid.specs.declared.gates.Exit.{Exit}
+use Rattle.ladder_grid.specs.Program.{Drawing}
+use Rattle.ladder_grid.specs.Gates.{last_feeder, left_of, exit_by}
 use Rattle.ladder_grid.specs.Sheet.{drawing_of}
 use Rattle.ladder_grid.proofs.JumpLaws.{jump_placed}
 use Rattle.ladder_grid.proofs.gates.exit_by.Goals as goal
 
-pub overflow_mul-column : goal.overflow_mul-column
-overflow_mul-column c =
-    let w = jump_placed (drawing_of c.args.sheet) c.args.rung (c.in-Some.row, c.in-Some.column, c.in-Some.target) (sym c.requires.jump ∙ c.in-Some.is) in
-    let lt : c.in-Some.column < COLUMNS = w.1 in
-    omega arith
+left_there : (d : Drawing) (rung row column : ℕ) → row < ROWS → (if column == 0 then ON else last_feeder d rung row column ROWS) ≡ left_of d rung (ROWS * column + row)
+left_there d rung row column h =
+    let there : column ≡ (ROWS * column + row) / ROWS = omega arith in
+    let same : row ≡ (ROWS * column + row) % ROWS = omega arith in
+    ap₂ (λ c r. if c == 0 then ON else last_feeder d rung r c ROWS) there same
 
-pub overflow_add-column : goal.overflow_add-column
-overflow_add-column c =
-    let w = jump_placed (drawing_of c.args.sheet) c.args.rung (c.in-Some.row, c.in-Some.column, c.in-Some.target) (sym c.requires.jump ∙ c.in-Some.is) in
-    let row : c.in-Some.row < ROWS = w.0 in
-    let column : c.in-Some.column < COLUMNS = w.1 in
-    omega arith
+abbrev exit : ℕ → ℕ → Option Exit
+exit target left = Some (record { left = left; target = target })
 
-pub left_of-requires-clause-places : goal.left_of-requires-clause-places
-left_of-requires-clause-places c =
-    let w = jump_placed (drawing_of c.args.sheet) c.args.rung (c.in-Some.row, c.in-Some.column, c.in-Some.target) (sym c.requires.jump ∙ c.in-Some.is) in
-    let row : c.in-Some.row < ROWS = w.0 in
-    let column : c.in-Some.column < COLUMNS = w.1 in
-    omega arith
+pub feeder-requires-clause-columns : goal.feeder-requires-clause-columns
+feeder-requires-clause-columns c =
+    (jump_placed (drawing_of c.args.sheet) c.args.rung (c.in-Some.row, c.in-Some.column, c.in-Some.target) (sym c.requires.jump ∙ c.in-Some.is)).1
+
+pub feeder-requires-clause-rows : goal.feeder-requires-clause-rows
+feeder-requires-clause-rows c =
+    let few : ROWS ≤ ROWS = omega arith in
+    ((jump_placed (drawing_of c.args.sheet) c.args.rung (c.in-Some.row, c.in-Some.column, c.in-Some.target) (sym c.requires.jump ∙ c.in-Some.is)).0, few)
+
+pub returns-in-Some : goal.returns-in-Some
+returns-in-Some c =
+    let d = drawing_of c.args.sheet in
+    ap (exit c.in-Some.target) (c.feeder.ensures ∙ left_there d c.args.rung c.in-Some.row c.in-Some.column (jump_placed d c.args.rung (c.in-Some.row, c.in-Some.column, c.in-Some.target) (sym c.requires.jump ∙ c.in-Some.is)).0)
+    ∙ ap (exit_by d c.args.rung) (sym c.in-Some.is ∙ c.requires.jump)

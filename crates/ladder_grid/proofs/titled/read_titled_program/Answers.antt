@@ -32,8 +32,8 @@ pub returns-in-Err-read_sites-clause-refused : goal.returns-in-Err-read_sites-cl
 returns-in-Err-read_sites-clause-refused c =
     let text : List ℕ = c.args.text.now in
     let broken = rw c.behind.ensures at c.in-Err-read_sites.ensures.broken in (
-      no_program text c.in-Ok.read.0 c.in-Ok.read.1 c.in-Ok.ensures.found.0 c.in-Ok.ensures.found.1 c.in-Ok.ensures.only _ _ broken c.fault_of.ensures,
-      right text c.in-Ok.read.0 c.in-Ok.read.1 c.in-Ok.ensures.found.0 c.in-Ok.ensures.found.1 _ _ broken c.fault_of.ensures,
+      no_program text c.in-Ok.read.0 c.in-Ok.read.1 c.in-Ok.ensures.found.0 c.in-Ok.ensures.found.1 c.in-Ok.ensures.only _ _ broken (c.fault_of.ensures.memory, c.fault_of.ensures.broken),
+      right text c.in-Ok.read.0 c.in-Ok.read.1 c.in-Ok.ensures.found.0 c.in-Ok.ensures.found.1 _ _ broken (c.fault_of.ensures.memory, c.fault_of.ensures.broken),
     )
 
 pub returns-in-Err-take_aliases-clause-refused : goal.returns-in-Err-take_aliases-clause-refused

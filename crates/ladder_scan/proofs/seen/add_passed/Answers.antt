@@ -1,4 +1,4 @@
-use Rattle.std.proofs.Common.{◌∙◌, ap}
+use Rattle.std.proofs.Common.{rules}
 use Rattle.ladder_scan.specs.Programs.{diagram_of}
 use Rattle.ladder_scan.specs.Seen.{mark_passed}
 use Rattle.ladder_scan.proofs.Marks.{at_none, at_one_more}
@@ -11,4 +11,4 @@ pub loop-place-preserved : goal.loop-place-preserved
 loop-place-preserved c =
     at_one_more (λ place. mark_passed c.args.held.now ((diagram_of c.args.scene.program.now).cell c.args.scene.rung place))
     c.args.marks.now.items c.loop-place.marks.items _ c.loop-place.place _ c.loop-place.invariant c.in_ok-push.ensures.items
-    (c.mark_passed.ensures ∙ ap (mark_passed c.args.held.now) c.cell.ensures)
+    (search rules)

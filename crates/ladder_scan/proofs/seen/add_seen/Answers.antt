@@ -1,3 +1,4 @@
+use Rattle.std.proofs.Common.{rules}
 use Rattle.ladder_scan.specs.Programs.{diagram_of}
 use Rattle.ladder_scan.specs.Seen.{mark_in}
 use Rattle.ladder_scan.proofs.Marks.{at_none, at_one_more}
@@ -9,4 +10,4 @@ loop-place-init c = at_none _ _
 pub loop-place-preserved : goal.loop-place-preserved
 loop-place-preserved c =
     at_one_more (mark_in (diagram_of c.args.scene.program.now) c.args.scene.now c.args.scene.rung c.args.before.now)
-    c.args.marks.now.items c.loop-place.marks.items _ c.loop-place.place _ c.loop-place.invariant c.in_ok-push.ensures.items c.mark_in.ensures
+    c.args.marks.now.items c.loop-place.marks.items _ c.loop-place.place _ c.loop-place.invariant c.in_ok-push.ensures.items (search rules)

@@ -4,7 +4,7 @@ use Rattle.ladder_grid.specs.declared.gates.TheConstants.{OFF}
 use Rattle.ladder_grid.specs.Program.{feeds}
 use Rattle.ladder_grid.specs.Gates.{last_of}
 use Rattle.ladder_grid.specs.Sheet.{drawing_of}
-use Rattle.ladder_grid.proofs.gates.last_feeder.Goals as goal
+use Rattle.ladder_grid.proofs.gates.feeder.Goals as goal
 
 none_yet : (f : ℕ → Bool) (base : ℕ) → OFF ≡ last_of f base 0
 unfolding last_of

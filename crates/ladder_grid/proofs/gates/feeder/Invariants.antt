@@ -3,7 +3,7 @@ use Rattle.ladder_page.specs.declared.geometry.TheConstants.{ROWS}
 use Rattle.ladder_grid.specs.Program.{feeds}
 use Rattle.ladder_grid.specs.Gates.{last_of}
 use Rattle.ladder_grid.specs.Sheet.{drawing_of}
-use Rattle.ladder_grid.proofs.gates.last_feeder.Given as goal
+use Rattle.ladder_grid.proofs.gates.feeder.Given as goal
 
 abbrev pub invariant-loop-from : goal.invariant-loop-from
 invariant-loop-from l = l.last ≡ last_of (feeds (drawing_of l.sheet) l.rung l.row l.column) (ROWS * (l.column - 1)) l.from
