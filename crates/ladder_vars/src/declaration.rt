@@ -1,17 +1,17 @@
 //! Reads one declaration of a block.
 
 ghost use Rattle.std.specs.Prelude.{◌≡◌, ◌≤◌, ◌<◌, ◌||◌, ◌==◌, length, Option, Some, None, IfOk, IfSome};
-ghost use Rattle.ladder_vars.specs.Text.{is_word_byte};
 ghost use Rattle.ladder_vars.specs.Kind.{largest_value, largest_of, largest_preset};
 ghost use Rattle.ladder_vars.specs.ReadText.{Gives};
 ghost use Rattle.ladder_vars.specs.ReadWords.{value_of};
-ghost use Rattle.ladder_vars.specs.ReadDecls.{expect, given_bit, initial_at, preset_fault, preset_word, given_preset, given_to, preset_at, bool_at, placed, block_at, typed, body_at, PresetFits};
+ghost use Rattle.ladder_vars.specs.ReadDecls.{expect, given_bit, initial_at, preset_word, given_preset, given_to, preset_at, bool_at, placed, block_at, typed, body_at, PresetFits};
 
 use crate::decls::{Address, Body, VarKind};
 use crate::fault::{Fault, VarRule};
 use crate::kind::{BlockKind, Parameter};
-use crate::text::{is_word_byte, token};
-use crate::words::{address_of, bit_word, block_of, count_of};
+use crate::limits::LARGEST_COUNT;
+use crate::text::{token, word_len};
+use crate::words::{address_of, block_of, short_number};
 use ladder_times::{read_time, same_letters};
 
 /// The fault of a token that has no place where it stands, with what follows it.
@@ -45,7 +45,13 @@ fn given_bit(text: &[u8]) -> Result<(bool, &[u8]), Fault>
     ensures shorter { IfOk result (λ x. length x.1.now < length text.now) }
 {
     let (word, rest) = token(text)?;
-    let value = bit_word(word).ok_or(bad_token(rest))?;
+    let value = if same_letters(word, b"TRUE") || same_letters(word, b"1") {
+        true
+    } else if same_letters(word, b"FALSE") || same_letters(word, b"0") {
+        false
+    } else {
+        return Err(bad_token(rest));
+    };
     let rest = expect(b";", rest)?;
     Ok((value, rest))
 }
@@ -73,23 +79,10 @@ fn value_of(form: Parameter, word: &[u8]) -> Option<u32>
 {
     match form {
         Parameter::Time => read_time(word),
-        Parameter::Count => count_of(word),
-    }
-}
-
-/// The rule that a token breaks where a preset is due: a word is no preset, a mark is no word.
-fn preset_fault(token: &[u8]) -> VarRule
-    ensures { result ≡ preset_fault token.now }
-{
-    match token {
-        [] => VarRule::BadToken,
-        [b, ..] => {
-            if is_word_byte(*b) || *b == b'%' {
-                VarRule::BadPreset
-            } else {
-                VarRule::BadToken
-            }
-        }
+        Parameter::Count => match short_number(word) {
+            Some(n) => if n <= LARGEST_COUNT { Some(n) } else { None },
+            None => None,
+        },
     }
 }
 
@@ -100,12 +93,18 @@ fn preset_word(form: Parameter, text: &[u8]) -> Result<(u32, &[u8]), Fault>
     ensures shorter { IfOk result (λ x. length x.1.now < length text.now) }
 {
     let (word, rest) = token(text)?;
-    let fault = Fault {
-        rule: preset_fault(word),
-        left: rest.len(),
-    };
-    let preset = value_of(form, word).ok_or(fault)?;
-    Ok((preset, rest))
+    if let Some(preset) = value_of(form, word) {
+        return Ok((preset, rest));
+    }
+    // A word is no preset, a mark is no word.
+    if word_len(word) > 0 || matches!(word, [b'%', ..]) {
+        Err(Fault {
+            rule: VarRule::BadPreset,
+            left: rest.len(),
+        })
+    } else {
+        Err(bad_token(rest))
+    }
 }
 
 /// `( PT := duration ) ;` or `( PV := number ) ;`.

@@ -3,8 +3,8 @@
 ghost use Rattle.std.specs.Prelude.{◌≡◌, ◌≤◌, ◌<◌, ◌||◌, ◌==◌, ◌∷◌, length, Ok, IfOk, IfSome, IfNone};
 ghost use Rattle.std.specs.List.{prefix_len};
 ghost use Rattle.std.specs.Char.{is_ascii_alphanumeric};
-ghost use Rattle.ladder_vars.specs.Text.{is_blank, is_word_byte, token_len};
-ghost use Rattle.ladder_vars.specs.ReadText.{skip_from, no_token, token_at, Gives};
+ghost use Rattle.ladder_vars.specs.Text.{is_word_byte, token_len};
+ghost use Rattle.ladder_vars.specs.ReadText.{skip_from, token_at, Gives};
 
 use crate::fault::{Fault, VarRule};
 
@@ -20,25 +20,14 @@ enum Within {
     LineComment,
 }
 
-fn is_blank(b: u8, after: &[u8]) -> bool
-    ensures { result ≡ is_blank b after.now }
-{
-    b == b' ' || b == b'\t' || b == b'\n' || (b == b'\r' && matches!(after, [b'\n', ..]))
-}
-
-pub(crate) fn is_word_byte(b: u8) -> bool
-    ensures { result ≡ is_word_byte b }
-{
-    b.is_ascii_alphanumeric() || b == b'_' || b == b'#' || b == b'.'
-}
-
 /// Where in a gap the byte after this one is; None where the gap ends before this byte.
 fn next_within(within: Within, b: u8, after: &[u8]) -> Option<Within>
     ensures some { IfSome result (λ next. skip_from within (b ∷ after.now) ≡ skip_from next after.now) }
     ensures none { IfNone result (skip_from within (b ∷ after.now) ≡ Ok (b ∷ after.now)) }
 {
     match within {
-        Within::Blanks if is_blank(b, after) => Some(Within::Blanks),
+        Within::Blanks if matches!(b, b' ' | b'\t' | b'\n') => Some(Within::Blanks),
+        Within::Blanks if b == b'\r' && matches!(after, [b'\n', ..]) => Some(Within::Blanks),
         Within::Blanks if b == b'(' && matches!(after, [b'*', ..]) => Some(Within::Opening),
         Within::Blanks if b == b'/' && matches!(after, [b'/', ..]) => Some(Within::LineComment),
         Within::Blanks => None,
@@ -75,11 +64,14 @@ fn skip(text: &[u8]) -> Result<&[u8], Fault>
     }
 }
 
-fn word_len(text: &[u8]) -> usize
+/// How many bytes of a word are at the start.
+pub(crate) fn word_len(text: &[u8]) -> usize
     ensures value { result ≡ prefix_len is_word_byte text.now }
     ensures within { result ≤ length text.now }
 {
-    text.iter().take_while(|b| is_word_byte(**b)).count()
+    text.iter()
+        .take_while(|b| b.is_ascii_alphanumeric() || matches!(**b, b'_' | b'#' | b'.'))
+        .count()
 }
 
 fn address_len(text: &[u8]) -> usize
@@ -97,42 +89,11 @@ fn token_len(text: &[u8]) -> usize
     ensures within { result ≤ length text.now }
 {
     match text {
-        [] => 0,
-        [b, rest @ ..] => {
-            if is_word_byte(*b) {
-                1 + word_len(rest)
-            } else if *b == b'%' {
-                1 + address_len(rest)
-            } else if *b == b':' {
-                if matches!(rest, [b'=', ..]) { 2 } else { 1 }
-            } else if *b == b'(' {
-                if matches!(rest, [b'*', ..]) { 0 } else { 1 }
-            } else if *b == b';' || *b == b')' {
-                1
-            } else {
-                0
-            }
-        }
-    }
-}
-
-/// The fault of a text that begins with neither a gap nor a token.
-fn no_token(text: &[u8]) -> Fault
-    ensures { result ≡ no_token text.now }
-{
-    match text {
-        [] => Fault {
-            rule: VarRule::Unfinished,
-            left: 0,
-        },
-        [b, ..] => Fault {
-            rule: if b'!' <= *b && *b <= b'~' {
-                VarRule::BadToken
-            } else {
-                VarRule::BadByte
-            },
-            left: text.len(),
-        },
+        [b'%', rest @ ..] => 1 + address_len(rest),
+        [b':', b'=', ..] => 2,
+        [b'(', b'*', ..] => 0,
+        [b':' | b'(' | b';' | b')', ..] => 1,
+        _ => word_len(text),
     }
 }
 
@@ -144,8 +105,16 @@ pub(crate) fn token(text: &[u8]) -> Result<(&[u8], &[u8]), Fault>
 {
     let rest = skip(text)?;
     let len = token_len(rest);
-    if len == 0 {
-        return Err(no_token(rest));
+    if len > 0 {
+        return Ok(rest.split_at(len));
     }
-    Ok(rest.split_at(len))
+    let rule = match rest {
+        [] => VarRule::Unfinished,
+        [b'!'..=b'~', ..] => VarRule::BadToken,
+        [_, ..] => VarRule::BadByte,
+    };
+    Err(Fault {
+        rule,
+        left: rest.len(),
+    })
 }
