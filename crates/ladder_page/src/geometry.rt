@@ -33,7 +33,7 @@ pub fn place(rung: usize, row: usize, column: usize) -> usize
     requires columns { column < COLUMNS }
     ensures { result ≡ PLACES * rung + (ROWS * column + row) }
 {
-    PLACES * rung + (ROWS * column + row)
+    PLACES * rung + ROWS * column + row
 }
 
 /// The number of a place in the order of reading.
@@ -43,5 +43,5 @@ pub fn reading_place(rung: usize, row: usize, column: usize) -> usize
     requires columns { column < COLUMNS }
     ensures { result ≡ PLACES * rung + (COLUMNS * row + column) }
 {
-    PLACES * rung + (COLUMNS * row + column)
+    PLACES * rung + COLUMNS * row + column
 }

@@ -6,7 +6,7 @@ ghost use Rattle.ladder_page.specs.Bytes.{space};
 ghost use Rattle.ladder_vars.specs.Decls.{is_input};
 ghost use Rattle.ladder_vars.specs.Name.{same_letters};
 ghost use Rattle.ladder_vars.specs.Kind.{traits_of};
-ghost use Rattle.ladder_page.specs.Operand.{IsWordIn, reference, refer_to, instance_on, MayHave};
+ghost use Rattle.ladder_page.specs.Operand.{IsWordIn, reference, refer_to, MayHave};
 ghost use Rattle.ladder_page.specs.declared.operand.Reference.{Reference};
 ghost use Rattle.ladder_page.specs.Suiting.{DrawsBlock};
 
@@ -152,32 +152,6 @@ pub fn is_odd(decls: &Decls, form: Option<Form>, name: Option<Reference>) -> boo
         return false;
     };
     !may_have(decls, form, name.symbol, name.output)
-}
-
-/// The instance that a block with this text over it is.
-pub(crate) fn instance_on(form: Option<Form>, name: Option<Reference>) -> Option<usize>
-    ensures { result ≡ instance_on form (option_map (λ x. x.symbol) name) }
-{
-    match (form, name) {
-        (Some(Form::Block(_)), Some(name)) => match name.symbol {
-            Symbol::Instance(inst) => Some(inst),
-            Symbol::Var(_) => None,
-        },
-        (Some(Form::Block(_)), None)
-        | (
-            None
-            | Some(
-                Form::Empty
-                | Form::Wire
-                | Form::Contact(_)
-                | Form::Coil(_)
-                | Form::Lower(_, _)
-                | Form::Jump(_)
-                | Form::Return,
-            ),
-            _,
-        ) => None,
-    }
 }
 
 /// The instance of which this form and this name draw a block: none by a name that the block can't have.

@@ -1,6 +1,6 @@
 //! What is where on the page that a drawing is read from.
 
-ghost use Rattle.std.specs.Prelude.{◌≡◌, ◌+◌, ◌<◌, map, length, slice_index_or, All, IfOk, None};
+ghost use Rattle.std.specs.Prelude.{◌≡◌, ◌==◌, ◌+◌, ◌-◌, ◌<◌, if◌then◌else◌, map, length, slice_index_or, All, IfOk, None};
 ghost use Rattle.ladder_page.specs.declared.geometry.TheConstants.{RUNGS, ROWS, COLUMNS};
 ghost use Rattle.ladder_page.specs.ReadLines.{IsWithin, forms_of};
 ghost use Rattle.ladder_page.specs.Tables.{over_with, overs_of};
@@ -9,16 +9,16 @@ ghost use Rattle.ladder_page.specs.Texts.{text_over};
 ghost use Rattle.ladder_page.specs.Lines.{part_in, rung_of};
 ghost use Rattle.ladder_page.specs.Geometry.{place};
 ghost use Rattle.ladder_page.specs.Operand.{word_in, refer_to};
-ghost use Rattle.ladder_page.specs.Page.{rung_at};
-ghost use Rattle.ladder_page.specs.Seen.{instance_above, seen, part_at};
+ghost use Rattle.ladder_page.specs.Page.{rung_at, instance_at};
+ghost use Rattle.ladder_page.specs.Seen.{seen, part_at};
 
 use crate::form::{Form, form_at as form_of};
 use crate::geometry::{PLACES, ROWS, RUNGS, place};
 use crate::lines::{Part, lines_between};
-use crate::operand::{NameOver, Reference, instance_on, refer_to, word_in};
+use crate::operand::{NameOver, Reference, refer_to, word_in};
 use crate::picture::{has_text, text_at};
 use crate::view::PageView;
-use ladder_vars::Decls;
+use ladder_vars::{Decls, Symbol};
 use std::alloc::{AllocError, Global};
 
 #[tactic(auto, unfolding(crate::specs::Lines::rung_of))]
@@ -158,14 +158,32 @@ pub fn instance_above(
     requires few { rung < RUNGS }
     requires rows { row < ROWS }
     requires columns { column < COLUMNS }
-    ensures { result ≡ instance_above (seen page.entry) rung row column }
+    ensures { result ≡ (if row == 0 then None else instance_at (seen page.entry) rung (row - 1) column) }
 {
     if row == 0 {
-        None
-    } else {
-        instance_on(
-            form_at(page, rung, row - 1, column),
-            name_over(page, rung, row - 1, column),
-        )
+        return None;
+    }
+    match (
+        form_at(page, rung, row - 1, column),
+        name_over(page, rung, row - 1, column),
+    ) {
+        (Some(Form::Block(_)), Some(name)) => match name.symbol {
+            Symbol::Instance(inst) => Some(inst),
+            Symbol::Var(_) => None,
+        },
+        (Some(Form::Block(_)), None)
+        | (
+            None
+            | Some(
+                Form::Empty
+                | Form::Wire
+                | Form::Contact(_)
+                | Form::Coil(_)
+                | Form::Lower(_, _)
+                | Form::Jump(_)
+                | Form::Return,
+            ),
+            _,
+        ) => None,
     }
 }
