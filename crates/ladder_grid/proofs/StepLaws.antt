@@ -1,11 +1,12 @@
 -- One turn of the loops that make the gates, the actions and the steps of a program.
 use Rattle.std.proofs.Common.{◌≡◌, ℕ, ◌+◌, ◌++◌, ◌||◌, Bool, true, false, List, [], ◌∷◌, Option, Some, None, if◌then◌else◌, map, filter_map, add-one, refl, ap, ap₂, ◌∙◌}
 use Rattle.std.proofs.lemmas.List.{append_assoc}
+use Rattle.ladder_grid.specs.declared.gates.TheConstants.{OFF}
 use Rattle.ladder_grid.specs.declared.gates.Gate.{Gate}
 use Rattle.ladder_grid.specs.declared.gates.Action.{Action}
 use Rattle.ladder_grid.specs.declared.gates.Exit.{Exit}
 use Rattle.ladder_grid.specs.declared.steps.Step.{Step}
-use Rattle.ladder_grid.specs.Gates.{has_gate, gate_at, gates_before, gates_of, acts, action_at, actions_before, actions_of, exit_of}
+use Rattle.ladder_grid.specs.Gates.{last_of, has_gate, gate_at, gates_before, gates_of, acts, action_at, actions_before, actions_of, exit_of}
 use Rattle.ladder_grid.specs.Program.{Drawing, cell_of, jump_of}
 use Rattle.ladder_grid.specs.Steps.{gate_step, action_step, turned_by, turns_before, turn_steps, exit_steps, rung_steps, steps_below}
 
@@ -45,6 +46,20 @@ module _ (d : Drawing) (rung : ℕ) where
   pub actions_same : (at : ℕ) → (if acts (cell_of d rung at) then Some (action_at d rung at) else None) ≡ None → actions_before d rung (at + 1) ≡ actions_before d rung at
   unfolding actions_before
   actions_same at h = rw (add-one) (not_taken (acts (cell_of d rung at)) _ _ h)
+
+pub last_none : (f : ℕ → Bool) (base : ℕ) → OFF ≡ last_of f base 0
+unfolding last_of
+last_none f base = refl
+
+pub last_here : (f : ℕ → Bool) (base n : ℕ) → f n ≡ true → last_of f base (n + 1) ≡ base + n
+unfolding last_of
+last_here f base n h = rw (add-one, h) refl
+
+pub last_before : (f : ℕ → Bool) (base n : ℕ) → f n ≡ false → last_of f base (n + 1) ≡ last_of f base n
+unfolding last_of
+last_before f base n h = rw (add-one, h) refl
+
+pub ruleset last_step = (last_none, last_here, last_before)
 
 pub ruleset rung_step = (gates_none, gates_more, gates_same, actions_none, actions_more, actions_same)
 

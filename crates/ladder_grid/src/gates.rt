@@ -76,14 +76,9 @@ pub struct Leap {
     pub target: usize,
 }
 
-fn later(is_fed: bool, place: u8, last: u8) -> u8
-    ensures { result ≡ (if is_fed then place else last) }
-{
-    if is_fed { place } else { last }
-}
-
 /// Where the OR is of what the rows below `count` in the column before bring into the group of a cell: at the place of the last of
 /// them that feeds it, or OFF where none does. In the first column it is ON.
+#[tactic(auto, using(crate::proofs::StepLaws::last_step))]
 pub(crate) fn feeder(sheet: Sheet<'_>, rung: usize, row: usize, column: usize, count: usize) -> u8
     requires rungs { rung < RUNGS }
     requires columns { column < COLUMNS }
@@ -95,11 +90,9 @@ pub(crate) fn feeder(sheet: Sheet<'_>, rung: usize, row: usize, column: usize, c
     }
     let mut last: u8 = OFF as u8;
     for from in 0..count {
-        last = later(
-            feeds(sheet, rung, row, column, from),
-            (ROWS * (column - 1) + from) as u8,
-            last,
-        );
+        if feeds(sheet, rung, row, column, from) {
+            last = (ROWS * (column - 1) + from) as u8;
+        }
     }
     last
 }

@@ -71,29 +71,6 @@ fn block_on(symbol: Symbol) -> Cell
     }
 }
 
-fn cell_with(
-    number: usize,
-    form: Option<Form>,
-    name: Option<Symbol>,
-    above: Option<usize>,
-    target: Option<usize>,
-) -> Cell
-    ensures { result ≡ cell_with number form name above target }
-{
-    match form {
-        Some(Form::Wire) => Cell::Wire,
-        Some(Form::Contact(mode)) => name.map_or(Cell::Empty, |x| contact_on(number, mode, x)),
-        Some(Form::Coil(mode)) => name.map_or(Cell::Empty, |x| coil_on(number, mode, x)),
-        Some(Form::Block(_)) => name.map_or(Cell::Empty, |x| block_on(x)),
-        Some(Form::Lower(_, linked)) => {
-            above.map_or(Cell::Empty, |inst| Cell::Lower { inst, linked })
-        }
-        Some(Form::Jump(_)) => target.map_or(Cell::Empty, |target| Cell::Jump { target }),
-        Some(Form::Return) => Cell::Return,
-        Some(Form::Empty) | None => Cell::Empty,
-    }
-}
-
 /// What is at a place; `number` is that of the next memory.
 pub(crate) fn site_drawn(
     page: PageView<'_, '_>,
@@ -111,22 +88,32 @@ pub(crate) fn site_drawn(
     ensures { result ≡ record (site_drawn (seen page.entry) rung row column) { cell = cell_drawn (seen page.entry) number rung row column } }
 {
     let form = form_at(page, rung, row, column);
-    let cell = cell_with(
-        number,
-        form,
-        name_over(page, rung, row, column).map(|name| name.symbol),
-        instance_above(page, rung, row, column),
-        target_of(labels, rung, &form),
-    );
+    let name = name_over(page, rung, row, column).map(|name| name.symbol);
+    let above = instance_above(page, rung, row, column);
+    let target = target_of(labels, rung, &form);
     Site {
-        cell,
         right_link: right_link(page, rung, row, column),
+        vertical: vertical(rung_at(page, rung), row, column),
         joint: match joint(rung_at(page, rung), row, column) {
             b'-' => Joint::Dash,
             b'+' => Joint::Plus,
             b'|' => Joint::Bar,
             _ => Joint::Blank,
         },
-        vertical: vertical(rung_at(page, rung), row, column),
+        cell: match form {
+            Some(Form::Wire) => Cell::Wire,
+            Some(Form::Contact(mode)) => name.map_or(Cell::Empty, |x| contact_on(number, mode, x)),
+            Some(Form::Coil(mode)) => name.map_or(Cell::Empty, |x| coil_on(number, mode, x)),
+            Some(Form::Block(_)) => name.map_or(Cell::Empty, |x| block_on(x)),
+            Some(Form::Lower(_, linked)) => {
+                above.map_or(Cell::Empty, |inst| Cell::Lower { inst, linked })
+            }
+            Some(Form::Jump(_)) => match target {
+                Some(target) => Cell::Jump { target },
+                None => Cell::Empty,
+            },
+            Some(Form::Return) => Cell::Return,
+            Some(Form::Empty) | None => Cell::Empty,
+        },
     }
 }
