@@ -1,5 +1,5 @@
 -- The parts of a duration are read exactly where they stand, and their sum is made.
-use Rattle.std.proofs.Common.{◌≡◌, ℕ, zero, suc, ◌+◌, ◌*◌, ◌<◌, ◌≤◌, ◌⊎◌, inl, inr, min, true, false, ◌==◌, nat_lt, List, [], ◌∷◌, ◌++◌, length, Some, refl, sym, ap, subst, ◌∙◌, arith}
+use Rattle.std.proofs.Common.{◌≡◌, ℕ, zero, suc, ◌+◌, ◌*◌, ◌<◌, ◌≤◌, ◌⊎◌, inl, inr, min, true, false, ◌==◌, nat_lt, List, [], ◌∷◌, ◌++◌, length, Some, refl, sym, ap, subst, ◌∙◌, arith, ◌^◌, ◌&&◌}
 use Rattle.std.specs.List.{list_all, sum_by}
 use Rattle.std.specs.Char.{is_ascii_digit, is_ascii_alphabetic}
 use Rattle.std.proofs.lemmas.Bool.{eqb-true, and_parts, ltb-true, lt-ltb}
@@ -9,7 +9,7 @@ use Rattle.std.proofs.lemmas.List.Sums.{sum_by-cons}
 use Rattle.ladder_times.specs.declared.time.Unit.{Unit as TimeUnit}
 use Rattle.ladder_times.specs.declared.time.Unit.TheVariants as time_unit
 use Rattle.ladder_times.specs.Duration.{number_of, Time, IsTime, AreTimes}
-use Rattle.ladder_times.specs.ReadTimes.{millis_of, range_of, PartAt, part_at, after_underscore, with_part, may_follow, total_from, total_of}
+use Rattle.ladder_times.specs.ReadTimes.{millis_of, range_of, PartAt, part_at, after_underscore, total_from, total_of}
 use Rattle.ladder_times.proofs.Steps.{bind_some, chosen}
 use Rattle.ladder_times.proofs.Runs.{begins}
 use Rattle.ladder_times.proofs.PartLaws.{cap, part_reads, TakesPart, part_takes}
@@ -24,7 +24,7 @@ range-le time_unit.Second = omega arith
 range-le time_unit.Milli = omega arith
 
 -- a number that is cut makes no difference to a sum that is
-with_part-cut : (t v : ℕ) (u : TimeUnit) → with_part t (min v cap) u ≡ min (t + v * millis_of u) cap
+with_part-cut : (t v : ℕ) (u : TimeUnit) → min (t + min v cap * millis_of u) (2 ^ 32) ≡ min (t + v * millis_of u) cap
 with_part-cut t v time_unit.Day = omega arith
 with_part-cut t v time_unit.Hour = omega arith
 with_part-cut t v time_unit.Minute = omega arith
@@ -118,12 +118,12 @@ cut_end total c small = omega arith
 from_zero : (x c : ℕ) → min (0 + x) c ≡ min x c
 from_zero x c = omega arith
 
-follows_test : (p q : Time) → millis_of q.unit < millis_of p.unit → number_of q.digits < range_of q.unit → may_follow p.unit (min (number_of q.digits) cap) q.unit ≡ true
+follows_test : (p q : Time) → millis_of q.unit < millis_of p.unit → number_of q.digits < range_of q.unit → (nat_lt (millis_of q.unit) (millis_of p.unit) && nat_lt (min (number_of q.digits) cap) (range_of q.unit)) ≡ true
 follows_test p q smaller range =
     rw (lt-ltb (millis_of q.unit) (millis_of p.unit) smaller) (lt-ltb (min (number_of q.digits) cap) (range_of q.unit) (omega arith))
 
-total_step : (n : ℕ) (last : TimeUnit) (total b : ℕ) (bs : List ℕ) (x : PartAt) → part_at (after_underscore (b ∷ bs)) ≡ Some x → may_follow last x.number x.unit ≡ true
-    → total_from (suc n) last total (b ∷ bs) ≡ total_from n x.unit (with_part total x.number x.unit) x.rest
+total_step : (n : ℕ) (last : TimeUnit) (total b : ℕ) (bs : List ℕ) (x : PartAt) → part_at (after_underscore (b ∷ bs)) ≡ Some x → (nat_lt (millis_of x.unit) (millis_of last) && nat_lt x.number (range_of x.unit)) ≡ true
+    → total_from (suc n) last total (b ∷ bs) ≡ total_from n x.unit (min (total + x.number * millis_of x.unit) (2 ^ 32)) x.rest
 unfolding total_from
 total_step n last total b bs x part ok = rw (part, ok) refl
 
@@ -144,7 +144,7 @@ total_reads (q ∷ ps) p (suc n) total rest enough small (between, after, parts,
     let x : PartAt = record { number = min v cap; unit = q.unit; rest = f.rest } in
     let part : part_at after ≡ Some x = ap part_at f.parts ∙ part_reads q f.rest f.is_part (no_letter q ps f.rest f.follows) in
     let there : part_at (after_underscore (b.first ∷ b.others)) ≡ Some x = ap part_at (ap after_underscore (sym b.rest_is) ∙ b.after_is) ∙ part in
-    let step : total_from (suc n) p.unit total rest ≡ total_from n q.unit (with_part total (min v cap) q.unit) f.rest
+    let step : total_from (suc n) p.unit total rest ≡ total_from n q.unit (min (total + min v cap * millis_of q.unit) (2 ^ 32)) f.rest
     = ap (total_from (suc n) p.unit total) b.rest_is ∙ total_step n p.unit total b.first b.others x there (follows_test p q smaller range) in
     let whole : length rest ≡ length between + length after = ap length parts ∙ length-append {A = ℕ} between after in
     let first : length after ≡ length q.digits + (length q.letters + length f.rest)
@@ -180,7 +180,7 @@ total_takes (suc n) p total [] m small h =
 total_takes (suc n) p total (b ∷ bs) m small h =
     let x = bind_some (part_at (after_underscore (b ∷ bs))) _ m h in
     let q : PartAt = x.0 in
-    elim (chosen (may_follow p.unit q.number q.unit) _ _ _ x.2) [
+    elim (chosen (nat_lt (millis_of q.unit) (millis_of p.unit) && nat_lt q.number (range_of q.unit)) _ _ _ x.2) [
       | inr wrong ↦ absurd cc
       | inl ok ↦
           let t : TakesPart q (after_underscore (b ∷ bs)) = part_takes q (after_underscore (b ∷ bs)) x.1 in
@@ -190,11 +190,11 @@ total_takes (suc n) p total (b ∷ bs) m small h =
           let range : number_of t.part.digits < range_of t.part.unit
           = subst (λ u. number_of t.part.digits < range_of u) t.unit
           (in_range (number_of t.part.digits) q.number (range_of q.unit) t.number (range-le q.unit) (ltb-true q.number (range_of q.unit) both.1)) in
-          let added : with_part total q.number q.unit ≡ min (total + number_of t.part.digits * millis_of t.part.unit) cap
-          = ap (λ k. with_part total k q.unit) t.number ∙ with_part-cut total (number_of t.part.digits) q.unit
+          let added : min (total + q.number * millis_of q.unit) (2 ^ 32) ≡ min (total + number_of t.part.digits * millis_of t.part.unit) cap
+          = ap (λ k. min (total + k * millis_of q.unit) (2 ^ 32)) t.number ∙ with_part-cut total (number_of t.part.digits) q.unit
           ∙ ap (λ u. min (total + number_of t.part.digits * millis_of u) cap) t.unit in
           let next : total_from n t.part.unit (min (total + number_of t.part.digits * millis_of t.part.unit) cap) q.rest ≡ Some m
-          = subst (λ k. total_from n t.part.unit k q.rest ≡ Some m) added (subst (λ u. total_from n u (with_part total q.number q.unit) q.rest ≡ Some m) t.unit ok.1) in
+          = subst (λ k. total_from n t.part.unit k q.rest ≡ Some m) added (subst (λ u. total_from n u (min (total + q.number * millis_of q.unit) (2 ^ 32)) q.rest ≡ Some m) t.unit ok.1) in
           let more : TakesParts t.part (min (total + number_of t.part.digits * millis_of t.part.unit) cap) q.rest m
           = total_takes n t.part (min (total + number_of t.part.digits * millis_of t.part.unit) cap) q.rest m (omega arith) next in
           let gap = after_underscore_is (b ∷ bs) in
@@ -223,7 +223,7 @@ all_reads p ps text h =
     let part : part_at text ≡ Some x = ap part_at f.parts ∙ part_reads p f.rest f.is_part (no_letter p ps f.rest f.follows) in
     let all : total_from (length f.rest + 1) p.unit (min (0 + v * millis_of p.unit) cap) f.rest ≡ Some (min (min (0 + v * millis_of p.unit) cap + sum_of ps) cap)
     = total_reads ps p (length f.rest + 1) (min (0 + v * millis_of p.unit) cap) f.rest (omega arith) (omega arith) f.follows in
-    let same : total_from (length f.rest + 1) p.unit (with_part 0 (min v cap) p.unit) f.rest ≡ Some (min (sum_of (p ∷ ps)) cap)
+    let same : total_from (length f.rest + 1) p.unit (min (0 + min v cap * millis_of p.unit) (2 ^ 32)) f.rest ≡ Some (min (sum_of (p ∷ ps)) cap)
     = ap (λ t. total_from (length f.rest + 1) p.unit t f.rest) (with_part-cut 0 v p.unit) ∙ all
     ∙ ap Some (cut_twice 0 (v * millis_of p.unit) (sum_of ps) cap ∙ ap (λ k. min (0 + k) cap) (sym (sum_of-cons p ps)) ∙ from_zero (sum_of (p ∷ ps)) cap) in
     rw part same
@@ -239,12 +239,12 @@ all_takes text m h =
     let x = bind_some (part_at text) _ m h in
     let q : PartAt = x.0 in
     let t : TakesPart q text = part_takes q text x.1 in
-    let added : with_part 0 q.number q.unit ≡ min (0 + number_of t.part.digits * millis_of t.part.unit) cap
-    = ap (λ k. with_part 0 k q.unit) t.number ∙ with_part-cut 0 (number_of t.part.digits) q.unit
+    let added : min (0 + q.number * millis_of q.unit) (2 ^ 32) ≡ min (0 + number_of t.part.digits * millis_of t.part.unit) cap
+    = ap (λ k. min (0 + k * millis_of q.unit) (2 ^ 32)) t.number ∙ with_part-cut 0 (number_of t.part.digits) q.unit
     ∙ ap (λ u. min (0 + number_of t.part.digits * millis_of u) cap) t.unit in
     let next : total_from (length q.rest + 1) t.part.unit (min (0 + number_of t.part.digits * millis_of t.part.unit) cap) q.rest ≡ Some m
     = subst (λ k. total_from (length q.rest + 1) t.part.unit k q.rest ≡ Some m) added
-    (subst (λ u. total_from (length q.rest + 1) u (with_part 0 q.number q.unit) q.rest ≡ Some m) t.unit x.2) in
+    (subst (λ u. total_from (length q.rest + 1) u (min (0 + q.number * millis_of q.unit) (2 ^ 32)) q.rest ≡ Some m) t.unit x.2) in
     let more : TakesParts t.part (min (0 + number_of t.part.digits * millis_of t.part.unit) cap) q.rest m
     = total_takes (length q.rest + 1) t.part (min (0 + number_of t.part.digits * millis_of t.part.unit) cap) q.rest m (omega arith) next in
     record {

@@ -10,7 +10,8 @@ use Rattle.std.proofs.lemmas.Slice.Eq.{bytes_eq-Decides}
 use Rattle.ladder_times.specs.declared.time.Unit.{Unit as TimeUnit}
 use Rattle.ladder_times.specs.declared.time.Unit.TheVariants as time_unit
 use Rattle.ladder_times.specs.Duration.{number_of, Time, IsTime}
-use Rattle.ladder_times.specs.ReadTimes.{letters_of, unit_of, PartAt, part_at}
+use Rattle.std.specs.Map.{lookup}
+use Rattle.ladder_times.specs.ReadTimes.{letters_of, PartAt, part_at, units}
 use Rattle.ladder_times.proofs.Steps.{bind_some, chosen}
 use Rattle.ladder_times.proofs.Runs.{begins, take_run, drop_run, run_passes}
 
@@ -48,14 +49,14 @@ lower_is w time_unit.Minute h = same_bytes (str_to_ascii_lowercase w) (codes "m"
 lower_is w time_unit.Second h = same_bytes (str_to_ascii_lowercase w) (codes "s") h
 lower_is w time_unit.Milli h = same_bytes (str_to_ascii_lowercase w) (codes "ms") h
 
-unit_reads : (w : List ℕ) (u : TimeUnit) → str_to_ascii_lowercase w ≡ letters_of u → unit_of w ≡ Some u
+unit_reads : (w : List ℕ) (u : TimeUnit) → str_to_ascii_lowercase w ≡ letters_of u → lookup (str_eq_ignore_ascii_case w) units ≡ Some u
 unit_reads w time_unit.Day e = rw e refl
 unit_reads w time_unit.Hour e = rw e refl
 unit_reads w time_unit.Minute e = rw e refl
 unit_reads w time_unit.Second e = rw e refl
 unit_reads w time_unit.Milli e = rw e refl
 
-unit_takes : (w : List ℕ) (u : TimeUnit) → unit_of w ≡ Some u → str_eq_ignore_ascii_case w (letters_of u) ≡ true
+unit_takes : (w : List ℕ) (u : TimeUnit) → lookup (str_eq_ignore_ascii_case w) units ≡ Some u → str_eq_ignore_ascii_case w (letters_of u) ≡ true
 unit_takes w u h =
     let found : (v : TimeUnit) → str_eq_ignore_ascii_case w (letters_of v) ≡ true → Some v ≡ Some u → str_eq_ignore_ascii_case w (letters_of u) ≡ true
     = λ v same e. let v_is : v ≡ u = cc in subst (λ x. str_eq_ignore_ascii_case w (letters_of x) ≡ true) v_is same in
@@ -129,7 +130,7 @@ part_takes q text h =
     elim (chosen (nat_le 1 (length (take n text))) _ _ _ h) [
       | inr none ↦ absurd cc
       | inl some ↦
-          let u = bind_some (unit_of (take m after)) _ q some.1 in
+          let u = bind_some (lookup (str_eq_ignore_ascii_case (take m after)) units) _ q some.1 in
           let made : PartAt = record { number = min (number_of (take n text)) cap; unit = u.0; rest = drop m after } in
           let same : made ≡ q = cc in
           let p : Time = record { digits = take n text; letters = take m after; unit = u.0 } in

@@ -1,5 +1,5 @@
 -- Private to the proofs: numbers and durations read from left to right, as the code reads them.
-use Rattle.std.specs.Prelude.{◌≡◌, ℕ, zero, suc, ◌+◌, ◌-◌, ◌*◌, ◌^◌, min, Bool, ◌&&◌, ◌==◌, nat_le, nat_lt, List, [], ◌∷◌, length, take, drop, codes, Option, Some, None, if◌then◌else◌}
+use Rattle.std.specs.Prelude.{◌≡◌, ℕ, zero, suc, ◌+◌, ◌-◌, ◌*◌, ◌^◌, min, ◌&&◌, ◌==◌, nat_le, nat_lt, List, [], ◌∷◌, length, take, drop, codes, Option, Some, None, if◌then◌else◌}
 use Rattle.std.specs.List.{fold, prefix_len}
 use Rattle.std.specs.Map.{lookup}
 use Rattle.std.specs.Char.{is_ascii_digit, is_ascii_alphabetic}
@@ -36,9 +36,6 @@ units =
     (codes "d", time_unit.Day) ∷ (codes "h", time_unit.Hour) ∷ (codes "m", time_unit.Minute) ∷ (codes "s", time_unit.Second)
     ∷ (codes "ms", time_unit.Milli) ∷ []
 
-abbrev pub unit_of : List ℕ → Option TimeUnit
-unit_of letters = lookup (str_eq_ignore_ascii_case letters) units
-
 -- a number, its unit, and what follows them; numbers are cut at 2 ^ 32, which is more than any duration has
 pub record PartAt : Type 0 where
   pub number : ℕ
@@ -50,7 +47,7 @@ part_at text =
     let digits : List ℕ = take (prefix_len is_ascii_digit text) text in
     let after : List ℕ = drop (prefix_len is_ascii_digit text) text in
     if nat_le 1 (length digits) then (do
-      u ← unit_of (take (prefix_len is_ascii_alphabetic after) after)
+      u ← lookup (str_eq_ignore_ascii_case (take (prefix_len is_ascii_alphabetic after) after)) units
       Some (record { number = min (number_of digits) (2 ^ 32); unit = u; rest = drop (prefix_len is_ascii_alphabetic after) after }))
     else None
 
@@ -58,24 +55,18 @@ abbrev pub after_underscore : List ℕ → List ℕ
 after_underscore [] = []
 after_underscore (b ∷ bs) = if b == 95 then bs else b ∷ bs
 
-abbrev pub with_part : ℕ → ℕ → TimeUnit → ℕ
-with_part total number u = min (total + number * millis_of u) (2 ^ 32)
-
-abbrev pub may_follow : TimeUnit → ℕ → TimeUnit → Bool
-may_follow last number u = nat_lt (millis_of u) (millis_of last) && nat_lt number (range_of u)
-
 -- the total with the parts that follow, in so many turns
 unfoldable pub total_from : ℕ → TimeUnit → ℕ → List ℕ → Option ℕ
 total_from zero last total rest = None
 total_from (suc n) last total [] = Some total
 total_from (suc n) last total (b ∷ bs) = do
   p ← part_at (after_underscore (b ∷ bs))
-  if may_follow last p.number p.unit then total_from n p.unit (with_part total p.number p.unit) p.rest else None
+  if nat_lt (millis_of p.unit) (millis_of last) && nat_lt p.number (range_of p.unit) then total_from n p.unit (min (total + p.number * millis_of p.unit) (2 ^ 32)) p.rest else None
 
 unfoldable pub total_of : List ℕ → Option ℕ
 total_of text = do
   p ← part_at text
-  total_from (length p.rest + 1) p.unit (with_part 0 p.number p.unit) p.rest
+  total_from (length p.rest + 1) p.unit (min (0 + p.number * millis_of p.unit) (2 ^ 32)) p.rest
 
 abbrev pub after_word : List ℕ → List ℕ → Option (List ℕ)
 after_word word text = if str_eq_ignore_ascii_case (take (length word) text) word then Some (drop (length word) text) else None

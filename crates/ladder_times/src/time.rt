@@ -1,10 +1,12 @@
 //! Duration literals.
 
-ghost use Rattle.std.specs.Prelude.{◌≡◌, ◌≤◌, ◌<◌, ◌+◌, ◌^◌, length, ℕ, IfSome, IfNone};
+ghost use Rattle.std.specs.Prelude.{◌≡◌, ◌↔◌, ◌≤◌, ◌<◌, ◌+◌, ◌*◌, ◌^◌, min, length, ℕ, IsTrue, IfSome, IfNone};
+ghost use Rattle.std.specs.Map.{lookup};
+ghost use Rattle.std.specs.Str.{str_eq_ignore_ascii_case};
 ghost use Rattle.std.specs.List.{prefix_len};
 ghost use Rattle.std.specs.Char.{is_ascii_alphabetic};
 ghost use Rattle.ladder_times.specs.Duration.{IsDuration};
-ghost use Rattle.ladder_times.specs.ReadTimes.{millis_of, range_of, unit_of, part_at, after_underscore, with_part, may_follow, total_of, after_word, after_prefix, time_of, Gives};
+ghost use Rattle.ladder_times.specs.ReadTimes.{millis_of, range_of, units, part_at, after_underscore, total_of, after_word, after_prefix, time_of, Gives};
 
 use crate::digits::{CAP, digits_len, number};
 use crate::letters::same_letters;
@@ -49,7 +51,7 @@ impl Unit {
 }
 
 fn unit_of(letters: &[u8]) -> Option<Unit>
-    ensures { result ≡ unit_of letters.now }
+    ensures { result ≡ lookup (str_eq_ignore_ascii_case letters.now) units }
 {
     if same_letters(letters, b"d") {
         Some(Unit::Day)
@@ -103,7 +105,7 @@ fn after_underscore(text: &[u8]) -> &[u8]
 fn with_part(total: u64, number: u64, unit: Unit) -> u64
     requires total { total ≤ 2 ^ 32 }
     requires number { number ≤ 2 ^ 32 }
-    ensures value { result ≡ with_part total number unit }
+    ensures value { result ≡ min (total + number * millis_of unit) (2 ^ 32) }
     ensures small { result ≤ 2 ^ 32 }
 {
     (total + number * unit.millis()).min(CAP)
@@ -111,7 +113,7 @@ fn with_part(total: u64, number: u64, unit: Unit) -> u64
 
 /// Whether the unit is smaller than the last one, and the number in its range.
 fn may_follow(last: Unit, number: u64, unit: Unit) -> bool
-    ensures { result ≡ may_follow last number unit }
+    ensures { IsTrue result ↔ (millis_of unit < millis_of last) × (number < range_of unit) }
 {
     unit.millis() < last.millis() && number < unit.range()
 }

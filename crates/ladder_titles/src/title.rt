@@ -1,24 +1,22 @@
 //! Titles: what lists and traces call a variable or an instance.
 
-ghost use Rattle.std.specs.Prelude.{◌≡◌, ◌≤◌, length, take, drop, true, false, IfSome, IfNone};
-ghost use Rattle.std.specs.List.{list_all, prefix_len};
-ghost use Rattle.ladder_titles.specs.Title.{is_title_byte, is_title, is_space, after_spaces, inside_comment, title_inside, alias_behind, alias_of};
+ghost use Rattle.std.specs.Prelude.{◌≡◌, ◌≤◌, length, true, false, IfSome, IfNone};
+ghost use Rattle.std.specs.List.{prefix_len};
+ghost use Rattle.ladder_titles.specs.Title.{is_title_byte, is_title, is_space, after_spaces, alias_behind, alias_of};
 
 use std::marker::Model;
 
 /// The characters of the longest title.
 pub const LONGEST_TITLE: usize = 32;
 
-fn is_title_byte(b: u8) -> bool
-    ensures { result ≡ is_title_byte b }
+/// How many bytes of a title are at the start.
+fn title_len(text: &[u8]) -> usize
+    ensures value { result ≡ prefix_len is_title_byte text.now }
+    ensures within { result ≤ length text.now }
 {
-    b.is_ascii_alphanumeric() || b == b'_' || b == b'-' || b == b'.' || b == b'/'
-}
-
-fn are_title_bytes(bytes: &[u8]) -> bool
-    ensures { result ≡ list_all is_title_byte bytes.now }
-{
-    bytes.iter().all(|b| is_title_byte(*b))
+    text.iter()
+        .take_while(|b| b.is_ascii_alphanumeric() || matches!(**b, b'_' | b'-' | b'.' | b'/'))
+        .count()
 }
 
 /// What lists and traces call a variable or an instance: its name, or its alias.
@@ -48,11 +46,15 @@ impl Model for Title {
 
 impl Title {
     /// The title that is spelled so, where there is one.
+    #[tactic(auto, using(crate::proofs::Runs::whole_run))]
     pub fn new(spelling: &[u8]) -> Option<Title>
         ensures some { IfSome result (λ title. (title ≡ spelling.now) × (is_title spelling.now ≡ true)) }
         ensures none { IfNone result (is_title spelling.now ≡ false) }
     {
-        if !spelling.is_empty() && spelling.len() <= LONGEST_TITLE && are_title_bytes(spelling) {
+        if !spelling.is_empty()
+            && spelling.len() <= LONGEST_TITLE
+            && title_len(spelling) == spelling.len()
+        {
             Some(Title::spelled(spelling))
         } else {
             None
@@ -90,61 +92,26 @@ fn space_len(text: &[u8]) -> usize
         .count()
 }
 
-fn title_len(text: &[u8]) -> usize
-    ensures value { result ≡ prefix_len is_title_byte text.now }
-    ensures within { result ≤ length text.now }
-{
-    text.iter().take_while(|b| is_title_byte(**b)).count()
-}
-
-fn front(text: &[u8], len: usize) -> &[u8]
-    requires { len ≤ length text.now }
-    ensures { result.now ≡ take len text.now }
-{
-    &text[..len]
-}
-
-fn behind(text: &[u8], len: usize) -> &[u8]
-    requires { len ≤ length text.now }
-    ensures { result.now ≡ drop len text.now }
-{
-    &text[len..]
-}
-
 /// The text behind the spaces and tabs at its start.
 fn after_spaces(text: &[u8]) -> &[u8]
     ensures { result.now ≡ after_spaces text.now }
 {
-    behind(text, space_len(text))
-}
-
-/// What follows `(*` at the start of a text; nothing where no comment begins there.
-fn inside_comment(text: &[u8]) -> &[u8]
-    ensures { result.now ≡ inside_comment text.now }
-{
-    match text {
-        [b'(', b'*', rest @ ..] => rest,
-        _ => &[],
-    }
-}
-
-/// The title at the start of a text, where the comment ends behind it.
-fn title_inside(text: &[u8]) -> Option<Title>
-    ensures { result ≡ title_inside text.now }
-{
-    let len = title_len(text);
-    if matches!(after_spaces(behind(text, len)), [b'*', b')', ..]) {
-        Title::new(front(text, len))
-    } else {
-        None
-    }
+    &text[space_len(text)..]
 }
 
 /// The alias that the text behind a name begins with, in a comment that holds nothing else.
 fn alias_behind(text: &[u8]) -> Option<Title>
     ensures { result ≡ alias_behind text.now }
 {
-    title_inside(after_spaces(inside_comment(after_spaces(text))))
+    let [b'(', b'*', comment @ ..] = after_spaces(text) else {
+        return None;
+    };
+    let comment = after_spaces(comment);
+    let (word, rest) = comment.split_at(title_len(comment));
+    match after_spaces(rest) {
+        [b'*', b')', ..] => Title::new(word),
+        _ => None,
+    }
 }
 
 /// The alias of a name, in the text behind it: another word than the name.

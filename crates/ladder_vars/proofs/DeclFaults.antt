@@ -16,36 +16,31 @@ use Rattle.ladder_vars.specs.Decls.{Declared, names_of}
 use Rattle.ladder_vars.specs.Text.{AreTokens}
 use Rattle.ladder_vars.specs.Kind.{traits_of}
 use Rattle.ladder_vars.specs.Grammar.{Decl, IsHead, declared_by}
-use Rattle.ladder_vars.specs.ReadDecls.{name_of, is_declared, is_taken, refusal, with_decl, refused, added}
+use Rattle.ladder_vars.specs.ReadDecls.{name_of, is_taken, refusal, with_decl, refused, added}
 use Rattle.ladder_vars.specs.Rules.{DeclDue, Breaks}
 use Rattle.ladder_times.proofs.Steps.{chosen}
 use Rattle.ladder_vars.proofs.Lists.{list_any-map}
-use Rattle.ladder_vars.proofs.Keeping.{used-addresses, AreFew}
+use Rattle.ladder_vars.proofs.Keeping.{AreFew}
 use Rattle.ladder_vars.proofs.DeclTakes.{ReadsTo}
 use Rattle.ladder_vars.proofs.States.{NeedVar, NeedName, AfterName, Ended, on, next, run, head_runs, none_follows}
 use Rattle.ladder_vars.proofs.Meeting.{Meets, is_due, meets_breaks, misplaced, meets_later}
 
 -- ---- a whole declaration that is refused
 
-pub names-any : (d : Declared) (name : List ℕ) → list_any (same_letters name) (names_of d) ≡ is_declared d name
-names-any d name =
-    list_any-append (same_letters name) (map (λ v. v.name) d.vars) (map (λ i. i.name) d.instances)
-    ∙ rw (list_any-map (same_letters name) (λ v. v.name) d.vars, list_any-map (same_letters name) (λ i. i.name) d.instances) refl
-
 taken_breaks : (text : List ℕ) (ds : List Decl) (name : List ℕ) (kind : VarKind) (address : Option Address) (initial : Bool) (after : List ℕ)
     → DeclDue text ds name (body.Var kind address initial) after → is_taken (declared_by ds) address ≡ true → Breaks rule.DuplicateAddress text (length after)
 taken_breaks text ds name kind None initial after due taken = absurd cc
 taken_breaks text ds name kind (Some a) initial after due taken =
-    (ds, name, after, body.Var kind (Some a) initial, due, sym (used-addresses (declared_by ds).vars a) ∙ taken, refl)
+    (ds, name, after, body.Var kind (Some a) initial, due, taken, refl)
 
 refusal_breaks : (text : List ℕ) (ds : List Decl) (name : List ℕ) (b : Body) (after : List ℕ) (r : VarRule) → AreFew (declared_by ds)
     → DeclDue text ds name b after → refusal (declared_by ds) name b ≡ Some r → Breaks r text (length after)
 refusal_breaks text ds name (body.Var kind address initial) after r few due h =
     let d : Declared = declared_by ds in
-    elim (chosen (is_declared d name) _ _ _ h) [
+    elim (chosen (list_any (same_letters name) (names_of d)) _ _ _ h) [
       | inl twice ↦
           let e : rule.Duplicate ≡ r = cc in
-          subst (λ x. Breaks x text (length after)) e (ds, name, after, body.Var kind address initial, due, names-any d name ∙ twice.0, refl)
+          subst (λ x. Breaks x text (length after)) e (ds, name, after, body.Var kind address initial, due, twice.0, refl)
       | inr new ↦ elim (chosen (is_taken d address) _ _ _ new.1) [
         | inl taken ↦
             let e : rule.DuplicateAddress ≡ r = cc in
@@ -65,10 +60,10 @@ refusal_breaks text ds name (body.Instance kind preset) after r few due h =
       | inl long ↦
           let e : rule.BadName ≡ r = cc in
           subst (λ x. Breaks x text (length after)) e (inr (ds, name, after, body.Instance kind preset, due, ltb-true (traits_of kind).longest_name (length name) long.0, refl))
-      | inr short ↦ elim (chosen (is_declared d name) _ _ _ short.1) [
+      | inr short ↦ elim (chosen (list_any (same_letters name) (names_of d)) _ _ _ short.1) [
         | inl twice ↦
             let e : rule.Duplicate ≡ r = cc in
-            subst (λ x. Breaks x text (length after)) e (ds, name, after, body.Instance kind preset, due, names-any d name ∙ twice.0, refl)
+            subst (λ x. Breaks x text (length after)) e (ds, name, after, body.Instance kind preset, due, twice.0, refl)
         | inr new ↦ elim (chosen (nat_le 64 (length d.instances)) _ _ _ new.1) [
           | inl full ↦
               let e : rule.TooMany ≡ r = cc in

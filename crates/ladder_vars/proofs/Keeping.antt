@@ -1,7 +1,7 @@
 -- Names, addresses and limits are kept by one more declaration exactly where no rule refuses it.
-use Rattle.std.proofs.Common.{◌≡◌, Bool, true, suc, ◌+◌, not, cond, is_some, position, ap₂, subst, ℕ, ◌≤◌, ◌<◌, false, ◌||◌, ◌==◌, nat_le, nat_lt, List, [], ◌∷◌, ◌++◌, length, map, Option, Some, None, refl, sym, ap, ◌∙◌, arith, append_assoc, inl, inr}
+use Rattle.std.proofs.Common.{◌≡◌, Bool, true, suc, ◌+◌, not, cond, is_some, option_map, position, ℕ, ◌≤◌, ◌<◌, false, ◌||◌, ◌==◌, nat_le, nat_lt, List, [], ◌∷◌, ◌++◌, length, map, Option, Some, None, refl, sym, ap, ◌∙◌, arith, append_assoc, inl, inr}
 use Rattle.std.specs.List.{IsDistinct, list_any, prefix_len}
-use Rattle.std.specs.Option.{option_eq}
+use Rattle.std.specs.Option.{option_eq, option_or}
 use Rattle.std.specs.Str.{str_to_ascii_lowercase}
 use Rattle.std.proofs.lemmas.Cmp.{nat_eq_equiv, nat_list_eq_equiv}
 use Rattle.std.proofs.lemmas.List.{append-nil, length-append, map-append}
@@ -11,14 +11,14 @@ use Rattle.std.proofs.lemmas.Bool.{cases_lt, le-ltb, leb-false, lt-ltb, ltb-fals
 use Rattle.ladder_vars.specs.declared.decls.Address.{Address}
 use Rattle.ladder_vars.specs.declared.decls.Var.{Var}
 use Rattle.ladder_vars.specs.declared.decls.Instance.{Instance}
+use Rattle.ladder_vars.specs.declared.decls.Symbol.TheVariants as symbol
 use Rattle.ladder_vars.specs.declared.decls.Body.{Body}
 use Rattle.ladder_vars.specs.declared.decls.Body.TheVariants as body
 use Rattle.ladder_vars.specs.Name.{same_letters}
-use Rattle.ladder_vars.specs.Decls.{Declared, AreKept, AreInRange, names_of, addresses_of, same_address}
+use Rattle.ladder_vars.specs.Decls.{Declared, AreKept, AreInRange, find, names_of, addresses_of, same_address}
 use Rattle.ladder_vars.specs.Kind.{traits_of, largest_preset}
-use Rattle.ladder_vars.specs.ReadDecls.{nothing, is_there, is_declared, is_taken, refusal, with_var, with_instance, with_decl, PresetFits}
+use Rattle.ladder_vars.specs.ReadDecls.{nothing, is_taken, refusal, with_var, with_instance, with_decl, PresetFits}
 use Rattle.ladder_times.proofs.Steps.{chosen}
-use Rattle.ladder_vars.proofs.Steps.{or_false}
 use Rattle.ladder_vars.proofs.Lists.{list_any-map, IsDistinct-put_between}
 
 pub AreInRange-nothing : AreInRange nothing
@@ -69,19 +69,21 @@ some_when false x = refl
 pub position_any : {X : Type 0} (p : X → Bool) (xs : List X) → is_some (position p xs) ≡ list_any p xs
 position_any p xs = some_when (nat_lt (prefix_len (λ x. not (p x)) xs) (length xs)) (prefix_len (λ x. not (p x)) xs) ∙ any_within p xs
 
-pub names_none : (d : Declared) (name : List ℕ) → is_declared d name ≡ false → list_any (same_letters name) (names_of d) ≡ false
-names_none d name h =
-    let both = or_false (list_any (λ v. same_letters name v.name) d.vars) (list_any (λ i. same_letters name i.name) d.instances) h in
+pub names-any : (d : Declared) (name : List ℕ) → list_any (same_letters name) (names_of d)
+    ≡ (list_any (λ v. same_letters name v.name) d.vars || list_any (λ i. same_letters name i.name) d.instances)
+names-any d name =
     list_any-append (same_letters name) (map (λ v. v.name) d.vars) (map (λ i. i.name) d.instances)
-    ∙ rw (list_any-map (same_letters name) (λ v. v.name) d.vars, list_any-map (same_letters name) (λ i. i.name) d.instances, both.0, both.1) refl
+    ∙ rw (list_any-map (same_letters name) (λ v. v.name) d.vars, list_any-map (same_letters name) (λ i. i.name) d.instances) refl
 
-pub used-addresses : (vars : List Var) (a : Address) → list_any (λ v. is_there v.address a) vars ≡ list_any (same_address a) (addresses_of vars)
-used-addresses [] a = refl
-used-addresses (v ∷ vs) a =
-    elim v.address as (λ place. v.address ≡ place → list_any (λ x. is_there x.address a) (v ∷ vs) ≡ list_any (same_address a) (addresses_of (v ∷ vs))) [
-      | None ↦ λ e. rw e (used-addresses vs a)
-      | Some other ↦ λ e. rw e (ap (λ b. same_address a other || b) (used-addresses vs a))
-    ] refl
+either_found : {A B C : Type 0} (f : A → C) (g : B → C) (o : Option A) (p : Option B) → is_some (option_or (option_map f o) (option_map g p)) ≡ (is_some o || is_some p)
+either_found f g None None = refl
+either_found f g None (Some y) = refl
+either_found f g (Some x) p = refl
+
+pub is_found : (d : Declared) (name : List ℕ) → is_some (find d name) ≡ list_any (same_letters name) (names_of d)
+is_found d name =
+    either_found symbol.Var symbol.Instance (position (λ v. same_letters name v.name) d.vars) (position (λ i. same_letters name i.name) d.instances)
+    ∙ rw (position_any (λ v. same_letters name v.name) d.vars, position_any (λ i. same_letters name i.name) d.instances) (sym (names-any d name))
 
 -- ---- one more declaration
 
@@ -108,8 +110,7 @@ addresses_kept vars v d same h new =
           rw (whole, nothing_new, append-nil (addresses_of vars)) h
       | Some a ↦ λ some.
           let one : addresses_of (v ∷ []) ≡ a ∷ [] = rw some refl in
-          let unused : list_any (λ x. is_there x.address a) vars ≡ false = ap (λ xs. list_any (λ x. is_there x.address a) xs) (sym same) ∙ (rw some at new) in
-          let apart : list_any (same_address a) (addresses_of vars) ≡ false = sym (used-addresses vars a) ∙ unused in
+          let apart : list_any (same_address a) (addresses_of vars) ≡ false = ap (λ xs. list_any (same_address a) (addresses_of xs)) (sym same) ∙ (rw some at new) in
           let distinct : IsDistinct same_address (addresses_of vars ++ []) = rw (append-nil (addresses_of vars)) h in
           let unlike : list_any (same_address a) (addresses_of vars ++ []) ≡ false = rw (append-nil (addresses_of vars)) apart in
           rw (whole, one) (IsDistinct-put_between same_address same_address-flips (addresses_of vars) a [] distinct unlike)
@@ -118,14 +119,14 @@ addresses_kept vars v d same h new =
 pub AreInRange-var : (d : Declared) (v : Var) → AreInRange d → refusal d v.name (body.Var v.kind v.address v.initial) ≡ None
     → AreInRange (with_var d v)
 AreInRange-var d v kept accepted =
-    elim (chosen (is_declared d v.name) _ _ _ accepted) [
+    elim (chosen (list_any (same_letters v.name) (names_of d)) _ _ _ accepted) [
       | inl twice ↦ absurd cc
       | inr new ↦ elim (chosen (is_taken d v.address) _ _ _ new.1) [
         | inl taken ↦ absurd cc
         | inr unused ↦ elim (chosen (nat_le 256 (length d.vars)) _ _ _ unused.1) [
           | inl full ↦ absurd cc
           | inr room ↦
-              let apart : list_any (same_letters v.name) (names_of d) ≡ false = names_none d v.name new.0 in
+              let apart : list_any (same_letters v.name) (names_of d) ≡ false = new.0 in
               let few : length d.vars < 256 = leb-false 256 (length d.vars) room.0 in
               let still : AreKept (with_var d v) = (
                 rw (names-var d v) (IsDistinct-put_between same_letters same_letters-flips (map (λ x. x.name) d.vars) v.name (map (λ i. i.name) d.instances) kept.kept.0 apart),
@@ -144,12 +145,12 @@ pub AreInRange-instance : (d : Declared) (i : Instance) → AreInRange d → ref
 AreInRange-instance d i kept accepted fits =
     elim (chosen (nat_lt (traits_of i.kind).longest_name (length i.name)) _ _ _ accepted) [
       | inl long ↦ absurd cc
-      | inr short ↦ elim (chosen (is_declared d i.name) _ _ _ short.1) [
+      | inr short ↦ elim (chosen (list_any (same_letters i.name) (names_of d)) _ _ _ short.1) [
         | inl twice ↦ absurd cc
         | inr new ↦ elim (chosen (nat_le 64 (length d.instances)) _ _ _ new.1) [
           | inl full ↦ absurd cc
           | inr room ↦
-              let apart : list_any (same_letters i.name) (names_of d ++ []) ≡ false = rw (append-nil (names_of d)) (names_none d i.name new.0) in
+              let apart : list_any (same_letters i.name) (names_of d ++ []) ≡ false = rw (append-nil (names_of d)) (new.0) in
               let distinct : IsDistinct same_letters (names_of d ++ []) = rw (append-nil (names_of d)) kept.kept.0 in
               let few : length d.instances < 64 = leb-false 64 (length d.instances) room.0 in
               let short_name : length i.name ≤ (traits_of i.kind).longest_name = ltb-false (traits_of i.kind).longest_name (length i.name) short.0 in
@@ -172,7 +173,7 @@ pub record AreFew (d : Declared) : Type 0 where
 
 pub AreFew-decl : (d : Declared) (name : List ℕ) (b : Body) → AreFew d → refusal d name b ≡ None → AreFew (with_decl d name b)
 AreFew-decl d name (body.Var kind address initial) few accepted =
-    elim (chosen (is_declared d name) _ _ _ accepted) [
+    elim (chosen (list_any (same_letters name) (names_of d)) _ _ _ accepted) [
       | inl twice ↦ absurd cc
       | inr new ↦ elim (chosen (is_taken d address) _ _ _ new.1) [
         | inl taken ↦ absurd cc
@@ -188,7 +189,7 @@ AreFew-decl d name (body.Var kind address initial) few accepted =
 AreFew-decl d name (body.Instance kind preset) few accepted =
     elim (chosen (nat_lt (traits_of kind).longest_name (length name)) _ _ _ accepted) [
       | inl long ↦ absurd cc
-      | inr short ↦ elim (chosen (is_declared d name) _ _ _ short.1) [
+      | inr short ↦ elim (chosen (list_any (same_letters name) (names_of d)) _ _ _ short.1) [
         | inl twice ↦ absurd cc
         | inr new ↦ elim (chosen (nat_le 64 (length d.instances)) _ _ _ new.1) [
           | inl full ↦ absurd cc

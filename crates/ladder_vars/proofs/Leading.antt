@@ -6,10 +6,9 @@ use Rattle.std.proofs.lemmas.List.Folds.{prefix_len-append}
 use Rattle.std.proofs.lemmas.List.Sums.{prefix_len-le-length}
 use Rattle.ladder_vars.specs.declared.decls.Var.{Var}
 use Rattle.ladder_vars.specs.Decls.{Declared, is_input, AreInRange}
-use Rattle.ladder_vars.specs.ReadDecls.{leading_with}
 
 pub leading-var : (vars : List Var) (v : Var) (leading : ℕ) → leading ≡ prefix_len is_input vars
-    → leading_with leading (length vars) v.kind ≡ prefix_len is_input (vars ++ v ∷ [])
+    → cond (leading == length vars && is_input v) (leading + 1) leading ≡ prefix_len is_input (vars ++ v ∷ [])
 leading-var vars v leading is =
     let whole : prefix_len is_input (vars ++ v ∷ []) ≡ cond (leading == length vars) (length vars + prefix_len is_input (v ∷ [])) leading
     = prefix_len-append is_input vars (v ∷ []) ∙ ap (λ n. cond (n == length vars) (length vars + prefix_len is_input (v ∷ [])) n) (sym is) in

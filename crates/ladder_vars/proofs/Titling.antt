@@ -1,5 +1,5 @@
 -- Declarations get their titles one after the other.
-use Rattle.std.proofs.Common.{◌≡◌, ℕ, zero, suc, ◌+◌, ◌-◌, ◌<◌, ◌≤◌, inl, inr, true, false, Bool, ◌||◌, List, [], ◌∷◌, ◌++◌, length, map, take, drop, codes, Option, Some, None, Ok, unwrap_or, slice_set, get_or, refl, sym, ap, ap₂, subst, ◌∙◌, arith, nat_lt, append_assoc}
+use Rattle.std.proofs.Common.{◌≡◌, ℕ, zero, suc, ◌+◌, ◌-◌, ◌<◌, ◌≤◌, inl, inr, true, false, Bool, ◌||◌, List, [], ◌∷◌, ◌++◌, length, map, take, drop, codes, Option, Some, None, Ok, Err, unwrap_or, slice_set, get_or, refl, sym, ap, ap₂, subst, ◌∙◌, arith, nat_lt, append_assoc}
 use Rattle.std.specs.List.{All, AllByRecursion, IsDistinct, list_any}
 use Rattle.std.proofs.lemmas.Bool.{cases_lt, or_left, or_right, or_cases, true≢false}
 use Rattle.std.proofs.lemmas.List.{map-set, length-set, length-map, length-append, length-drop, length-take, get_or-map, get_or_append_left, get_or_at, get_or-take, get_or-drop, get_or-set_same, take-set-le, drop-set-lt, set-append_left, set-get_or, take_all}
@@ -13,6 +13,7 @@ use Rattle.ladder_vars.specs.declared.kind.BlockKind.{BlockKind}
 use Rattle.ladder_vars.specs.declared.decls.Var.{Var}
 use Rattle.ladder_vars.specs.declared.decls.Instance.{Instance}
 use Rattle.ladder_vars.specs.declared.decls.Body.{Body}
+use Rattle.ladder_vars.specs.declared.fault.Fault.{Fault}
 use Rattle.ladder_vars.specs.declared.decls.Body.TheVariants as body
 use Rattle.ladder_vars.specs.declared.titles.Passed.{Passed}
 use Rattle.ladder_vars.specs.Name.{same_letters}
@@ -21,19 +22,19 @@ use Rattle.ladder_vars.specs.Decls.{Declared, AreKept, names_of}
 use Rattle.ladder_vars.specs.Text.{AreTokens}
 use Rattle.ladder_vars.specs.Grammar.{Decl, declared_by, HasDecls}
 use Rattle.ladder_vars.specs.Rules.{DeclDue, line_of}
-use Rattle.ladder_vars.specs.ReadDecls.{expect, with_decl, refusal, is_declared, all_of, decls_from}
+use Rattle.ladder_vars.specs.ReadDecls.{expect, with_decl, refusal, all_of, decls_from}
 use Rattle.ladder_times.proofs.Steps.{chosen}
 use Rattle.ladder_vars.specs.Kind.{traits_of}
 use Rattle.ladder_vars.specs.Titles.{plain_var, plain_instance, plain, HasTitle, titles_of, AreTitled, IsTaken, HasTakenAlias, Declares}
-use Rattle.ladder_vars.specs.TakeTitles.{IsNext, IsLast, IsWithin, Retitles, IsPast, is_called, after_var, or_nothing}
+use Rattle.ladder_vars.specs.TakeTitles.{IsNext, IsLast, IsWithin, Retitles, IsPast, is_called}
 use Rattle.ladder_vars.proofs.Steps.{or_false, bind_ok}
 use Rattle.ladder_vars.proofs.Lists.{list_any-map, none_passes}
-use Rattle.ladder_vars.proofs.Keeping.{same_letters-flips}
+use Rattle.ladder_vars.proofs.Keeping.{same_letters-flips, names-any}
 use Rattle.ladder_vars.proofs.TextTakes.{token_takes, AreTokens-append}
 use Rattle.ladder_vars.proofs.GrammarTakes.{TakesBody, body_takes, expect_takes}
 use Rattle.ladder_vars.proofs.DeclReads.{all_reads}
 use Rattle.ladder_vars.proofs.DeclTakes.{ReadsTo, next_due, declared_by-push}
-use Rattle.ladder_vars.proofs.DeclFaults.{head_is, names-any}
+use Rattle.ladder_vars.proofs.DeclFaults.{head_is}
 use Rattle.ladder_vars.proofs.Retitling.{map-set_same}
 use Rattle.ladder_vars.proofs.TitleLoop.{next_read, read_extends}
 
@@ -128,17 +129,17 @@ pub record Comes (text : List ℕ) (whole : Declared) (ds : List Decl) (rest nam
   pub end : List ℕ
   pub on : decls_from turns (declared_by (ds ++ record { name = name; body = b } ∷ [])) after ≡ Ok (whole, end)
   pub more : declared_by (ds ++ record { name = name; body = b } ∷ []) ≡ with_decl (declared_by ds) name b
-  pub new : is_declared (declared_by ds) name ≡ false
+  pub new : list_any (same_letters name) (names_of (declared_by ds)) ≡ false
   pub extends : (vars : List Var) × (instances : List Instance) × (whole.vars ≡ (with_decl (declared_by ds) name b).vars ++ vars)
       × (whole.instances ≡ (with_decl (declared_by ds) name b).instances ++ instances)
 
-not_declared : (d : Declared) (name : List ℕ) (b : Body) → refusal d name b ≡ None → is_declared d name ≡ false
+not_declared : (d : Declared) (name : List ℕ) (b : Body) → refusal d name b ≡ None → list_any (same_letters name) (names_of d) ≡ false
 not_declared d name (body.Var kind address initial) h =
-    elim (chosen (is_declared d name) _ _ _ h) [ inl twice ↦ absurd cc | inr new ↦ new.0 ]
+    elim (chosen (list_any (same_letters name) (names_of d)) _ _ _ h) [ inl twice ↦ absurd cc | inr new ↦ new.0 ]
 not_declared d name (body.Instance kind preset) h =
     elim (chosen (nat_lt (traits_of kind).longest_name (length name)) _ _ _ h) [
       | inl long ↦ absurd cc
-      | inr short ↦ elim (chosen (is_declared d name) _ _ _ short.1) [ inl twice ↦ absurd cc | inr new ↦ new.0 ]
+      | inr short ↦ elim (chosen (list_any (same_letters name) (names_of d)) _ _ _ short.1) [ inl twice ↦ absurd cc | inr new ↦ new.0 ]
     ]
 
 pub comes : (text : List ℕ) (whole now : Declared) (rest : List ℕ) (vars instances : ℕ) (t : Takes text whole now rest vars instances) (name behind : List ℕ)
@@ -415,15 +416,21 @@ titles_as : {A : Type 0} (p : A → A) (title name : A → List ℕ) → ((x : A
 titles_as p title name is [] = refl
 titles_as p title name is (x ∷ xs) = ap₂ (λ y ys. y ∷ ys) (is x) (titles_as p title name is xs)
 
-pub starts : (text : List ℕ) (d : Declared) → Declares text d → Takes text d d (after_var text) 0 0
+pub begins : (text : List ℕ) (d : Declared) (f : Fault) → Declares text d → expect (codes "VAR") text ≡ Err f → ⊥
 unfolding all_of
-starts text d (rest, has) =
+begins text d f (rest, has) h =
+    let start = bind_ok (expect (codes "VAR") text) _ (d, rest) (all_reads text d rest has) in
+    cc
+
+pub starts : (text : List ℕ) (d : Declared) (first : List ℕ) → Declares text d → expect (codes "VAR") text ≡ Ok first → Takes text d d first 0 0
+unfolding all_of
+starts text d first (rest, has) begun =
     let plain_too : plain d ≡ d = declared_plain text d (rest, has) in
     let vars : map plain_var d.vars ≡ d.vars = ap (λ x. x.vars) plain_too in
     let instances : map plain_instance d.instances ≡ d.instances = ap (λ x. x.instances) plain_too in
     let start = bind_ok (expect (codes "VAR") text) _ (d, rest) (all_reads text d rest has) in
     let opening = expect_takes (codes "VAR") text start.0 start.1 in
-    let first : start.0 ≡ after_var text = ap or_nothing (sym start.1) in
+    let same : start.0 ≡ first = cc in
     let reads : ReadsTo text [] start.0 = record { opening = opening.0; tokens = []; is_var = opening.1; derived = refl; read = opening.2 } in
     let titles : titles_of d ≡ names_of d
     = ap titles_of (sym plain_too) ∙ ap₂ (λ xs ys. xs ++ ys) (titles_as plain_var (λ v. v.title) (λ v. v.name) (λ v. refl) d.vars)
@@ -443,7 +450,7 @@ starts text d (rest, has) =
       instance_names = named_as plain_instance (λ i. i.title) (λ i. i.name) (λ i. refl) d.instances instances;
       apart = rw titles (kept_of text d rest has).0;
     } in
-    subst (λ t. Takes text d d t 0 0) first takes
+    subst (λ t. Takes text d d t 0 0) same takes
 
 pub ends : (text : List ℕ) (whole now : Declared) (rest : List ℕ) (vars instances : ℕ) → Takes text whole now rest vars instances → IsLast rest → AreTitled text now
 ends text whole now rest vars instances t last =
@@ -476,9 +483,9 @@ names_plain d =
     ap₂ (λ xs ys. xs ++ ys) (titles_as plain_var (λ v. v.name) (λ v. v.name) (λ v. refl) d.vars)
     (titles_as plain_instance (λ i. i.name) (λ i. i.name) (λ i. refl) d.instances)
 
-name_taken : (text : List ℕ) (whole now : Declared) (name alias : List ℕ) → plain now ≡ whole → is_declared now alias ≡ true → IsTaken text whole name alias
+name_taken : (text : List ℕ) (whole now : Declared) (name alias : List ℕ) → plain now ≡ whole → list_any (same_letters alias) (names_of now) ≡ true → IsTaken text whole name alias
 name_taken text whole now name alias same declared =
-    inl (ap (λ d. list_any (same_letters alias) (names_of d)) (sym same) ∙ ap (list_any (same_letters alias)) (names_plain now) ∙ names-any now alias ∙ declared)
+    inl (ap (λ d. list_any (same_letters alias) (names_of d)) (sym same) ∙ ap (list_any (same_letters alias)) (names_plain now) ∙ declared)
 
 -- an element that a list has not
 unlike : {A : Type 0} (p : A → Bool) (xs : List A) (k : ℕ) (d : A) → k < length xs → list_any p xs ≡ false → p (get_or xs k d) ≡ false
@@ -489,7 +496,7 @@ unlike p xs k d lt none =
     ] refl
 
 var_taken : (text : List ℕ) (whole now : Declared) (rest : List ℕ) (vars instances : ℕ) (t : Takes text whole now rest vars instances) (name alias : List ℕ)
-    → is_declared (declared_by t.ds) name ≡ false → (k : ℕ) (v : Var) → k < length now.vars → get_or now.vars k v ≡ v → same_letters alias v.title ≡ true
+    → list_any (same_letters name) (names_of (declared_by t.ds)) ≡ false → (k : ℕ) (v : Var) → k < length now.vars → get_or now.vars k v ≡ v → same_letters alias v.title ≡ true
     → IsTaken text whole name alias
 var_taken text whole now rest vars instances t name alias new k v lt here is =
     elim (cases_lt k vars) [
@@ -500,7 +507,7 @@ var_taken text whole now rest vars instances t name alias new k v lt here is =
           let there : get_or first k (plain_var v) ≡ plain_var v
           = sym (get_or_append_left first more.0 (plain_var v) k inside) ∙ ap (λ xs. get_or xs k (plain_var v)) (sym more.2 ∙ sym (same_vars now whole t.same))
           ∙ get_or-map plain_var now.vars k v (plain_var v) lt ∙ ap plain_var here in
-          let names = or_false (list_any (λ x. same_letters name x.name) first) (list_any (λ x. same_letters name x.name) (declared_by t.ds).instances) new in
+          let names = or_false (list_any (λ x. same_letters name x.name) first) (list_any (λ x. same_letters name x.name) (declared_by t.ds).instances) (sym (names-any (declared_by t.ds) name) ∙ new) in
           let other : same_letters name v.name ≡ false
           = ap (λ (x : Var). same_letters name x.name) (sym there) ∙ unlike (λ x. same_letters name x.name) first k (plain_var v) inside names.0 in
           let at : get_or (take vars now.vars) k v ≡ v = get_or-take vars now.vars k v before ∙ here in
@@ -513,11 +520,11 @@ var_taken text whole now rest vars instances t name alias new k v lt here is =
           let named : v.title ≡ v.name
           = subst (λ (x : Var). x.title ≡ x.name) at (t.var_names (k - vars) v (omega (arith, behind, lt, length-drop vars now.vars))) in
           let passes : same_letters alias (get_or now.vars k v).name ≡ true = ap (λ (x : Var). same_letters alias x.name) here ∙ ap (same_letters alias) (sym named) ∙ is in
-          name_taken text whole now name alias t.same (or_left _ _ (list_any_at (λ x. same_letters alias x.name) now.vars k v lt passes))
+          name_taken text whole now name alias t.same (names-any now alias ∙ or_left _ _ (list_any_at (λ x. same_letters alias x.name) now.vars k v lt passes))
     ]
 
 instance_taken : (text : List ℕ) (whole now : Declared) (rest : List ℕ) (vars instances : ℕ) (t : Takes text whole now rest vars instances) (name alias : List ℕ)
-    → is_declared (declared_by t.ds) name ≡ false → (k : ℕ) (i : Instance) → k < length now.instances → get_or now.instances k i ≡ i
+    → list_any (same_letters name) (names_of (declared_by t.ds)) ≡ false → (k : ℕ) (i : Instance) → k < length now.instances → get_or now.instances k i ≡ i
     → same_letters alias i.title ≡ true → IsTaken text whole name alias
 instance_taken text whole now rest vars instances t name alias new k v lt here is =
     elim (cases_lt k instances) [
@@ -529,7 +536,7 @@ instance_taken text whole now rest vars instances t name alias new k v lt here i
           = sym (get_or_append_left first more.1 (plain_instance v) k inside)
           ∙ ap (λ xs. get_or xs k (plain_instance v)) (sym more.3 ∙ sym (same_instances now whole t.same))
           ∙ get_or-map plain_instance now.instances k v (plain_instance v) lt ∙ ap plain_instance here in
-          let names = or_false (list_any (λ x. same_letters name x.name) (declared_by t.ds).vars) (list_any (λ x. same_letters name x.name) first) new in
+          let names = or_false (list_any (λ x. same_letters name x.name) (declared_by t.ds).vars) (list_any (λ x. same_letters name x.name) first) (sym (names-any (declared_by t.ds) name) ∙ new) in
           let other : same_letters name v.name ≡ false
           = ap (λ (x : Instance). same_letters name x.name) (sym there) ∙ unlike (λ x. same_letters name x.name) first k (plain_instance v) inside names.1 in
           let at : get_or (take instances now.instances) k v ≡ v = get_or-take instances now.instances k v before ∙ here in
@@ -543,7 +550,7 @@ instance_taken text whole now rest vars instances t name alias new k v lt here i
           = subst (λ (x : Instance). x.title ≡ x.name) at (t.instance_names (k - instances) v (omega (arith, behind, lt, length-drop instances now.instances))) in
           let passes : same_letters alias (get_or now.instances k v).name ≡ true
           = ap (λ (x : Instance). same_letters alias x.name) here ∙ ap (same_letters alias) (sym named) ∙ is in
-          name_taken text whole now name alias t.same (or_right _ _ (list_any_at (λ x. same_letters alias x.name) now.instances k v lt passes))
+          name_taken text whole now name alias t.same (names-any now alias ∙ or_right _ _ (list_any_at (λ x. same_letters alias x.name) now.instances k v lt passes))
     ]
 
 pub taken : (text : List ℕ) (whole now : Declared) (rest : List ℕ) (vars instances : ℕ) (t : Takes text whole now rest vars instances) (name behind alias : List ℕ)
@@ -555,14 +562,14 @@ taken text whole now rest vars instances t name behind alias b after next is cal
       | inl var ↦
           let found = Any-from_list_any (λ (v : Var). same_letters alias v.name || same_letters alias v.title) now.vars var in
           elim (or_cases (same_letters alias found.1.name) (same_letters alias found.1.title) found.4) [
-            | inl name_ ↦ name_taken text whole now name alias t.same (or_left _ _ (list_any_at (λ x. same_letters alias x.name) now.vars found.0 found.1 found.2
+            | inl name_ ↦ name_taken text whole now name alias t.same (names-any now alias ∙ or_left _ _ (list_any_at (λ x. same_letters alias x.name) now.vars found.0 found.1 found.2
                 (ap (λ (x : Var). same_letters alias x.name) found.3 ∙ name_)))
             | inr title ↦ var_taken text whole now rest vars instances t name alias c.new found.0 found.1 found.2 found.3 title
           ]
       | inr instance ↦
           let found = Any-from_list_any (λ (i : Instance). same_letters alias i.name || same_letters alias i.title) now.instances instance in
           elim (or_cases (same_letters alias found.1.name) (same_letters alias found.1.title) found.4) [
-            | inl name_ ↦ name_taken text whole now name alias t.same (or_right _ _ (list_any_at (λ x. same_letters alias x.name) now.instances found.0 found.1 found.2
+            | inl name_ ↦ name_taken text whole now name alias t.same (names-any now alias ∙ or_right _ _ (list_any_at (λ x. same_letters alias x.name) now.instances found.0 found.1 found.2
                 (ap (λ (x : Instance). same_letters alias x.name) found.3 ∙ name_)))
             | inr title ↦ instance_taken text whole now rest vars instances t name alias c.new found.0 found.1 found.2 found.3 title
           ]

@@ -1,5 +1,5 @@
 -- Private to the proofs: declarations read from left to right, as the code reads them, with the first fault that is met.
-use Rattle.std.specs.Prelude.{◌≡◌, ℕ, zero, suc, ◌+◌, Bool, true, false, ◌||◌, ◌&&◌, ◌==◌, ◌≤◌, nat_le, nat_lt, List, [], ◌∷◌, ◌++◌, length, codes, Option, Some, None, if◌then◌else◌, Result, Ok, Err}
+use Rattle.std.specs.Prelude.{◌≡◌, ℕ, zero, suc, ◌+◌, Bool, false, ◌≤◌, nat_le, nat_lt, List, [], ◌∷◌, ◌++◌, length, codes, Option, Some, None, if◌then◌else◌, Result, Ok, Err}
 use Rattle.std.specs.List.{list_any}
 use Rattle.ladder_vars.specs.declared.limits.TheConstants.{MOST_VARS, MOST_INSTANCES}
 use Rattle.ladder_vars.specs.declared.fault.VarRule.{VarRule}
@@ -17,7 +17,7 @@ use Rattle.ladder_vars.specs.declared.decls.Body.{Body}
 use Rattle.ladder_vars.specs.declared.decls.Body.TheVariants as body
 use Rattle.ladder_vars.specs.Name.{same_letters, is_name, has_name_form}
 use Rattle.ladder_vars.specs.Kind.{traits_of, parameter_word, largest_preset}
-use Rattle.ladder_vars.specs.Decls.{Declared, same_address}
+use Rattle.ladder_vars.specs.Decls.{Declared, names_of, addresses_of, same_address}
 use Rattle.ladder_vars.specs.Text.{begins_word}
 use Rattle.ladder_vars.specs.Grammar.{bit_word}
 use Rattle.ladder_vars.specs.ReadText.{◌>>=◌, token_at, unfinished}
@@ -137,36 +137,20 @@ abbrev pub PresetFits : Body → Type 0
 PresetFits (body.Var kind address initial) = Unit {0}
 PresetFits (body.Instance kind preset) = preset ≤ largest_preset kind
 
-abbrev pub is_declared : Declared → List ℕ → Bool
-is_declared declared name =
-    list_any (λ v. same_letters name v.name) declared.vars || list_any (λ i. same_letters name i.name) declared.instances
-
-abbrev pub is_there : Option Address → Address → Bool
-is_there None address = false
-is_there (Some other) address = same_address address other
-
 abbrev pub is_taken : Declared → Option Address → Bool
 is_taken declared None = false
-is_taken declared (Some address) = list_any (λ v. is_there v.address address) declared.vars
+is_taken declared (Some address) = list_any (same_address address) (addresses_of declared.vars)
 
 -- the rule that one more declaration would break
 abbrev pub refusal : Declared → List ℕ → Body → Option VarRule
 refusal declared name (body.Var kind address initial) =
-    if is_declared declared name then Some rule.Duplicate
+    if list_any (same_letters name) (names_of declared) then Some rule.Duplicate
     else (if is_taken declared address then Some rule.DuplicateAddress
     else (if nat_le MOST_VARS (length declared.vars) then Some rule.TooMany else None))
 refusal declared name (body.Instance kind preset) =
     if nat_lt (traits_of kind).longest_name (length name) then Some rule.BadName
-    else (if is_declared declared name then Some rule.Duplicate
+    else (if list_any (same_letters name) (names_of declared) then Some rule.Duplicate
     else (if nat_le MOST_INSTANCES (length declared.instances) then Some rule.TooMany else None))
-
-abbrev pub is_input_kind : var_kind.the_data → Bool
-is_input_kind var_kind.Input = true
-is_input_kind other = false
-
--- how many inputs lead, with one more variable after so many others
-abbrev pub leading_with : ℕ → ℕ → var_kind.the_data → ℕ
-leading_with leading count kind = if leading == count && is_input_kind kind then leading + 1 else leading
 
 abbrev pub with_var : Declared → Var → Declared
 with_var declared v = record { vars = declared.vars ++ v ∷ []; instances = declared.instances }

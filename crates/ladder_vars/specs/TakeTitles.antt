@@ -1,5 +1,5 @@
 -- Private to the proofs: the declarations of a text passed once more, as the code passes them.
-use Rattle.std.specs.Prelude.{◌≡◌, ℕ, ◌+◌, ◌<◌, ◌||◌, false, Bool, List, [], length, codes, slice_get, slice_set, Some, Result, Ok, Err}
+use Rattle.std.specs.Prelude.{◌≡◌, ℕ, ◌+◌, ◌<◌, ◌||◌, false, Bool, List, length, codes, slice_get, slice_set, Some, Ok}
 use Rattle.std.specs.List.{list_any}
 use Rattle.ladder_vars.specs.declared.decls.Var.{Var}
 use Rattle.ladder_vars.specs.declared.decls.Instance.{Instance}
@@ -9,15 +9,7 @@ use Rattle.ladder_vars.specs.declared.titles.Passed.{Passed}
 use Rattle.ladder_vars.specs.Name.{same_letters}
 use Rattle.ladder_vars.specs.Decls.{Declared}
 use Rattle.ladder_vars.specs.ReadText.{token_at}
-use Rattle.ladder_vars.specs.ReadDecls.{expect, body_at, decls_from}
-
-abbrev pub or_nothing : {F : Type 0} → Result (List ℕ) F → List ℕ
-or_nothing (Ok rest) = rest
-or_nothing (Err f) = []
-
--- what follows VAR
-abbrev pub after_var : List ℕ → List ℕ
-after_var text = or_nothing (expect (codes "VAR") text)
+use Rattle.ladder_vars.specs.ReadDecls.{body_at, decls_from}
 
 -- a declaration with this name is read at the start of the text
 abbrev pub IsNext : List ℕ → List ℕ → List ℕ → Body → List ℕ → Type 0

@@ -3,9 +3,9 @@
 ghost use Rattle.std.specs.Prelude.{◌≡◌, ◌≤◌, ◌<◌, ◌||◌, length, OnOk, IsNone, position, count_by};
 ghost use Rattle.std.specs.List.{list_any, prefix_len};
 ghost use Rattle.ladder_vars.specs.Name.{same_letters};
-ghost use Rattle.ladder_vars.specs.Decls.{is_input, find, instance_name, output_suffix, symbol_name, var_name, AreInRange};
+ghost use Rattle.ladder_vars.specs.Decls.{is_input, names_of, addresses_of, same_address, find, instance_name, output_suffix, symbol_name, var_name, AreInRange};
 ghost use Rattle.ladder_vars.specs.TakeTitles.{is_called, SetsVar, SetsInstance};
-ghost use Rattle.ladder_vars.specs.ReadDecls.{is_there, is_declared, is_taken, refusal, nothing, added, leading_with, with_var, with_instance, with_decl, GivesInMemory, PresetFits};
+ghost use Rattle.ladder_vars.specs.ReadDecls.{refusal, nothing, added, with_var, with_instance, with_decl, GivesInMemory, PresetFits};
 
 use crate::fault::{Fault, ReadFault, VarRule};
 use crate::kind::{BlockKind, Output};
@@ -127,31 +127,12 @@ fn instance_at(instances: &[Instance], name: &Name) -> Option<usize>
 }
 
 /// Whether a variable has the address.
-fn is_there(place: Option<Address>, address: Address) -> bool
-    ensures { result ≡ is_there place address }
-{
-    match place {
-        Some(other) => address == other,
-        None => false,
-    }
-}
-
-/// How many inputs lead, with one more variable after `count` others.
-fn leading_with(leading: usize, count: usize, kind: VarKind) -> usize
-    requires { leading ≤ 256 }
-    ensures { result ≡ leading_with leading count kind }
-{
-    if leading == count && kind == VarKind::Input {
-        leading + 1
-    } else {
-        leading
-    }
-}
-
 fn is_used(vars: &[Var], address: Address) -> bool
-    ensures { result ≡ list_any (λ v. is_there v.address address) vars.now }
+    ensures { result ≡ list_any (same_address address) (addresses_of vars.now) }
 {
-    vars.iter().any(|v| is_there(v.address, address))
+    vars.iter()
+        .filter_map(|v| v.address)
+        .any(|other| address == other)
 }
 
 /// The title that is the name.
@@ -191,21 +172,11 @@ impl Decls {
         }
     }
 
-    #[tactic(auto, using(crate::proofs::Keeping::position_any))]
+    #[tactic(auto, using(crate::proofs::Keeping::is_found))]
     fn is_declared(&self, name: &Name) -> bool
-        ensures value { result ≡ is_declared self.now name.now }
-        ensures kept { AreInRange self.now }
+        ensures { result ≡ list_any (same_letters name.now) (names_of self.now) }
     {
-        var_at(&self.vars, name).is_some() || instance_at(&self.instances, name).is_some()
-    }
-
-    fn is_taken(&self, address: Option<Address>) -> bool
-        ensures { result ≡ is_taken self.now address }
-    {
-        match address {
-            Some(address) => is_used(&self.vars, address),
-            None => false,
-        }
+        self.find(name).is_some()
     }
 
     /// The rule that one more declaration would break.
@@ -217,7 +188,7 @@ impl Decls {
             Body::Var { address, .. } => {
                 if self.is_declared(name) {
                     Some(VarRule::Duplicate)
-                } else if self.is_taken(address) {
+                } else if matches!(address, Some(address) if is_used(&self.vars, address)) {
                     Some(VarRule::DuplicateAddress)
                 } else if self.vars.len() >= MOST_VARS {
                     Some(VarRule::TooMany)
@@ -243,7 +214,10 @@ impl Decls {
         requires { AreInRange (with_var self.old var) }
         ensures { OnOk result (self.new ≡ with_var self.old var) }
     {
-        let leading = leading_with(self.leading, self.vars.len(), var.kind);
+        let mut leading = self.leading;
+        if leading == self.vars.len() && var.is_input() {
+            leading += 1;
+        }
         self.vars.push(var)?;
         self.leading = leading;
         Ok(())

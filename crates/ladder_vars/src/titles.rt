@@ -2,7 +2,7 @@
 
 ghost use Rattle.std.specs.Prelude.{◌≡◌, ◌<◌, ◌^◌, length, IfOk, IfErr, IfSome, IfNone};
 ghost use Rattle.ladder_vars.specs.Titles.{plain, AreTitled, Declares, HasTakenAlias};
-ghost use Rattle.ladder_vars.specs.TakeTitles.{after_var, IsNext, IsLast, IsPast, IsWithin, Retitles};
+ghost use Rattle.ladder_vars.specs.TakeTitles.{IsNext, IsLast, IsPast, IsWithin, Retitles};
 
 use crate::declaration::{body_at, expect};
 use crate::decls::{Body, Decls};
@@ -33,15 +33,6 @@ struct Reading<'a> {
 struct Passed {
     vars: usize,
     instances: usize,
-}
-
-fn after_var(text: &[u8]) -> &[u8]
-    ensures { result.now ≡ after_var text.now }
-{
-    match expect(b"VAR", text) {
-        Ok(rest) => rest,
-        Err(_) => &[],
-    }
 }
 
 /// The declaration at the start of a text, where there is one.
@@ -108,7 +99,9 @@ pub fn take_aliases(text: &[u8], decls: &mut Decls) -> Result<(), TitleFault>
     ensures same { plain decls.new ≡ decls.old }
     ensures taken { IfErr result (λ e. HasTakenAlias text.now decls.old e.line) }
 {
-    let mut rest = after_var(text);
+    let Ok(mut rest) = expect(b"VAR", text) else {
+        return Ok(());
+    };
     let mut passed = Passed {
         vars: 0,
         instances: 0,

@@ -1,4 +1,5 @@
 use Rattle.std.proofs.Common.{sym, ◌∙◌, arith}
+use Rattle.std.proofs.lemmas.Bool.Decides.{nat_tests}
 use Rattle.ladder_times.proofs.Durations.{ends, stops, refuses, goes_on}
 use Rattle.ladder_times.proofs.time.total_of.Goals as goal
 
@@ -10,7 +11,7 @@ returns-in_err-number-2 c =
 pub returns-then-not-may_follow : goal.returns-then-not-may_follow
 returns-then-not-may_follow c =
     let part = rw c.after_underscore.ensures.value at c.in_ok-number-2.ensures.value in
-    sym (refuses _ _ _ _ _ c.loop-rest.invariant.stands (sym c.is_empty.ensures ∙ c.loop-rest-test.true) part (sym c.may_follow.ensures ∙ c.if-not-may_follow.true))
+    sym (refuses _ _ _ _ _ c.loop-rest.invariant.stands (sym c.is_empty.ensures ∙ c.loop-rest-test.true) part (grind (arith, nat_tests)))
 
 pub loop-rest-preserved : goal.loop-rest-preserved
 loop-rest-preserved c =
@@ -18,7 +19,7 @@ loop-rest-preserved c =
     record {
       small = omega arith;
       stands = rw c.with_part-total-in-loop-rest.ensures.value (goes_on _ _ _ _ _ c.loop-rest.invariant.stands (sym c.is_empty.ensures ∙ c.loop-rest-test.true) part
-          (sym c.may_follow.ensures ∙ c.if-not-may_follow.false)
+          (grind (arith, nat_tests))
           (omega (arith, c.in_ok-number-2.ensures.shorter, c.after_underscore.ensures.shorter)));
     }
 

@@ -1,12 +1,12 @@
 use Rattle.std.proofs.Common.{◌≡◌, true, false, Some, None, sym, ap, ◌∙◌, arith}
 use Rattle.ladder_titles.specs.Title.{alias_of}
 use Rattle.ladder_vars.specs.TakeTitles.{is_called}
-use Rattle.ladder_vars.proofs.Titling.{starts, ends, few, taken, within, with_alias, without_alias}
+use Rattle.ladder_vars.proofs.Titling.{begins, starts, ends, few, taken, within, with_alias, without_alias}
 use Rattle.ladder_vars.proofs.titles.take_aliases.Goals as goal
 use Rattle.ladder_vars.proofs.titles.take_aliases.Goals.{in-Some-alias_of+else-is_called, in_default-alias_of}
 
 pub loop-reading-init : goal.loop-reading-init
-loop-reading-init c = rw c.after_var-rest.ensures (starts c.args.text.now c.args.decls.now c.requires)
+loop-reading-init c = starts c.args.text.now c.args.decls.now _ c.requires c.in-Ok.ensures.value
 
 pub returns-then-is_called-clause-taken : goal.returns-then-is_called-clause-taken
 returns-then-is_called-clause-taken c =
@@ -43,4 +43,10 @@ loop-reading-preserved c =
     ]
 
 pub returns-clause-titled : goal.returns-clause-titled
-returns-clause-titled c = ends _ _ _ _ _ _ c.loop-reading.invariant (c.in_default.ensures.none)
+returns-clause-titled c = ends _ _ _ _ _ _ c.loop-reading.invariant (c.in_default-next_decl.ensures.none)
+
+pub returns-in_default-clause-titled : goal.returns-in_default-clause-titled
+returns-in_default-clause-titled c = absurd (begins _ _ _ c.requires c.in_default.ensures.value)
+
+pub returns-in_default-clause-same : goal.returns-in_default-clause-same
+returns-in_default-clause-same c = absurd (begins _ _ _ c.requires c.in_default.ensures.value)
