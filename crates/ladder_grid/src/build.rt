@@ -24,28 +24,15 @@ use ladder_vars::{Decls, Name};
 use std::alloc::{AllocError, Global};
 
 /// The number of the next memory, past this cell.
-fn after_memory(number: usize, cell: &Cell) -> usize
+fn after_memory(number: usize, cell: Cell) -> usize
     requires { number < 2 ^ 32 }
-    ensures value { result ≡ (if has_memory cell.now then number + 1 else number) }
+    ensures value { result ≡ (if has_memory cell then number + 1 else number) }
     ensures close { result ≤ number + 1 }
 {
-    match cell {
-        Cell::Contact {
-            memory: Some(_),
-            ..
-        }
-        | Cell::Coil {
-            memory: Some(_),
-            ..
-        } => number + 1,
-        Cell::Contact { memory: None, .. }
-        | Cell::Coil { memory: None, .. }
-        | Cell::Empty
-        | Cell::Wire
-        | Cell::Block { .. }
-        | Cell::Lower { .. }
-        | Cell::Jump { .. }
-        | Cell::Return => number,
+    if cell.has_memory() {
+        number + 1
+    } else {
+        number
     }
 }
 
@@ -71,7 +58,7 @@ fn sites(
             n % PLACES / ROWS,
         );
         sites.push(site)?;
-        next = after_memory(next, &site.cell);
+        next = after_memory(next, site.cell);
     }
     Ok(sites)
 }

@@ -1,6 +1,8 @@
 //! The geometry of a drawing: how many rungs, rows and columns there are, and where a cell stands in its lines.
 
-ghost use Rattle.std.specs.Prelude.{◌≡◌, ◌+◌, ◌*◌, ◌<◌};
+ghost use Rattle.std.specs.Prelude.{◌≡◌, ◌<◌};
+ghost use Rattle.ladder_page.specs.Geometry.{place};
+ghost use Rattle.ladder_page.specs.AllPlaces.{reading_place};
 
 /// The most rungs of a program.
 pub const RUNGS: usize = 100;
@@ -31,9 +33,9 @@ pub fn place(rung: usize, row: usize, column: usize) -> usize
     requires rungs { rung < RUNGS }
     requires rows { row < ROWS }
     requires columns { column < COLUMNS }
-    ensures { result ≡ PLACES * rung + (ROWS * column + row) }
+    ensures { result ≡ place rung row column }
 {
-    PLACES * rung + ROWS * column + row
+    PLACES * rung + (ROWS * column + row)
 }
 
 /// The number of a place in the order of reading.
@@ -41,7 +43,7 @@ pub fn reading_place(rung: usize, row: usize, column: usize) -> usize
     requires rungs { rung < RUNGS }
     requires rows { row < ROWS }
     requires columns { column < COLUMNS }
-    ensures { result ≡ PLACES * rung + (COLUMNS * row + column) }
+    ensures { result ≡ reading_place rung row column }
 {
-    PLACES * rung + COLUMNS * row + column
+    PLACES * rung + (COLUMNS * row + column)
 }

@@ -4,7 +4,7 @@ ghost use Rattle.std.specs.Prelude.{◌≡◌, ◌≤◌, ◌+◌, ◌-◌, ◌+
 ghost use Rattle.std.specs.List.{slice_split, prefix_len};
 ghost use Rattle.ladder_page.specs.Bytes.{line_feed};
 ghost use Rattle.ladder_vars.specs.Text.{begins};
-ghost use Rattle.ladder_page.specs.Lines.{part_in};
+ghost use Rattle.ladder_page.specs.Lines.{last_gap};
 ghost use Rattle.ladder_page.specs.Bytes.{is_upright};
 ghost use Rattle.ladder_page.specs.ReadLines.{next_inside, shown_byte, blanked_from, unclosed_line, is_settled, shown_run, parts_from, parts_of, IsWithin};
 ghost use Rattle.ladder_page.specs.declared.lines.Inside.TheVariants as inside;
@@ -278,7 +278,7 @@ pub(crate) fn lines_between<'a, 'b>(
 
 /// The line after the last rung.
 pub fn last_gap(parts: &[Part]) -> usize
-    ensures { result ≡ (part_in parts.now (length parts.now - 1)).end }
+    ensures { result ≡ last_gap parts.now }
 {
     match parts {
         [] => 0,

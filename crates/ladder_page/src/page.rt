@@ -1,15 +1,13 @@
 //! What is where on the page that a drawing is read from.
 
-ghost use Rattle.std.specs.Prelude.{◌≡◌, ◌==◌, ◌+◌, ◌-◌, ◌<◌, if◌then◌else◌, map, length, slice_index_or, All, IfOk, None};
+ghost use Rattle.std.specs.Prelude.{◌≡◌, ◌==◌, ◌+◌, ◌-◌, ◌<◌, if◌then◌else◌, map, length, All, IfOk, None};
 ghost use Rattle.ladder_page.specs.declared.geometry.TheConstants.{RUNGS, ROWS, COLUMNS};
 ghost use Rattle.ladder_page.specs.ReadLines.{IsWithin, forms_of};
 ghost use Rattle.ladder_page.specs.Tables.{over_with, overs_of};
 ghost use Rattle.ladder_page.specs.Picture.{has_text};
 ghost use Rattle.ladder_page.specs.Texts.{text_over};
 ghost use Rattle.ladder_page.specs.Lines.{part_in, rung_of};
-ghost use Rattle.ladder_page.specs.Geometry.{place};
-ghost use Rattle.ladder_page.specs.Operand.{word_in, refer_to};
-ghost use Rattle.ladder_page.specs.Page.{rung_at, instance_at};
+ghost use Rattle.ladder_page.specs.Page.{rung_at, form_at, name_over, instance_at};
 ghost use Rattle.ladder_page.specs.Seen.{seen, part_at};
 
 use crate::form::{Form, form_at as form_of};
@@ -96,7 +94,7 @@ pub fn overs(
 pub fn form_at(page: PageView<'_, '_>, rung: usize, row: usize, column: usize) -> Option<Form>
     requires rows { row < ROWS }
     requires columns { column < COLUMNS }
-    ensures { result ≡ slice_index_or page.entry.forms.now (place rung row column) None }
+    ensures { result ≡ form_at (seen page.entry) rung row column }
 {
     if rung > page.forms.len() / PLACES {
         return None;
@@ -141,7 +139,7 @@ pub fn name_over(
     requires few { rung < RUNGS }
     requires rows { row < ROWS }
     requires columns { column < COLUMNS }
-    ensures { result ≡ refer_to page.entry.decls.now (word_in (text_over (rung_at (seen page.entry) rung) row column)) }
+    ensures { result ≡ name_over (seen page.entry) rung row column }
 {
     over_at(page, rung, row, column).name
 }

@@ -1,10 +1,9 @@
 //! The picture of a rung: which character is where.
 
-ghost use Rattle.std.specs.Prelude.{◌≡◌, ◌==◌, ◌+◌, ◌*◌, ◌<◌, ◌↔◌, not, map, IsTrue, slice_index_or, []};
-ghost use Rattle.std.specs.List.{list_any, range_with_len};
-ghost use Rattle.ladder_page.specs.Bytes.{space, bar};
+ghost use Rattle.std.specs.Prelude.{◌≡◌, ◌+◌, ◌*◌, ◌<◌, ◌↔◌, map, IsTrue, slice_index_or, []};
+ghost use Rattle.std.specs.List.{range_with_len};
 ghost use Rattle.ladder_page.specs.declared.geometry.TheConstants.{CELL, PITCH, ROWS, COLUMNS};
-ghost use Rattle.ladder_page.specs.Picture.{line_at, half_line, ch, SameGroup};
+ghost use Rattle.ladder_page.specs.Picture.{half_line, ch, has_text, joint, vertical, SameGroup};
 
 use crate::geometry::{CELL, PITCH};
 
@@ -37,7 +36,7 @@ pub fn line_at<'a>(lines: &[&'a [u8]], line: usize) -> &'a [u8]
 
 /// The character of a line at a place, a space past each end.
 pub fn ch(lines: &[&[u8]], line: usize, place: usize) -> u8
-    ensures { result ≡ slice_index_or (line_at (map (λ l. l.now) lines.now) line) place space }
+    ensures { result ≡ ch (map (λ l. l.now) lines.now) line place }
 {
     if line < lines.len() {
         let text = lines[line];
@@ -53,7 +52,7 @@ pub fn ch(lines: &[&[u8]], line: usize, place: usize) -> u8
 
 /// Whether there is a character that is no space.
 pub fn has_text(chars: &[u8]) -> bool
-    ensures { result ≡ list_any (λ b. not (b == space)) chars.now }
+    ensures { result ≡ has_text chars.now }
 {
     chars.iter().any(|b| *b != b' ')
 }
@@ -83,7 +82,7 @@ pub(crate) fn text_at(lines: &[&[u8]], line: usize, column: usize) -> [u8; CELL]
 pub fn joint(lines: &[&[u8]], row: usize, column: usize) -> u8
     requires rows { row < ROWS }
     requires columns { column < COLUMNS }
-    ensures { result ≡ ch (map (λ l. l.now) lines.now) (2 * row + 1) (PITCH * column) }
+    ensures { result ≡ joint (map (λ l. l.now) lines.now) row column }
 {
     ch(lines, 2 * row + 1, PITCH * column)
 }
@@ -92,7 +91,7 @@ pub fn joint(lines: &[&[u8]], row: usize, column: usize) -> u8
 pub fn vertical(lines: &[&[u8]], row: usize, column: usize) -> bool
     requires rows { row < ROWS }
     requires columns { column < COLUMNS }
-    ensures { result ≡ (ch (map (λ l. l.now) lines.now) (2 * row + 2) (PITCH * column) == bar) }
+    ensures { result ≡ vertical (map (λ l. l.now) lines.now) row column }
 {
     ch(lines, 2 * row + 2, PITCH * column) == b'|'
 }

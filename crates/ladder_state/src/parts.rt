@@ -13,7 +13,7 @@ use crate::row::{read_block, read_memory, read_var};
 use crate::version::Version;
 use csv::ByteRecord;
 use ladder_elements::Stored;
-use ladder_grid::{Cell, Program};
+use ladder_grid::Program;
 use ladder_page::geometry::{PLACES, ROWS};
 use ladder_records::{Records, next};
 use ladder_scan::State;
@@ -68,26 +68,14 @@ fn read_values(
     Ok(())
 }
 
-fn has_memory(cell: Cell) -> bool
-    ensures { result ≡ has_memory cell }
-{
-    match cell {
-        Cell::Contact { memory, .. } | Cell::Coil { memory, .. } => memory.is_some(),
-        Cell::Empty
-        | Cell::Wire
-        | Cell::Block { .. }
-        | Cell::Lower { .. }
-        | Cell::Jump { .. }
-        | Cell::Return => false,
-    }
-}
-
 /// Whether an edge contact or edge coil is at a place. Places go by rung, column and row.
 pub(crate) fn is_memory_place(program: &Program, place: usize) -> bool
     requires { place < PLACES * program.now.rungs }
     ensures { result ≡ has_memory (cell_in program.now place) }
 {
-    has_memory(program.cell(place / PLACES, place % PLACES % ROWS, place % PLACES / ROWS))
+    program
+        .cell(place / PLACES, place % PLACES % ROWS, place % PLACES / ROWS)
+        .has_memory()
 }
 
 /// The value in the next record, where that is one of the memory at the place.
