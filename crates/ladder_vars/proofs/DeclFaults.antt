@@ -1,9 +1,8 @@
 -- Where declarations are not read, the rule of the fault is broken at its place.
-use Rattle.std.proofs.Common.{◌≡◌, ℕ, inl, inr, Bool, true, false, if◌then◌else◌, codes, nat_le, nat_lt, List, [], ◌∷◌, length, map, Option, Some, None, Err, refl, sym, ap, subst, ◌∙◌, arith}
+use Rattle.std.proofs.Common.{◌≡◌, ℕ, inl, inr, Bool, true, false, if◌then◌else◌, codes, nat_le, nat_lt, List, [], ◌∷◌, length, Option, Some, None, Err, refl, sym, ap, subst, ◌∙◌, arith}
 use Rattle.std.specs.List.{list_any}
 use Rattle.std.proofs.lemmas.Bool.{leb-true, ltb-true}
 use Rattle.std.proofs.lemmas.List.{append-nil}
-use Rattle.std.proofs.lemmas.List.Folds.{list_any-append}
 use Rattle.ladder_vars.specs.declared.fault.Fault.{Fault}
 use Rattle.ladder_vars.specs.declared.fault.VarRule.{VarRule}
 use Rattle.ladder_vars.specs.declared.fault.VarRule.TheVariants as rule
@@ -19,7 +18,6 @@ use Rattle.ladder_vars.specs.Grammar.{Decl, IsHead, declared_by}
 use Rattle.ladder_vars.specs.ReadDecls.{name_of, is_taken, refusal, with_decl, refused, added}
 use Rattle.ladder_vars.specs.Rules.{DeclDue, Breaks}
 use Rattle.ladder_times.proofs.Steps.{chosen}
-use Rattle.ladder_vars.proofs.Lists.{list_any-map}
 use Rattle.ladder_vars.proofs.Keeping.{AreFew}
 use Rattle.ladder_vars.proofs.DeclTakes.{ReadsTo}
 use Rattle.ladder_vars.proofs.States.{NeedVar, NeedName, AfterName, Ended, on, next, run, head_runs, none_follows}

@@ -16,10 +16,11 @@ use Rattle.ladder_vars.specs.declared.decls.Body.{Body}
 use Rattle.ladder_vars.specs.declared.decls.Body.TheVariants as body
 use Rattle.ladder_vars.specs.Name.{same_letters}
 use Rattle.ladder_vars.specs.Decls.{Declared, AreKept, AreInRange, find, names_of, addresses_of, same_address}
+use Rattle.ladder_vars.specs.Titles.{titles_of}
 use Rattle.ladder_vars.specs.Kind.{traits_of, largest_preset}
 use Rattle.ladder_vars.specs.ReadDecls.{nothing, is_taken, refusal, with_var, with_instance, with_decl, PresetFits}
 use Rattle.ladder_times.proofs.Steps.{chosen}
-use Rattle.ladder_vars.proofs.Lists.{list_any-map, IsDistinct-put_between}
+use Rattle.ladder_vars.proofs.Lists.{or_swap, list_any-or, list_any-map, IsDistinct-put_between}
 
 pub AreInRange-nothing : AreInRange nothing
 unfolding IsDistinct
@@ -74,6 +75,26 @@ pub names-any : (d : Declared) (name : List ℕ) → list_any (same_letters name
 names-any d name =
     list_any-append (same_letters name) (map (λ v. v.name) d.vars) (map (λ i. i.name) d.instances)
     ∙ rw (list_any-map (same_letters name) (λ v. v.name) d.vars, list_any-map (same_letters name) (λ i. i.name) d.instances) refl
+
+pub titles-any : (d : Declared) (word : List ℕ) → list_any (same_letters word) (titles_of d)
+    ≡ (list_any (λ v. same_letters word v.title) d.vars || list_any (λ i. same_letters word i.title) d.instances)
+titles-any d word =
+    list_any-append (same_letters word) (map (λ v. v.title) d.vars) (map (λ i. i.title) d.instances)
+    ∙ rw (list_any-map (same_letters word) (λ v. v.title) d.vars, list_any-map (same_letters word) (λ i. i.title) d.instances) refl
+
+-- by each declaration, or by all names and all titles
+pub is_either : (d : Declared) (word : List ℕ)
+    → (list_any (λ v. same_letters word v.name || same_letters word v.title) d.vars || list_any (λ i. same_letters word i.name || same_letters word i.title) d.instances)
+    ≡ (list_any (same_letters word) (names_of d) || list_any (same_letters word) (titles_of d))
+is_either d word =
+    rw (
+      names-any d word,
+      titles-any d word,
+      list_any-or (λ v. same_letters word v.name) (λ v. same_letters word v.title) d.vars,
+      list_any-or (λ i. same_letters word i.name) (λ i. same_letters word i.title) d.instances,
+    ) (or_swap
+    (list_any (λ v. same_letters word v.name) d.vars) (list_any (λ v. same_letters word v.title) d.vars)
+    (list_any (λ i. same_letters word i.name) d.instances) (list_any (λ i. same_letters word i.title) d.instances))
 
 either_found : {A B C : Type 0} (f : A → C) (g : B → C) (o : Option A) (p : Option B) → is_some (option_or (option_map f o) (option_map g p)) ≡ (is_some o || is_some p)
 either_found f g None None = refl

@@ -4,7 +4,7 @@ use Rattle.std.specs.List.{All, AllByRecursion, IsDistinct, list_any}
 use Rattle.std.proofs.lemmas.Bool.{cases_lt, or_left, or_right, or_cases, true≢false}
 use Rattle.std.proofs.lemmas.List.{map-set, length-set, length-map, length-append, length-drop, length-take, get_or-map, get_or_append_left, get_or_at, get_or-take, get_or-drop, get_or-set_same, take-set-le, drop-set-lt, set-append_left, set-get_or, take_all}
 use Rattle.std.proofs.lemmas.List.Elements.{All-nil, All-more, All-same}
-use Rattle.std.proofs.lemmas.List.Folds.{Any-from_list_any, list_any-append, list_any_at}
+use Rattle.std.proofs.lemmas.List.Folds.{Any-from_list_any, list_any_at}
 use Rattle.std.proofs.lemmas.Map.Keys.{IsDistinct-head, IsDistinct-tail, IsDistinct-cons}
 use Rattle.std.proofs.lemmas.Option.{slice_get-get_or}
 use Rattle.ladder_vars.specs.declared.decls.VarKind.{VarKind}
@@ -26,10 +26,10 @@ use Rattle.ladder_vars.specs.ReadDecls.{expect, with_decl, refusal, all_of, decl
 use Rattle.ladder_times.proofs.Steps.{chosen}
 use Rattle.ladder_vars.specs.Kind.{traits_of}
 use Rattle.ladder_vars.specs.Titles.{plain_var, plain_instance, plain, HasTitle, titles_of, AreTitled, IsTaken, HasTakenAlias, Declares}
-use Rattle.ladder_vars.specs.TakeTitles.{IsNext, IsLast, IsWithin, Retitles, IsPast, is_called}
+use Rattle.ladder_vars.specs.TakeTitles.{IsNext, IsLast, IsWithin, Retitles, IsPast}
 use Rattle.ladder_vars.proofs.Steps.{or_false, bind_ok}
-use Rattle.ladder_vars.proofs.Lists.{list_any-map, none_passes}
-use Rattle.ladder_vars.proofs.Keeping.{same_letters-flips, names-any}
+use Rattle.ladder_vars.proofs.Lists.{none_passes}
+use Rattle.ladder_vars.proofs.Keeping.{same_letters-flips, names-any, titles-any}
 use Rattle.ladder_vars.proofs.TextTakes.{token_takes, AreTokens-append}
 use Rattle.ladder_vars.proofs.GrammarTakes.{TakesBody, body_takes, expect_takes}
 use Rattle.ladder_vars.proofs.DeclReads.{all_reads}
@@ -83,25 +83,6 @@ head_of : {X : Type 0} (P : X → Type 0) (xs : List X) (n : ℕ) (d : X) → n 
 head_of P xs n d lt h =
     let is : get_or (drop n xs) 0 d ≡ get_or xs n d = get_or-drop n xs 0 d ∙ ap (λ i. get_or xs i d) (omega arith) in
     subst P is (h 0 d (omega (arith, lt, length-drop n xs)))
-
--- ---- what is called so
-
-either_none : {X : Type 0} (p q : X → Bool) (xs : List X) → list_any (λ x. p x || q x) xs ≡ false → (list_any p xs ≡ false) × (list_any q xs ≡ false)
-either_none p q [] h = (refl, refl)
-either_none p q (x ∷ xs) h =
-    let first = or_false (p x || q x) (list_any (λ y. p y || q y) xs) h in
-    let here = or_false (p x) (q x) first.0 in
-    let others = either_none p q xs first.1 in
-    (rw (here.0, others.0) refl, rw (here.1, others.1) refl)
-
-titles_none : (d : Declared) (word : List ℕ) → is_called d word ≡ false → list_any (same_letters word) (titles_of d) ≡ false
-titles_none d word h =
-    let both = or_false (list_any (λ v. same_letters word v.name || same_letters word v.title) d.vars)
-    (list_any (λ i. same_letters word i.name || same_letters word i.title) d.instances) h in
-    let vars = (either_none (λ v. same_letters word v.name) (λ v. same_letters word v.title) d.vars both.0).1 in
-    let instances = (either_none (λ i. same_letters word i.name) (λ i. same_letters word i.title) d.instances both.1).1 in
-    list_any-append (same_letters word) (map (λ v. v.title) d.vars) (map (λ i. i.title) d.instances)
-    ∙ rw (list_any-map (same_letters word) (λ v. v.title) d.vars, list_any-map (same_letters word) (λ i. i.title) d.instances, vars, instances) refl
 
 -- ---- so far
 
@@ -285,11 +266,11 @@ step_instance text whole now rest vars instances t name behind kind preset after
 
 -- ---- one declaration more, with its alias or without
 
-pub titled_apart : (now : Declared) (alias : List ℕ) → is_called now alias ≡ false → IsDistinct same_letters (titles_of now)
+pub titled_apart : (now : Declared) (alias : List ℕ) → (list_any (same_letters alias) (names_of now) || list_any (same_letters alias) (titles_of now)) ≡ false → IsDistinct same_letters (titles_of now)
     → ((n : ℕ) (w : Var) → n < length now.vars → w.title ≡ alias → IsDistinct same_letters (titles_of (record now { vars = slice_set now.vars n w })))
     × ((n : ℕ) (w : Instance) → w.title ≡ alias → IsDistinct same_letters (titles_of (record now { instances = slice_set now.instances n w })))
 titled_apart now alias free apart =
-    let none : list_any (same_letters alias) (titles_of now) ≡ false = titles_none now alias free in
+    let none : list_any (same_letters alias) (titles_of now) ≡ false = (or_false _ _ free).1 in
     let vars : List (List ℕ) = map (λ v. v.title) now.vars in
     let instances : List (List ℕ) = map (λ i. i.title) now.instances in (
       λ n w room is.
@@ -314,7 +295,7 @@ within text whole now rest vars instances t name behind (body.Instance kind pres
 
 -- with an alias that nothing is called by
 pub with_alias : (text : List ℕ) (whole now then : Declared) (rest : List ℕ) (before past : Passed) (t : Takes text whole now rest before.vars before.instances)
-    (name behind alias : List ℕ) (b : Body) (after : List ℕ) → IsNext rest name behind b after → alias_of name behind ≡ Some alias → is_called now alias ≡ false
+    (name behind alias : List ℕ) (b : Body) (after : List ℕ) → IsNext rest name behind b after → alias_of name behind ≡ Some alias → (list_any (same_letters alias) (names_of now) || list_any (same_letters alias) (titles_of now)) ≡ false
     → Retitles before.vars before.instances b alias now then → IsPast before b past → Takes text whole then after past.vars past.instances
 with_alias text whole now then rest before past t name behind alias (body.Var kind address initial) after next is free sets passed =
     let b : Body = body.Var kind address initial in
@@ -554,24 +535,19 @@ instance_taken text whole now rest vars instances t name alias new k v lt here i
     ]
 
 pub taken : (text : List ℕ) (whole now : Declared) (rest : List ℕ) (vars instances : ℕ) (t : Takes text whole now rest vars instances) (name behind alias : List ℕ)
-    (b : Body) (after : List ℕ) → IsNext rest name behind b after → alias_of name behind ≡ Some alias → is_called now alias ≡ true
+    (b : Body) (after : List ℕ) → IsNext rest name behind b after → alias_of name behind ≡ Some alias → (list_any (same_letters alias) (names_of now) || list_any (same_letters alias) (titles_of now)) ≡ true
     → HasTakenAlias text whole (line_of text (length behind))
 taken text whole now rest vars instances t name behind alias b after next is called =
     let c = comes text whole now rest vars instances t name behind b after next in
-    let either : IsTaken text whole name alias = elim (or_cases (list_any (λ v. same_letters alias v.name || same_letters alias v.title) now.vars) _ called) [
-      | inl var ↦
-          let found = Any-from_list_any (λ (v : Var). same_letters alias v.name || same_letters alias v.title) now.vars var in
-          elim (or_cases (same_letters alias found.1.name) (same_letters alias found.1.title) found.4) [
-            | inl name_ ↦ name_taken text whole now name alias t.same (names-any now alias ∙ or_left _ _ (list_any_at (λ x. same_letters alias x.name) now.vars found.0 found.1 found.2
-                (ap (λ (x : Var). same_letters alias x.name) found.3 ∙ name_)))
-            | inr title ↦ var_taken text whole now rest vars instances t name alias c.new found.0 found.1 found.2 found.3 title
-          ]
-      | inr instance ↦
-          let found = Any-from_list_any (λ (i : Instance). same_letters alias i.name || same_letters alias i.title) now.instances instance in
-          elim (or_cases (same_letters alias found.1.name) (same_letters alias found.1.title) found.4) [
-            | inl name_ ↦ name_taken text whole now name alias t.same (names-any now alias ∙ or_right _ _ (list_any_at (λ x. same_letters alias x.name) now.instances found.0 found.1 found.2
-                (ap (λ (x : Instance). same_letters alias x.name) found.3 ∙ name_)))
-            | inr title ↦ instance_taken text whole now rest vars instances t name alias c.new found.0 found.1 found.2 found.3 title
-          ]
+    let either : IsTaken text whole name alias = elim (or_cases (list_any (same_letters alias) (names_of now)) _ called) [
+      | inl declared ↦ name_taken text whole now name alias t.same declared
+      | inr title ↦ elim (or_cases (list_any (λ v. same_letters alias v.title) now.vars) _ (sym (titles-any now alias) ∙ title)) [
+        | inl var ↦
+            let found = Any-from_list_any (λ (v : Var). same_letters alias v.title) now.vars var in
+            var_taken text whole now rest vars instances t name alias c.new found.0 found.1 found.2 found.3 found.4
+        | inr instance ↦
+            let found = Any-from_list_any (λ (i : Instance). same_letters alias i.title) now.instances instance in
+            instance_taken text whole now rest vars instances t name alias c.new found.0 found.1 found.2 found.3 found.4
+      ]
     ] in
     (t.ds, b, name, behind, alias, c.due, is, either, refl)

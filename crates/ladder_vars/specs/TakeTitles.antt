@@ -1,6 +1,5 @@
 -- Private to the proofs: the declarations of a text passed once more, as the code passes them.
-use Rattle.std.specs.Prelude.{◌≡◌, ℕ, ◌+◌, ◌<◌, ◌||◌, false, Bool, List, length, codes, slice_get, slice_set, Some, Ok}
-use Rattle.std.specs.List.{list_any}
+use Rattle.std.specs.Prelude.{◌≡◌, ℕ, ◌+◌, ◌<◌, false, List, length, codes, slice_get, slice_set, Some, Ok}
 use Rattle.ladder_vars.specs.declared.decls.Var.{Var}
 use Rattle.ladder_vars.specs.declared.decls.Instance.{Instance}
 use Rattle.ladder_vars.specs.declared.decls.Body.{Body}
@@ -19,12 +18,6 @@ IsNext text name behind b rest =
 -- where reading these declarations goes on to a whole here, it is whole already
 abbrev pub IsLast : List ℕ → Type 0
 IsLast text = (n : ℕ) (read all : Declared) (rest : List ℕ) → decls_from n read text ≡ Ok (all, rest) → all ≡ read
-
--- what a declaration is called, by its name or by its title
-abbrev pub is_called : Declared → List ℕ → Bool
-is_called d word =
-    list_any (λ v. same_letters word v.name || same_letters word v.title) d.vars
-    || list_any (λ i. same_letters word i.name || same_letters word i.title) d.instances
 
 -- the same declarations, but for the title of this variable
 abbrev pub SetsVar : ℕ → List ℕ → Declared → Declared → Type 0

@@ -4,7 +4,8 @@ ghost use Rattle.std.specs.Prelude.{◌≡◌, ◌≤◌, ◌<◌, ◌||◌, len
 ghost use Rattle.std.specs.List.{list_any, prefix_len};
 ghost use Rattle.ladder_vars.specs.Name.{same_letters};
 ghost use Rattle.ladder_vars.specs.Decls.{is_input, names_of, addresses_of, same_address, find, instance_name, output_suffix, symbol_name, var_name, AreInRange};
-ghost use Rattle.ladder_vars.specs.TakeTitles.{is_called, SetsVar, SetsInstance};
+ghost use Rattle.ladder_vars.specs.Titles.{titles_of};
+ghost use Rattle.ladder_vars.specs.TakeTitles.{SetsVar, SetsInstance};
 ghost use Rattle.ladder_vars.specs.ReadDecls.{refusal, nothing, added, with_var, with_instance, with_decl, GivesInMemory, PresetFits};
 
 use crate::fault::{Fault, ReadFault, VarRule};
@@ -352,8 +353,9 @@ impl Decls {
     }
 
     /// Whether a declaration has the name or the title, whatever the case of its letters.
+    #[tactic(auto, using(crate::proofs::Keeping::is_either))]
     pub(crate) fn is_called(&self, word: &[u8]) -> bool
-        ensures { result ≡ is_called self.now word.now }
+        ensures { result ≡ (list_any (same_letters word.now) (names_of self.now) || list_any (same_letters word.now) (titles_of self.now)) }
     {
         is_var_called(&self.vars, word) || is_instance_called(&self.instances, word)
     }

@@ -1,6 +1,9 @@
-use Rattle.std.proofs.Common.{◌≡◌, true, false, Some, None, sym, ap, ◌∙◌, arith}
+use Rattle.std.proofs.Common.{◌≡◌, ◌||◌, true, false, Some, None, sym, ap, ◌∙◌, arith}
 use Rattle.ladder_titles.specs.Title.{alias_of}
-use Rattle.ladder_vars.specs.TakeTitles.{is_called}
+use Rattle.std.specs.List.{list_any}
+use Rattle.ladder_vars.specs.Name.{same_letters}
+use Rattle.ladder_vars.specs.Decls.{names_of}
+use Rattle.ladder_vars.specs.Titles.{titles_of}
 use Rattle.ladder_vars.proofs.Titling.{begins, starts, ends, few, taken, within, with_alias, without_alias}
 use Rattle.ladder_vars.proofs.titles.take_aliases.Goals as goal
 use Rattle.ladder_vars.proofs.titles.take_aliases.Goals.{in-Some-alias_of+else-is_called, in_default-alias_of}
@@ -12,8 +15,8 @@ pub returns-then-is_called-clause-taken : goal.returns-then-is_called-clause-tak
 returns-then-is_called-clause-taken c =
     let r = c.in-Some.reading in
     let alias : alias_of r.name.now r.behind.now ≡ Some c.in-Some-alias_of.alias = sym c.alias_of.ensures ∙ c.in-Some-alias_of.is in
-    let called : is_called c.loop-reading.decls c.in-Some-alias_of.alias ≡ true
-    = ap (is_called c.loop-reading.decls) (sym c.bytes.ensures.spelling) ∙ sym c.is_called.ensures ∙ c.if-is_called.true in
+    let called : (list_any (same_letters c.in-Some-alias_of.alias) (names_of c.loop-reading.decls) || list_any (same_letters c.in-Some-alias_of.alias) (titles_of c.loop-reading.decls)) ≡ true
+    = ap (λ w. list_any (same_letters w) (names_of c.loop-reading.decls) || list_any (same_letters w) (titles_of c.loop-reading.decls)) (sym c.bytes.ensures.spelling) ∙ sym c.is_called.ensures ∙ c.if-is_called.true in
     rw c.line_of-line.ensures (taken _ _ _ _ _ _ c.loop-reading.invariant r.name.now r.behind.now c.in-Some-alias_of.alias r.body r.rest.now c.in-Some.ensures.some alias called)
 
 pub give-requires : goal.give-requires
@@ -32,8 +35,8 @@ loop-reading-preserved c =
     elim c.match-alias_of.branch [
       | in-Some-alias_of+else-is_called w ↦
           let alias : alias_of r.name.now r.behind.now ≡ Some w.in-Some-alias_of.alias = sym c.alias_of.ensures ∙ w.in-Some-alias_of.is in
-          let free : is_called c.loop-reading.decls w.in-Some-alias_of.alias ≡ false
-          = ap (is_called c.loop-reading.decls) (sym w.bytes.ensures.spelling) ∙ sym w.is_called.ensures ∙ w.if-is_called.false in
+          let free : (list_any (same_letters w.in-Some-alias_of.alias) (names_of c.loop-reading.decls) || list_any (same_letters w.in-Some-alias_of.alias) (titles_of c.loop-reading.decls)) ≡ false
+          = ap (λ x. list_any (same_letters x) (names_of c.loop-reading.decls) || list_any (same_letters x) (titles_of c.loop-reading.decls)) (sym w.bytes.ensures.spelling) ∙ sym w.is_called.ensures ∙ w.if-is_called.false in
           rw w.decls-is (with_alias _ _ _ _ _ c.loop-reading.passed c.past-passed.result c.loop-reading.invariant r.name.now r.behind.now w.in-Some-alias_of.alias r.body
           r.rest.now c.in-Some.ensures.some alias free w.give.ensures c.past-passed.ensures)
       | in_default-alias_of w ↦
