@@ -4,29 +4,18 @@ ghost use Rattle.std.specs.Prelude.{◌≡◌, ◌≤◌, ◌⊎◌};
 ghost use Rattle.ladder_scan.specs.Standing.{Fits};
 ghost use Rattle.ladder_text.specs.Log.{WriteLog};
 ghost use Rattle.ladder_setting.specs.Reports.{Refuses, logs};
-ghost use Rattle.ladder_views.specs.Views.{BreaksFilm, HasFilmFault, IsFilmed, frame_for};
+ghost use Rattle.ladder_views.specs.Views.{BreaksFilm, HasFilmFault, IsFilmed};
 ghost use Rattle.ladder_setting.specs.Setting.{IsSet, given_by};
 
-use crate::showing::coil_refusal;
+use crate::showing::{coil_refusal, styles_of};
 use crate::tracing::stimulus;
 use ladder_grid::Program;
 use ladder_scan::State;
 use ladder_setting::{Texts, ToolFault, read_setting, report, shown_variables};
-use ladder_show::Style;
 use ladder_text::Sink;
 use ladder_trace::{Film, write_film};
-use ladder_words::{FilmRequest, Medium};
+use ladder_words::FilmRequest;
 use std::alloc::Global;
-
-/// The style of each drawing of a film.
-fn frame_for(medium: Medium) -> Style
-    ensures { result ≡ frame_for medium }
-{
-    match medium {
-        Medium::Text => Style::MarkedFrame,
-        Medium::Page => Style::PageFrame,
-    }
-}
 
 /// Shows one scan for each record of the stimulus, the first one in a state.
 fn film_from<O: Sink, E: Sink>(
@@ -55,7 +44,7 @@ fn film_from<O: Sink, E: Sink>(
         None => (),
     }
     let film = Film {
-        style: frame_for(request.medium),
+        style: styles_of(request.medium).frame,
         text: &texts.program,
         coil: asked.coil,
     };

@@ -4,7 +4,7 @@ ghost use Rattle.std.specs.Prelude.{◌≡◌, ◌≤◌, ◌⊎◌};
 ghost use Rattle.ladder_scan.specs.Standing.{Fits};
 ghost use Rattle.ladder_text.specs.Log.{PutsAll, PutsPrefix, WriteLog};
 ghost use Rattle.ladder_setting.specs.Reports.{IsReported, Refuses, logs};
-ghost use Rattle.ladder_views.specs.Views.{HasShowFault, Shows, coil_refusal, style_for};
+ghost use Rattle.ladder_views.specs.Views.{HasShowFault, Shows, coil_refusal, frame_for, style_for};
 ghost use Rattle.ladder_setting.specs.Setting.{IsSet, given_by};
 
 use ladder_grid::Program;
@@ -16,13 +16,25 @@ use ladder_text::Sink;
 use ladder_words::{Medium, ShowRequest};
 use std::alloc::Global;
 
-/// The style of a drawing.
-fn style_for(medium: Medium) -> Style
-    ensures { result ≡ style_for medium }
+/// The style that a medium has for a drawing, and for each drawing of a film.
+pub(crate) struct Styles {
+    pub drawing: Style,
+    pub frame: Style,
+}
+
+pub(crate) fn styles_of(medium: Medium) -> Styles
+    ensures drawing { result.drawing ≡ style_for medium }
+    ensures frame { result.frame ≡ frame_for medium }
 {
     match medium {
-        Medium::Text => Style::Marked,
-        Medium::Page => Style::Page,
+        Medium::Text => Styles {
+            drawing: Style::Marked,
+            frame: Style::MarkedFrame,
+        },
+        Medium::Page => Styles {
+            drawing: Style::Page,
+            frame: Style::PageFrame,
+        },
     }
 }
 
@@ -87,7 +99,7 @@ fn show_from<O: Sink, E: Sink>(
         moment: now,
         coil: asked.coil,
     };
-    match write_drawing(alloc, style_for(request.medium), scan, state, out) {
+    match write_drawing(alloc, styles_of(request.medium).drawing, scan, state, out) {
         Ok(()) => 0,
         Err(ShowFault::Memory) => report(texts, &ToolFault::Memory, err),
         Err(ShowFault::Write) => report(texts, &ToolFault::Write, err),

@@ -1,5 +1,6 @@
 use Rattle.std.proofs.Common.{◌≡◌, ◌↔◌, ℕ, List, arith, false, true, IsTrue, refl}
 use Rattle.std.proofs.lemmas.List.{get_or-replicate}
+use Rattle.ladder_page.specs.declared.geometry.TheConstants.{ROWS}
 use Rattle.ladder_clp.specs.declared.element.Element.{Element}
 use Rattle.ladder_clp.specs.declared.reading.Reading.{Reading}
 use Rattle.ladder_sheet.specs.Sheets.{Reached}
@@ -10,4 +11,4 @@ unfolding Reached
 at_first reading es row = (λ h. tt, λ h. refl)
 
 pub loop-column-init : goal.loop-column-init
-loop-column-init c = (λ k none row h. let e : k ≡ 0 = omega (arith, none) in rw (e, get_or-replicate 6 row true false h) (at_first c.args.reading c.args.elements.now row), refl)
+loop-column-init c = (λ k none row h. let e : k ≡ 0 = omega (arith, none) in rw (e, get_or-replicate ROWS row true false h) (at_first c.args.reading c.args.elements.now row), refl)

@@ -50,8 +50,8 @@ returns-in-Ok-write_film-clause-done g c = λ status. (
       set = c.requires.set;
       explained = rw c.decls.ensures at c.in-Ok.ensures.coil;
       accepted = sym c.coil_refusal.ensures ∙ c.in-None.is;
-      film = record { style = c.frame_for.result; text = c.deref.result; coil = c.in-Ok.asked.coil };
-      is = record { drawn = c.frame_for.ensures; described = c.deref.ensures.value; explained = refl };
+      film = record { style = c.styles_of.result.frame; text = c.deref.result; coil = c.in-Ok.asked.coil };
+      is = record { drawn = c.styles_of.ensures.frame; described = c.deref.ensures.value; explained = refl };
       shown = same_film _ c.args.program.now c.args.state.now c.write_film.new.state _ _ (g.O.Sink.log c.args.out.now) (g.O.Sink.log c.write_film.new.writer) (Ok c.in-Ok-write_film.field-0) c.stimulus.ensures
           c.in-Ok-write_film.ensures.ends;
     },
@@ -70,8 +70,8 @@ returns-clause-failed g c = λ save status. inr (
     set = c.requires.set;
     explained = rw c.decls.ensures at c.in-Ok.ensures.coil;
     accepted = sym c.coil_refusal.ensures ∙ c.in-None.is;
-    film = record { style = c.frame_for.result; text = c.deref.result; coil = c.in-Ok.asked.coil };
-    is = record { drawn = c.frame_for.ensures; described = c.deref.ensures.value; explained = refl };
+    film = record { style = c.styles_of.result.frame; text = c.deref.result; coil = c.in-Ok.asked.coil };
+    is = record { drawn = c.styles_of.ensures.frame; described = c.deref.ensures.value; explained = refl };
     shown = same_film _ c.args.program.now c.args.state.now c.write_film.new.state _ _ (g.O.Sink.log c.args.out.now) (g.O.Sink.log c.write_film.new.writer) (Err c.in-Err-write_film.fault) c.stimulus.ensures
         c.in-Err-write_film.ensures.ends;
   },

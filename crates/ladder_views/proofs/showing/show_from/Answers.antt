@@ -75,8 +75,8 @@ returns-clause-failed g c = λ save status.
         accepted = same ∙ c.in-Ok-assignment.ensures.accepted;
         shown = part.text;
         is = same_drawing (given_by c.args.texts.now) v c.args.program.now c.args.state.now c.moment-now.result c.unwrap_or-number.result coil listed c.deref-2.result.now c.deref-3.result.now
-            c.in-Ok-assignment.inputs.items c.deref-4.result.now c.style_for.result part.text given at c.unwrap_or-number.ensures c.deref-3.ensures.value
-            c.deref-4.ensures.value c.in-Ok-assignment.ensures.inputs c.style_for.ensures part.is;
+            c.in-Ok-assignment.inputs.items c.deref-4.result.now c.styles_of.result.drawing part.text given at c.unwrap_or-number.ensures c.deref-3.ensures.value
+            c.deref-4.ensures.value c.in-Ok-assignment.ensures.inputs c.styles_of.ensures.drawing part.is;
         written = part.wrote;
       },
       c.report-in-Err-Write.ensures.line,
