@@ -11,7 +11,6 @@ use Rattle.std.proofs.lemmas.Slice.Eq.{bytes_eq-Decides}
 use Rattle.std.specs.Option.{option_or}
 use Rattle.ladder_vars.specs.Name.{is_name, is_name_byte, has_name_form}
 use Rattle.ladder_vars.specs.Text.{begins_with}
-use Rattle.ladder_page.specs.Bytes.{dash, space}
 use Rattle.ladder_page.specs.declared.form.Form.{Form}
 use Rattle.ladder_page.specs.declared.form.Form.TheVariants.{Jump, Return}
 use Rattle.ladder_page.specs.Form.{whole_cells, symbols, is_label_name, HasMark, HasForm, IsFormOf}
@@ -34,63 +33,13 @@ contains_of [] chars form h = absurd h
 contains_of (e ∷ es) chars form (inl (c, f)) = (0, omega arith, rw (c, f) refl)
 contains_of (e ∷ es) chars form (inr h) = let r = contains_of es chars form h in (suc r.0, omega (arith, r.1), r.2)
 
--- ---- the two sorts of marks
-
--- One or more dashes, a symbol, then only dashes or only spaces, or nothing.
-record HasSymbol (chars : List ℕ) (form : Form) : Type 0 where
-  before : ℕ
-  after : ℕ
-  filler : ℕ
-  symbol : List ℕ
-  some_dashes : 1 ≤ before
-  dashes_or_spaces : (filler ≡ dash) ⊎ (filler ≡ space)
-  listed : Lists symbols symbol form
-  spelled : chars ≡ replicate before dash ++ (symbol ++ replicate after filler)
+-- ---- marks
 
 -- what leaves the rung: `<RETURN>`, or `>>` and a label
 abbrev IsLeap : List ℕ → Form → Type 0
 IsLeap mark form =
     ((mark ≡ codes "<RETURN>") × (form ≡ Return))
     ⊎ ((label : List ℕ) × (mark ≡ codes ">>" ++ label) × (is_label_name label ≡ true) × (form ≡ Jump label))
-
--- One or more dashes, such a mark, then only spaces, or nothing.
-record HasLeap (chars : List ℕ) (form : Form) : Type 0 where
-  before : ℕ
-  after : ℕ
-  mark : List ℕ
-  some_dashes : 1 ≤ before
-  leaps : IsLeap mark form
-  spelled : chars ≡ replicate before dash ++ (mark ++ replicate after space)
-
-symbol_marks : (text : List ℕ) (s : Form) → HasSymbol text s → HasMark text s
-symbol_marks text s h = (h.before, h.after, h.filler, h.symbol, h.some_dashes, h.spelled, inl (contains_of symbols h.symbol s h.listed, h.dashes_or_spaces))
-
-leap_marks : (text : List ℕ) (s : Form) → HasLeap text s → HasMark text s
-leap_marks text s h = (h.before, h.after, space, h.mark, h.some_dashes, h.spelled, inr (refl, h.leaps))
-
-marks_either : (text : List ℕ) (s : Form) → HasSymbol text s ⊎ HasLeap text s → HasMark text s
-marks_either text s (inl h) = symbol_marks text s h
-marks_either text s (inr h) = leap_marks text s h
-
-either_mark : (text : List ℕ) (s : Form) → HasMark text s → HasSymbol text s ⊎ HasLeap text s
-either_mark text s (before, after, filler, mark, some, spelled, inl (listed, fills)) = inl (record {
-  before = before;
-  after = after;
-  filler = filler;
-  symbol = mark;
-  some_dashes = some;
-  dashes_or_spaces = fills;
-  listed = lists_of symbols mark s listed;
-  spelled = spelled;
-})
-either_mark text s (before, after, filler, mark, some, spelled, inr (fills, leaps)) = inr (record {
-  before = before;
-  after = after;
-  mark = mark;
-  some_dashes = some;
-  leaps = leaps;
-  spelled = rw fills at spelled;
-})
 
 -- what holds of each entry holds of what the table has
 of_each : (P : List ℕ → Form → Type 0) (t : Table) (text : List ℕ) (s : Form) → AllByRecursion (λ e. P e.0 e.1) t → Lists t text s → P text s
@@ -215,18 +164,12 @@ jump_found label after named =
 return_found : (after : ℕ) → mark_at (codes "<RETURN>" ++ replicate after 32) ≡ Some Return
 return_found after = rw (list_all-replicate after 32) refl
 
-leap_found : (text : List ℕ) (s : Form) → HasLeap text s → marked_at text ≡ Some s
-leap_found text s h =
-    elim h.leaps [
-      | inl ret ↦
-          let spelled : text ≡ replicate h.before 45 ++ (codes "<RETURN>" ++ replicate h.after 32) = rw ret.0 at h.spelled in
-          behind_them text (codes "<RETURN>" ++ replicate h.after 32) h.before 60 _ refl refl h.some_dashes spelled
-          ∙ return_found h.after ∙ ap (λ x. Some x) (sym ret.1)
-      | inr to ↦
-          let spelled : text ≡ replicate h.before 45 ++ (62 ∷ 62 ∷ (to.0 ++ replicate h.after 32)) = rw to.1 at h.spelled in
-          behind_them text (62 ∷ 62 ∷ (to.0 ++ replicate h.after 32)) h.before 62 _ refl refl h.some_dashes spelled
-          ∙ jump_found to.0 h.after to.2 ∙ ap (λ x. Some x) (sym to.3)
-    ]
+leap_found : (text : List ℕ) (s : Form) (before after : ℕ) (mark : List ℕ) → 1 ≤ before → text ≡ replicate before 45 ++ (mark ++ replicate after 32) → IsLeap mark s
+    → marked_at text ≡ Some s
+leap_found text s before after mark some spelled (inl ret) =
+    behind_them text (codes "<RETURN>" ++ replicate after 32) before 60 _ refl refl some (rw ret.0 at spelled) ∙ return_found after ∙ ap (λ x. Some x) (sym ret.1)
+leap_found text s before after mark some spelled (inr to) =
+    behind_them text (62 ∷ 62 ∷ (to.0 ++ replicate after 32)) before 62 _ refl refl some (rw to.1 at spelled) ∙ jump_found to.0 after to.2 ∙ ap (λ x. Some x) (sym to.3)
 
 replicate_from_all : (b : ℕ) (xs : List ℕ) → list_all (λ x. x == b) xs ≡ true → xs ≡ replicate (length xs) b
 replicate_from_all b [] h = refl
@@ -255,34 +198,19 @@ symbol_parts (a ∷ b ∷ c ∷ tail) s h =
     ] refl h
 
 -- what the dashes leave is a symbol with its filler
-has_symbol : (text rest : List ℕ) (s : Form) (before : ℕ) → 1 ≤ before → text ≡ replicate before 45 ++ rest → symbol_at rest ≡ Some s → HasSymbol text s
+has_symbol : (text rest : List ℕ) (s : Form) (before : ℕ) → 1 ≤ before → text ≡ replicate before 45 ++ rest → symbol_at rest ≡ Some s → HasMark text s
 has_symbol text rest s before some taken known =
     let parts = symbol_parts rest s known in
     let end = tail_filler parts.1 parts.3 in
-    record {
-      before = before;
-      after = length parts.1;
-      filler = end.0;
-      symbol = parts.0;
-      some_dashes = some;
-      dashes_or_spaces = end.1;
-      listed = lookup_lists symbols parts.0 s parts.4;
-      spelled = taken ∙ ap (λ z. replicate before 45 ++ z) (parts.2 ∙ ap (λ z. parts.0 ++ z) end.2);
-    }
+    let spelled = taken ∙ ap (λ z. replicate before 45 ++ z) (parts.2 ∙ ap (λ z. parts.0 ++ z) end.2) in
+    (before, length parts.1, end.0, parts.0, some, spelled, inl (contains_of symbols parts.0 s (lookup_lists symbols parts.0 s parts.4), end.1))
 
 Leap : List ℕ → Form → Type 0
 Leap rest s = (mark : List ℕ) × (after : ℕ) × (rest ≡ mark ++ replicate after 32) × IsLeap mark s
 
-has_leap : (text rest : List ℕ) (s : Form) (before : ℕ) → 1 ≤ before → text ≡ replicate before 45 ++ rest → Leap rest s → HasLeap text s
+has_leap : (text rest : List ℕ) (s : Form) (before : ℕ) → 1 ≤ before → text ≡ replicate before 45 ++ rest → Leap rest s → HasMark text s
 unfolding Leap
-has_leap text rest s before some taken l = record {
-  before = before;
-  after = l.1;
-  mark = l.0;
-  some_dashes = some;
-  leaps = l.3;
-  spelled = taken ∙ ap (λ z. replicate before 45 ++ z) l.2;
-}
+has_leap text rest s before some taken l = (before, l.1, 32, l.0, some, taken ∙ ap (λ z. replicate before 45 ++ z) l.2, inr (refl, l.3))
 
 jump_known : (text : List ℕ) (s : Form) → jump_to text ≡ Some s → Leap (62 ∷ 62 ∷ text) s
 unfolding Leap label_at behind_label
@@ -329,15 +257,15 @@ return_known text s h =
           (codes "<RETURN>", length (drop 8 text), whole, inl (refl, cc))
     ] refl h
 
-mark_known : (text rest : List ℕ) (s : Form) (before : ℕ) → 1 ≤ before → text ≡ replicate before 45 ++ rest → mark_at rest ≡ Some s → HasSymbol text s ⊎ HasLeap text s
+mark_known : (text rest : List ℕ) (s : Form) (before : ℕ) → 1 ≤ before → text ≡ replicate before 45 ++ rest → mark_at rest ≡ Some s → HasMark text s
 mark_known text rest s before some taken h =
     elim (begins_with 62 rest) as (λ t. begins_with 62 rest ≡ t → cond t (jump_at rest) (cond (begins_with 60 rest) (return_at rest) (symbol_at rest)) ≡ Some s
-    → HasSymbol text s ⊎ HasLeap text s) [
-      | true ↦ λ front known. inr (has_leap text rest s before some taken (jump_at_known rest s front known))
+    → HasMark text s) [
+      | true ↦ λ front known. has_leap text rest s before some taken (jump_at_known rest s front known)
       | false ↦ λ _ other.
-          elim (begins_with 60 rest) as (λ t. cond t (return_at rest) (symbol_at rest) ≡ Some s → HasSymbol text s ⊎ HasLeap text s) [
-            | true ↦ λ known. inr (has_leap text rest s before some taken (return_known rest s known))
-            | false ↦ λ known. inl (has_symbol text rest s before some taken known)
+          elim (begins_with 60 rest) as (λ t. cond t (return_at rest) (symbol_at rest) ≡ Some s → HasMark text s) [
+            | true ↦ λ known. has_leap text rest s before some taken (return_known rest s known)
+            | false ↦ λ known. has_symbol text rest s before some taken known
           ] other
     ] refl h
 
@@ -351,10 +279,10 @@ dashes_front b (x ∷ xs) =
       | false ↦ λ _. refl
     ] refl
 
-marked_known : (text : List ℕ) (s : Form) → marked_at text ≡ Some s → HasSymbol text s ⊎ HasLeap text s
+marked_known : (text : List ℕ) (s : Form) → marked_at text ≡ Some s → HasMark text s
 unfolding marked_at
 marked_known text s h =
-    elim (dashes text == 0) as (λ t. (dashes text == 0) ≡ t → cond t None (mark_at (drop (dashes text) text)) ≡ Some s → HasSymbol text s ⊎ HasLeap text s) [
+    elim (dashes text == 0) as (λ t. (dashes text == 0) ≡ t → cond t None (mark_at (drop (dashes text) text)) ≡ Some s → HasMark text s) [
       | true ↦ λ _ known. cc
       | false ↦ λ some known.
           let taken : text ≡ replicate (dashes text) 45 ++ drop (dashes text) text
@@ -365,13 +293,9 @@ marked_known text s h =
 
 mark_found : (text : List ℕ) (s : Form) → HasMark text s → marked_at text ≡ Some s
 unfolding Marks
-mark_found text s h =
-    elim (either_mark text s h) [
-      | inl symbol ↦
-          rw symbol.spelled (of_each Marks symbols symbol.symbol s each_symbol_marks symbol.listed symbol.before symbol.after symbol.filler symbol.some_dashes
-          symbol.dashes_or_spaces)
-      | inr leap ↦ leap_found text s leap
-    ]
+mark_found text s (before, after, filler, mark, some, spelled, inl (listed, fills)) =
+    rw spelled (of_each Marks symbols mark s each_symbol_marks (lists_of symbols mark s listed) before after filler some fills)
+mark_found text s (before, after, filler, mark, some, spelled, inr (fills, leaps)) = leap_found text s before after mark some (rw fills at spelled) leaps
 
 pub form_found : (text : List ℕ) (s : Form) → HasForm text s → form_at text ≡ Some s
 form_found text s (inl h) = whole_found text s (lists_of whole_cells text s h)
@@ -381,7 +305,7 @@ pub form_known : (text : List ℕ) (s : Form) → form_at text ≡ Some s → Ha
 unfolding form_at
 form_known text s h =
     elim (lookup whole_cells text) as (λ o. lookup whole_cells text ≡ o → option_or o (marked_at text) ≡ Some s → HasForm text s) [
-      | None ↦ λ _ known. inr (marks_either text s (marked_known text s known))
+      | None ↦ λ _ known. inr (marked_known text s known)
       | Some t ↦ λ known same. inl (contains_of whole_cells text s (lookup_lists whole_cells text s (known ∙ same)))
     ] refl h
 
