@@ -6,7 +6,7 @@ ghost use Rattle.std.specs.Str.{str_eq_ignore_ascii_case};
 ghost use Rattle.std.specs.List.{prefix_len};
 ghost use Rattle.std.specs.Char.{is_ascii_alphabetic};
 ghost use Rattle.ladder_times.specs.Duration.{IsDuration};
-ghost use Rattle.ladder_times.specs.ReadTimes.{millis_of, range_of, units, part_at, after_underscore, total_of, after_word, after_prefix, time_of, Gives};
+ghost use Rattle.ladder_times.specs.ReadTimes.{millis_of, range_of, units, part_at, after_underscore, total_of, after_word, after_prefix, Gives};
 
 use crate::digits::{CAP, digits_len, number};
 use crate::letters::same_letters;
@@ -159,18 +159,6 @@ fn after_prefix(text: &[u8]) -> Option<&[u8]>
     }
 }
 
-#[tactic(auto, unfolding(crate::specs::ReadTimes::time_of))]
-fn time_of(text: &[u8]) -> Option<u32>
-    ensures { result ≡ time_of text.now }
-{
-    let total = total_of(after_prefix(text)?)?;
-    if total < CAP {
-        Some(total as u32)
-    } else {
-        None
-    }
-}
-
 /// The milliseconds of a duration literal such as `T#1h_30m`.
 ///
 /// It is None where the text is no such literal, or one of more than 4,294,967,295 ms.
@@ -180,5 +168,10 @@ pub fn read_time(text: &[u8]) -> Option<u32>
     // A literal has one value.
     ensures only { IfSome result (λ n. (m : ℕ) → IsDuration text.now m → m ≡ n) }
 {
-    time_of(text)
+    let total = total_of(after_prefix(text)?)?;
+    if total < CAP {
+        Some(total as u32)
+    } else {
+        None
+    }
 }

@@ -1,4 +1,5 @@
-use Rattle.std.proofs.Common.{◌≡◌, ℕ, List, Option, Some, None, IfSome, IfNone, sym, ◌∙◌}
+use Rattle.std.proofs.Common.{◌≡◌, ℕ, List, Option, Some, None, IfSome, IfNone, sym, ◌∙◌, arith}
+use Rattle.std.proofs.lemmas.Grind.{common_steps}
 use Rattle.ladder_times.specs.Duration.{IsDuration}
 use Rattle.ladder_times.specs.ReadTimes.{time_of}
 use Rattle.ladder_times.proofs.TimeLaws.{time_reads, time_takes}
@@ -16,11 +17,22 @@ one_time : (o : Option ℕ) (text : List ℕ) → o ≡ time_of text → IfSome 
 one_time (Some n) text e = λ m is. let same : Some n ≡ Some m = e ∙ time_reads text m is in cc
 one_time None text e = tt
 
-pub returns-clause-only : goal.returns-clause-only
-returns-clause-only c = one_time c.time_of.result c.args.text.now c.time_of.ensures
+pub returns-in_err-after_prefix-clause-none : goal.returns-in_err-after_prefix-clause-none
+unfolding time_of
+returns-in_err-after_prefix-clause-none c = no_time c.from_residual.result c.args.text.now (grind (arith, common_steps))
 
-pub returns-clause-some : goal.returns-clause-some
-returns-clause-some c = some_time c.time_of.result c.args.text.now c.time_of.ensures
+pub returns-in_err-total-clause-none : goal.returns-in_err-total-clause-none
+unfolding time_of
+returns-in_err-total-clause-none c = no_time c.from_residual-in_err-total.result c.args.text.now (grind (arith, common_steps))
 
-pub returns-clause-none : goal.returns-clause-none
-returns-clause-none c = no_time c.time_of.result c.args.text.now c.time_of.ensures
+pub returns-then-total-lt-CAP-clause-some : goal.returns-then-total-lt-CAP-clause-some
+unfolding time_of
+returns-then-total-lt-CAP-clause-some c = some_time (Some c.in_ok-total.total) c.args.text.now (grind (arith, common_steps))
+
+pub returns-then-total-lt-CAP-clause-only : goal.returns-then-total-lt-CAP-clause-only
+unfolding time_of
+returns-then-total-lt-CAP-clause-only c = one_time (Some c.in_ok-total.total) c.args.text.now (grind (arith, common_steps))
+
+pub returns-else-total-lt-CAP-clause-none : goal.returns-else-total-lt-CAP-clause-none
+unfolding time_of
+returns-else-total-lt-CAP-clause-none c = no_time None c.args.text.now (grind (arith, common_steps))
