@@ -5,7 +5,7 @@ ghost use Rattle.ladder_text.specs.Block.{Sends};
 ghost use Rattle.ladder_text.specs.Log.{Puts};
 ghost use Rattle.ladder_carry.specs.Lines.{explained, import_explanation, import_line, import_text, numbered_text, project_explanation, project_text, refusal_text, refusals_text, table_word};
 
-use crate::reason::{Said, said_of};
+use crate::reason::{reason_line, reason_word};
 use ladder_clp::{ClpFault, Table};
 use ladder_import::{ImportFault, Refusal};
 use ladder_text::{Block, Piece, Sink, WriteFault, add_pieces, put_pieces};
@@ -26,7 +26,6 @@ fn add_refusal<W: Sink>(
 ) -> Result<(), WriteFault>
     ensures { Sends (W.log writer.old) (W.log writer.new) block.old block.new result (refusal_text why refusal.now) }
 {
-    let said = said_of(refusal.reason);
     let pieces = [
         Piece::Text(b"fault P6 rung "),
         Piece::Number(u64::from(refusal.rung)),
@@ -35,9 +34,9 @@ fn add_refusal<W: Sink>(
         Piece::Text(b" column "),
         Piece::Number(refusal.column as u64),
         Piece::Text(b" "),
-        Piece::Text(said.brief),
+        Piece::Text(reason_word(refusal.reason)),
         Piece::Text(b"\n"),
-        Piece::Text(explained(why, said.sentence)),
+        Piece::Text(explained(why, reason_line(refusal.reason))),
     ];
     add_pieces(block, pieces.as_slice(), writer)
 }
@@ -163,30 +162,35 @@ pub(crate) fn write_project_fault<W: Sink>(
 }
 
 /// The line of a fault, and the one that explains it.
+struct Said {
+    line: &'static [u8],
+    explanation: &'static [u8],
+}
+
 fn import_said(fault: ImportFault) -> Said
-    ensures line { result.brief.now ≡ import_line fault }
-    ensures explanation { result.sentence.now ≡ import_explanation fault }
+    ensures line { result.line.now ≡ import_line fault }
+    ensures explanation { result.explanation.now ≡ import_explanation fault }
 {
     match fault {
         ImportFault::TooManyRungs => Said {
-            brief: b"fault P7 rungs\n",
-            sentence: b"P7: a program has at most 100 rungs\n",
+            line: b"fault P7 rungs\n",
+            explanation: b"P7: a program has at most 100 rungs\n",
         },
         ImportFault::TooManyVars => Said {
-            brief: b"fault P7 variables\n",
-            sentence: b"P7: a program has at most 256 variables\n",
+            line: b"fault P7 variables\n",
+            explanation: b"P7: a program has at most 256 variables\n",
         },
         ImportFault::TooManyBlocks => Said {
-            brief: b"fault P7 blocks\n",
-            sentence: b"P7: a program has at most 64 instances of blocks\n",
+            line: b"fault P7 blocks\n",
+            explanation: b"P7: a program has at most 64 instances of blocks\n",
         },
         ImportFault::Memory => Said {
-            brief: b"fault X7\n",
-            sentence: b"X7: out of memory\n",
+            line: b"fault X7\n",
+            explanation: b"X7: out of memory\n",
         },
         ImportFault::Refused | ImportFault::NotFaithful => Said {
-            brief: b"fault P8\n",
-            sentence: b"P8: the text that was made of the project doesn't have what the project has\n",
+            line: b"fault P8\n",
+            explanation: b"P8: the text that was made of the project doesn't have what the project has\n",
         },
     }
 }
@@ -201,8 +205,8 @@ pub(crate) fn write_import_fault<W: Sink>(
 {
     let said = import_said(fault);
     let pieces = [
-        Piece::Text(said.brief),
-        Piece::Text(explained(why, said.sentence)),
+        Piece::Text(said.line),
+        Piece::Text(explained(why, said.explanation)),
     ];
     put_pieces(writer, pieces.as_slice())
 }
