@@ -65,13 +65,8 @@ fn all_of(alloc: Global, text: &[u8]) -> Result<(Decls, &[u8]), ReadFault>
 pub(crate) fn line_of(text: &[u8], left: usize) -> usize
     ensures { result ≡ line_of text.now left }
 {
-    let mut line: usize = 1;
-    for b in &text[..text.len().saturating_sub(left)] {
-        if *b == b'\n' {
-            line += 1;
-        }
-    }
-    line
+    let before = &text[..text.len().saturating_sub(left)];
+    1 + before.iter().filter(|b| **b == b'\n').count()
 }
 
 /// Reads the declarations of a program text. Returns them with the place right after END_VAR.
