@@ -1,5 +1,5 @@
 -- The gates of a rung find the left links of its cells over what is known, from the laws of the signal alone.
-use Rattle.std.proofs.Common.{◌≡◌, ℕ, ◌+◌, ◌-◌, ◌*◌, ◌/◌, ◌%◌, ◌<◌, ◌≤◌, ◌&&◌, ◌||◌, Bool, true, false, cond, List, [], ◌∷◌, ◌++◌, get_or, set, drop, length, zero, suc, nat_eq, nat_lt, refl, sym, ap, ap₂, subst, ◌∙◌, arith, get_or-set_other, get_or-set_same, length-set, inl, inr}
+use Rattle.std.proofs.Common.{◌≡◌, ℕ, ◌+◌, ◌-◌, ◌*◌, ◌/◌, ◌%◌, ◌<◌, ◌≤◌, ◌&&◌, Bool, true, false, cond, List, [], ◌∷◌, ◌++◌, get_or, set, drop, length, zero, suc, nat_eq, nat_lt, refl, sym, ap, ap₂, subst, ◌∙◌, arith, get_or-set_other, get_or-set_same, length-set, inl, inr}
 use Rattle.std.proofs.lemmas.Bool.Decides.{nat_tests}
 use Rattle.std.proofs.lemmas.Bool.{cases_eq, cases_Bool}
 use Rattle.std.proofs.lemmas.List.{drop_more, drop_all}
@@ -19,11 +19,11 @@ use Rattle.ladder_elements.specs.Algebra.{Algebra, LatticeLaws}
 use Rattle.ladder_scan.specs.Routes.{left_link}
 use Rattle.ladder_scan.specs.Cells.{Diagram, Frame}
 use Rattle.ladder_scan.specs.Rung.{second, lower}
-use Rattle.ladder_scan.specs.Programs.{cell_at, diagram_of}
+use Rattle.ladder_scan.specs.Programs.{diagram_of}
 use Rattle.ladder_scan.specs.Gating.{join_where}
 use Rattle.ladder_scan.proofs.Groups.{fed_on, group}
 use Rattle.ladder_scan.proofs.Links.{fed_same, either_value}
-use Rattle.ladder_scan.proofs.GateLaws.{cell_is}
+use Rattle.ladder_scan.proofs.GateLaws.{cond_true, cond_false, either_test, on_off, same_number, less_is, is_less, the_column, the_row, place_is, row_small, both_true, cell_is, feeds_is, linked_is}
 use Rattle.ladder_known.specs.KnownScan.{Keeping, Known, frame_in, circuit_in, link_in}
 use Rattle.ladder_glance.specs.KeepsValues.{KeepsValues}
 use Rattle.ladder_glance.specs.Evaluating.{AreSure, own_in, through_in, let_in, passed_in, ran_in, AreLinksIn}
@@ -43,64 +43,6 @@ unfolding ran_in
 run_end o w d now j f k links gs i h = ap (λ xs. ran_in o w d now j f k xs links) (drop_all i gs h)
 
 pub ruleset run_step = (run_more, run_end)
-
--- ---- numbers and tests
-cond_true : {A : Type 0} (b : Bool) (x y : A) → b ≡ true → cond b x y ≡ x
-cond_true true x y h = refl
-cond_true false x y h = cc
-
-cond_false : {A : Type 0} (b : Bool) (x y : A) → b ≡ false → cond b x y ≡ y
-cond_false false x y h = refl
-cond_false true x y h = cc
-
-either_test : (a b : Bool) → (a || b) ≡ false → (a ≡ false) × (b ≡ false)
-either_test false false h = (refl, refl)
-either_test false true h = cc
-either_test true b h = cc
-
-on_off : (b : Bool) → b ≡ true → b ≡ false → ⊥
-on_off true h k = cc
-on_off false h k = cc
-
-same_number : (a b : ℕ) → nat_eq a b ≡ true → a ≡ b
-same_number a b h = grind (arith, nat_tests)
-
-is_less : (a b : ℕ) → a < b → nat_lt a b ≡ true
-is_less a b h = grind (arith, nat_tests)
-
-less_is : (a b : ℕ) → nat_lt a b ≡ true → a < b
-less_is a b h = grind (arith, nat_tests)
-
-the_column : (column row : ℕ) → row < ROWS → (ROWS * column + row) / ROWS ≡ column
-the_column column row h = omega arith
-
-the_row : (column row : ℕ) → row < ROWS → (ROWS * column + row) % ROWS ≡ row
-the_row column row h = omega arith
-
-place_is : (e : ℕ) → ROWS * (e / ROWS) + e % ROWS ≡ e
-place_is e = omega arith
-
-row_small : (e : ℕ) → e % ROWS < ROWS
-row_small e = omega arith
-
-both_true : (a b : Bool) → (a && b) ≡ true → (a ≡ true) × (b ≡ true)
-both_true true true h = (refl, refl)
-both_true true false h = cc
-both_true false b h = cc
-
--- ---- the diagram of a drawing
-feeds_is : (p : Drawing) (j row column q : ℕ) → (diagram_of p).feeds j row column q ≡ feeds p j row column q
-unfolding diagram_of
-feeds_is p j row column q = refl
-
-linked_is : (p : Drawing) (j e : ℕ) → e < PLACES → (diagram_of p).linked j e ≡ (nat_lt (e % ROWS + 1) ROWS && is_linked (cell_of p j (e + 1)))
-unfolding diagram_of
-linked_is p j e h = elim (cases_Bool (nat_lt (e % ROWS + 1) ROWS)) [
-  | inl t ↦
-      let k : e % ROWS + 1 < ROWS = less_is _ _ t in
-      ap (λ (c : Cell). nat_lt (e % ROWS + 1) ROWS && is_linked c) (cond_true (nat_lt (e + 1) PLACES) (cell_of p j (e + 1)) Empty (is_less (e + 1) PLACES (omega arith)))
-  | inr t ↦ ap (λ b. b && is_linked (cell_at p j (e + 1))) t ∙ sym (ap (λ b. b && is_linked (cell_of p j (e + 1))) t)
-]
 
 module _ {S B : Type 0} (o : Algebra S) (V : S → Type 0) (l : LatticeLaws S V o) (w : Keeping S B) (K : B → Type 0) (keeps : KeepsValues V K w) (p : Drawing)
     (now j : ℕ) (k : Known S B) (sure : AreSure o V K w k) where

@@ -45,21 +45,12 @@ below_of d rung at = if nat_lt (at % ROWS + 1) ROWS && is_linked (cell_of d rung
 
 abbrev pub literal_on : Mode → Operand → Literal
 literal_on mode.Plain (operand.Var var) = if nat_lt var VARIABLES then literal.Is var else literal.Other
-literal_on mode.Plain (operand.Output inst) = literal.Other
 literal_on mode.Negated (operand.Var var) = if nat_lt var VARIABLES then literal.Not var else literal.Other
-literal_on mode.Negated (operand.Output inst) = literal.Other
-literal_on mode.Rising x = literal.Other
-literal_on mode.Falling x = literal.Other
+literal_on m x = literal.Other
 
 abbrev pub literal_of : Cell → Literal
-literal_of cell.Empty = literal.Other
-literal_of cell.Wire = literal.Other
 literal_of (cell.Contact mode operand memory) = literal_on mode operand
-literal_of (cell.Coil mode var memory) = literal.Other
-literal_of (cell.Block inst) = literal.Other
-literal_of (cell.Lower inst linked) = literal.Other
-literal_of (cell.Jump target) = literal.Other
-literal_of cell.Return = literal.Other
+literal_of other = literal.Other
 
 abbrev pub gate_at : Drawing → ℕ → ℕ → Gate
 gate_at d rung at = record {
@@ -91,14 +82,10 @@ gates_of d rung = gates_before d rung PLACES
 
 -- The cell writes a variable, a memory or an instance.
 abbrev pub acts : Cell → Bool
-acts cell.Empty = false
-acts cell.Wire = false
 acts (cell.Contact mode operand memory) = is_some memory
 acts (cell.Coil mode var memory) = true
 acts (cell.Block inst) = true
-acts (cell.Lower inst linked) = false
-acts (cell.Jump target) = false
-acts cell.Return = false
+acts other = false
 
 abbrev pub action_at : Drawing → ℕ → ℕ → Action
 action_at d rung at = record { cell = cell_of d rung at; place = at; left = left_of d rung at; below = below_of d rung at }

@@ -33,25 +33,19 @@ own_step rung g = rare.Own (spot_of g) g.below rung
 
 -- an edge contact
 abbrev pub edge_step : ℕ → Gate → Mode → ℕ → ℕ → Rare
-edge_step rung g mode.Plain var memory = own_step rung g
-edge_step rung g mode.Negated var memory = own_step rung g
 edge_step rung g mode.Rising var memory = rare.Rising (spot_of g) var memory
 edge_step rung g mode.Falling var memory = rare.Falling (spot_of g) var memory
+edge_step rung g other var memory = own_step rung g
 
 abbrev pub contact_step : ℕ → Gate → Mode → Operand → Option ℕ → Rare
 contact_step rung g m (operand.Var var) (Some memory) = if nat_lt var VARIABLES && nat_lt memory VARIABLES then edge_step rung g m var memory else own_step rung g
-contact_step rung g m (operand.Var var) None = own_step rung g
-contact_step rung g m (operand.Output inst) memory = own_step rung g
+contact_step rung g m other memory = own_step rung g
 
 abbrev pub cell_step : ℕ → Gate → Cell → Rare
-cell_step rung g cell.Empty = own_step rung g
 cell_step rung g cell.Wire = rare.Wire (spot_of g)
 cell_step rung g (cell.Contact m x memory) = contact_step rung g m x memory
-cell_step rung g (cell.Coil m var memory) = own_step rung g
 cell_step rung g (cell.Block inst) = if nat_lt inst VARIABLES then rare.Block (spot_of g) g.below inst else own_step rung g
-cell_step rung g (cell.Lower inst linked) = own_step rung g
-cell_step rung g (cell.Jump target) = own_step rung g
-cell_step rung g cell.Return = own_step rung g
+cell_step rung g other = own_step rung g
 
 abbrev pub literal_step : ℕ → Gate → Cell → Literal → Step
 literal_step rung g c (literal.Is var) = step.Is (spot_of g) var
@@ -76,14 +70,9 @@ coil_step rung a coil.Falling var = act_step rung a
 
 -- An edge contact writes its memory alone, which a look leaves as it is.
 abbrev pub action_step : ℕ → Action → Cell → Option Step
-action_step rung a cell.Empty = None
-action_step rung a cell.Wire = None
-action_step rung a (cell.Contact m x memory) = None
 action_step rung a (cell.Coil m var memory) = Some (step.Rare (if nat_lt var VARIABLES then coil_step rung a m var else act_step rung a))
 action_step rung a (cell.Block inst) = Some (step.Rare (if nat_lt inst VARIABLES then rare.End a.place inst else act_step rung a))
-action_step rung a (cell.Lower inst linked) = None
-action_step rung a (cell.Jump target) = None
-action_step rung a cell.Return = None
+action_step rung a other = None
 
 -- ---- rungs
 

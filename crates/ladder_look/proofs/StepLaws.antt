@@ -3,7 +3,6 @@ use Rattle.std.proofs.Common.{◌≡◌, ℕ, ◌+◌, ◌<◌, ◌≤◌, ◌*�
 use Rattle.std.specs.List.{cons_option}
 use Rattle.std.proofs.lemmas.Bool.{cases_Bool}
 use Rattle.std.proofs.lemmas.List.Elements.{All-append, All-nil}
-use Rattle.std.proofs.lemmas.Grind.{common_steps}
 use Rattle.ladder_page.specs.declared.geometry.TheConstants.{ROWS, PLACES}
 use Rattle.ladder_page.specs.declared.mode.Mode.{Mode}
 use Rattle.ladder_page.specs.declared.mode.Mode.TheVariants as mode
@@ -35,7 +34,7 @@ use Rattle.ladder_look.specs.Stepping.{Going, going, keeping, gone, all_gone, Is
 use Rattle.ladder_scan.proofs.GateLaws.{cell_is, left_inside, gates_inside}
 use Rattle.ladder_scan.proofs.Sound.{placed}
 use Rattle.ladder_look.proofs.Acting.{HasCell}
-use Rattle.ladder_scan.proofs.Acting.{places}
+use Rattle.ladder_scan.proofs.Acting.{cond_true, cond_false, all_one, places}
 
 module _ {S : Type 0} (o : Algebra S) (p : Drawing) (k : Kept) (now n : ℕ) (f : Frame S) (taken : List S) (guard : S) where
   abbrev d_ : Diagram
@@ -154,19 +153,8 @@ jump_is : (p : Drawing) (n : ℕ) → placed (jump_of p n) ≡ (diagram_of p).ju
 unfolding diagram_of
 jump_is p n = refl
 
-all_one : {A : Type 0} (P : A → Type 0) (x : A) → P x → All P (x ∷ [])
-all_one P x h = grind (arith, common_steps)
-
 all_more : {A : Type 0} (P : A → Type 0) (x : A) (xs : List A) → P x → All P xs → All P (x ∷ xs)
 all_more P x xs h hs = All-append P (x ∷ []) xs (all_one P x h) hs
-
-cond_on : {A : Type 0} (b : Bool) (x y : A) → b ≡ true → cond b x y ≡ x
-cond_on true x y h = refl
-cond_on false x y h = cc
-
-cond_off : {A : Type 0} (b : Bool) (x y : A) → b ≡ false → cond b x y ≡ y
-cond_off false x y h = refl
-cond_off true x y h = cc
 
 -- ---- variables of contacts
 abbrev HasVar : ℕ → Literal → Type 0
@@ -218,9 +206,9 @@ module _ (p : Drawing) (formed : IsWellFormed p) (rung : ℕ) where
   unfolding gates_before
   known_before zero = All-nil _
   known_before (suc n) = elim (cases_Bool (has_gate p rung n)) [
-    | inl t ↦ subst (λ (xs : List Gate). All Knows xs) (sym (cond_on (has_gate p rung n) _ _ t))
+    | inl t ↦ subst (λ (xs : List Gate). All Knows xs) (sym (cond_true (has_gate p rung n) _ _ t))
         (All-append Knows (gates_before p rung n) _ (known_before n) (all_one Knows (gate_at p rung n) (literal_var p.decls (cell_of p rung n) (formed.fits (PLACES * rung + n)))))
-    | inr t ↦ subst (λ (xs : List Gate). All Knows xs) (sym (cond_off (has_gate p rung n) _ _ t)) (known_before n)
+    | inr t ↦ subst (λ (xs : List Gate). All Knows xs) (sym (cond_false (has_gate p rung n) _ _ t)) (known_before n)
   ]
 
   abbrev Writes : Action → Type 0
@@ -230,9 +218,9 @@ module _ (p : Drawing) (formed : IsWellFormed p) (rung : ℕ) where
   unfolding actions_before
   there_before zero = All-nil _
   there_before (suc n) = elim (cases_Bool (acts (cell_of p rung n))) [
-    | inl t ↦ subst (λ (xs : List Action). All Writes xs) (sym (cond_on (acts (cell_of p rung n)) _ _ t))
+    | inl t ↦ subst (λ (xs : List Action). All Writes xs) (sym (cond_true (acts (cell_of p rung n)) _ _ t))
         (All-append Writes (actions_before p rung n) _ (there_before n) (all_one Writes (action_at p rung n) (coil_var p.decls (cell_of p rung n) (formed.fits (PLACES * rung + n)))))
-    | inr t ↦ subst (λ (xs : List Action). All Writes xs) (sym (cond_off (acts (cell_of p rung n)) _ _ t)) (there_before n)
+    | inr t ↦ subst (λ (xs : List Action). All Writes xs) (sym (cond_false (acts (cell_of p rung n)) _ _ t)) (there_before n)
   ]
 
   pub all_there : All Writes (actions_of p rung)

@@ -1,5 +1,5 @@
 -- The steps of all rungs make the look, rung by rung.
-use Rattle.std.proofs.Common.{◌≡◌, ℕ, ◌+◌, ◌<◌, ◌≤◌, ◌||◌, Bool, true, false, cond, List, [], ◌∷◌, ◌++◌, map, filter_map, length, set, get_or, zero, suc, nat_eq, nat_lt, refl, sym, ap, ap₂, subst, ◌∙◌, arith, get_or-set_other, get_or-set_same, length-set, Option, Some, None, inl, inr}
+use Rattle.std.proofs.Common.{◌≡◌, ℕ, ◌+◌, ◌<◌, ◌≤◌, Bool, true, false, cond, List, [], ◌∷◌, ◌++◌, map, filter_map, length, set, get_or, zero, suc, nat_eq, nat_lt, refl, sym, ap, ap₂, subst, ◌∙◌, arith, get_or-set_other, get_or-set_same, length-set, Option, Some, None, inl, inr}
 use Rattle.std.proofs.lemmas.Bool.{cases_Bool, cases_eq}
 use Rattle.std.proofs.lemmas.Bool.Decides.{nat_tests}
 use Rattle.std.proofs.lemmas.List.{get_or_append_left, get_or_at, length-append}
@@ -17,7 +17,7 @@ use Rattle.ladder_scan.specs.Programs.{diagram_of, IsSound}
 use Rattle.ladder_scan.specs.Gating.{among, ran, AreLinks, AreValues}
 use Rattle.ladder_look.specs.Gating.{taken_by_exit}
 use Rattle.ladder_look.specs.Stepping.{Going, going, all_gone}
-use Rattle.ladder_scan.proofs.GateLaws.{AreRailed, gates_inside, links_are, rails_stay}
+use Rattle.ladder_scan.proofs.GateLaws.{AreRailed, either_test, gates_inside, links_are, rails_stay}
 use Rattle.ladder_scan.proofs.Sound.{placed}
 use Rattle.ladder_look.proofs.Acting.{action_cells, rung_along}
 use Rattle.ladder_look.proofs.Exits.{taken_of, guard_is}
@@ -60,16 +60,11 @@ meet_same o t u f g (suc n) h e =
     ap (λ b. cond b (o.meet (meet_where o t f n) (f n)) (meet_where o t f n)) (h n (omega arith))
     ∙ ap₂ (λ x y. cond (u n) (o.meet x y) x) before (e n (omega arith))
 
-neither : (a b : Bool) → (a || b) ≡ false → (a ≡ false) × (b ≡ false)
-neither false false h = (refl, refl)
-neither false true h = cc
-neither true b h = cc
-
 not_turned : (p : Drawing) (n m : ℕ) → turns_before p n m ≡ false → (i : ℕ) → i < m → turned_by n i (jump_of p i) ≡ false
 unfolding turns_before
 not_turned p n zero h i lt = absurd (omega (arith, lt))
 not_turned p n (suc m) h i lt =
-    let w = neither (turns_before p n m) (turned_by n m (jump_of p m)) h in
+    let w = either_test (turns_before p n m) (turned_by n m (jump_of p m)) h in
     elim (cases_eq i m) [
       | inl e ↦ ap (λ j. turned_by n j (jump_of p j)) e ∙ w.1
       | inr e ↦ not_turned p n m w.0 i (omega (arith, lt, e))
@@ -88,11 +83,11 @@ over_next n target h = grind (arith, nat_tests)
 
 passes_same : (n i : ℕ) (jump : Option (ℕ × ℕ × ℕ)) → turned_by (n + 1) i jump ≡ false → passes_over (placed jump) (n + 1) ≡ passes_over (placed jump) n
 passes_same n i None h = refl
-passes_same n i (Some (row, column, target)) h = over_next n target (neither _ _ h).1
+passes_same n i (Some (row, column, target)) h = over_next n target (either_test _ _ h).1
 
 passes_not : (n : ℕ) (jump : Option (ℕ × ℕ × ℕ)) → turned_by (n + 1) n jump ≡ false → passes_over (placed jump) (n + 1) ≡ false
 passes_not n None h = refl
-passes_not n (Some (row, column, target)) h = absurd (same_number (n + 1) (n + 1) (neither _ _ h).0 refl)
+passes_not n (Some (row, column, target)) h = absurd (same_number (n + 1) (n + 1) (either_test _ _ h).0 refl)
 
 module _ {S : Type 0} (o : Algebra S) (p : Drawing) where
   abbrev off : S

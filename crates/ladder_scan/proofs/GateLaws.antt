@@ -43,42 +43,42 @@ run_end o d k now j f links gs i h = ap (λ xs. ran o d k now j f xs links) (dro
 pub ruleset run_step = (run_more, run_end)
 
 -- ---- numbers and tests
-cond_true : {A : Type 0} (b : Bool) (x y : A) → b ≡ true → cond b x y ≡ x
+pub cond_true : {A : Type 0} (b : Bool) (x y : A) → b ≡ true → cond b x y ≡ x
 cond_true true x y h = refl
 cond_true false x y h = cc
 
-cond_false : {A : Type 0} (b : Bool) (x y : A) → b ≡ false → cond b x y ≡ y
+pub cond_false : {A : Type 0} (b : Bool) (x y : A) → b ≡ false → cond b x y ≡ y
 cond_false false x y h = refl
 cond_false true x y h = cc
 
-either_test : (a b : Bool) → (a || b) ≡ false → (a ≡ false) × (b ≡ false)
+pub either_test : (a b : Bool) → (a || b) ≡ false → (a ≡ false) × (b ≡ false)
 either_test false false h = (refl, refl)
 either_test false true h = cc
 either_test true b h = cc
 
-on_off : (b : Bool) → b ≡ true → b ≡ false → ⊥
+pub on_off : (b : Bool) → b ≡ true → b ≡ false → ⊥
 on_off true h k = cc
 on_off false h k = cc
 
-same_number : (a b : ℕ) → nat_eq a b ≡ true → a ≡ b
+pub same_number : (a b : ℕ) → nat_eq a b ≡ true → a ≡ b
 same_number a b h = grind (arith, nat_tests)
 
-is_less : (a b : ℕ) → a < b → nat_lt a b ≡ true
+pub is_less : (a b : ℕ) → a < b → nat_lt a b ≡ true
 is_less a b h = grind (arith, nat_tests)
 
-less_is : (a b : ℕ) → nat_lt a b ≡ true → a < b
+pub less_is : (a b : ℕ) → nat_lt a b ≡ true → a < b
 less_is a b h = grind (arith, nat_tests)
 
-the_column : (column row : ℕ) → row < ROWS → (ROWS * column + row) / ROWS ≡ column
+pub the_column : (column row : ℕ) → row < ROWS → (ROWS * column + row) / ROWS ≡ column
 the_column column row h = omega arith
 
-the_row : (column row : ℕ) → row < ROWS → (ROWS * column + row) % ROWS ≡ row
+pub the_row : (column row : ℕ) → row < ROWS → (ROWS * column + row) % ROWS ≡ row
 the_row column row h = omega arith
 
-place_is : (e : ℕ) → ROWS * (e / ROWS) + e % ROWS ≡ e
+pub place_is : (e : ℕ) → ROWS * (e / ROWS) + e % ROWS ≡ e
 place_is e = omega arith
 
-row_small : (e : ℕ) → e % ROWS < ROWS
+pub row_small : (e : ℕ) → e % ROWS < ROWS
 row_small e = omega arith
 
 -- ---- where the links of gates are
@@ -102,7 +102,7 @@ other_inside p rung e h =
     either_inside (nat_lt (e / ROWS + 1) COLUMNS) _ OFF
     (λ t. let k : e / ROWS + 1 < COLUMNS = less_is _ _ t in last_inside (feeds p rung (e % ROWS) (e / ROWS + 1)) (ROWS * (e / ROWS + 1 - 1)) (e % ROWS) (omega arith)) (omega arith)
 
-both_true : (a b : Bool) → (a && b) ≡ true → (a ≡ true) × (b ≡ true)
+pub both_true : (a b : Bool) → (a && b) ≡ true → (a ≡ true) × (b ≡ true)
 both_true true true h = (refl, refl)
 both_true true false h = cc
 both_true false b h = cc
@@ -134,11 +134,11 @@ pub cell_is : (p : Drawing) (j place : ℕ) → place < PLACES → (diagram_of p
 unfolding diagram_of
 cell_is p j place h = cond_true (nat_lt place PLACES) (cell_of p j place) Empty (is_less place PLACES h)
 
-feeds_is : (p : Drawing) (j row column q : ℕ) → (diagram_of p).feeds j row column q ≡ feeds p j row column q
+pub feeds_is : (p : Drawing) (j row column q : ℕ) → (diagram_of p).feeds j row column q ≡ feeds p j row column q
 unfolding diagram_of
 feeds_is p j row column q = refl
 
-linked_is : (p : Drawing) (j e : ℕ) → e < PLACES → (diagram_of p).linked j e ≡ (nat_lt (e % ROWS + 1) ROWS && is_linked (cell_of p j (e + 1)))
+pub linked_is : (p : Drawing) (j e : ℕ) → e < PLACES → (diagram_of p).linked j e ≡ (nat_lt (e % ROWS + 1) ROWS && is_linked (cell_of p j (e + 1)))
 unfolding diagram_of
 linked_is p j e h = elim (cases_Bool (nat_lt (e % ROWS + 1) ROWS)) [
   | inl t ↦
