@@ -33,7 +33,7 @@ fn rung_in<'a, 'b>(lines: &'a [&'b [u8]], parts: &[Part], rung: usize) -> &'a [&
 /// The rung and its gap.
 pub fn part_at(page: PageView<'_, '_>, rung: usize) -> Part
     requires rungs { rung < length page.parts.now }
-    ensures value { result ≡ part_in page.entry.parts.now rung }
+    ensures value { result ≡ part_at (seen page.entry) rung }
     ensures within { IsWithin (length page.entry.lines.now) result }
 {
     page.parts[rung]
