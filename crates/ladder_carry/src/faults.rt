@@ -162,6 +162,7 @@ pub(crate) fn write_project_fault<W: Sink>(
 }
 
 /// The line of a fault, and the one that explains it.
+#[derive(Clone, Copy)]
 struct Said {
     line: &'static [u8],
     explanation: &'static [u8],

@@ -2,14 +2,14 @@
 
 ghost use Rattle.std.specs.Prelude.{◌≡◌, ◌<◌, ◌≤◌, ℕ, IsTrue, Some, length, slice_index_or};
 ghost use Rattle.ladder_scan.specs.Standing.{Fits, Standing};
-ghost use Rattle.ladder_possible.specs.Numbers.{HasBits, bit_for};
+ghost use Rattle.ladder_possible.specs.Numbers.{HasBits};
 ghost use Rattle.ladder_possible.specs.Possible.{AreStatesOf, SomeLeaves};
 ghost use Rattle.ladder_possible.specs.Searching.{IsTried};
 ghost use Rattle.ladder_possible.specs.declared.content.TheConstants.{MOMENT};
 
 use crate::asked::{Asked, Tried};
 use crate::content::{MOMENT, content};
-use crate::numbers::bit_for;
+use crate::numbers::prefix_bit;
 use crate::states::counts;
 use ladder_glance::{Keep, Knowledge};
 use ladder_grid::Program;
@@ -27,7 +27,7 @@ fn set_values(asked: Asked<'_>, case: &Knowledge<Tri, Outcome>, state: &mut Stat
     ensures bits { HasBits asked.entry.listed.now asked.entry.number state.new.held.values }
 {
     for var in 0..asked.program.decls().vars().len() {
-        let value = match bit_for(asked.listed, var, asked.number) {
+        let value = match prefix_bit(asked.listed, var, 0, asked.number) {
             Some(bit) => bit,
             None => case.value(var) == Tri::On,
         };

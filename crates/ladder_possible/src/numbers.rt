@@ -1,7 +1,7 @@
 //! What a number gives the listed inputs.
 
 ghost use Rattle.std.specs.Prelude.{◌≡◌, ◌==◌, ◌≤◌, length, position};
-ghost use Rattle.ladder_possible.specs.Numbers.{IsGiven, bit_for, prefix_bit};
+ghost use Rattle.ladder_possible.specs.Numbers.{IsGiven, prefix_bit};
 
 use ladder_glance::Knowledge;
 use ladder_never::Outcome;
@@ -15,22 +15,8 @@ pub(crate) fn place_of(listed: &[usize], var: usize) -> Option<usize>
     listed.iter().position(|l| *l == var)
 }
 
-/// The bit that the number gives a variable, where it is listed.
-pub(crate) fn bit_for(listed: &[usize], var: usize, number: u64) -> Option<bool>
-    requires { length listed.now ≤ 64 }
-    ensures { result ≡ bit_for listed.now number var }
-{
-    match place_of(listed, var) {
-        Some(place) => {
-            let shift = (listed.len() - (place + 1)) as u32;
-            Some(bit(InputSource::Listed { shift }, number))
-        }
-        None => None,
-    }
-}
-
 /// The bit that the number gives a variable, where it is listed and its bit is none of the last ones, which are open.
-fn prefix_bit(listed: &[usize], var: usize, open_bits: u32, number: u64) -> Option<bool>
+pub(crate) fn prefix_bit(listed: &[usize], var: usize, open_bits: u32, number: u64) -> Option<bool>
     requires { length listed.now ≤ 64 }
     ensures { result ≡ prefix_bit listed.now open_bits number var }
 {

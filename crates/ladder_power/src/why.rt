@@ -17,6 +17,7 @@ use ladder_text::{Block, Piece, Sink, WriteFault, add_pieces};
 use ladder_vars::Decls;
 
 /// The name of what ends power at a cell, and its output.
+#[derive(Clone, Copy)]
 struct Open<'a> {
     name: &'a [u8],
     output: &'static [u8],

@@ -10,7 +10,7 @@ ghost use Rattle.ladder_scan.specs.Cells.{put_in};
 ghost use Rattle.ladder_scan.specs.Rung.{changed};
 ghost use Rattle.ladder_scan.specs.Programs.{diagram_of, IsSound};
 ghost use Rattle.ladder_scan.specs.Gating.{IsPlaced, among, changes_of};
-ghost use Rattle.ladder_resting.specs.Resting.{known_next, AllRest, AreUsers, AreWoken, IsStill, is_on_delay, is_settled};
+ghost use Rattle.ladder_resting.specs.Resting.{known_next, AllRest, AreUsers, AreWoken, IsStill, is_settled};
 
 use crate::marks::Users;
 use crate::waking::{wake_output, wake_variable};
@@ -37,23 +37,18 @@ fn has_memory(storage: &Storage, memory: Option<usize>, value: bool) -> bool
 fn is_settled(kind: BlockKind, stored: Stored) -> bool
     ensures { result ≡ is_settled kind stored }
 {
-    match stored {
-        Stored::Timer { running, q, .. } => !running || (is_on_delay(kind) && q),
-        Stored::Counter { .. } | Stored::Bistable { .. } => true,
-    }
-}
-
-fn is_on_delay(kind: BlockKind) -> bool
-    ensures { result ≡ is_on_delay kind }
-{
-    match kind {
-        BlockKind::Ton => true,
-        BlockKind::Tof
-        | BlockKind::Tp
-        | BlockKind::Ctu
-        | BlockKind::Ctd
-        | BlockKind::Sr
-        | BlockKind::Rs => false,
+    match (kind, stored) {
+        (BlockKind::Ton, Stored::Timer { running, q, .. }) => !running || q,
+        (
+            BlockKind::Tof
+            | BlockKind::Tp
+            | BlockKind::Ctu
+            | BlockKind::Ctd
+            | BlockKind::Sr
+            | BlockKind::Rs,
+            Stored::Timer { running, .. },
+        ) => !running,
+        (_, Stored::Counter { .. } | Stored::Bistable { .. }) => true,
     }
 }
 

@@ -36,6 +36,7 @@ pub(crate) struct RungLine<'a> {
 }
 
 /// The tags before and behind characters.
+#[derive(Clone, Copy)]
 pub(crate) struct Tags {
     pub opening: &'static [u8],
     pub closing: &'static [u8],

@@ -17,6 +17,7 @@ use ladder_words::{Medium, ShowRequest};
 use std::alloc::Global;
 
 /// The style that a medium has for a drawing, and for each drawing of a film.
+#[derive(Clone, Copy)]
 pub(crate) struct Styles {
     pub drawing: Style,
     pub frame: Style,
