@@ -30,19 +30,6 @@ fn none_chosen(entries: &[bool]) -> bool
     entries.iter().all(|chosen| !*chosen)
 }
 
-/// What all entries are, where they are alike.
-fn common(entries: &[bool]) -> Option<bool>
-    ensures { result ≡ common entries.now }
-{
-    if all_chosen(entries) {
-        Some(true)
-    } else if none_chosen(entries) {
-        Some(false)
-    } else {
-        None
-    }
-}
-
 /// How many completions a prefix has.
 fn size(height: u32) -> usize
     requires { height ≤ 3 }
@@ -59,7 +46,14 @@ fn common_part(chosen: &[bool], height: u32, base: u64) -> Option<bool>
     ensures { result ≡ common (part chosen.now height base) }
 {
     let from = base as usize;
-    common(&chosen[from..from + size(height)])
+    let entries = &chosen[from..from + size(height)];
+    if all_chosen(entries) {
+        Some(true)
+    } else if none_chosen(entries) {
+        Some(false)
+    } else {
+        None
+    }
 }
 
 /// Two entries as bits, the first one of weight 1.

@@ -2,7 +2,7 @@
 
 ghost use Rattle.std.specs.Prelude.{◌≡◌, List, true, false, codes, IfOk, IfErr, None, Option, Some};
 ghost use Rattle.clap.specs.Words.{Row, found_of, rows_of};
-ghost use Rattle.ladder_words.specs.Asking.{Asks, AsksNone, HasFlag, HasLasting, IsOfOneState, HasScans, scans_until};
+ghost use Rattle.ladder_words.specs.Asking.{Asks, AsksNone, HasFlag, HasLasting, IsOfOneState, HasScans};
 ghost use Rattle.ladder_words.specs.Parts.{IsUncut, MayLast, NamesNoEnd};
 ghost use Rattle.ladder_words.specs.Faults.{UsageWhere};
 
@@ -35,22 +35,16 @@ pub(crate) fn lasting_of(found: &ArgMatches<'_>) -> Result<Option<Lasting>, Word
     }
 }
 
-/// How many scans are made up to a time after the first one's moment, and at it.
-fn scans_until(time: u64, every: u64) -> u64
-    ensures { result ≡ scans_until time every }
-{
-    match time.checked_div(every) {
-        Some(scans) => scans.saturating_add(1),
-        None => u64::MAX,
-    }
-}
-
+/// How many scans are made: so many, or those up to a time after the first one's moment, and at it.
 pub(crate) fn count(lasting: Lasting, every: u64) -> u64
     ensures { (rows : List Row) → HasLasting lasting rows → HasScans result every rows }
 {
     match lasting {
         Lasting::Count(scans) => scans,
-        Lasting::Until(time) => scans_until(time, every),
+        Lasting::Until(time) => match time.checked_div(every) {
+            Some(scans) => scans.saturating_add(1),
+            None => u64::MAX,
+        },
     }
 }
 

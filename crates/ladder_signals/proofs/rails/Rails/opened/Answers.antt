@@ -3,4 +3,4 @@ use Rattle.std.proofs.Common.{◌-◌}
 use Rattle.ladder_signals.proofs.rails.Rails.opened.Goals as goal
 
 pub invariant_of-result : goal.invariant_of-result
-invariant_of-result c = rw (c.open_lanes.ensures.on, c.open_lanes.ensures.off) (open_rails (c.args.shift - c.args.unit))
+invariant_of-result c = rw (c.open_lanes-on.ensures.on, c.open_lanes-on.ensures.off) (open_rails (c.args.shift - c.args.unit))
