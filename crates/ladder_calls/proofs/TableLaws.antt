@@ -8,7 +8,7 @@ use Rattle.std.proofs.lemmas.List.Sums.{AllPass-from_list_all}
 use Rattle.ladder_search.specs.Looks.{span}
 use Rattle.ladder_search.specs.Trees.{Tells, digit}
 use Rattle.ladder_search.proofs.WalkLaws.{span-is}
-use Rattle.ladder_calls.specs.Table.{common, pair, part, table_search}
+use Rattle.ladder_calls.specs.Table.{common, part, table_search}
 
 -- an entry of a part
 entry : (chosen : List Bool) (base w n : ℕ) → base ≤ n → n < base + w → get_or (take w (drop base chosen)) (n - base) false ≡ get_or chosen n false
@@ -60,7 +60,7 @@ two_bits false false zero h = refl
 two_bits false false (suc zero) h = refl
 two_bits a b (suc (suc j)) h = absurd (omega (arith, h))
 
-pub pair_bits : (chosen : List Bool) (base j : ℕ) → j < 2 → bit_at (pair chosen base) j ≡ digit (slice_index_or chosen (base + j) false)
+pub pair_bits : (chosen : List Bool) (base j : ℕ) → j < 2 → bit_at (digit (slice_index_or chosen base false) + 2 * digit (slice_index_or chosen (base + 1) false)) j ≡ digit (slice_index_or chosen (base + j) false)
 pair_bits chosen base zero h =
     let same : base ≡ base + 0 = omega arith in
     two_bits (slice_index_or chosen base false) (slice_index_or chosen (base + 1) false) 0 h ∙ ap (λ i. digit (slice_index_or chosen i false)) same

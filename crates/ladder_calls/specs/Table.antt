@@ -1,8 +1,7 @@
 -- A table as a tree of prefixes: sixteen numbers, of which the entries say whether they are chosen, with one open bit in a longest prefix.
-use Rattle.std.specs.Prelude.{ℕ, ◌+◌, ◌*◌, ◌^◌, Bool, true, false, not, if◌then◌else◌, List, Option, Some, None, is_some, drop, take, slice_index_or}
+use Rattle.std.specs.Prelude.{ℕ, ◌+◌, ◌^◌, Bool, true, false, not, if◌then◌else◌, List, Option, Some, None, is_some, drop, take, slice_index_or}
 use Rattle.std.specs.List.{list_all}
 use Rattle.ladder_search.specs.Looks.{Search}
-use Rattle.ladder_search.specs.Trees.{digit}
 
 -- what all entries are, where they are alike
 abbrev pub common : List Bool → Option Bool
@@ -11,10 +10,6 @@ common entries = if list_all (λ b. b) entries then Some true else (if list_all 
 -- the entries of the completions of a prefix
 abbrev pub part : List Bool → ℕ → ℕ → List Bool
 part chosen height base = take (2 ^ (1 + height)) (drop base chosen)
-
--- two entries as bits
-abbrev pub pair : List Bool → ℕ → ℕ
-pair chosen base = digit (slice_index_or chosen base false) + 2 * digit (slice_index_or chosen (base + 1) false)
 
 -- A prefix is decided where its entries are alike.
 abbrev pub table_search : List Bool → ℕ → Search

@@ -1,8 +1,8 @@
 //! The search on a table of sixteen numbers.
 
-ghost use Rattle.std.specs.Prelude.{◌≡◌, ◌≤◌, ◌+◌, ◌^◌, IfOk, length, not};
+ghost use Rattle.std.specs.Prelude.{◌≡◌, ◌≤◌, ◌+◌, ◌*◌, ◌^◌, IfOk, false, length, not, slice_index_or};
 ghost use Rattle.std.specs.List.{list_all};
-ghost use Rattle.ladder_calls.specs.Table.{common, pair, part, table_search};
+ghost use Rattle.ladder_calls.specs.Table.{common, part, table_search};
 ghost use Rattle.ladder_search.specs.Trees.{digit};
 
 use ladder_search::{Plan, Tree, advance, begin};
@@ -60,7 +60,7 @@ fn common_part(chosen: &[bool], height: u32, base: u64) -> Option<bool>
 fn pair(chosen: &[bool], base: u64) -> u64
     requires within { base + 2 ≤ length chosen.now }
     requires few { length chosen.now ≤ 16 }
-    ensures { result ≡ pair chosen.now base }
+    ensures { result ≡ digit (slice_index_or chosen.now base false) + 2 * digit (slice_index_or chosen.now (base + 1) false) }
 {
     let from = base as usize;
     u64::from(chosen[from]) + 2 * u64::from(chosen[from + 1])
