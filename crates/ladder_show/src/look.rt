@@ -42,7 +42,7 @@ pub(crate) struct Tags {
     pub closing: &'static [u8],
 }
 
-fn tags(opening: &'static [u8], closing: &'static [u8]) -> Tags
+fn tag_pair(opening: &'static [u8], closing: &'static [u8]) -> Tags
     ensures { (result.opening.now ≡ opening.now) × (result.closing.now ≡ closing.now) }
 {
     Tags { opening, closing }
@@ -54,16 +54,16 @@ pub(crate) fn tags_of(look: Look) -> Tags
     ensures closing { result.closing.now ≡ closing look }
 {
     match look {
-        Look::Plain => tags(b"", b""),
-        Look::Rail => tags(b"<i class=r>", b"</i>"),
-        Look::Passed => tags(b"<i class=p>", b"</i>"),
-        Look::Wire(false) => tags(b"<i class=w>", b"</i>"),
-        Look::Wire(true) => tags(b"<b class=w>", b"</b>"),
-        Look::Link(false) => tags(b"<i class=v>", b"</i>"),
-        Look::Link(true) => tags(b"<b class=v>", b"</b>"),
-        Look::Joint(false) => tags(b"<i class=j>", b"</i>"),
-        Look::Joint(true) => tags(b"<b class=j>", b"</b>"),
-        Look::On => tags(b"<b class=s>", b"</b>"),
+        Look::Plain => tag_pair(b"", b""),
+        Look::Rail => tag_pair(b"<i class=r>", b"</i>"),
+        Look::Passed => tag_pair(b"<i class=p>", b"</i>"),
+        Look::Wire(false) => tag_pair(b"<i class=w>", b"</i>"),
+        Look::Wire(true) => tag_pair(b"<b class=w>", b"</b>"),
+        Look::Link(false) => tag_pair(b"<i class=v>", b"</i>"),
+        Look::Link(true) => tag_pair(b"<b class=v>", b"</b>"),
+        Look::Joint(false) => tag_pair(b"<i class=j>", b"</i>"),
+        Look::Joint(true) => tag_pair(b"<b class=j>", b"</b>"),
+        Look::On => tag_pair(b"<b class=s>", b"</b>"),
     }
 }
 
