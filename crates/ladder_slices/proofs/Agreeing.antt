@@ -6,6 +6,7 @@ use Rattle.ladder_vars.specs.declared.kind.BlockKind.TheVariants.{Ton}
 use Rattle.ladder_grid.specs.declared.cell.Operand.TheVariants as operand
 use Rattle.ladder_grid.specs.declared.cell.Cell.{Cell}
 use Rattle.ladder_grid.specs.declared.cell.Cell.TheVariants as cell
+use Rattle.ladder_grid.specs.declared.gates.TheConstants.{OFF}
 use Rattle.ladder_grid.specs.declared.gates.Action.{Action}
 use Rattle.ladder_grid.specs.declared.steps.Spot.{Spot}
 use Rattle.ladder_grid.specs.declared.steps.Step.{Step}
@@ -178,7 +179,7 @@ module _ {S : Type 0} (o : Algebra S) (p : Drawing) (k : Kept) (now : ℕ) where
 
   -- ---- actions
   abbrev action : Cell → ℕ → ℕ → Action
-  action c place left = record { cell = c; place = place; left = left; below = 61 }
+  action c place left = record { cell = c; place = place; left = left; below = OFF }
 
   chosen_alike : (a b x y u v : S) → a ≡ b → x ≡ y → u ≡ v → o.choice a x u ≡ o.choice b y v
   chosen_alike a b x y u v e h i = ap (λ z. o.choice z x u) e ∙ ap₂ (o.choice b) h i
