@@ -6,7 +6,7 @@ use Rattle.ladder_vars.specs.declared.kind.BlockKind.TheVariants.{Ton}
 use Rattle.ladder_grid.specs.declared.cell.Operand.TheVariants as operand
 use Rattle.ladder_grid.specs.declared.cell.Cell.{Cell}
 use Rattle.ladder_grid.specs.declared.cell.Cell.TheVariants as cell
-use Rattle.ladder_grid.specs.declared.gates.TheConstants.{OFF}
+use Rattle.ladder_grid.specs.declared.gates.TheConstants.{OFF, OWN}
 use Rattle.ladder_grid.specs.declared.gates.Action.{Action}
 use Rattle.ladder_grid.specs.declared.steps.Spot.{Spot}
 use Rattle.ladder_grid.specs.declared.steps.Step.{Step}
@@ -129,15 +129,15 @@ module _ {S : Type 0} (o : Algebra S) (p : Drawing) (k : Kept) (now : ℕ) where
     kept_alike : (x y : S) → x ≡ y → Alike off (by_own spot m) ls ks → Alike off m (keeping o ls spot x) (keeping o ks spot y)
     kept_alike x y e a =
         let b = fewer off _ spot.left ls ks (fewer off _ spot.other ls ks a) in
-        covered off m _ _ spot.place _ _ (covered off (unmark m spot.place) ls ks (62 + spot.place) x y b e) (ap₂ o.join e (here off _ spot.other ls ks a))
+        covered off m _ _ spot.place _ _ (covered off (unmark m spot.place) ls ks (OWN + spot.place) x y b e) (ap₂ o.join e (here off _ spot.other ls ks a))
 
     passed_missed : (y : S) → marked m spot.place ≡ false → Alike off m ls ks → Alike off m ls (set ks spot.place y)
     passed_missed y none a = missed off m ls ks spot.place y none a
 
-    kept_missed : (y : S) → (marked m spot.place || marked m (62 + spot.place)) ≡ false → Alike off m ls ks → Alike off m ls (keeping o ks spot y)
+    kept_missed : (y : S) → (marked m spot.place || marked m (OWN + spot.place)) ≡ false → Alike off m ls ks → Alike off m ls (keeping o ks spot y)
     kept_missed y none a =
-        let w = neither (marked m spot.place) (marked m (62 + spot.place)) none in
-        missed off m ls _ spot.place _ w.0 (missed off m ls ks (62 + spot.place) y w.1 a)
+        let w = neither (marked m spot.place) (marked m (OWN + spot.place)) none in
+        missed off m ls _ spot.place _ w.0 (missed off m ls ks (OWN + spot.place) y w.1 a)
 
   -- what a contact reads
   fewer_values : (c : Cell) (m : List Bool) (xs ys : List S) → Alike off (cell_values c m) xs ys → Alike off m xs ys
@@ -200,7 +200,7 @@ module _ {S : Type 0} (o : Algebra S) (p : Drawing) (k : Kept) (now : ℕ) where
     act_values (cell.Jump target) m h w = w
     act_values cell.Return m h w = w
 
-    act_ends : (c : Cell) (m : List Bool) → among o ls (62 + place) ≡ among o ks (62 + place) → Alike off m f.ends g.ends
+    act_ends : (c : Cell) (m : List Bool) → among o ls (OWN + place) ≡ among o ks (OWN + place) → Alike off m f.ends g.ends
         → Alike off m (acted o k a ls (action c place left) f).ends (acted o k b ks (action c place left) g).ends
     act_ends cell.Empty m h w = w
     act_ends cell.Wire m h w = w
@@ -319,17 +319,17 @@ module _ {S : Type 0} (o : Algebra S) (p : Drawing) (k : Kept) (now : ℕ) where
   }
   kept_step (Rare (End place inst)) n g h a = record {
     values = a.values;
-    ends = wrote off n.ends g.frame.ends h.frame.ends inst _ _ a.ends (λ t. chosen_alike _ _ _ _ _ _ (a.guard refl) (here off n.links (62 + place) g.links h.links a.links) (a.ends.at inst t));
-    links = fewer off n.links (62 + place) g.links h.links a.links;
+    ends = wrote off n.ends g.frame.ends h.frame.ends inst _ _ a.ends (λ t. chosen_alike _ _ _ _ _ _ (a.guard refl) (here off n.links (OWN + place) g.links h.links a.links) (a.ends.at inst t));
+    links = fewer off n.links (OWN + place) g.links h.links a.links;
     taken = λ t. a.taken refl;
     guard = λ t. a.guard refl;
   }
   kept_step (Rare (Act rung place left)) n g h a =
       let c = (diagram_of p).cell rung place in
-      let b = fewer off (mark n.links left) (62 + place) g.links h.links a.links in
+      let b = fewer off (mark n.links left) (OWN + place) g.links h.links a.links in
       record {
         values = act_values g.frame h.frame g.guard h.guard g.links h.links place left (a.guard refl) c n.values (here off n.links left g.links h.links b) a.values;
-        ends = act_ends g.frame h.frame g.guard h.guard g.links h.links place left (a.guard refl) c n.ends (here off (mark n.links left) (62 + place) g.links h.links a.links) a.ends;
+        ends = act_ends g.frame h.frame g.guard h.guard g.links h.links place left (a.guard refl) c n.ends (here off (mark n.links left) (OWN + place) g.links h.links a.links) a.ends;
         links = fewer off n.links left g.links h.links b;
         taken = λ t. a.taken refl;
         guard = λ t. a.guard refl;
