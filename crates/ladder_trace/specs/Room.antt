@@ -1,5 +1,5 @@
 -- Private to the simulation: what its inner functions allocate before a first write, how they read a field, and choose variables.
-use Rattle.std.specs.Prelude.{◌≡◌, ◌∷◌, ◌*◌, ℕ, List, [], Bool, Some, drop, length, map, slice_index_or}
+use Rattle.std.specs.Prelude.{◌≡◌, ◌∷◌, ◌*◌, ℕ, List, [], Bool, true, false, Some, drop, length, map, slice_index_or}
 use Rattle.std.specs.List.{count_by}
 use Rattle.ladder_vars.specs.declared.decls.Var.{Var}
 use Rattle.ladder_vars.specs.Decls.{is_input}
