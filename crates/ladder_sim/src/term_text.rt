@@ -62,6 +62,13 @@ fn after(brackets: Brackets, begun: bool) -> &'static [u8]
     }
 }
 
+/// What stands before the name of an input.
+fn negation(is_on: bool) -> &'static [u8]
+    ensures { result.now ≡ negation is_on }
+{
+    if is_on { b"" } else { b"NOT " }
+}
+
 /// Adds what stands before a literal, and the literal: the name of an input, after NOT where it is OFF.
 fn add_literal<W: Sink>(
     block: &mut Block,
@@ -73,7 +80,7 @@ fn add_literal<W: Sink>(
     ensures { Sends (W.log writer.old) (W.log writer.new) block.old block.new result (before.now ++ (negation is_on ++ name.now)) }
 {
     block.add(before, writer)?;
-    block.add(if is_on { b"" } else { b"NOT " }, writer)?;
+    block.add(negation(is_on), writer)?;
     block.add(name, writer)
 }
 

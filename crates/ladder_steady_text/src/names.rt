@@ -14,16 +14,6 @@ use ladder_text::{Block, Sink, WriteFault};
 use ladder_uses::{add_header, add_symbol, symbol_at, symbol_count};
 use ladder_vars::Symbol;
 
-/// What is claimed of a name.
-fn claim_of(set: &Set, symbol: Symbol) -> Tri
-    ensures { result ≡ claim_of set.now symbol }
-{
-    match symbol {
-        Symbol::Var(var) => set.of_variable(var),
-        Symbol::Instance(inst) => set.of_instance(inst),
-    }
-}
-
 fn is_claimed(value: bool, claim: Tri) -> bool
     ensures { result ≡ is_claimed value claim }
 {
@@ -31,6 +21,16 @@ fn is_claimed(value: bool, claim: Tri) -> bool
         Tri::On => value,
         Tri::Off => !value,
         Tri::Unsure => false,
+    }
+}
+
+/// Whether it is claimed of a name that it stays at the value.
+fn stays(set: &Set, symbol: Symbol, value: bool) -> bool
+    ensures { result ≡ is_claimed value (claim_of set.now symbol) }
+{
+    match symbol {
+        Symbol::Var(var) => is_claimed(value, set.of_variable(var)),
+        Symbol::Instance(inst) => is_claimed(value, set.of_instance(inst)),
     }
 }
 
@@ -47,7 +47,7 @@ fn add_name<W: Sink>(
     ensures count { IfOk result (λ n. n ≡ length (claimed_rows program.now set.now value symbol)) }
     ensures few { IfOk result (λ n. n ≤ PLACES * RUNGS) }
 {
-    if !is_claimed(value, claim_of(set, symbol)) {
+    if !stays(set, symbol, value) {
         return Ok(0);
     }
     add_symbol(block, program, symbol, writer)
