@@ -1,9 +1,9 @@
 -- Private: the page that the code holds while it reads it.
-use Rattle.std.specs.Prelude.{ℕ, ◌-◌, ◌==◌, Option, None, if◌then◌else◌, map}
+use Rattle.std.specs.Prelude.{ℕ, map}
 use Rattle.ladder_page.specs.declared.lines.Part.{Part}
 use Rattle.ladder_page.specs.declared.view.PageView.{PageView}
 use Rattle.ladder_page.specs.Lines.{part_in}
-use Rattle.ladder_page.specs.Page.{Page, instance_at}
+use Rattle.ladder_page.specs.Page.{Page}
 use Rattle.ladder_page.specs.ReadLines.{page}
 
 abbrev pub seen : PageView → Page
@@ -12,7 +12,3 @@ seen v = page v.decls.now (map (λ l. l.now) v.lines.now) v.unclosed v.parts.now
 -- a rung and its gap
 abbrev pub part_at : Page → ℕ → Part
 part_at page k = part_in page.parts k
-
--- The instance of the block over a cell.
-abbrev pub instance_above : Page → ℕ → ℕ → ℕ → Option ℕ
-instance_above page k r c = if r == 0 then None else instance_at page k (r - 1) c

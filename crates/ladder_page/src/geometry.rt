@@ -1,6 +1,7 @@
 //! The geometry of a drawing: how many rungs, rows and columns there are, and where a cell stands in its lines.
 
-ghost use Rattle.std.specs.Prelude.{◌≡◌, ◌<◌};
+ghost use Rattle.std.specs.Prelude.{◌≡◌, ◌<◌, ◌+◌, ◌*◌, ◌/◌, ◌%◌, IfSome, IfNone};
+ghost use Rattle.ladder_page.specs.declared.geometry.TheConstants.{RUNGS, ROWS, COLUMNS, PLACES};
 ghost use Rattle.ladder_page.specs.Geometry.{place};
 ghost use Rattle.ladder_page.specs.AllPlaces.{reading_place};
 
@@ -28,22 +29,70 @@ pub const PITCH: usize = CELL + 1;
 /// The place of the right rail in a line.
 pub const RAIL: usize = PITCH * COLUMNS;
 
-/// The number of a place among all, by rung, column and row.
-pub fn place(rung: usize, row: usize, column: usize) -> usize
-    requires rungs { rung < RUNGS }
-    requires rows { row < ROWS }
-    requires columns { column < COLUMNS }
-    ensures { result ≡ place rung row column }
-{
-    PLACES * rung + (ROWS * column + row)
+/// A place of a drawing: a cell by its rung, its row and its column.
+#[derive(Clone, Copy)]
+pub struct Place {
+    pub rung: usize,
+    pub row: usize,
+    pub column: usize,
+    ghost few: { rung < RUNGS },
+    ghost rows: { row < ROWS },
+    ghost columns: { column < COLUMNS },
 }
 
-/// The number of a place in the order of reading.
-pub fn reading_place(rung: usize, row: usize, column: usize) -> usize
-    requires rungs { rung < RUNGS }
-    requires rows { row < ROWS }
-    requires columns { column < COLUMNS }
-    ensures { result ≡ reading_place rung row column }
-{
-    PLACES * rung + (COLUMNS * row + column)
+impl Place {
+    /// The place with this number among all, by rung, column and row.
+    pub fn of(n: usize) -> Place
+        requires { n < PLACES * RUNGS }
+        ensures { (result.rung ≡ n / PLACES) × (result.row ≡ n % PLACES % ROWS) × (result.column ≡ n % PLACES / ROWS) }
+    {
+        let within = n % PLACES;
+        Place {
+            rung: n / PLACES,
+            row: within % ROWS,
+            column: within / ROWS,
+        }
+    }
+
+    /// The place with this number in the order of reading: by rung, row and column.
+    pub fn read_at(n: usize) -> Place
+        requires { n < PLACES * RUNGS }
+        ensures { (result.rung ≡ n / PLACES) × (result.row ≡ n % PLACES / COLUMNS) × (result.column ≡ n % PLACES % COLUMNS) }
+    {
+        let within = n % PLACES;
+        Place {
+            rung: n / PLACES,
+            row: within / COLUMNS,
+            column: within % COLUMNS,
+        }
+    }
+
+    /// The number of the place among all, by rung, column and row.
+    pub fn number(self) -> usize
+        ensures { result ≡ place self.rung self.row self.column }
+    {
+        PLACES * self.rung + (ROWS * self.column + self.row)
+    }
+
+    /// The number of the place in the order of reading.
+    pub fn reading_number(self) -> usize
+        ensures { result ≡ reading_place self.rung self.row self.column }
+    {
+        PLACES * self.rung + (COLUMNS * self.row + self.column)
+    }
+
+    /// The place in the row above.
+    pub fn above(self) -> Option<Place>
+        ensures none { IfNone result (self.row ≡ 0) }
+        ensures some { IfSome result (λ p. (p.rung ≡ self.rung) × (p.row + 1 ≡ self.row) × (p.column ≡ self.column)) }
+    {
+        if self.row == 0 {
+            return None;
+        }
+        Some(Place {
+            rung: self.rung,
+            row: self.row - 1,
+            column: self.column,
+        })
+    }
 }

@@ -11,10 +11,10 @@ ghost use Rattle.ladder_page.specs.Page.{rung_at, form_at, name_over, instance_a
 ghost use Rattle.ladder_page.specs.Seen.{seen, part_at};
 
 use crate::form::{Form, form_at as form_of};
-use crate::geometry::{PLACES, ROWS, RUNGS, place};
+use crate::geometry::{PLACES, Place, RUNGS};
 use crate::lines::{Part, lines_between};
 use crate::operand::{NameOver, Reference, refer_to, word_in};
-use crate::picture::{has_text, text_at};
+use crate::picture::{Half, half_line, has_text, text_at};
 use crate::view::PageView;
 use ladder_vars::{Decls, Symbol};
 use std::alloc::{AllocError, Global};
@@ -60,8 +60,9 @@ pub fn forms(
 {
     let mut forms = Vec::new(alloc);
     for n in 0..PLACES * parts.len().min(RUNGS) {
-        let rung = rung_in(lines, parts, n / PLACES);
-        let chars = text_at(rung, 2 * (n % PLACES % ROWS) + 1, n % PLACES / ROWS);
+        let at = Place::of(n);
+        let rung = rung_in(lines, parts, at.rung);
+        let chars = text_at(rung, half_line(at.row, Half::Wire), at.column);
         forms.push(form_of(&chars))?;
     }
     Ok(forms)
@@ -80,8 +81,9 @@ pub fn overs(
 {
     let mut overs = Vec::new(alloc);
     for n in 0..PLACES * parts.len().min(RUNGS) {
-        let rung = rung_in(lines, parts, n / PLACES);
-        let chars = text_at(rung, 2 * (n % PLACES % ROWS), n % PLACES / ROWS);
+        let at = Place::of(n);
+        let rung = rung_in(lines, parts, at.rung);
+        let chars = text_at(rung, half_line(at.row, Half::Name), at.column);
         overs.push(NameOver {
             written: has_text(&chars),
             name: refer_to(decls, word_in(&chars)),
@@ -91,80 +93,47 @@ pub fn overs(
 }
 
 /// The form of a cell.
-pub fn form_at(page: PageView<'_, '_>, rung: usize, row: usize, column: usize) -> Option<Form>
-    requires rows { row < ROWS }
-    requires columns { column < COLUMNS }
-    ensures { result ≡ form_at (seen page.entry) rung row column }
+pub fn form_at(page: PageView<'_, '_>, at: Place) -> Option<Form>
+    ensures { result ≡ form_at (seen page.entry) at.rung at.row at.column }
 {
-    if rung > page.forms.len() / PLACES {
-        return None;
-    }
-    let at = PLACES * rung + (ROWS * column + row);
-    if at < page.forms.len() {
-        page.forms[at]
+    let number = at.number();
+    if number < page.forms.len() {
+        page.forms[number]
     } else {
         None
     }
 }
 
-fn over_at(page: PageView<'_, '_>, rung: usize, row: usize, column: usize) -> NameOver
-    requires rungs { rung < length page.parts.now }
-    requires few { rung < RUNGS }
-    requires rows { row < ROWS }
-    requires columns { column < COLUMNS }
-    ensures { result ≡ over_with page.entry.decls.now (text_over (rung_at (seen page.entry) rung) row column) }
+fn over_at(page: PageView<'_, '_>, at: Place) -> NameOver
+    requires { at.rung < length page.parts.now }
+    ensures { result ≡ over_with page.entry.decls.now (text_over (rung_at (seen page.entry) at.rung) at.row at.column) }
 {
-    page.overs[place(rung, row, column)]
+    page.overs[at.number()]
 }
 
 /// Whether there is text over a cell.
-pub fn is_written_over(page: PageView<'_, '_>, rung: usize, row: usize, column: usize) -> bool
-    requires rungs { rung < length page.parts.now }
-    requires few { rung < RUNGS }
-    requires rows { row < ROWS }
-    requires columns { column < COLUMNS }
-    ensures { result ≡ has_text (text_over (rung_at (seen page.entry) rung) row column) }
+pub fn is_written_over(page: PageView<'_, '_>, at: Place) -> bool
+    requires { at.rung < length page.parts.now }
+    ensures { result ≡ has_text (text_over (rung_at (seen page.entry) at.rung) at.row at.column) }
 {
-    over_at(page, rung, row, column).written
+    over_at(page, at).written
 }
 
 /// What the text over a cell stands for.
-pub fn name_over(
-    page: PageView<'_, '_>,
-    rung: usize,
-    row: usize,
-    column: usize,
-) -> Option<Reference>
-    requires rungs { rung < length page.parts.now }
-    requires few { rung < RUNGS }
-    requires rows { row < ROWS }
-    requires columns { column < COLUMNS }
-    ensures { result ≡ name_over (seen page.entry) rung row column }
+pub fn name_over(page: PageView<'_, '_>, at: Place) -> Option<Reference>
+    requires { at.rung < length page.parts.now }
+    ensures { result ≡ name_over (seen page.entry) at.rung at.row at.column }
 {
-    over_at(page, rung, row, column).name
+    over_at(page, at).name
 }
 
-/// The instance of the block over a cell.
+/// The instance of the block at a place.
 #[tactic(auto, unfolding(crate::specs::Page::instance_at))]
-pub fn instance_above(
-    page: PageView<'_, '_>,
-    rung: usize,
-    row: usize,
-    column: usize,
-) -> Option<usize>
-    requires rungs { rung < length page.parts.now }
-    requires few { rung < RUNGS }
-    requires rows { row < ROWS }
-    requires columns { column < COLUMNS }
-    ensures { result ≡ (if row == 0 then None else instance_at (seen page.entry) rung (row - 1) column) }
+pub fn instance_at(page: PageView<'_, '_>, at: Place) -> Option<usize>
+    requires { at.rung < length page.parts.now }
+    ensures { result ≡ instance_at (seen page.entry) at.rung at.row at.column }
 {
-    if row == 0 {
-        return None;
-    }
-    match (
-        form_at(page, rung, row - 1, column),
-        name_over(page, rung, row - 1, column),
-    ) {
+    match (form_at(page, at), name_over(page, at)) {
         (Some(Form::Block(_)), Some(name)) => match name.symbol {
             Symbol::Instance(inst) => Some(inst),
             Symbol::Var(_) => None,
