@@ -1,6 +1,6 @@
 //! The geometry of a drawing: how many rungs, rows and columns there are, and where a cell stands in its lines.
 
-ghost use Rattle.std.specs.Prelude.{◌≡◌, ◌<◌, ◌+◌, ◌*◌, ◌/◌, ◌%◌, IfSome, IfNone};
+ghost use Rattle.std.specs.Prelude.{◌≡◌, ◌<◌, ◌+◌, ◌*◌, ◌-◌, ◌/◌, ◌%◌};
 ghost use Rattle.ladder_page.specs.declared.geometry.TheConstants.{RUNGS, ROWS, COLUMNS, PLACES};
 ghost use Rattle.ladder_page.specs.Geometry.{place};
 ghost use Rattle.ladder_page.specs.AllPlaces.{reading_place};
@@ -81,18 +81,26 @@ impl Place {
         PLACES * self.rung + (COLUMNS * self.row + self.column)
     }
 
-    /// The place in the row above.
-    pub fn above(self) -> Option<Place>
-        ensures none { IfNone result (self.row ≡ 0) }
-        ensures some { IfSome result (λ p. (p.rung ≡ self.rung) × (p.row + 1 ≡ self.row) × (p.column ≡ self.column)) }
+    /// The place of this row in the same rung and column.
+    pub fn in_row(self, row: usize) -> Place
+        requires { row < ROWS }
+        ensures { (result.rung ≡ self.rung) × (result.row ≡ row) × (result.column ≡ self.column) }
     {
-        if self.row == 0 {
-            return None;
-        }
-        Some(Place {
+        Place {
             rung: self.rung,
-            row: self.row - 1,
+            row,
             column: self.column,
-        })
+        }
+    }
+
+    /// The place in the column before; the place itself in the first column.
+    pub fn before(self) -> Place
+        ensures { (result.rung ≡ self.rung) × (result.row ≡ self.row) × (result.column ≡ self.column - 1) }
+    {
+        Place {
+            rung: self.rung,
+            row: self.row,
+            column: self.column.saturating_sub(1),
+        }
     }
 }

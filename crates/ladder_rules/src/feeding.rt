@@ -1,48 +1,48 @@
 //! Right links, and which cells they feed on a page.
 
 ghost use Rattle.std.specs.Prelude.{◌≡◌, ◌<◌, ◌↔◌, length, IsTrue};
-ghost use Rattle.ladder_page.specs.declared.geometry.TheConstants.{ROWS, COLUMNS};
 ghost use Rattle.ladder_page.specs.Seen.{seen};
 ghost use Rattle.ladder_rules.specs.Feeding.{right_link, enters, IsFed, IsUnfed};
 
-use ladder_page::geometry::{CELL, PITCH, ROWS};
+use ladder_page::geometry::{CELL, PITCH, Place, ROWS};
 use ladder_page::page::{form_at, rung_at};
 use ladder_page::picture::{ch, joint, same_group};
 use ladder_page::{Form, PageView};
 
 /// Whether a cell has a right link.
-pub fn right_link(page: PageView<'_, '_>, rung: usize, row: usize, column: usize) -> bool
-    requires rungs { rung < length page.parts.now }
-    requires rows { row < ROWS }
-    requires columns { column < COLUMNS }
-    ensures { result ≡ right_link (seen page.entry) rung row column }
+pub fn right_link(page: PageView<'_, '_>, at: Place) -> bool
+    requires { at.rung < length page.parts.now }
+    ensures { result ≡ right_link (seen page.entry) at.rung at.row at.column }
 {
-    match form_at(page, rung, row, column) {
+    match form_at(page, at) {
         Some(Form::Lower(_, _) | Form::Jump(_) | Form::Return) => false,
         Some(Form::Empty | Form::Wire | Form::Contact(_) | Form::Coil(_) | Form::Block(_)) | None =>
-            { ch(rung_at(page, rung), 2 * row + 1, PITCH * column + CELL) != b' ' }
+            {
+                ch(
+                    rung_at(page, at.rung),
+                    2 * at.row + 1,
+                    PITCH * at.column + CELL,
+                ) != b' '
+            }
     }
 }
 
-fn enters(page: PageView<'_, '_>, rung: usize, row: usize, column: usize) -> bool
-    requires rungs { rung < length page.parts.now }
-    requires rows { row < ROWS }
-    requires columns { column < COLUMNS }
-    ensures { result ≡ enters (seen page.entry) rung row column }
+fn enters(page: PageView<'_, '_>, at: Place) -> bool
+    requires { at.rung < length page.parts.now }
+    ensures { result ≡ enters (seen page.entry) at.rung at.row at.column }
 {
-    let joint = joint(rung_at(page, rung), row, column);
-    right_link(page, rung, row, column.saturating_sub(1)) && (joint == b'-' || joint == b'+')
+    let joint = joint(rung_at(page, at.rung), at.row, at.column);
+    right_link(page, at.before()) && (joint == b'-' || joint == b'+')
 }
 
-fn is_fed(page: PageView<'_, '_>, rung: usize, row: usize, column: usize) -> bool
-    requires rungs { rung < length page.parts.now }
-    requires rows { row < ROWS }
-    requires columns { column < COLUMNS }
-    ensures { IsTrue result ↔ IsFed (seen page.entry) rung row column }
+/// Whether a right link enters the group of the joint on the left of a cell.
+fn is_fed(page: PageView<'_, '_>, at: Place) -> bool
+    requires { at.rung < length page.parts.now }
+    ensures { IsTrue result ↔ IsFed (seen page.entry) at.rung at.row at.column }
 {
-    for other in 0..ROWS {
-        if enters(page, rung, other, column)
-            && same_group(rung_at(page, rung), column, row, other)
+    for row in 0..ROWS {
+        if enters(page, at.in_row(row))
+            && same_group(rung_at(page, at.rung), at.column, at.row, row)
         {
             return true;
         }
@@ -51,16 +51,14 @@ fn is_fed(page: PageView<'_, '_>, rung: usize, row: usize, column: usize) -> boo
 }
 
 /// Whether a cell wants power on its left where none can come.
-pub(crate) fn is_unfed(page: PageView<'_, '_>, rung: usize, row: usize, column: usize) -> bool
-    requires rungs { rung < length page.parts.now }
-    requires rows { row < ROWS }
-    requires columns { column < COLUMNS }
-    ensures { IsTrue result ↔ IsUnfed (seen page.entry) rung row column }
+pub(crate) fn is_unfed(page: PageView<'_, '_>, at: Place) -> bool
+    requires { at.rung < length page.parts.now }
+    ensures { IsTrue result ↔ IsUnfed (seen page.entry) at.rung at.row at.column }
 {
-    let lines = rung_at(page, rung);
-    if column == 0 || ch(lines, 2 * row + 1, PITCH * column + 1) != b'-' {
+    let lines = rung_at(page, at.rung);
+    if at.column == 0 || ch(lines, 2 * at.row + 1, PITCH * at.column + 1) != b'-' {
         return false;
     }
-    let joint = joint(lines, row, column);
-    joint == b' ' || (joint == b'+' && !is_fed(page, rung, row, column))
+    let joint = joint(lines, at.row, at.column);
+    joint == b' ' || (joint == b'+' && !is_fed(page, at))
 }

@@ -4,7 +4,7 @@ ghost use Rattle.std.specs.Prelude.{◌≡◌, ◌≤◌, ◌<◌, ◌*◌, ◌�
 ghost use Rattle.ladder_page.specs.declared.geometry.TheConstants.{RUNGS, PLACES};
 ghost use Rattle.ladder_page.specs.Tables.{noted, AreFirsts, HasBlock, IsBefore};
 
-use ladder_page::geometry::{COLUMNS, PLACES, place};
+use ladder_page::geometry::{PLACES, Place};
 use ladder_page::operand::block_drawn;
 use ladder_page::{Form, NameOver, Reference};
 use ladder_vars::Decls;
@@ -31,7 +31,7 @@ fn block_in(decls: &Decls, forms: &[Option<Form>], overs: &[NameOver], n: usize)
     requires { n < PLACES * RUNGS }
     ensures { (inst : ℕ) → (result ≡ Some inst) ↔ HasBlock decls.now forms.now overs.now n inst }
 {
-    let at = place(n / PLACES, n % PLACES / COLUMNS, n % PLACES % COLUMNS);
+    let at = Place::read_at(n).number();
     block_drawn(decls, form_in(forms, at), name_in(overs, at))
 }
 

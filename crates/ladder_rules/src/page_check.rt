@@ -16,10 +16,11 @@ use crate::fault::{GridRule, Rule, Stop};
 use crate::gap::{label_line, read_gap};
 use crate::rung::broken_rule;
 use ladder_page::gap::is_named;
-use ladder_page::geometry::{COLUMNS, PLACES, RUNGS};
+use ladder_page::geometry::{COLUMNS, PLACES, Place, RUNGS};
 use ladder_page::lines::last_gap;
 use ladder_page::page::{form_at, part_at};
-use ladder_page::{Form, PageView};
+use ladder_page::picture::half_line;
+use ladder_page::{Form, Half, PageView};
 use ladder_vars::Name;
 use std::alloc::Global;
 
@@ -148,14 +149,20 @@ fn leads_nowhere(labels: &[Option<Name>], rung: usize, form: &Option<Form>) -> b
 /// The first line of the rung where a jump has no target.
 fn broken_target(page: PageView<'_, '_>, labels: &[Option<Name>], rung: usize) -> Option<usize>
     requires rungs { rung < length page.parts.now }
+    requires few { rung < RUNGS }
     requires known { labels.now ≡ labels_of (map (λ l. l.now) page.lines.now) page.parts.now }
     ensures some { IfSome result (λ line. TargetBreaks (seen page.entry) rung line) }
     ensures near { IfSome result (λ line. line < length page.entry.lines.now + LINES) }
     ensures none { IfNone result ((line : ℕ) → TargetBreaks (seen page.entry) rung line → ⊥) }
 {
     for n in 0..PLACES {
-        if leads_nowhere(labels, rung, &form_at(page, rung, n / COLUMNS, n % COLUMNS)) {
-            return Some(part_at(page, rung).start + (2 * (n / COLUMNS) + 1));
+        let at = Place {
+            rung,
+            row: n / COLUMNS,
+            column: n % COLUMNS,
+        };
+        if leads_nowhere(labels, rung, &form_at(page, at)) {
+            return Some(part_at(page, rung).start + half_line(at.row, Half::Wire));
         }
     }
     None
@@ -163,6 +170,7 @@ fn broken_target(page: PageView<'_, '_>, labels: &[Option<Name>], rung: usize) -
 
 /// The first rung with a jump that has no target, and the line.
 fn broken_targets(page: PageView<'_, '_>, labels: &[Option<Name>]) -> Option<(usize, usize)>
+    requires few { length page.parts.now ≤ RUNGS }
     requires known { labels.now ≡ labels_of (map (λ l. l.now) page.lines.now) page.parts.now }
     ensures some { IfSome result (λ e. (e.0 < length page.entry.parts.now) × TargetBreaks (seen page.entry) e.0 e.1) }
     ensures near { IfSome result (λ e. e.1 < length page.entry.lines.now + LINES) }

@@ -6,7 +6,6 @@ ghost use Rattle.std.specs.List.{AllByRecursion};
 ghost use Rattle.ladder_vars.specs.Kind.{traits_of};
 ghost use Rattle.ladder_page.specs.Seen.{seen};
 ghost use Rattle.ladder_page.specs.Bytes.{is_upright};
-ghost use Rattle.ladder_page.specs.AllPlaces.{reading_place};
 ghost use Rattle.ladder_rules.specs.Rules.{fits_joint, wants_name, IsBlockWith, IsLowerWith, IsTorn, IsDrawnAt, CellBreaks, BreaksAt};
 ghost use Rattle.ladder_page.specs.Picture.{has_text, ch, half_line};
 ghost use Rattle.ladder_page.specs.Form.{leaps};
@@ -20,7 +19,7 @@ ghost use Rattle.ladder_page.specs.declared.picture.Half.TheVariants as half;
 use crate::fault::GridRule;
 use crate::feeding::{is_unfed, right_link};
 use crate::firsts::{first_of, is_before};
-use ladder_page::geometry::{COLUMNS, PITCH, ROWS, reading_place};
+use ladder_page::geometry::{COLUMNS, PITCH, Place, ROWS};
 use ladder_page::operand::{block_drawn, is_odd};
 use ladder_page::page::{form_at, is_written_over, name_over, rung_at};
 use ladder_page::picture::{ch, half_line, joint};
@@ -30,6 +29,7 @@ use ladder_vars::{BlockKind, Pin};
 /// Whether what stands at a joint's place, or at the right rail, may not stand there.
 fn is_odd_joint(page: PageView<'_, '_>, rung: usize, row: usize, half: Half, column: usize) -> bool
     requires rungs { rung < length page.parts.now }
+    requires few { rung < RUNGS }
     requires rows { row < ROWS }
     requires columns { column ≤ COLUMNS }
     ensures { IsTrue result ↔ (fits_joint (seen page.entry) rung row half column (ch (rung_at (seen page.entry) rung) (half_line row half) (PITCH * column)) ≡ false) }
@@ -45,7 +45,12 @@ fn is_odd_joint(page: PageView<'_, '_>, rung: usize, row: usize, half: Half, col
     match half {
         Half::Name => b != b'|',
         Half::Wire => {
-            if right_link(page, rung, row, column.saturating_sub(1)) {
+            let before = Place {
+                rung,
+                row,
+                column: column.saturating_sub(1),
+            };
+            if right_link(page, before) {
                 return b != b'+' && b != b'-';
             }
             let right = ch(lines, 2 * row + 1, PITCH * column + 1);
@@ -61,18 +66,16 @@ fn is_branch(b: u8) -> bool
 }
 
 /// Whether a bar on the name line of the row has a loose end.
-fn is_loose(page: PageView<'_, '_>, rung: usize, row: usize, column: usize) -> bool
-    requires rungs { rung < length page.parts.now }
-    requires rows { row < ROWS }
-    requires columns { column < COLUMNS }
-    ensures { IsTrue result ↔ CellBreaks rule.BrokenVertical half.Name (seen page.entry) rung row column }
+fn is_loose(page: PageView<'_, '_>, at: Place) -> bool
+    requires { at.rung < length page.parts.now }
+    ensures { IsTrue result ↔ CellBreaks rule.BrokenVertical half.Name (seen page.entry) at.rung at.row at.column }
 {
-    let lines = rung_at(page, rung);
-    column >= 1
-        && ch(lines, 2 * row, PITCH * column) == b'|'
-        && (row == 0
-            || !is_branch(joint(lines, row - 1, column))
-            || !is_branch(joint(lines, row, column)))
+    let lines = rung_at(page, at.rung);
+    at.column >= 1
+        && ch(lines, 2 * at.row, PITCH * at.column) == b'|'
+        && (at.row == 0
+            || !is_branch(joint(lines, at.row - 1, at.column))
+            || !is_branch(joint(lines, at.row, at.column)))
 }
 
 fn wants_name(form: Option<Form>) -> bool
@@ -85,51 +88,32 @@ fn wants_name(form: Option<Form>) -> bool
     }
 }
 
-fn lacks_name(page: PageView<'_, '_>, rung: usize, row: usize, column: usize) -> bool
-    requires rungs { rung < length page.parts.now }
-    requires few { rung < RUNGS }
-    requires rows { row < ROWS }
-    requires columns { column < COLUMNS }
-    ensures { IsTrue result ↔ CellBreaks rule.NameMissing half.Name (seen page.entry) rung row column }
+fn lacks_name(page: PageView<'_, '_>, at: Place) -> bool
+    requires { at.rung < length page.parts.now }
+    ensures { IsTrue result ↔ CellBreaks rule.NameMissing half.Name (seen page.entry) at.rung at.row at.column }
 {
-    wants_name(form_at(page, rung, row, column)) && !is_written_over(page, rung, row, column)
+    wants_name(form_at(page, at)) && !is_written_over(page, at)
 }
 
-fn has_idle_text(page: PageView<'_, '_>, rung: usize, row: usize, column: usize) -> bool
-    requires rungs { rung < length page.parts.now }
-    requires few { rung < RUNGS }
-    requires rows { row < ROWS }
-    requires columns { column < COLUMNS }
-    ensures { IsTrue result ↔ CellBreaks rule.NameWithoutSymbol half.Name (seen page.entry) rung row column }
+fn has_idle_text(page: PageView<'_, '_>, at: Place) -> bool
+    requires { at.rung < length page.parts.now }
+    ensures { IsTrue result ↔ CellBreaks rule.NameWithoutSymbol half.Name (seen page.entry) at.rung at.row at.column }
 {
-    !wants_name(form_at(page, rung, row, column)) && is_written_over(page, rung, row, column)
+    !wants_name(form_at(page, at)) && is_written_over(page, at)
 }
 
-fn is_undeclared(page: PageView<'_, '_>, rung: usize, row: usize, column: usize) -> bool
-    requires rungs { rung < length page.parts.now }
-    requires few { rung < RUNGS }
-    requires rows { row < ROWS }
-    requires columns { column < COLUMNS }
-    ensures { IsTrue result ↔ CellBreaks rule.Undeclared half.Name (seen page.entry) rung row column }
+fn is_undeclared(page: PageView<'_, '_>, at: Place) -> bool
+    requires { at.rung < length page.parts.now }
+    ensures { IsTrue result ↔ CellBreaks rule.Undeclared half.Name (seen page.entry) at.rung at.row at.column }
 {
-    wants_name(form_at(page, rung, row, column))
-        && is_written_over(page, rung, row, column)
-        && name_over(page, rung, row, column).is_none()
+    wants_name(form_at(page, at)) && is_written_over(page, at) && name_over(page, at).is_none()
 }
 
-fn has_odd_name(page: PageView<'_, '_>, rung: usize, row: usize, column: usize) -> bool
-    requires rungs { rung < length page.parts.now }
-    requires few { rung < RUNGS }
-    requires rows { row < ROWS }
-    requires columns { column < COLUMNS }
-    ensures { IsTrue result ↔ CellBreaks rule.WrongKind half.Name (seen page.entry) rung row column }
+fn has_odd_name(page: PageView<'_, '_>, at: Place) -> bool
+    requires { at.rung < length page.parts.now }
+    ensures { IsTrue result ↔ CellBreaks rule.WrongKind half.Name (seen page.entry) at.rung at.row at.column }
 {
-    wants_name(form_at(page, rung, row, column))
-        && is_odd(
-            page.decls,
-            form_at(page, rung, row, column),
-            name_over(page, rung, row, column),
-        )
+    wants_name(form_at(page, at)) && is_odd(page.decls, form_at(page, at), name_over(page, at))
 }
 
 /// Whether it is the lower cell of this input.
@@ -180,37 +164,31 @@ fn is_block_with(pin: Pin, form: Option<Form>) -> bool
 }
 
 /// Whether the next row lacks the lower cell of a block with this second input.
-fn lacks_lower(page: PageView<'_, '_>, pin: Pin, rung: usize, row: usize, column: usize) -> bool
-    requires rungs { rung < length page.parts.now }
-    requires rows { row < ROWS }
-    requires columns { column < COLUMNS }
-    ensures { IsTrue result ↔ (row + 1 < ROWS → ¬ (IsLowerWith pin (form_at (seen page.entry) rung (row + 1) column))) }
+fn lacks_lower(page: PageView<'_, '_>, pin: Pin, at: Place) -> bool
+    requires { at.rung < length page.parts.now }
+    ensures { IsTrue result ↔ (at.row + 1 < ROWS → ¬ (IsLowerWith pin (form_at (seen page.entry) at.rung (at.row + 1) at.column))) }
 {
-    row + 1 == ROWS || !is_lower_with(pin, form_at(page, rung, row + 1, column))
+    at.row + 1 == ROWS || !is_lower_with(pin, form_at(page, at.in_row(at.row + 1)))
 }
 
 /// Whether the row before lacks the block of a lower cell with this input.
-fn lacks_block(page: PageView<'_, '_>, pin: Pin, rung: usize, row: usize, column: usize) -> bool
-    requires rungs { rung < length page.parts.now }
-    requires rows { row < ROWS }
-    requires columns { column < COLUMNS }
-    ensures { IsTrue result ↔ (1 ≤ row → ¬ (IsBlockWith pin (form_at (seen page.entry) rung (row - 1) column))) }
+fn lacks_block(page: PageView<'_, '_>, pin: Pin, at: Place) -> bool
+    requires { at.rung < length page.parts.now }
+    ensures { IsTrue result ↔ (1 ≤ at.row → ¬ (IsBlockWith pin (form_at (seen page.entry) at.rung (at.row - 1) at.column))) }
 {
-    row == 0 || !is_block_with(pin, form_at(page, rung, row - 1, column))
+    at.row == 0 || !is_block_with(pin, form_at(page, at.in_row(at.row - 1)))
 }
 
-fn is_torn(page: PageView<'_, '_>, rung: usize, row: usize, column: usize) -> bool
-    requires rungs { rung < length page.parts.now }
-    requires rows { row < ROWS }
-    requires columns { column < COLUMNS }
-    ensures { IsTrue result ↔ IsTorn (seen page.entry) rung row column }
+fn is_torn(page: PageView<'_, '_>, at: Place) -> bool
+    requires { at.rung < length page.parts.now }
+    ensures { IsTrue result ↔ IsTorn (seen page.entry) at.rung at.row at.column }
 {
-    match form_at(page, rung, row, column) {
+    match form_at(page, at) {
         Some(Form::Block(kind)) => match kind.traits().second_input {
-            Some(pin) => lacks_lower(page, pin, rung, row, column),
+            Some(pin) => lacks_lower(page, pin, at),
             None => false,
         },
-        Some(Form::Lower(pin, _)) => lacks_block(page, pin, rung, row, column),
+        Some(Form::Lower(pin, _)) => lacks_block(page, pin, at),
         None
         | Some(
             Form::Empty
@@ -224,49 +202,27 @@ fn is_torn(page: PageView<'_, '_>, rung: usize, row: usize, column: usize) -> bo
 }
 
 /// Whether a block before the place is the instance.
-fn is_drawn_before(
-    page: PageView<'_, '_>,
-    inst: usize,
-    rung: usize,
-    row: usize,
-    column: usize,
-) -> bool
-    requires rungs { rung < length page.parts.now }
-    requires rows { row < ROWS }
-    requires columns { column < COLUMNS }
-    requires few { rung < RUNGS }
-    ensures { IsTrue result ↔ IsDrawnBefore (seen page.entry) inst rung row column }
+fn is_drawn_before(page: PageView<'_, '_>, inst: usize, at: Place) -> bool
+    requires { at.rung < length page.parts.now }
+    ensures { IsTrue result ↔ IsDrawnBefore (seen page.entry) inst at.rung at.row at.column }
 {
-    is_before(
-        first_of(page.firsts, inst),
-        reading_place(rung, row, column),
-    )
+    is_before(first_of(page.firsts, inst), at.reading_number())
 }
 
 /// The instance of which there is a block at the place.
-fn drawn_at(page: PageView<'_, '_>, rung: usize, row: usize, column: usize) -> Option<usize>
-    requires rungs { rung < length page.parts.now }
-    requires few { rung < RUNGS }
-    requires rows { row < ROWS }
-    requires columns { column < COLUMNS }
-    ensures { (inst : ℕ) → (result ≡ Some inst) ↔ IsDrawnAt (seen page.entry) inst rung row column }
+fn drawn_at(page: PageView<'_, '_>, at: Place) -> Option<usize>
+    requires { at.rung < length page.parts.now }
+    ensures { (inst : ℕ) → (result ≡ Some inst) ↔ IsDrawnAt (seen page.entry) inst at.rung at.row at.column }
 {
-    block_drawn(
-        page.decls,
-        form_at(page, rung, row, column),
-        name_over(page, rung, row, column),
-    )
+    block_drawn(page.decls, form_at(page, at), name_over(page, at))
 }
 
-fn is_drawn_twice(page: PageView<'_, '_>, rung: usize, row: usize, column: usize) -> bool
-    requires rungs { rung < length page.parts.now }
-    requires few { rung < RUNGS }
-    requires rows { row < ROWS }
-    requires columns { column < COLUMNS }
-    ensures { IsTrue result ↔ CellBreaks rule.DrawnTwice half.Name (seen page.entry) rung row column }
+fn is_drawn_twice(page: PageView<'_, '_>, at: Place) -> bool
+    requires { at.rung < length page.parts.now }
+    ensures { IsTrue result ↔ CellBreaks rule.DrawnTwice half.Name (seen page.entry) at.rung at.row at.column }
 {
-    match drawn_at(page, rung, row, column) {
-        Some(inst) => is_drawn_before(page, inst, rung, row, column),
+    match drawn_at(page, at) {
+        Some(inst) => is_drawn_before(page, inst, at),
         None => false,
     }
 }
@@ -288,17 +244,20 @@ fn leaps(form: Option<Form>) -> bool
     }
 }
 
-fn is_second_jump(page: PageView<'_, '_>, rung: usize, row: usize, column: usize) -> bool
-    requires rungs { rung < length page.parts.now }
-    requires rows { row < ROWS }
-    requires columns { column < COLUMNS }
-    ensures { IsTrue result ↔ CellBreaks rule.TwoJumps half.Wire (seen page.entry) rung row column }
+fn is_second_jump(page: PageView<'_, '_>, at: Place) -> bool
+    requires { at.rung < length page.parts.now }
+    ensures { IsTrue result ↔ CellBreaks rule.TwoJumps half.Wire (seen page.entry) at.rung at.row at.column }
 {
-    if !leaps(form_at(page, rung, row, column)) {
+    if !leaps(form_at(page, at)) {
         return false;
     }
-    for n in 0..COLUMNS * row + column {
-        if leaps(form_at(page, rung, n / COLUMNS, n % COLUMNS)) {
+    for n in 0..COLUMNS * at.row + at.column {
+        let earlier = Place {
+            rung: at.rung,
+            row: n / COLUMNS,
+            column: n % COLUMNS,
+        };
+        if leaps(form_at(page, earlier)) {
             return true;
         }
     }
@@ -306,24 +265,15 @@ fn is_second_jump(page: PageView<'_, '_>, rung: usize, row: usize, column: usize
 }
 
 /// Whether the cell at the place breaks the rule on its wire line.
-fn wire_breaks(
-    rule: GridRule,
-    page: PageView<'_, '_>,
-    rung: usize,
-    row: usize,
-    column: usize,
-) -> bool
-    requires rungs { rung < length page.parts.now }
-    requires few { rung < RUNGS }
-    requires rows { row < ROWS }
-    requires columns { column < COLUMNS }
-    ensures { IsTrue result ↔ CellBreaks rule half.Wire (seen page.entry) rung row column }
+fn wire_breaks(rule: GridRule, page: PageView<'_, '_>, at: Place) -> bool
+    requires { at.rung < length page.parts.now }
+    ensures { IsTrue result ↔ CellBreaks rule half.Wire (seen page.entry) at.rung at.row at.column }
 {
     match rule {
-        GridRule::BadCell => form_at(page, rung, row, column).is_none(),
-        GridRule::Unfed => is_unfed(page, rung, row, column),
-        GridRule::BlockShape => is_torn(page, rung, row, column),
-        GridRule::TwoJumps => is_second_jump(page, rung, row, column),
+        GridRule::BadCell => form_at(page, at).is_none(),
+        GridRule::Unfed => is_unfed(page, at),
+        GridRule::BlockShape => is_torn(page, at),
+        GridRule::TwoJumps => is_second_jump(page, at),
         GridRule::TooWide
         | GridRule::TooTall
         | GridRule::BadJoint
@@ -339,26 +289,17 @@ fn wire_breaks(
 }
 
 /// Whether what is over the cell at the place, or the bar on its left, breaks the rule on the name line.
-fn name_breaks(
-    rule: GridRule,
-    page: PageView<'_, '_>,
-    rung: usize,
-    row: usize,
-    column: usize,
-) -> bool
-    requires rungs { rung < length page.parts.now }
-    requires few { rung < RUNGS }
-    requires rows { row < ROWS }
-    requires columns { column < COLUMNS }
-    ensures { IsTrue result ↔ CellBreaks rule half.Name (seen page.entry) rung row column }
+fn name_breaks(rule: GridRule, page: PageView<'_, '_>, at: Place) -> bool
+    requires { at.rung < length page.parts.now }
+    ensures { IsTrue result ↔ CellBreaks rule half.Name (seen page.entry) at.rung at.row at.column }
 {
     match rule {
-        GridRule::BrokenVertical => is_loose(page, rung, row, column),
-        GridRule::NameMissing => lacks_name(page, rung, row, column),
-        GridRule::NameWithoutSymbol => has_idle_text(page, rung, row, column),
-        GridRule::Undeclared => is_undeclared(page, rung, row, column),
-        GridRule::WrongKind => has_odd_name(page, rung, row, column),
-        GridRule::DrawnTwice => is_drawn_twice(page, rung, row, column),
+        GridRule::BrokenVertical => is_loose(page, at),
+        GridRule::NameMissing => lacks_name(page, at),
+        GridRule::NameWithoutSymbol => has_idle_text(page, at),
+        GridRule::Undeclared => is_undeclared(page, at),
+        GridRule::WrongKind => has_odd_name(page, at),
+        GridRule::DrawnTwice => is_drawn_twice(page, at),
         GridRule::TooWide
         | GridRule::TooTall
         | GridRule::BadCell
@@ -389,11 +330,14 @@ fn breaks(
     if rule == GridRule::BadJoint {
         return column >= 1 && is_odd_joint(page, rung, row, half, column);
     }
-    column < COLUMNS
-        && match half {
-            Half::Wire => wire_breaks(rule, page, rung, row, column),
-            Half::Name => name_breaks(rule, page, rung, row, column),
-        }
+    if column == COLUMNS {
+        return false;
+    }
+    let at = Place { rung, row, column };
+    match half {
+        Half::Wire => wire_breaks(rule, page, at),
+        Half::Name => name_breaks(rule, page, at),
+    }
 }
 
 /// The first column in which the rule is broken on this line of a row.

@@ -5,5 +5,5 @@ use Rattle.ladder_rules.specs.Feeding.{enters}
 use Rattle.ladder_page.specs.Seen.{seen}
 use Rattle.ladder_rules.proofs.feeding.is_fed.Given as goal
 
-abbrev pub invariant-loop-other : goal.invariant-loop-other
-invariant-loop-other l = (j : ℕ) → j < l.other → SameGroup (rung_at (seen l.page) l.rung) l.column l.row j → enters (seen l.page) l.rung j l.column ≡ true → ⊥
+abbrev pub invariant-loop-row : goal.invariant-loop-row
+invariant-loop-row l = (j : ℕ) → j < l.row → SameGroup (rung_at (seen l.page) l.at.rung) l.at.column l.at.row j → enters (seen l.page) l.at.rung j l.at.column ≡ true → ⊥

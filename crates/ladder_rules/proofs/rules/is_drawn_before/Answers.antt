@@ -6,5 +6,5 @@ pub returns : goal.returns
 returns c =
     let page = c.args.page in
     drawn_by page.decls.now (map (λ l. l.now) page.lines.now) page.unclosed page.parts.now page.forms.now page.overs.now page.told page.firsts.now page.drawn
-    c.args.inst c.args.rung c.args.row c.args.column c.requires.rungs c.requires.few c.requires.rows c.requires.columns
-    c.first_of.result c.reading_place.result c.first_of.ensures c.reading_place.ensures c.is_before.result c.is_before.ensures
+    c.args.inst c.args.at.rung c.args.at.row c.args.at.column c.requires c.args.at.few c.args.at.rows c.args.at.columns
+    c.first_of.result c.reading_number.result c.first_of.ensures c.reading_number.ensures c.is_before.result c.is_before.ensures

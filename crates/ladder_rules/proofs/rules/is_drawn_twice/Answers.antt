@@ -7,11 +7,11 @@ use Rattle.ladder_rules.proofs.rules.is_drawn_twice.Goals as goal
 pub returns-in-Some : goal.returns-in-Some
 returns-in-Some c =
     let page = seen c.args.page in
-    before_told (λ n. IsDrawnAt page n c.args.rung c.args.row c.args.column) (λ n. IsDrawnBefore page n c.args.rung c.args.row c.args.column)
+    before_told (λ n. IsDrawnAt page n c.args.at.rung c.args.at.row c.args.at.column) (λ n. IsDrawnBefore page n c.args.at.rung c.args.at.row c.args.at.column)
     _ c.in-Some.inst _ c.drawn_at.ensures c.in-Some.is c.is_drawn_before.ensures
 
 pub returns-in-None : goal.returns-in-None
 returns-in-None c =
     let page = seen c.args.page in
-    none_told (λ n. IsDrawnAt page n c.args.rung c.args.row c.args.column) (λ n. IsDrawnBefore page n c.args.rung c.args.row c.args.column)
+    none_told (λ n. IsDrawnAt page n c.args.at.rung c.args.at.row c.args.at.column) (λ n. IsDrawnBefore page n c.args.at.rung c.args.at.row c.args.at.column)
     _ c.drawn_at.ensures c.in-None.is

@@ -10,6 +10,6 @@ use Rattle.ladder_rules.proofs.rules.is_second_jump.Goals as goal
 pub returns : goal.returns
 returns c = (
   λ h. absurd (true≢false (sym h)),
-  λ d. absurd (c.loop-n.invariant (COLUMNS * d.1.1 + d.1.2) (omega (arith, less_place d.1.0 d.1.1 d.1.2 c.args.rung c.args.row c.args.column d.1.4 d.1.3 d.1.5, d.1.6.0, c.loop-n-test.false))
-      (at_row (λ r b. leaps (form_at (seen c.args.page) c.args.rung r b) ≡ true) d.1.1 d.1.2 d.1.4 d.1.6.1)),
+  λ d. absurd (c.loop-n.invariant (COLUMNS * d.1.1 + d.1.2) (omega (arith, less_place d.1.0 d.1.1 d.1.2 c.args.at.rung c.args.at.row c.args.at.column d.1.4 d.1.3 d.1.5, d.1.6.0, c.loop-n-test.false))
+      (at_row (λ r b. leaps (form_at (seen c.args.page) c.args.at.rung r b) ≡ true) d.1.1 d.1.2 d.1.4 d.1.6.1)),
 )

@@ -6,4 +6,4 @@ use Rattle.ladder_page.specs.Seen.{seen}
 use Rattle.ladder_rules.proofs.rules.is_second_jump.Given as goal
 
 abbrev pub invariant-loop-n : goal.invariant-loop-n
-invariant-loop-n l = (m : ℕ) → m < l.n → leaps (form_at (seen l.page) l.rung (m / COLUMNS) (m % COLUMNS)) ≡ true → ⊥
+invariant-loop-n l = (m : ℕ) → m < l.n → leaps (form_at (seen l.page) l.at.rung (m / COLUMNS) (m % COLUMNS)) ≡ true → ⊥
