@@ -16,6 +16,3 @@ target_is labels k (Some (Block kind)) = refl
 target_is labels k (Some (Lower pin linked)) = refl
 target_is labels k (Some (Jump label)) = refl
 target_is labels k (Some Return) = refl
-
-pub target_told : (labels : Labels) (k : ℕ) (form : Option Form) (label : Option (List ℕ)) → label ≡ jump_label form → target_to labels k label ≡ target_of labels k form
-target_told labels k form label is = ap (target_to labels k) is ∙ sym (target_is labels k form)

@@ -24,15 +24,6 @@ use Rattle.ladder_records.proofs.Commas.{lines_text-append}
 use Rattle.ladder_text.proofs.Puts.{puts_none}
 use Rattle.ladder_text.proofs.Sending.{sends_more, sends_none, sends_prefix, sends_same}
 
--- what a buffer held is handed to the block
-pub handed : {T E : Type 0} (a b : WriteLog) (w0 w1 held : List ℕ) (r : Result T E) → Sends a b w0 w1 r held → Sends a b (w0 ++ held) (w1 ++ []) r []
-handed a b w0 w1 held (Ok x) p = record {
-  sent = p.sent;
-  cut = append-nil (w0 ++ held) ∙ p.cut ∙ ap (λ ys. p.sent ++ ys) (sym (append-nil w1));
-  wrote = p.wrote;
-}
-handed a b w0 w1 held (Err x) p = subst (λ ys. PutsPrefix a b ys) (sym (append-nil (w0 ++ held))) p
-
 -- a text that a buffer takes
 pub buffered : (a : WriteLog) (w held text : List ℕ) → SendsAll a a (w ++ held) (w ++ (held ++ text)) text
 buffered a w held text = record { sent = []; cut = append_assoc w held text; wrote = puts_none a }
@@ -75,9 +66,6 @@ pub record Sent (a b : WriteLog) (waited waits whole left : List ℕ) : Type 0 w
   pub done : List ℕ
   pub split : whole ≡ done ++ left
   pub sent : SendsAll a b waited waits done
-
-pub sent_none : (a : WriteLog) (w whole : List ℕ) → Sent a a w w whole whole
-sent_none a w whole = record { done = []; split = refl; sent = sends_none a w }
 
 pub sent_more : (a b c : WriteLog) (w0 w1 w2 whole left more rest : List ℕ) → Sent a b w0 w1 whole left → left ≡ more ++ rest → SendsAll b c w1 w2 more → Sent a c w0 w2 whole rest
 sent_more a b c w0 w1 w2 whole left more rest so_far e sent = record {
@@ -170,20 +158,3 @@ some_marked number mask some fits =
     ]
 
 -- ---- a buffer that was empty before and is so after
-emptied : (w held : List ℕ) → held ≡ [] → w ++ held ≡ w
-emptied w held e = ap (λ ys. w ++ ys) e ∙ append-nil w
-
-pub from_empty : (a b : WriteLog) (w held text : List ℕ) → held ≡ [] → PutsPrefix a b ((w ++ held) ++ text) → PutsPrefix a b (w ++ text)
-from_empty a b w held text e p = subst (λ ys. PutsPrefix a b (ys ++ text)) (emptied w held e) p
-
-pub handed_all : (a b c : WriteLog) (w0 held0 w1 held1 w2 held2 text : List ℕ) → held0 ≡ [] → held2 ≡ [] → SendsAll a b (w0 ++ held0) (w1 ++ held1) text
-    → SendsAll b c (w1 ++ held1) (w2 ++ held2) [] → SendsAll a c w0 w2 text
-handed_all a b c w0 held0 w1 held1 w2 held2 text none gone p q =
-    subst (λ ys. SendsAll a c w0 ys text) (emptied w2 held2 gone)
-    (subst (λ ys. SendsAll a c ys (w2 ++ held2) text) (emptied w0 held0 none)
-    (sends_same a c (w0 ++ held0) (w2 ++ held2) (text ++ []) text (append-nil text) (sends_more a b c (w0 ++ held0) (w1 ++ held1) (w2 ++ held2) text [] p q)))
-
-pub handed_prefix : (a b c : WriteLog) (w0 held0 w1 held1 text : List ℕ) → held0 ≡ [] → SendsAll a b (w0 ++ held0) (w1 ++ held1) text → PutsPrefix b c ((w1 ++ held1) ++ [])
-    → PutsPrefix a c (w0 ++ text)
-handed_prefix a b c w0 held0 w1 held1 text none p q =
-    from_empty a c w0 held0 text none (sends_prefix a b c (w0 ++ held0) (w1 ++ held1) text text [] [] (sym (append-nil text)) p q)
