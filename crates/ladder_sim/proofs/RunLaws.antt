@@ -14,7 +14,7 @@ use Rattle.std.proofs.Math.Seq.{take-append-add}
 use borrow.Rule.Slice.PartMut.{put_mid, post_of}
 use Rattle.ladder_search.specs.Marked.{marked}
 use Rattle.ladder_search.proofs.Bits.{all_marked, all_unmarked, bit_shifted, lowest}
-use Rattle.ladder_search.proofs.Marks.{filter_cut, filter_front, filter_same, high_zero, is_marked, lowest_marked, marked_ones, not_marked, without_lowest}
+use Rattle.ladder_search.proofs.Marks.{filter_cut, filter_front, filter_same, high_zero, is_marked, lowest_marked, marked_ones, marked_parts, not_marked, without_lowest}
 use Rattle.ladder_sim.specs.CauseText.{cause_record}
 use Rattle.ladder_sim.specs.Rows.{row, rows}
 use Rattle.ladder_text.specs.Block.{Sends, SendsAll}
@@ -89,30 +89,6 @@ lowest_of number mask t some fits e =
     subst (λ (n : ℕ). Lowest number mask n) (sym e) l
 
 -- ---- a mask in two parts
-pub marked_parts : (number mask low c : ℕ) → c ≤ 64 → mask < 2 ^ 64 → ((j : ℕ) → j < c → bit_at low j ≡ bit_at mask j) → ((j : ℕ) → c ≤ j → bit_at low j ≡ 0)
-    → marked number mask ≡ marked number low ++ marked (number + c) (mask / 2 ^ c)
-unfolding marked
-marked_parts number mask low c small fits kept gone =
-    let p = is_marked number mask in
-    let q = is_marked number low in
-    let r = is_marked (number + c) (mask / 2 ^ c) in
-    let split : 64 ≡ c + (64 - c) = omega (arith, small) in
-    let other : 64 ≡ (64 - c) + c = omega (arith, small) in
-    let front : filter p (range_with_len number c) ≡ marked number low =
-    filter_same p q number c (λ i a b. ap (λ x. x == 1) (sym (kept (i - number) (omega (arith, a, b)))))
-    ∙ sym (ap (λ n. filter q (range_with_len number n)) split ∙ filter_front q number c (64 - c) (λ i a b. not_marked number low i (gone (i - number) (omega (arith, a))))) in
-    let back : filter p (range_with_len (number + c) (64 - c)) ≡ marked (number + c) (mask / 2 ^ c) =
-    filter_same p r (number + c) (64 - c) (λ i a b. ap (λ x. x == 1) (sym (bit_shifted mask c (i - (number + c)) ∙ ap (bit_at mask) (place i a))))
-    ∙ sym (ap (λ n. filter r (range_with_len (number + c) n)) other
-    ∙ filter_front r (number + c) (64 - c) c (λ i a b. not_marked (number + c) (mask / 2 ^ c) i
-    (bit_shifted mask c (i - (number + c)) ∙ high_zero mask (i - (number + c) + c) fits (omega (arith, a, small))))) in
-    ap (λ n. filter p (range_with_len number n)) split ∙ filter_cut p number c (64 - c)
-    ∙ ap (λ xs. xs ++ filter p (range_with_len (number + c) (64 - c))) front
-    ∙ ap (λ xs. marked number low ++ xs) back
-  where
-    place : (i : ℕ) → number + c ≤ i → i - (number + c) + c ≡ i - number
-    place i h = omega (arith, h)
-
 pub rows_parts : (k number mask low place c : ℕ) → c ≤ 64 → mask < 2 ^ 64 → ((j : ℕ) → j < c → bit_at low j ≡ bit_at mask j) → ((j : ℕ) → c ≤ j → bit_at low j ≡ 0)
     → rows k (marked (number + place) mask) ≡ rows k (marked (number + place) low) ++ rows k (marked (number + (place + c)) (mask / 2 ^ c))
 rows_parts k number mask low place c small fits kept gone =
