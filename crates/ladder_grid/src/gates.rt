@@ -12,7 +12,7 @@ ghost use Rattle.ladder_grid.specs.Sheet.{drawing_of, HasGates, HasActions, HasJ
 use crate::cell::{Cell, Operand};
 use crate::sheet::{Jump, Sheet, feeds, site_in};
 use ladder_page::Mode;
-use ladder_page::geometry::{COLUMNS, PLACES, ROWS};
+use ladder_page::geometry::{COLUMNS, PLACES, Place, ROWS};
 use std::alloc::{AllocError, Global};
 
 /// Where ON is among the links of a rung.
@@ -79,22 +79,33 @@ pub struct Leap {
 /// Where the OR is of what the rows below `count` in the column before bring into the group of a cell: at the place of the last of
 /// them that feeds it, or OFF where none does. In the first column it is ON.
 #[tactic(auto, using(crate::proofs::StepLaws::last_step))]
-pub(crate) fn feeder(sheet: Sheet<'_>, rung: usize, row: usize, column: usize, count: usize) -> u8
-    requires rungs { rung < RUNGS }
-    requires columns { column < COLUMNS }
-    requires rows { (row < ROWS) × (count ≤ ROWS) }
-    ensures { result ≡ (if column == 0 then ON else last_of (feeds (drawing_of sheet.entry) rung row column) (ROWS * (column - 1)) count) }
+pub(crate) fn feeder(sheet: Sheet<'_>, at: Place, count: usize) -> u8
+    requires { count ≤ ROWS }
+    ensures { result ≡ (if at.column == 0 then ON else last_of (feeds (drawing_of sheet.entry) at.rung at.row at.column) (ROWS * (at.column - 1)) count) }
 {
-    if column == 0 {
+    if at.column == 0 {
         return ON as u8;
     }
     let mut last: u8 = OFF as u8;
     for from in 0..count {
-        if feeds(sheet, rung, row, column, from) {
-            last = (ROWS * (column - 1) + from) as u8;
+        if feeds(sheet, at, from) {
+            last = (ROWS * (at.column - 1) + from) as u8;
         }
     }
     last
+}
+
+/// The place with this number in its rung.
+pub(crate) fn place_in(rung: usize, at: usize) -> Place
+    requires rungs { rung < RUNGS }
+    requires places { at < PLACES }
+    ensures { (result.rung ≡ rung) × (result.row ≡ at % ROWS) × (result.column ≡ at / ROWS) }
+{
+    Place {
+        rung,
+        row: at % ROWS,
+        column: at / ROWS,
+    }
 }
 
 pub(crate) fn below_of(sheet: Sheet<'_>, rung: usize, at: usize) -> u8
@@ -107,7 +118,7 @@ pub(crate) fn below_of(sheet: Sheet<'_>, rung: usize, at: usize) -> u8
     }
     let next = at + 1;
     match site_in(sheet, PLACES * rung + next).cell {
-        Cell::Lower { linked: true, .. } => feeder(sheet, rung, next % ROWS, next / ROWS, ROWS),
+        Cell::Lower { linked: true, .. } => feeder(sheet, place_in(rung, next), ROWS),
         Cell::Lower { linked: false, .. }
         | Cell::Empty
         | Cell::Wire
@@ -127,17 +138,35 @@ fn gate_at(sheet: Sheet<'_>, rung: usize, at: usize) -> Option<Gate>
 {
     let (row, column) = (at % ROWS, at / ROWS);
     let cell = site_in(sheet, PLACES * rung + at).cell;
-    let is_inside = column + 1 < COLUMNS;
-    let feeds_on = is_inside && feeds(sheet, rung, row, column + 1, row);
+    let right = column + 1;
+    let is_inside = right < COLUMNS;
+    let feeds_on = is_inside
+        && feeds(
+            sheet,
+            Place {
+                rung,
+                row,
+                column: right,
+            },
+            row,
+        );
     if !(matches!(cell, Cell::Block { .. }) || feeds_on) {
         return None;
     }
     Some(Gate {
         place: at as u8,
-        left: feeder(sheet, rung, row, column, ROWS),
+        left: feeder(sheet, place_in(rung, at), ROWS),
         below: below_of(sheet, rung, at),
         other: if is_inside {
-            feeder(sheet, rung, row, column + 1, row)
+            feeder(
+                sheet,
+                Place {
+                    rung,
+                    row,
+                    column: right,
+                },
+                row,
+            )
         } else {
             OFF as u8
         },
@@ -208,7 +237,7 @@ fn action_at(sheet: Sheet<'_>, rung: usize, at: usize) -> Option<Action>
         | Cell::Block { .. } => Some(Action {
             cell,
             place: at as u8,
-            left: feeder(sheet, rung, at % ROWS, at / ROWS, ROWS),
+            left: feeder(sheet, place_in(rung, at), ROWS),
             below: below_of(sheet, rung, at),
         }),
         Cell::Contact { memory: None, .. }
@@ -256,7 +285,7 @@ fn exit_by(sheet: Sheet<'_>, rung: usize, jump: Option<Jump>) -> Option<Exit>
 {
     match jump {
         Some((row, column, target)) => Some(Exit {
-            left: feeder(sheet, rung, row, column, ROWS),
+            left: feeder(sheet, Place { rung, row, column }, ROWS),
             target,
         }),
         None => None,

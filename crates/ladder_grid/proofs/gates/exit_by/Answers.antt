@@ -17,15 +17,6 @@ left_there d rung row column h =
 abbrev exit : ℕ → ℕ → Option Exit
 exit target left = Some (record { left = left; target = target })
 
-pub feeder-requires-clause-columns : goal.feeder-requires-clause-columns
-feeder-requires-clause-columns c =
-    (jump_placed (drawing_of c.args.sheet) c.args.rung (c.in-Some.row, c.in-Some.column, c.in-Some.target) (sym c.requires.jump ∙ c.in-Some.is)).1
-
-pub feeder-requires-clause-rows : goal.feeder-requires-clause-rows
-feeder-requires-clause-rows c =
-    let few : ROWS ≤ ROWS = omega arith in
-    ((jump_placed (drawing_of c.args.sheet) c.args.rung (c.in-Some.row, c.in-Some.column, c.in-Some.target) (sym c.requires.jump ∙ c.in-Some.is)).0, few)
-
 pub returns-in-Some : goal.returns-in-Some
 returns-in-Some c =
     let d = drawing_of c.args.sheet in
