@@ -3,10 +3,10 @@
 //! The links of a rung are kept in one list, by the places of the cells: what a gate gives is at the place of its cell, and what a
 //! cell by itself lets through `OWN` further on.
 
-ghost use Rattle.std.specs.Prelude.{◌≡◌, ◌<◌, ◌≤◌, ◌+◌, ◌*◌, ◌-◌, ◌==◌, Some, None, length, map, IfOk, if◌then◌else◌};
+ghost use Rattle.std.specs.Prelude.{◌≡◌, ◌<◌, ◌≤◌, ◌+◌, ◌*◌, ◌-◌, ◌/◌, ◌%◌, ◌==◌, ◌&&◌, nat_lt, Some, None, length, map, IfOk, if◌then◌else◌};
 ghost use Rattle.ladder_page.specs.declared.geometry.TheConstants.{RUNGS, ROWS, COLUMNS, PLACES};
 ghost use Rattle.ladder_grid.specs.Program.{cell_of, feeds, jump_of};
-ghost use Rattle.ladder_grid.specs.Gates.{last_of, below_of, gate_at, has_gate, gates_of, acts, action_at, actions_of, exit_of, leaps_below};
+ghost use Rattle.ladder_grid.specs.Gates.{last_of, last_feeder, literal_of, below_of, gate_at, has_gate, gates_of, acts, action_at, actions_of, exit_of, leaps_below};
 ghost use Rattle.ladder_grid.specs.Sheet.{drawing_of, HasGates, HasActions, HasJumps, HasExits};
 
 use crate::cell::{Cell, Operand};
@@ -130,66 +130,68 @@ pub(crate) fn below_of(sheet: Sheet<'_>, rung: usize, at: usize) -> u8
     }
 }
 
+/// Whether the right link of the cell at a place enters the group on its right.
+fn feeds_on(sheet: Sheet<'_>, at: Place) -> bool
+    ensures { result ≡ (nat_lt (at.column + 1) COLUMNS && feeds (drawing_of sheet.entry) at.rung at.row (at.column + 1) at.row) }
+{
+    let (rung, row, column) = (at.rung, at.row, at.column + 1);
+    column < COLUMNS && feeds(sheet, Place { rung, row, column }, row)
+}
+
+/// Where the OR is of what comes from the rows above into the group on the right of the cell at a place.
+fn other_of(sheet: Sheet<'_>, at: Place) -> u8
+    ensures { result ≡ (if nat_lt (at.column + 1) COLUMNS then last_feeder (drawing_of sheet.entry) at.rung at.row (at.column + 1) at.row else OFF) }
+{
+    let (rung, row, column) = (at.rung, at.row, at.column + 1);
+    if column < COLUMNS {
+        feeder(sheet, Place { rung, row, column }, row)
+    } else {
+        OFF as u8
+    }
+}
+
+fn literal_of(cell: Cell) -> Literal
+    ensures { result ≡ literal_of cell }
+{
+    match cell {
+        Cell::Contact {
+            mode: Mode::Plain,
+            operand: Operand::Var(var),
+            ..
+        } if var < VARIABLES => Literal::Is(var as u16),
+        Cell::Contact {
+            mode: Mode::Negated,
+            operand: Operand::Var(var),
+            ..
+        } if var < VARIABLES => Literal::Not(var as u16),
+        Cell::Contact { .. }
+        | Cell::Empty
+        | Cell::Wire
+        | Cell::Coil { .. }
+        | Cell::Block { .. }
+        | Cell::Lower { .. }
+        | Cell::Jump { .. }
+        | Cell::Return => Literal::Other,
+    }
+}
+
 /// The gate of a cell that is a block, or whose right link enters the group on its right.
 fn gate_at(sheet: Sheet<'_>, rung: usize, at: usize) -> Option<Gate>
     requires rungs { rung < RUNGS }
     requires places { at < PLACES }
     ensures { result ≡ (if has_gate (drawing_of sheet.entry) rung at then Some (gate_at (drawing_of sheet.entry) rung at) else None) }
 {
-    let (row, column) = (at % ROWS, at / ROWS);
+    let here = place_in(rung, at);
     let cell = site_in(sheet, PLACES * rung + at).cell;
-    let right = column + 1;
-    let is_inside = right < COLUMNS;
-    let feeds_on = is_inside
-        && feeds(
-            sheet,
-            Place {
-                rung,
-                row,
-                column: right,
-            },
-            row,
-        );
-    if !(matches!(cell, Cell::Block { .. }) || feeds_on) {
+    if !(matches!(cell, Cell::Block { .. }) || feeds_on(sheet, here)) {
         return None;
     }
     Some(Gate {
         place: at as u8,
-        left: feeder(sheet, place_in(rung, at), ROWS),
+        left: feeder(sheet, here, ROWS),
         below: below_of(sheet, rung, at),
-        other: if is_inside {
-            feeder(
-                sheet,
-                Place {
-                    rung,
-                    row,
-                    column: right,
-                },
-                row,
-            )
-        } else {
-            OFF as u8
-        },
-        literal: match cell {
-            Cell::Contact {
-                mode: Mode::Plain,
-                operand: Operand::Var(var),
-                ..
-            } if var < VARIABLES => Literal::Is(var as u16),
-            Cell::Contact {
-                mode: Mode::Negated,
-                operand: Operand::Var(var),
-                ..
-            } if var < VARIABLES => Literal::Not(var as u16),
-            Cell::Contact { .. }
-            | Cell::Empty
-            | Cell::Wire
-            | Cell::Coil { .. }
-            | Cell::Block { .. }
-            | Cell::Lower { .. }
-            | Cell::Jump { .. }
-            | Cell::Return => Literal::Other,
-        },
+        other: other_of(sheet, here),
+        literal: literal_of(cell),
     })
 }
 
