@@ -1,5 +1,5 @@
 -- The cells that a sound page is read as are well formed.
-use Rattle.std.proofs.Common.{◌≡◌, ℕ, ◌+◌, ◌-◌, ◌*◌, ◌/◌, ◌%◌, ◌<◌, ◌≤◌, ◌⊎◌, inl, inr, Bool, true, false, ◌==◌, cond, List, length, get_or, count_by, nat_lt, position, suc, Option, Some, None, refl, sym, ap, subst, ◌∙◌, arith, slice_get}
+use Rattle.std.proofs.Common.{if◌then◌else◌, ◌≡◌, ℕ, ◌+◌, ◌-◌, ◌*◌, ◌/◌, ◌%◌, ◌<◌, ◌≤◌, ◌⊎◌, inl, inr, Bool, true, false, ◌==◌, cond, List, length, get_or, count_by, nat_lt, position, suc, Option, Some, None, refl, sym, ap, subst, ◌∙◌, arith, slice_get}
 use Rattle.std.specs.Prelude.{option_map}
 use Rattle.std.proofs.lemmas.Bool.{cases_lt, ltb-true, eqb-false, ne_eqb}
 use Rattle.std.proofs.lemmas.List.Quantifiers.{position-Some}
@@ -25,7 +25,7 @@ use Rattle.ladder_page.specs.Operand.{instance_on}
 use Rattle.ladder_rules.proofs.BlockLaws.{drawn_back}
 use Rattle.ladder_rules.specs.Rules.{IsDrawnAt, IsTorn}
 use Rattle.ladder_page.specs.Page.{Page, labels_of, form_at, name_over, instance_at}
-use Rattle.ladder_page.specs.Seen.{instance_above, part_at}
+use Rattle.ladder_page.specs.Seen.{part_at}
 use Rattle.ladder_page.specs.AllPlaces.{reading_place}
 use Rattle.ladder_page.specs.Form.{leaps}
 use Rattle.ladder_rules.specs.Checks.{label_of, later, target_to, jump_label}
@@ -206,6 +206,9 @@ target_within labels k t (Some word) h =
     (l.0, (position-Some (is_named word) labels t None l.1).0)
 
 -- ---- cells of a sound page
+abbrev instance_above : Page → ℕ → ℕ → ℕ → Option ℕ
+instance_above page k r c = if r == 0 then None else instance_at page k (r - 1) c
+
 module _ (page : Page) (rungs : ℕ) (sites : List Site)
     (sound : IsSoundPage page)
     (same : sites ≡ sites_of page)

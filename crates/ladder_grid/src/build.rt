@@ -14,7 +14,7 @@ use crate::cell::Cell;
 use crate::program::Program;
 use crate::site::{Site, site_drawn};
 use ladder_page::PageView;
-use ladder_page::geometry::{PLACES, ROWS, RUNGS};
+use ladder_page::geometry::{PLACES, Place, RUNGS};
 use ladder_page::lines::{lines, parts, shown_text};
 use ladder_page::page::{forms, overs};
 use ladder_rules::Stop;
@@ -49,14 +49,7 @@ fn sites(
     let mut sites = Vec::new(alloc);
     let mut next = 0;
     for n in 0..PLACES * page.parts.len() {
-        let site = site_drawn(
-            page,
-            labels,
-            next,
-            n / PLACES,
-            n % PLACES % ROWS,
-            n % PLACES / ROWS,
-        );
+        let site = site_drawn(page, labels, next, Place::of(n));
         sites.push(site)?;
         next = after_memory(next, site.cell);
     }

@@ -3,16 +3,16 @@
 //! The links of a rung are kept in one list, by the places of the cells: what a gate gives is at the place of its cell, and what a
 //! cell by itself lets through `OWN` further on.
 
-ghost use Rattle.std.specs.Prelude.{◌≡◌, ◌<◌, ◌≤◌, ◌+◌, ◌*◌, ◌-◌, ◌==◌, Some, None, length, map, IfOk, if◌then◌else◌};
+ghost use Rattle.std.specs.Prelude.{◌≡◌, ◌<◌, ◌≤◌, ◌+◌, ◌*◌, ◌-◌, ◌/◌, ◌%◌, ◌==◌, ◌&&◌, nat_lt, Some, None, length, map, IfOk, if◌then◌else◌};
 ghost use Rattle.ladder_page.specs.declared.geometry.TheConstants.{RUNGS, ROWS, COLUMNS, PLACES};
 ghost use Rattle.ladder_grid.specs.Program.{cell_of, feeds, jump_of};
-ghost use Rattle.ladder_grid.specs.Gates.{last_of, below_of, gate_at, has_gate, gates_of, acts, action_at, actions_of, exit_of, leaps_below};
+ghost use Rattle.ladder_grid.specs.Gates.{last_of, last_feeder, literal_of, below_of, gate_at, has_gate, gates_of, acts, action_at, actions_of, exit_of, leaps_below};
 ghost use Rattle.ladder_grid.specs.Sheet.{drawing_of, HasGates, HasActions, HasJumps, HasExits};
 
 use crate::cell::{Cell, Operand};
 use crate::sheet::{Jump, Sheet, feeds, site_in};
 use ladder_page::Mode;
-use ladder_page::geometry::{COLUMNS, PLACES, ROWS};
+use ladder_page::geometry::{COLUMNS, PLACES, Place, ROWS};
 use std::alloc::{AllocError, Global};
 
 /// Where ON is among the links of a rung.
@@ -79,22 +79,33 @@ pub struct Leap {
 /// Where the OR is of what the rows below `count` in the column before bring into the group of a cell: at the place of the last of
 /// them that feeds it, or OFF where none does. In the first column it is ON.
 #[tactic(auto, using(crate::proofs::StepLaws::last_step))]
-pub(crate) fn feeder(sheet: Sheet<'_>, rung: usize, row: usize, column: usize, count: usize) -> u8
-    requires rungs { rung < RUNGS }
-    requires columns { column < COLUMNS }
-    requires rows { (row < ROWS) × (count ≤ ROWS) }
-    ensures { result ≡ (if column == 0 then ON else last_of (feeds (drawing_of sheet.entry) rung row column) (ROWS * (column - 1)) count) }
+pub(crate) fn feeder(sheet: Sheet<'_>, at: Place, count: usize) -> u8
+    requires { count ≤ ROWS }
+    ensures { result ≡ (if at.column == 0 then ON else last_of (feeds (drawing_of sheet.entry) at.rung at.row at.column) (ROWS * (at.column - 1)) count) }
 {
-    if column == 0 {
+    if at.column == 0 {
         return ON as u8;
     }
     let mut last: u8 = OFF as u8;
     for from in 0..count {
-        if feeds(sheet, rung, row, column, from) {
-            last = (ROWS * (column - 1) + from) as u8;
+        if feeds(sheet, at, from) {
+            last = (ROWS * (at.column - 1) + from) as u8;
         }
     }
     last
+}
+
+/// The place with this number in its rung.
+pub(crate) fn place_in(rung: usize, at: usize) -> Place
+    requires rungs { rung < RUNGS }
+    requires places { at < PLACES }
+    ensures { (result.rung ≡ rung) × (result.row ≡ at % ROWS) × (result.column ≡ at / ROWS) }
+{
+    Place {
+        rung,
+        row: at % ROWS,
+        column: at / ROWS,
+    }
 }
 
 pub(crate) fn below_of(sheet: Sheet<'_>, rung: usize, at: usize) -> u8
@@ -107,7 +118,7 @@ pub(crate) fn below_of(sheet: Sheet<'_>, rung: usize, at: usize) -> u8
     }
     let next = at + 1;
     match site_in(sheet, PLACES * rung + next).cell {
-        Cell::Lower { linked: true, .. } => feeder(sheet, rung, next % ROWS, next / ROWS, ROWS),
+        Cell::Lower { linked: true, .. } => feeder(sheet, place_in(rung, next), ROWS),
         Cell::Lower { linked: false, .. }
         | Cell::Empty
         | Cell::Wire
@@ -119,48 +130,68 @@ pub(crate) fn below_of(sheet: Sheet<'_>, rung: usize, at: usize) -> u8
     }
 }
 
+/// Whether the right link of the cell at a place enters the group on its right.
+fn feeds_on(sheet: Sheet<'_>, at: Place) -> bool
+    ensures { result ≡ (nat_lt (at.column + 1) COLUMNS && feeds (drawing_of sheet.entry) at.rung at.row (at.column + 1) at.row) }
+{
+    let (rung, row, column) = (at.rung, at.row, at.column + 1);
+    column < COLUMNS && feeds(sheet, Place { rung, row, column }, row)
+}
+
+/// Where the OR is of what comes from the rows above into the group on the right of the cell at a place.
+fn other_of(sheet: Sheet<'_>, at: Place) -> u8
+    ensures { result ≡ (if nat_lt (at.column + 1) COLUMNS then last_feeder (drawing_of sheet.entry) at.rung at.row (at.column + 1) at.row else OFF) }
+{
+    let (rung, row, column) = (at.rung, at.row, at.column + 1);
+    if column < COLUMNS {
+        feeder(sheet, Place { rung, row, column }, row)
+    } else {
+        OFF as u8
+    }
+}
+
+fn literal_of(cell: Cell) -> Literal
+    ensures { result ≡ literal_of cell }
+{
+    match cell {
+        Cell::Contact {
+            mode: Mode::Plain,
+            operand: Operand::Var(var),
+            ..
+        } if var < VARIABLES => Literal::Is(var as u16),
+        Cell::Contact {
+            mode: Mode::Negated,
+            operand: Operand::Var(var),
+            ..
+        } if var < VARIABLES => Literal::Not(var as u16),
+        Cell::Contact { .. }
+        | Cell::Empty
+        | Cell::Wire
+        | Cell::Coil { .. }
+        | Cell::Block { .. }
+        | Cell::Lower { .. }
+        | Cell::Jump { .. }
+        | Cell::Return => Literal::Other,
+    }
+}
+
 /// The gate of a cell that is a block, or whose right link enters the group on its right.
 fn gate_at(sheet: Sheet<'_>, rung: usize, at: usize) -> Option<Gate>
     requires rungs { rung < RUNGS }
     requires places { at < PLACES }
     ensures { result ≡ (if has_gate (drawing_of sheet.entry) rung at then Some (gate_at (drawing_of sheet.entry) rung at) else None) }
 {
-    let (row, column) = (at % ROWS, at / ROWS);
+    let here = place_in(rung, at);
     let cell = site_in(sheet, PLACES * rung + at).cell;
-    let is_inside = column + 1 < COLUMNS;
-    let feeds_on = is_inside && feeds(sheet, rung, row, column + 1, row);
-    if !(matches!(cell, Cell::Block { .. }) || feeds_on) {
+    if !(matches!(cell, Cell::Block { .. }) || feeds_on(sheet, here)) {
         return None;
     }
     Some(Gate {
         place: at as u8,
-        left: feeder(sheet, rung, row, column, ROWS),
+        left: feeder(sheet, here, ROWS),
         below: below_of(sheet, rung, at),
-        other: if is_inside {
-            feeder(sheet, rung, row, column + 1, row)
-        } else {
-            OFF as u8
-        },
-        literal: match cell {
-            Cell::Contact {
-                mode: Mode::Plain,
-                operand: Operand::Var(var),
-                ..
-            } if var < VARIABLES => Literal::Is(var as u16),
-            Cell::Contact {
-                mode: Mode::Negated,
-                operand: Operand::Var(var),
-                ..
-            } if var < VARIABLES => Literal::Not(var as u16),
-            Cell::Contact { .. }
-            | Cell::Empty
-            | Cell::Wire
-            | Cell::Coil { .. }
-            | Cell::Block { .. }
-            | Cell::Lower { .. }
-            | Cell::Jump { .. }
-            | Cell::Return => Literal::Other,
-        },
+        other: other_of(sheet, here),
+        literal: literal_of(cell),
     })
 }
 
@@ -208,7 +239,7 @@ fn action_at(sheet: Sheet<'_>, rung: usize, at: usize) -> Option<Action>
         | Cell::Block { .. } => Some(Action {
             cell,
             place: at as u8,
-            left: feeder(sheet, rung, at % ROWS, at / ROWS, ROWS),
+            left: feeder(sheet, place_in(rung, at), ROWS),
             below: below_of(sheet, rung, at),
         }),
         Cell::Contact { memory: None, .. }
@@ -256,7 +287,7 @@ fn exit_by(sheet: Sheet<'_>, rung: usize, jump: Option<Jump>) -> Option<Exit>
 {
     match jump {
         Some((row, column, target)) => Some(Exit {
-            left: feeder(sheet, rung, row, column, ROWS),
+            left: feeder(sheet, Place { rung, row, column }, ROWS),
             target,
         }),
         None => None,

@@ -1,15 +1,15 @@
 //! What a page has at a place of a rung.
 
-ghost use Rattle.std.specs.Prelude.{◌≡◌, ◌<◌, map, length, Some, None};
+ghost use Rattle.std.specs.Prelude.{◌≡◌, ◌<◌, ◌-◌, ◌==◌, if◌then◌else◌, map, length, Some, None};
 ghost use Rattle.ladder_vars.specs.declared.kind.BlockKind.{BlockKind};
 ghost use Rattle.ladder_page.specs.declared.form.Form.TheVariants as form;
-ghost use Rattle.ladder_page.specs.declared.geometry.TheConstants.{RUNGS, ROWS, COLUMNS};
 ghost use Rattle.ladder_page.specs.Seen.{seen};
-ghost use Rattle.ladder_page.specs.Page.{labels_of};
+ghost use Rattle.ladder_page.specs.Page.{labels_of, instance_at};
 ghost use Rattle.ladder_grid.specs.Reading.{cell_with, cell_drawn, site_drawn};
 
 use crate::cell::{Cell, Joint, Operand};
-use ladder_page::page::{form_at, instance_above, name_over, rung_at};
+use ladder_page::geometry::Place;
+use ladder_page::page::{form_at, instance_at, name_over, rung_at};
 use ladder_page::picture::{joint, vertical};
 use ladder_page::{CoilMode, Form, Mode, PageView};
 use ladder_rules::feeding::right_link;
@@ -71,30 +71,38 @@ fn block_on(symbol: Symbol) -> Cell
     }
 }
 
+/// The instance of the block in the row above.
+fn instance_above(page: PageView<'_, '_>, at: Place) -> Option<usize>
+    requires { at.rung < length page.parts.now }
+    ensures { result ≡ (if at.row == 0 then None else instance_at (seen page.entry) at.rung (at.row - 1) at.column) }
+{
+    if at.row == 0 {
+        None
+    } else {
+        instance_at(page, at.in_row(at.row - 1))
+    }
+}
+
 /// What is at a place; `number` is that of the next memory.
 pub(crate) fn site_drawn(
     page: PageView<'_, '_>,
     labels: &[Option<Name>],
     number: usize,
-    rung: usize,
-    row: usize,
-    column: usize,
+    at: Place,
 ) -> Site
-    requires rungs { rung < length page.parts.now }
-    requires few { rung < RUNGS }
+    requires rungs { at.rung < length page.parts.now }
     requires known { labels.now ≡ labels_of (map (λ l. l.now) page.lines.now) page.parts.now }
-    requires rows { row < ROWS }
-    requires columns { column < COLUMNS }
-    ensures { result ≡ record (site_drawn (seen page.entry) rung row column) { cell = cell_drawn (seen page.entry) number rung row column } }
+    ensures { result ≡ record (site_drawn (seen page.entry) at.rung at.row at.column) { cell = cell_drawn (seen page.entry) number at.rung at.row at.column } }
 {
-    let form = form_at(page, rung, row, column);
-    let name = name_over(page, rung, row, column).map(|name| name.symbol);
-    let above = instance_above(page, rung, row, column);
-    let target = target_of(labels, rung, &form);
+    let form = form_at(page, at);
+    let name = name_over(page, at).map(|name| name.symbol);
+    let above = instance_above(page, at);
+    let target = target_of(labels, at.rung, &form);
+    let lines = rung_at(page, at.rung);
     Site {
-        right_link: right_link(page, rung, row, column),
-        vertical: vertical(rung_at(page, rung), row, column),
-        joint: match joint(rung_at(page, rung), row, column) {
+        right_link: right_link(page, at),
+        vertical: vertical(lines, at.row, at.column),
+        joint: match joint(lines, at.row, at.column) {
             b'-' => Joint::Dash,
             b'+' => Joint::Plus,
             b'|' => Joint::Bar,

@@ -40,10 +40,11 @@ pub loop-n-preserved : goal.loop-n-preserved
 loop-n-preserved c =
     let page : Page = seen c.args.page in
     let i = c.loop-n.invariant in
+    let drawn = rw (c.of.ensures.0, c.of.ensures.1, c.of.ensures.2) at c.site_drawn-site.ensures in
     record {
       so_far = c.in_ok-push.ensures.items
           ∙ one_place_more _ (at_place (site_drawn page)) c.loop-n.n _ i.so_far
-          (c.site_drawn-site.ensures ∙ site_is page c.loop-n.n _ _ i.number refl);
-      number = next_is page c.loop-n.n _ _ _ i.number (ap (λ s. s.cell) c.site_drawn-site.ensures) c.after_memory-next.ensures.value;
+          (drawn ∙ site_is page c.loop-n.n _ _ i.number refl);
+      number = next_is page c.loop-n.n _ _ _ i.number (ap (λ s. s.cell) drawn) c.after_memory-next.ensures.value;
       small = omega (arith, i.small, c.after_memory-next.ensures.close);
     }

@@ -1,4 +1,4 @@
-use Rattle.std.proofs.Common.{◌≡◌, ℕ, ◌+◌, ◌*◌, ◌/◌, ◌%◌, ◌<◌, ◌≤◌, ◌==◌, Option, Some, arith, sym, ap, ap₂, ◌∙◌, if◌then◌else◌}
+use Rattle.std.proofs.Common.{◌≡◌, ℕ, ◌+◌, ◌*◌, ◌/◌, ◌%◌, ◌<◌, ◌==◌, Option, Some, arith, sym, ap, ap₂, ◌∙◌, if◌then◌else◌}
 use Rattle.ladder_page.specs.declared.geometry.TheConstants.{ROWS}
 use Rattle.ladder_grid.specs.declared.gates.TheConstants.{ON}
 use Rattle.ladder_grid.specs.declared.gates.Exit.{Exit}
@@ -17,14 +17,10 @@ left_there d rung row column h =
 abbrev exit : ℕ → ℕ → Option Exit
 exit target left = Some (record { left = left; target = target })
 
-pub feeder-requires-clause-columns : goal.feeder-requires-clause-columns
-feeder-requires-clause-columns c =
-    (jump_placed (drawing_of c.args.sheet) c.args.rung (c.in-Some.row, c.in-Some.column, c.in-Some.target) (sym c.requires.jump ∙ c.in-Some.is)).1
-
-pub feeder-requires-clause-rows : goal.feeder-requires-clause-rows
-feeder-requires-clause-rows c =
-    let few : ROWS ≤ ROWS = omega arith in
-    ((jump_placed (drawing_of c.args.sheet) c.args.rung (c.in-Some.row, c.in-Some.column, c.in-Some.target) (sym c.requires.jump ∙ c.in-Some.is)).0, few)
+pub invariant_of-feeder : goal.invariant_of-feeder
+invariant_of-feeder c =
+    let placed = jump_placed (drawing_of c.args.sheet) c.args.rung (c.in-Some.row, c.in-Some.column, c.in-Some.target) (sym c.requires.jump ∙ c.in-Some.is) in
+    record { few = c.requires.rungs; rows = placed.0; columns = placed.1 }
 
 pub returns-in-Some : goal.returns-in-Some
 returns-in-Some c =
