@@ -21,7 +21,7 @@ use Rattle.ladder_scan.specs.Gating.{among, changes_of, AreLinks}
 use Rattle.ladder_scan.specs.Scan.{next_rung}
 use Rattle.ladder_scan.proofs.Turns.{changes_more}
 use Rattle.ladder_scan.proofs.Acting.{cond_true, cond_false, all_one}
-use Rattle.ladder_scan.proofs.GateLaws.{cell_is}
+use Rattle.ladder_scan.proofs.Feeders.{cell_is}
 use Rattle.ladder_resting.specs.Resting.{UsedBy, AreUsers, AreWoken, AllRest, IsStill, Stays, IsWoken, marked, known_next, Rests}
 use Rattle.ladder_resting.proofs.Frames.{rests_on, comes_to_rest}
 use Rattle.ladder_resting.proofs.Actions.{set_quiet, undisturbed}
