@@ -7,7 +7,7 @@ use Rattle.std.proofs.lemmas.List.{get_or_past, length-map, take_all}
 use Rattle.ladder_vars.specs.declared.kind.BlockKind.{BlockKind}
 use Rattle.ladder_vars.specs.declared.decls.Symbol.{Symbol}
 use Rattle.ladder_vars.specs.declared.decls.Symbol.TheVariants.{Var, Instance}
-use Rattle.ladder_page.specs.declared.geometry.TheConstants.{RUNGS, ROWS, COLUMNS, PLACES}
+use Rattle.ladder_page.specs.declared.geometry.TheConstants.{ROWS, COLUMNS, PLACES}
 use Rattle.ladder_page.specs.declared.mode.Mode.{Mode}
 use Rattle.ladder_page.specs.declared.mode.CoilMode.{CoilMode}
 use Rattle.ladder_grid.specs.declared.cell.Cell.{Cell}
@@ -32,18 +32,15 @@ use Rattle.ladder_page.specs.Form.{leaps}
 use Rattle.ladder_rules.specs.Checks.{label_of, later, target_to, jump_label}
 use Rattle.ladder_rules.specs.PageRules.{target_of}
 use Rattle.ladder_rules.specs.Rung.{IsSoundRung}
-use Rattle.ladder_rules.specs.Stops.{IsSoundPage}
 use Rattle.ladder_rules.proofs.TargetLaws.{target_is}
 use Rattle.ladder_grid.specs.Sheet.{blank_site}
-use Rattle.ladder_grid.specs.Program.{drawing, memory_in, block_in, goes_to, has_memory, Fits, has_second, IsWellFormed}
-use Rattle.ladder_page.specs.Geometry.{place, at_place}
-use Rattle.ladder_grid.specs.Reading.{is_edge, cell_with, cell_drawn, site_drawn, memories_before}
-use Rattle.ladder_grid.specs.Build.{sites_of}
+use Rattle.ladder_grid.specs.Program.{Drawing, site_in, cell_in, memory_in, block_in, goes_to, has_memory, Fits, has_second, IsWellFormed}
+use Rattle.ladder_page.specs.Geometry.{place}
+use Rattle.ladder_grid.specs.Reading.{is_edge, cell_with, cell_drawn, memories_before, IsDrawn}
 use Rattle.ladder_page.proofs.FitLaws.{SymbolFits, refer_fits, instance_fits}
 use Rattle.ladder_grid.proofs.CellFits.{cell_fits, edge_has}
 use Rattle.ladder_grid.proofs.LowerLaws.{FitsName, block_may, block_of, lower_found, second_input}
 use Rattle.ladder_page.proofs.ReadingOrder.{rung_of_place, row_of_place, column_of_place, earlier}
-use Rattle.ladder_page.proofs.PlaceLaws.{length-all_places, first_places-at}
 use Rattle.ladder_grid.proofs.NumberLaws.{memory_of, count_more, next_memory, before_more}
 use Rattle.ladder_grid.proofs.SoundRungs.{sound_rung}
 
@@ -183,53 +180,68 @@ drawn page k r c = cell_drawn page (number_at page k r c) k r c
 abbrev keeps : Site → Bool
 keeps s = has_memory s.cell
 
-module _ (page : Page) (rungs : ℕ) (sites : List Site)
-    (sound : IsSoundPage page)
-    (same : sites ≡ sites_of page)
-    (count : rungs ≡ length page.parts)
-    (few : rungs ≤ RUNGS) where
-  cell_i : ℕ → Cell
-  cell_i i = (get_or sites i blank_site).cell
-
-  whole : length sites ≡ PLACES * rungs
-  whole = ap length same ∙ length-all_places (site_drawn page) (length page.parts) ∙ ap (λ n. PLACES * n) (sym count)
-
-  -- what is a cell's at the place i
+module _ (page : Page) (d : Drawing) (read : IsDrawn page d) where
+  -- what is so at the place i
   record Stands (i : ℕ) (P : ℕ → ℕ → ℕ → Type 0) : Type 0 where
     rung : ℕ
     row : ℕ
     column : ℕ
-    below : rung < rungs
+    below : rung < d.rungs
     in_rung : row < ROWS
     in_row : column < COLUMNS
     at : i ≡ place rung row column
     holds : P rung row column
 
-  cell_is : (i : ℕ) → i < PLACES * rungs → cell_i i ≡ at_place (drawn page) i
-  unfolding cell_i
-  cell_is i below =
-      ap (λ ss. (get_or ss i blank_site).cell) same
-      ∙ ap (λ x. x.cell) (first_places-at (at_place (site_drawn page)) (PLACES * length page.parts) i blank_site (omega (arith, below, count)))
+  restated : {P Q : ℕ → ℕ → ℕ → Type 0} (i : ℕ) → ((k r c : ℕ) → k < d.rungs → P k r c → Q k r c) → Stands i P → Stands i Q
+  restated i f s = record {
+    rung = s.rung;
+    row = s.row;
+    column = s.column;
+    below = s.below;
+    in_rung = s.in_rung;
+    in_row = s.in_row;
+    at = s.at;
+    holds = f s.rung s.row s.column s.below s.holds;
+  }
 
-  past_end : (i : ℕ) → PLACES * rungs ≤ i → cell_i i ≡ cell.Empty
-  unfolding cell_i
-  past_end i past = ap (λ x. x.cell) (get_or_past sites i blank_site (omega (arith, past, whole)))
+  cell_there : (k r c : ℕ) → k < d.rungs → r < ROWS → c < COLUMNS → cell_in d (place k r c) ≡ drawn page k r c
+  cell_there k r c below rows columns = ap (λ s. s.cell) (read.sites k r c below rows columns)
+
+  cell_is : (i : ℕ) → i < PLACES * d.rungs → Stands i (λ k r c. cell_in d i ≡ drawn page k r c)
+  cell_is i within =
+      let rung : i / PLACES < d.rungs = omega arith in
+      let row : i % PLACES % ROWS < ROWS = omega arith in
+      let column : i % PLACES / ROWS < COLUMNS = omega arith in
+      let is : i ≡ place (i / PLACES) (i % PLACES % ROWS) (i % PLACES / ROWS) = omega arith in
+      record {
+        rung = i / PLACES;
+        row = i % PLACES % ROWS;
+        column = i % PLACES / ROWS;
+        below = rung;
+        in_rung = row;
+        in_row = column;
+        at = is;
+        holds = ap (cell_in d) is ∙ cell_there (i / PLACES) (i % PLACES % ROWS) (i % PLACES / ROWS) rung row column;
+      }
+
+  past_end : (i : ℕ) → PLACES * d.rungs ≤ i → cell_in d i ≡ cell.Empty
+  past_end i past = ap (λ x. x.cell) (get_or_past d.sites i blank_site (omega (arith, past, read.size)))
 
   -- a memory has the number of those before it
-  memory_is : (i number : ℕ) → memory_in (cell_i i) ≡ Some number → (i < PLACES * rungs) × (memories_before page i ≡ number)
+  memory_is : (i number : ℕ) → memory_in (cell_in d i) ≡ Some number → (i < PLACES * d.rungs) × (memories_before page i ≡ number)
       × (memories_before page (i + 1) ≡ number + 1)
   memory_is i number h =
-      elim (cases_lt i (PLACES * rungs)) [
+      elim (cases_lt i (PLACES * d.rungs)) [
         | inl below ↦
-            let here : place (i / PLACES) (i % PLACES % ROWS) (i % PLACES / ROWS) ≡ i = omega arith in
-            let m = memory_of (at_place (number_at page) i) number (at_place (form_at page) i) _ _ _ (ap memory_in (sym (cell_is i below)) ∙ h) in
-            let first : memories_before page i ≡ number = ap (memories_before page) (sym here) ∙ m.0 in
-            let edge : is_edge (get_or page.forms i None) ≡ true = ap (λ n. is_edge (get_or page.forms n None)) (sym here) ∙ m.1 in
+            let s = cell_is i below in
+            let m = memory_of (number_at page s.rung s.row s.column) number (form_at page s.rung s.row s.column) _ _ _ (ap memory_in (sym s.holds) ∙ h) in
+            let first : memories_before page i ≡ number = ap (memories_before page) s.at ∙ m.0 in
+            let edge : is_edge (get_or page.forms i None) ≡ true = ap (λ n. is_edge (get_or page.forms n None)) s.at ∙ m.1 in
             (below, first, rw edge at (next_memory page i) ∙ ap (λ n. n + 1) first)
         | inr past ↦ absurd (none_some (ap memory_in (sym (past_end i past)) ∙ h))
       ]
 
-  one_memory : (number i j : ℕ) → memory_in (cell_i i) ≡ Some number → memory_in (cell_i j) ≡ Some number → i ≡ j
+  one_memory : (number i j : ℕ) → memory_in (cell_in d i) ≡ Some number → memory_in (cell_in d j) ≡ Some number → i ≡ j
   one_memory number i j h k =
       let a = memory_is i number h in
       let b = memory_is j number k in
@@ -242,39 +254,23 @@ module _ (page : Page) (rungs : ℕ) (sites : List Site)
       ]
 
   -- what a part of the cells says, that nothing has past the end
-  stands : (f : Cell → Option ℕ) → f cell.Empty ≡ None → (i number : ℕ) → f (cell_i i) ≡ Some number → Stands i (λ k r c. f (drawn page k r c) ≡ Some number)
+  stands : (f : Cell → Option ℕ) → f cell.Empty ≡ None → (i number : ℕ) → f (cell_in d i) ≡ Some number → Stands i (λ k r c. f (drawn page k r c) ≡ Some number)
   stands f empty i number h =
-      elim (cases_lt i (PLACES * rungs)) [
-        | inl below ↦
-            let rung : i / PLACES < rungs = omega arith in
-            let row : i % PLACES % ROWS < ROWS = omega arith in
-            let column : i % PLACES / ROWS < COLUMNS = omega arith in
-            let is : i ≡ place (i / PLACES) (i % PLACES % ROWS) (i % PLACES / ROWS) = omega arith in
-            record {
-              rung = i / PLACES;
-              row = i % PLACES % ROWS;
-              column = i % PLACES / ROWS;
-              below = rung;
-              in_rung = row;
-              in_row = column;
-              at = is;
-              holds = ap f (sym (cell_is i below)) ∙ h;
-            }
-        | inr past ↦
-            let none : cell_i i ≡ cell.Empty = past_end i past in
-            absurd (none_some (sym (ap f none ∙ empty) ∙ h))
+      elim (cases_lt i (PLACES * d.rungs)) [
+        | inl below ↦ restated i (λ k r c _ is. ap f (sym is) ∙ h) (cell_is i below)
+        | inr past ↦ absurd (none_some (sym (ap f (past_end i past) ∙ empty) ∙ h))
       ]
 
-  sound_at : (k : ℕ) → k < rungs → IsSoundRung page k
-  sound_at k below = sound_rung page sound k (omega (arith, below, count))
+  sound_at : (k : ℕ) → k < d.rungs → IsSoundRung page k
+  sound_at k below = sound_rung page read.sound k (omega (arith, below, read.rungs))
 
   -- G10: no name is one that its symbol can't have
-  never_odd : (k r c : ℕ) → k < rungs → r < ROWS → c < COLUMNS → FitsName page.decls (form_at page k r c) (name_over page k r c)
+  never_odd : (k r c : ℕ) → k < d.rungs → r < ROWS → c < COLUMNS → FitsName page.decls (form_at page k r c) (name_over page k r c)
   never_odd k r c below rows columns x name wants odd =
       sound_at k below (Grid rule.WrongKind) (2 * r) (r, half.Name, rows, refl, (c, omega (arith, columns), (columns, (wants, x, name, odd))))
 
   -- G7 and G9: a cell that wants a name has one
-  never_nameless : (k r c : ℕ) → k < rungs → r < ROWS → c < COLUMNS → wants_name (form_at page k r c) ≡ true → name_over page k r c ≡ None → ⊥
+  never_nameless : (k r c : ℕ) → k < d.rungs → r < ROWS → c < COLUMNS → wants_name (form_at page k r c) ≡ true → name_over page k r c ≡ None → ⊥
   never_nameless k r c below rows columns wants none =
       elim (has_text (text_over (rung_at page k) r c)) as (λ b. has_text (text_over (rung_at page k) r c) ≡ b → ⊥) [
         | true ↦ λ text. sound_at k below (Grid rule.Undeclared) (2 * r) (r, half.Name, rows, refl, (c, omega (arith, columns), (columns, (wants, text, none))))
@@ -282,42 +278,38 @@ module _ (page : Page) (rungs : ℕ) (sites : List Site)
       ] refl
 
   -- an edge has a memory
-  edge_keeps : (i : ℕ) → i < PLACES * rungs → is_edge (get_or page.forms i None) ≡ true → keeps (get_or sites i blank_site) ≡ true
-  unfolding cell_i
+  edge_keeps : (i : ℕ) → i < PLACES * d.rungs → is_edge (get_or page.forms i None) ≡ true → keeps (site_in d i) ≡ true
   edge_keeps i within edge =
-      let rung : i / PLACES < rungs = omega arith in
-      let row : i % PLACES % ROWS < ROWS = omega arith in
-      let column : i % PLACES / ROWS < COLUMNS = omega arith in
-      let here : place (i / PLACES) (i % PLACES % ROWS) (i % PLACES / ROWS) ≡ i = omega arith in
-      ap has_memory (cell_is i within)
-      ∙ edge_has page.decls (at_place (number_at page) i) (at_place (form_at page) i) (at_place (name_over page) i) _ _
-      (ap (λ n. is_edge (get_or page.forms n None)) here ∙ edge)
-      (never_nameless (i / PLACES) (i % PLACES % ROWS) (i % PLACES / ROWS) rung row column)
-      (never_odd (i / PLACES) (i % PLACES % ROWS) (i % PLACES / ROWS) rung row column)
+      let s = cell_is i within in
+      ap has_memory s.holds
+      ∙ edge_has page.decls (number_at page s.rung s.row s.column) (form_at page s.rung s.row s.column) (name_over page s.rung s.row s.column) _ _
+      (ap (λ n. is_edge (get_or page.forms n None)) (sym s.at) ∙ edge)
+      (never_nameless s.rung s.row s.column s.below s.in_rung s.in_row)
+      (never_odd s.rung s.row s.column s.below s.in_rung s.in_row)
 
-  counted : (n : ℕ) → n ≤ PLACES * rungs → memories_before page n ≤ count_by keeps (take n sites)
+  counted : (n : ℕ) → n ≤ PLACES * d.rungs → memories_before page n ≤ count_by keeps (take n d.sites)
   counted zero within = omega arith
   counted (suc n) within =
-      let before : memories_before page n ≤ count_by keeps (take n sites) = counted n (omega (arith, within)) in
-      let more = count_more keeps sites n blank_site refl in
-      rw (sym (add-one n)) (elim (is_edge (get_or page.forms n None)) as (λ b. is_edge (get_or page.forms n None) ≡ b → memories_before page (n + 1) ≤ count_by keeps (take (n + 1) sites)) [
+      let before : memories_before page n ≤ count_by keeps (take n d.sites) = counted n (omega (arith, within)) in
+      let more = count_more keeps d.sites n blank_site refl in
+      rw (sym (add-one n)) (elim (is_edge (get_or page.forms n None)) as (λ b. is_edge (get_or page.forms n None) ≡ b → memories_before page (n + 1) ≤ count_by keeps (take (n + 1) d.sites)) [
         | true ↦ λ edge. omega (arith, before, rw edge at (next_memory page n), rw (edge_keeps n (omega (arith, within)) edge) at more)
         | false ↦ λ plain. omega (arith, before, rw plain at (next_memory page n), more)
       ] refl)
 
-  memories_below : (number i : ℕ) → memory_in (cell_i i) ≡ Some number → number < count_by keeps sites
+  memories_below : (number i : ℕ) → memory_in (cell_in d i) ≡ Some number → number < count_by keeps d.sites
   memories_below number i h =
       let a = memory_is i number h in
-      let all : count_by keeps (take (PLACES * rungs) sites) ≡ count_by keeps sites = ap (count_by keeps) (take_all (PLACES * rungs) sites (omega (arith, whole))) in
-      omega (arith, all, a.2, before_more page (PLACES * rungs) (i + 1) (omega (arith, a.0)), counted (PLACES * rungs) (omega arith))
+      let all : count_by keeps (take (PLACES * d.rungs) d.sites) ≡ count_by keeps d.sites = ap (count_by keeps) (take_all (PLACES * d.rungs) d.sites (omega (arith, read.size))) in
+      omega (arith, all, a.2, before_more page (PLACES * d.rungs) (i + 1) (omega (arith, a.0)), counted (PLACES * d.rungs) (omega arith))
 
   -- a block is drawn by a name that it may have
-  drawn_at : (k r c inst : ℕ) → k < rungs → r < ROWS → c < COLUMNS → instance_at page k r c ≡ Some inst → IsDrawnAt page inst k r c
+  drawn_at : (k r c inst : ℕ) → k < d.rungs → r < ROWS → c < COLUMNS → instance_at page k r c ≡ Some inst → IsDrawnAt page inst k r c
   unfolding instance_at
   drawn_at k r c inst below rows columns h = block_may page.decls (form_at page k r c) (name_over page k r c) inst h (never_odd k r c below rows columns)
 
   -- G12: an instance is drawn once
-  never_twice : (number k r c j q b : ℕ) → k < rungs → r < ROWS → c < COLUMNS → j < rungs → q < ROWS → b < COLUMNS
+  never_twice : (number k r c j q b : ℕ) → k < d.rungs → r < ROWS → c < COLUMNS → j < d.rungs → q < ROWS → b < COLUMNS
       → instance_at page k r c ≡ Some number → instance_at page j q b ≡ Some number → reading_place j q b < reading_place k r c → ⊥
   never_twice number k r c j q b below rows columns other_below other_rows other_columns here there less =
       sound_at k below (Grid rule.DrawnTwice) (2 * r) (
@@ -340,28 +332,18 @@ module _ (page : Page) (rungs : ℕ) (sites : List Site)
       )
 
   -- G14: a rung has one jump
-  never_two : (k r c q b : ℕ) → k < rungs → r < ROWS → c < COLUMNS → q < ROWS → b < COLUMNS
+  never_two : (k r c q b : ℕ) → k < d.rungs → r < ROWS → c < COLUMNS → q < ROWS → b < COLUMNS
       → leaps (form_at page k r c) ≡ true → leaps (form_at page k q b) ≡ true → COLUMNS * q + b < COLUMNS * r + c → ⊥
   never_two k r c q b below rows columns other_rows other_columns here there less =
       let before : reading_place k q b < reading_place k r c = omega (arith, less) in
       sound_at k below (Grid rule.TwoJumps) (2 * r + 1) (r, half.Wire, rows, refl, (c, omega (arith, columns), (columns, (here, (k, q, b, other_rows, other_columns, earlier k q b k r c other_columns columns other_rows rows before, (refl, there))))))
 
-  block_place : (i number : ℕ) → block_in (cell_i i) ≡ Some number → Stands i (λ k r c. instance_at page k r c ≡ Some number)
+  block_place : (i number : ℕ) → block_in (cell_in d i) ≡ Some number → Stands i (λ k r c. instance_at page k r c ≡ Some number)
   unfolding instance_at
   block_place i number h =
-      let s = stands block_in refl i number h in
-      record {
-        rung = s.rung;
-        row = s.row;
-        column = s.column;
-        below = s.below;
-        in_rung = s.in_rung;
-        in_row = s.in_row;
-        at = s.at;
-        holds = sym (drawn_block (number_at page s.rung s.row s.column) (form_at page s.rung s.row s.column) (name_over page s.rung s.row s.column) _ _) ∙ s.holds;
-      }
+      restated i (λ k r c _ is. sym (drawn_block (number_at page k r c) (form_at page k r c) (name_over page k r c) _ _) ∙ is) (stands block_in refl i number h)
 
-  one_block : (number i j : ℕ) → block_in (cell_i i) ≡ Some number → block_in (cell_i j) ≡ Some number → i ≡ j
+  one_block : (number i j : ℕ) → block_in (cell_in d i) ≡ Some number → block_in (cell_in d j) ≡ Some number → i ≡ j
   one_block number i j h k =
       let a = block_place i number h in
       let b = block_place j number k in
@@ -381,37 +363,29 @@ module _ (page : Page) (rungs : ℕ) (sites : List Site)
         ]
       ]
 
-  jump_place : (i t : ℕ) → goes_to rungs (cell_i i) ≡ Some t
-      → Stands i (λ k r c. (leaps (form_at page k r c) ≡ true) × (k < t) × (t ≤ rungs))
+  jump_place : (i t : ℕ) → goes_to d.rungs (cell_in d i) ≡ Some t
+      → Stands i (λ k r c. (leaps (form_at page k r c) ≡ true) × (k < t) × (t ≤ d.rungs))
   unfolding Goal
   jump_place i t h =
-      let s = stands (goes_to rungs) refl i t h in
-      let g = drawn_goal (number_at page s.rung s.row s.column) rungs t (form_at page s.rung s.row s.column) _ _ _ s.holds in
-      let bounds : (s.rung < t) × (t ≤ rungs) = elim g.1 [
-        | inl past ↦ (omega (arith, past, s.below), omega (arith, past))
+      restated i
+      (λ k r c below is.
+      let g = drawn_goal (number_at page k r c) d.rungs t (form_at page k r c) _ _ _ is in
+      elim g.1 [
+        | inl past ↦ (g.0, omega (arith, past, below), omega (arith, past))
         | inr known ↦
-            let w = target_within (labels_of page.lines page.parts) s.rung t (jump_label (form_at page s.rung s.row s.column)) (sym (target_is (labels_of page.lines page.parts) s.rung (form_at page s.rung s.row s.column)) ∙ known) in
-            (w.0, omega (arith, w.1, count, length-map page.parts (label_of page.lines)))
-      ] in
-      record {
-        rung = s.rung;
-        row = s.row;
-        column = s.column;
-        below = s.below;
-        in_rung = s.in_rung;
-        in_row = s.in_row;
-        at = s.at;
-        holds = (g.0, bounds.0, bounds.1);
-      }
+            let w = target_within (labels_of page.lines page.parts) k t (jump_label (form_at page k r c)) (sym (target_is (labels_of page.lines page.parts) k (form_at page k r c)) ∙ known) in
+            (g.0, w.0, omega (arith, w.1, read.rungs, length-map page.parts (label_of page.lines)))
+      ])
+      (stands (goes_to d.rungs) refl i t h)
 
-  jumps_down : (rung i target : ℕ) → i < PLACES → goes_to rungs (cell_i (PLACES * rung + i)) ≡ Some target → (rung < target) × (target ≤ rungs)
+  jumps_down : (rung i target : ℕ) → i < PLACES → goes_to d.rungs (cell_in d (PLACES * rung + i)) ≡ Some target → (rung < target) × (target ≤ d.rungs)
   jumps_down rung i target within h =
       let s = jump_place (PLACES * rung + i) target h in
       let here : s.rung ≡ rung = omega (arith, s.at, s.in_rung, s.in_row, within) in
       (omega (arith, here, s.holds.1), s.holds.2)
 
-  one_jump : (rung i j s t : ℕ) → i < PLACES → j < PLACES → goes_to rungs (cell_i (PLACES * rung + i)) ≡ Some s
-      → goes_to rungs (cell_i (PLACES * rung + j)) ≡ Some t → i ≡ j
+  one_jump : (rung i j s t : ℕ) → i < PLACES → j < PLACES → goes_to d.rungs (cell_in d (PLACES * rung + i)) ≡ Some s
+      → goes_to d.rungs (cell_in d (PLACES * rung + j)) ≡ Some t → i ≡ j
   one_jump rung i j s t i_within j_within h k =
       let a = jump_place (PLACES * rung + i) s h in
       let b = jump_place (PLACES * rung + j) t k in
@@ -431,20 +405,10 @@ module _ (page : Page) (rungs : ℕ) (sites : List Site)
         ]
       ]
 
-  lower_place : (i inst : ℕ) → lower_in (cell_i i) ≡ Some inst → Stands i (λ k r c. instance_above page k r c ≡ Some inst)
+  lower_place : (i inst : ℕ) → lower_in (cell_in d i) ≡ Some inst → Stands i (λ k r c. instance_above page k r c ≡ Some inst)
   unfolding lower_in
   lower_place i inst h =
-      let s = stands lower_in refl i inst h in
-      record {
-        rung = s.rung;
-        row = s.row;
-        column = s.column;
-        below = s.below;
-        in_rung = s.in_rung;
-        in_row = s.in_row;
-        at = s.at;
-        holds = drawn_lower (number_at page s.rung s.row s.column) inst (form_at page s.rung s.row s.column) _ _ _ s.holds;
-      }
+      restated i (λ k r c _ is. drawn_lower (number_at page k r c) inst (form_at page k r c) _ _ _ is) (stands lower_in refl i inst h)
 
   above_is : (k r c inst : ℕ) → instance_above page k r c ≡ Some inst → (1 ≤ r) × (instance_at page k (r - 1) c ≡ Some inst)
   above_is k r c inst h =
@@ -458,25 +422,21 @@ module _ (page : Page) (rungs : ℕ) (sites : List Site)
             (some, same)
       ] refl h
 
-  block_cell : (k r c inst : ℕ) → k < rungs → r < ROWS → c < COLUMNS → instance_at page k r c ≡ Some inst → cell_i (place k r c) ≡ cell.Block inst
+  block_cell : (k r c inst : ℕ) → k < d.rungs → r < ROWS → c < COLUMNS → instance_at page k r c ≡ Some inst → cell_in d (place k r c) ≡ cell.Block inst
   unfolding instance_at
   block_cell k r c inst below rows columns h =
-      let within : place k r c < PLACES * rungs = omega arith in
-      let rung : place k r c / PLACES ≡ k = omega arith in
-      let row : place k r c % PLACES % ROWS ≡ r = omega arith in
-      let column : place k r c % PLACES / ROWS ≡ c = omega arith in
-      let is : block_in (drawn page k r c) ≡ Some inst = drawn_block (number_at page k r c) (form_at page k r c) (name_over page k r c) _ _ ∙ h in
-      cell_is (place k r c) within ∙ rw (rung, row, column) (is_block (drawn page k r c) inst is)
+      cell_there k r c below rows columns
+      ∙ is_block (drawn page k r c) inst (drawn_block (number_at page k r c) (form_at page k r c) (name_over page k r c) _ _ ∙ h)
 
-  under_block : (i inst : ℕ) (linked : Bool) → cell_i i ≡ cell.Lower inst linked
-      → (1 ≤ i % ROWS) × (cell_i (i - 1) ≡ cell.Block inst)
+  under_block : (i inst : ℕ) (linked : Bool) → cell_in d i ≡ cell.Lower inst linked
+      → (1 ≤ i % ROWS) × (cell_in d (i - 1) ≡ cell.Block inst)
   unfolding lower_in
   under_block i inst linked h =
       let s = lower_place i inst (ap lower_in h) in
       let up = above_is s.rung s.row s.column inst s.holds in
       let row : s.row - 1 < ROWS = omega (arith, s.in_rung) in
       let before : i - 1 ≡ place s.rung (s.row - 1) s.column = omega (arith, s.at, up.0) in
-      (omega (arith, s.at, up.0, s.in_rung), ap cell_i before ∙ block_cell s.rung (s.row - 1) s.column inst s.below row s.in_row up.1)
+      (omega (arith, s.at, up.0, s.in_rung), ap (cell_in d) before ∙ block_cell s.rung (s.row - 1) s.column inst s.below row s.in_row up.1)
 
   name_fits : (k r c : ℕ) (x : Reference) → name_over page k r c ≡ Some x → SymbolFits page.decls x.symbol
   name_fits k r c x h = refer_fits page.decls _ x h
@@ -487,31 +447,25 @@ module _ (page : Page) (rungs : ℕ) (sites : List Site)
       let up = above_is k r c n h in
       instance_fits page.decls (form_at page k (r - 1) c) (name_over page k (r - 1) c) n (name_fits k (r - 1) c) up.1
 
-  fits : (i : ℕ) → Fits page.decls (cell_i i)
+  fits : (i : ℕ) → Fits page.decls (cell_in d i)
   fits i =
-      elim (cases_lt i (PLACES * rungs)) [
+      elim (cases_lt i (PLACES * d.rungs)) [
         | inl below ↦
-            let rung : i / PLACES < rungs = omega arith in
-            let row : i % PLACES % ROWS < ROWS = omega arith in
-            let column : i % PLACES / ROWS < COLUMNS = omega arith in
-            subst (Fits page.decls) (sym (cell_is i below))
-            (cell_fits (at_place (number_at page) i) page.decls _ _ _ _ (name_fits (i / PLACES) (i % PLACES % ROWS) (i % PLACES / ROWS)) (over_fits (i / PLACES) (i % PLACES % ROWS) (i % PLACES / ROWS))
-            (never_odd (i / PLACES) (i % PLACES % ROWS) (i % PLACES / ROWS) rung row column))
+            let s = cell_is i below in
+            subst (Fits page.decls) (sym s.holds)
+            (cell_fits (number_at page s.rung s.row s.column) page.decls _ _ _ _ (name_fits s.rung s.row s.column) (over_fits s.rung s.row s.column)
+            (never_odd s.rung s.row s.column s.below s.in_rung s.in_row))
         | inr past ↦ subst (Fits page.decls) (sym (past_end i past)) tt
       ]
 
   -- G11: a block has its lower cell
-  never_torn : (k r c : ℕ) → k < rungs → r < ROWS → c < COLUMNS → IsTorn page k r c → ⊥
+  never_torn : (k r c : ℕ) → k < d.rungs → r < ROWS → c < COLUMNS → IsTorn page k r c → ⊥
   never_torn k r c below rows columns torn =
       sound_at k below (Grid rule.BlockShape) (2 * r + 1) (r, half.Wire, rows, refl, (c, omega (arith, columns), (columns, torn)))
 
-  lower_cell : (k r c inst : ℕ) (q : Pin) (linked : Bool) → k < rungs → r + 1 < ROWS → c < COLUMNS → instance_at page k r c ≡ Some inst
-      → form_at page k (r + 1) c ≡ Some (Lower q linked) → cell_i (place k (r + 1) c) ≡ cell.Lower inst linked
+  lower_cell : (k r c inst : ℕ) (q : Pin) (linked : Bool) → k < d.rungs → r + 1 < ROWS → c < COLUMNS → instance_at page k r c ≡ Some inst
+      → form_at page k (r + 1) c ≡ Some (Lower q linked) → cell_in d (place k (r + 1) c) ≡ cell.Lower inst linked
   lower_cell k r c inst q linked below rows columns here form =
-      let within : place k (r + 1) c < PLACES * rungs = omega arith in
-      let rung : place k (r + 1) c / PLACES ≡ k = omega arith in
-      let row : place k (r + 1) c % PLACES % ROWS ≡ r + 1 = omega arith in
-      let column : place k (r + 1) c % PLACES / ROWS ≡ c = omega arith in
       let test : (r + 1 == 0) ≡ false = ne_eqb (r + 1) 0 (λ e. absurd (omega (arith, e))) in
       let up : r + 1 - 1 ≡ r = omega arith in
       let above : instance_above page k (r + 1) c ≡ Some inst = rw (test, up) here in
@@ -519,10 +473,10 @@ module _ (page : Page) (rungs : ℕ) (sites : List Site)
       let target = target_of (labels_of page.lines page.parts) k (form_at page k (r + 1) c) in
       let is : drawn page k (r + 1) c ≡ cell.Lower inst linked
       = ap₂ (λ f o. cell_with (number_at page k (r + 1) c) f name o target) form above in
-      cell_is (place k (r + 1) c) within ∙ rw (rung, row, column) is
+      cell_there k (r + 1) c below rows columns ∙ is
 
-  has_lower : (i inst : ℕ) → cell_i i ≡ cell.Block inst → has_second (slice_get page.decls.instances inst) ≡ true
-      → (linked : Bool) × (i % ROWS + 1 < ROWS) × (cell_i (i + 1) ≡ cell.Lower inst linked)
+  has_lower : (i inst : ℕ) → cell_in d i ≡ cell.Block inst → has_second (slice_get page.decls.instances inst) ≡ true
+      → (linked : Bool) × (i % ROWS + 1 < ROWS) × (cell_in d (i + 1) ≡ cell.Lower inst linked)
   unfolding instance_at
   has_lower i inst h second =
       let s = block_place i inst (ap block_in h) in
@@ -533,12 +487,11 @@ module _ (page : Page) (rungs : ℕ) (sites : List Site)
       let next : i + 1 ≡ place s.rung (s.row + 1) s.column = omega (arith, s.at) in (
         low.1,
         omega (arith, s.at, low.2),
-        ap cell_i next
+        ap (cell_in d) next
             ∙ lower_cell s.rung s.row s.column inst low.0 low.1 s.below low.2 s.in_row s.holds low.3,
       )
 
-  pub read_well_formed : IsWellFormed (drawing page.decls rungs sites)
-  unfolding cell_i
+  pub read_well_formed : IsWellFormed d
   read_well_formed = record {
     one_memory = one_memory;
     memories_below = memories_below;
@@ -546,6 +499,6 @@ module _ (page : Page) (rungs : ℕ) (sites : List Site)
     one_jump = one_jump;
     jumps_down = jumps_down;
     under_block = under_block;
-    fits = fits;
-    has_lower = has_lower;
+    fits = λ i. subst (λ x. Fits x (cell_in d i)) (sym read.declared) (fits i);
+    has_lower = λ i inst block second. has_lower i inst block (ap (λ x. has_second (slice_get x.instances inst)) (sym read.declared) ∙ second);
   }

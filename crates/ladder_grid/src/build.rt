@@ -5,9 +5,10 @@ ghost use Rattle.ladder_page.specs.declared.geometry.TheConstants.{RUNGS};
 ghost use Rattle.ladder_page.specs.ReadLines.{page_of};
 ghost use Rattle.ladder_page.specs.Seen.{seen};
 ghost use Rattle.ladder_page.specs.Page.{labels_of};
-ghost use Rattle.ladder_grid.specs.Build.{sites_of, AreSitesOf};
+ghost use Rattle.ladder_page.specs.AllPlaces.{all_places};
+ghost use Rattle.ladder_grid.specs.Program.{drawing};
 ghost use Rattle.ladder_rules.specs.Stops.{IsBrokenIn, IsSmall, IsNear};
-ghost use Rattle.ladder_grid.specs.Reading.{is_edge, IsDrawn};
+ghost use Rattle.ladder_grid.specs.Reading.{is_edge, site_drawn, IsDrawn};
 
 use crate::program::Program;
 use crate::site::{Site, is_edge, site_drawn};
@@ -38,7 +39,7 @@ fn sites(
 ) -> Result<Vec<Site>, AllocError>
     requires few { length page.parts.now ≤ RUNGS }
     requires known { labels.now ≡ labels_of (map (λ l. l.now) page.lines.now) page.parts.now }
-    ensures { IfOk result (λ v. v.items ≡ sites_of (seen page.entry)) }
+    ensures { IfOk result (λ v. v.items ≡ all_places (site_drawn (seen page.entry)) (length page.entry.parts.now)) }
 {
     let mut sites = Vec::new(alloc);
     let mut next = 0;
@@ -52,7 +53,7 @@ fn sites(
 
 /// The sites of a page, where no rule is broken on it.
 fn checked_sites(alloc: Global, page: PageView<'_, '_>) -> Result<(usize, Vec<Site>), Stop>
-    ensures found { IfOk result (λ x. AreSitesOf (seen page.entry) x.0 x.1.items) }
+    ensures found { IfOk result (λ x. IsDrawn (seen page.entry) (drawing page.entry.decls.now x.0 x.1.items)) }
     ensures broken { IfErr result (IsBrokenIn (seen page.entry)) }
     ensures near { IfErr result (IsNear (length page.entry.parts.now) (length page.entry.lines.now)) }
 {
@@ -67,7 +68,7 @@ pub(crate) fn read_sites(
     decls: &Decls,
     text: &[u8],
 ) -> Result<(usize, Vec<Site>), Stop>
-    ensures found { IfOk result (λ x. AreSitesOf (page_of decls.now text.now) x.0 x.1.items) }
+    ensures found { IfOk result (λ x. IsDrawn (page_of decls.now text.now) (drawing decls.now x.0 x.1.items)) }
     ensures broken { IfErr result (IsBrokenIn (page_of decls.now text.now)) }
     ensures small { IfErr result IsSmall }
 {
