@@ -13,17 +13,15 @@ use Rattle.ladder_page.specs.declared.form.Form.{Form}
 use Rattle.ladder_page.specs.declared.form.Form.TheVariants.{Empty, Wire, Contact, Coil, Block, Lower, Jump, Return}
 use Rattle.ladder_page.specs.declared.operand.Reference.{Reference}
 use Rattle.ladder_page.specs.Operand.{MayHave, is_input_at}
+use Rattle.ladder_rules.specs.Rules.{wants_name}
 use Rattle.ladder_page.proofs.FitLaws.{SymbolFits}
-use Rattle.ladder_grid.specs.declared.cell.Cell.{Cell}
-use Rattle.ladder_grid.specs.declared.cell.Cell.TheVariants as cell
-use Rattle.ladder_grid.specs.Program.{Fits}
-use Rattle.ladder_grid.specs.Reading.{cell_with}
+use Rattle.ladder_grid.specs.Program.{Fits, has_memory}
+use Rattle.ladder_grid.specs.Reading.{is_edge, cell_with}
 use Rattle.ladder_grid.proofs.LowerLaws.{FitsName}
-use Rattle.ladder_grid.proofs.NumberLaws.{numbered}
 
-contact_fits : (decls : Declared) (m : Mode) (s : Symbol) (above target : Option ℕ) → SymbolFits decls s → Fits decls (cell_with 0 (Some (Contact m)) (Some s) above target)
-contact_fits decls m (symbol.Var i) above target fits = fits
-contact_fits decls m (symbol.Instance i) above target fits = fits
+contact_fits : (n : ℕ) (decls : Declared) (m : Mode) (s : Symbol) (above target : Option ℕ) → SymbolFits decls s → Fits decls (cell_with n (Some (Contact m)) (Some s) above target)
+contact_fits n decls m (symbol.Var i) above target fits = fits
+contact_fits n decls m (symbol.Instance i) above target fits = fits
 
 input_is : (o : Option Var) → is_input_at o ≡ true → option_map is_input o ≡ Some true
 input_is None h = absurd cc
@@ -36,41 +34,54 @@ no_input o h =
       | false ↦ λ e. refl
     ] refl
 
-coil_fits : (decls : Declared) (m : CoilMode) (s : Symbol) (above target : Option ℕ) (o : Option Output) → SymbolFits decls s → ¬ (¬ (MayHave decls (Some (Coil m)) s o))
-    → Fits decls (cell_with 0 (Some (Coil m)) (Some s) above target)
-coil_fits decls m (symbol.Var i) above target None fits twice = (fits, no_input (slice_get decls.vars i) twice)
-coil_fits decls m (symbol.Var i) above target (Some o) fits twice = absurd (twice (λ none. none))
-coil_fits decls m (symbol.Instance i) above target o fits twice = tt
+coil_fits : (n : ℕ) (decls : Declared) (m : CoilMode) (s : Symbol) (above target : Option ℕ) (o : Option Output) → SymbolFits decls s → ¬ (¬ (MayHave decls (Some (Coil m)) s o))
+    → Fits decls (cell_with n (Some (Coil m)) (Some s) above target)
+coil_fits n decls m (symbol.Var i) above target None fits twice = (fits, no_input (slice_get decls.vars i) twice)
+coil_fits n decls m (symbol.Var i) above target (Some o) fits twice = absurd (twice (λ none. none))
+coil_fits n decls m (symbol.Instance i) above target o fits twice = tt
 
-block_fits : (decls : Declared) (kind : BlockKind) (s : Symbol) (above target : Option ℕ) → SymbolFits decls s → Fits decls (cell_with 0 (Some (Block kind)) (Some s) above target)
-block_fits decls kind (symbol.Var i) above target fits = tt
-block_fits decls kind (symbol.Instance i) above target fits = fits
+block_fits : (n : ℕ) (decls : Declared) (kind : BlockKind) (s : Symbol) (above target : Option ℕ) → SymbolFits decls s → Fits decls (cell_with n (Some (Block kind)) (Some s) above target)
+block_fits n decls kind (symbol.Var i) above target fits = tt
+block_fits n decls kind (symbol.Instance i) above target fits = fits
 
-pub cell_fits : (decls : Declared) (form : Option Form) (name : Option Reference) (above target : Option ℕ) → ((x : Reference) → name ≡ Some x → SymbolFits decls x.symbol)
-    → ((n : ℕ) → above ≡ Some n → n < length decls.instances) → FitsName decls form name → Fits decls (cell_with 0 form (option_map (λ (x : Reference). x.symbol) name) above target)
-cell_fits decls None name above target names over suits = tt
-cell_fits decls (Some Empty) name above target names over suits = tt
-cell_fits decls (Some Wire) name above target names over suits = tt
-cell_fits decls (Some (Contact m)) None above target names over suits = tt
-cell_fits decls (Some (Contact m)) (Some x) above target names over suits = contact_fits decls m x.symbol above target (names x refl)
-cell_fits decls (Some (Coil m)) None above target names over suits = tt
-cell_fits decls (Some (Coil m)) (Some x) above target names over suits = coil_fits decls m x.symbol above target x.output (names x refl) (suits x refl refl)
-cell_fits decls (Some (Block kind)) None above target names over suits = tt
-cell_fits decls (Some (Block kind)) (Some x) above target names over suits = block_fits decls kind x.symbol above target (names x refl)
-cell_fits decls (Some (Lower pin linked)) name None target names over suits = tt
-cell_fits decls (Some (Lower pin linked)) name (Some inst) target names over suits = over inst refl
-cell_fits decls (Some (Jump label)) name above None names over suits = tt
-cell_fits decls (Some (Jump label)) name above (Some to) names over suits = tt
-cell_fits decls (Some Return) name above target names over suits = tt
+pub cell_fits : (n : ℕ) (decls : Declared) (form : Option Form) (name : Option Reference) (above target : Option ℕ) → ((x : Reference) → name ≡ Some x → SymbolFits decls x.symbol)
+    → ((n : ℕ) → above ≡ Some n → n < length decls.instances) → FitsName decls form name → Fits decls (cell_with n form (option_map (λ (x : Reference). x.symbol) name) above target)
+cell_fits n decls None name above target names over suits = tt
+cell_fits n decls (Some Empty) name above target names over suits = tt
+cell_fits n decls (Some Wire) name above target names over suits = tt
+cell_fits n decls (Some (Contact m)) None above target names over suits = tt
+cell_fits n decls (Some (Contact m)) (Some x) above target names over suits = contact_fits n decls m x.symbol above target (names x refl)
+cell_fits n decls (Some (Coil m)) None above target names over suits = tt
+cell_fits n decls (Some (Coil m)) (Some x) above target names over suits = coil_fits n decls m x.symbol above target x.output (names x refl) (suits x refl refl)
+cell_fits n decls (Some (Block kind)) None above target names over suits = tt
+cell_fits n decls (Some (Block kind)) (Some x) above target names over suits = block_fits n decls kind x.symbol above target (names x refl)
+cell_fits n decls (Some (Lower pin linked)) name None target names over suits = tt
+cell_fits n decls (Some (Lower pin linked)) name (Some inst) target names over suits = over inst refl
+cell_fits n decls (Some (Jump label)) name above None names over suits = tt
+cell_fits n decls (Some (Jump label)) name above (Some to) names over suits = tt
+cell_fits n decls (Some Return) name above target names over suits = tt
 
-pub fits_numbered : (decls : Declared) (n : ℕ) (c : Cell) → Fits decls c → Fits decls (numbered n c)
-fits_numbered decls n cell.Empty h = h
-fits_numbered decls n cell.Wire h = h
-fits_numbered decls n (cell.Contact mode operand None) h = h
-fits_numbered decls n (cell.Contact mode operand (Some m)) h = h
-fits_numbered decls n (cell.Coil mode var None) h = h
-fits_numbered decls n (cell.Coil mode var (Some m)) h = h
-fits_numbered decls n (cell.Block inst) h = h
-fits_numbered decls n (cell.Lower inst linked) h = h
-fits_numbered decls n (cell.Jump target) h = h
-fits_numbered decls n cell.Return h = h
+-- ---- an edge that has a name has a memory
+
+contact_has : (n : ℕ) (m : Mode) (s : Symbol) (above target : Option ℕ) → is_edge (Some (Contact m)) ≡ true → has_memory (cell_with n (Some (Contact m)) (Some s) above target) ≡ true
+contact_has n m (symbol.Var i) above target edge = rw edge refl
+contact_has n m (symbol.Instance i) above target edge = rw edge refl
+
+coil_has : (decls : Declared) (n : ℕ) (m : CoilMode) (s : Symbol) (o : Option Output) (above target : Option ℕ) → is_edge (Some (Coil m)) ≡ true
+    → ¬ (¬ (MayHave decls (Some (Coil m)) s o)) → has_memory (cell_with n (Some (Coil m)) (Some s) above target) ≡ true
+coil_has decls n m (symbol.Var i) o above target edge twice = rw edge refl
+coil_has decls n m (symbol.Instance i) o above target edge twice = absurd (twice (λ none. none))
+
+pub edge_has : (decls : Declared) (n : ℕ) (form : Option Form) (name : Option Reference) (above target : Option ℕ) → is_edge form ≡ true
+    → (wants_name form ≡ true → name ≡ None → ⊥) → FitsName decls form name → has_memory (cell_with n form (option_map (λ (x : Reference). x.symbol) name) above target) ≡ true
+edge_has decls n None name above target edge named fits = absurd cc
+edge_has decls n (Some Empty) name above target edge named fits = absurd cc
+edge_has decls n (Some Wire) name above target edge named fits = absurd cc
+edge_has decls n (Some (Contact m)) None above target edge named fits = absurd (named refl refl)
+edge_has decls n (Some (Contact m)) (Some x) above target edge named fits = contact_has n m x.symbol above target edge
+edge_has decls n (Some (Coil m)) None above target edge named fits = absurd (named refl refl)
+edge_has decls n (Some (Coil m)) (Some x) above target edge named fits = coil_has decls n m x.symbol x.output above target edge (fits x refl refl)
+edge_has decls n (Some (Block kind)) name above target edge named fits = absurd cc
+edge_has decls n (Some (Lower pin linked)) name above target edge named fits = absurd cc
+edge_has decls n (Some (Jump label)) name above target edge named fits = absurd cc
+edge_has decls n (Some Return) name above target edge named fits = absurd cc

@@ -18,10 +18,10 @@ use Rattle.ladder_page.proofs.FormLaws.{lists_of}
 use Rattle.ladder_page.specs.Picture.{Lines, ch, joint, vertical, text_at, SameGroup}
 use Rattle.ladder_page.specs.Texts.{cell_text}
 use Rattle.ladder_page.specs.Page.{Page, rung_at, form_at}
-use Rattle.ladder_page.specs.Seen.{part_at}
 use Rattle.ladder_rules.specs.Feeding.{right_link, enters, IsFed}
 use Rattle.ladder_rules.specs.Rules.{is_joint, fits_joint}
-use Rattle.ladder_rules.specs.PageRules.{PartBreaks}
+use Rattle.ladder_rules.specs.Rung.{IsSoundRung}
+use Rattle.ladder_grid.proofs.SoundRungs.{sound_rung}
 use Rattle.ladder_grid.specs.Program.{Drawing, takes_power, site_at, joined, feeds}
 use Rattle.ladder_grid.specs.Reading.{joint_of, cell_with, IsDrawn, IsProgram}
 use Rattle.ladder_grid.proofs.JoinLaws.{joined_more, joined_none}
@@ -140,45 +140,24 @@ module _ (page : Page) (d : Drawing) (drawn : IsDrawn page d) where
     ]
   ]
 
+  sound_at : (k : ℕ) → k < d.rungs → IsSoundRung page k
+  sound_at k below = sound_rung page drawn.sound k (omega (arith, below, drawn.rungs))
+
   -- G4 holds at a joint
   never_odd_joint : (k r c : ℕ) → k < d.rungs → r < ROWS → 1 ≤ c → c < COLUMNS → fits_joint page k r half.Wire c (joint (rung_at page k) r c) ≡ true
-  unfolding PartBreaks
   never_odd_joint k r c below rows some columns =
       elim (fits_joint page k r half.Wire c (joint (rung_at page k) r c)) as
       (λ t. fits_joint page k r half.Wire c (joint (rung_at page k) r c) ≡ t → t ≡ true) [
         | true ↦ λ e. refl
         | false ↦ λ e.
-            let inside : k < length page.parts = omega (arith, below, drawn.rungs) in
-            let judged : k < RUNGS = omega (arith, below, drawn.rungs, few_rungs page drawn.sound) in
-            let high : c ≤ COLUMNS = omega (arith, columns) in
-            absurd (drawn.sound (Grid rule.BadJoint) k ((part_at page k).start + (2 * r + 1)) (inl (
-              inside,
-              inr (inr (
-                judged,
-                2 * r + 1,
-                refl,
-                (r, half.Wire, rows, refl, (c, high, (some, e))),
-              )),
-            )))
+            absurd (sound_at k below (Grid rule.BadJoint) (2 * r + 1) (r, half.Wire, rows, refl, (c, omega (arith, columns), (some, e))))
       ] refl
 
   -- G6 holds at a cell that begins with a dash
   never_unfed : (k r c : ℕ) → k < d.rungs → r < ROWS → 1 ≤ c → c < COLUMNS → ch (rung_at page k) (2 * r + 1) (PITCH * c + 1) ≡ dash
       → (joint (rung_at page k) r c ≡ space) ⊎ ((joint (rung_at page k) r c ≡ plus) × ¬ (IsFed page k r c)) → ⊥
-  unfolding PartBreaks
   never_unfed k r c below rows some columns dashed unfed =
-      let inside : k < length page.parts = omega (arith, below, drawn.rungs) in
-      let judged : k < RUNGS = omega (arith, below, drawn.rungs, few_rungs page drawn.sound) in
-      let high : c ≤ COLUMNS = omega (arith, columns) in
-      drawn.sound (Grid rule.Unfed) k ((part_at page k).start + (2 * r + 1)) (inl (
-        inside,
-        inr (inr (
-          judged,
-          2 * r + 1,
-          refl,
-          (r, half.Wire, rows, refl, (c, high, (columns, (some, dashed, unfed)))),
-        )),
-      ))
+      sound_at k below (Grid rule.Unfed) (2 * r + 1) (r, half.Wire, rows, refl, (c, omega (arith, columns), (columns, (some, dashed, unfed))))
 
   pub feeds_dashes : FeedsDashes page d
   feeds_dashes k r c below rows some columns dashed =

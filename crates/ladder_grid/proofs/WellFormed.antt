@@ -1,13 +1,13 @@
 -- The cells that a sound page is read as are well formed.
-use Rattle.std.proofs.Common.{if◌then◌else◌, ◌≡◌, ℕ, ◌+◌, ◌-◌, ◌*◌, ◌/◌, ◌%◌, ◌<◌, ◌≤◌, ◌⊎◌, inl, inr, Bool, true, false, ◌==◌, cond, List, length, get_or, count_by, nat_lt, position, suc, Option, Some, None, refl, sym, ap, subst, ◌∙◌, arith, slice_get}
+use Rattle.std.proofs.Common.{if◌then◌else◌, ◌≡◌, ℕ, ◌+◌, ◌-◌, ◌*◌, ◌/◌, ◌%◌, ◌<◌, ◌≤◌, ◌⊎◌, inl, inr, Bool, true, false, ◌==◌, cond, List, length, get_or, count_by, nat_lt, position, zero, suc, take, add-one, Option, Some, None, refl, sym, ap, ap₂, subst, ◌∙◌, arith, slice_get}
 use Rattle.std.specs.Prelude.{option_map}
 use Rattle.std.proofs.lemmas.Bool.{cases_lt, ltb-true, eqb-false, ne_eqb}
 use Rattle.std.proofs.lemmas.List.Quantifiers.{position-Some}
-use Rattle.std.proofs.lemmas.List.{get_or_past, length-map}
+use Rattle.std.proofs.lemmas.List.{get_or_past, length-map, take_all}
 use Rattle.ladder_vars.specs.declared.kind.BlockKind.{BlockKind}
 use Rattle.ladder_vars.specs.declared.decls.Symbol.{Symbol}
 use Rattle.ladder_vars.specs.declared.decls.Symbol.TheVariants.{Var, Instance}
-use Rattle.ladder_page.specs.declared.geometry.TheConstants.{RUNGS, ROWS, COLUMNS, PLACES}
+use Rattle.ladder_page.specs.declared.geometry.TheConstants.{ROWS, COLUMNS, PLACES}
 use Rattle.ladder_page.specs.declared.mode.Mode.{Mode}
 use Rattle.ladder_page.specs.declared.mode.CoilMode.{CoilMode}
 use Rattle.ladder_grid.specs.declared.cell.Cell.{Cell}
@@ -23,26 +23,26 @@ use Rattle.ladder_page.specs.declared.operand.Reference.{Reference}
 use Rattle.ladder_page.specs.Gap.{Labels, is_named}
 use Rattle.ladder_page.specs.Operand.{instance_on}
 use Rattle.ladder_rules.proofs.BlockLaws.{drawn_back}
-use Rattle.ladder_rules.specs.Rules.{IsDrawnAt, IsTorn}
-use Rattle.ladder_page.specs.Page.{Page, labels_of, form_at, name_over, instance_at}
-use Rattle.ladder_page.specs.Seen.{part_at}
+use Rattle.ladder_rules.specs.Rules.{wants_name, IsDrawnAt, IsTorn}
+use Rattle.ladder_page.specs.Page.{Page, rung_at, labels_of, form_at, name_over, instance_at}
+use Rattle.ladder_page.specs.Picture.{has_text}
+use Rattle.ladder_page.specs.Texts.{text_over}
 use Rattle.ladder_page.specs.AllPlaces.{reading_place}
 use Rattle.ladder_page.specs.Form.{leaps}
 use Rattle.ladder_rules.specs.Checks.{label_of, later, target_to, jump_label}
-use Rattle.ladder_rules.specs.PageRules.{PartBreaks, target_of}
-use Rattle.ladder_rules.specs.Stops.{IsSoundPage}
+use Rattle.ladder_rules.specs.PageRules.{target_of}
+use Rattle.ladder_rules.specs.Rung.{IsSoundRung}
 use Rattle.ladder_rules.proofs.TargetLaws.{target_is}
 use Rattle.ladder_grid.specs.Sheet.{blank_site}
-use Rattle.ladder_grid.specs.Program.{drawing, memory_in, block_in, goes_to, has_memory, Fits, has_second, IsWellFormed}
-use Rattle.ladder_page.specs.Geometry.{place, at_place}
-use Rattle.ladder_grid.specs.Reading.{cell_with, cell_drawn, site_drawn, memories_before}
-use Rattle.ladder_grid.specs.Build.{sites_of}
+use Rattle.ladder_grid.specs.Program.{Drawing, site_in, cell_in, memory_in, block_in, goes_to, has_memory, Fits, has_second, IsWellFormed}
+use Rattle.ladder_page.specs.Geometry.{place}
+use Rattle.ladder_grid.specs.Reading.{is_edge, cell_with, cell_drawn, memories_before, IsDrawn}
 use Rattle.ladder_page.proofs.FitLaws.{SymbolFits, refer_fits, instance_fits}
-use Rattle.ladder_grid.proofs.CellFits.{cell_fits, fits_numbered}
+use Rattle.ladder_grid.proofs.CellFits.{cell_fits, edge_has}
 use Rattle.ladder_grid.proofs.LowerLaws.{FitsName, block_may, block_of, lower_found, second_input}
 use Rattle.ladder_page.proofs.ReadingOrder.{rung_of_place, row_of_place, column_of_place, earlier}
-use Rattle.ladder_page.proofs.PlaceLaws.{length-all_places, first_places-at}
-use Rattle.ladder_grid.proofs.NumberLaws.{numbered, drawn_numbered, number_is, before_yes, before_more, count-sites}
+use Rattle.ladder_grid.proofs.NumberLaws.{memory_of, count_more, next_memory, before_more}
+use Rattle.ladder_grid.proofs.SoundRungs.{sound_rung}
 
 none_some : {A : Type 0} {x : A} → None ≡ Some x → ⊥
 none_some h = cc
@@ -52,31 +52,6 @@ some_same a b h = cc
 
 off_on : false ≡ true → ⊥
 off_on h = cc
-
--- ---- numbering changes memories alone
-same_block : (n : ℕ) (c : Cell) → block_in (numbered n c) ≡ block_in c
-same_block n cell.Empty = refl
-same_block n cell.Wire = refl
-same_block n (cell.Contact mode operand None) = refl
-same_block n (cell.Contact mode operand (Some m)) = refl
-same_block n (cell.Coil mode var None) = refl
-same_block n (cell.Coil mode var (Some m)) = refl
-same_block n (cell.Block inst) = refl
-same_block n (cell.Lower inst linked) = refl
-same_block n (cell.Jump target) = refl
-same_block n cell.Return = refl
-
-same_goal : (rungs n : ℕ) (c : Cell) → goes_to rungs (numbered n c) ≡ goes_to rungs c
-same_goal rungs n cell.Empty = refl
-same_goal rungs n cell.Wire = refl
-same_goal rungs n (cell.Contact mode operand None) = refl
-same_goal rungs n (cell.Contact mode operand (Some m)) = refl
-same_goal rungs n (cell.Coil mode var None) = refl
-same_goal rungs n (cell.Coil mode var (Some m)) = refl
-same_goal rungs n (cell.Block inst) = refl
-same_goal rungs n (cell.Lower inst linked) = refl
-same_goal rungs n (cell.Jump target) = refl
-same_goal rungs n cell.Return = refl
 
 -- the instance of a lower cell
 lower_in : Cell → Option ℕ
@@ -89,92 +64,79 @@ lower_in (cell.Lower inst linked) = Some inst
 lower_in (cell.Jump target) = None
 lower_in cell.Return = None
 
-same_lower : (n : ℕ) (c : Cell) → lower_in (numbered n c) ≡ lower_in c
-unfolding lower_in
-same_lower n cell.Empty = refl
-same_lower n cell.Wire = refl
-same_lower n (cell.Contact mode operand None) = refl
-same_lower n (cell.Contact mode operand (Some m)) = refl
-same_lower n (cell.Coil mode var None) = refl
-same_lower n (cell.Coil mode var (Some m)) = refl
-same_lower n (cell.Block inst) = refl
-same_lower n (cell.Lower inst linked) = refl
-same_lower n (cell.Jump target) = refl
-same_lower n cell.Return = refl
-
 -- ---- what a drawn cell says of its form
-contact_no_block : (m : Mode) (s : Symbol) (above target : Option ℕ) → block_in (cell_with 0 (Some (Contact m)) (Some s) above target) ≡ None
-contact_no_block m (Var number) above target = refl
-contact_no_block m (Instance number) above target = refl
+contact_no_block : (n : ℕ) (m : Mode) (s : Symbol) (above target : Option ℕ) → block_in (cell_with n (Some (Contact m)) (Some s) above target) ≡ None
+contact_no_block n m (Var number) above target = refl
+contact_no_block n m (Instance number) above target = refl
 
-coil_no_block : (m : CoilMode) (s : Symbol) (above target : Option ℕ) → block_in (cell_with 0 (Some (Coil m)) (Some s) above target) ≡ None
-coil_no_block m (Var number) above target = refl
-coil_no_block m (Instance number) above target = refl
+coil_no_block : (n : ℕ) (m : CoilMode) (s : Symbol) (above target : Option ℕ) → block_in (cell_with n (Some (Coil m)) (Some s) above target) ≡ None
+coil_no_block n m (Var number) above target = refl
+coil_no_block n m (Instance number) above target = refl
 
-block_block : (kind : BlockKind) (s : Symbol) (above target : Option ℕ) → block_in (cell_with 0 (Some (Block kind)) (Some s) above target) ≡ instance_on (Some (Block kind)) (Some s)
-block_block kind (Var number) above target = refl
-block_block kind (Instance inst) above target = refl
+block_block : (n : ℕ) (kind : BlockKind) (s : Symbol) (above target : Option ℕ) → block_in (cell_with n (Some (Block kind)) (Some s) above target) ≡ instance_on (Some (Block kind)) (Some s)
+block_block n kind (Var number) above target = refl
+block_block n kind (Instance inst) above target = refl
 
-drawn_block : (form : Option Form) (name : Option Reference) (above target : Option ℕ) → block_in (cell_with 0 form (option_map (λ (x : Reference). x.symbol) name) above target) ≡ instance_on form (option_map (λ (x : Reference). x.symbol) name)
-drawn_block None name above target = refl
-drawn_block (Some Empty) name above target = refl
-drawn_block (Some Wire) name above target = refl
-drawn_block (Some (Contact m)) None above target = refl
-drawn_block (Some (Contact m)) (Some x) above target = contact_no_block m x.symbol above target
-drawn_block (Some (Coil m)) None above target = refl
-drawn_block (Some (Coil m)) (Some x) above target = coil_no_block m x.symbol above target
-drawn_block (Some (Block kind)) None above target = refl
-drawn_block (Some (Block kind)) (Some x) above target = block_block kind x.symbol above target
-drawn_block (Some (Lower pin linked)) name None target = refl
-drawn_block (Some (Lower pin linked)) name (Some inst) target = refl
-drawn_block (Some (Jump label)) name above None = refl
-drawn_block (Some (Jump label)) name above (Some to) = refl
-drawn_block (Some Return) name above target = refl
+drawn_block : (n : ℕ) (form : Option Form) (name : Option Reference) (above target : Option ℕ) → block_in (cell_with n form (option_map (λ (x : Reference). x.symbol) name) above target) ≡ instance_on form (option_map (λ (x : Reference). x.symbol) name)
+drawn_block n None name above target = refl
+drawn_block n (Some Empty) name above target = refl
+drawn_block n (Some Wire) name above target = refl
+drawn_block n (Some (Contact m)) None above target = refl
+drawn_block n (Some (Contact m)) (Some x) above target = contact_no_block n m x.symbol above target
+drawn_block n (Some (Coil m)) None above target = refl
+drawn_block n (Some (Coil m)) (Some x) above target = coil_no_block n m x.symbol above target
+drawn_block n (Some (Block kind)) None above target = refl
+drawn_block n (Some (Block kind)) (Some x) above target = block_block n kind x.symbol above target
+drawn_block n (Some (Lower pin linked)) name None target = refl
+drawn_block n (Some (Lower pin linked)) name (Some inst) target = refl
+drawn_block n (Some (Jump label)) name above None = refl
+drawn_block n (Some (Jump label)) name above (Some to) = refl
+drawn_block n (Some Return) name above target = refl
 
 -- a cell that leads out of its rung: where to
 Goal : ℕ → Option Form → Option ℕ → ℕ → Type 0
 Goal rungs form target t = (leaps form ≡ true) × ((t ≡ rungs) ⊎ (target ≡ Some t))
 
-drawn_goal : (rungs t : ℕ) (form : Option Form) (name : Option Symbol) (above target : Option ℕ) → goes_to rungs (cell_with 0 form name above target) ≡ Some t
+drawn_goal : (n rungs t : ℕ) (form : Option Form) (name : Option Symbol) (above target : Option ℕ) → goes_to rungs (cell_with n form name above target) ≡ Some t
     → Goal rungs form target t
 unfolding Goal
-drawn_goal rungs t None name above target h = absurd (none_some h)
-drawn_goal rungs t (Some Empty) name above target h = absurd (none_some h)
-drawn_goal rungs t (Some Wire) name above target h = absurd (none_some h)
-drawn_goal rungs t (Some (Contact m)) None above target h = absurd (none_some h)
-drawn_goal rungs t (Some (Contact m)) (Some (Var number)) above target h = absurd (none_some h)
-drawn_goal rungs t (Some (Contact m)) (Some (Instance number)) above target h = absurd (none_some h)
-drawn_goal rungs t (Some (Coil m)) None above target h = absurd (none_some h)
-drawn_goal rungs t (Some (Coil m)) (Some (Var number)) above target h = absurd (none_some h)
-drawn_goal rungs t (Some (Coil m)) (Some (Instance number)) above target h = absurd (none_some h)
-drawn_goal rungs t (Some (Block kind)) None above target h = absurd (none_some h)
-drawn_goal rungs t (Some (Block kind)) (Some (Var number)) above target h = absurd (none_some h)
-drawn_goal rungs t (Some (Block kind)) (Some (Instance number)) above target h = absurd (none_some h)
-drawn_goal rungs t (Some (Lower pin linked)) name None target h = absurd (none_some h)
-drawn_goal rungs t (Some (Lower pin linked)) name (Some inst) target h = absurd (none_some h)
-drawn_goal rungs t (Some (Jump label)) name above None h = absurd (none_some h)
-drawn_goal rungs t (Some (Jump label)) name above (Some to) h = (refl, inr h)
-drawn_goal rungs t (Some Return) name above target h = (refl, inl (some_same t rungs (sym h)))
+drawn_goal n rungs t None name above target h = absurd (none_some h)
+drawn_goal n rungs t (Some Empty) name above target h = absurd (none_some h)
+drawn_goal n rungs t (Some Wire) name above target h = absurd (none_some h)
+drawn_goal n rungs t (Some (Contact m)) None above target h = absurd (none_some h)
+drawn_goal n rungs t (Some (Contact m)) (Some (Var number)) above target h = absurd (none_some h)
+drawn_goal n rungs t (Some (Contact m)) (Some (Instance number)) above target h = absurd (none_some h)
+drawn_goal n rungs t (Some (Coil m)) None above target h = absurd (none_some h)
+drawn_goal n rungs t (Some (Coil m)) (Some (Var number)) above target h = absurd (none_some h)
+drawn_goal n rungs t (Some (Coil m)) (Some (Instance number)) above target h = absurd (none_some h)
+drawn_goal n rungs t (Some (Block kind)) None above target h = absurd (none_some h)
+drawn_goal n rungs t (Some (Block kind)) (Some (Var number)) above target h = absurd (none_some h)
+drawn_goal n rungs t (Some (Block kind)) (Some (Instance number)) above target h = absurd (none_some h)
+drawn_goal n rungs t (Some (Lower pin linked)) name None target h = absurd (none_some h)
+drawn_goal n rungs t (Some (Lower pin linked)) name (Some inst) target h = absurd (none_some h)
+drawn_goal n rungs t (Some (Jump label)) name above None h = absurd (none_some h)
+drawn_goal n rungs t (Some (Jump label)) name above (Some to) h = (refl, inr h)
+drawn_goal n rungs t (Some Return) name above target h = (refl, inl (some_same t rungs (sym h)))
 
-drawn_lower : (inst : ℕ) (form : Option Form) (name : Option Symbol) (above target : Option ℕ) → lower_in (cell_with 0 form name above target) ≡ Some inst → above ≡ Some inst
+drawn_lower : (n inst : ℕ) (form : Option Form) (name : Option Symbol) (above target : Option ℕ) → lower_in (cell_with n form name above target) ≡ Some inst → above ≡ Some inst
 unfolding lower_in
-drawn_lower inst None name above target h = absurd (none_some h)
-drawn_lower inst (Some Empty) name above target h = absurd (none_some h)
-drawn_lower inst (Some Wire) name above target h = absurd (none_some h)
-drawn_lower inst (Some (Contact m)) None above target h = absurd (none_some h)
-drawn_lower inst (Some (Contact m)) (Some (Var number)) above target h = absurd (none_some h)
-drawn_lower inst (Some (Contact m)) (Some (Instance number)) above target h = absurd (none_some h)
-drawn_lower inst (Some (Coil m)) None above target h = absurd (none_some h)
-drawn_lower inst (Some (Coil m)) (Some (Var number)) above target h = absurd (none_some h)
-drawn_lower inst (Some (Coil m)) (Some (Instance number)) above target h = absurd (none_some h)
-drawn_lower inst (Some (Block kind)) None above target h = absurd (none_some h)
-drawn_lower inst (Some (Block kind)) (Some (Var number)) above target h = absurd (none_some h)
-drawn_lower inst (Some (Block kind)) (Some (Instance number)) above target h = absurd (none_some h)
-drawn_lower inst (Some (Lower pin linked)) name None target h = absurd (none_some h)
-drawn_lower inst (Some (Lower pin linked)) name (Some number) target h = h
-drawn_lower inst (Some (Jump label)) name above None h = absurd (none_some h)
-drawn_lower inst (Some (Jump label)) name above (Some to) h = absurd (none_some h)
-drawn_lower inst (Some Return) name above target h = absurd (none_some h)
+drawn_lower n inst None name above target h = absurd (none_some h)
+drawn_lower n inst (Some Empty) name above target h = absurd (none_some h)
+drawn_lower n inst (Some Wire) name above target h = absurd (none_some h)
+drawn_lower n inst (Some (Contact m)) None above target h = absurd (none_some h)
+drawn_lower n inst (Some (Contact m)) (Some (Var number)) above target h = absurd (none_some h)
+drawn_lower n inst (Some (Contact m)) (Some (Instance number)) above target h = absurd (none_some h)
+drawn_lower n inst (Some (Coil m)) None above target h = absurd (none_some h)
+drawn_lower n inst (Some (Coil m)) (Some (Var number)) above target h = absurd (none_some h)
+drawn_lower n inst (Some (Coil m)) (Some (Instance number)) above target h = absurd (none_some h)
+drawn_lower n inst (Some (Block kind)) None above target h = absurd (none_some h)
+drawn_lower n inst (Some (Block kind)) (Some (Var number)) above target h = absurd (none_some h)
+drawn_lower n inst (Some (Block kind)) (Some (Instance number)) above target h = absurd (none_some h)
+drawn_lower n inst (Some (Lower pin linked)) name None target h = absurd (none_some h)
+drawn_lower n inst (Some (Lower pin linked)) name (Some number) target h = h
+drawn_lower n inst (Some (Jump label)) name above None h = absurd (none_some h)
+drawn_lower n inst (Some (Jump label)) name above (Some to) h = absurd (none_some h)
+drawn_lower n inst (Some Return) name above target h = absurd (none_some h)
 
 -- a cell with a block's instance is the block
 is_block : (c : Cell) (inst : ℕ) → block_in c ≡ Some inst → c ≡ cell.Block inst
@@ -209,189 +171,179 @@ target_within labels k t (Some word) h =
 abbrev instance_above : Page → ℕ → ℕ → ℕ → Option ℕ
 instance_above page k r c = if r == 0 then None else instance_at page k (r - 1) c
 
-module _ (page : Page) (rungs : ℕ) (sites : List Site)
-    (sound : IsSoundPage page)
-    (same : sites ≡ sites_of page)
-    (count : rungs ≡ length page.parts)
-    (few : rungs ≤ RUNGS) where
-  cell_i : ℕ → Cell
-  cell_i i = (get_or sites i blank_site).cell
+abbrev number_at : Page → ℕ → ℕ → ℕ → ℕ
+number_at page k r c = memories_before page (place k r c)
 
-  whole : length sites ≡ PLACES * rungs
-  whole = ap length same ∙ length-all_places (site_drawn page) (length page.parts) ∙ ap (λ n. PLACES * n) (sym count)
+abbrev drawn : Page → ℕ → ℕ → ℕ → Cell
+drawn page k r c = cell_drawn page (number_at page k r c) k r c
 
-  -- what is a cell's at the place i
+abbrev keeps : Site → Bool
+keeps s = has_memory s.cell
+
+module _ (page : Page) (d : Drawing) (read : IsDrawn page d) where
+  -- what is so at the place i
   record Stands (i : ℕ) (P : ℕ → ℕ → ℕ → Type 0) : Type 0 where
     rung : ℕ
     row : ℕ
     column : ℕ
-    below : rung < rungs
+    below : rung < d.rungs
     in_rung : row < ROWS
     in_row : column < COLUMNS
     at : i ≡ place rung row column
     holds : P rung row column
 
-  cell_is : (i : ℕ) → i < PLACES * rungs → cell_i i ≡ numbered (memories_before page i) (at_place (cell_drawn page 0) i)
-  unfolding cell_i
-  cell_is i below =
-      let within : i < PLACES * length page.parts = omega (arith, below, count) in
-      let here : place (i / PLACES) (i % PLACES % ROWS) (i % PLACES / ROWS) ≡ i = omega arith in
-      ap (λ ss. (get_or ss i blank_site).cell) same
-      ∙ ap (λ x. x.cell) (first_places-at (at_place (site_drawn page)) (PLACES * length page.parts) i blank_site within)
-      ∙ drawn_numbered page (memories_before page (place (i / PLACES) (i % PLACES % ROWS) (i % PLACES / ROWS))) (i / PLACES) (i % PLACES % ROWS) (i % PLACES / ROWS)
-      ∙ ap (λ n. numbered (memories_before page n) (at_place (cell_drawn page 0) i)) here
+  restated : {P Q : ℕ → ℕ → ℕ → Type 0} (i : ℕ) → ((k r c : ℕ) → k < d.rungs → P k r c → Q k r c) → Stands i P → Stands i Q
+  restated i f s = record {
+    rung = s.rung;
+    row = s.row;
+    column = s.column;
+    below = s.below;
+    in_rung = s.in_rung;
+    in_row = s.in_row;
+    at = s.at;
+    holds = f s.rung s.row s.column s.below s.holds;
+  }
 
-  past_end : (i : ℕ) → PLACES * rungs ≤ i → cell_i i ≡ cell.Empty
-  unfolding cell_i
-  past_end i past = ap (λ x. x.cell) (get_or_past sites i blank_site (omega (arith, past, whole)))
+  cell_there : (k r c : ℕ) → k < d.rungs → r < ROWS → c < COLUMNS → cell_in d (place k r c) ≡ drawn page k r c
+  cell_there k r c below rows columns = ap (λ s. s.cell) (read.sites k r c below rows columns)
+
+  cell_is : (i : ℕ) → i < PLACES * d.rungs → Stands i (λ k r c. cell_in d i ≡ drawn page k r c)
+  cell_is i within =
+      let rung : i / PLACES < d.rungs = omega arith in
+      let row : i % PLACES % ROWS < ROWS = omega arith in
+      let column : i % PLACES / ROWS < COLUMNS = omega arith in
+      let is : i ≡ place (i / PLACES) (i % PLACES % ROWS) (i % PLACES / ROWS) = omega arith in
+      record {
+        rung = i / PLACES;
+        row = i % PLACES % ROWS;
+        column = i % PLACES / ROWS;
+        below = rung;
+        in_rung = row;
+        in_row = column;
+        at = is;
+        holds = ap (cell_in d) is ∙ cell_there (i / PLACES) (i % PLACES % ROWS) (i % PLACES / ROWS) rung row column;
+      }
+
+  past_end : (i : ℕ) → PLACES * d.rungs ≤ i → cell_in d i ≡ cell.Empty
+  past_end i past = ap (λ x. x.cell) (get_or_past d.sites i blank_site (omega (arith, past, read.size)))
 
   -- a memory has the number of those before it
-  memory_is : (i number : ℕ) → memory_in (cell_i i) ≡ Some number → (i < PLACES * rungs) × (memories_before page i ≡ number)
-      × (memories_before page (suc i) ≡ number + 1)
+  memory_is : (i number : ℕ) → memory_in (cell_in d i) ≡ Some number → (i < PLACES * d.rungs) × (memories_before page i ≡ number)
+      × (memories_before page (i + 1) ≡ number + 1)
   memory_is i number h =
-      elim (cases_lt i (PLACES * rungs)) [
+      elim (cases_lt i (PLACES * d.rungs)) [
         | inl below ↦
-            let n = number_is (memories_before page i) number (at_place (cell_drawn page 0) i) (ap memory_in (sym (cell_is i below)) ∙ h) in
-            (below, n.0, before_yes page i n.1 ∙ ap (λ m. m + 1) n.0)
+            let s = cell_is i below in
+            let m = memory_of (number_at page s.rung s.row s.column) number (form_at page s.rung s.row s.column) _ _ _ (ap memory_in (sym s.holds) ∙ h) in
+            let first : memories_before page i ≡ number = ap (memories_before page) s.at ∙ m.0 in
+            let edge : is_edge (get_or page.forms i None) ≡ true = ap (λ n. is_edge (get_or page.forms n None)) s.at ∙ m.1 in
+            (below, first, rw edge at (next_memory page i) ∙ ap (λ n. n + 1) first)
         | inr past ↦ absurd (none_some (ap memory_in (sym (past_end i past)) ∙ h))
       ]
 
-  one_memory : (number i j : ℕ) → memory_in (cell_i i) ≡ Some number → memory_in (cell_i j) ≡ Some number → i ≡ j
+  one_memory : (number i j : ℕ) → memory_in (cell_in d i) ≡ Some number → memory_in (cell_in d j) ≡ Some number → i ≡ j
   one_memory number i j h k =
       let a = memory_is i number h in
       let b = memory_is j number k in
       elim (cases_lt i j) [
-        | inl first ↦ absurd (omega (arith, a.2, b.1, before_more page j (suc i) (omega (arith, first))))
+        | inl first ↦ absurd (omega (arith, a.2, b.1, before_more page j (i + 1) (omega (arith, first))))
         | inr more ↦ elim (cases_lt j i) [
-          | inl second ↦ absurd (omega (arith, b.2, a.1, before_more page i (suc j) (omega (arith, second))))
+          | inl second ↦ absurd (omega (arith, b.2, a.1, before_more page i (j + 1) (omega (arith, second))))
           | inr less ↦ omega (arith, more, less)
         ]
       ]
 
-  memories_below : (number i : ℕ) → memory_in (cell_i i) ≡ Some number → number < count_by (λ (s : Site). has_memory s.cell) sites
-  memories_below number i h =
-      let a = memory_is i number h in
-      let all : count_by (λ (s : Site). has_memory s.cell) sites ≡ memories_before page (PLACES * length page.parts)
-      = ap (count_by (λ (s : Site). has_memory s.cell)) same ∙ count-sites page (PLACES * length page.parts) in
-      omega (arith, all, a.2, before_more page (PLACES * length page.parts) (suc i) (omega (arith, a.0, count)))
-
-  -- what a part of the cells says, that numbering doesn't change and that nothing has past the end
-  stands : (f : Cell → Option ℕ) → ((n : ℕ) (c : Cell) → f (numbered n c) ≡ f c) → f cell.Empty ≡ None
-      → (i number : ℕ) → f (cell_i i) ≡ Some number → Stands i (λ k r c. f (cell_drawn page 0 k r c) ≡ Some number)
-  stands f kept empty i number h =
-      elim (cases_lt i (PLACES * rungs)) [
-        | inl below ↦
-            let rung : i / PLACES < rungs = omega arith in
-            let row : i % PLACES % ROWS < ROWS = omega arith in
-            let column : i % PLACES / ROWS < COLUMNS = omega arith in
-            let is : i ≡ place (i / PLACES) (i % PLACES % ROWS) (i % PLACES / ROWS) = omega arith in
-            record {
-              rung = i / PLACES;
-              row = i % PLACES % ROWS;
-              column = i % PLACES / ROWS;
-              below = rung;
-              in_rung = row;
-              in_row = column;
-              at = is;
-              holds = sym (kept (memories_before page i) (at_place (cell_drawn page 0) i)) ∙ ap f (sym (cell_is i below)) ∙ h;
-            }
-        | inr past ↦
-            let none : cell_i i ≡ cell.Empty = past_end i past in
-            absurd (none_some (sym (ap f none ∙ empty) ∙ h))
+  -- what a part of the cells says, that nothing has past the end
+  stands : (f : Cell → Option ℕ) → f cell.Empty ≡ None → (i number : ℕ) → f (cell_in d i) ≡ Some number → Stands i (λ k r c. f (drawn page k r c) ≡ Some number)
+  stands f empty i number h =
+      elim (cases_lt i (PLACES * d.rungs)) [
+        | inl below ↦ restated i (λ k r c _ is. ap f (sym is) ∙ h) (cell_is i below)
+        | inr past ↦ absurd (none_some (sym (ap f (past_end i past) ∙ empty) ∙ h))
       ]
 
+  sound_at : (k : ℕ) → k < d.rungs → IsSoundRung page k
+  sound_at k below = sound_rung page read.sound k (omega (arith, below, read.rungs))
+
   -- G10: no name is one that its symbol can't have
-  never_odd : (k r c : ℕ) → k < rungs → r < ROWS → c < COLUMNS → FitsName page.decls (form_at page k r c) (name_over page k r c)
-  unfolding PartBreaks
+  never_odd : (k r c : ℕ) → k < d.rungs → r < ROWS → c < COLUMNS → FitsName page.decls (form_at page k r c) (name_over page k r c)
   never_odd k r c below rows columns x name wants odd =
-      let high : c ≤ COLUMNS = omega arith in
-      let inside : k < length page.parts = omega (arith, below, count) in
-      let judged : k < RUNGS = omega (arith, below, few) in
-      sound (Grid rule.WrongKind) k ((part_at page k).start + 2 * r) (inl (
-        inside,
-        inr (inr (
-          judged,
-          2 * r,
-          refl,
-          (r, half.Name, rows, refl, (c, high, (columns, (wants, x, name, odd)))),
-        )),
-      ))
+      sound_at k below (Grid rule.WrongKind) (2 * r) (r, half.Name, rows, refl, (c, omega (arith, columns), (columns, (wants, x, name, odd))))
+
+  -- G7 and G9: a cell that wants a name has one
+  never_nameless : (k r c : ℕ) → k < d.rungs → r < ROWS → c < COLUMNS → wants_name (form_at page k r c) ≡ true → name_over page k r c ≡ None → ⊥
+  never_nameless k r c below rows columns wants none =
+      elim (has_text (text_over (rung_at page k) r c)) as (λ b. has_text (text_over (rung_at page k) r c) ≡ b → ⊥) [
+        | true ↦ λ text. sound_at k below (Grid rule.Undeclared) (2 * r) (r, half.Name, rows, refl, (c, omega (arith, columns), (columns, (wants, text, none))))
+        | false ↦ λ text. sound_at k below (Grid rule.NameMissing) (2 * r) (r, half.Name, rows, refl, (c, omega (arith, columns), (columns, (wants, text))))
+      ] refl
+
+  -- an edge has a memory
+  edge_keeps : (i : ℕ) → i < PLACES * d.rungs → is_edge (get_or page.forms i None) ≡ true → keeps (site_in d i) ≡ true
+  edge_keeps i within edge =
+      let s = cell_is i within in
+      ap has_memory s.holds
+      ∙ edge_has page.decls (number_at page s.rung s.row s.column) (form_at page s.rung s.row s.column) (name_over page s.rung s.row s.column) _ _
+      (ap (λ n. is_edge (get_or page.forms n None)) (sym s.at) ∙ edge)
+      (never_nameless s.rung s.row s.column s.below s.in_rung s.in_row)
+      (never_odd s.rung s.row s.column s.below s.in_rung s.in_row)
+
+  counted : (n : ℕ) → n ≤ PLACES * d.rungs → memories_before page n ≤ count_by keeps (take n d.sites)
+  counted zero within = omega arith
+  counted (suc n) within =
+      let before : memories_before page n ≤ count_by keeps (take n d.sites) = counted n (omega (arith, within)) in
+      let more = count_more keeps d.sites n blank_site refl in
+      rw (sym (add-one n)) (elim (is_edge (get_or page.forms n None)) as (λ b. is_edge (get_or page.forms n None) ≡ b → memories_before page (n + 1) ≤ count_by keeps (take (n + 1) d.sites)) [
+        | true ↦ λ edge. omega (arith, before, rw edge at (next_memory page n), rw (edge_keeps n (omega (arith, within)) edge) at more)
+        | false ↦ λ plain. omega (arith, before, rw plain at (next_memory page n), more)
+      ] refl)
+
+  memories_below : (number i : ℕ) → memory_in (cell_in d i) ≡ Some number → number < count_by keeps d.sites
+  memories_below number i h =
+      let a = memory_is i number h in
+      let all : count_by keeps (take (PLACES * d.rungs) d.sites) ≡ count_by keeps d.sites = ap (count_by keeps) (take_all (PLACES * d.rungs) d.sites (omega (arith, read.size))) in
+      omega (arith, all, a.2, before_more page (PLACES * d.rungs) (i + 1) (omega (arith, a.0)), counted (PLACES * d.rungs) (omega arith))
 
   -- a block is drawn by a name that it may have
-  drawn_at : (k r c inst : ℕ) → k < rungs → r < ROWS → c < COLUMNS → instance_at page k r c ≡ Some inst → IsDrawnAt page inst k r c
+  drawn_at : (k r c inst : ℕ) → k < d.rungs → r < ROWS → c < COLUMNS → instance_at page k r c ≡ Some inst → IsDrawnAt page inst k r c
   unfolding instance_at
   drawn_at k r c inst below rows columns h = block_may page.decls (form_at page k r c) (name_over page k r c) inst h (never_odd k r c below rows columns)
 
   -- G12: an instance is drawn once
-  never_twice : (number k r c j q b : ℕ) → k < rungs → r < ROWS → c < COLUMNS → j < rungs → q < ROWS → b < COLUMNS
+  never_twice : (number k r c j q b : ℕ) → k < d.rungs → r < ROWS → c < COLUMNS → j < d.rungs → q < ROWS → b < COLUMNS
       → instance_at page k r c ≡ Some number → instance_at page j q b ≡ Some number → reading_place j q b < reading_place k r c → ⊥
-  unfolding PartBreaks
   never_twice number k r c j q b below rows columns other_below other_rows other_columns here there less =
-      let high : c ≤ COLUMNS = omega arith in
-      let inside : k < length page.parts = omega (arith, below, count) in
-      let judged : k < RUNGS = omega (arith, below, few) in
-      sound (Grid rule.DrawnTwice) k ((part_at page k).start + 2 * r) (inl (
-        inside,
-        inr (inr (
-          judged,
-          2 * r,
-          refl,
+      sound_at k below (Grid rule.DrawnTwice) (2 * r) (
+        r,
+        half.Name,
+        rows,
+        refl,
+        (
+          c,
+          omega (arith, columns),
           (
-            r,
-            half.Name,
-            rows,
-            refl,
+            columns,
             (
-              c,
-              high,
-              (
-                columns,
-                (
-                  number,
-                  drawn_at k r c number below rows columns here,
-                  (j, q, b, other_rows, other_columns, earlier j q b k r c other_columns columns other_rows rows less, drawn_at j q b number other_below other_rows other_columns there),
-                ),
-              ),
+              number,
+              drawn_at k r c number below rows columns here,
+              (j, q, b, other_rows, other_columns, earlier j q b k r c other_columns columns other_rows rows less, drawn_at j q b number other_below other_rows other_columns there),
             ),
           ),
-        )),
-      ))
+        ),
+      )
 
   -- G14: a rung has one jump
-  never_two : (k r c q b : ℕ) → k < rungs → r < ROWS → c < COLUMNS → q < ROWS → b < COLUMNS
+  never_two : (k r c q b : ℕ) → k < d.rungs → r < ROWS → c < COLUMNS → q < ROWS → b < COLUMNS
       → leaps (form_at page k r c) ≡ true → leaps (form_at page k q b) ≡ true → COLUMNS * q + b < COLUMNS * r + c → ⊥
-  unfolding PartBreaks
   never_two k r c q b below rows columns other_rows other_columns here there less =
-      let high : c ≤ COLUMNS = omega arith in
-      let inside : k < length page.parts = omega (arith, below, count) in
-      let judged : k < RUNGS = omega (arith, below, few) in
       let before : reading_place k q b < reading_place k r c = omega (arith, less) in
-      sound (Grid rule.TwoJumps) k ((part_at page k).start + (2 * r + 1)) (inl (
-        inside,
-        inr (inr (
-          judged,
-          2 * r + 1,
-          refl,
-          (r, half.Wire, rows, refl, (c, high, (columns, (here, (k, q, b, other_rows, other_columns, earlier k q b k r c other_columns columns other_rows rows before, (refl, there)))))),
-        )),
-      ))
+      sound_at k below (Grid rule.TwoJumps) (2 * r + 1) (r, half.Wire, rows, refl, (c, omega (arith, columns), (columns, (here, (k, q, b, other_rows, other_columns, earlier k q b k r c other_columns columns other_rows rows before, (refl, there))))))
 
-  block_place : (i number : ℕ) → block_in (cell_i i) ≡ Some number → Stands i (λ k r c. instance_at page k r c ≡ Some number)
+  block_place : (i number : ℕ) → block_in (cell_in d i) ≡ Some number → Stands i (λ k r c. instance_at page k r c ≡ Some number)
   unfolding instance_at
   block_place i number h =
-      let s = stands block_in same_block refl i number h in
-      record {
-        rung = s.rung;
-        row = s.row;
-        column = s.column;
-        below = s.below;
-        in_rung = s.in_rung;
-        in_row = s.in_row;
-        at = s.at;
-        holds = sym (drawn_block (form_at page s.rung s.row s.column) (name_over page s.rung s.row s.column) _ _) ∙ s.holds;
-      }
+      restated i (λ k r c _ is. sym (drawn_block (number_at page k r c) (form_at page k r c) (name_over page k r c) _ _) ∙ is) (stands block_in refl i number h)
 
-  one_block : (number i j : ℕ) → block_in (cell_i i) ≡ Some number → block_in (cell_i j) ≡ Some number → i ≡ j
+  one_block : (number i j : ℕ) → block_in (cell_in d i) ≡ Some number → block_in (cell_in d j) ≡ Some number → i ≡ j
   one_block number i j h k =
       let a = block_place i number h in
       let b = block_place j number k in
@@ -411,37 +363,29 @@ module _ (page : Page) (rungs : ℕ) (sites : List Site)
         ]
       ]
 
-  jump_place : (i t : ℕ) → goes_to rungs (cell_i i) ≡ Some t
-      → Stands i (λ k r c. (leaps (form_at page k r c) ≡ true) × (k < t) × (t ≤ rungs))
+  jump_place : (i t : ℕ) → goes_to d.rungs (cell_in d i) ≡ Some t
+      → Stands i (λ k r c. (leaps (form_at page k r c) ≡ true) × (k < t) × (t ≤ d.rungs))
   unfolding Goal
   jump_place i t h =
-      let s = stands (goes_to rungs) (same_goal rungs) refl i t h in
-      let g = drawn_goal rungs t (form_at page s.rung s.row s.column) _ _ _ s.holds in
-      let bounds : (s.rung < t) × (t ≤ rungs) = elim g.1 [
-        | inl past ↦ (omega (arith, past, s.below), omega (arith, past))
+      restated i
+      (λ k r c below is.
+      let g = drawn_goal (number_at page k r c) d.rungs t (form_at page k r c) _ _ _ is in
+      elim g.1 [
+        | inl past ↦ (g.0, omega (arith, past, below), omega (arith, past))
         | inr known ↦
-            let w = target_within (labels_of page.lines page.parts) s.rung t (jump_label (form_at page s.rung s.row s.column)) (sym (target_is (labels_of page.lines page.parts) s.rung (form_at page s.rung s.row s.column)) ∙ known) in
-            (w.0, omega (arith, w.1, count, length-map page.parts (label_of page.lines)))
-      ] in
-      record {
-        rung = s.rung;
-        row = s.row;
-        column = s.column;
-        below = s.below;
-        in_rung = s.in_rung;
-        in_row = s.in_row;
-        at = s.at;
-        holds = (g.0, bounds.0, bounds.1);
-      }
+            let w = target_within (labels_of page.lines page.parts) k t (jump_label (form_at page k r c)) (sym (target_is (labels_of page.lines page.parts) k (form_at page k r c)) ∙ known) in
+            (g.0, w.0, omega (arith, w.1, read.rungs, length-map page.parts (label_of page.lines)))
+      ])
+      (stands (goes_to d.rungs) refl i t h)
 
-  jumps_down : (rung i target : ℕ) → i < PLACES → goes_to rungs (cell_i (PLACES * rung + i)) ≡ Some target → (rung < target) × (target ≤ rungs)
+  jumps_down : (rung i target : ℕ) → i < PLACES → goes_to d.rungs (cell_in d (PLACES * rung + i)) ≡ Some target → (rung < target) × (target ≤ d.rungs)
   jumps_down rung i target within h =
       let s = jump_place (PLACES * rung + i) target h in
       let here : s.rung ≡ rung = omega (arith, s.at, s.in_rung, s.in_row, within) in
       (omega (arith, here, s.holds.1), s.holds.2)
 
-  one_jump : (rung i j s t : ℕ) → i < PLACES → j < PLACES → goes_to rungs (cell_i (PLACES * rung + i)) ≡ Some s
-      → goes_to rungs (cell_i (PLACES * rung + j)) ≡ Some t → i ≡ j
+  one_jump : (rung i j s t : ℕ) → i < PLACES → j < PLACES → goes_to d.rungs (cell_in d (PLACES * rung + i)) ≡ Some s
+      → goes_to d.rungs (cell_in d (PLACES * rung + j)) ≡ Some t → i ≡ j
   one_jump rung i j s t i_within j_within h k =
       let a = jump_place (PLACES * rung + i) s h in
       let b = jump_place (PLACES * rung + j) t k in
@@ -461,20 +405,10 @@ module _ (page : Page) (rungs : ℕ) (sites : List Site)
         ]
       ]
 
-  lower_place : (i inst : ℕ) → lower_in (cell_i i) ≡ Some inst → Stands i (λ k r c. instance_above page k r c ≡ Some inst)
+  lower_place : (i inst : ℕ) → lower_in (cell_in d i) ≡ Some inst → Stands i (λ k r c. instance_above page k r c ≡ Some inst)
   unfolding lower_in
   lower_place i inst h =
-      let s = stands lower_in same_lower refl i inst h in
-      record {
-        rung = s.rung;
-        row = s.row;
-        column = s.column;
-        below = s.below;
-        in_rung = s.in_rung;
-        in_row = s.in_row;
-        at = s.at;
-        holds = drawn_lower inst (form_at page s.rung s.row s.column) _ _ _ s.holds;
-      }
+      restated i (λ k r c _ is. drawn_lower (number_at page k r c) inst (form_at page k r c) _ _ _ is) (stands lower_in refl i inst h)
 
   above_is : (k r c inst : ℕ) → instance_above page k r c ≡ Some inst → (1 ≤ r) × (instance_at page k (r - 1) c ≡ Some inst)
   above_is k r c inst h =
@@ -488,27 +422,21 @@ module _ (page : Page) (rungs : ℕ) (sites : List Site)
             (some, same)
       ] refl h
 
-  block_cell : (k r c inst : ℕ) → k < rungs → r < ROWS → c < COLUMNS → instance_at page k r c ≡ Some inst → cell_i (place k r c) ≡ cell.Block inst
+  block_cell : (k r c inst : ℕ) → k < d.rungs → r < ROWS → c < COLUMNS → instance_at page k r c ≡ Some inst → cell_in d (place k r c) ≡ cell.Block inst
   unfolding instance_at
   block_cell k r c inst below rows columns h =
-      let within : place k r c < PLACES * rungs = omega arith in
-      let rung : place k r c / PLACES ≡ k = omega arith in
-      let row : place k r c % PLACES % ROWS ≡ r = omega arith in
-      let column : place k r c % PLACES / ROWS ≡ c = omega arith in
-      let drawn : block_in (cell_drawn page 0 k r c) ≡ Some inst = drawn_block (form_at page k r c) (name_over page k r c) _ _ ∙ h in
-      let read : block_in (at_place (cell_drawn page 0) (place k r c)) ≡ Some inst = rw (rung, row, column) drawn in
-      cell_is (place k r c) within
-      ∙ ap (numbered (memories_before page (place k r c))) (is_block (at_place (cell_drawn page 0) (place k r c)) inst read)
+      cell_there k r c below rows columns
+      ∙ is_block (drawn page k r c) inst (drawn_block (number_at page k r c) (form_at page k r c) (name_over page k r c) _ _ ∙ h)
 
-  under_block : (i inst : ℕ) (linked : Bool) → cell_i i ≡ cell.Lower inst linked
-      → (1 ≤ i % ROWS) × (cell_i (i - 1) ≡ cell.Block inst)
+  under_block : (i inst : ℕ) (linked : Bool) → cell_in d i ≡ cell.Lower inst linked
+      → (1 ≤ i % ROWS) × (cell_in d (i - 1) ≡ cell.Block inst)
   unfolding lower_in
   under_block i inst linked h =
       let s = lower_place i inst (ap lower_in h) in
       let up = above_is s.rung s.row s.column inst s.holds in
       let row : s.row - 1 < ROWS = omega (arith, s.in_rung) in
       let before : i - 1 ≡ place s.rung (s.row - 1) s.column = omega (arith, s.at, up.0) in
-      (omega (arith, s.at, up.0, s.in_rung), ap cell_i before ∙ block_cell s.rung (s.row - 1) s.column inst s.below row s.in_row up.1)
+      (omega (arith, s.at, up.0, s.in_rung), ap (cell_in d) before ∙ block_cell s.rung (s.row - 1) s.column inst s.below row s.in_row up.1)
 
   name_fits : (k r c : ℕ) (x : Reference) → name_over page k r c ≡ Some x → SymbolFits page.decls x.symbol
   name_fits k r c x h = refer_fits page.decls _ x h
@@ -519,54 +447,36 @@ module _ (page : Page) (rungs : ℕ) (sites : List Site)
       let up = above_is k r c n h in
       instance_fits page.decls (form_at page k (r - 1) c) (name_over page k (r - 1) c) n (name_fits k (r - 1) c) up.1
 
-  fits : (i : ℕ) → Fits page.decls (cell_i i)
+  fits : (i : ℕ) → Fits page.decls (cell_in d i)
   fits i =
-      elim (cases_lt i (PLACES * rungs)) [
+      elim (cases_lt i (PLACES * d.rungs)) [
         | inl below ↦
-            let rung : i / PLACES < rungs = omega arith in
-            let row : i % PLACES % ROWS < ROWS = omega arith in
-            let column : i % PLACES / ROWS < COLUMNS = omega arith in
-            subst (Fits page.decls) (sym (cell_is i below)) (fits_numbered page.decls (memories_before page i) (at_place (cell_drawn page 0) i)
-            (cell_fits page.decls _ _ _ _ (name_fits (i / PLACES) (i % PLACES % ROWS) (i % PLACES / ROWS)) (over_fits (i / PLACES) (i % PLACES % ROWS) (i % PLACES / ROWS))
-            (never_odd (i / PLACES) (i % PLACES % ROWS) (i % PLACES / ROWS) rung row column)))
+            let s = cell_is i below in
+            subst (Fits page.decls) (sym s.holds)
+            (cell_fits (number_at page s.rung s.row s.column) page.decls _ _ _ _ (name_fits s.rung s.row s.column) (over_fits s.rung s.row s.column)
+            (never_odd s.rung s.row s.column s.below s.in_rung s.in_row))
         | inr past ↦ subst (Fits page.decls) (sym (past_end i past)) tt
       ]
 
   -- G11: a block has its lower cell
-  never_torn : (k r c : ℕ) → k < rungs → r < ROWS → c < COLUMNS → IsTorn page k r c → ⊥
-  unfolding PartBreaks
+  never_torn : (k r c : ℕ) → k < d.rungs → r < ROWS → c < COLUMNS → IsTorn page k r c → ⊥
   never_torn k r c below rows columns torn =
-      let high : c ≤ COLUMNS = omega arith in
-      let inside : k < length page.parts = omega (arith, below, count) in
-      let judged : k < RUNGS = omega (arith, below, few) in
-      sound (Grid rule.BlockShape) k ((part_at page k).start + (2 * r + 1)) (inl (
-        inside,
-        inr (inr (
-          judged,
-          2 * r + 1,
-          refl,
-          (r, half.Wire, rows, refl, (c, high, (columns, torn))),
-        )),
-      ))
+      sound_at k below (Grid rule.BlockShape) (2 * r + 1) (r, half.Wire, rows, refl, (c, omega (arith, columns), (columns, torn)))
 
-  lower_cell : (k r c inst : ℕ) (q : Pin) (linked : Bool) → k < rungs → r + 1 < ROWS → c < COLUMNS → instance_at page k r c ≡ Some inst
-      → form_at page k (r + 1) c ≡ Some (Lower q linked) → cell_i (place k (r + 1) c) ≡ cell.Lower inst linked
+  lower_cell : (k r c inst : ℕ) (q : Pin) (linked : Bool) → k < d.rungs → r + 1 < ROWS → c < COLUMNS → instance_at page k r c ≡ Some inst
+      → form_at page k (r + 1) c ≡ Some (Lower q linked) → cell_in d (place k (r + 1) c) ≡ cell.Lower inst linked
   lower_cell k r c inst q linked below rows columns here form =
-      let within : place k (r + 1) c < PLACES * rungs = omega arith in
-      let rung : place k (r + 1) c / PLACES ≡ k = omega arith in
-      let row : place k (r + 1) c % PLACES % ROWS ≡ r + 1 = omega arith in
-      let column : place k (r + 1) c % PLACES / ROWS ≡ c = omega arith in
       let test : (r + 1 == 0) ≡ false = ne_eqb (r + 1) 0 (λ e. absurd (omega (arith, e))) in
       let up : r + 1 - 1 ≡ r = omega arith in
       let above : instance_above page k (r + 1) c ≡ Some inst = rw (test, up) here in
-      let drawn : cell_drawn page 0 k (r + 1) c ≡ cell.Lower inst linked
-      = ap (λ f. cell_with 0 f (option_map (λ x. x.symbol) (name_over page k (r + 1) c)) (instance_above page k (r + 1) c) (target_of (labels_of page.lines page.parts) k (form_at page k (r + 1) c))) form
-      ∙ ap (λ o. cell_with 0 (Some (Lower q linked)) (option_map (λ x. x.symbol) (name_over page k (r + 1) c)) o (target_of (labels_of page.lines page.parts) k (form_at page k (r + 1) c))) above in
-      let read : at_place (cell_drawn page 0) (place k (r + 1) c) ≡ cell.Lower inst linked = rw (rung, row, column) drawn in
-      cell_is (place k (r + 1) c) within ∙ ap (numbered (memories_before page (place k (r + 1) c))) read
+      let name = option_map (λ (x : Reference). x.symbol) (name_over page k (r + 1) c) in
+      let target = target_of (labels_of page.lines page.parts) k (form_at page k (r + 1) c) in
+      let is : drawn page k (r + 1) c ≡ cell.Lower inst linked
+      = ap₂ (λ f o. cell_with (number_at page k (r + 1) c) f name o target) form above in
+      cell_there k (r + 1) c below rows columns ∙ is
 
-  has_lower : (i inst : ℕ) → cell_i i ≡ cell.Block inst → has_second (slice_get page.decls.instances inst) ≡ true
-      → (linked : Bool) × (i % ROWS + 1 < ROWS) × (cell_i (i + 1) ≡ cell.Lower inst linked)
+  has_lower : (i inst : ℕ) → cell_in d i ≡ cell.Block inst → has_second (slice_get page.decls.instances inst) ≡ true
+      → (linked : Bool) × (i % ROWS + 1 < ROWS) × (cell_in d (i + 1) ≡ cell.Lower inst linked)
   unfolding instance_at
   has_lower i inst h second =
       let s = block_place i inst (ap block_in h) in
@@ -577,12 +487,11 @@ module _ (page : Page) (rungs : ℕ) (sites : List Site)
       let next : i + 1 ≡ place s.rung (s.row + 1) s.column = omega (arith, s.at) in (
         low.1,
         omega (arith, s.at, low.2),
-        ap cell_i next
+        ap (cell_in d) next
             ∙ lower_cell s.rung s.row s.column inst low.0 low.1 s.below low.2 s.in_row s.holds low.3,
       )
 
-  pub read_well_formed : IsWellFormed (drawing page.decls rungs sites)
-  unfolding cell_i
+  pub read_well_formed : IsWellFormed d
   read_well_formed = record {
     one_memory = one_memory;
     memories_below = memories_below;
@@ -590,6 +499,6 @@ module _ (page : Page) (rungs : ℕ) (sites : List Site)
     one_jump = one_jump;
     jumps_down = jumps_down;
     under_block = under_block;
-    fits = fits;
-    has_lower = has_lower;
+    fits = λ i. subst (λ x. Fits x (cell_in d i)) (sym read.declared) (fits i);
+    has_lower = λ i inst block second. has_lower i inst block (ap (λ x. has_second (slice_get x.instances inst)) (sym read.declared) ∙ second);
   }

@@ -5,35 +5,30 @@ ghost use Rattle.ladder_page.specs.declared.geometry.TheConstants.{RUNGS};
 ghost use Rattle.ladder_page.specs.ReadLines.{page_of};
 ghost use Rattle.ladder_page.specs.Seen.{seen};
 ghost use Rattle.ladder_page.specs.Page.{labels_of};
-ghost use Rattle.ladder_grid.specs.Program.{has_memory};
-ghost use Rattle.ladder_grid.specs.Build.{sites_of, AreSitesOf};
+ghost use Rattle.ladder_page.specs.AllPlaces.{all_places};
+ghost use Rattle.ladder_grid.specs.Program.{drawing};
 ghost use Rattle.ladder_rules.specs.Stops.{IsBrokenIn, IsSmall, IsNear};
-ghost use Rattle.ladder_grid.specs.Reading.{IsDrawn};
+ghost use Rattle.ladder_grid.specs.Reading.{is_edge, site_drawn, IsDrawn};
 
-use crate::cell::Cell;
 use crate::program::Program;
-use crate::site::{Site, site_drawn};
-use ladder_page::PageView;
+use crate::site::{Site, is_edge, site_drawn};
 use ladder_page::geometry::{PLACES, Place, RUNGS};
 use ladder_page::lines::{lines, parts, shown_text};
-use ladder_page::page::{forms, overs};
+use ladder_page::page::{form_at, forms, overs};
+use ladder_page::{Form, PageView};
 use ladder_rules::Stop;
 use ladder_rules::firsts::firsts;
 use ladder_rules::page_check::check;
 use ladder_vars::{Decls, Name};
 use std::alloc::{AllocError, Global};
 
-/// The number of the next memory, past this cell.
-fn after_memory(number: usize, cell: Cell) -> usize
+/// The number of the next memory, past a cell of this form.
+fn after_memory(number: usize, form: Option<Form>) -> usize
     requires { number < 2 ^ 32 }
-    ensures value { result ≡ (if has_memory cell then number + 1 else number) }
+    ensures value { result ≡ number + (if is_edge form then 1 else 0) }
     ensures close { result ≤ number + 1 }
 {
-    if cell.has_memory() {
-        number + 1
-    } else {
-        number
-    }
+    if is_edge(form) { number + 1 } else { number }
 }
 
 /// What is at each place, by rung, column and row; memories are numbered in this order.
@@ -44,21 +39,21 @@ fn sites(
 ) -> Result<Vec<Site>, AllocError>
     requires few { length page.parts.now ≤ RUNGS }
     requires known { labels.now ≡ labels_of (map (λ l. l.now) page.lines.now) page.parts.now }
-    ensures { IfOk result (λ v. v.items ≡ sites_of (seen page.entry)) }
+    ensures { IfOk result (λ v. v.items ≡ all_places (site_drawn (seen page.entry)) (length page.entry.parts.now)) }
 {
     let mut sites = Vec::new(alloc);
     let mut next = 0;
     for n in 0..PLACES * page.parts.len() {
-        let site = site_drawn(page, labels, next, Place::of(n));
-        sites.push(site)?;
-        next = after_memory(next, site.cell);
+        let at = Place::of(n);
+        sites.push(site_drawn(page, labels, next, at))?;
+        next = after_memory(next, form_at(page, at));
     }
     Ok(sites)
 }
 
 /// The sites of a page, where no rule is broken on it.
 fn checked_sites(alloc: Global, page: PageView<'_, '_>) -> Result<(usize, Vec<Site>), Stop>
-    ensures found { IfOk result (λ x. AreSitesOf (seen page.entry) x.0 x.1.items) }
+    ensures found { IfOk result (λ x. IsDrawn (seen page.entry) (drawing page.entry.decls.now x.0 x.1.items)) }
     ensures broken { IfErr result (IsBrokenIn (seen page.entry)) }
     ensures near { IfErr result (IsNear (length page.entry.parts.now) (length page.entry.lines.now)) }
 {
@@ -73,7 +68,7 @@ pub(crate) fn read_sites(
     decls: &Decls,
     text: &[u8],
 ) -> Result<(usize, Vec<Site>), Stop>
-    ensures found { IfOk result (λ x. AreSitesOf (page_of decls.now text.now) x.0 x.1.items) }
+    ensures found { IfOk result (λ x. IsDrawn (page_of decls.now text.now) (drawing decls.now x.0 x.1.items)) }
     ensures broken { IfErr result (IsBrokenIn (page_of decls.now text.now)) }
     ensures small { IfErr result IsSmall }
 {

@@ -5,7 +5,7 @@ ghost use Rattle.ladder_vars.specs.declared.kind.BlockKind.{BlockKind};
 ghost use Rattle.ladder_page.specs.declared.form.Form.TheVariants as form;
 ghost use Rattle.ladder_page.specs.Seen.{seen};
 ghost use Rattle.ladder_page.specs.Page.{labels_of, instance_at};
-ghost use Rattle.ladder_grid.specs.Reading.{cell_with, cell_drawn, site_drawn};
+ghost use Rattle.ladder_grid.specs.Reading.{is_edge, memory_for, cell_with, cell_drawn, site_drawn};
 
 use crate::cell::{Cell, Joint, Operand};
 use ladder_page::geometry::Place;
@@ -26,24 +26,47 @@ pub struct Site {
     pub vertical: bool,
 }
 
+/// Whether it is a contact or a coil that acts on an edge.
+pub(crate) fn is_edge(form: Option<Form>) -> bool
+    ensures { result ≡ is_edge form }
+{
+    match form {
+        Some(
+            Form::Contact(Mode::Rising | Mode::Falling)
+            | Form::Coil(CoilMode::Rising | CoilMode::Falling),
+        ) => true,
+        None
+        | Some(
+            Form::Empty
+            | Form::Wire
+            | Form::Contact(Mode::Plain | Mode::Negated)
+            | Form::Coil(CoilMode::Store | CoilMode::Inverse | CoilMode::Set | CoilMode::Reset)
+            | Form::Block(_)
+            | Form::Lower(_, _)
+            | Form::Jump(_)
+            | Form::Return,
+        ) => false,
+    }
+}
+
+fn memory_for(number: usize, form: Option<Form>) -> Option<usize>
+    ensures { result ≡ memory_for number form }
+{
+    if is_edge(form) { Some(number) } else { None }
+}
+
 fn contact_on(number: usize, mode: Mode, symbol: Symbol) -> Cell
     ensures { result ≡ cell_with number (Some (form.Contact mode)) (Some symbol) None None }
 {
-    let memory = match mode {
-        Mode::Plain | Mode::Negated => None,
-        Mode::Rising | Mode::Falling => Some(number),
+    let operand = match symbol {
+        Symbol::Var(var) => Operand::Var(var),
+        Symbol::Instance(inst) => Operand::Output(inst),
     };
-    match symbol {
-        Symbol::Var(var) => Cell::Contact {
-            mode,
-            operand: Operand::Var(var),
-            memory,
-        },
-        Symbol::Instance(inst) => Cell::Contact {
-            mode,
-            operand: Operand::Output(inst),
-            memory,
-        },
+    let memory = memory_for(number, Some(Form::Contact(mode)));
+    Cell::Contact {
+        mode,
+        operand,
+        memory,
     }
 }
 
@@ -52,10 +75,7 @@ fn coil_on(number: usize, mode: CoilMode, symbol: Symbol) -> Cell
 {
     match symbol {
         Symbol::Var(var) => {
-            let memory = match mode {
-                CoilMode::Store | CoilMode::Inverse | CoilMode::Set | CoilMode::Reset => None,
-                CoilMode::Rising | CoilMode::Falling => Some(number),
-            };
+            let memory = memory_for(number, Some(Form::Coil(mode)));
             Cell::Coil { mode, var, memory }
         }
         Symbol::Instance(_) => Cell::Empty,

@@ -1,10 +1,8 @@
 use Rattle.std.proofs.Common.{List, ℕ, drop}
-use Rattle.ladder_page.specs.ReadLines.{page_of}
-use Rattle.ladder_grid.specs.Build.{AreSitesOf}
 use Rattle.ladder_grid.specs.Program.{drawing}
 use Rattle.ladder_grid.proofs.FaultLaws.{declared_right, right, no_program}
 use Rattle.ladder_grid.proofs.OneProgram.{makes_program}
-use Rattle.ladder_grid.proofs.ReadingLaws.{sites_whole, sites_drawn}
+use Rattle.ladder_grid.proofs.ReadingLaws.{read_whole}
 use Rattle.ladder_grid.proofs.TitleLaws.{titled_program, whole_too, well_formed_too}
 use Rattle.ladder_grid.proofs.WellFormed.{read_well_formed}
 use Rattle.ladder_grid.proofs.titled.read_titled_program.Goals as goal
@@ -13,14 +11,11 @@ pub take_aliases-requires : goal.take_aliases-requires
 take_aliases-requires c = (drop c.in-Ok.read.1 c.args.text.now, c.in-Ok.ensures.found.1)
 
 pub new-requires-clause-whole : goal.new-requires-clause-whole
-new-requires-clause-whole c =
-    whole_too c.in-Ok.read.0 c.take_aliases.new.decls _ _ (sites_whole (page_of c.in-Ok.read.0 c.behind.result.now) _ _ c.in-Ok-read_sites.ensures.found)
+new-requires-clause-whole c = whole_too c.in-Ok.read.0 c.take_aliases.new.decls _ _ (read_whole _ _ c.in-Ok-read_sites.ensures.found)
 
 pub new-requires-clause-well_formed : goal.new-requires-clause-well_formed
 new-requires-clause-well_formed c =
-    let read : AreSitesOf (page_of c.in-Ok.read.0 c.behind.result.now) c.in-Ok-read_sites.read.0 c.in-Ok-read_sites.read.1.items = c.in-Ok-read_sites.ensures.found in
-    well_formed_too c.in-Ok.read.0 c.take_aliases.new.decls _ _ c.take_aliases.ensures.same
-    (read_well_formed (page_of c.in-Ok.read.0 c.behind.result.now) _ _ read.sound read.same read.count read.few)
+    well_formed_too c.in-Ok.read.0 c.take_aliases.new.decls _ _ c.take_aliases.ensures.same (read_well_formed _ _ c.in-Ok-read_sites.ensures.found)
 
 pub returns-in-Err-clause-refused : goal.returns-in-Err-clause-refused
 returns-in-Err-clause-refused c = (
@@ -38,11 +33,11 @@ returns-in-Err-read_sites-clause-refused c =
 
 pub returns-in-Err-take_aliases-clause-refused : goal.returns-in-Err-take_aliases-clause-refused
 returns-in-Err-take_aliases-clause-refused c =
-    let read = rw c.behind.ensures at (sites_drawn (page_of c.in-Ok.read.0 c.behind.result.now) _ _ c.in-Ok-read_sites.ensures.found) in
+    let read = rw c.behind.ensures at c.in-Ok-read_sites.ensures.found in
     (drawing c.in-Ok.read.0 _ _, makes_program c.args.text.now c.in-Ok.read.0 _ c.in-Ok.ensures.found.1 _ read, c.in-Err-take_aliases.ensures.taken)
 
 pub returns-in-Ok-new-clause-found : goal.returns-in-Ok-new-clause-found
 returns-in-Ok-new-clause-found c =
-    let read = rw c.behind.ensures at (sites_drawn (page_of c.in-Ok.read.0 c.behind.result.now) _ _ c.in-Ok-read_sites.ensures.found) in
+    let read = rw c.behind.ensures at c.in-Ok-read_sites.ensures.found in
     let program = makes_program c.args.text.now c.in-Ok.read.0 _ c.in-Ok.ensures.found.1 _ read in
     rw c.in-Ok-new.ensures (titled_program c.args.text.now c.in-Ok.read.0 c.take_aliases.new.decls _ _ c.take_aliases.ensures.same program, c.in_default.ensures.titled)
