@@ -25,7 +25,7 @@ def places_missed(names):
         for key, _, text in (line.partition(": ") for line in edit.read_text("utf-8").splitlines()):
             if key == "file":
                 path = ROOT / "crates" / edit.parent.name / text
-            elif key == "old" and path.read_text("utf-8").count(text) != 1:
+            elif key == "old" and (not path.exists() or path.read_text("utf-8").count(text) != 1):
                 missed.append(edit.relative_to(ROOT))
     return missed
 

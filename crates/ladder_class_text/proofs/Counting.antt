@@ -58,22 +58,6 @@ limited_few : (k : ℕ) (limit : Option ℕ) (rs : List ClassGroup) → numbers_
 limited_few k None rs = omega arith
 limited_few k (Some n) rs = sum_by-take-le (λ (r : ClassGroup). size (cells k r.group)) rs n
 
-take_short : (n : ℕ) (rs : List ClassGroup) → length (take n rs) ≤ length rs
-take_short zero rs = omega arith
-take_short (suc n) [] = omega arith
-take_short (suc n) (r ∷ rs) = let h = take_short n rs in omega (arith, h)
-
-limited_short : (limit : Option ℕ) (rs : List ClassGroup) → length (limited limit rs) ≤ length rs
-limited_short None rs = omega arith
-limited_short (Some n) rs = take_short n rs
-
--- The counts of one row more fit.
-pub rows_fit : (a b : WriteLog) (w0 w1 : List ℕ) (f : ClassGroup → Fields) (k : ℕ) (limit : Option ℕ) (all left : List ClassGroup) (rows numbers : ℕ) (r : ClassGroup) (rest : List ClassGroup)
-    → Written a b w0 w1 f k limit all left rows numbers → left ≡ r ∷ rest → limit ≢ Some rows → rows + 1 ≤ length all
-rows_fit a b w0 w1 f k limit all left rows numbers r rest so_far first short =
-    let within = added_within a b w0 w1 (lines f) rows limit (limited limit all) left r rest so_far.added first short in
-    omega (arith, within, limited_short limit all)
-
 pub numbers_fit : (a b : WriteLog) (w0 w1 : List ℕ) (f : ClassGroup → Fields) (k : ℕ) (limit : Option ℕ) (all left : List ClassGroup) (rows numbers : ℕ) (r : ClassGroup) (rest : List ClassGroup)
     → Written a b w0 w1 f k limit all left rows numbers → left ≡ r ∷ rest → limit ≢ Some rows → numbers + size (cells k r.group) ≤ numbers_in k all
 numbers_fit a b w0 w1 f k limit all left rows numbers r rest so_far first short =
@@ -89,21 +73,3 @@ pub nothing_left : (limit : Option ℕ) (rows : ℕ) (rs : List ClassGroup) → 
 nothing_left limit rows rs (inl e) = let z : rows - rows ≡ 0 = omega arith in rw (e, z) refl
 nothing_left None rows rs (inr e) = e
 nothing_left (Some n) rows rs (inr e) = rw e (none (n - rows))
-
-pub written_all : (a b : WriteLog) (w0 w1 : List ℕ) (f : ClassGroup → Fields) (k : ℕ) (limit : Option ℕ) (all left : List ClassGroup) (rows numbers : ℕ)
-    → Written a b w0 w1 f k limit all left rows numbers → (limit ≡ Some rows) ⊎ (left ≡ []) → SendsAll a b w0 w1 (lines_text (map f (limited limit all)))
-written_all a b w0 w1 f k limit all left rows numbers so_far ended =
-    let none = nothing_left limit rows left ended in
-    let done = so_far.added.done in
-    sends_same a b w0 w1 done (lines_text (map f (limited limit all)))
-    (sym (so_far.added.split ∙ ap (λ xs. done ++ lines f rows xs) none ∙ append-nil done)) so_far.added.sent
-
-pub rows_all : (a b : WriteLog) (w0 w1 : List ℕ) (f : ClassGroup → Fields) (k : ℕ) (limit : Option ℕ) (all left : List ClassGroup) (rows numbers : ℕ)
-    → Written a b w0 w1 f k limit all left rows numbers → (limit ≡ Some rows) ⊎ (left ≡ []) → rows ≡ length (limited limit all)
-rows_all a b w0 w1 f k limit all left rows numbers so_far ended =
-    omega (arith, so_far.added.counted, ap (λ (xs : List ClassGroup). length xs) (nothing_left limit rows left ended))
-
-pub numbers_all : (a b : WriteLog) (w0 w1 : List ℕ) (f : ClassGroup → Fields) (k : ℕ) (limit : Option ℕ) (all left : List ClassGroup) (rows numbers : ℕ)
-    → Written a b w0 w1 f k limit all left rows numbers → (limit ≡ Some rows) ⊎ (left ≡ []) → numbers ≡ numbers_in k (limited limit all)
-numbers_all a b w0 w1 f k limit all left rows numbers so_far ended =
-    omega (arith, so_far.summed, ap (numbers_in k) (nothing_left limit rows left ended))

@@ -31,10 +31,6 @@ counted_more k limit all left rows unsettled r rest so_far next =
     let one = ap (unsettled_in k) next ∙ chosen k r (filter (λ (r : ClassGroup). not (r.class == SETTLED)) after) (r.class == SETTLED) in
     record { summed = omega (arith, so_far.summed, one) }
 
-pub counted_all : (k : ℕ) (limit : Option ℕ) (all left : List ClassGroup) (rows unsettled : ℕ) → Counted k limit all left rows unsettled → (limit ≡ Some rows) ⊎ (left ≡ [])
-    → unsettled ≡ unsettled_in k (limited limit all)
-counted_all k limit all left rows unsettled so_far ended = omega (arith, so_far.summed, ap (unsettled_in k) (nothing_left limit rows left ended))
-
 -- No more are counted than the group has.
 pub some_of : (settled : Bool) (numbers : ℕ) → (if settled then 0 else numbers) ≤ numbers
 some_of true numbers = omega arith

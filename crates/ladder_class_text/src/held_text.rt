@@ -8,10 +8,9 @@ ghost use Rattle.ladder_classes.specs.Classes.{numbers_in};
 ghost use Rattle.ladder_sim.specs.CauseText.{limited};
 ghost use Rattle.ladder_class_text.specs.ClassText.{held_group_record, held_group_text};
 
-use crate::header::{add_header, is_reached};
 use crate::row::add_row;
 use ladder_held_groups::HeldGroups;
-use ladder_sim::GroupSummary;
+use ladder_sim::{GroupSummary, add_header, is_reached};
 use ladder_text::{Block, Piece, Sink, WriteFault};
 
 /// Adds the rows that are left, or the first of them where there is a limit.

@@ -1,8 +1,6 @@
 //! The texts of groups by class.
 #![tactic(auto)]
 
-mod cells;
-mod header;
 mod held_text;
 mod possible_text;
 mod row;

@@ -10,10 +10,10 @@ ghost use Rattle.ladder_sim.specs.CauseText.{limited};
 ghost use Rattle.ladder_sim.specs.PossibleText.{mark};
 ghost use Rattle.ladder_class_text.specs.ClassText.{possible_group_record, possible_group_text, unsettled_in};
 
-use crate::header::{add_header, is_reached};
 use crate::row::add_row;
 use ladder_classes::ClassGroup;
 use ladder_possible_groups::{PossibleGroups, is_settled};
+use ladder_sim::{add_header, is_reached};
 use ladder_text::{Block, Piece, Sink, WriteFault};
 
 /// How much of a list of what is possible, or forced, was written in groups.

@@ -1,18 +1,29 @@
 //! The row of a group.
 
-ghost use Rattle.std.specs.Prelude.{◌≡◌, ◌≤◌, IfOk};
+ghost use Rattle.std.specs.Prelude.{◌≡◌, ◌≤◌, ◌<◌, ◌*◌, ◌+◌, ◌++◌, IfOk, codes, length, map, take};
 ghost use Rattle.ladder_text.specs.Block.{Sends};
 ghost use Rattle.ladder_text.specs.Pieces.{piece_text};
-ghost use Rattle.ladder_records.specs.Text.{line_text};
+ghost use Rattle.ladder_records.specs.Text.{after_commas, line_text};
 ghost use Rattle.ladder_groups.specs.Groups.{cells, size};
+ghost use Rattle.ladder_sim.specs.GroupText.{cell_text};
 ghost use Rattle.ladder_class_text.specs.ClassText.{class_record};
 
-use crate::cells::{fill_end, size_of};
 use ladder_groups::Group;
+use ladder_sim::{fill_cells, size_of};
 use ladder_text::{Block, Piece, Sink, WriteFault, add_pieces};
 
 /// How many bytes the cells of a row and its line feed have at most.
 const END: usize = 65;
+
+/// Writes the end of a group's record over the first bytes of a text: its cells, each after a comma, and a line feed.
+fn fill_end(text: &mut [u8], listed: usize, group: Group)
+    requires few { listed ≤ 32 }
+    requires room { 2 * listed < length text.old }
+    ensures { take (2 * listed + 1) text.new ≡ after_commas (map cell_text (cells listed group)) ++ codes "\n" }
+{
+    fill_cells(text, listed, group);
+    text[2 * listed] = b'\n';
+}
 
 /// Adds the record of a group that has so many numbers, and this in the column of its class.
 fn add_record<W: Sink>(

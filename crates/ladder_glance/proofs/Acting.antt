@@ -15,7 +15,7 @@ use Rattle.ladder_scan.specs.Rung.{second}
 use Rattle.ladder_scan.specs.Programs.{diagram_of}
 use Rattle.ladder_scan.specs.Gating.{among}
 use Rattle.ladder_scan.proofs.Acting.{cond_true, cond_false}
-use Rattle.ladder_scan.proofs.GateLaws.{cell_is}
+use Rattle.ladder_scan.proofs.Feeders.{cell_is}
 use Rattle.ladder_known.specs.KnownScan.{Keeping, Known, link_in, frame_in, changed_in, changes_in, evaluated_in}
 use Rattle.ladder_glance.specs.Evaluating.{changed_by, changes_by, AreLinksIn}
 

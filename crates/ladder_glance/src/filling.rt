@@ -1,13 +1,10 @@
-//! What is known is filled in: by what a state stores, and by inputs.
+//! What is known is filled in by what a state stores.
 
-ghost use Rattle.std.specs.Prelude.{◌≡◌, ℕ, length, map, slice_index_or, false, IfOk};
-ghost use Rattle.ladder_vars.specs.Decls.{is_input};
-ghost use Rattle.ladder_scan.specs.Scan.{given};
+ghost use Rattle.std.specs.Prelude.{◌≡◌, ℕ, length, map, slice_index_or, IfOk};
 
 use crate::keep::Keep;
 use ladder_elements::{Operations, Signal};
 use ladder_scan::{Memory, State};
-use ladder_vars::Var;
 use std::alloc::Global;
 
 fn fill<T: Copy>(items: &mut [T], item: T)
@@ -62,31 +59,5 @@ pub(crate) fn take_ends<S: Signal, B: Keep<S>>(blocks: &[B], ends: &mut [S])
 {
     for inst in 0..blocks.len() {
         ends[inst] = blocks[inst].q();
-    }
-}
-
-fn is_input_at(vars: &[Var], number: usize) -> bool
-    ensures { result ≡ slice_index_or (map is_input vars.now) number false }
-{
-    match vars.get(number) {
-        Some(var) => var.is_input(),
-        None => false,
-    }
-}
-
-/// Gives the input variables their values, in order of declaration.
-pub(crate) fn give<S: Operations>(vars: &[Var], inputs: &[S], values: &mut [S])
-    ensures { values.new ≡ given (map is_input vars.now) inputs.now values.old }
-{
-    let mut next = 0;
-    for number in 0..values.len() {
-        if !is_input_at(vars, number) {
-            continue;
-        }
-        if inputs.len() <= next {
-            continue;
-        }
-        values[number] = inputs[next];
-        next += 1;
     }
 }

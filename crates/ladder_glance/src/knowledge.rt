@@ -8,11 +8,12 @@ ghost use Rattle.ladder_known.specs.KnownScan.{all_known, frame_in, kept_at};
 ghost use Rattle.ladder_glance.specs.Sizes.{AreAsLong, HasSizes, IsAsLong};
 ghost use Rattle.ladder_glance.specs.Evaluating.{AreSure};
 
-use crate::filling::{filled, give, know_blocks, know_memories, know_values, take_ends};
+use crate::filling::{filled, know_blocks, know_memories, know_values, take_ends};
 use crate::keep::Keep;
 use ladder_elements::{Signal, Stored};
 use ladder_grid::Program;
 use ladder_scan::gates::link_at;
+use ladder_scan::inputs::give;
 use ladder_scan::signals::Signals;
 use ladder_scan::{Memory, State};
 use ladder_vars::{BlockKind, Decls};
@@ -130,7 +131,7 @@ impl<S: Signal, B: Keep<S>> Knowledge<S, B> {
         requires { All S.value inputs.now }
         ensures { self.new ≡ record self.old { values = given (map is_input decls.now.vars) inputs.now self.old.values } }
     {
-        give(decls.vars(), inputs, &mut self.values);
+        give(decls, inputs, &mut self.values);
     }
 
     /// Writes a variable; past the last one there is none.

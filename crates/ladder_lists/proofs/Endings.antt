@@ -126,15 +126,6 @@ pub before_held_groups : (g : Given) (r : ListRequest) (s : Scans) (f : ToolFaul
 before_held_groups g r s f (inl setting) = inl setting
 before_held_groups g r s f (inr name) = inr (inl name)
 
-pub held_groups_fault : (first : Option HeldGroupFault) (f : CauseFault) → first ≡ held_group_reason (held_group.Held (held.Question f)) → HasHeldGroupFault first (fault.Cause f)
-held_groups_fault first cause.MomentBack h = inr (inl h)
-held_groups_fault first cause.NotACoil h = inr (inl h)
-held_groups_fault first cause.TooManyFree h = inr (inl h)
-held_groups_fault first cause.NotAnInput h = inr (inl h)
-held_groups_fault first cause.RepeatedInput h = inr (inl h)
-held_groups_fault first cause.AfterOutOfRange h = inr (inl h)
-held_groups_fault first cause.Memory h = inl refl
-
 pub held_groups_are : (r : ListRequest) (q : Question) (s : Scans) (c : HeldGroupCursor) → c.program ≡ q.program → c.listed ≡ q.listed → c.rest ≡ held_groups q s
     → held_group_text c.program c.listed (limited r.limit c.rest) ≡ held_group_text q.program q.listed (held_groups_for r q s)
 held_groups_are r q s c of_program of_listed made =

@@ -16,7 +16,7 @@ use Rattle.ladder_scan.specs.Rung.{link, second}
 use Rattle.ladder_scan.specs.Programs.{diagram_of}
 use Rattle.ladder_scan.specs.Gating.{among, AreLinks}
 use Rattle.ladder_look.specs.Gating.{acted, effects_of}
-use Rattle.ladder_scan.proofs.GateLaws.{cell_is}
+use Rattle.ladder_scan.proofs.Feeders.{cell_is}
 use Rattle.ladder_scan.proofs.Acting.{cond_true, cond_false, all_one}
 
 -- An action has the cell at its place.

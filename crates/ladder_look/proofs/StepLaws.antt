@@ -31,7 +31,8 @@ use Rattle.ladder_scan.specs.Programs.{diagram_of, IsSound}
 use Rattle.ladder_scan.specs.Gating.{among, own, through, kept_by, is_other, passed, ran, IsInside, IsPlaced}
 use Rattle.ladder_look.specs.Gating.{acted, effects_of}
 use Rattle.ladder_look.specs.Stepping.{Going, going, keeping, gone, all_gone, IsSpot, IsWithin}
-use Rattle.ladder_scan.proofs.GateLaws.{cell_is, left_inside, gates_inside}
+use Rattle.ladder_scan.proofs.Feeders.{cell_is}
+use Rattle.ladder_scan.proofs.GateLaws.{left_inside, gates_inside}
 use Rattle.ladder_scan.proofs.Sound.{placed}
 use Rattle.ladder_look.proofs.Acting.{HasCell}
 use Rattle.ladder_scan.proofs.Acting.{cond_true, cond_false, all_one, places}

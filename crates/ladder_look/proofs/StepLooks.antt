@@ -17,7 +17,8 @@ use Rattle.ladder_scan.specs.Programs.{diagram_of, IsSound}
 use Rattle.ladder_scan.specs.Gating.{among, ran, AreLinks, AreValues}
 use Rattle.ladder_look.specs.Gating.{taken_by_exit}
 use Rattle.ladder_look.specs.Stepping.{Going, going, all_gone}
-use Rattle.ladder_scan.proofs.GateLaws.{AreRailed, either_test, gates_inside, links_are, rails_stay}
+use Rattle.ladder_scan.proofs.Feeders.{either_test}
+use Rattle.ladder_scan.proofs.GateLaws.{AreRailed, gates_inside, links_are, rails_stay}
 use Rattle.ladder_scan.proofs.Sound.{placed}
 use Rattle.ladder_look.proofs.Acting.{action_cells, rung_along}
 use Rattle.ladder_look.proofs.Exits.{taken_of, guard_is}

@@ -162,9 +162,6 @@ count_tells z false false true h false false = refl
 count_tells z false false false h true false = refl
 count_tells z false false false h false false = refl
 
-counter_q : (on : Bool) (value : ℤ) (f : ℤ → Bool) → q_of (Counter on value (f value)) ≡ f value
-counter_q on value f = refl
-
 ctu_answers : (preset now : ℕ) (last : Bool) (cv : ℤ) (q : Bool) → OneAnswer (λ a. DoesAnswer Ctu preset now a (Counter last cv q))
 unfolding q_after step
 ctu_answers preset now last cv q =

@@ -20,7 +20,7 @@ use ladder_signals::Tri;
 
 /// What three values allow, and what may be stored, where the scan over truth values is made at this moment.
 #[derive(Clone, Copy)]
-struct Allowing {
+pub struct Allowing {
     now: u64,
 }
 

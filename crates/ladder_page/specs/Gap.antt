@@ -1,5 +1,5 @@
 -- Gap lines, with their comments taken as spaces, and labels (the profile). A gap is the lines before a rung, or after the last.
-use Rattle.std.specs.Prelude.{◌≡◌, ℕ, zero, suc, ◌+◌, Bool, true, false, not, ◌&&◌, ◌||◌, ◌==◌, List, ◌∷◌, ◌++◌, codes, drop, filter, take_while, bytes_eq, Option, Some, None, if◌then◌else◌}
+use Rattle.std.specs.Prelude.{◌≡◌, ℕ, zero, suc, ◌+◌, Bool, true, false, ◌&&◌, ◌||◌, ◌==◌, List, [], ◌∷◌, ◌++◌, drop, take, Option, Some, None, if◌then◌else◌}
 use Rattle.std.specs.List.{list_all, prefix_len}
 use Rattle.std.specs.Option.{option_or}
 use Rattle.ladder_vars.specs.Name.{is_name_byte, same_letters}
@@ -11,14 +11,18 @@ use Rattle.ladder_page.specs.Picture.{Lines, line_at}
 abbrev pub is_gap_blank : ℕ → Bool
 is_gap_blank b = b == space || b == 9
 
--- the name bytes after the blanks of a line
-abbrev pub first_word : List ℕ → List ℕ
-first_word text = take_while is_name_byte (drop (prefix_len is_gap_blank text) text)
+-- what follows the blanks at the start
+abbrev pub after_blanks : List ℕ → List ℕ
+after_blanks text = drop (prefix_len is_gap_blank text) text
 
--- The label that a line is: but for blanks, the line is a name of at most eight characters and a colon.
+-- The label that a line is: behind blanks a name of at most eight characters, and behind it and blanks a colon (58), with blanks alone after it.
 unfoldable pub label_in : List ℕ → Option (List ℕ)
 label_in text =
-    if is_label_name (first_word text) && bytes_eq (filter (λ b. not (is_gap_blank b)) text) (first_word text ++ codes ":") then Some (first_word text) else None
+    let start = after_blanks text in let len = prefix_len is_name_byte start in
+    elim (after_blanks (drop len start)) [
+      | b ∷ end ↦ if b == 58 && (list_all is_gap_blank end && is_label_name (take len start)) then Some (take len start) else None
+      | [] ↦ None
+    ]
 
 -- Blanks, a name of at most eight characters, blanks, a colon (58) and blanks. The label of a line is the one above.
 pub record IsLabelIn (text label : List ℕ) : Type 0 where

@@ -6,7 +6,6 @@ pub mod Picture
 pub mod Texts
 pub mod Lines
 pub mod Gap
-pub mod Labels
 pub mod Operand
 pub mod Suiting
 pub mod AllPlaces

@@ -8,7 +8,7 @@ ghost use Rattle.ladder_page.specs.ReadForm.{jump_to, mark_at};
 ghost use Rattle.ladder_page.specs.Bytes.{dash, space};
 ghost use Rattle.ladder_page.specs.declared.form.Form.{Form};
 
-use crate::gap::word_len;
+use crate::gap::{label_named, word_len};
 use crate::mode::{CoilMode, Mode};
 use ladder_vars::{BlockKind, Name, Pin};
 
@@ -93,8 +93,8 @@ fn jump_to(text: &[u8]) -> Option<Form>
     ensures { result ≡ jump_to text.now }
 {
     let (word, behind) = text.split_at(word_len(text));
-    if all_are(b' ', behind) && word.len() <= 8 {
-        Some(Form::Jump(Name::new(word)?))
+    if all_are(b' ', behind) {
+        Some(Form::Jump(label_named(word)?))
     } else {
         None
     }

@@ -1,8 +1,9 @@
 //! Labels, and blank lines.
 
-ghost use Rattle.std.specs.Prelude.{◌≡◌, ◌≤◌, length, drop};
+ghost use Rattle.std.specs.Prelude.{◌≡◌, ◌≤◌, length, drop, if◌then◌else◌, Some, None};
 ghost use Rattle.std.specs.List.{list_all, prefix_len};
 ghost use Rattle.ladder_vars.specs.Name.{is_name_byte};
+ghost use Rattle.ladder_page.specs.Form.{is_label_name};
 ghost use Rattle.ladder_page.specs.Gap.{is_gap_blank, label_in, is_named};
 
 use ladder_vars::Name;
@@ -46,7 +47,19 @@ pub(crate) fn word_len(text: &[u8]) -> usize
         .count()
 }
 
+/// The label that is spelled so, where there is one.
+pub(crate) fn label_named(word: &[u8]) -> Option<Name>
+    ensures { result ≡ (if is_label_name word.now then Some word.now else None) }
+{
+    if word.len() <= 8 {
+        Name::new(word)
+    } else {
+        None
+    }
+}
+
 /// The label that the line is, where it is one.
+#[tactic(auto, using(crate::proofs::LabelLaws::label_by))]
 pub fn label_in(text: &[u8]) -> Option<Name>
     ensures { result ≡ label_in text.now }
 {
@@ -55,8 +68,8 @@ pub fn label_in(text: &[u8]) -> Option<Name>
     match after_blanks(rest) {
         [] => None,
         [b, end @ ..] => {
-            if word.len() <= 8 && *b == b':' && is_blank_line(end) {
-                Name::new(word)
+            if *b == b':' && is_blank_line(end) {
+                label_named(word)
             } else {
                 None
             }

@@ -16,7 +16,7 @@ use Rattle.ladder_scan.specs.Routes.{Route, left_link}
 use Rattle.ladder_scan.specs.Rung.{Held, circuit, evaluated, frame_of, link_at, lower, second}
 use Rattle.ladder_scan.specs.RungByRung.{Scanned, scanned}
 use Rattle.ladder_scan.specs.Seen.{AreMarks, is_on, lets_through, mark_at, mark_in, mark_passed}
-use Rattle.ladder_scan.proofs.GateLaws.{cell_is}
+use Rattle.ladder_scan.proofs.Feeders.{cell_is}
 use Rattle.ladder_scan.proofs.Links.{column_next, first_column}
 use Rattle.ladder_power.specs.Cuts.{PowerComesByRoutes}
 use Rattle.ladder_power.specs.Ends.{any_below, any_past, any_to, is_live, is_nowhere}

@@ -15,33 +15,7 @@ use Rattle.ladder_scan.specs.Rung.{Held}
 use Rattle.ladder_scan.specs.RungByRung.{scanned}
 use Rattle.ladder_scan.specs.Scan.{given}
 use Rattle.ladder_scan.specs.Seen.{AreMarks, mark_at}
-use Rattle.ladder_scan.proofs.Marks.{marks_begun, one_sight}
-
-marks_length : (d : Diagram) (now : ℕ) (h : Held) (n : ℕ) → length (marks_below d now h n) ≡ PLACES * n
-unfolding marks_below
-marks_length d now h zero = refl
-marks_length d now h (suc n) =
-    let f = mark_of d now n (scanned d now h n) in
-    omega (arith, marks_length d now h n, length-append {A = Mark} (marks_below d now h n) (first_places f PLACES), length-first_places f PLACES)
-
-marks_there : (d : Diagram) (now : ℕ) (h : Held) (n j p : ℕ) (z : Mark) → j < n → p < PLACES
-    → get_or (marks_below d now h n) (PLACES * j + p) z ≡ mark_of d now j (scanned d now h j) p
-unfolding marks_below
-marks_there d now h zero j p z below place = absurd (omega arith)
-marks_there d now h (suc n) j p z below place =
-    let f = mark_of d now n (scanned d now h n) in
-    elim (cases_lt j n) [
-      | inl before ↦
-          get_or_append_left (marks_below d now h n) (first_places f PLACES) z (PLACES * j + p) (omega (arith, before, place, marks_length d now h n))
-          ∙ marks_there d now h n j p z before place
-      | inr past ↦
-          let here : n ≡ j = omega arith in
-          let back : PLACES * j + p - PLACES * n ≡ p = omega (arith, here) in
-          get_or-append_right (marks_below d now h n) (first_places f PLACES) (PLACES * n) (PLACES * j + p) z (marks_length d now h n) (omega (arith, here))
-          ∙ ap (λ i. get_or (first_places f PLACES) i z) back
-          ∙ first_places-at f PLACES p z place
-          ∙ ap (λ k. mark_of d now k (scanned d now h k) p) here
-    ]
+use Rattle.ladder_scan.proofs.Marks.{marks_begun, marks_length, marks_there, one_sight}
 
 -- a scan begins with the values that are given
 abbrev pub begun : Drawing → List Bool → Held → Held

@@ -21,7 +21,7 @@ use Rattle.ladder_scan.specs.Gating.{among, changes_of, AreLinks}
 use Rattle.ladder_scan.specs.Scan.{next_rung}
 use Rattle.ladder_scan.proofs.Turns.{changes_more}
 use Rattle.ladder_scan.proofs.Acting.{cond_true, cond_false, all_one}
-use Rattle.ladder_scan.proofs.GateLaws.{cell_is}
+use Rattle.ladder_scan.proofs.Feeders.{cell_is}
 use Rattle.ladder_resting.specs.Resting.{UsedBy, AreUsers, AreWoken, AllRest, IsStill, Stays, IsWoken, marked, known_next, Rests}
 use Rattle.ladder_resting.proofs.Frames.{rests_on, comes_to_rest}
 use Rattle.ladder_resting.proofs.Actions.{set_quiet, undisturbed}
@@ -33,29 +33,6 @@ off_on false t f = cc
 
 set_unmarked : (rows : List (List Bool)) (xs : List Bool) (i : ℕ) (x : Bool) (j k : ℕ) → marked rows i k ≡ false → marked rows j k ≡ true → get_or (set xs i x) j false ≡ get_or xs j false
 set_unmarked rows xs i x j k off on = get_or-set_other xs i j x false (λ e. off_on (marked rows j k) on (ap (λ n. marked rows n k) e ∙ off))
-
-pub coil_woken : (u : UsedBy) (h g : Held) (i : ℕ) (x : Bool) (old new : List (Option ℕ)) → g.values ≡ set h.values i x → g.kept.blocks ≡ h.kept.blocks
-    → IsWoken u.variables i old new → AreWoken u h g old new
-coil_woken u h g i x old new v b w = record {
-  known = λ j n k. (w j n k).0;
-  variables = λ j n m k on. ap (λ xs. get_or xs m false) v ∙ set_unmarked u.variables h.values i x m j (w j n k).1 on;
-  outputs = λ j n m k on. ap (λ bs. get_or (map q_of bs) m false) b;
-}
-
-pub coil_quiet : (u : UsedBy) (h g : Held) (i : ℕ) (x : Bool) (next : List (Option ℕ)) → g.values ≡ set h.values i x → g.kept.blocks ≡ h.kept.blocks
-    → get_or g.values i false ≡ get_or h.values i false → AreWoken u h g next next
-coil_quiet u h g i x next v b e = record {
-  known = λ j n k. k;
-  variables = λ j n m k on. ap (λ xs. get_or xs m false) v ∙ set_quiet h.values i x m false (sym (ap (λ xs. get_or xs i false) v) ∙ e);
-  outputs = λ j n m k on. ap (λ bs. get_or (map q_of bs) m false) b;
-}
-
-pub none_woken : (u : UsedBy) (h g : Held) (next : List (Option ℕ)) → g.values ≡ h.values → g.kept.blocks ≡ h.kept.blocks → AreWoken u h g next next
-none_woken u h g next v b = record {
-  known = λ j n k. k;
-  variables = λ j n m k on. ap (λ xs. get_or xs m false) v;
-  outputs = λ j n m k on. ap (λ bs. get_or (map q_of bs) m false) b;
-}
 
 q_at : (bs : List Stored) (i : ℕ) → get_or (map q_of bs) i false ≡ q_of (get_or bs i (new_block Ton))
 q_at [] i = refl

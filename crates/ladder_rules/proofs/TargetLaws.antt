@@ -1,5 +1,5 @@
 -- Where jumps lead to, as the code finds it.
-use Rattle.std.proofs.Common.{◌≡◌, ℕ, true, List, Option, Some, None, is_none, refl, sym, ap, ◌∙◌}
+use Rattle.std.proofs.Common.{◌≡◌, ℕ, List, Option, Some, None, refl, sym, ap, ◌∙◌}
 use Rattle.ladder_page.specs.declared.form.Form.{Form}
 use Rattle.ladder_page.specs.declared.form.Form.TheVariants.{Empty, Wire, Contact, Coil, Block, Lower, Jump, Return}
 use Rattle.ladder_page.specs.Gap.{Labels}
@@ -16,6 +16,3 @@ target_is labels k (Some (Block kind)) = refl
 target_is labels k (Some (Lower pin linked)) = refl
 target_is labels k (Some (Jump label)) = refl
 target_is labels k (Some Return) = refl
-
-pub target_told : (labels : Labels) (k : ℕ) (form : Option Form) (label : Option (List ℕ)) → label ≡ jump_label form → target_to labels k label ≡ target_of labels k form
-target_told labels k form label is = ap (target_to labels k) is ∙ sym (target_is labels k form)

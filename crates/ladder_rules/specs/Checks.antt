@@ -1,17 +1,16 @@
 -- Private: parts of the rules, as the code has them in functions of their own.
-use Rattle.std.specs.Prelude.{ℕ, ◌+◌, ◌-◌, ◌==◌, ◌&&◌, ◌||◌, ◌≡◌, ◌<◌, ◌≤◌, Bool, not, nat_le, List, drop, Option, Some, None, is_some, is_none, option_and_then, position, if◌then◌else◌, nat_lt}
+use Rattle.std.specs.Prelude.{ℕ, ◌+◌, ◌-◌, ◌&&◌, ◌≡◌, ◌<◌, ◌≤◌, Bool, not, nat_le, List, drop, Option, Some, None, option_and_then, position, if◌then◌else◌, nat_lt}
 use Rattle.std.specs.List.{list_any}
 use Rattle.ladder_page.specs.declared.geometry.TheConstants.{ROWS, COLUMNS, RAIL}
 use Rattle.ladder_page.specs.declared.lines.Part.{Part}
 use Rattle.ladder_page.specs.Bytes.{space}
 use Rattle.ladder_page.specs.Picture.{Lines, line_at, half_line, has_text}
-use Rattle.ladder_page.specs.Gap.{Labels, is_named, label_in, label_before}
+use Rattle.ladder_page.specs.Gap.{Labels, is_named, label_before}
 use Rattle.ladder_page.specs.declared.form.Form.{Form}
 use Rattle.ladder_page.specs.declared.form.Form.TheVariants.{Jump}
 use Rattle.ladder_page.specs.declared.picture.Half.{Half}
 use Rattle.ladder_rules.specs.declared.fault.GridRule.{GridRule}
 use Rattle.ladder_page.specs.Page.{Page}
-use Rattle.ladder_rules.specs.PageRules.{target_of}
 use Rattle.ladder_rules.specs.Rules.{HoldsBefore, IsDrawnAt, BreaksAt}
 
 -- the label of a rung

@@ -14,7 +14,8 @@ use Rattle.ladder_scan.specs.Cells.{Frame, Kept}
 use Rattle.ladder_scan.specs.Rung.{changed, changes, Held, link, second, frame_of, evaluated}
 use Rattle.ladder_scan.specs.Programs.{diagram_of}
 use Rattle.ladder_scan.specs.Gating.{IsPlaced, among, changes_of, AreLinks}
-use Rattle.ladder_scan.proofs.GateLaws.{cell_is, left_inside, below_inside}
+use Rattle.ladder_scan.proofs.Feeders.{cell_is}
+use Rattle.ladder_scan.proofs.GateLaws.{left_inside, below_inside}
 
 pub cond_true : {A : Type 0} (b : Bool) (x y : A) → b ≡ true → cond b x y ≡ x
 cond_true true x y h = refl

@@ -1,6 +1,5 @@
 -- The gates of a rung find the left links of its cells, over any signal and from its laws alone.
-use Rattle.std.proofs.Common.{◌≡◌, ℕ, ◌+◌, ◌-◌, ◌*◌, ◌/◌, ◌%◌, ◌<◌, ◌≤◌, ◌&&◌, ◌||◌, Bool, true, false, cond, List, [], ◌∷◌, ◌++◌, All, get_or, set, drop, length, zero, suc, nat_eq, nat_lt, refl, sym, ap, ap₂, subst, ◌∙◌, arith, get_or-set_other, get_or-set_same, length-set, inl, inr}
-use Rattle.std.proofs.lemmas.Bool.Decides.{nat_tests}
+use Rattle.std.proofs.Common.{◌≡◌, ℕ, ◌+◌, ◌-◌, ◌*◌, ◌/◌, ◌%◌, ◌<◌, ◌≤◌, ◌&&◌, Bool, true, false, cond, List, [], ◌∷◌, ◌++◌, All, get_or, set, drop, length, zero, suc, nat_eq, nat_lt, refl, sym, ap, ap₂, subst, ◌∙◌, arith, get_or-set_other, get_or-set_same, length-set, inl, inr}
 use Rattle.std.proofs.lemmas.Bool.{cases_eq, cases_Bool}
 use Rattle.std.proofs.lemmas.List.{drop_more, drop_all}
 use Rattle.std.proofs.lemmas.List.Elements.{All-append, All-nil}
@@ -16,16 +15,16 @@ use Rattle.ladder_grid.specs.declared.cell.Cell.TheVariants.{Empty, Wire, Contac
 use Rattle.ladder_grid.specs.declared.gates.Gate.{Gate}
 use Rattle.ladder_grid.specs.declared.gates.Literal.TheVariants.{Is, Not, Other}
 use Rattle.ladder_grid.specs.Program.{Drawing, feeds, cell_of, is_block, is_linked}
-use Rattle.ladder_grid.specs.Gates.{literal_on, literal_of, last_of, last_feeder, left_of, other_of, below_of, gate_at, feeds_on, has_gate, gates_before, gates_of}
+use Rattle.ladder_grid.specs.Gates.{literal_on, literal_of, last_of, left_of, other_of, below_of, gate_at, feeds_on, has_gate, gates_before, gates_of}
 use Rattle.ladder_elements.specs.Algebra.{Algebra, LatticeLaws}
 use Rattle.ladder_scan.specs.Routes.{left_link}
 use Rattle.ladder_scan.specs.Cells.{Diagram, Frame, Kept, q_here}
-use Rattle.ladder_scan.specs.Rung.{second, lower, circuit, link}
-use Rattle.ladder_scan.specs.Programs.{cell_at, diagram_of}
+use Rattle.ladder_scan.specs.Rung.{lower, circuit}
+use Rattle.ladder_scan.specs.Programs.{diagram_of}
 use Rattle.ladder_scan.specs.Gating.{join_where, own, through, is_other, let_through, passed, ran, IsInside, AreLinks, AreValues}
-use Rattle.ladder_scan.proofs.Groups.{fed_on, group}
 use Rattle.ladder_scan.proofs.Values.{left_value}
-use Rattle.ladder_scan.proofs.Links.{column_next, first_column, fed_same, either_value, closed-value, q-value}
+use Rattle.ladder_scan.proofs.Links.{column_next, first_column, either_value, closed-value, q-value}
+use Rattle.ladder_scan.proofs.Feeders.{Feeding, fed_more, fed_without, left_is, other_is, below_is, second_is, cond_true, cond_false, either_test, on_off, less_is, place_is, both_true, cell_is}
 
 -- ---- one turn of the loop
 pub run_more : {S : Type 0} (o : Algebra S) (d : Diagram) (k : Kept) (now j : ℕ) (f : Frame S) (links next : List S) (gs : List Gate) (i : ℕ) (g : Gate)
@@ -41,45 +40,6 @@ unfolding ran
 run_end o d k now j f links gs i h = ap (λ xs. ran o d k now j f xs links) (drop_all i gs h)
 
 pub ruleset run_step = (run_more, run_end)
-
--- ---- numbers and tests
-pub cond_true : {A : Type 0} (b : Bool) (x y : A) → b ≡ true → cond b x y ≡ x
-cond_true true x y h = refl
-cond_true false x y h = cc
-
-pub cond_false : {A : Type 0} (b : Bool) (x y : A) → b ≡ false → cond b x y ≡ y
-cond_false false x y h = refl
-cond_false true x y h = cc
-
-pub either_test : (a b : Bool) → (a || b) ≡ false → (a ≡ false) × (b ≡ false)
-either_test false false h = (refl, refl)
-either_test false true h = cc
-either_test true b h = cc
-
-pub on_off : (b : Bool) → b ≡ true → b ≡ false → ⊥
-on_off true h k = cc
-on_off false h k = cc
-
-pub same_number : (a b : ℕ) → nat_eq a b ≡ true → a ≡ b
-same_number a b h = grind (arith, nat_tests)
-
-pub is_less : (a b : ℕ) → a < b → nat_lt a b ≡ true
-is_less a b h = grind (arith, nat_tests)
-
-pub less_is : (a b : ℕ) → nat_lt a b ≡ true → a < b
-less_is a b h = grind (arith, nat_tests)
-
-pub the_column : (column row : ℕ) → row < ROWS → (ROWS * column + row) / ROWS ≡ column
-the_column column row h = omega arith
-
-pub the_row : (column row : ℕ) → row < ROWS → (ROWS * column + row) % ROWS ≡ row
-the_row column row h = omega arith
-
-pub place_is : (e : ℕ) → ROWS * (e / ROWS) + e % ROWS ≡ e
-place_is e = omega arith
-
-pub row_small : (e : ℕ) → e % ROWS < ROWS
-row_small e = omega arith
 
 -- ---- where the links of gates are
 last_inside : (f : ℕ → Bool) (base n : ℕ) → base + n ≤ PLACES → last_of f base n < OWN
@@ -101,11 +61,6 @@ other_inside : (p : Drawing) (rung e : ℕ) → e < PLACES → other_of p rung e
 other_inside p rung e h =
     either_inside (nat_lt (e / ROWS + 1) COLUMNS) _ OFF
     (λ t. let k : e / ROWS + 1 < COLUMNS = less_is _ _ t in last_inside (feeds p rung (e % ROWS) (e / ROWS + 1)) (ROWS * (e / ROWS + 1 - 1)) (e % ROWS) (omega arith)) (omega arith)
-
-pub both_true : (a b : Bool) → (a && b) ≡ true → (a ≡ true) × (b ≡ true)
-both_true true true h = (refl, refl)
-both_true true false h = cc
-both_true false b h = cc
 
 pub below_inside : (p : Drawing) (rung e : ℕ) → e < PLACES → below_of p rung e < OWN
 below_inside p rung e h =
@@ -129,24 +84,6 @@ pub gates_inside : (p : Drawing) (rung : ℕ) → All IsInside (gates_of p rung)
 unfolding gates_of
 gates_inside p rung = inside_before p rung PLACES (omega arith)
 
--- ---- the diagram of a drawing
-pub cell_is : (p : Drawing) (j place : ℕ) → place < PLACES → (diagram_of p).cell j place ≡ cell_of p j place
-unfolding diagram_of
-cell_is p j place h = cond_true (nat_lt place PLACES) (cell_of p j place) Empty (is_less place PLACES h)
-
-pub feeds_is : (p : Drawing) (j row column q : ℕ) → (diagram_of p).feeds j row column q ≡ feeds p j row column q
-unfolding diagram_of
-feeds_is p j row column q = refl
-
-pub linked_is : (p : Drawing) (j e : ℕ) → e < PLACES → (diagram_of p).linked j e ≡ (nat_lt (e % ROWS + 1) ROWS && is_linked (cell_of p j (e + 1)))
-unfolding diagram_of
-linked_is p j e h = elim (cases_Bool (nat_lt (e % ROWS + 1) ROWS)) [
-  | inl t ↦
-      let k : e % ROWS + 1 < ROWS = less_is _ _ t in
-      ap (λ (c : Cell). nat_lt (e % ROWS + 1) ROWS && is_linked c) (cond_true (nat_lt (e + 1) PLACES) (cell_of p j (e + 1)) Empty (is_less (e + 1) PLACES (omega arith)))
-  | inr t ↦ ap (λ b. b && is_linked (cell_at p j (e + 1))) t ∙ sym (ap (λ b. b && is_linked (cell_of p j (e + 1))) t)
-]
-
 -- ON and OFF are where the gates look for them.
 pub record AreRailed {S : Type 0} (o : Algebra S) (R : List S) : Type 0 where
   pub long : length R ≡ LINKS
@@ -168,15 +105,8 @@ module _ {S : Type 0} (o : Algebra S) (V : S → Type 0) (l : LatticeLaws S V o)
   abbrev right : ℕ → ℕ → S
   right column q = own o (diagram_of p) k now f (cl (ROWS * column + q)) (lk q column) (low column q)
 
-  -- the OR of what comes from the rows above into the group on the right
-  abbrev above : ℕ → ℕ → S
-  above column row = cond (nat_lt (column + 1) COLUMNS) (join_where o (feeds p j row (column + 1)) (right column) row) (o.known false)
-
   abbrev here : ℕ → S
   here e = right (e / ROWS) (e % ROWS)
-
-  abbrev want : ℕ → S
-  want e = o.join (here e) (above (e / ROWS) (e % ROWS))
 
   lk_value : (row column : ℕ) → V (lk row column)
   lk_value row column = left_value o V l (diagram_of p) k now j f vs row column
@@ -189,11 +119,6 @@ module _ {S : Type 0} (o : Algebra S) (V : S → Type 0) (l : LatticeLaws S V o)
       either_value o V l (is_block (cl (ROWS * column + q))) _ _
       (q-value o V l (diagram_of p) k now (cl (ROWS * column + q)) _ _ (lk_value q column) (low_value column q))
       (l.meet_value _ _ (lk_value q column) (closed-value o V l f vs _ (l.known_value _) (cl (ROWS * column + q))))
-
-  joined_value : (t : ℕ → Bool) (g : ℕ → S) (n : ℕ) → ((q : ℕ) → V (g q)) → V (join_where o t g n)
-  unfolding join_where
-  joined_value t g zero h = l.known_value false
-  joined_value t g (suc n) h = either_value o V l (t n) _ _ (l.join_value _ _ (joined_value t g n h) (h n)) (joined_value t g n h)
 
   -- ---- what a gate lets through is what its cell does
   contact_through : (mode : Mode) (operand : Operand) (memory : _) (x y : S) → through o (diagram_of p) k now f (literal_on mode operand) (Contact mode operand memory) x y ≡ own o (diagram_of p) k now f (Contact mode operand memory) x y
@@ -232,102 +157,25 @@ module _ {S : Type 0} (o : Algebra S) (V : S → Type 0) (l : LatticeLaws S V o)
   block_other Return h = cc
 
   -- ---- links so far
-  -- The gates of the cells before place n gave what they must.
+  first : (e : ℕ) → e < ROWS → lk (e % ROWS) (e / ROWS) ≡ o.known true
+  first e h = first_column o V l (diagram_of p) k now j f vs e h
+
+  next : (row column : ℕ) → lk row (suc column) ≡ join_where o ((diagram_of p).feeds j row (suc column)) (right column) ROWS
+  next row column = column_next o V l (diagram_of p) k now j f vs row column
+
+  -- The gates of the cells before place n gave what they must, those of blocks also by themselves.
   record Good (n : ℕ) (R : List S) : Type 0 where
-    long : length R ≡ LINKS
-    on : get_or R ON (o.known false) ≡ o.known true
-    off : get_or R OFF (o.known false) ≡ o.known false
-    fed : (e : ℕ) → e < n → feeds_on p j e ≡ true → get_or R e (o.known false) ≡ want e
+    feeding : Feeding o p j right n R
     alone : (e : ℕ) → e < n → is_block (cl e) ≡ true → get_or R (OWN + e) (o.known false) ≡ here e
-
-  want_is : (column q : ℕ) → column + 1 < COLUMNS → q < ROWS → want (ROWS * column + q) ≡ o.join (right column q) (join_where o (feeds p j q (column + 1)) (right column) q)
-  want_is column q c h =
-      ap₂ (λ a b. o.join (right a b) (above a b)) (the_column column q h) (the_row column q h)
-      ∙ ap (o.join (right column q)) (cond_true (nat_lt (column + 1) COLUMNS) _ _ (is_less (column + 1) COLUMNS c))
-
-  feeds_there : (row column q : ℕ) → row < ROWS → column + 1 < COLUMNS → q < ROWS → feeds p j row (column + 1) q ≡ true → feeds_on p j (ROWS * column + q) ≡ true
-  feeds_there row column q r c h fed =
-      ap₂ (λ a b. nat_lt (a + 1) COLUMNS && feeds p j b (a + 1) b) (the_column column q h) (the_row column q h)
-      ∙ ap (λ b. b && feeds p j q (column + 1) q) (is_less (column + 1) COLUMNS c)
-      ∙ fed_on p j column row q r h fed
-
-  -- The last of the first n rows that feeds a cell has the OR over these rows.
-  at_last : (row column n : ℕ) → row < ROWS → column + 1 < COLUMNS → n ≤ ROWS → (m : ℕ) → ROWS * column + n ≤ m → (R : List S) → Good m R
-      → get_or R (last_of (feeds p j row (column + 1)) (ROWS * (column + 1 - 1)) n) (o.known false) ≡ join_where o (feeds p j row (column + 1)) (right column) n
-  unfolding last_of join_where
-  at_last row column zero r c h m le R good = good.off
-  at_last row column (suc n) r c h m le R good = elim (cases_Bool (feeds p j row (column + 1) n)) [
-    | inl b ↦
-        let base : ROWS * (column + 1 - 1) + n ≡ ROWS * column + n = omega arith in
-        ap (λ e. get_or R e (o.known false)) (cond_true (feeds p j row (column + 1) n) (ROWS * (column + 1 - 1) + n) _ b)
-        ∙ ap (λ e. get_or R e (o.known false)) base
-        ∙ good.fed (ROWS * column + n) (omega arith) (feeds_there row column n r c (omega arith) b)
-        ∙ want_is column n c (omega arith)
-        ∙ ap (o.join (right column n)) (fed_same o V l (feeds p j n (column + 1)) (feeds p j row (column + 1)) (right column) (right column) n (λ q lt. group p j column row n r (omega arith) b q (omega arith)) (λ q lt t. refl))
-        ∙ l.join_comm _ _ (right_value column n) (joined_value (feeds p j row (column + 1)) (right column) n (λ q. right_value column q))
-        ∙ sym (cond_true (feeds p j row (column + 1) n) (o.join (join_where o (feeds p j row (column + 1)) (right column) n) (right column n)) _ b)
-    | inr b ↦
-        ap (λ e. get_or R e (o.known false)) (cond_false (feeds p j row (column + 1) n) (ROWS * (column + 1 - 1) + n) _ b)
-        ∙ at_last row column n r c (omega arith) m (omega arith) R good
-        ∙ sym (cond_false (feeds p j row (column + 1) n) (o.join (join_where o (feeds p j row (column + 1)) (right column) n) (right column n)) _ b)
-  ]
-
-  -- ---- what a gate looks at
-  left_is : (e : ℕ) → e < PLACES → (m : ℕ) → ROWS * (e / ROWS) ≤ m → (R : List S) → Good m R → get_or R (left_of p j e) (o.known false) ≡ lk (e % ROWS) (e / ROWS)
-  left_is e h m le R good = elim (cases_Bool (nat_eq (e / ROWS) 0)) [
-    | inl b ↦
-        let none : e / ROWS ≡ 0 = same_number (e / ROWS) 0 b in
-        ap (λ n. get_or R n (o.known false)) (cond_true (nat_eq (e / ROWS) 0) ON (last_feeder p j (e % ROWS) (e / ROWS) ROWS) b) ∙ good.on
-        ∙ sym (first_column o V l (diagram_of p) k now j f vs e (omega (arith, none)))
-    | inr b ↦
-        let some : 1 ≤ e / ROWS = grind (arith, nat_tests) in
-        let column = e / ROWS - 1 in
-        let there : column + 1 ≡ e / ROWS = omega arith in
-        let next : suc column ≡ e / ROWS = omega arith in
-        ap (λ n. get_or R n (o.known false)) (cond_false (nat_eq (e / ROWS) 0) ON (last_feeder p j (e % ROWS) (e / ROWS) ROWS) b)
-        ∙ ap (λ c. get_or R (last_feeder p j (e % ROWS) c ROWS) (o.known false)) (sym there)
-        ∙ at_last (e % ROWS) column ROWS (row_small e) (omega arith) (omega arith) m (omega arith) R good
-        ∙ ap (λ c. join_where o (feeds p j (e % ROWS) c) (right column) ROWS) (there ∙ sym next)
-        ∙ sym (fed_same o V l ((diagram_of p).feeds j (e % ROWS) (suc column)) (feeds p j (e % ROWS) (suc column)) (right column) (right column) ROWS (λ q lt. feeds_is p j (e % ROWS) (suc column) q) (λ q lt t. refl))
-        ∙ sym (column_next o V l (diagram_of p) k now j f vs (e % ROWS) column)
-        ∙ ap (λ c. lk (e % ROWS) c) next
-  ]
-
-  other_is : (e : ℕ) → e < PLACES → (R : List S) → Good e R → get_or R (other_of p j e) (o.known false) ≡ above (e / ROWS) (e % ROWS)
-  other_is e h R good = elim (cases_Bool (nat_lt (e / ROWS + 1) COLUMNS)) [
-    | inl b ↦
-        ap (λ n. get_or R n (o.known false)) (cond_true (nat_lt (e / ROWS + 1) COLUMNS) (last_feeder p j (e % ROWS) (e / ROWS + 1) (e % ROWS)) OFF b)
-        ∙ at_last (e % ROWS) (e / ROWS) (e % ROWS) (row_small e) (less_is _ _ b) (omega arith) e (omega arith) R good
-        ∙ sym (cond_true (nat_lt (e / ROWS + 1) COLUMNS) _ _ b)
-    | inr b ↦
-        ap (λ n. get_or R n (o.known false)) (cond_false (nat_lt (e / ROWS + 1) COLUMNS) (last_feeder p j (e % ROWS) (e / ROWS + 1) (e % ROWS)) OFF b)
-        ∙ good.off ∙ sym (cond_false (nat_lt (e / ROWS + 1) COLUMNS) _ _ b)
-  ]
-
-  below_is : (e : ℕ) → e < PLACES → (m : ℕ) → ROWS * (e / ROWS) ≤ m → (R : List S) → Good m R → get_or R (below_of p j e) (o.known false) ≡ lower o ((diagram_of p).linked j e) (lk (e % ROWS + 1) (e / ROWS))
-  below_is e h m le R good = elim (cases_Bool (nat_lt (e % ROWS + 1) ROWS && is_linked (cell_of p j (e + 1)))) [
-    | inl b ↦
-        let row : e % ROWS + 1 < ROWS = less_is _ _ (both_true _ _ b).0 in
-        let next_row : (e + 1) % ROWS ≡ e % ROWS + 1 = omega arith in
-        let same_column : (e + 1) / ROWS ≡ e / ROWS = omega arith in
-        ap (λ n. get_or R n (o.known false)) (cond_true _ (left_of p j (e + 1)) OFF b)
-        ∙ left_is (e + 1) (omega arith) m (omega (arith, same_column)) R good
-        ∙ ap₂ lk next_row same_column
-        ∙ sym (cond_true ((diagram_of p).linked j e) (lk (e % ROWS + 1) (e / ROWS)) (o.known false) (linked_is p j e h ∙ b))
-    | inr b ↦
-        ap (λ n. get_or R n (o.known false)) (cond_false _ (left_of p j (e + 1)) OFF b)
-        ∙ good.off
-        ∙ sym (cond_false ((diagram_of p).linked j e) (lk (e % ROWS + 1) (e / ROWS)) (o.known false) (linked_is p j e h ∙ b))
-  ]
 
   -- ---- one gate
   same_place : (e : ℕ) (g : ℕ → S) → g (ROWS * (e / ROWS) + e % ROWS) ≡ g e
   same_place e g = ap g (place_is e)
 
-  gate_is : (e : ℕ) → e < PLACES → (R : List S) → Good e R → let_through o (diagram_of p) k now j f R (gate_at p j e) ≡ here e
+  gate_is : (e : ℕ) → e < PLACES → (R : List S) → Feeding o p j right e R → let_through o (diagram_of p) k now j f R (gate_at p j e) ≡ here e
   gate_is e h R good =
       ap (λ c. through o (diagram_of p) k now f (literal_of c) (cl e) (get_or R (left_of p j e) (o.known false)) (get_or R (below_of p j e) (o.known false))) (sym (cell_is p j e h))
-      ∙ ap₂ (λ x y. through o (diagram_of p) k now f (literal_of (cl e)) (cl e) x y) (left_is e h e (omega arith) R good) (below_is e h e (omega arith) R good)
+      ∙ ap₂ (λ x y. through o (diagram_of p) k now f (literal_of (cl e)) (cl e) x y) (left_is o V l p j lk right right_value first next e h e (omega arith) R good) (below_is o V l p j lk right right_value first next e h e (omega arith) R good)
       ∙ cell_through (cl e) (lk (e % ROWS) (e / ROWS)) (lower o ((diagram_of p).linked j e) (lk (e % ROWS + 1) (e / ROWS)))
       ∙ sym (same_place e (λ i. own o (diagram_of p) k now f (cl i) (lk (e % ROWS) (e / ROWS)) (lower o ((diagram_of p).linked j i) (lk (e % ROWS + 1) (e / ROWS)))))
 
@@ -349,27 +197,23 @@ module _ {S : Type 0} (o : Algebra S) (V : S → Type 0) (l : LatticeLaws S V o)
       let x : S = let_through o (diagram_of p) k now j f R (gate_at p j e) in
       let y : S = o.join x (get_or R (other_of p j e) (o.known false)) in
       let R1 : List S = cond b (set R (OWN + e) x) R in
-      let length1 : length R1 ≡ LINKS = first_length b R e x ∙ good.long in
-      let long1 : e < length R1 = omega (arith, length1) in
-      let long : OWN + e < length R = omega (arith, good.long) in
+      let long : OWN + e < length R = omega (arith, good.feeding.long) in
+      let so_far : Feeding o p j right e R1 = record {
+        long = first_length b R e x ∙ good.feeding.long;
+        on = first_other b R e ON x (λ t. omega arith) ∙ good.feeding.on;
+        off = first_other b R e OFF x (λ t. omega arith) ∙ good.feeding.off;
+        fed = λ i lt t. first_other b R e i x (λ t. omega arith) ∙ good.feeding.fed i lt t;
+      } in
+      let given = ap₂ o.join (gate_is e h R good.feeding) (other_is o V l p j lk right right_value first next e h R good.feeding) in
       record {
-        long = length-set R1 e y ∙ length1;
-        on = get_or-set_other R1 e ON y (o.known false) (λ t. omega arith) ∙ first_other b R e ON x (λ t. omega arith) ∙ good.on;
-        off = get_or-set_other R1 e OFF y (o.known false) (λ t. omega arith) ∙ first_other b R e OFF x (λ t. omega arith) ∙ good.off;
-        fed = λ i lt t. elim (cases_eq i e) [
-          | inl same ↦
-              ap (λ n. get_or (set R1 e y) n (o.known false)) same ∙ get_or-set_same R1 e y (o.known false) long1
-              ∙ ap₂ o.join (gate_is e h R good) (other_is e h R good) ∙ ap want (sym same)
-          | inr other ↦
-              get_or-set_other R1 e i y (o.known false) other ∙ first_other b R e i x (λ t. omega arith) ∙ good.fed i (omega (arith, other)) t
-        ];
+        feeding = fed_more o p j right e h R1 so_far y given;
         alone = λ i lt t. elim (cases_eq i e) [
           | inl same ↦
               let block : is_block (cl e) ≡ true = ap (λ n. is_block (cl n)) (sym same) ∙ t in
               ap (λ n. get_or (set R1 e y) (OWN + n) (o.known false)) same
               ∙ get_or-set_other R1 e (OWN + e) y (o.known false) (λ t. omega arith)
               ∙ first_same b R e x (ap (λ c. is_other (literal_of c)) (sym (cell_is p j e h)) ∙ block_other (cl e) block) long
-              ∙ gate_is e h R good ∙ ap here (sym same)
+              ∙ gate_is e h R good.feeding ∙ ap here (sym same)
           | inr other ↦
               get_or-set_other R1 e (OWN + i) y (o.known false) (λ t. omega arith) ∙ first_other b R e (OWN + i) x (λ t. omega (arith, other)) ∙ good.alone i (omega (arith, other)) t
         ];
@@ -379,13 +223,7 @@ module _ {S : Type 0} (o : Algebra S) (V : S → Type 0) (l : LatticeLaws S V o)
   no_gate e h none R good =
       let w = either_test (is_block (cell_of p j e)) (feeds_on p j e) none in
       record {
-        long = good.long;
-        on = good.on;
-        off = good.off;
-        fed = λ i lt t. elim (cases_eq i e) [
-          | inl same ↦ absurd (on_off (feeds_on p j i) t (ap (feeds_on p j) same ∙ w.1))
-          | inr other ↦ good.fed i (omega (arith, other)) t
-        ];
+        feeding = fed_without o p j right e w.1 R good.feeding;
         alone = λ i lt t. elim (cases_eq i e) [
           | inl same ↦ absurd (on_off (is_block (cl i)) t (ap (λ n. is_block (cl n)) same ∙ ap is_block (cell_is p j e h) ∙ w.0))
           | inr other ↦ good.alone i (omega (arith, other)) t
@@ -400,7 +238,7 @@ module _ {S : Type 0} (o : Algebra S) (V : S → Type 0) (l : LatticeLaws S V o)
   all_good : (n : ℕ) → n ≤ PLACES → (R : List S) → length R ≡ LINKS → get_or R ON (o.known false) ≡ o.known true → get_or R OFF (o.known false) ≡ o.known false
       → Good n (ran o (diagram_of p) k now j f (gates_before p j n) R)
   unfolding gates_before ran
-  all_good zero h R long on off = record { long = long; on = on; off = off; fed = λ e lt t. absurd (omega arith); alone = λ e lt t. absurd (omega arith) }
+  all_good zero h R long on off = record { feeding = record { long = long; on = on; off = off; fed = λ e lt t. absurd (omega arith) }; alone = λ e lt t. absurd (omega arith) }
   all_good (suc n) h R long on off =
       let before = all_good n (omega arith) R long on off in
       elim (cases_Bool (has_gate p j n)) [
@@ -410,29 +248,19 @@ module _ {S : Type 0} (o : Algebra S) (V : S → Type 0) (l : LatticeLaws S V o)
       ]
 
   -- ---- all gates
-  second_is : (e : ℕ) → e < PLACES → second o (diagram_of p) j (link o (diagram_of p) k now j f) e ≡ lower o ((diagram_of p).linked j e) (lk (e % ROWS + 1) (e / ROWS))
-  second_is e h = elim (cases_Bool ((diagram_of p).linked j e)) [
-    | inl b ↦
-        let row : e % ROWS + 1 < ROWS = less_is _ _ (both_true _ _ (sym (linked_is p j e h) ∙ b)).0 in
-        let next_row : (e + 1) % ROWS ≡ e % ROWS + 1 = omega arith in
-        let same_column : (e + 1) / ROWS ≡ e / ROWS = omega arith in
-        ap (lower o ((diagram_of p).linked j e)) (ap₂ lk next_row same_column)
-    | inr b ↦ cond_false ((diagram_of p).linked j e) _ (o.known false) b ∙ sym (cond_false ((diagram_of p).linked j e) _ (o.known false) b)
-  ]
-
   pub links_are : (R : List S) → length R ≡ LINKS → get_or R ON (o.known false) ≡ o.known true → get_or R OFF (o.known false) ≡ o.known false
       → AreLinks o p k now j f (ran o (diagram_of p) k now j f (gates_of p j) R)
   unfolding gates_of
   links_are R long on off =
       let good = all_good PLACES (omega arith) R long on off in
       record {
-        left = λ e h. left_is e h PLACES (omega arith) _ good;
-        below = λ e h. below_is e h PLACES (omega arith) _ good ∙ sym (second_is e h);
+        left = λ e h. left_is o V l p j lk right right_value first next e h PLACES (omega arith) _ good.feeding;
+        below = λ e h. below_is o V l p j lk right right_value first next e h PLACES (omega arith) _ good.feeding ∙ sym (second_is o V l p j lk right right_value first next e h);
         own = λ e h block.
             good.alone e h block
             ∙ same_place e (λ i. own o (diagram_of p) k now f (cl i) (lk (e % ROWS) (e / ROWS)) (lower o ((diagram_of p).linked j i) (lk (e % ROWS + 1) (e / ROWS))))
             ∙ cond_true (is_block (cl e)) _ _ block
-            ∙ ap (q_here o (diagram_of p) k now (cl e) (lk (e % ROWS) (e / ROWS))) (sym (second_is e h));
+            ∙ ap (q_here o (diagram_of p) k now (cl e) (lk (e % ROWS) (e / ROWS))) (sym (second_is o V l p j lk right right_value first next e h));
       }
 
   -- the gates leave the rails as they are
@@ -440,4 +268,4 @@ module _ {S : Type 0} (o : Algebra S) (V : S → Type 0) (l : LatticeLaws S V o)
   unfolding gates_of
   rails_stay R rails =
       let good = all_good PLACES (omega arith) R rails.long rails.on rails.off in
-      record { long = good.long; on = good.on; off = good.off }
+      record { long = good.feeding.long; on = good.feeding.on; off = good.feeding.off }

@@ -7,6 +7,7 @@ pub mod Turns
 pub mod Links
 pub mod Sound
 pub mod Groups
+pub mod Feeders
 pub mod GateLaws
 pub mod Acting
 pub mod Exits

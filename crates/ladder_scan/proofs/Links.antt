@@ -17,12 +17,6 @@ use Rattle.ladder_scan.specs.Rung.{lower, circuit, link}
 use Rattle.ladder_scan.specs.Gating.{join_where, AreValues}
 use Rattle.ladder_scan.proofs.Flow.{left_link-next}
 
-the_column : (row column : ℕ) → row < ROWS → (ROWS * column + row) / ROWS ≡ column
-the_column row column h = omega arith
-
-the_row : (row column : ℕ) → row < ROWS → (ROWS * column + row) % ROWS ≡ row
-the_row row column h = omega arith
-
 no_column : (e : ℕ) → e < ROWS → e / ROWS ≡ 0
 no_column e h = omega arith
 

@@ -69,14 +69,14 @@ marks_seen d now h j le =
     ap (marks_below d now h) (add-one j)
     ∙ ap (λ b. marks_below d now h j ++ by_case d now j (scanned d now h j) b) (is_not_less j _ le)
 
-marks_length : (d : Diagram) (now : ℕ) (h : Held) (n : ℕ) → length (marks_below d now h n) ≡ PLACES * n
+pub marks_length : (d : Diagram) (now : ℕ) (h : Held) (n : ℕ) → length (marks_below d now h n) ≡ PLACES * n
 unfolding marks_below
 marks_length d now h zero = refl
 marks_length d now h (suc n) =
     let f = mark_of d now n (scanned d now h n) in
     omega (arith, marks_length d now h n, length-append {A = Mark} (marks_below d now h n) (first_places f PLACES), length-first_places f PLACES)
 
-marks_there : (d : Diagram) (now : ℕ) (h : Held) (n j p : ℕ) (z : Mark) → j < n → p < PLACES
+pub marks_there : (d : Diagram) (now : ℕ) (h : Held) (n j p : ℕ) (z : Mark) → j < n → p < PLACES
     → get_or (marks_below d now h n) (PLACES * j + p) z ≡ mark_of d now j (scanned d now h j) p
 unfolding marks_below
 marks_there d now h zero j p z below place = absurd (omega arith)

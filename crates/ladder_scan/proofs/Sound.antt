@@ -15,7 +15,7 @@ use Rattle.ladder_grid.specs.Program.{Drawing, cell_of, goes_to, jump_of, memory
 use Rattle.ladder_scan.specs.Laws.{Once, Forward}
 use Rattle.ladder_scan.specs.Programs.{cell_at, diagram_of, is_filled, IsSound}
 use Rattle.ladder_grid.proofs.JumpLaws.{jump_placed}
-use Rattle.ladder_scan.proofs.GateLaws.{both_true, cell_is}
+use Rattle.ladder_scan.proofs.Feeders.{both_true, cell_is}
 
 off_on : false ≡ true → ⊥
 off_on h = cc

@@ -25,7 +25,7 @@ fn give_leading<S: Operations>(inputs: &[S], values: &mut [S])
 
 /// Gives the input variables their values, in order of declaration. Where the inputs are declared first, as they mostly
 /// are, this is one copy.
-pub(crate) fn give<S: Operations>(decls: &Decls, inputs: &[S], values: &mut [S])
+pub fn give<S: Operations>(decls: &Decls, inputs: &[S], values: &mut [S])
     ensures { values.new ≡ given (map is_input decls.now.vars) inputs.now values.old }
 {
     if inputs.len() <= values.len() && inputs.len() <= decls.leading_inputs() {

@@ -1,11 +1,11 @@
 //! The scan of a ladder diagram: how power flows through a rung, what its cells do, and what one scan leaves.
 //!
-//! The modules `effects`, `gates`, `scene`, `signals` and `storage` are public for looks, which evaluate the same cells over any signal.
+//! The modules `effects`, `gates`, `inputs`, `scene`, `signals` and `storage` are public for looks, which evaluate the same cells over any signal.
 #![tactic(auto)]
 
 pub mod effects;
 pub mod gates;
-mod inputs;
+pub mod inputs;
 pub mod laws;
 mod memory;
 pub mod scanning;

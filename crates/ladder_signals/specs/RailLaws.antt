@@ -26,9 +26,6 @@ picked_lt c d x y hx hy =
 picked_bit : (c d x y i : ℕ) → bit_at (picked c d x y) i ≡ max (max (min (bit_at c i) (bit_at x i)) (min (bit_at d i) (bit_at y i))) (min (bit_at x i) (bit_at y i))
 picked_bit c d x y i = simp (bit_at_or, bit_at_and) refl
 
-both : (a b c d : ℕ) → a ≡ c → b ≡ d → lanes a b ≡ lanes c d
-both a b c d e f = ap₂ lanes e f
-
 -- ---- the values
 apart_join : (a b c d m n : ℕ) → m ≡ max a c → n ≡ min b d → a + b ≤ 1 → c + d ≤ 1 → m + n ≤ 1
 apart_join a b c d m n e f h k = omega arith
@@ -346,21 +343,6 @@ opened_rails u s = elim (nat_lt s u) as (λ c. IsRails (if c then lanes 0 0 else
   | true ↦ lanes_by false false false false false
   | false ↦ open_rails (s - u)
 ]
-
-same_tri : (t u : Tri) → on_digit t ≡ on_digit u → off_digit t ≡ off_digit u → t ≡ u
-same_tri On On h k = refl
-same_tri On Off h k = absurd (omega (arith, h))
-same_tri On Unsure h k = absurd (omega (arith, h))
-same_tri Off On h k = absurd (omega (arith, h))
-same_tri Off Off h k = refl
-same_tri Off Unsure h k = absurd (omega (arith, k))
-same_tri Unsure On h k = absurd (omega (arith, h))
-same_tri Unsure Off h k = absurd (omega (arith, k))
-same_tri Unsure Unsure h k = refl
-
--- in a lane stands one value
-pub same_lane : (p : ℕ) (x : Lanes) (t u : Tri) → InLane p x t → InLane p x u → t ≡ u
-same_lane p x t u a b = same_tri t u (sym a.0 ∙ b.0) (sym a.1 ∙ b.1)
 
 pub rails_choice_known : (c : Lanes) (b : Bool) → IsRails c → rails.choice c (rails.known b) (rails.known b) ≡ rails.known b
 rails_choice_known c b v = rails_lattice.choice_equal c (rails.known b) v (rails_lattice.known_value b)

@@ -30,11 +30,6 @@ same-true Unsure On h = cc
 same-true Unsure Off h = cc
 same-true Unsure Unsure h = refl
 
-by1 : (f g : Tri → Tri) → f On ≡ g On → f Off ≡ g Off → f Unsure ≡ g Unsure → (x : Tri) → f x ≡ g x
-by1 f g a b c On = a
-by1 f g a b c Off = b
-by1 f g a b c Unsure = c
-
 abbrev each : (Tri → Bool) → Bool
 each f = f On && (f Off && f Unsure)
 

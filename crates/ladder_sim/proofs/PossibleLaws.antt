@@ -17,15 +17,6 @@ use Rattle.ladder_sim.specs.PossibleRows.{AddedRows, AddsRows, row_lines}
 use Rattle.ladder_sim.specs.PossibleText.{Gave, IsCount, possible_record}
 use Rattle.ladder_sim.specs.declared.possible_text.PossibleSummary.{PossibleSummary}
 
--- before the first row
-pub none_added : (a : WriteLog) (w : List ℕ) (c : PossibleCursor) → AddedRows a a w w c c (record { rows = 0; unsettled = 0 })
-none_added a w c = record {
-  rows = [];
-  gave = record { later = omega arith; rows_are = no_rows c.program c.coil c.listed c.states c.claim c.from; same = refl };
-  sends = sends_none a w;
-  counts = (refl, refl);
-}
-
 one_line : (c : PossibleCursor) (rows : List PossibleCause) (row : PossibleCause)
     → row_lines c (rows ++ row ∷ []) ≡ row_lines c rows ++ line_text (possible_record (length c.listed) row)
 one_line c rows row =
@@ -66,17 +57,6 @@ more_added a b z w0 w1 w2 c d e s row n added gives sent one = record {
   sends = sends_same a z w0 w2 (row_lines c added.rows ++ line_text (possible_record (length c.listed) row)) (row_lines c (added.rows ++ row ∷ []))
       (sym (one_line c added.rows row)) (sends_more a b z w0 w1 w2 (row_lines c added.rows) _ added.sends sent);
   counts = counted_more added.rows row s n added.counts one;
-}
-
--- The limit is reached.
-pub ends_at_limit : (a b : WriteLog) (w0 w1 : List ℕ) (c d : PossibleCursor) (s : PossibleSummary) (limit : Option ℕ) → AddedRows a b w0 w1 c d s → limit ≡ Some s.rows
-    → AddsRows a b w0 w1 c d limit (Ok s)
-ends_at_limit a b w0 w1 c d s limit added reached = record {
-  rows = added.rows;
-  gave = added.gave;
-  sends = added.sends;
-  counts = added.counts;
-  all = inr (reached ∙ ap (λ n. Some n) added.counts.0);
 }
 
 -- Each further number is denied.

@@ -14,7 +14,7 @@ use Rattle.std.proofs.Math.Seq.{take-append-add}
 use borrow.Rule.Slice.PartMut.{put_mid, post_of}
 use Rattle.ladder_search.specs.Marked.{marked}
 use Rattle.ladder_search.proofs.Bits.{all_marked, all_unmarked, bit_shifted, lowest}
-use Rattle.ladder_search.proofs.Marks.{filter_cut, filter_front, filter_same, high_zero, is_marked, lowest_marked, marked_ones, not_marked, without_lowest}
+use Rattle.ladder_search.proofs.Marks.{filter_cut, filter_front, filter_same, high_zero, is_marked, lowest_marked, marked_ones, marked_parts, not_marked, without_lowest}
 use Rattle.ladder_sim.specs.CauseText.{cause_record}
 use Rattle.ladder_sim.specs.Rows.{row, rows}
 use Rattle.ladder_text.specs.Block.{Sends, SendsAll}
@@ -23,15 +23,6 @@ use Rattle.ladder_records.specs.Text.{lines_text}
 use Rattle.ladder_records.proofs.Commas.{lines_text-append}
 use Rattle.ladder_text.proofs.Puts.{puts_none}
 use Rattle.ladder_text.proofs.Sending.{sends_more, sends_none, sends_prefix, sends_same}
-
--- what a buffer held is handed to the block
-pub handed : {T E : Type 0} (a b : WriteLog) (w0 w1 held : List ℕ) (r : Result T E) → Sends a b w0 w1 r held → Sends a b (w0 ++ held) (w1 ++ []) r []
-handed a b w0 w1 held (Ok x) p = record {
-  sent = p.sent;
-  cut = append-nil (w0 ++ held) ∙ p.cut ∙ ap (λ ys. p.sent ++ ys) (sym (append-nil w1));
-  wrote = p.wrote;
-}
-handed a b w0 w1 held (Err x) p = subst (λ ys. PutsPrefix a b ys) (sym (append-nil (w0 ++ held))) p
 
 -- a text that a buffer takes
 pub buffered : (a : WriteLog) (w held text : List ℕ) → SendsAll a a (w ++ held) (w ++ (held ++ text)) text
@@ -76,9 +67,6 @@ pub record Sent (a b : WriteLog) (waited waits whole left : List ℕ) : Type 0 w
   pub split : whole ≡ done ++ left
   pub sent : SendsAll a b waited waits done
 
-pub sent_none : (a : WriteLog) (w whole : List ℕ) → Sent a a w w whole whole
-sent_none a w whole = record { done = []; split = refl; sent = sends_none a w }
-
 pub sent_more : (a b c : WriteLog) (w0 w1 w2 whole left more rest : List ℕ) → Sent a b w0 w1 whole left → left ≡ more ++ rest → SendsAll b c w1 w2 more → Sent a c w0 w2 whole rest
 sent_more a b c w0 w1 w2 whole left more rest so_far e sent = record {
   done = so_far.done ++ more;
@@ -101,30 +89,6 @@ lowest_of number mask t some fits e =
     subst (λ (n : ℕ). Lowest number mask n) (sym e) l
 
 -- ---- a mask in two parts
-pub marked_parts : (number mask low c : ℕ) → c ≤ 64 → mask < 2 ^ 64 → ((j : ℕ) → j < c → bit_at low j ≡ bit_at mask j) → ((j : ℕ) → c ≤ j → bit_at low j ≡ 0)
-    → marked number mask ≡ marked number low ++ marked (number + c) (mask / 2 ^ c)
-unfolding marked
-marked_parts number mask low c small fits kept gone =
-    let p = is_marked number mask in
-    let q = is_marked number low in
-    let r = is_marked (number + c) (mask / 2 ^ c) in
-    let split : 64 ≡ c + (64 - c) = omega (arith, small) in
-    let other : 64 ≡ (64 - c) + c = omega (arith, small) in
-    let front : filter p (range_with_len number c) ≡ marked number low =
-    filter_same p q number c (λ i a b. ap (λ x. x == 1) (sym (kept (i - number) (omega (arith, a, b)))))
-    ∙ sym (ap (λ n. filter q (range_with_len number n)) split ∙ filter_front q number c (64 - c) (λ i a b. not_marked number low i (gone (i - number) (omega (arith, a))))) in
-    let back : filter p (range_with_len (number + c) (64 - c)) ≡ marked (number + c) (mask / 2 ^ c) =
-    filter_same p r (number + c) (64 - c) (λ i a b. ap (λ x. x == 1) (sym (bit_shifted mask c (i - (number + c)) ∙ ap (bit_at mask) (place i a))))
-    ∙ sym (ap (λ n. filter r (range_with_len (number + c) n)) other
-    ∙ filter_front r (number + c) (64 - c) c (λ i a b. not_marked (number + c) (mask / 2 ^ c) i
-    (bit_shifted mask c (i - (number + c)) ∙ high_zero mask (i - (number + c) + c) fits (omega (arith, a, small))))) in
-    ap (λ n. filter p (range_with_len number n)) split ∙ filter_cut p number c (64 - c)
-    ∙ ap (λ xs. xs ++ filter p (range_with_len (number + c) (64 - c))) front
-    ∙ ap (λ xs. marked number low ++ xs) back
-  where
-    place : (i : ℕ) → number + c ≤ i → i - (number + c) + c ≡ i - number
-    place i h = omega (arith, h)
-
 pub rows_parts : (k number mask low place c : ℕ) → c ≤ 64 → mask < 2 ^ 64 → ((j : ℕ) → j < c → bit_at low j ≡ bit_at mask j) → ((j : ℕ) → c ≤ j → bit_at low j ≡ 0)
     → rows k (marked (number + place) mask) ≡ rows k (marked (number + place) low) ++ rows k (marked (number + (place + c)) (mask / 2 ^ c))
 rows_parts k number mask low place c small fits kept gone =
@@ -170,20 +134,3 @@ some_marked number mask some fits =
     ]
 
 -- ---- a buffer that was empty before and is so after
-emptied : (w held : List ℕ) → held ≡ [] → w ++ held ≡ w
-emptied w held e = ap (λ ys. w ++ ys) e ∙ append-nil w
-
-pub from_empty : (a b : WriteLog) (w held text : List ℕ) → held ≡ [] → PutsPrefix a b ((w ++ held) ++ text) → PutsPrefix a b (w ++ text)
-from_empty a b w held text e p = subst (λ ys. PutsPrefix a b (ys ++ text)) (emptied w held e) p
-
-pub handed_all : (a b c : WriteLog) (w0 held0 w1 held1 w2 held2 text : List ℕ) → held0 ≡ [] → held2 ≡ [] → SendsAll a b (w0 ++ held0) (w1 ++ held1) text
-    → SendsAll b c (w1 ++ held1) (w2 ++ held2) [] → SendsAll a c w0 w2 text
-handed_all a b c w0 held0 w1 held1 w2 held2 text none gone p q =
-    subst (λ ys. SendsAll a c w0 ys text) (emptied w2 held2 gone)
-    (subst (λ ys. SendsAll a c ys (w2 ++ held2) text) (emptied w0 held0 none)
-    (sends_same a c (w0 ++ held0) (w2 ++ held2) (text ++ []) text (append-nil text) (sends_more a b c (w0 ++ held0) (w1 ++ held1) (w2 ++ held2) text [] p q)))
-
-pub handed_prefix : (a b c : WriteLog) (w0 held0 w1 held1 text : List ℕ) → held0 ≡ [] → SendsAll a b (w0 ++ held0) (w1 ++ held1) text → PutsPrefix b c ((w1 ++ held1) ++ [])
-    → PutsPrefix a c (w0 ++ text)
-handed_prefix a b c w0 held0 w1 held1 text none p q =
-    from_empty a c w0 held0 text none (sends_prefix a b c (w0 ++ held0) (w1 ++ held1) text text [] [] (sym (append-nil text)) p q)

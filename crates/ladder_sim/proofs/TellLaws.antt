@@ -570,15 +570,6 @@ module _ (lines : Bool) (upto limit : Option ℕ) (old a b : Cursor) (count reac
       )
 
 -- ---- how it ends
--- A list that tells nothing is cut off where its writer failed.
-pub plain_breaks : (f : ProgressFault) (text_to : ℕ → List ℕ) (text : List ℕ) (o o' e e' : WriteLog) → TellsEnd false f text_to text o o' e e' → PutsPrefix o o' text
-plain_breaks Rows text_to text o o' e e' h = subst (λ told. BreaksAfter told text_to text o o') (h.2.0 refl) h.1
-plain_breaks Lines text_to text o o' e e' h = absurd (true_false (sym h.0))
-
-pub told_end : (f : ProgressFault) (text_to : ℕ → List ℕ) (text : List ℕ) (o o' e e' : WriteLog) → TellsEnd true f text_to text o o' e e' → TellsUntil f text_to text o o' e e'
-told_end Rows text_to text o o' e e' h = (h.0, h.1, h.2.1)
-told_end Lines text_to text o o' e e' h = h.1
-
 -- the header, and then nothing yet
 pub headed : (lines : Bool) (upto limit : Option ℕ) (c : Cursor) (out o1 err : WriteLog) (w0 w1 held : List ℕ) → w0 ≡ [] → held ≡ [] → SendsAll out o1 w0 w1 (head_of c)
     → Stands lines upto limit c c 0 0 out o1 err err (w1 ++ held)

@@ -70,7 +70,7 @@ fn add_names<W: Sink>(
 }
 
 /// Adds the header: what stands in the first column, and the names of the listed inputs.
-pub(crate) fn add_header<W: Sink>(
+pub fn add_header<W: Sink>(
     block: &mut Block,
     first: &[u8],
     program: &Program,
@@ -132,7 +132,8 @@ pub struct Summary {
     pub looks: u64,
 }
 
-pub(crate) fn is_reached(limit: Option<u64>, rows: u64) -> bool
+/// Whether a list with so many rows has reached its limit.
+pub fn is_reached(limit: Option<u64>, rows: u64) -> bool
     ensures yes { result ≡ true → limit ≡ Some rows }
     ensures no { result ≡ false → limit ≢ Some rows }
 {

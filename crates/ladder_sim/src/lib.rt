@@ -12,7 +12,7 @@ mod runs;
 mod table;
 mod term_text;
 
-pub use cause_text::{Summary, write_causes, write_part};
+pub use cause_text::{Summary, add_header, is_reached, write_causes, write_part};
 pub use group_text::{GroupForm, GroupSummary, write_groups};
 pub use held_text::write_held_causes;
 pub use ladder_state::{StateFault, read_state, write_state};
@@ -24,3 +24,4 @@ pub use ladder_trace::{Film, SimFault, simulate, write_film, write_waves};
 pub use ladder_uses::write_uses;
 pub use possible_text::{PossibleSummary, write_possible_causes};
 pub use progress::{ProgressFault, write_progress};
+pub use table::{fill_cells, size_of};

@@ -91,10 +91,6 @@ pub gives_own : (o : Option ℕ) (columns : List ℕ) (fs : Fields) → o ≡ mo
 gives_own (Some m) columns fs e = let row = row_of_moment columns fs m (sym e) in (row, row_length columns fs m (bits_of fs) row)
 gives_own None columns fs e = λ moment bits h. let bad = e ∙ moment_row columns fs moment bits h in cc
 
-pub wide_own : (o : Option ℕ) (columns : List ℕ) (fs : Fields) → o ≡ moment_in (length columns) fs → IfSome o (λ m. length fs ≡ length columns + 1)
-wide_own (Some m) columns fs e = row_length columns fs m (bits_of fs) (row_of_moment columns fs m (sym e))
-wide_own None columns fs e = tt
-
 pub takes_some : (columns : List ℕ) (taken : Taken) (f : Filling) (all : List Numbered) (r : Numbered) (rest : List Numbered) → all ≡ r ∷ rest
     → (taken.number ≡ r.number) × Gives columns taken.moment (fields_of f.last) r.fields × Comes columns f rest → Takes columns all (Some taken) f
 takes_some columns taken f all r rest e h = rw e h
@@ -107,10 +103,6 @@ gives_held (Some m) columns fs moment some e small =
     let bits : drop 1 fs ≡ map bit_text (bits_of fs) = ap (λ l. drop 1 l) row.same in
     (record { same = ap (λ l. decimal moment ∷ l) bits; count = row.count; small = small }, row_length columns fs m (bits_of fs) row)
 gives_held None columns fs moment some e small = let bad : false ≡ true = some in cc
-
-pub wide_held : (from : Option ℕ) (columns : List ℕ) (fs : Fields) → IsSome from → from ≡ moment_in (length columns) fs → length fs ≡ length columns + 1
-wide_held (Some m) columns fs some e = row_length columns fs m (bits_of fs) (row_of_moment columns fs m (sym e))
-wide_held None columns fs some e = let bad : false ≡ true = some in cc
 
 -- ---- what comes
 

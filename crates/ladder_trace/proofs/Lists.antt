@@ -62,11 +62,6 @@ within [] i x e = cc
 within (a ∷ xs) zero x e = omega arith
 within (a ∷ xs) (suc i) x e = let h = within xs i x e in omega (arith, h)
 
-pub at_place : {A : Type 0} (xs : List A) (i : ℕ) (x d : A) → slice_get xs i ≡ Some x → get_or xs i d ≡ x
-at_place [] i x d e = cc
-at_place (a ∷ xs) zero x d e = some_same e
-at_place (a ∷ xs) (suc i) x d e = at_place xs i x d e
-
 -- ---- marked elements
 
 pub chosen_more : {A : Type 0} (marks : List Bool) (xs : List A) (i : ℕ) (m : Bool) (x : A) → slice_get marks i ≡ Some m → slice_get xs i ≡ Some x

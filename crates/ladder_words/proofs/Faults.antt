@@ -84,11 +84,6 @@ no_pages rows names given none (Explain other) h =
     let bad = sym none ∙ same ∙ h.1.1 in
     cc
 
-pub no_line : (name : Text) (rows : List Row) → (name ≡ codes "explain" → ⊥) → AsksNone name rows → HasNoTask name rows
-no_line name rows differs none (Perform line) h = none line.request h.0.0
-no_line name rows differs none (PerformAll all) h = none all.line.request h.0.0
-no_line name rows differs none (Explain other) h = differs h.0
-
 -- A subcommand asks for the requests of its name alone.
 pub no_check : (rows : List Row) → first_of (codes "file") rows ≡ None → AsksNone (codes "check") rows
 no_check rows none (Check file warns) h = let some = h.1 in cc
@@ -325,13 +320,6 @@ no_groups_of_scan rows one_state named grouped one none =
     only_of_one_state rows one_state named (λ list after upto h. h.0.0 grouped) (λ list scans every held h. not_several rows scans every one h.4)
     (λ list grouping h. none (h.4, h.5, h.6, (h.7, (h.12, h.13))))
 
--- A statement has no limit, so a list of its groups has none.
-pub may_have_limit : (rows : List Row) (form : Form) (limit : Option ℕ) → IsWhole form rows → HasNumber (codes "limit") rows limit → MayHaveLimit form limit
-may_have_limit rows Table limit whole h = tt
-may_have_limit rows Terms limit whole h = tt
-may_have_limit rows Statement None whole h = refl
-may_have_limit rows Statement (Some n) whole h = let some = h.1 in cc
-
 is_whole : (rows : List Row) (form : Form) (limit : Option ℕ) → MayHaveLimit form limit → HasNumber (codes "limit") rows limit → IsWhole form rows
 is_whole rows Table limit may h = tt
 is_whole rows Terms limit may h = tt
@@ -446,24 +434,12 @@ no_lasting_of_time rows none None h = none None h.1
 no_lasting_of_time rows none (Some (Count n)) h = none None h.1
 no_lasting_of_time rows none (Some (Until time)) h = none (Some time) h.1
 
--- Both are not asked for.
-pub no_lasting_of_both : (rows : List Row) (n time : ℕ) → HasNumber (codes "scans") rows (Some n) → HasNumber (codes "for") rows (Some time)
-    → (l : Option Lasting) → MayLast l rows → ⊥
-no_lasting_of_both rows n time some until None h = let none = h.0 in let given = some.1 in cc
-no_lasting_of_both rows n time some until (Some (Count m)) h = let none = h.1 in let given = until.1 in cc
-no_lasting_of_both rows n time some until (Some (Until m)) h = let none = h.0 in let given = some.1 in cc
-
 -- the parts of a list of causes
 pub no_list_of_limit : (rows : List Row) → ((o : Option ℕ) → HasNumber (codes "limit") rows o → ⊥) → (l : ListRequest) → NamesList rows l → ⊥
 no_list_of_limit rows none l h = none l.limit h.2
 
 pub no_list_of_coil : (rows : List Row) → ((name : Text) → HasCoil rows name → ⊥) → (l : ListRequest) → NamesList rows l → ⊥
 no_list_of_coil rows none l h = none (string_bytes l.coil) h.5
-
--- One coil is meant, and none is named.
-pub no_coil : (rows : List Row) → HasOption (codes "all-coils") rows None → first_of (codes "coil") rows ≡ None → (name : Text) → HasCoil rows name → ⊥
-no_coil rows one none name (inl h) = let some = h.1 in cc
-no_coil rows one none name (inr h) = h.0 one
 
 pub no_list_of_scan : (rows : List Row) → ((s : NamedScan) → NamesScan rows s → ⊥) → (l : ListRequest) → NamesList rows l → ⊥
 no_list_of_scan rows none l h =
@@ -547,13 +523,6 @@ no_value id rows none = go (find (λ r. bytes_eq r.id id) rows) none
     go None e = refl
     go (Some r) e = ap (λ (vs : List Text). slice_get vs 0) e
 
--- A flag is given or not.
-pub one_switch : (id : Text) (rows : List Row) (a b : Bool) → HasSwitch id rows a → HasSwitch id rows b → a ≡ b
-one_switch id rows true true h k = refl
-one_switch id rows true false h k = absurd (k h)
-one_switch id rows false true h k = absurd (h k)
-one_switch id rows false false h k = refl
-
 -- The names of the inputs, where one coil is meant and where each is.
 pub inputs_of_one : (rows : List Row) → first_of (codes "all-coils") rows ≡ None → input_texts rows ≡ unwrap_or (all_of (codes "inputs") rows) []
 inputs_of_one rows one = ap (λ (o : Option Text). inputs_for (is_some o) rows) one
@@ -605,13 +574,6 @@ pub lists_all : (rows : List Row) (all : Bool) → HasSwitch (codes "all-inputs"
 lists_all rows true flag set h = h.flag flag
 lists_all rows false flag set h = cc
 
--- All inputs, and names besides, are listed by no request.
-pub no_inputs : (rows : List Row) (names : List Text) → HasSwitch (codes "all-inputs") rows true → input_texts rows ≡ names
-    → (names ≡ [] → ⊥) → (all : Bool) (other : List Text) → HasInputs rows all other → ⊥
-no_inputs rows names flag named some all other h =
-    let same = one_switch (codes "all-inputs") rows true all flag h.flag in
-    some (sym named ∙ h.named ∙ h.either (sym same))
-
 -- Nothing is watched.
 pub watches_none : (rows : List Row) (all : Bool) → HasSwitch (codes "watch-all") rows all → all ≡ false → first_of (codes "watch") rows ≡ None → HasWatched rows false []
 watches_none rows true flag named none = cc
@@ -620,10 +582,3 @@ watches_none rows false flag named none = record { flag = flag; named = no_value
 pub watches_all : (rows : List Row) (all : Bool) → HasSwitch (codes "watch-all") rows all → all ≡ true → HasWatched rows false [] → ⊥
 watches_all rows true flag set h = h.flag flag
 watches_all rows false flag set h = cc
-
--- All, and names besides, are watched by no request.
-pub no_watched : (rows : List Row) (names : List Text) → HasSwitch (codes "watch-all") rows true → unwrap_or (all_of (codes "watch") rows) [] ≡ names
-    → (names ≡ [] → ⊥) → (all : Bool) (other : List Text) → HasWatched rows all other → ⊥
-no_watched rows names flag named some all other h =
-    let same = one_switch (codes "watch-all") rows true all flag h.flag in
-    some (sym named ∙ h.named ∙ h.either (sym same))

@@ -1,5 +1,6 @@
-use Rattle.std.proofs.Common.{◌/◌, ◌%◌, map, ◌∙◌, rules}
+use Rattle.std.proofs.Common.{◌/◌, ◌%◌, List, map, ◌∙◌, rules}
 use Rattle.ladder_page.specs.declared.geometry.TheConstants.{ROWS, PLACES}
+use Rattle.ladder_page.specs.declared.operand.NameOver.{NameOver}
 use Rattle.ladder_page.specs.Picture.{text_at}
 use Rattle.ladder_page.specs.Geometry.{at_place}
 use Rattle.ladder_page.specs.Tables.{over_read}
@@ -16,4 +17,4 @@ loop-n-preserved c =
     let lines = map (λ x. x.now) c.args.lines.now in
     let n = c.loop-n.n in
     let told = read_over c.args.decls.now lines c.args.parts.now (n / PLACES) (n % PLACES % ROWS) (n % PLACES / ROWS) (map (λ x. x.now) c.rung_in-rung.result.now) c.text_at-chars.result c.word_in.result.now _ (search rules) (search rules) c.word_in.ensures (search rules) in
-    c.in_ok-push.ensures.items ∙ one_place_more _ (at_place (over_read c.args.decls.now lines c.args.parts.now)) n _ c.loop-n.invariant told
+    ◌∙◌ {A = List NameOver} c.in_ok-push.ensures.items (one_place_more _ (at_place (over_read c.args.decls.now lines c.args.parts.now)) n _ c.loop-n.invariant told)

@@ -1,31 +1,15 @@
-use Rattle.std.proofs.Common.{◌≡◌, ℕ, ◌+◌, inl, inr, true, false, not, cond, ◌&&◌, ◌||◌, nat_le, ◌==◌, List, [], ◌∷◌, ◌++◌, codes, Option, Some, None, map, refl, sym, ap, ◌∙◌, rules}
-use Rattle.std.specs.List.{list_all, list_any, filter}
-use Rattle.std.specs.Str.{bytes_eq}
+use Rattle.std.proofs.Common.{◌≡◌, ℕ, ◌+◌, inl, inr, true, false, not, ◌&&◌, ◌||◌, nat_le, ◌==◌, List, [], ◌∷◌, Option, Some, None, map, refl, sym, ◌∙◌, rules}
+use Rattle.std.specs.List.{list_all, list_any}
 use Rattle.std.proofs.lemmas.Bool.{and_parts, or_cases, eqb-true, false≢true}
 use Rattle.ladder_page.specs.Bytes.{space}
-use Rattle.ladder_page.specs.Form.{is_label_name}
-use Rattle.ladder_page.specs.Gap.{Labels, is_gap_blank, is_named, first_word, label_in, label_before}
+use Rattle.ladder_page.specs.Gap.{Labels, is_gap_blank, is_named, label_in, label_before}
 use Rattle.ladder_page.specs.Picture.{Lines, line_at}
+use Rattle.ladder_page.proofs.LabelLaws.{blank_line}
 use Rattle.ladder_rules.specs.Gap.{bad_label, GapBreaks}
 use Rattle.ladder_rules.specs.declared.fault.Rule.{Rule}
 use Rattle.ladder_rules.specs.declared.fault.Rule.TheVariants.{BadByte, Unfinished, Grid}
 use Rattle.ladder_rules.specs.declared.fault.GridRule.TheVariants as rule
 use Rattle.ladder_rules.proofs.gap.label_on.Goals as goal
-
--- a blank line has no other bytes
-inked_none : (text : List ℕ) → list_all is_gap_blank text ≡ true → filter (λ b. not (is_gap_blank b)) text ≡ []
-inked_none [] blank = refl
-inked_none (b ∷ bs) blank = let parts = and_parts (is_gap_blank b) (list_all is_gap_blank bs) blank in rw parts.0 (inked_none bs parts.1)
-
-no_label : (text : List ℕ) → list_all is_gap_blank text ≡ true → None ≡ label_in text
-unfolding label_in
-no_label text blank =
-    let word : List ℕ = first_word text in
-    let other : bytes_eq [] (word ++ codes ":") ≡ false = elim word as (λ w. bytes_eq [] (w ++ codes ":") ≡ false) [ [] ↦ refl | x ∷ xs ↦ refl ] in
-    let none : (is_label_name word && bytes_eq (filter (λ b. not (is_gap_blank b)) text) (word ++ codes ":")) ≡ false
-    = ap (λ z. is_label_name word && bytes_eq z (word ++ codes ":")) (inked_none text blank) ∙ ap (λ t. is_label_name word && t) other
-    ∙ elim (is_label_name word) as (λ t. (t && false) ≡ false) [ true ↦ refl | false ↦ refl ] in
-    sym (ap (λ t. cond t (Some word) None) none)
 
 no_odd_byte : (text : List ℕ) → list_all is_gap_blank text ≡ true → list_any (λ b. not (b == 9 || (nat_le space b && nat_le b 126))) text ≡ false
 no_odd_byte [] blank = refl
@@ -37,7 +21,7 @@ no_odd_byte (b ∷ bs) blank =
     ]
 
 not_bad : (before : Option (List ℕ)) (labels : Labels) (text : List ℕ) → list_all is_gap_blank text ≡ true → bad_label before labels (label_in text) text ≡ false
-not_bad before labels text blank = rw (← no_label text blank, blank) refl
+not_bad before labels text blank = rw (← blank_line text blank, blank) refl
 
 kept : (lines : Lines) (from n : ℕ) (unclosed : Option ℕ) (labels : Labels) → list_all is_gap_blank (line_at lines (from + n)) ≡ true → (unclosed ≡ Some (from + n) → ⊥)
     → (r : Rule) → GapBreaks r lines from unclosed labels n → ⊥
@@ -47,7 +31,7 @@ kept lines from n unclosed labels blank closed (Grid rule.LabelFault) broken = f
 kept lines from n unclosed labels blank closed (Grid other) broken = broken
 
 pub returns-then-blank-clause-label : goal.returns-then-blank-clause-label
-returns-then-blank-clause-label c = no_label _ (search rules)
+returns-then-blank-clause-label c = blank_line _ (search rules)
 
 pub returns-then-blank-clause-kept : goal.returns-then-blank-clause-kept
 returns-then-blank-clause-kept c = kept (map (λ l. l.now) c.args.lines.now) c.args.from c.args.n c.args.unclosed c.args.labels.now (search rules) (search rules)
