@@ -1,27 +1,20 @@
 -- The cells that a sound page is read as are well formed.
-use Rattle.std.proofs.Common.{if◌then◌else◌, ◌≡◌, ℕ, ◌+◌, ◌-◌, ◌*◌, ◌/◌, ◌%◌, ◌<◌, ◌≤◌, ◌⊎◌, inl, inr, Bool, true, false, ◌==◌, cond, List, length, get_or, count_by, nat_lt, position, zero, suc, take, add-one, Option, Some, None, refl, sym, ap, ap₂, subst, ◌∙◌, arith, slice_get}
+use Rattle.std.proofs.Common.{if◌then◌else◌, ◌≡◌, ℕ, ◌+◌, ◌-◌, ◌*◌, ◌/◌, ◌%◌, ◌<◌, ◌≤◌, inl, inr, Bool, true, false, ◌==◌, cond, List, length, get_or, count_by, nat_lt, position, zero, suc, take, add-one, Option, Some, None, refl, sym, ap, ap₂, subst, ◌∙◌, arith, slice_get}
 use Rattle.std.specs.Prelude.{option_map}
 use Rattle.std.proofs.lemmas.Bool.{cases_lt, ltb-true, eqb-false, ne_eqb}
 use Rattle.std.proofs.lemmas.List.Quantifiers.{position-Some}
 use Rattle.std.proofs.lemmas.List.{get_or_past, length-map, take_all}
-use Rattle.ladder_vars.specs.declared.kind.BlockKind.{BlockKind}
-use Rattle.ladder_vars.specs.declared.decls.Symbol.{Symbol}
-use Rattle.ladder_vars.specs.declared.decls.Symbol.TheVariants.{Var, Instance}
 use Rattle.ladder_page.specs.declared.geometry.TheConstants.{ROWS, COLUMNS, PLACES}
-use Rattle.ladder_page.specs.declared.mode.Mode.{Mode}
-use Rattle.ladder_page.specs.declared.mode.CoilMode.{CoilMode}
 use Rattle.ladder_grid.specs.declared.cell.Cell.{Cell}
 use Rattle.ladder_grid.specs.declared.cell.Cell.TheVariants as cell
 use Rattle.ladder_grid.specs.declared.site.Site.{Site}
 use Rattle.ladder_vars.specs.declared.kind.Pin.{Pin}
-use Rattle.ladder_page.specs.declared.form.Form.{Form}
-use Rattle.ladder_page.specs.declared.form.Form.TheVariants.{Empty, Wire, Contact, Coil, Block, Lower, Jump, Return}
+use Rattle.ladder_page.specs.declared.form.Form.TheVariants.{Lower}
 use Rattle.ladder_rules.specs.declared.fault.Rule.TheVariants.{Grid}
 use Rattle.ladder_rules.specs.declared.fault.GridRule.TheVariants as rule
 use Rattle.ladder_page.specs.declared.picture.Half.TheVariants as half
 use Rattle.ladder_page.specs.declared.operand.Reference.{Reference}
 use Rattle.ladder_page.specs.Gap.{Labels, is_named}
-use Rattle.ladder_page.specs.Operand.{instance_on}
 use Rattle.ladder_rules.proofs.BlockLaws.{drawn_back}
 use Rattle.ladder_rules.specs.Rules.{wants_name, IsDrawnAt, IsTorn}
 use Rattle.ladder_page.specs.Page.{Page, rung_at, labels_of, form_at, name_over, instance_at}
@@ -41,7 +34,8 @@ use Rattle.ladder_page.proofs.FitLaws.{SymbolFits, refer_fits, instance_fits}
 use Rattle.ladder_grid.proofs.CellFits.{cell_fits, edge_has}
 use Rattle.ladder_grid.proofs.LowerLaws.{FitsName, block_may, block_of, lower_found, second_input}
 use Rattle.ladder_page.proofs.ReadingOrder.{rung_of_place, row_of_place, column_of_place, earlier}
-use Rattle.ladder_grid.proofs.NumberLaws.{memory_of, count_more, next_memory, before_more}
+use Rattle.ladder_grid.proofs.DrawnCell.{Tells, lower_in, told, is_block}
+use Rattle.ladder_grid.proofs.NumberLaws.{count_more, next_memory, before_more}
 use Rattle.ladder_grid.proofs.SoundRungs.{sound_rung}
 
 none_some : {A : Type 0} {x : A} → None ≡ Some x → ⊥
@@ -49,105 +43,6 @@ none_some h = cc
 
 some_same : (a b : ℕ) → Some a ≡ Some b → a ≡ b
 some_same a b h = cc
-
-off_on : false ≡ true → ⊥
-off_on h = cc
-
--- the instance of a lower cell
-lower_in : Cell → Option ℕ
-lower_in cell.Empty = None
-lower_in cell.Wire = None
-lower_in (cell.Contact mode operand memory) = None
-lower_in (cell.Coil mode var memory) = None
-lower_in (cell.Block inst) = None
-lower_in (cell.Lower inst linked) = Some inst
-lower_in (cell.Jump target) = None
-lower_in cell.Return = None
-
--- ---- what a drawn cell says of its form
-contact_no_block : (n : ℕ) (m : Mode) (s : Symbol) (above target : Option ℕ) → block_in (cell_with n (Some (Contact m)) (Some s) above target) ≡ None
-contact_no_block n m (Var number) above target = refl
-contact_no_block n m (Instance number) above target = refl
-
-coil_no_block : (n : ℕ) (m : CoilMode) (s : Symbol) (above target : Option ℕ) → block_in (cell_with n (Some (Coil m)) (Some s) above target) ≡ None
-coil_no_block n m (Var number) above target = refl
-coil_no_block n m (Instance number) above target = refl
-
-block_block : (n : ℕ) (kind : BlockKind) (s : Symbol) (above target : Option ℕ) → block_in (cell_with n (Some (Block kind)) (Some s) above target) ≡ instance_on (Some (Block kind)) (Some s)
-block_block n kind (Var number) above target = refl
-block_block n kind (Instance inst) above target = refl
-
-drawn_block : (n : ℕ) (form : Option Form) (name : Option Reference) (above target : Option ℕ) → block_in (cell_with n form (option_map (λ (x : Reference). x.symbol) name) above target) ≡ instance_on form (option_map (λ (x : Reference). x.symbol) name)
-drawn_block n None name above target = refl
-drawn_block n (Some Empty) name above target = refl
-drawn_block n (Some Wire) name above target = refl
-drawn_block n (Some (Contact m)) None above target = refl
-drawn_block n (Some (Contact m)) (Some x) above target = contact_no_block n m x.symbol above target
-drawn_block n (Some (Coil m)) None above target = refl
-drawn_block n (Some (Coil m)) (Some x) above target = coil_no_block n m x.symbol above target
-drawn_block n (Some (Block kind)) None above target = refl
-drawn_block n (Some (Block kind)) (Some x) above target = block_block n kind x.symbol above target
-drawn_block n (Some (Lower pin linked)) name None target = refl
-drawn_block n (Some (Lower pin linked)) name (Some inst) target = refl
-drawn_block n (Some (Jump label)) name above None = refl
-drawn_block n (Some (Jump label)) name above (Some to) = refl
-drawn_block n (Some Return) name above target = refl
-
--- a cell that leads out of its rung: where to
-Goal : ℕ → Option Form → Option ℕ → ℕ → Type 0
-Goal rungs form target t = (leaps form ≡ true) × ((t ≡ rungs) ⊎ (target ≡ Some t))
-
-drawn_goal : (n rungs t : ℕ) (form : Option Form) (name : Option Symbol) (above target : Option ℕ) → goes_to rungs (cell_with n form name above target) ≡ Some t
-    → Goal rungs form target t
-unfolding Goal
-drawn_goal n rungs t None name above target h = absurd (none_some h)
-drawn_goal n rungs t (Some Empty) name above target h = absurd (none_some h)
-drawn_goal n rungs t (Some Wire) name above target h = absurd (none_some h)
-drawn_goal n rungs t (Some (Contact m)) None above target h = absurd (none_some h)
-drawn_goal n rungs t (Some (Contact m)) (Some (Var number)) above target h = absurd (none_some h)
-drawn_goal n rungs t (Some (Contact m)) (Some (Instance number)) above target h = absurd (none_some h)
-drawn_goal n rungs t (Some (Coil m)) None above target h = absurd (none_some h)
-drawn_goal n rungs t (Some (Coil m)) (Some (Var number)) above target h = absurd (none_some h)
-drawn_goal n rungs t (Some (Coil m)) (Some (Instance number)) above target h = absurd (none_some h)
-drawn_goal n rungs t (Some (Block kind)) None above target h = absurd (none_some h)
-drawn_goal n rungs t (Some (Block kind)) (Some (Var number)) above target h = absurd (none_some h)
-drawn_goal n rungs t (Some (Block kind)) (Some (Instance number)) above target h = absurd (none_some h)
-drawn_goal n rungs t (Some (Lower pin linked)) name None target h = absurd (none_some h)
-drawn_goal n rungs t (Some (Lower pin linked)) name (Some inst) target h = absurd (none_some h)
-drawn_goal n rungs t (Some (Jump label)) name above None h = absurd (none_some h)
-drawn_goal n rungs t (Some (Jump label)) name above (Some to) h = (refl, inr h)
-drawn_goal n rungs t (Some Return) name above target h = (refl, inl (some_same t rungs (sym h)))
-
-drawn_lower : (n inst : ℕ) (form : Option Form) (name : Option Symbol) (above target : Option ℕ) → lower_in (cell_with n form name above target) ≡ Some inst → above ≡ Some inst
-unfolding lower_in
-drawn_lower n inst None name above target h = absurd (none_some h)
-drawn_lower n inst (Some Empty) name above target h = absurd (none_some h)
-drawn_lower n inst (Some Wire) name above target h = absurd (none_some h)
-drawn_lower n inst (Some (Contact m)) None above target h = absurd (none_some h)
-drawn_lower n inst (Some (Contact m)) (Some (Var number)) above target h = absurd (none_some h)
-drawn_lower n inst (Some (Contact m)) (Some (Instance number)) above target h = absurd (none_some h)
-drawn_lower n inst (Some (Coil m)) None above target h = absurd (none_some h)
-drawn_lower n inst (Some (Coil m)) (Some (Var number)) above target h = absurd (none_some h)
-drawn_lower n inst (Some (Coil m)) (Some (Instance number)) above target h = absurd (none_some h)
-drawn_lower n inst (Some (Block kind)) None above target h = absurd (none_some h)
-drawn_lower n inst (Some (Block kind)) (Some (Var number)) above target h = absurd (none_some h)
-drawn_lower n inst (Some (Block kind)) (Some (Instance number)) above target h = absurd (none_some h)
-drawn_lower n inst (Some (Lower pin linked)) name None target h = absurd (none_some h)
-drawn_lower n inst (Some (Lower pin linked)) name (Some number) target h = h
-drawn_lower n inst (Some (Jump label)) name above None h = absurd (none_some h)
-drawn_lower n inst (Some (Jump label)) name above (Some to) h = absurd (none_some h)
-drawn_lower n inst (Some Return) name above target h = absurd (none_some h)
-
--- a cell with a block's instance is the block
-is_block : (c : Cell) (inst : ℕ) → block_in c ≡ Some inst → c ≡ cell.Block inst
-is_block cell.Empty inst h = absurd (none_some h)
-is_block cell.Wire inst h = absurd (none_some h)
-is_block (cell.Contact mode operand memory) inst h = absurd (none_some h)
-is_block (cell.Coil mode var memory) inst h = absurd (none_some h)
-is_block (cell.Block n) inst h = ap (λ m. cell.Block m) (some_same n inst h)
-is_block (cell.Lower n linked) inst h = absurd (none_some h)
-is_block (cell.Jump target) inst h = absurd (none_some h)
-is_block cell.Return inst h = absurd (none_some h)
 
 -- ---- targets
 later_is : (k t : ℕ) (o : Option ℕ) → later k o ≡ Some t → (k < t) × (o ≡ Some t)
@@ -204,6 +99,11 @@ module _ (page : Page) (d : Drawing) (read : IsDrawn page d) where
     holds = f s.rung s.row s.column s.below s.holds;
   }
 
+  -- what the cell at a place says
+  says : (k r c : ℕ) → Tells (number_at page k r c) d.rungs (form_at page k r c) (option_map (λ (x : Reference). x.symbol) (name_over page k r c)) (instance_above page k r c)
+      (target_of (labels_of page.lines page.parts) k (form_at page k r c)) (drawn page k r c)
+  says k r c = told (number_at page k r c) d.rungs (form_at page k r c) _ _ _
+
   cell_there : (k r c : ℕ) → k < d.rungs → r < ROWS → c < COLUMNS → cell_in d (place k r c) ≡ drawn page k r c
   cell_there k r c below rows columns = ap (λ s. s.cell) (read.sites k r c below rows columns)
 
@@ -234,7 +134,7 @@ module _ (page : Page) (d : Drawing) (read : IsDrawn page d) where
       elim (cases_lt i (PLACES * d.rungs)) [
         | inl below ↦
             let s = cell_is i below in
-            let m = memory_of (number_at page s.rung s.row s.column) number (form_at page s.rung s.row s.column) _ _ _ (ap memory_in (sym s.holds) ∙ h) in
+            let m = (says s.rung s.row s.column).memory number (ap memory_in (sym s.holds) ∙ h) in
             let first : memories_before page i ≡ number = ap (memories_before page) s.at ∙ m.0 in
             let edge : is_edge (get_or page.forms i None) ≡ true = ap (λ n. is_edge (get_or page.forms n None)) s.at ∙ m.1 in
             (below, first, rw edge at (next_memory page i) ∙ ap (λ n. n + 1) first)
@@ -341,7 +241,7 @@ module _ (page : Page) (d : Drawing) (read : IsDrawn page d) where
   block_place : (i number : ℕ) → block_in (cell_in d i) ≡ Some number → Stands i (λ k r c. instance_at page k r c ≡ Some number)
   unfolding instance_at
   block_place i number h =
-      restated i (λ k r c _ is. sym (drawn_block (number_at page k r c) (form_at page k r c) (name_over page k r c) _ _) ∙ is) (stands block_in refl i number h)
+      restated i (λ k r c _ is. sym (says k r c).block ∙ is) (stands block_in refl i number h)
 
   one_block : (number i j : ℕ) → block_in (cell_in d i) ≡ Some number → block_in (cell_in d j) ≡ Some number → i ≡ j
   one_block number i j h k =
@@ -365,11 +265,10 @@ module _ (page : Page) (d : Drawing) (read : IsDrawn page d) where
 
   jump_place : (i t : ℕ) → goes_to d.rungs (cell_in d i) ≡ Some t
       → Stands i (λ k r c. (leaps (form_at page k r c) ≡ true) × (k < t) × (t ≤ d.rungs))
-  unfolding Goal
   jump_place i t h =
       restated i
       (λ k r c below is.
-      let g = drawn_goal (number_at page k r c) d.rungs t (form_at page k r c) _ _ _ is in
+      let g = (says k r c).goal t is in
       elim g.1 [
         | inl past ↦ (g.0, omega (arith, past, below), omega (arith, past))
         | inr known ↦
@@ -406,9 +305,8 @@ module _ (page : Page) (d : Drawing) (read : IsDrawn page d) where
       ]
 
   lower_place : (i inst : ℕ) → lower_in (cell_in d i) ≡ Some inst → Stands i (λ k r c. instance_above page k r c ≡ Some inst)
-  unfolding lower_in
   lower_place i inst h =
-      restated i (λ k r c _ is. drawn_lower (number_at page k r c) inst (form_at page k r c) _ _ _ is) (stands lower_in refl i inst h)
+      restated i (λ k r c _ is. (says k r c).lower inst is) (stands lower_in refl i inst h)
 
   above_is : (k r c inst : ℕ) → instance_above page k r c ≡ Some inst → (1 ≤ r) × (instance_at page k (r - 1) c ≡ Some inst)
   above_is k r c inst h =
@@ -426,11 +324,10 @@ module _ (page : Page) (d : Drawing) (read : IsDrawn page d) where
   unfolding instance_at
   block_cell k r c inst below rows columns h =
       cell_there k r c below rows columns
-      ∙ is_block (drawn page k r c) inst (drawn_block (number_at page k r c) (form_at page k r c) (name_over page k r c) _ _ ∙ h)
+      ∙ is_block (drawn page k r c) inst ((says k r c).block ∙ h)
 
   under_block : (i inst : ℕ) (linked : Bool) → cell_in d i ≡ cell.Lower inst linked
       → (1 ≤ i % ROWS) × (cell_in d (i - 1) ≡ cell.Block inst)
-  unfolding lower_in
   under_block i inst linked h =
       let s = lower_place i inst (ap lower_in h) in
       let up = above_is s.rung s.row s.column inst s.holds in
