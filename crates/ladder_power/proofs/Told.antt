@@ -1,21 +1,16 @@
 -- A mark of a scan, by the state with which the scan comes to its rung.
-use Rattle.std.proofs.Common.{◌≡◌, ◌∙◌, ℕ, ◌+◌, ◌-◌, ◌*◌, ◌<◌, inl, inr, Bool, List, ap, arith, get_or, length, length-append, map, refl, suc, zero}
-use Rattle.std.proofs.lemmas.Bool.{cases_lt}
-use Rattle.std.proofs.lemmas.List.{get_or_append_left, get_or-append_right}
+use Rattle.std.proofs.Common.{◌≡◌, ◌∙◌, ℕ, ◌<◌, Bool, List, ap, map, refl}
 use Rattle.ladder_vars.specs.Decls.{is_input}
 use Rattle.ladder_page.specs.declared.geometry.TheConstants.{PLACES}
-use Rattle.ladder_page.specs.AllPlaces.{first_places}
-use Rattle.ladder_page.proofs.PlaceLaws.{first_places-at, length-first_places}
 use Rattle.ladder_grid.specs.Program.{Drawing}
 use Rattle.ladder_scan.specs.declared.seen.Mark.{Mark}
-use Rattle.ladder_scan.specs.Cells.{Diagram}
 use Rattle.ladder_scan.specs.Marking.{mark_of, marks_below}
 use Rattle.ladder_scan.specs.Programs.{diagram_of, IsSound}
 use Rattle.ladder_scan.specs.Rung.{Held}
 use Rattle.ladder_scan.specs.RungByRung.{scanned}
 use Rattle.ladder_scan.specs.Scan.{given}
 use Rattle.ladder_scan.specs.Seen.{AreMarks, mark_at}
-use Rattle.ladder_scan.proofs.Marks.{marks_begun, marks_length, marks_there, one_sight}
+use Rattle.ladder_scan.proofs.Marks.{marks_begun, marks_there, one_sight}
 
 -- a scan begins with the values that are given
 abbrev pub begun : Drawing → List Bool → Held → Held
