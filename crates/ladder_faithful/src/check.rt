@@ -2,7 +2,7 @@
 
 ghost use Rattle.std.specs.Prelude.{◌≡◌, ◌↔◌, ◌+◌, ◌-◌, ◌/◌, ◌%◌, ◌<◌, ◌≤◌, All, IsTrue, Some, length, not, slice_get, true};
 ghost use Rattle.std.specs.List.{list_all};
-ghost use Rattle.ladder_page.specs.declared.geometry.TheConstants.{COLUMNS, PLACES, ROWS};
+ghost use Rattle.ladder_page.specs.declared.geometry.TheConstants.{COLUMNS, PLACES, ROWS, RUNGS};
 ghost use Rattle.ladder_grid.specs.Program.{feeds};
 ghost use Rattle.ladder_grid.specs.declared.cell.Operand.TheVariants as operands;
 ghost use Rattle.ladder_sheet.specs.Reach.{AreReached, IsPower};
@@ -11,7 +11,7 @@ ghost use Rattle.ladder_faithful.specs.Carried.{AreApart, AreCarried, AreInstanc
 
 use ladder_clp::{Element, Expression, Placed, Project, Reading, writes_number};
 use ladder_grid::{Cell, Operand, Program};
-use ladder_page::geometry::{COLUMNS, PLACES, ROWS};
+use ladder_page::geometry::{COLUMNS, PLACES, Place, ROWS};
 use ladder_page::{CoilMode, Mode};
 use ladder_sheet::{
     BlockRef, BlockSort, Meaning, Power, Source, element_at, entry_of, fed, is_idle, meaning_at,
@@ -51,17 +51,13 @@ fn is_var(decls: &Decls, letter: char, number: u32, var: usize) -> bool
 }
 
 /// The address of the input that stands for what is opened at a place.
-fn opened_at(program: &Program, rung: usize, row: usize, column: usize) -> Address
-    requires rungs { rung < program.now.rungs }
-    requires places { (row < ROWS) × (column < COLUMNS) }
-    ensures { result ≡ opened_at rung row column }
+fn opened_at(at: Place) -> Address
+    ensures { result ≡ opened_at at.rung at.row at.column }
 {
-    // The lesser of both is the rung itself.
-    let number = rung.min(program.rungs()) as u32;
     Address {
         letter: 'I',
-        first: number + 1,
-        second: Some(100 * (row as u32 + 1) + (column as u32 + 1)),
+        first: at.rung as u32 + 1,
+        second: Some(100 * (at.row as u32 + 1) + (at.column as u32 + 1)),
     }
 }
 
@@ -303,41 +299,34 @@ fn is_left_out(
 fn is_fed_alike(
     reading: Reading,
     program: &Program,
-    rung: usize,
+    at: Place,
     elements: &[Element],
-    row: usize,
-    column: usize,
     from: usize,
     before: &[bool; ROWS],
 ) -> bool
-    requires rungs { rung < program.now.rungs }
-    requires rows { (row < ROWS) × (from < ROWS) }
-    requires columns { column < COLUMNS }
-    requires before { AreReached reading elements.now (column - 1) before.now }
-    ensures { result ≡ true → IsTrue (feeds program.now rung row column from) ↔ IsFed reading elements.now row column from }
+    requires rungs { at.rung < program.now.rungs }
+    requires rows { from < ROWS }
+    requires before { AreReached reading elements.now (at.column - 1) before.now }
+    ensures { result ≡ true → IsTrue (feeds program.now at.rung at.row at.column from) ↔ IsFed reading elements.now at.row at.column from }
 {
-    program.feeds(rung, row, column, from) == fed(reading, elements, row, column, from, before)
+    program.feeds(at, from) == fed(reading, elements, at.row, at.column, from, before)
 }
 
 /// Whether the cell is fed from the same rows.
 fn are_fed_alike(
     reading: Reading,
     program: &Program,
-    rung: usize,
+    at: Place,
     elements: &[Element],
     power: &Power,
-    row: usize,
-    column: usize,
 ) -> bool
-    requires rungs { rung < program.now.rungs }
-    requires rows { row < ROWS }
-    requires columns { column < COLUMNS }
+    requires rungs { at.rung < program.now.rungs }
     requires power { IsPower reading elements.now power.now }
-    ensures { result ≡ true → IsFedAlike reading program.now rung elements.now row column }
+    ensures { result ≡ true → IsFedAlike reading program.now at.rung elements.now at.row at.column }
 {
-    let before = power[column.saturating_sub(1)];
+    let before = power[at.before().column];
     for from in 0..ROWS {
-        if !is_fed_alike(reading, program, rung, elements, row, column, from, &before) {
+        if !is_fed_alike(reading, program, at, elements, from, &before) {
             return false;
         }
     }
@@ -348,55 +337,48 @@ fn are_fed_alike(
 fn is_alike(
     reading: Reading,
     program: &Program,
-    rung: usize,
+    at: Place,
     elements: &[Element],
     power: &Power,
-    row: usize,
-    column: usize,
 ) -> bool
-    requires rungs { rung < program.now.rungs }
-    requires rows { row < ROWS }
-    requires columns { column < COLUMNS }
+    requires rungs { at.rung < program.now.rungs }
     requires power { IsPower reading elements.now power.now }
-    ensures { result ≡ true → IsAlike reading program.now rung elements.now row column }
+    ensures { result ≡ true → IsAlike reading program.now at.rung elements.now at.row at.column }
 {
-    stands(reading, elements, row, column)
-        && !reads_late(reading, elements, row, column)
-        && are_fed_alike(reading, program, rung, elements, power, row, column)
+    stands(reading, elements, at.row, at.column)
+        && !reads_late(reading, elements, at.row, at.column)
+        && are_fed_alike(reading, program, at, elements, power)
 }
 
-/// Whether a place, which are numbered row by row, has what the project has there.
+/// Whether a place has what the project has there.
 fn is_place_carried(
     reading: Reading,
     program: &Program,
     rungs: &[Placed<'_>],
     blocks: &[BlockRef],
-    rung: usize,
+    at: Place,
     placed: &Placed<'_>,
     power: &Power,
-    place: usize,
 ) -> bool
-    requires numbers { rung < program.now.rungs }
-    requires places { place < PLACES }
+    requires rungs { at.rung < program.now.rungs }
     requires power { IsPower reading placed.now.rung.elements power.now }
-    ensures { result ≡ true → IsPlaceCarried reading program.now rungs.now blocks.now rung placed.now (place / COLUMNS) (place % COLUMNS) }
+    ensures { result ≡ true → IsPlaceCarried reading program.now rungs.now blocks.now at.rung placed.now at.row at.column }
 {
-    let (row, column) = (place / COLUMNS, place % COLUMNS);
-    let cell = program.cell(rung, row, column);
+    let cell = program.site(at).cell;
     let elements = placed.rung.elements.as_slice();
-    let element = element_at(elements, row, column);
-    let meaning = meaning_at(reading, elements, row, column);
+    let element = element_at(elements, at.row, at.column);
+    let meaning = meaning_at(reading, elements, at.row, at.column);
     (is_cell(
         program,
         rungs,
         blocks,
         placed.section,
-        opened_at(program, rung, row, column),
+        opened_at(at),
         element,
         meaning,
         cell,
-    ) || is_left_out(reading, elements, power, row, column, cell))
-        && (cell == Cell::Empty || is_alike(reading, program, rung, elements, power, row, column))
+    ) || is_left_out(reading, elements, power, at.row, at.column, cell))
+        && (cell == Cell::Empty || is_alike(reading, program, at, elements, power))
 }
 
 fn is_rung_carried(
@@ -407,12 +389,18 @@ fn is_rung_carried(
     rung: usize,
     placed: &Placed<'_>,
 ) -> bool
-    requires { rung < program.now.rungs }
+    requires rungs { rung < program.now.rungs }
+    requires few { rung < RUNGS }
     ensures { result ≡ true → IsRungCarried reading program.now rungs.now blocks.now rung placed.now }
 {
     let power = power_of(reading, placed.rung.elements.as_slice());
     for place in 0..PLACES {
-        if !is_place_carried(reading, program, rungs, blocks, rung, placed, &power, place) {
+        let at = Place {
+            rung,
+            row: place / COLUMNS,
+            column: place % COLUMNS,
+        };
+        if !is_place_carried(reading, program, rungs, blocks, at, placed, &power) {
             return false;
         }
     }
@@ -429,7 +417,7 @@ fn are_carried(
     requires { program.now.rungs ≡ length rungs.now }
     ensures { result ≡ true → AreCarried reading program.now rungs.now blocks.now }
 {
-    for rung in 0..rungs.len() {
+    for rung in 0..program.rungs() {
         if !is_rung_carried(reading, program, rungs, blocks, rung, &rungs[rung]) {
             return false;
         }

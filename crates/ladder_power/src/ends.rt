@@ -6,7 +6,7 @@ ghost use Rattle.ladder_power.specs.Ends.{AreAnswers, any_past, any_to, is_ended
 
 use crate::show::mark_in;
 use ladder_grid::{Cell, Program};
-use ladder_page::geometry::{PLACES, ROWS};
+use ladder_page::geometry::{PLACES, Place, ROWS};
 use ladder_scan::Mark;
 
 /// A rung of a program, and what was seen of the program.
@@ -68,12 +68,16 @@ fn is_live(rung: Rung<'_>, at: usize, live: &[bool]) -> bool
         return true;
     }
     let (row, column) = (at % ROWS, at / ROWS);
+    let here = Place {
+        rung: rung.number,
+        row,
+        column,
+    };
     let mut found = false;
     for from in 0..ROWS {
         let before = ROWS * (column - 1) + from;
         found = found
-            | (rung.program.feeds(rung.number, row, column, from)
-                & passes(rung, from, column - 1, live[before]));
+            | (rung.program.feeds(here, from) & passes(rung, from, column - 1, live[before]));
     }
     found
 }
@@ -91,11 +95,16 @@ fn is_ended(rung: Rung<'_>, at: usize, live: &[bool], ended: &[bool], end: usize
         return false;
     }
     let (row, column) = (at % ROWS, at / ROWS);
+    let here = Place {
+        rung: rung.number,
+        row,
+        column,
+    };
     let mut found = false;
     for from in 0..ROWS {
         let before = ROWS * (column - 1) + from;
         let past = ends(rung, from, column - 1, live[before], ended[before], end);
-        found = found | (rung.program.feeds(rung.number, row, column, from) & past);
+        found = found | (rung.program.feeds(here, from) & past);
     }
     found
 }

@@ -12,4 +12,4 @@ loop-rung-preserved c =
     (get_or_from_slice_get rungs rung x _ is) (c.is_rung_carried.ensures c.if-not-is_rung_carried.false))
 
 pub returns : goal.returns
-returns c = λ same k below. c.loop-rung.invariant k (omega (arith, below, c.loop-rung-test.false))
+returns c = λ same k below. c.loop-rung.invariant k (omega (arith, below, c.loop-rung-test.false, c.rungs-rung-end.ensures.value, c.requires))
