@@ -1,5 +1,5 @@
 -- Private: a program as one list of steps, which a look over any signal takes one after the other, and what a program keeps beside its drawing.
-use Rattle.std.specs.Prelude.{◌≡◌, ℕ, zero, suc, ◌+◌, ◌<◌, nat_lt, ◌&&◌, ◌||◌, ◌==◌, Bool, false, List, [], ◌∷◌, ◌++◌, length, map, filter_map, slice_index_or, Option, Some, None, if◌then◌else◌}
+use Rattle.std.specs.Prelude.{◌≡◌, ℕ, zero, suc, ◌+◌, nat_lt, ◌&&◌, ◌||◌, ◌==◌, Bool, false, List, [], ◌∷◌, ◌++◌, map, filter_map, Option, Some, None, if◌then◌else◌}
 use Rattle.ladder_grid.specs.declared.gates.TheConstants.{VARIABLES}
 use Rattle.ladder_page.specs.declared.mode.Mode.{Mode}
 use Rattle.ladder_page.specs.declared.mode.Mode.TheVariants as mode
@@ -22,6 +22,7 @@ use Rattle.ladder_grid.specs.declared.steps.Rare.{Rare}
 use Rattle.ladder_grid.specs.declared.steps.Rare.TheVariants as rare
 use Rattle.ladder_grid.specs.Program.{Drawing, IsWhole, cell_of, jump_of, memories_of}
 use Rattle.ladder_grid.specs.Gates.{gates_of, actions_of, exit_of, leaps_below}
+use Rattle.ladder_grid.specs.Sheet.{IsOfEach}
 
 -- ---- gates
 
@@ -110,14 +111,10 @@ steps_below d (suc n) = steps_below d n ++ rung_steps d n
 pub record IsCompiled (d : Drawing) (gates : List (List Gate)) (actions : List (List Action)) (jumps : List (Option (ℕ × ℕ × ℕ)))
     (exits : List (Option Exit)) (leaps : List Leap) (steps : List Step) (memories : ℕ) : Type 0 where
   pub whole : IsWhole d
-  pub gate_count : length gates ≡ d.rungs
-  pub each_gates : (k : ℕ) → k < d.rungs → slice_index_or gates k [] ≡ gates_of d k
-  pub action_count : length actions ≡ d.rungs
-  pub each_actions : (k : ℕ) → k < d.rungs → slice_index_or actions k [] ≡ actions_of d k
-  pub jump_count : length jumps ≡ d.rungs
-  pub each_jump : (k : ℕ) → k < d.rungs → slice_index_or jumps k None ≡ jump_of d k
-  pub exit_count : length exits ≡ d.rungs
-  pub each_exit : (k : ℕ) → k < d.rungs → slice_index_or exits k None ≡ exit_of d k
+  pub each_gates : IsOfEach d.rungs [] (gates_of d) gates
+  pub each_actions : IsOfEach d.rungs [] (actions_of d) actions
+  pub each_jump : IsOfEach d.rungs None (jump_of d) jumps
+  pub each_exit : IsOfEach d.rungs None (exit_of d) exits
   pub all_leaps : leaps ≡ leaps_below d d.rungs
   pub all_steps : steps ≡ steps_below d d.rungs
   pub memory_count : memories ≡ memories_of d

@@ -3,11 +3,11 @@
 //! The links of a rung are kept in one list, by the places of the cells: what a gate gives is at the place of its cell, and what a
 //! cell by itself lets through `OWN` further on.
 
-ghost use Rattle.std.specs.Prelude.{◌≡◌, ◌<◌, ◌≤◌, ◌+◌, ◌*◌, ◌-◌, ◌/◌, ◌%◌, ◌==◌, ◌&&◌, nat_lt, Some, None, length, map, IfOk, if◌then◌else◌};
+ghost use Rattle.std.specs.Prelude.{◌≡◌, ◌<◌, ◌≤◌, ◌+◌, ◌/◌, ◌%◌, ◌==◌, ◌&&◌, nat_lt, Some, None, [], map, IfOk, if◌then◌else◌};
 ghost use Rattle.ladder_page.specs.declared.geometry.TheConstants.{RUNGS, ROWS, COLUMNS, PLACES};
 ghost use Rattle.ladder_grid.specs.Program.{cell_of, feeds, jump_of};
-ghost use Rattle.ladder_grid.specs.Gates.{last_of, last_feeder, literal_of, below_of, gate_at, has_gate, gates_of, acts, action_at, actions_of, exit_of, leaps_below};
-ghost use Rattle.ladder_grid.specs.Sheet.{drawing_of, HasGates, HasActions, HasJumps, HasExits};
+ghost use Rattle.ladder_grid.specs.Gates.{last_feeder, literal_of, below_of, gate_at, has_gate, gates_of, acts, action_at, actions_of, exit_of, leaps_below};
+ghost use Rattle.ladder_grid.specs.Sheet.{drawing_of, IsOfEach};
 
 use crate::cell::{Cell, Operand};
 use crate::sheet::{Jump, Sheet, feeds, site_in};
@@ -81,7 +81,7 @@ pub struct Leap {
 #[tactic(auto, using(crate::proofs::StepLaws::last_step))]
 pub(crate) fn feeder(sheet: Sheet<'_>, at: Place, count: usize) -> u8
     requires { count ≤ ROWS }
-    ensures { result ≡ (if at.column == 0 then ON else last_of (feeds (drawing_of sheet.entry) at.rung at.row at.column) (ROWS * (at.column - 1)) count) }
+    ensures { result ≡ (if at.column == 0 then ON else last_feeder (drawing_of sheet.entry) at.rung at.row at.column count) }
 {
     if at.column == 0 {
         return ON as u8;
@@ -212,8 +212,7 @@ fn rung_gates(alloc: Global, sheet: Sheet<'_>, rung: usize) -> Result<Vec<Gate>,
 /// The gates of each rung.
 pub(crate) fn gates(alloc: Global, sheet: Sheet<'_>) -> Result<Vec<Vec<Gate>>, AllocError>
     requires rungs { sheet.rungs ≤ RUNGS }
-    ensures count { IfOk result (λ v. length v.items ≡ sheet.entry.rungs) }
-    ensures gates { IfOk result (λ v. HasGates sheet.entry (map (λ x. x.items) v.items)) }
+    ensures { IfOk result (λ v. IsOfEach sheet.entry.rungs [] (gates_of (drawing_of sheet.entry)) (map (λ x. x.items) v.items)) }
 {
     let mut gates: Vec<Vec<Gate>> = Vec::new(alloc);
     for rung in 0..sheet.rungs {
@@ -268,8 +267,7 @@ fn rung_actions(alloc: Global, sheet: Sheet<'_>, rung: usize) -> Result<Vec<Acti
 /// The actions of each rung.
 pub(crate) fn actions(alloc: Global, sheet: Sheet<'_>) -> Result<Vec<Vec<Action>>, AllocError>
     requires rungs { sheet.rungs ≤ RUNGS }
-    ensures count { IfOk result (λ v. length v.items ≡ sheet.entry.rungs) }
-    ensures actions { IfOk result (λ v. HasActions sheet.entry (map (λ x. x.items) v.items)) }
+    ensures { IfOk result (λ v. IsOfEach sheet.entry.rungs [] (actions_of (drawing_of sheet.entry)) (map (λ x. x.items) v.items)) }
 {
     let mut actions: Vec<Vec<Action>> = Vec::new(alloc);
     for rung in 0..sheet.rungs {
@@ -301,10 +299,8 @@ pub(crate) fn exits(
     jumps: &[Option<Jump>],
 ) -> Result<Vec<Option<Exit>>, AllocError>
     requires rungs { sheet.rungs ≤ RUNGS }
-    requires count { length jumps.now ≡ sheet.rungs }
-    requires jumps { HasJumps sheet jumps.now }
-    ensures count { IfOk result (λ v. length v.items ≡ sheet.entry.rungs) }
-    ensures exits { IfOk result (λ v. HasExits sheet.entry v.items) }
+    requires jumps { IsOfEach sheet.rungs None (jump_of (drawing_of sheet)) jumps.now }
+    ensures { IfOk result (λ v. IsOfEach sheet.entry.rungs None (exit_of (drawing_of sheet.entry)) v.items) }
 {
     let mut exits: Vec<Option<Exit>> = Vec::new(alloc);
     for rung in 0..sheet.rungs {
@@ -319,8 +315,7 @@ pub(crate) fn leaps(
     sheet: Sheet<'_>,
     jumps: &[Option<Jump>],
 ) -> Result<Vec<Leap>, AllocError>
-    requires count { length jumps.now ≡ sheet.rungs }
-    requires jumps { HasJumps sheet jumps.now }
+    requires jumps { IsOfEach sheet.rungs None (jump_of (drawing_of sheet)) jumps.now }
     ensures { IfOk result (λ v. v.items ≡ leaps_below (drawing_of sheet.entry) sheet.entry.rungs) }
 {
     let mut leaps: Vec<Leap> = Vec::new(alloc);

@@ -1,6 +1,6 @@
 //! Reads a program whose declarations have their aliases for titles.
 
-ghost use Rattle.std.specs.Prelude.{◌≡◌, ◌≤◌, IfOk, IfErr};
+ghost use Rattle.std.specs.Prelude.{IfOk, IfErr};
 ghost use Rattle.ladder_grid.specs.Titled.{IsTitledProgram, IsRightTitled};
 
 use crate::build::read_sites;

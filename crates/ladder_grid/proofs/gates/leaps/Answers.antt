@@ -26,7 +26,7 @@ pub loop-rung-preserved : goal.loop-rung-preserved
 loop-rung-preserved c =
     let d = drawing_of c.args.sheet in
     let n = c.loop-rung.rung in
-    let here : slice_index_or c.args.jumps.now n None ≡ jump_of d n = c.requires.jumps n (omega arith) in
+    let here : slice_index_or c.args.jumps.now n None ≡ jump_of d n = c.requires.jumps.1 n (omega arith) in
     elim c.match-jumps-rung.branch [
       | in-Some+in_ok-push w ↦
           ap (λ v. v.items) w.leaps-is ∙ w.in_ok-push.ensures.items
