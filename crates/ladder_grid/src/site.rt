@@ -5,7 +5,7 @@ ghost use Rattle.ladder_vars.specs.declared.kind.BlockKind.{BlockKind};
 ghost use Rattle.ladder_page.specs.declared.form.Form.TheVariants as form;
 ghost use Rattle.ladder_page.specs.Seen.{seen};
 ghost use Rattle.ladder_page.specs.Page.{labels_of, instance_at};
-ghost use Rattle.ladder_grid.specs.Reading.{is_edge, memory_for, cell_with, cell_drawn, site_drawn};
+ghost use Rattle.ladder_grid.specs.Reading.{is_edge, cell_with, cell_drawn, site_drawn};
 
 use crate::cell::{Cell, Joint, Operand};
 use ladder_page::geometry::Place;
@@ -49,12 +49,6 @@ pub(crate) fn is_edge(form: Option<Form>) -> bool
     }
 }
 
-fn memory_for(number: usize, form: Option<Form>) -> Option<usize>
-    ensures { result ≡ memory_for number form }
-{
-    if is_edge(form) { Some(number) } else { None }
-}
-
 fn contact_on(number: usize, mode: Mode, symbol: Symbol) -> Cell
     ensures { result ≡ cell_with number (Some (form.Contact mode)) (Some symbol) None None }
 {
@@ -62,7 +56,11 @@ fn contact_on(number: usize, mode: Mode, symbol: Symbol) -> Cell
         Symbol::Var(var) => Operand::Var(var),
         Symbol::Instance(inst) => Operand::Output(inst),
     };
-    let memory = memory_for(number, Some(Form::Contact(mode)));
+    let memory = if is_edge(Some(Form::Contact(mode))) {
+        Some(number)
+    } else {
+        None
+    };
     Cell::Contact {
         mode,
         operand,
@@ -75,7 +73,11 @@ fn coil_on(number: usize, mode: CoilMode, symbol: Symbol) -> Cell
 {
     match symbol {
         Symbol::Var(var) => {
-            let memory = memory_for(number, Some(Form::Coil(mode)));
+            let memory = if is_edge(Some(Form::Coil(mode))) {
+                Some(number)
+            } else {
+                None
+            };
             Cell::Coil { mode, var, memory }
         }
         Symbol::Instance(_) => Cell::Empty,

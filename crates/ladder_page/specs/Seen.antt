@@ -1,14 +1,8 @@
 -- Private: the page that the code holds while it reads it.
-use Rattle.std.specs.Prelude.{ℕ, map}
-use Rattle.ladder_page.specs.declared.lines.Part.{Part}
+use Rattle.std.specs.Prelude.{map}
 use Rattle.ladder_page.specs.declared.view.PageView.{PageView}
-use Rattle.ladder_page.specs.Lines.{part_in}
 use Rattle.ladder_page.specs.Page.{Page}
 use Rattle.ladder_page.specs.ReadLines.{page}
 
 abbrev pub seen : PageView → Page
 seen v = page v.decls.now (map (λ l. l.now) v.lines.now) v.unclosed v.parts.now v.forms.now
-
--- a rung and its gap
-abbrev pub part_at : Page → ℕ → Part
-part_at page k = part_in page.parts k

@@ -8,7 +8,7 @@ ghost use Rattle.ladder_page.specs.Picture.{has_text};
 ghost use Rattle.ladder_page.specs.Texts.{text_over};
 ghost use Rattle.ladder_page.specs.Lines.{part_in, rung_of};
 ghost use Rattle.ladder_page.specs.Page.{rung_at, form_at, name_over, instance_at};
-ghost use Rattle.ladder_page.specs.Seen.{seen, part_at};
+ghost use Rattle.ladder_page.specs.Seen.{seen};
 
 use crate::form::{Form, form_at as form_of};
 use crate::geometry::{PLACES, Place, RUNGS};
@@ -33,7 +33,7 @@ fn rung_in<'a, 'b>(lines: &'a [&'b [u8]], parts: &[Part], rung: usize) -> &'a [&
 /// The rung and its gap.
 pub fn part_at(page: PageView<'_, '_>, rung: usize) -> Part
     requires rungs { rung < length page.parts.now }
-    ensures value { result ≡ part_at (seen page.entry) rung }
+    ensures value { result ≡ part_in page.entry.parts.now rung }
     ensures within { IsWithin (length page.entry.lines.now) result }
 {
     page.parts[rung]
@@ -43,7 +43,7 @@ pub fn part_at(page: PageView<'_, '_>, rung: usize) -> Part
 pub fn rung_at<'a, 'b>(page: PageView<'a, 'b>, rung: usize) -> &'a [&'b [u8]]
     requires rungs { rung < length page.parts.now }
     ensures value { map (λ l. l.now) result.now ≡ rung_at (seen page.entry) rung }
-    ensures count { (part_at (seen page.entry) rung).start + length result.now ≡ (part_at (seen page.entry) rung).end }
+    ensures count { (part_in page.entry.parts.now rung).start + length result.now ≡ (part_in page.entry.parts.now rung).end }
 {
     rung_in(page.lines, page.parts, rung)
 }

@@ -1,5 +1,5 @@
 -- Where jumps lead to, as the code finds it.
-use Rattle.std.proofs.Common.{◌≡◌, ℕ, List, Option, Some, None, refl, sym, ap, ◌∙◌}
+use Rattle.std.proofs.Common.{◌≡◌, ℕ, Option, Some, None, refl}
 use Rattle.ladder_page.specs.declared.form.Form.{Form}
 use Rattle.ladder_page.specs.declared.form.Form.TheVariants.{Empty, Wire, Contact, Coil, Block, Lower, Jump, Return}
 use Rattle.ladder_page.specs.Gap.{Labels}

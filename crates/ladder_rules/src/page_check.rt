@@ -4,7 +4,8 @@ ghost use Rattle.std.specs.Prelude.{◌≡◌, ◌≤◌, ◌<◌, ◌+◌, ◌�
 ghost use Rattle.ladder_page.specs.declared.geometry.TheConstants.{RUNGS, LINES};
 ghost use Rattle.ladder_page.specs.declared.form.Form.TheVariants.{Jump};
 ghost use Rattle.ladder_page.specs.Gap.{is_named};
-ghost use Rattle.ladder_page.specs.Seen.{seen, part_at};
+ghost use Rattle.ladder_page.specs.Lines.{part_in};
+ghost use Rattle.ladder_page.specs.Seen.{seen};
 ghost use Rattle.ladder_page.specs.Page.{labels_of};
 ghost use Rattle.ladder_rules.specs.Checks.{label_of};
 ghost use Rattle.ladder_rules.specs.PageRules.{target_of, PartBreaks, EndBreaks, TargetBreaks};
@@ -34,7 +35,7 @@ fn read_part(
     requires rungs { rung < length page.parts.now }
     requires known { labels.now ≡ labels_of (map (λ l. l.now) page.lines.now) (take rung page.parts.now) }
     requires few { rung ≤ RUNGS }
-    ensures label { IfOk result (λ x. x ≡ label_of (map (λ l. l.now) page.entry.lines.now) (part_at (seen page.entry) rung)) }
+    ensures label { IfOk result (λ x. x ≡ label_of (map (λ l. l.now) page.entry.lines.now) (part_in page.entry.parts.now rung)) }
     ensures kept { IfOk result (λ _. (row : Rule) (line : ℕ) → PartBreaks row (seen page.entry) rung line → ⊥) }
     ensures few { IfOk result (λ _. rung < RUNGS) }
     ensures broken { IfErr result (λ e. PartBreaks e.0 (seen page.entry) rung e.1) }

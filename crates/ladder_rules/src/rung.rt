@@ -4,7 +4,8 @@ ghost use Rattle.std.specs.Prelude.{◌≡◌, ◌<◌, ◌+◌, ℕ, length, ma
 ghost use Rattle.std.specs.List.{list_any};
 ghost use Rattle.ladder_page.specs.Bytes.{space};
 ghost use Rattle.ladder_page.specs.declared.geometry.TheConstants.{RUNGS, LINES};
-ghost use Rattle.ladder_page.specs.Seen.{seen, part_at};
+ghost use Rattle.ladder_page.specs.Lines.{part_in};
+ghost use Rattle.ladder_page.specs.Seen.{seen};
 ghost use Rattle.ladder_rules.specs.Checks.{is_dirty_at, is_wide_at};
 ghost use Rattle.ladder_rules.specs.Rung.{RungBreaks, IsSoundRung};
 
@@ -63,7 +64,7 @@ pub(crate) fn broken_rule(page: PageView<'_, '_>, rung: usize) -> Option<(Rule, 
     requires rungs { rung < length page.parts.now }
     requires few { rung < RUNGS }
     ensures some { IfSome result (λ x. RungBreaks x.0 (seen page.entry) rung x.1) }
-    ensures near { IfSome result (λ x. (part_at (seen page.entry) rung).start + x.1 < (part_at (seen page.entry) rung).end + LINES) }
+    ensures near { IfSome result (λ x. (part_in page.entry.parts.now rung).start + x.1 < (part_in page.entry.parts.now rung).end + LINES) }
     ensures none { IfNone result (IsSoundRung (seen page.entry) rung) }
 {
     let lines = rung_at(page, rung);
