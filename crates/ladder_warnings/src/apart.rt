@@ -1,20 +1,18 @@
 //! Rows that nothing joins with those above.
 
 ghost use Rattle.std.specs.Prelude.{◌≡◌, ◌<◌, ◌≤◌, ◌↔◌, IsTrue};
-ghost use Rattle.ladder_page.specs.declared.geometry.TheConstants.{COLUMNS, ROWS};
+ghost use Rattle.ladder_page.specs.declared.geometry.TheConstants.{COLUMNS, ROWS, RUNGS};
 ghost use Rattle.ladder_warnings.specs.Below.{SomeBelow};
 ghost use Rattle.ladder_warnings.specs.Warned.{HasCellAt, HasCells, IsApart, IsJoinedAt};
 
 use ladder_grid::{Cell, Program};
-use ladder_page::geometry::{COLUMNS, ROWS};
+use ladder_page::geometry::{COLUMNS, Place};
 
-fn has_cell_at(program: &Program, rung: usize, row: usize, column: usize) -> bool
-    requires rungs { rung < program.now.rungs }
-    requires rows { row < ROWS }
-    requires columns { column < COLUMNS }
-    ensures { IsTrue result ↔ HasCellAt program.now rung row column }
+fn has_cell_at(program: &Program, at: Place) -> bool
+    requires { at.rung < program.now.rungs }
+    ensures { IsTrue result ↔ HasCellAt program.now at.rung at.row at.column }
 {
-    match program.cell(rung, row, column) {
+    match program.site(at).cell {
         Cell::Empty => false,
         Cell::Wire
         | Cell::Contact { .. }
@@ -29,11 +27,12 @@ fn has_cell_at(program: &Program, rung: usize, row: usize, column: usize) -> boo
 /// Whether something is drawn in the row.
 fn has_cells(program: &Program, rung: usize, row: usize) -> bool
     requires rungs { rung < program.now.rungs }
+    requires few { rung < RUNGS }
     requires rows { row < ROWS }
     ensures { IsTrue result ↔ HasCells program.now rung row }
 {
     for column in 0..COLUMNS {
-        if has_cell_at(program, rung, row, column) {
+        if has_cell_at(program, Place { rung, row, column }) {
             return true;
         }
     }
@@ -43,6 +42,7 @@ fn has_cells(program: &Program, rung: usize, row: usize) -> bool
 /// Whether something is drawn in one of the rows above.
 fn has_cells_above(program: &Program, rung: usize, row: usize) -> bool
     requires rungs { rung < program.now.rungs }
+    requires few { rung < RUNGS }
     requires rows { row < ROWS }
     ensures { IsTrue result ↔ SomeBelow row (HasCells program.now rung) }
 {
@@ -55,14 +55,12 @@ fn has_cells_above(program: &Program, rung: usize, row: usize) -> bool
 }
 
 /// Whether a vertical link or a block joins the row with the one above it at a column.
-fn is_joined_at(program: &Program, rung: usize, row: usize, column: usize) -> bool
-    requires rungs { rung < program.now.rungs }
-    requires rows { row < ROWS }
-    requires lower { 1 ≤ row }
-    requires columns { column < COLUMNS }
-    ensures { IsTrue result ↔ IsJoinedAt program.now rung row column }
+fn is_joined_at(program: &Program, at: Place) -> bool
+    requires rungs { at.rung < program.now.rungs }
+    requires lower { 1 ≤ at.row }
+    ensures { IsTrue result ↔ IsJoinedAt program.now at.rung at.row at.column }
 {
-    match program.cell(rung, row, column) {
+    match program.site(at).cell {
         Cell::Lower { .. } => true,
         Cell::Empty
         | Cell::Wire
@@ -70,19 +68,20 @@ fn is_joined_at(program: &Program, rung: usize, row: usize, column: usize) -> bo
         | Cell::Coil { .. }
         | Cell::Block { .. }
         | Cell::Jump { .. }
-        | Cell::Return => column >= 1 && program.vertical(rung, row - 1, column),
+        | Cell::Return => at.column >= 1 && program.site(at.in_row(at.row - 1)).vertical,
     }
 }
 
 /// Whether a vertical link or a block joins the row with the one above it.
 fn is_joined_up(program: &Program, rung: usize, row: usize) -> bool
     requires rungs { rung < program.now.rungs }
+    requires few { rung < RUNGS }
     requires rows { row < ROWS }
     requires lower { 1 ≤ row }
     ensures { IsTrue result ↔ SomeBelow COLUMNS (IsJoinedAt program.now rung row) }
 {
     for column in 0..COLUMNS {
-        if is_joined_at(program, rung, row, column) {
+        if is_joined_at(program, Place { rung, row, column }) {
             return true;
         }
     }
@@ -90,14 +89,13 @@ fn is_joined_up(program: &Program, rung: usize, row: usize) -> bool
 }
 
 /// Whether the place is the first one of a row that nothing joins with those above.
-pub(crate) fn is_apart(program: &Program, rung: usize, row: usize, column: usize) -> bool
-    requires rungs { rung < program.now.rungs }
-    requires rows { row < ROWS }
-    ensures { IsTrue result ↔ IsApart program.now rung row column }
+pub(crate) fn is_apart(program: &Program, at: Place) -> bool
+    requires { at.rung < program.now.rungs }
+    ensures { IsTrue result ↔ IsApart program.now at.rung at.row at.column }
 {
-    column == 0
-        && row >= 1
-        && has_cells(program, rung, row)
-        && has_cells_above(program, rung, row)
-        && !is_joined_up(program, rung, row)
+    at.column == 0
+        && at.row >= 1
+        && has_cells(program, at.rung, at.row)
+        && has_cells_above(program, at.rung, at.row)
+        && !is_joined_up(program, at.rung, at.row)
 }

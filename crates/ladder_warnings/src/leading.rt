@@ -1,31 +1,23 @@
 //! Where power can get from the right end of a cell.
 
 ghost use Rattle.std.specs.Prelude.{◌≡◌, ◌↔◌, ◌+◌, ◌-◌, ◌<◌, ◌≤◌, IsTrue};
-ghost use Rattle.ladder_page.specs.declared.geometry.TheConstants.{COLUMNS, ROWS};
+ghost use Rattle.ladder_page.specs.declared.geometry.TheConstants.{COLUMNS, ROWS, RUNGS};
 ghost use Rattle.ladder_warnings.specs.Routes.{HasRoute, LeadsNowhere, LeadsThrough};
 ghost use Rattle.ladder_warnings.specs.Leading.{AreLeading};
 
 use ladder_grid::{Cell, Program};
-use ladder_page::geometry::{COLUMNS, ROWS};
+use ladder_page::geometry::{COLUMNS, Place, ROWS};
 
-/// Whether the right link of a row leads to a cell, and so to one that uses power; `onward`: whether the cell's right end leads to one.
+/// Whether the right link of the row `from` leads to the cell at a place, and so to one that uses power; `onward`: whether the cell's right end leads to one.
 #[tactic(auto, unfolding(crate::specs::Routes::LeadsThrough))]
-fn leads_through(
-    program: &Program,
-    rung: usize,
-    from: usize,
-    row: usize,
-    column: usize,
-    onward: bool,
-) -> bool
-    requires rungs { rung < program.now.rungs }
-    requires columns { column < COLUMNS }
-    requires rows { (row < ROWS) × (from < ROWS) }
-    requires onward { IsTrue onward ↔ HasRoute program.now rung row column }
-    ensures { IsTrue result ↔ LeadsThrough program.now rung from row column (HasRoute program.now rung row column) }
+fn leads_through(program: &Program, from: usize, at: Place, onward: bool) -> bool
+    requires rungs { at.rung < program.now.rungs }
+    requires rows { from < ROWS }
+    requires onward { IsTrue onward ↔ HasRoute program.now at.rung at.row at.column }
+    ensures { IsTrue result ↔ LeadsThrough program.now at.rung from at.row at.column (HasRoute program.now at.rung at.row at.column) }
 {
-    program.feeds(rung, row, column, from)
-        && match program.cell(rung, row, column) {
+    program.feeds(at, from)
+        && match program.site(at).cell {
             Cell::Coil { .. } | Cell::Block { .. } | Cell::Jump { .. } | Cell::Return => true,
             Cell::Lower { linked, .. } => linked,
             Cell::Wire | Cell::Contact { .. } => onward,
@@ -36,6 +28,7 @@ fn leads_through(
 /// Whether the right end of the cell leads to one that uses power, with `count` columns behind the next one.
 fn leads(program: &Program, rung: usize, from: usize, count: usize, onward: &[bool; ROWS]) -> bool
     requires rungs { rung < program.now.rungs }
+    requires few { rung < RUNGS }
     requires rows { from < ROWS }
     requires columns { count + 1 < COLUMNS }
     requires onward { AreLeading program.now rung count onward.now }
@@ -43,7 +36,7 @@ fn leads(program: &Program, rung: usize, from: usize, count: usize, onward: &[bo
 {
     let column = COLUMNS - (count + 1);
     for row in 0..ROWS {
-        if leads_through(program, rung, from, row, column, onward[row]) {
+        if leads_through(program, from, Place { rung, row, column }, onward[row]) {
             return true;
         }
     }
@@ -58,6 +51,7 @@ fn leading_before(
     onward: &[bool; ROWS],
 ) -> [bool; ROWS]
     requires rungs { rung < program.now.rungs }
+    requires few { rung < RUNGS }
     requires columns { count + 1 < COLUMNS }
     requires onward { AreLeading program.now rung count onward.now }
     ensures { AreLeading program.now rung (count + 1) result }
@@ -72,6 +66,7 @@ fn leading_before(
 /// From which rows the right end of a cell leads to one that uses power, with so many columns on its right.
 fn leading(program: &Program, rung: usize, count: usize) -> [bool; ROWS]
     requires rungs { rung < program.now.rungs }
+    requires few { rung < RUNGS }
     requires columns { count < COLUMNS }
     ensures { AreLeading program.now rung count result }
 {
@@ -83,14 +78,12 @@ fn leading(program: &Program, rung: usize, count: usize) -> [bool; ROWS]
 }
 
 /// Whether the place has a contact from which power gets to nothing that uses it.
-pub(crate) fn leads_nowhere(program: &Program, rung: usize, row: usize, column: usize) -> bool
-    requires rungs { rung < program.now.rungs }
-    requires rows { row < ROWS }
-    requires columns { column < COLUMNS }
-    ensures { IsTrue result ↔ LeadsNowhere program.now rung row column }
+pub(crate) fn leads_nowhere(program: &Program, at: Place) -> bool
+    requires { at.rung < program.now.rungs }
+    ensures { IsTrue result ↔ LeadsNowhere program.now at.rung at.row at.column }
 {
-    match program.cell(rung, row, column) {
-        Cell::Contact { .. } => !leading(program, rung, COLUMNS - (column + 1))[row],
+    match program.site(at).cell {
+        Cell::Contact { .. } => !leading(program, at.rung, COLUMNS - (at.column + 1))[at.row],
         Cell::Empty
         | Cell::Wire
         | Cell::Coil { .. }

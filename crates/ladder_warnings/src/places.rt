@@ -1,6 +1,6 @@
 //! Which places of a program have a warning.
 
-ghost use Rattle.std.specs.Prelude.{◌≡◌, ◌*◌, ◌<◌, ◌≤◌, ◌↔◌, IsTrue, Some, true};
+ghost use Rattle.std.specs.Prelude.{◌≡◌, ◌*◌, ◌/◌, ◌%◌, ◌<◌, ◌≤◌, ◌↔◌, IsTrue, Some, true};
 ghost use Rattle.ladder_page.specs.declared.geometry.TheConstants.{COLUMNS, PLACES, ROWS};
 ghost use Rattle.ladder_grid.specs.Program.{block_in, cell_in, is_coil_of};
 ghost use Rattle.ladder_warnings.specs.Warned.{Clashes, HasCell, HasCellBefore, IsLooseCrossing, IsNeverRead, IsNeverWritten, IsUnwritten, IsWarned, IsWrittenTwice, Reads};
@@ -12,29 +12,35 @@ use crate::symbols::{clashes, draws, is_of_kind, operand_of, reads};
 use crate::warning::Warning;
 use ladder_grid::{Cell, Joint, Program};
 use ladder_page::CoilMode;
-use ladder_page::geometry::{PLACES, ROWS};
+use ladder_page::geometry::{PLACES, Place, ROWS};
 use ladder_vars::{Symbol, VarKind};
+
+/// The place with this number, by rung, column and row.
+fn place_of(program: &Program, place: usize) -> Place
+    requires { place < PLACES * program.now.rungs }
+    ensures { (result.rung ≡ place / PLACES) × (result.row ≡ place % PLACES % ROWS) × (result.column ≡ place % PLACES / ROWS) }
+{
+    let _rungs = program.rungs();
+    Place::of(place)
+}
 
 /// The cell at a place. Places go by rung, column and row.
 pub(crate) fn cell_in(program: &Program, place: usize) -> Cell
     requires { place < PLACES * program.now.rungs }
     ensures { result ≡ cell_in program.now place }
 {
-    let (rung, at) = (place / PLACES, place % PLACES);
-    program.cell(rung, at % ROWS, at / ROWS)
+    program.site(place_of(program, place)).cell
 }
 
-fn is_loose_crossing(program: &Program, rung: usize, row: usize, column: usize) -> bool
-    requires rungs { rung < program.now.rungs }
-    requires rows { row < ROWS }
-    requires columns { column < COLUMNS }
-    ensures { IsTrue result ↔ IsLooseCrossing program.now rung row column }
+fn is_loose_crossing(program: &Program, at: Place) -> bool
+    requires { at.rung < program.now.rungs }
+    ensures { IsTrue result ↔ IsLooseCrossing program.now at.rung at.row at.column }
 {
-    column >= 1
-        && row + 1 < ROWS
-        && program.joint(rung, row, column) == Joint::Plus
-        && program.joint(rung, row + 1, column) == Joint::Plus
-        && !program.vertical(rung, row, column)
+    at.column >= 1
+        && at.row + 1 < ROWS
+        && program.site(at).joint == Joint::Plus
+        && program.site(at.in_row(at.row + 1)).joint == Joint::Plus
+        && !program.site(at).vertical
 }
 
 /// Whether a contact at one of the first places reads the variable or the instance.
@@ -157,14 +163,14 @@ pub(crate) fn is_warned(program: &Program, place: usize, warning: Warning) -> bo
     requires { place < PLACES * program.now.rungs }
     ensures { IsTrue result ↔ IsWarned program.now place warning }
 {
-    let (rung, at) = (place / PLACES, place % PLACES);
+    let at = place_of(program, place);
     match warning {
-        Warning::LooseCrossing => is_loose_crossing(program, rung, at % ROWS, at / ROWS),
-        Warning::Apart => is_apart(program, rung, at % ROWS, at / ROWS),
-        Warning::LeadsNowhere => leads_nowhere(program, rung, at % ROWS, at / ROWS),
+        Warning::LooseCrossing => is_loose_crossing(program, at),
+        Warning::Apart => is_apart(program, at),
+        Warning::LeadsNowhere => leads_nowhere(program, at),
         Warning::WrittenTwice => is_written_twice(program, place),
         Warning::NeverWritten => is_never_written(program, place),
         Warning::NeverRead => is_never_read(program, place),
-        Warning::NeverReached => is_never_reached(program, rung, at % ROWS, at / ROWS),
+        Warning::NeverReached => is_never_reached(program, at),
     }
 }

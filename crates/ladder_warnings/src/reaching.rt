@@ -7,7 +7,7 @@ ghost use Rattle.ladder_warnings.specs.Reaching.{AreReached};
 
 use crate::wired::always_leaves;
 use ladder_grid::Program;
-use ladder_page::geometry::RUNGS;
+use ladder_page::geometry::{Place, RUNGS};
 
 /// Whether the rung's jump or return goes to another one.
 fn jumps_to(program: &Program, from: usize, rung: usize) -> bool
@@ -66,9 +66,9 @@ fn is_reached(program: &Program, rung: usize) -> bool
 }
 
 /// Whether the place is the first one of a rung that no scan reaches.
-pub(crate) fn is_never_reached(program: &Program, rung: usize, row: usize, column: usize) -> bool
-    requires { rung < program.now.rungs }
-    ensures { IsTrue result ↔ IsNeverReached program.now rung row column }
+pub(crate) fn is_never_reached(program: &Program, at: Place) -> bool
+    requires { at.rung < program.now.rungs }
+    ensures { IsTrue result ↔ IsNeverReached program.now at.rung at.row at.column }
 {
-    row == 0 && column == 0 && !is_reached(program, rung)
+    at.row == 0 && at.column == 0 && !is_reached(program, at.rung)
 }

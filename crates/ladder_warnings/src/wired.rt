@@ -1,12 +1,12 @@
 //! What is connected to the left rail by wires alone.
 
 ghost use Rattle.std.specs.Prelude.{◌↔◌, ◌+◌, ◌<◌, IsTrue};
-ghost use Rattle.ladder_page.specs.declared.geometry.TheConstants.{COLUMNS, ROWS};
+ghost use Rattle.ladder_page.specs.declared.geometry.TheConstants.{COLUMNS, ROWS, RUNGS};
 ghost use Rattle.ladder_warnings.specs.Ways.{AlwaysLeaves, IsWired, IsWiredBy};
 ghost use Rattle.ladder_warnings.specs.Reaching.{AreWired};
 
 use ladder_grid::{Cell, Program};
-use ladder_page::geometry::ROWS;
+use ladder_page::geometry::{Place, ROWS};
 
 /// Whether a wire in the row `from` of a column feeds the row of the next one; `wired`: whether wires connect it to the left rail.
 #[tactic(auto, unfolding(crate::specs::Ways::IsWiredBy))]
@@ -19,19 +19,24 @@ fn is_wired_by(
     wired: bool,
 ) -> bool
     requires rungs { rung < program.now.rungs }
+    requires few { rung < RUNGS }
     requires columns { column + 1 < COLUMNS }
     requires rows { (row < ROWS) × (from < ROWS) }
     requires wired { IsTrue wired ↔ IsWired program.now rung column from }
     ensures { IsTrue result ↔ IsWiredBy program.now rung row from column (IsWired program.now rung column from) }
 {
-    program.feeds(rung, row, column + 1, from)
-        && program.cell(rung, from, column) == Cell::Wire
-        && wired
+    let fed = Place {
+        rung,
+        row,
+        column: column + 1,
+    };
+    program.feeds(fed, from) && program.cell(rung, from, column) == Cell::Wire && wired
 }
 
 /// Whether wires connect the left end of a cell to the left rail; `wired`: which left ends in the column before they do.
 fn is_wired(program: &Program, rung: usize, row: usize, column: usize, wired: &[bool; ROWS]) -> bool
     requires rungs { rung < program.now.rungs }
+    requires few { rung < RUNGS }
     requires rows { row < ROWS }
     requires columns { column + 1 < COLUMNS }
     requires wired { AreWired program.now rung column wired.now }
@@ -48,6 +53,7 @@ fn is_wired(program: &Program, rung: usize, row: usize, column: usize, wired: &[
 /// Which left ends of cells in the next column wires connect to the left rail; `wired`: which in this one.
 fn wired_behind(program: &Program, rung: usize, column: usize, wired: &[bool; ROWS]) -> [bool; ROWS]
     requires rungs { rung < program.now.rungs }
+    requires few { rung < RUNGS }
     requires columns { column + 1 < COLUMNS }
     requires wired { AreWired program.now rung column wired.now }
     ensures { AreWired program.now rung (column + 1) result }
@@ -62,6 +68,7 @@ fn wired_behind(program: &Program, rung: usize, column: usize, wired: &[bool; RO
 /// Which left ends of cells in a column wires connect to the left rail.
 fn wired(program: &Program, rung: usize, column: usize) -> [bool; ROWS]
     requires rungs { rung < program.now.rungs }
+    requires few { rung < RUNGS }
     requires columns { column < COLUMNS }
     ensures { AreWired program.now rung column result }
 {
@@ -74,7 +81,8 @@ fn wired(program: &Program, rung: usize, column: usize) -> [bool; ROWS]
 
 /// Whether the rung always ends with its jump or return: wires connect it to the left rail.
 pub(crate) fn always_leaves(program: &Program, rung: usize) -> bool
-    requires { rung < program.now.rungs }
+    requires rungs { rung < program.now.rungs }
+    requires few { rung < RUNGS }
     ensures { IsTrue result ↔ AlwaysLeaves program.now rung }
 {
     match program.jump(rung) {
