@@ -1,4 +1,5 @@
 pub mod Commas
+pub mod Items
 pub mod Lines
 pub mod Numbers
 pub mod Plain

@@ -1,7 +1,6 @@
 -- The cross-reference of a program (the profile): each name with the places where it is drawn.
-use Rattle.std.specs.Prelude.{◌++◌, ◌∷◌, ◌+◌, ◌==◌, ℕ, List, [], if◌then◌else◌, Option, Some, None, codes, decimal, filter_map, length, map, option_map, slice_get}
+use Rattle.std.specs.Prelude.{◌++◌, ◌∷◌, ◌+◌, ◌==◌, ℕ, List, [], if◌then◌else◌, Option, Some, None, codes, decimal, filter_map, length, map, option_map}
 use Rattle.std.specs.List.{flat_map, range_with_len}
-use Rattle.std.specs.Option.{option_map_or}
 use Rattle.ladder_vars.specs.Decls.{Declared, symbol_name}
 use Rattle.ladder_vars.specs.declared.decls.Symbol.{Symbol}
 use Rattle.ladder_vars.specs.declared.decls.Symbol.TheVariants as symbol

@@ -4,7 +4,7 @@ use Rattle.ladder_records.specs.Text.{lines_text}
 use Rattle.ladder_text.specs.Block.{SendsAll}
 use Rattle.ladder_uses.specs.Uses.{symbols_of}
 use Rattle.ladder_steady_text.specs.SteadyText.{claimed_rows}
-use Rattle.ladder_uses.proofs.Rows.{rows_apart, rows_prefix, rows_more, rows_sent}
+use Rattle.ladder_records.proofs.Items.{rows_apart, rows_prefix, rows_more, rows_sent}
 use Rattle.ladder_text.proofs.Sending.{sends_err}
 use Rattle.ladder_steady_text.proofs.names.add_names.Goals as goal
 

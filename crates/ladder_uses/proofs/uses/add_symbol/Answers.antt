@@ -3,7 +3,8 @@ use Rattle.ladder_records.proofs.Lines.{line_prefix, line_more}
 use Rattle.ladder_text.proofs.Sending.{sends_none, sends_err}
 use Rattle.ladder_vars.specs.Decls.{symbol_name}
 use Rattle.ladder_uses.specs.Uses.{place_rows}
-use Rattle.ladder_uses.proofs.Rows.{rows_prefix, unused_behind, unused_there}
+use Rattle.ladder_records.proofs.Items.{rows_prefix}
+use Rattle.ladder_uses.proofs.Rows.{unused_behind, unused_there}
 use Rattle.ladder_uses.proofs.uses.add_symbol.Goals as goal
 
 pub returns-in_err-rows-clause-sends : goal.returns-in_err-rows-clause-sends

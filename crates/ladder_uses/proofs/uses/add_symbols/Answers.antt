@@ -3,7 +3,7 @@ use Rattle.std.specs.List.{flat_map}
 use Rattle.ladder_records.specs.Text.{lines_text}
 use Rattle.ladder_text.specs.Block.{SendsAll}
 use Rattle.ladder_uses.specs.Uses.{symbol_rows, symbols_of}
-use Rattle.ladder_uses.proofs.Rows.{rows_apart, rows_prefix, rows_more, rows_sent}
+use Rattle.ladder_records.proofs.Items.{rows_apart, rows_prefix, rows_more, rows_sent}
 use Rattle.ladder_text.proofs.Sending.{sends_err}
 use Rattle.ladder_uses.proofs.uses.add_symbols.Goals as goal
 

@@ -8,7 +8,7 @@ use Rattle.ladder_warnings.specs.declared.warning.Warning.{Warning}
 use Rattle.ladder_warnings.specs.declared.warning.Warning.TheVariants.{LooseCrossing}
 use Rattle.ladder_warnings.specs.Decided.{decided}
 use Rattle.ladder_warnings.specs.Warnings.{all_warnings, row_if_warned, rows_at}
-use Rattle.ladder_warnings.proofs.Rows.{rows_apart, rows_more, rows_prefix, rows_sent}
+use Rattle.ladder_records.proofs.Items.{rows_apart, rows_more, rows_prefix, rows_sent}
 use Rattle.ladder_warnings.proofs.write.add_place.Goals as goal
 
 pub returns-in_err-more-clause-sends : goal.returns-in_err-more-clause-sends
