@@ -1,21 +1,19 @@
 -- What a text declares is read, and where a reading ends.
-use Rattle.std.proofs.Common.{◌≡◌, ℕ, zero, suc, ◌+◌, ◌-◌, ◌<◌, ◌≤◌, true, false, not, nat_le, List, [], ◌∷◌, ◌++◌, length, drop, codes, Ok, refl, sym, ap, subst, ◌∙◌, arith, append_assoc}
-use Rattle.std.specs.List.{list_any}
+use Rattle.std.proofs.Common.{◌≡◌, ℕ, zero, suc, ◌+◌, ◌-◌, ◌<◌, ◌≤◌, true, false, List, [], ◌∷◌, ◌++◌, length, drop, codes, Ok, refl, sym, ap, subst, ◌∙◌, arith, append_assoc}
 use Rattle.std.proofs.lemmas.List.{append-nil, length-append}
 use Rattle.std.proofs.Math.Seq.{drop-append_seam}
-use Rattle.std.proofs.lemmas.Bool.{and_parts, not-true}
 use Rattle.ladder_vars.specs.declared.decls.Var.{Var}
 use Rattle.ladder_vars.specs.declared.decls.Instance.{Instance}
 use Rattle.ladder_vars.specs.declared.decls.Body.TheVariants as body
-use Rattle.ladder_vars.specs.Name.{same_letters, keywords, is_name, has_name_form}
+use Rattle.ladder_vars.specs.Name.{same_letters, is_name}
 use Rattle.ladder_vars.specs.Decls.{Declared, AreKept}
 use Rattle.ladder_vars.specs.Text.{Gap, Nothing, Blank, Comment, LineComment, AreTokens}
 use Rattle.ladder_vars.specs.Grammar.{Is, Decl, AreDecls, declared_by, HasDecls}
 use Rattle.ladder_vars.specs.ReadDecls.{name_of, with_decl, added, nothing, decls_from, all_of}
-use Rattle.ladder_vars.proofs.Steps.{or_false}
 use Rattle.ladder_vars.proofs.TextReads.{first_token}
-use Rattle.ladder_vars.proofs.GrammarReads.{expect_reads, body_reads}
-use Rattle.ladder_vars.proofs.GrammarTakes.{TakesBody, body_takes}
+use Rattle.ladder_vars.proofs.BodyReads.{expect_reads, body_reads}
+use Rattle.ladder_vars.proofs.BodyReads.{TakesBody, body_takes}
+use Rattle.ladder_vars.proofs.Blocks.{no_keyword}
 use Rattle.ladder_vars.proofs.Accepting.{joined, accepts}
 
 -- ---- where a reading ends
@@ -63,12 +61,6 @@ rest-le text declared rest h = tokens-shorter h.0 text rest h.2
 names_itself : (name : List ℕ) (left : ℕ) → is_name name ≡ true → name_of name left ≡ Ok name
 unfolding name_of
 names_itself name left h = rw h refl
-
--- a name is no keyword
-pub no_keyword : (name : List ℕ) → is_name name ≡ true → same_letters name (codes "END_VAR") ≡ false
-no_keyword name h =
-    let parts = and_parts (nat_le (length name) 11) (not (list_any (same_letters name) keywords)) (and_parts (has_name_form name) _ h).1 in
-    (or_false _ _ (or_false _ _ (not-true (list_any (same_letters name) keywords) parts.1)).1).0
 
 joined-nil : (a : Declared) → joined a [] ≡ a
 joined-nil a =

@@ -14,7 +14,7 @@ use Rattle.ladder_vars.specs.ReadDecls.{expect, name_of, refusal, with_decl, ref
 use Rattle.ladder_times.proofs.Steps.{chosen}
 use Rattle.ladder_vars.proofs.Steps.{bind_ok}
 use Rattle.ladder_vars.proofs.TextTakes.{token_takes, AreTokens-append}
-use Rattle.ladder_vars.proofs.GrammarTakes.{halves, expect_takes, TakesBody, body_takes}
+use Rattle.ladder_vars.proofs.BodyReads.{halves, expect_takes, TakesBody, body_takes}
 
 -- the text reads VAR and these declarations up to here
 pub record ReadsTo (text : List ℕ) (ds : List Decl) (due : List ℕ) : Type 0 where

@@ -31,7 +31,7 @@ use Rattle.ladder_vars.proofs.Steps.{or_false, bind_ok}
 use Rattle.ladder_vars.proofs.Lists.{none_passes}
 use Rattle.ladder_vars.proofs.Keeping.{same_letters-flips, names-any, titles-any}
 use Rattle.ladder_vars.proofs.TextTakes.{token_takes, AreTokens-append}
-use Rattle.ladder_vars.proofs.GrammarTakes.{TakesBody, body_takes, expect_takes}
+use Rattle.ladder_vars.proofs.BodyReads.{TakesBody, body_takes, expect_takes}
 use Rattle.ladder_vars.proofs.DeclReads.{all_reads}
 use Rattle.ladder_vars.proofs.DeclTakes.{ReadsTo, next_due, declared_by-push}
 use Rattle.ladder_vars.proofs.DeclFaults.{head_is}
