@@ -1,5 +1,5 @@
 -- What a text declares is read, and where a reading ends.
-use Rattle.std.proofs.Common.{◌≡◌, ℕ, zero, suc, ◌+◌, ◌-◌, ◌<◌, ◌≤◌, true, false, List, [], ◌∷◌, ◌++◌, length, drop, codes, Ok, refl, sym, ap, subst, ◌∙◌, arith, append_assoc}
+use Rattle.std.proofs.Common.{◌≡◌, ℕ, zero, suc, ◌-◌, ◌<◌, ◌≤◌, true, false, List, [], ◌∷◌, ◌++◌, length, drop, codes, Ok, refl, sym, ap, subst, ◌∙◌, arith, append_assoc}
 use Rattle.std.proofs.lemmas.List.{append-nil, length-append}
 use Rattle.std.proofs.Math.Seq.{drop-append_seam}
 use Rattle.ladder_vars.specs.declared.decls.Var.{Var}
@@ -117,8 +117,8 @@ all_reads text declared rest h =
     let whole : ts ≡ opening ∷ (between ++ closing ∷ []) = parts ∙ ap (λ z. z ++ closing ∷ []) split in
     let tokens : AreTokens (opening ∷ (between ++ closing ∷ [])) text rest = subst (λ ts. AreTokens ts text rest) whole read in
     let first = expect_reads (codes "VAR") opening (between ++ closing ∷ []) text rest is_var tokens in
-    let enough : length first.0 < length first.0 + 1 = omega arith in
+    let enough : length first.0 < suc (length first.0) = omega arith in
     let kept : AreKept (joined nothing ds) = subst AreKept declared_is kept_ in
-    let found : decls_from (length first.0 + 1) nothing first.0 ≡ Ok (joined nothing ds, rest)
-    = decls_read ds nothing between closing first.0 rest (length first.0 + 1) enough is_end derived kept first.2 in
-    rw first.1 (subst (λ d. decls_from (length first.0 + 1) nothing first.0 ≡ Ok (d, rest)) (sym declared_is) found)
+    let found : decls_from (suc (length first.0)) nothing first.0 ≡ Ok (joined nothing ds, rest)
+    = decls_read ds nothing between closing first.0 rest (suc (length first.0)) enough is_end derived kept first.2 in
+    rw first.1 (subst (λ d. decls_from (suc (length first.0)) nothing first.0 ≡ Ok (d, rest)) (sym declared_is) found)

@@ -1,5 +1,5 @@
 -- The keywords of a declaration: what a word is that is one of them.
-use Rattle.std.proofs.Common.{◌≡◌, inl, inr, ℕ, true, false, List, codes, Some, None, refl, subst}
+use Rattle.std.proofs.Common.{◌≡◌, inl, inr, ℕ, Bool, true, false, List, [], ◌∷◌, codes, Some, refl, subst, ◌∙◌, find}
 use Rattle.std.specs.Str.{str_to_ascii_lowercase}
 use Rattle.std.proofs.lemmas.Cmp.{nat_list_eq_equiv}
 use Rattle.ladder_vars.specs.declared.kind.BlockKind.{BlockKind}
@@ -7,7 +7,7 @@ use Rattle.ladder_vars.specs.declared.kind.BlockKind.TheVariants as block_kind
 use Rattle.ladder_vars.specs.Name.{same_letters}
 use Rattle.ladder_vars.specs.Kind.{traits_of}
 use Rattle.ladder_vars.specs.Grammar.{Is}
-use Rattle.ladder_vars.specs.ReadWords.{block_of}
+use Rattle.ladder_vars.specs.ReadWords.{all_kinds, block_of}
 use Rattle.ladder_times.proofs.PartLaws.{same_bytes}
 use Rattle.ladder_times.proofs.Steps.{chosen}
 
@@ -28,45 +28,23 @@ block_lower w block_kind.Rs e = rw e refl
 pub block_reads : (w : List ℕ) (kind : BlockKind) → Is (traits_of kind).word w → block_of w ≡ Some kind
 block_reads w kind h = block_lower w kind (same_bytes (str_to_ascii_lowercase w) (str_to_ascii_lowercase (traits_of kind).word) h)
 
+find_passes : {X : Type 0} (p : X → Bool) (xs : List X) (x : X) → find p xs ≡ Some x → p x ≡ true
+find_passes p [] x h = absurd cc
+find_passes p (y ∷ ys) x h =
+    elim (chosen (p y) _ _ _ h) [ inl is ↦ let same : y ≡ x = cc in subst (λ z. p z ≡ true) same is.0 | inr other ↦ find_passes p ys x other.1 ]
+
 pub block_takes : (w : List ℕ) (kind : BlockKind) → block_of w ≡ Some kind → Is (traits_of kind).word w
-block_takes w kind h =
-    let found : (k : BlockKind) → Is (traits_of k).word w → Some k ≡ Some kind → Is (traits_of kind).word w
-    = λ k same e. let k_is : k ≡ kind = cc in subst (λ x. Is (traits_of x).word w) k_is same in
-    elim (chosen (same_letters w (codes "TON")) _ _ _ h) [
-      | inl x ↦ found block_kind.Ton x.0 x.1
-      | inr a ↦ elim (chosen (same_letters w (codes "TOF")) _ _ _ a.1) [
-        | inl x ↦ found block_kind.Tof x.0 x.1
-        | inr b ↦ elim (chosen (same_letters w (codes "TP")) _ _ _ b.1) [
-          | inl x ↦ found block_kind.Tp x.0 x.1
-          | inr c ↦ elim (chosen (same_letters w (codes "CTU")) _ _ _ c.1) [
-            | inl x ↦ found block_kind.Ctu x.0 x.1
-            | inr d ↦ elim (chosen (same_letters w (codes "CTD")) _ _ _ d.1) [
-              | inl x ↦ found block_kind.Ctd x.0 x.1
-              | inr e ↦ elim (chosen (same_letters w (codes "SR")) _ _ _ e.1) [
-                | inl x ↦ found block_kind.Sr x.0 x.1
-                | inr f ↦ elim (chosen (same_letters w (codes "RS")) _ _ _ f.1) [ inl x ↦ found block_kind.Rs x.0 x.1 | inr g ↦ absurd cc ]
-              ]
-            ]
-          ]
-        ]
-      ]
-    ]
+block_takes w kind h = find_passes (λ k. same_letters w (traits_of k).word) all_kinds kind h
 
 -- a block's name isn't BOOL
+no_bool : (kind : BlockKind) → same_letters (traits_of kind).word (codes "BOOL") ≡ false
+no_bool block_kind.Ton = refl
+no_bool block_kind.Tof = refl
+no_bool block_kind.Tp = refl
+no_bool block_kind.Ctu = refl
+no_bool block_kind.Ctd = refl
+no_bool block_kind.Sr = refl
+no_bool block_kind.Rs = refl
+
 pub block_of-other : (word : List ℕ) (kind : BlockKind) → block_of word ≡ Some kind → same_letters word (codes "BOOL") ≡ false
-block_of-other word kind h =
-    elim (same_letters word (codes "BOOL")) as (λ t. same_letters word (codes "BOOL") ≡ t → t ≡ false) [
-      | false ↦ λ e. refl
-      | true ↦ λ e.
-          let none : block_of word ≡ None
-          = rw (
-            alike (codes "BOOL") (codes "TON") word e,
-            alike (codes "BOOL") (codes "TOF") word e,
-            alike (codes "BOOL") (codes "TP") word e,
-            alike (codes "BOOL") (codes "CTU") word e,
-            alike (codes "BOOL") (codes "CTD") word e,
-            alike (codes "BOOL") (codes "SR") word e,
-            alike (codes "BOOL") (codes "RS") word e,
-          ) refl in
-          absurd cc
-    ] refl
+block_of-other word kind h = alike (traits_of kind).word (codes "BOOL") word (block_takes word kind h) ∙ no_bool kind

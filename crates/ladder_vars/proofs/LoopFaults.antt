@@ -1,5 +1,5 @@
 -- Where a text is not read, the rule of the fault is broken at its place.
-use Rattle.std.proofs.Common.{◌≡◌, ℕ, zero, suc, ◌+◌, ◌<◌, inl, inr, List, [], ◌∷◌, ◌++◌, length, codes, Err, refl, sym, ap, subst, ◌∙◌, arith}
+use Rattle.std.proofs.Common.{◌≡◌, ℕ, zero, suc, ◌<◌, inl, inr, List, [], ◌∷◌, ◌++◌, length, codes, Err, refl, sym, ap, subst, ◌∙◌, arith}
 use Rattle.ladder_vars.specs.declared.fault.Fault.{Fault}
 use Rattle.ladder_vars.specs.declared.fault.VarRule.{VarRule}
 use Rattle.ladder_vars.specs.declared.fault.VarRule.TheVariants as rule
@@ -110,7 +110,7 @@ all_breaks text f h =
             derived = refl;
             read = opening.2;
           } in
-          decls_break (length start + 1) text [] nothing start f (omega arith) due refl few_first then
+          decls_break (suc (length start)) text [] nothing start f (omega arith) due refl few_first then
     ]
 
 pub breaks_on : (r : VarRule) (text : List ℕ) (left : ℕ) → Breaks r text left → BreaksOn r text (line_of text left)

@@ -1,5 +1,5 @@
 -- Declarations get their titles one after the other.
-use Rattle.std.proofs.Common.{◌≡◌, ℕ, zero, suc, ◌+◌, ◌-◌, ◌<◌, ◌≤◌, inl, inr, true, false, Bool, ◌||◌, List, [], ◌∷◌, ◌++◌, length, map, take, drop, codes, Option, Some, None, Ok, Err, unwrap_or, slice_set, get_or, refl, sym, ap, ap₂, subst, ◌∙◌, arith, nat_lt, append_assoc}
+use Rattle.std.proofs.Common.{◌≡◌, ℕ, zero, suc, ◌+◌, ◌-◌, ◌<◌, ◌≤◌, inl, inr, true, false, Bool, ◌||◌, List, [], ◌∷◌, ◌++◌, length, map, take, drop, codes, Option, Some, None, Ok, Err, unwrap_or, slice_set, get_or, refl, sym, ap, ap₂, subst, ◌∙◌, arith, append_assoc}
 use Rattle.std.specs.List.{All, AllByRecursion, IsDistinct, list_any}
 use Rattle.std.proofs.lemmas.Bool.{cases_lt, or_left, or_right, or_cases, true≢false}
 use Rattle.std.proofs.lemmas.List.{map-set, length-set, length-map, length-append, length-drop, length-take, get_or-map, get_or_append_left, get_or_at, get_or-take, get_or-drop, get_or-set_same, take-set-le, drop-set-lt, set-append_left, set-get_or, take_all}
@@ -23,13 +23,11 @@ use Rattle.ladder_vars.specs.Text.{AreTokens}
 use Rattle.ladder_vars.specs.Grammar.{Decl, declared_by, HasDecls}
 use Rattle.ladder_vars.specs.Rules.{DeclDue, line_of}
 use Rattle.ladder_vars.specs.ReadDecls.{expect, with_decl, refusal, all_of, decls_from}
-use Rattle.ladder_times.proofs.Steps.{chosen}
-use Rattle.ladder_vars.specs.Kind.{traits_of}
 use Rattle.ladder_vars.specs.Titles.{plain_var, plain_instance, plain, HasTitle, titles_of, AreTitled, IsTaken, HasTakenAlias, Declares}
 use Rattle.ladder_vars.specs.TakeTitles.{IsNext, IsLast, IsWithin, Retitles, IsPast}
 use Rattle.ladder_vars.proofs.Steps.{or_false, bind_ok}
 use Rattle.ladder_vars.proofs.Lists.{none_passes}
-use Rattle.ladder_vars.proofs.Keeping.{same_letters-flips, names-any, titles-any}
+use Rattle.ladder_vars.proofs.Keeping.{same_letters-flips, names-any, titles-any, new_var, new_instance}
 use Rattle.ladder_vars.proofs.TextTakes.{token_takes, AreTokens-append}
 use Rattle.ladder_vars.proofs.BodyReads.{TakesBody, body_takes, expect_takes}
 use Rattle.ladder_vars.proofs.DeclReads.{all_reads}
@@ -115,13 +113,8 @@ pub record Comes (text : List ℕ) (whole : Declared) (ds : List Decl) (rest nam
       × (whole.instances ≡ (with_decl (declared_by ds) name b).instances ++ instances)
 
 not_declared : (d : Declared) (name : List ℕ) (b : Body) → refusal d name b ≡ None → list_any (same_letters name) (names_of d) ≡ false
-not_declared d name (body.Var kind address initial) h =
-    elim (chosen (list_any (same_letters name) (names_of d)) _ _ _ h) [ inl twice ↦ absurd cc | inr new ↦ new.0 ]
-not_declared d name (body.Instance kind preset) h =
-    elim (chosen (nat_lt (traits_of kind).longest_name (length name)) _ _ _ h) [
-      | inl long ↦ absurd cc
-      | inr short ↦ elim (chosen (list_any (same_letters name) (names_of d)) _ _ _ short.1) [ inl twice ↦ absurd cc | inr new ↦ new.0 ]
-    ]
+not_declared d name (body.Var kind address initial) h = (new_var d name kind address initial h).0
+not_declared d name (body.Instance kind preset) h = (new_instance d name kind preset h).1
 
 pub comes : (text : List ℕ) (whole now : Declared) (rest : List ℕ) (vars instances : ℕ) (t : Takes text whole now rest vars instances) (name behind : List ℕ)
     (b : Body) (after : List ℕ) → IsNext rest name behind b after → Comes text whole t.ds rest name behind b after
@@ -419,7 +412,7 @@ starts text d first (rest, has) begun =
     let takes : Takes text d d start.0 0 0 = record {
       ds = [];
       reads = reads;
-      turns = length start.0 + 1;
+      turns = suc (length start.0);
       end = rest;
       on = start.2;
       vars_are = refl;

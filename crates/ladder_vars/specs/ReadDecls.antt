@@ -1,5 +1,5 @@
 -- Private to the proofs: declarations read from left to right, as the code reads them, with the first fault that is met.
-use Rattle.std.specs.Prelude.{◌≡◌, ℕ, zero, suc, ◌+◌, Bool, false, ◌≤◌, nat_le, nat_lt, List, [], ◌∷◌, ◌++◌, length, codes, Option, Some, None, if◌then◌else◌, Result, Ok, Err}
+use Rattle.std.specs.Prelude.{◌≡◌, ℕ, zero, suc, Bool, false, ◌≤◌, nat_le, nat_lt, List, [], ◌∷◌, ◌++◌, length, codes, Option, Some, None, if◌then◌else◌, Result, Ok, Err}
 use Rattle.std.specs.List.{list_any}
 use Rattle.ladder_vars.specs.declared.limits.TheConstants.{MOST_VARS, MOST_INSTANCES}
 use Rattle.ladder_vars.specs.declared.fault.VarRule.{VarRule}
@@ -119,4 +119,4 @@ decls_from (suc n) declared text = do
 unfoldable pub all_of : List ℕ → Result (Declared × List ℕ) Fault
 all_of text = do
   rest ← expect (codes "VAR") text
-  decls_from (length rest + 1) nothing rest
+  decls_from (suc (length rest)) nothing rest
