@@ -21,5 +21,5 @@ mod Meeting
 mod DeclFaults
 mod LoopFaults
 mod Retitling
-mod TitleLoop
+mod Ahead
 mod Titling

@@ -22,19 +22,19 @@ use Rattle.ladder_vars.specs.Decls.{Declared, AreKept, names_of}
 use Rattle.ladder_vars.specs.Text.{AreTokens}
 use Rattle.ladder_vars.specs.Grammar.{Decl, declared_by, HasDecls}
 use Rattle.ladder_vars.specs.Rules.{DeclDue, line_of}
-use Rattle.ladder_vars.specs.ReadDecls.{expect, with_decl, refusal, all_of, decls_from}
+use Rattle.ladder_vars.specs.ReadDecls.{expect, with_decl, all_of}
 use Rattle.ladder_vars.specs.Titles.{plain_var, plain_instance, plain, HasTitle, titles_of, AreTitled, IsTaken, HasTakenAlias, Declares}
 use Rattle.ladder_vars.specs.TakeTitles.{IsNext, IsLast, IsWithin, Retitles, IsPast}
 use Rattle.ladder_vars.proofs.Steps.{or_false, bind_ok}
 use Rattle.ladder_vars.proofs.Lists.{none_passes}
-use Rattle.ladder_vars.proofs.Keeping.{same_letters-flips, names-any, titles-any, new_var, new_instance}
+use Rattle.ladder_vars.proofs.Keeping.{same_letters-flips, names-any, titles-any}
 use Rattle.ladder_vars.proofs.TextTakes.{token_takes, AreTokens-append}
-use Rattle.ladder_vars.proofs.BodyReads.{TakesBody, body_takes, expect_takes}
+use Rattle.ladder_vars.proofs.BodyReads.{TakesBody, body_takes, expect_takes, expect_reads, ok_same}
 use Rattle.ladder_vars.proofs.DeclReads.{all_reads}
 use Rattle.ladder_vars.proofs.DeclTakes.{ReadsTo, next_due, declared_by-push}
 use Rattle.ladder_vars.proofs.DeclFaults.{head_is}
 use Rattle.ladder_vars.proofs.Retitling.{map-set_same}
-use Rattle.ladder_vars.proofs.TitleLoop.{next_read, read_extends}
+use Rattle.ladder_vars.proofs.Ahead.{Ahead, extends, none_left, Passes, passes}
 
 -- ---- a list in which one element is another one
 
@@ -88,9 +88,7 @@ head_of P xs n d lt h =
 pub record Takes (text : List ℕ) (whole now : Declared) (rest : List ℕ) (vars instances : ℕ) : Type 0 where
   pub ds : List Decl
   pub reads : ReadsTo text ds rest
-  pub turns : ℕ
-  pub end : List ℕ
-  pub on : decls_from turns (declared_by ds) rest ≡ Ok (whole, end)
+  pub ahead : Ahead whole ds rest
   pub vars_are : vars ≡ length (declared_by ds).vars
   pub instances_are : instances ≡ length (declared_by ds).instances
   pub same : plain now ≡ whole
@@ -104,22 +102,16 @@ pub record Takes (text : List ℕ) (whole now : Declared) (rest : List ℕ) (var
 pub record Comes (text : List ℕ) (whole : Declared) (ds : List Decl) (rest name behind : List ℕ) (b : Body) (after : List ℕ) : Type 0 where
   pub reads : ReadsTo text (ds ++ record { name = name; body = b } ∷ []) after
   pub due : DeclDue text ds name b behind
-  pub turns : ℕ
-  pub end : List ℕ
-  pub on : decls_from turns (declared_by (ds ++ record { name = name; body = b } ∷ [])) after ≡ Ok (whole, end)
+  pub ahead : Ahead whole (ds ++ record { name = name; body = b } ∷ []) after
   pub more : declared_by (ds ++ record { name = name; body = b } ∷ []) ≡ with_decl (declared_by ds) name b
   pub new : list_any (same_letters name) (names_of (declared_by ds)) ≡ false
   pub extends : (vars : List Var) × (instances : List Instance) × (whole.vars ≡ (with_decl (declared_by ds) name b).vars ++ vars)
       × (whole.instances ≡ (with_decl (declared_by ds) name b).instances ++ instances)
 
-not_declared : (d : Declared) (name : List ℕ) (b : Body) → refusal d name b ≡ None → list_any (same_letters name) (names_of d) ≡ false
-not_declared d name (body.Var kind address initial) h = (new_var d name kind address initial h).0
-not_declared d name (body.Instance kind preset) h = (new_instance d name kind preset h).1
-
 pub comes : (text : List ℕ) (whole now : Declared) (rest : List ℕ) (vars instances : ℕ) (t : Takes text whole now rest vars instances) (name behind : List ℕ)
     (b : Body) (after : List ℕ) → IsNext rest name behind b after → Comes text whole t.ds rest name behind b after
 comes text whole now rest vars instances t name behind b after next =
-    let read = next_read t.turns (declared_by t.ds) whole rest t.end name behind b after t.on next in
+    let read : Passes whole t.ds name b after = passes whole t.ds rest name behind b after t.ahead next in
     let word : AreTokens (name ∷ []) rest behind = token_takes rest name behind next.0 in
     let taken : TakesBody b behind after = body_takes b behind after next.2 in
     let d : Decl = record { name = name; body = b } in
@@ -136,12 +128,11 @@ comes text whole now rest vars instances t name behind b after next =
         before = AreTokens-append (t.reads.opening ∷ t.reads.tokens) (name ∷ []) text rest behind t.reads.read word;
         read = taken.tokens;
       };
-      turns = read.turns;
-      end = t.end;
-      on = rw more read.goes_on;
+      ahead = read.ahead;
       more = more;
-      new = not_declared (declared_by t.ds) name b read.accepted;
-      extends = read_extends read.turns (with_decl (declared_by t.ds) name b) whole after t.end read.goes_on;
+      new = read.new;
+      extends = subst (λ x. (vars : List Var) × (instances : List Instance) × (whole.vars ≡ x.vars ++ vars) × (whole.instances ≡ x.instances ++ instances)) more
+          (extends whole (t.ds ++ d ∷ []) after read.ahead);
     }
 
 -- ---- the next variable
@@ -185,9 +176,7 @@ step_var text whole now rest vars instances t name behind kind address initial a
     record {
       ds = t.ds ++ record { name = name; body = b } ∷ [];
       reads = c.reads;
-      turns = c.turns;
-      end = c.end;
-      on = c.on;
+      ahead = c.ahead;
       vars_are = ap (λ n. n + 1) t.vars_are ∙ sym (ap (λ d. length d.vars) c.more ∙ length-append (declared_by t.ds).vars (var_of name kind address initial ∷ []));
       instances_are = t.instances_are ∙ sym (ap (λ d. length d.instances) c.more);
       same = ap (λ vs. record { vars = vs; instances = map plain_instance now.instances }) same ∙ t.same;
@@ -242,9 +231,7 @@ step_instance text whole now rest vars instances t name behind kind preset after
     record {
       ds = t.ds ++ record { name = name; body = b } ∷ [];
       reads = c.reads;
-      turns = c.turns;
-      end = c.end;
-      on = c.on;
+      ahead = c.ahead;
       vars_are = t.vars_are ∙ sym (ap (λ d. length d.vars) c.more);
       instances_are = ap (λ n. n + 1) t.instances_are
           ∙ sym (ap (λ d. length d.instances) c.more ∙ length-append (declared_by t.ds).instances (instance_of name kind preset ∷ []));
@@ -397,24 +384,33 @@ begins text d f (rest, has) h =
     cc
 
 pub starts : (text : List ℕ) (d : Declared) (first : List ℕ) → Declares text d → expect (codes "VAR") text ≡ Ok first → Takes text d d first 0 0
-unfolding all_of
 starts text d first (rest, has) begun =
+    let (ts, ds, read, (head, closing, parts, (word, between, split, is_var, derived), is_end), declared_is, kept) = has in
+    let whole : ts ≡ word ∷ (between ++ closing ∷ []) = parts ∙ ap (λ z. z ++ closing ∷ []) split in
+    let start = expect_reads (codes "VAR") word (between ++ closing ∷ []) text rest is_var (subst (λ ts. AreTokens ts text rest) whole read) in
     let plain_too : plain d ≡ d = declared_plain text d (rest, has) in
     let vars : map plain_var d.vars ≡ d.vars = ap (λ x. x.vars) plain_too in
     let instances : map plain_instance d.instances ≡ d.instances = ap (λ x. x.instances) plain_too in
-    let start = bind_ok (expect (codes "VAR") text) _ (d, rest) (all_reads text d rest has) in
-    let opening = expect_takes (codes "VAR") text start.0 start.1 in
-    let same : start.0 ≡ first = cc in
-    let reads : ReadsTo text [] start.0 = record { opening = opening.0; tokens = []; is_var = opening.1; derived = refl; read = opening.2 } in
+    let opening = expect_takes (codes "VAR") text first begun in
+    let same : start.0 ≡ first = ok_same start.0 first (sym start.1 ∙ begun) in
+    let reads : ReadsTo text [] first = record { opening = opening.0; tokens = []; is_var = opening.1; derived = refl; read = opening.2 } in
     let titles : titles_of d ≡ names_of d
     = ap titles_of (sym plain_too) ∙ ap₂ (λ xs ys. xs ++ ys) (titles_as plain_var (λ v. v.title) (λ v. v.name) (λ v. refl) d.vars)
     (titles_as plain_instance (λ i. i.title) (λ i. i.name) (λ i. refl) d.instances) in
-    let takes : Takes text d d start.0 0 0 = record {
+    record {
       ds = [];
       reads = reads;
-      turns = suc (length start.0);
-      end = rest;
-      on = start.2;
+      ahead = record {
+        later = ds;
+        tokens = between;
+        closing = closing;
+        end = rest;
+        derived = derived;
+        is_end = is_end;
+        read = subst (λ z. AreTokens (between ++ closing ∷ []) z rest) same start.2;
+        whole_is = declared_is;
+        kept = kept;
+      };
       vars_are = refl;
       instances_are = refl;
       same = plain_too;
@@ -422,13 +418,12 @@ starts text d first (rest, has) begun =
       instance_titles = All-nil (λ i. HasTitle text i.name i.title);
       var_names = named_as plain_var (λ v. v.title) (λ v. v.name) (λ v. refl) d.vars vars;
       instance_names = named_as plain_instance (λ i. i.title) (λ i. i.name) (λ i. refl) d.instances instances;
-      apart = rw titles (kept_of text d rest has).0;
-    } in
-    subst (λ t. Takes text d d t 0 0) same takes
+      apart = rw titles kept.0;
+    }
 
 pub ends : (text : List ℕ) (whole now : Declared) (rest : List ℕ) (vars instances : ℕ) → Takes text whole now rest vars instances → IsLast rest → AreTitled text now
 ends text whole now rest vars instances t last =
-    let all : whole ≡ declared_by t.ds = last t.turns (declared_by t.ds) whole t.end t.on in
+    let all : whole ≡ declared_by t.ds = none_left whole t.ds rest t.ahead last in
     let same : plain now ≡ declared_by t.ds = t.same ∙ all in
     let var_count : length now.vars ≡ vars
     = sym (length-map now.vars plain_var) ∙ ap (λ d. length d.vars) same ∙ sym t.vars_are in
@@ -445,7 +440,7 @@ pub few : (text : List ℕ) (whole now : Declared) (rest : List ℕ) (vars insta
     → (vars ≤ 256) × (instances ≤ 64)
 few text whole now rest vars instances (end, has) t =
     let kept = kept_of text whole end has in
-    let more = read_extends t.turns (declared_by t.ds) whole rest t.end t.on in (
+    let more = extends whole t.ds rest t.ahead in (
       omega (arith, t.vars_are, kept.2, ap length more.2, length-append (declared_by t.ds).vars more.0),
       omega (arith, t.instances_are, kept.3, ap length more.3, length-append (declared_by t.ds).instances more.1),
     )
@@ -475,7 +470,7 @@ var_taken : (text : List ℕ) (whole now : Declared) (rest : List ℕ) (vars ins
 var_taken text whole now rest vars instances t name alias new k v lt here is =
     elim (cases_lt k vars) [
       | inl before ↦
-          let more = read_extends t.turns (declared_by t.ds) whole rest t.end t.on in
+          let more = extends whole t.ds rest t.ahead in
           let first : List Var = (declared_by t.ds).vars in
           let inside : k < length first = omega (arith, before, t.vars_are) in
           let there : get_or first k (plain_var v) ≡ plain_var v
@@ -503,7 +498,7 @@ instance_taken : (text : List ℕ) (whole now : Declared) (rest : List ℕ) (var
 instance_taken text whole now rest vars instances t name alias new k v lt here is =
     elim (cases_lt k instances) [
       | inl before ↦
-          let more = read_extends t.turns (declared_by t.ds) whole rest t.end t.on in
+          let more = extends whole t.ds rest t.ahead in
           let first : List Instance = (declared_by t.ds).instances in
           let inside : k < length first = omega (arith, before, t.instances_are) in
           let there : get_or first k (plain_instance v) ≡ plain_instance v
