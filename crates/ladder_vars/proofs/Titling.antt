@@ -1,5 +1,5 @@
 -- Declarations get their titles one after the other.
-use Rattle.std.proofs.Common.{◌≡◌, ℕ, zero, suc, ◌+◌, ◌-◌, ◌<◌, ◌≤◌, inl, inr, true, false, Bool, ◌||◌, List, [], ◌∷◌, ◌++◌, length, map, take, drop, codes, Option, Some, None, Ok, Err, unwrap_or, slice_set, get_or, refl, sym, ap, ap₂, subst, ◌∙◌, arith, append_assoc}
+use Rattle.std.proofs.Common.{◌≡◌, ℕ, zero, suc, ◌+◌, ◌-◌, ◌<◌, ◌≤◌, ◌⊎◌, inl, inr, true, false, Bool, ◌||◌, List, [], ◌∷◌, ◌++◌, length, map, take, drop, codes, Option, Some, None, Ok, Err, unwrap_or, slice_set, get_or, refl, sym, ap, ap₂, subst, ◌∙◌, arith, append_assoc}
 use Rattle.std.specs.List.{All, AllByRecursion, IsDistinct, list_any}
 use Rattle.std.proofs.lemmas.Bool.{cases_lt, or_left, or_right, or_cases, true≢false}
 use Rattle.std.proofs.lemmas.List.{map-set, length-set, length-map, length-append, length-drop, length-take, get_or-map, get_or_append_left, get_or_at, get_or-take, get_or-drop, get_or-set_same, take-set-le, drop-set-lt, set-append_left, set-get_or, take_all}
@@ -464,62 +464,54 @@ unlike p xs k d lt none =
       | false ↦ λ is. refl
     ] refl
 
+-- an element that is called so by its title: what has its title, and is no name, or what has the name for a title
+called : {A : Type 0} (name title : A → List ℕ) (plain_of : A → A) → ((x : A) → name (plain_of x) ≡ name x) → (text word alias : List ℕ) (xs first more : List A) (count : ℕ)
+    → map plain_of xs ≡ first ++ more → count ≡ length first → list_any (λ x. same_letters word (name x)) first ≡ false
+    → All (λ x. HasTitle text (name x) (title x)) (take count xs) → All (λ x. title x ≡ name x) (drop count xs)
+    → (k : ℕ) (v : A) → k < length xs → get_or xs k v ≡ v → same_letters alias (title v) ≡ true
+    → (HasTitle text (name v) (title v) × (same_letters word (name v) ≡ false)) ⊎ (list_any (λ x. same_letters alias (name x)) xs ≡ true)
+called {A} name title plain_of keeps text word alias xs first more count parts many new titles names k v lt here is =
+    elim (cases_lt k count) [
+      | inl before ↦
+          let inside : k < length first = omega (arith, before, many) in
+          let there : get_or first k (plain_of v) ≡ plain_of v
+          = sym (get_or_append_left first more (plain_of v) k inside) ∙ ap (λ ys. get_or ys k (plain_of v)) (sym parts)
+          ∙ get_or-map plain_of xs k v (plain_of v) lt ∙ ap plain_of here in
+          let other : same_letters word (name v) ≡ false
+          = ap (same_letters word) (sym (ap name there ∙ keeps v)) ∙ unlike (λ x. same_letters word (name x)) first k (plain_of v) inside new in
+          let at : get_or (take count xs) k v ≡ v = get_or-take count xs k v before ∙ here in
+          inl (subst (λ (x : A). HasTitle text (name x) (title x)) at (titles k v (omega (arith, before, lt, length-take count xs))), other)
+      | inr behind ↦
+          let at : get_or (drop count xs) (k - count) v ≡ v
+          = get_or-drop count xs (k - count) v ∙ ap (λ i. get_or xs i v) (omega (arith, behind)) ∙ here in
+          let named : title v ≡ name v
+          = subst (λ (x : A). title x ≡ name x) at (names (k - count) v (omega (arith, behind, lt, length-drop count xs))) in
+          let passes_here : same_letters alias (name (get_or xs k v)) ≡ true = ap (λ (x : A). same_letters alias (name x)) here ∙ ap (same_letters alias) (sym named) ∙ is in
+          inr (list_any_at (λ x. same_letters alias (name x)) xs k v lt passes_here)
+    ]
+
 var_taken : (text : List ℕ) (whole now : Declared) (rest : List ℕ) (vars instances : ℕ) (t : Takes text whole now rest vars instances) (name alias : List ℕ)
     → list_any (same_letters name) (names_of (declared_by t.ds)) ≡ false → (k : ℕ) (v : Var) → k < length now.vars → get_or now.vars k v ≡ v → same_letters alias v.title ≡ true
     → IsTaken text whole name alias
 var_taken text whole now rest vars instances t name alias new k v lt here is =
-    elim (cases_lt k vars) [
-      | inl before ↦
-          let more = extends whole t.ds rest t.ahead in
-          let first : List Var = (declared_by t.ds).vars in
-          let inside : k < length first = omega (arith, before, t.vars_are) in
-          let there : get_or first k (plain_var v) ≡ plain_var v
-          = sym (get_or_append_left first more.0 (plain_var v) k inside) ∙ ap (λ xs. get_or xs k (plain_var v)) (sym more.2 ∙ sym (same_vars now whole t.same))
-          ∙ get_or-map plain_var now.vars k v (plain_var v) lt ∙ ap plain_var here in
-          let names = or_false (list_any (λ x. same_letters name x.name) first) (list_any (λ x. same_letters name x.name) (declared_by t.ds).instances) (sym (names-any (declared_by t.ds) name) ∙ new) in
-          let other : same_letters name v.name ≡ false
-          = ap (λ (x : Var). same_letters name x.name) (sym there) ∙ unlike (λ x. same_letters name x.name) first k (plain_var v) inside names.0 in
-          let at : get_or (take vars now.vars) k v ≡ v = get_or-take vars now.vars k v before ∙ here in
-          let titled : HasTitle text v.name v.title
-          = subst (λ (x : Var). HasTitle text x.name x.title) at (t.var_titles k v (omega (arith, before, lt, length-take vars now.vars))) in
-          inr (v.name, v.title, titled, other, is)
-      | inr behind ↦
-          let at : get_or (drop vars now.vars) (k - vars) v ≡ v
-          = get_or-drop vars now.vars (k - vars) v ∙ ap (λ i. get_or now.vars i v) (omega (arith, behind)) ∙ here in
-          let named : v.title ≡ v.name
-          = subst (λ (x : Var). x.title ≡ x.name) at (t.var_names (k - vars) v (omega (arith, behind, lt, length-drop vars now.vars))) in
-          let passes : same_letters alias (get_or now.vars k v).name ≡ true = ap (λ (x : Var). same_letters alias x.name) here ∙ ap (same_letters alias) (sym named) ∙ is in
-          name_taken text whole now name alias t.same (names-any now alias ∙ or_left _ _ (list_any_at (λ x. same_letters alias x.name) now.vars k v lt passes))
+    let more = extends whole t.ds rest t.ahead in
+    let names = or_false _ _ (sym (names-any (declared_by t.ds) name) ∙ new) in
+    elim (called (λ (x : Var). x.name) (λ x. x.title) plain_var (λ x. refl) text name alias now.vars (declared_by t.ds).vars more.0 vars (same_vars now whole t.same ∙ more.2)
+    t.vars_are names.0 t.var_titles t.var_names k v lt here is) [
+      | inl (titled, other) ↦ inr (v.name, v.title, titled, other, is)
+      | inr named ↦ name_taken text whole now name alias t.same (names-any now alias ∙ or_left _ _ named)
     ]
 
 instance_taken : (text : List ℕ) (whole now : Declared) (rest : List ℕ) (vars instances : ℕ) (t : Takes text whole now rest vars instances) (name alias : List ℕ)
     → list_any (same_letters name) (names_of (declared_by t.ds)) ≡ false → (k : ℕ) (i : Instance) → k < length now.instances → get_or now.instances k i ≡ i
     → same_letters alias i.title ≡ true → IsTaken text whole name alias
-instance_taken text whole now rest vars instances t name alias new k v lt here is =
-    elim (cases_lt k instances) [
-      | inl before ↦
-          let more = extends whole t.ds rest t.ahead in
-          let first : List Instance = (declared_by t.ds).instances in
-          let inside : k < length first = omega (arith, before, t.instances_are) in
-          let there : get_or first k (plain_instance v) ≡ plain_instance v
-          = sym (get_or_append_left first more.1 (plain_instance v) k inside)
-          ∙ ap (λ xs. get_or xs k (plain_instance v)) (sym more.3 ∙ sym (same_instances now whole t.same))
-          ∙ get_or-map plain_instance now.instances k v (plain_instance v) lt ∙ ap plain_instance here in
-          let names = or_false (list_any (λ x. same_letters name x.name) (declared_by t.ds).vars) (list_any (λ x. same_letters name x.name) first) (sym (names-any (declared_by t.ds) name) ∙ new) in
-          let other : same_letters name v.name ≡ false
-          = ap (λ (x : Instance). same_letters name x.name) (sym there) ∙ unlike (λ x. same_letters name x.name) first k (plain_instance v) inside names.1 in
-          let at : get_or (take instances now.instances) k v ≡ v = get_or-take instances now.instances k v before ∙ here in
-          let titled : HasTitle text v.name v.title
-          = subst (λ (x : Instance). HasTitle text x.name x.title) at (t.instance_titles k v (omega (arith, before, lt, length-take instances now.instances))) in
-          inr (v.name, v.title, titled, other, is)
-      | inr behind ↦
-          let at : get_or (drop instances now.instances) (k - instances) v ≡ v
-          = get_or-drop instances now.instances (k - instances) v ∙ ap (λ i. get_or now.instances i v) (omega (arith, behind)) ∙ here in
-          let named : v.title ≡ v.name
-          = subst (λ (x : Instance). x.title ≡ x.name) at (t.instance_names (k - instances) v (omega (arith, behind, lt, length-drop instances now.instances))) in
-          let passes : same_letters alias (get_or now.instances k v).name ≡ true
-          = ap (λ (x : Instance). same_letters alias x.name) here ∙ ap (same_letters alias) (sym named) ∙ is in
-          name_taken text whole now name alias t.same (names-any now alias ∙ or_right _ _ (list_any_at (λ x. same_letters alias x.name) now.instances k v lt passes))
+instance_taken text whole now rest vars instances t name alias new k i lt here is =
+    let more = extends whole t.ds rest t.ahead in
+    let names = or_false _ _ (sym (names-any (declared_by t.ds) name) ∙ new) in
+    elim (called (λ (x : Instance). x.name) (λ x. x.title) plain_instance (λ x. refl) text name alias now.instances (declared_by t.ds).instances more.1 instances
+    (same_instances now whole t.same ∙ more.3) t.instances_are names.1 t.instance_titles t.instance_names k i lt here is) [
+      | inl (titled, other) ↦ inr (i.name, i.title, titled, other, is)
+      | inr named ↦ name_taken text whole now name alias t.same (names-any now alias ∙ or_right _ _ named)
     ]
 
 pub taken : (text : List ℕ) (whole now : Declared) (rest : List ℕ) (vars instances : ℕ) (t : Takes text whole now rest vars instances) (name behind alias : List ℕ)
