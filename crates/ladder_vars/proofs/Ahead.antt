@@ -1,5 +1,5 @@
 -- The declarations of a text that are still to come.
-use Rattle.std.proofs.Common.{◌≡◌, ℕ, true, false, List, [], ◌∷◌, ◌++◌, codes, None, refl, sym, ap, ap₂, subst, ◌∙◌, append_assoc}
+use Rattle.std.proofs.Common.{◌≡◌, ℕ, ◌<◌, arith, length, true, false, List, [], ◌∷◌, ◌++◌, codes, None, refl, sym, ap, ap₂, subst, ◌∙◌, append_assoc}
 use Rattle.std.specs.List.{list_any}
 use Rattle.std.proofs.lemmas.Bool.{true≢false}
 use Rattle.std.proofs.lemmas.List.{append-nil}
@@ -14,8 +14,8 @@ use Rattle.ladder_vars.specs.Text.{AreTokens}
 use Rattle.ladder_vars.specs.Grammar.{Is, Decl, AreDecls, declared_var, declared_instance, declared_by}
 use Rattle.ladder_vars.specs.ReadDecls.{body_at, refusal}
 use Rattle.ladder_vars.specs.TakeTitles.{IsNext, IsLast}
-use Rattle.ladder_vars.proofs.TextReads.{first_token}
-use Rattle.ladder_vars.proofs.BodyReads.{halves, body_reads}
+use Rattle.ladder_vars.proofs.TextReads.{first_token, tokens-shorter}
+use Rattle.ladder_vars.proofs.BodyReads.{halves, body_reads, body_takes}
 use Rattle.ladder_vars.proofs.Blocks.{no_keyword}
 use Rattle.ladder_vars.proofs.Accepting.{joined, accepts}
 use Rattle.ladder_vars.proofs.Keeping.{new_var, new_instance}
@@ -43,23 +43,26 @@ extends whole ds rest a =
     ((declared_by a.later).vars, (declared_by a.later).instances, ap (λ d. d.vars) is, ap (λ d. d.instances) is)
 
 -- the first of them is read
-record Leads (d : Decl) (later : List Decl) (rest closing end : List ℕ) : Type 0 where
-  behind : List ℕ
-  after : List ℕ
-  back : List (List ℕ)
-  next : IsNext rest d.name behind d.body after
-  named : is_name d.name ≡ true
-  others : AreDecls back later
-  read : AreTokens (back ++ closing ∷ []) after end
+pub record Leads (d : Decl) (later : List Decl) (rest closing end : List ℕ) : Type 0 where
+  pub behind : List ℕ
+  pub after : List ℕ
+  pub back : List (List ℕ)
+  pub next : IsNext rest d.name behind d.body after
+  pub named : is_name d.name ≡ true
+  pub others : AreDecls back later
+  pub read : AreTokens (back ++ closing ∷ []) after end
+  pub shorter : length after < length rest
 
-leads : (d : Decl) (later : List Decl) (tokens : List (List ℕ)) (rest closing end : List ℕ) → AreDecls tokens (d ∷ later) → AreTokens (tokens ++ closing ∷ []) rest end
+pub leads : (d : Decl) (later : List Decl) (tokens : List (List ℕ)) (rest closing end : List ℕ) → AreDecls tokens (d ∷ later) → AreTokens (tokens ++ closing ∷ []) rest end
     → Leads d later rest closing end
 leads d later tokens rest closing end (behind, back, parts, named, is_body, others) h =
     let whole : tokens ++ closing ∷ [] ≡ d.name ∷ (behind ++ (back ++ closing ∷ []))
     = ap (λ z. z ++ closing ∷ []) parts ∙ ap (λ z. d.name ∷ z) (append_assoc behind back (closing ∷ [])) in
     let first = first_token d.name (behind ++ (back ++ closing ∷ [])) rest end (subst (λ z. AreTokens z rest end) whole h) in
     let b = body_reads behind (back ++ closing ∷ []) d.body first.0 end is_body first.2 in
-    record { behind = first.0; after = b.0; back = back; next = (first.1, no_keyword d.name named, b.1); named = named; others = others; read = b.2 }
+    let taken = body_takes d.body first.0 b.0 b.1 in
+    let shorter : length b.0 < length rest = omega (arith, first.3, tokens-shorter taken.behind first.0 b.0 taken.tokens) in
+    record { behind = first.0; after = b.0; back = back; next = (first.1, no_keyword d.name named, b.1); named = named; others = others; read = b.2; shorter = shorter }
 
 pub none_left : (whole : Declared) (ds : List Decl) (rest : List ℕ) → Ahead whole ds rest → IsLast rest → whole ≡ declared_by ds
 none_left whole ds rest a last =

@@ -7,16 +7,13 @@ use Rattle.ladder_vars.specs.declared.decls.Body.{Body}
 use Rattle.ladder_vars.specs.Decls.{Declared}
 use Rattle.ladder_vars.specs.Name.{same_letters}
 use Rattle.ladder_vars.specs.ReadText.{token_at}
-use Rattle.ladder_vars.specs.ReadDecls.{name_of, body_at, added, decls_from, nothing, Fails}
+use Rattle.ladder_vars.specs.ReadDecls.{name_of, body_at, added, decls_from, Fails}
 
 -- the loop stands before this text with these declarations, and one more turn gives the whole
 pub record Stands (declared : Declared) (text : List ℕ) (whole : Result (Declared × List ℕ) Fault) : Type 0 where
   pub turns : ℕ
   pub enough : length text ≤ turns
   pub same : decls_from (suc turns) declared text ≡ whole
-
-pub stands_first : (text : List ℕ) → Stands nothing text (decls_from (suc (length text)) nothing text)
-stands_first text = record { turns = length text; enough = omega arith; same = refl }
 
 pub no_word : (declared : Declared) (text : List ℕ) (whole : Result (Declared × List ℕ) Fault) (f : Fault) → Stands declared text whole
     → token_at text ≡ Err f → whole ≡ Err f

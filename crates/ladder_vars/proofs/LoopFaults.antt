@@ -15,10 +15,9 @@ use Rattle.ladder_vars.specs.Rules.{DeclDue, Breaks, BreaksOn, line_of}
 use Rattle.ladder_vars.proofs.Keeping.{AreFew, AreFew-decl}
 use Rattle.ladder_times.proofs.Steps.{chosen}
 use Rattle.ladder_vars.proofs.Steps.{bind_err}
-use Rattle.ladder_vars.proofs.TextReads.{first_token}
+use Rattle.ladder_vars.proofs.TextReads.{first_token, tokens-shorter}
 use Rattle.ladder_vars.proofs.TextTakes.{token_takes, AreTokens-append}
 use Rattle.ladder_vars.proofs.BodyReads.{expect_takes, TakesBody, body_takes}
-use Rattle.ladder_vars.proofs.DeclReads.{tokens-shorter}
 use Rattle.ladder_vars.proofs.DeclTakes.{ReadsTo, next_due, named_is, added_is, accepted_is, declared_by-push}
 use Rattle.ladder_vars.proofs.Blocks.{NeedVar, NeedName, In, name_next}
 use Rattle.ladder_vars.proofs.Meeting.{came_first, came_on, no_token_breaks, token_breaks, body_breaks}

@@ -78,6 +78,9 @@ after_assign form n = Token (λ word. IsValue form word n) ∷ Token (Is (codes 
 abbrev after_opening : Parameter → ℕ → List Phrase
 after_opening form n = Token (Is (parameter_word form)) ∷ Token (Is (codes ":=")) ∷ after_assign form n
 
+abbrev bracket : Parameter → ℕ → List Phrase
+bracket form n = Token (Is (codes "(")) ∷ Token (Is (parameter_word form)) ∷ Token (Is (codes ":=")) ∷ Token (λ word. IsValue form word n) ∷ Token (Is (codes ")")) ∷ []
+
 abbrev IsVar : (Bool → List Phrase) → VarKind → Option Address → List (List ℕ) → Body → Type 0
 IsVar phrases kind address ts b = (value : Bool) × (b ≡ body.Var kind address value) × Sequence (phrases value) ts
 
@@ -109,7 +112,7 @@ Rest (due.End c) ts b = (b ≡ c) × Sequence semicolon ts
 -- ---- the grammar has what a walk takes
 
 form_closed : (form : Parameter) (n : ℕ) (ts : List (List ℕ))
-    → Sequence (Token (Is (codes "(")) ∷ Token (Is (parameter_word form)) ∷ Token (Is (codes ":=")) ∷ Token (λ word. IsValue form word n) ∷ Token (Is (codes ")")) ∷ []) ts
+    → Sequence (bracket form n) ts
     → Preset (Some form) n ts
 form_closed parameter.Time n ts h = h
 form_closed parameter.Count n ts h = h
@@ -124,9 +127,7 @@ split_sequence (P ∷ phrases) more ts (f, b, parts, p, h) =
 preset_before : (kind : BlockKind) (form : Parameter) (t : List ℕ) (ts : List (List ℕ)) (b : Body) → (traits_of kind).parameter ≡ Some form → Is (codes ":=") t
     → IsInstance (λ n. Token (Is (codes "(")) ∷ after_opening form n) kind ts b → IsInstance (after_block kind) kind (t ∷ ts) b
 preset_before kind form t ts b parameter_is is (n, e, h) =
-    let bracket : List Phrase
-    = Token (Is (codes "(")) ∷ Token (Is (parameter_word form)) ∷ Token (Is (codes ":=")) ∷ Token (λ word. IsValue form word n) ∷ Token (Is (codes ")")) ∷ [] in
-    let x = split_sequence bracket semicolon ts h in
+    let x = split_sequence (bracket form n) semicolon ts h in
     let given : Preset (traits_of kind).parameter n x.0 = subst (λ o. Preset o n x.0) (sym parameter_is) (form_closed form n x.0 x.3) in
     (n, e, (t ∷ x.0, x.1, ap (λ z. t ∷ z) x.2, inl (t ∷ [], x.0, refl, (t, refl, is), (x.0, [], sym (append-nil x.0), given, refl)), x.4))
 
@@ -212,7 +213,7 @@ bracket_walks kind form n ts
     (takes (due.Closing b) t5 b4 b5 b (Some (then.Goes (due.End b))) (one_more b4 f5 b5 t5 p5 o5) (rw is5 refl) (end_walks b b5 rest)))))
 
 form_opened : (form : Parameter) (n : ℕ) (ts : List (List ℕ)) → Preset (Some form) n ts
-    → Sequence (Token (Is (codes "(")) ∷ Token (Is (parameter_word form)) ∷ Token (Is (codes ":=")) ∷ Token (λ word. IsValue form word n) ∷ Token (Is (codes ")")) ∷ []) ts
+    → Sequence (bracket form n) ts
 form_opened parameter.Time n ts h = h
 form_opened parameter.Count n ts h = h
 
@@ -230,11 +231,9 @@ preset_walks kind None n ts parameter_is (front, back, parts, inl (f, b, p, assi
 preset_walks kind (Some form) n ts parameter_is (front, back, parts, inl (f, b, p, (t, one, is), (g, c, q, given, end)), rest) =
     let b_is : b ≡ g = q ∙ ap (λ z. g ++ z) end ∙ append-nil g in
     let whole : ts ≡ t ∷ (g ++ back) = parts ∙ ap (λ z. z ++ back) (one_more front f b t p one ∙ ap (λ z. t ∷ z) b_is) in
-    let bracket : List Phrase
-    = Token (Is (codes "(")) ∷ Token (Is (parameter_word form)) ∷ Token (Is (codes ":=")) ∷ Token (λ word. IsValue form word n) ∷ Token (Is (codes ")")) ∷ [] in
     takes (due.Preset kind) t ts (g ++ back) (body.Instance kind n) (Some (then.Goes (due.Opening kind form))) whole
     (rw (alike (codes ":=") (codes ";") t is, is, parameter_is) refl)
-    (bracket_walks kind form n (g ++ back) (join_sequence bracket semicolon g back (form_opened form n g given) rest))
+    (bracket_walks kind form n (g ++ back) (join_sequence (bracket form n) semicolon g back (form_opened form n g given) rest))
 
 pub walks : (ts : List (List ℕ)) (b : Body) → IsBody ts b → Walks due.Place ts b
 walks ts (body.Var kind address value) (place, a, pa, inr (empty, (none, memory)), (f, b, pb, (colon, ob, is), (g, c, pc, (bool, oc, is_bool), more))) =
