@@ -1,6 +1,6 @@
 -- What is found stands there: a token that `token_at` gives is the first of a reading, behind a gap.
-use Rattle.std.proofs.Common.{◌≡◌, ◌≢◌, ℕ, ◌≤◌, min, ◌⊎◌, inl, inr, Bool, true, false, not, ◌==◌, ◌||◌, ◌&&◌, List, [], ◌∷◌, ◌++◌, length, take, drop, Result, Ok, Err, refl, sym, ap, subst, ◌∙◌, arith}
-use Rattle.std.specs.List.{list_all, prefix_len}
+use Rattle.std.proofs.Common.{◌≡◌, ◌≢◌, ℕ, ◌≤◌, min, ◌⊎◌, inl, inr, true, false, not, ◌==◌, ◌||◌, ◌&&◌, List, [], ◌∷◌, ◌++◌, length, take, drop, Result, Ok, Err, refl, sym, ap, subst, ◌∙◌, arith}
+use Rattle.std.specs.List.{list_all}
 use Rattle.std.specs.Char.{is_ascii_alphanumeric}
 use Rattle.std.proofs.lemmas.Bool.{eqb-true, eqb-false, and_parts, false≢true, cond_both}
 use Rattle.std.proofs.lemmas.List.{take-append-drop, length-take}
@@ -178,9 +178,6 @@ pub AreTokens-append : (ts us : List (List ℕ)) (a b c : List ℕ) → AreToken
 AreTokens-append [] us a b c p q = rw p q
 AreTokens-append (t ∷ ts) us a b c p q = (p.0, p.1, p.2, p.3, p.4, p.5, AreTokens-append ts us p.1 b c p.6 q)
 
-prefix_len-le : (p : ℕ → Bool) (bs : List ℕ) → prefix_len p bs ≤ length bs
-prefix_len-le p bs = prefix_len-le-length p bs
-
 begins_some : (byte : ℕ) (bs : List ℕ) → begins_with byte bs ≡ true → 1 ≤ length bs
 begins_some byte [] h = cc
 begins_some byte (b ∷ bs) h = omega arith
@@ -189,8 +186,8 @@ token_len-le : (text : List ℕ) → token_len text ≤ length text
 token_len-le [] = omega arith
 token_len-le (b ∷ bs) =
     let P : ℕ → Type 0 = λ n. n ≤ length (b ∷ bs) in
-    cond_both (is_word_byte b) _ _ P (λ _. omega (arith, prefix_len-le is_word_byte bs)) (λ _.
-    cond_both (b == 37) _ _ P (λ _. omega (arith, prefix_len-le (λ c. is_ascii_alphanumeric c || c == 46) bs)) (λ _.
+    cond_both (is_word_byte b) _ _ P (λ _. omega (arith, prefix_len-le-length is_word_byte bs)) (λ _.
+    cond_both (b == 37) _ _ P (λ _. omega (arith, prefix_len-le-length (λ c. is_ascii_alphanumeric c || c == 46) bs)) (λ _.
     cond_both (b == 58) _ _ P (λ _. cond_both (begins_with 61 bs) _ _ P (λ e. omega (arith, begins_some 61 bs e)) (λ _. omega arith)) (λ _.
     cond_both (b == 40) _ _ P (λ _. cond_both (begins_with 42 bs) _ _ P (λ _. omega arith) (λ _. omega arith)) (λ _.
     cond_both (b == 59 || b == 41) _ _ P (λ _. omega arith) (λ _. omega arith)))))
