@@ -10,7 +10,7 @@ use Rattle.ladder_vars.specs.declared.decls.VarKind.{VarKind}
 use Rattle.ladder_vars.specs.declared.decls.Address.{Address}
 use Rattle.ladder_vars.specs.declared.decls.Body.{Body}
 use Rattle.ladder_vars.specs.declared.decls.Body.TheVariants as body
-use Rattle.ladder_vars.specs.declared.declaration.Due.TheVariants as due_
+use Rattle.ladder_vars.specs.declared.declaration.Due.TheVariants as stage
 use Rattle.ladder_vars.specs.Name.{same_letters, is_name, has_name_form}
 use Rattle.ladder_vars.specs.Decls.{Declared, names_of}
 use Rattle.ladder_vars.specs.Text.{AreTokens}
@@ -112,7 +112,7 @@ name_breaks text ds due w after f h word no_end e =
           let ts : List (List ℕ) = h.opening ∷ h.tokens in
           let came : Came text ts NeedName due = came_head text ds due h in
           let none : next NeedName w ≡ None
-          = ap (λ b. if same_letters w (codes "END_VAR") then Some Ended else (if b then Some (In due_.Place) else None)) other.0 ∙ rw no_end refl in
+          = ap (λ b. if same_letters w (codes "END_VAR") then Some Ended else (if b then Some (In stage.Place) else None)) other.0 ∙ rw no_end refl in
           elim (chosen (has_name_form w) _ _ _ other.1) [
             | inl form ↦
                 let same : record { rule = rule.BadName; left = length after } ≡ f = cc in

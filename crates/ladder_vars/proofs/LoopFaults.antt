@@ -4,7 +4,7 @@ use Rattle.ladder_vars.specs.declared.fault.Fault.{Fault}
 use Rattle.ladder_vars.specs.declared.fault.VarRule.{VarRule}
 use Rattle.ladder_vars.specs.declared.fault.VarRule.TheVariants as rule
 use Rattle.ladder_vars.specs.declared.decls.Body.{Body}
-use Rattle.ladder_vars.specs.declared.declaration.Due.TheVariants as due_
+use Rattle.ladder_vars.specs.declared.declaration.Due.TheVariants as stage
 use Rattle.ladder_vars.specs.Name.{same_letters}
 use Rattle.ladder_vars.specs.Decls.{Declared}
 use Rattle.ladder_vars.specs.Text.{AreTokens}
@@ -46,8 +46,8 @@ decls_break (suc n) text ds a due f enough h same few e =
                       let named = named_is w (length after) name is in
                       elim (bind_err (body_at after) _ f body) [
                         | inl none ↦
-                            body_breaks _ text after ((h.opening ∷ h.tokens) ++ w ∷ []) due_.Place f (omega arith)
-                            (came_on text due after w (h.opening ∷ h.tokens) NeedName (In due_.Place) (came_head text ds due h) word (name_next w named.1) tt (λ z. cc)) none
+                            body_breaks _ text after ((h.opening ∷ h.tokens) ++ w ∷ []) stage.Place f (omega arith)
+                            (came_on text due after w (h.opening ∷ h.tokens) NeedName (In stage.Place) (came_head text ds due h) word (name_next w named.1) tt (λ z. cc)) none
                         | inr ((b, rest), read, more) ↦
                             let taken : TakesBody b after rest = body_takes b after rest read in
                             let decl_due : DeclDue text ds w b after = record {

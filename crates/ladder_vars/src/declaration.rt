@@ -131,11 +131,11 @@ fn instance_step(kind: BlockKind, word: &[u8]) -> Option<Next>
 }
 
 /// More is due where a word is the one that was due.
-fn on(word: &[u8], due: &[u8], next: Next) -> Option<Next>
-    ensures { result ≡ on (same_letters word.now due.now) next }
+fn on(word: &[u8], due: &[u8], then: Due) -> Option<Next>
+    ensures { result ≡ on (same_letters word.now due.now) (Next.Goes then) }
 {
     if same_letters(word, due) {
-        Some(next)
+        Some(Next::Goes(then))
     } else {
         None
     }
@@ -147,17 +147,13 @@ fn step(due: Due, word: &[u8]) -> Option<Next>
 {
     match due {
         Due::Place if same_letters(word, b"AT") => Some(Next::Goes(Due::Address)),
-        Due::Place => on(word, b":", Next::Goes(Due::Type)),
+        Due::Place => on(word, b":", Due::Type),
         Due::Address => {
             let (kind, address) = address_of(word)?;
             Some(Next::Goes(Due::Colon(kind, address)))
         }
-        Due::Colon(kind, address) => on(word, b":", Next::Goes(Due::Bool(kind, address))),
-        Due::Bool(kind, address) => on(
-            word,
-            b"BOOL",
-            Next::Goes(Due::Initial(kind, Some(address))),
-        ),
+        Due::Colon(kind, address) => on(word, b":", Due::Bool(kind, address)),
+        Due::Bool(kind, address) => on(word, b"BOOL", Due::Initial(kind, Some(address))),
         Due::Type if same_letters(word, b"BOOL") => Some(Next::Goes(Due::Initial(
             VarKind::Memory,
             None,
@@ -173,15 +169,16 @@ fn step(due: Due, word: &[u8]) -> Option<Next>
             })))
         }
         Due::Preset(kind) => instance_step(kind, word),
-        Due::Opening(kind, form) => on(word, b"(", Next::Goes(Due::Word(kind, form))),
-        Due::Word(kind, form) => on(word, form.word(), Next::Goes(Due::Assign(kind, form))),
-        Due::Assign(kind, form) => on(word, b":=", Next::Goes(Due::Value(kind, form))),
+        Due::Opening(kind, form) => on(word, b"(", Due::Word(kind, form)),
+        Due::Word(kind, form) => on(word, form.word(), Due::Assign(kind, form)),
+        Due::Assign(kind, form) => on(word, b":=", Due::Value(kind, form)),
         Due::Value(kind, form) => {
             let preset = value_of(form, word)?;
             Some(Next::Goes(Due::Closing(Body::Instance { kind, preset })))
         }
-        Due::Closing(body) => on(word, b")", Next::Goes(Due::End(body))),
-        Due::End(body) => on(word, b";", Next::Ends(body)),
+        Due::Closing(body) => on(word, b")", Due::End(body)),
+        Due::End(body) if same_letters(word, b";") => Some(Next::Ends(body)),
+        Due::End(_) => None,
     }
 }
 
