@@ -10,6 +10,7 @@ use Rattle.ladder_vars.specs.declared.decls.VarKind.{VarKind}
 use Rattle.ladder_vars.specs.declared.decls.Address.{Address}
 use Rattle.ladder_vars.specs.declared.decls.Body.{Body}
 use Rattle.ladder_vars.specs.declared.decls.Body.TheVariants as body
+use Rattle.ladder_vars.specs.declared.declaration.Due.TheVariants as stage
 use Rattle.ladder_vars.specs.Name.{same_letters, is_name, has_name_form}
 use Rattle.ladder_vars.specs.Decls.{Declared, names_of}
 use Rattle.ladder_vars.specs.Text.{AreTokens}
@@ -20,8 +21,8 @@ use Rattle.ladder_vars.specs.Rules.{DeclDue, Breaks}
 use Rattle.ladder_times.proofs.Steps.{chosen}
 use Rattle.ladder_vars.proofs.Keeping.{AreFew}
 use Rattle.ladder_vars.proofs.DeclTakes.{ReadsTo}
-use Rattle.ladder_vars.proofs.States.{NeedVar, NeedName, AfterName, Ended, on, next, run, head_runs, none_follows}
-use Rattle.ladder_vars.proofs.Meeting.{Meets, is_due, meets_breaks, misplaced, meets_later}
+use Rattle.ladder_vars.proofs.Blocks.{NeedVar, NeedName, In, Ended, next, run, head_runs, none_follows}
+use Rattle.ladder_vars.proofs.Meeting.{Came, token_due, token_breaks}
 
 -- ---- a whole declaration that is refused
 
@@ -91,13 +92,14 @@ added_breaks text ds a name b after f same few due h =
 pub head_is : (text : List ℕ) (ds : List Decl) (due : List ℕ) (h : ReadsTo text ds due) → IsHead (h.opening ∷ h.tokens) ds
 head_is text ds due h = (h.opening, h.tokens, refl, h.is_var, h.derived)
 
-head_leads : (text : List ℕ) (ds : List Decl) (due : List ℕ) (h : ReadsTo text ds due) → run NeedVar (h.opening ∷ h.tokens) ≡ Some NeedName
-head_leads text ds due h = ap (run NeedVar) (sym (append-nil (h.opening ∷ h.tokens))) ∙ head_runs (h.opening ∷ h.tokens) [] ds (head_is text ds due h)
-
--- a fault that is met there
-pub later_breaks : (text : List ℕ) (ds : List Decl) (due : List ℕ) (f : Fault) → ReadsTo text ds due → Meets f NeedName due → Breaks f.rule text f.left
-later_breaks text ds due f h m =
-    meets_breaks f text (meets_later (h.opening ∷ h.tokens) NeedVar NeedName text due f (head_leads text ds due h) h.read m)
+pub came_head : (text : List ℕ) (ds : List Decl) (due : List ℕ) (h : ReadsTo text ds due) → Came text (h.opening ∷ h.tokens) NeedName due
+came_head text ds due h =
+    record {
+      read = h.read;
+      leads = ap (run NeedVar) (sym (append-nil (h.opening ∷ h.tokens))) ∙ head_runs (h.opening ∷ h.tokens) [] ds (head_is text ds due h);
+      behind = tt;
+      goes_on = λ e. cc;
+    }
 
 -- a word that is no name
 pub name_breaks : (text : List ℕ) (ds : List Decl) (due w after : List ℕ) (f : Fault) → ReadsTo text ds due → AreTokens (w ∷ []) due after
@@ -107,14 +109,17 @@ name_breaks text ds due w after f h word no_end e =
     elim (chosen (is_name w) _ _ _ e) [
       | inl named ↦ absurd cc
       | inr other ↦
-          let none : next NeedName w ≡ None = ap (λ b. if same_letters w (codes "END_VAR") then Some Ended else on b AfterName) other.0 ∙ rw no_end refl in
+          let ts : List (List ℕ) = h.opening ∷ h.tokens in
+          let came : Came text ts NeedName due = came_head text ds due h in
+          let none : next NeedName w ≡ None
+          = ap (λ b. if same_letters w (codes "END_VAR") then Some Ended else (if b then Some (In stage.Place) else None)) other.0 ∙ rw no_end refl in
           elim (chosen (has_name_form w) _ _ _ other.1) [
             | inl form ↦
-                let leads : run NeedVar (h.opening ∷ h.tokens) ≡ Some NeedName = head_leads text ds due h in
-                let due_then = is_due text due (h.opening ∷ h.tokens) NeedName h.read leads (λ z. cc) in
-                let misfit = none_follows (h.opening ∷ h.tokens) w NeedName leads none in
                 let same : record { rule = rule.BadName; left = length after } ≡ f = cc in
-                subst (λ g. Breaks g.rule text g.left) same (inl (h.opening ∷ h.tokens, w, due, after, due_then, word, misfit, refl, (ds, head_is text ds due h, form.0)))
-            | inr wrong ↦ later_breaks text ds due f h (misplaced NeedName due w after f (λ z. cc) word none (rw wrong.0 refl) cc)
+                subst (λ g. Breaks g.rule text g.left) same
+                (inl (ts, w, due, after, token_due text due ts NeedName came, word, none_follows ts w NeedName came.leads none, refl, (ds, head_is text ds due h, form.0)))
+            | inr wrong ↦
+                let same : record { rule = rule.BadToken; left = length after } ≡ f = cc in
+                subst (λ g. Breaks g.rule text g.left) same (token_breaks text due after w ts NeedName came word none (rw wrong.0 refl))
           ]
     ]

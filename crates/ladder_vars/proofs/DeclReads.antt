@@ -1,21 +1,18 @@
 -- What a text declares is read, and where a reading ends.
-use Rattle.std.proofs.Common.{◌≡◌, ℕ, zero, suc, ◌+◌, ◌-◌, ◌<◌, ◌≤◌, true, false, not, nat_le, List, [], ◌∷◌, ◌++◌, length, drop, codes, Ok, refl, sym, ap, subst, ◌∙◌, arith, append_assoc}
-use Rattle.std.specs.List.{list_any}
+use Rattle.std.proofs.Common.{◌≡◌, ℕ, zero, suc, ◌-◌, ◌<◌, ◌≤◌, true, List, [], ◌∷◌, ◌++◌, length, drop, codes, Ok, refl, sym, ap, subst, ◌∙◌, arith, append_assoc}
 use Rattle.std.proofs.lemmas.List.{append-nil, length-append}
 use Rattle.std.proofs.Math.Seq.{drop-append_seam}
-use Rattle.std.proofs.lemmas.Bool.{and_parts, not-true}
 use Rattle.ladder_vars.specs.declared.decls.Var.{Var}
 use Rattle.ladder_vars.specs.declared.decls.Instance.{Instance}
 use Rattle.ladder_vars.specs.declared.decls.Body.TheVariants as body
-use Rattle.ladder_vars.specs.Name.{same_letters, keywords, is_name, has_name_form}
+use Rattle.ladder_vars.specs.Name.{is_name}
 use Rattle.ladder_vars.specs.Decls.{Declared, AreKept}
 use Rattle.ladder_vars.specs.Text.{Gap, Nothing, Blank, Comment, LineComment, AreTokens}
 use Rattle.ladder_vars.specs.Grammar.{Is, Decl, AreDecls, declared_by, HasDecls}
 use Rattle.ladder_vars.specs.ReadDecls.{name_of, with_decl, added, nothing, decls_from, all_of}
-use Rattle.ladder_vars.proofs.Steps.{or_false}
-use Rattle.ladder_vars.proofs.TextReads.{first_token}
-use Rattle.ladder_vars.proofs.GrammarReads.{expect_reads, body_reads}
-use Rattle.ladder_vars.proofs.GrammarTakes.{TakesBody, body_takes}
+use Rattle.ladder_vars.proofs.TextReads.{first_token, tokens-shorter}
+use Rattle.ladder_vars.proofs.BodyReads.{expect_reads}
+use Rattle.ladder_vars.proofs.Ahead.{leads}
 use Rattle.ladder_vars.proofs.Accepting.{joined, accepts}
 
 -- ---- where a reading ends
@@ -45,11 +42,6 @@ drop_end front rest =
     let n : length (front ++ rest) - length rest ≡ length front = omega (arith, length-append {A = ℕ} front rest) in
     rw n (drop-append_seam front rest)
 
-pub tokens-shorter : (ts : List (List ℕ)) (text rest : List ℕ) → AreTokens ts text rest → length rest ≤ length text
-tokens-shorter ts text rest h =
-    let end = tokens-end ts text rest h in
-    omega (arith, ap length end.1, length-append {A = ℕ} end.0 rest)
-
 pub place_after : (text : List ℕ) (declared : Declared) (rest : List ℕ) → HasDecls text declared rest → rest ≡ drop (length text - length rest) text
 place_after text declared rest h =
     let end = tokens-end h.0 text rest h.2 in
@@ -63,12 +55,6 @@ rest-le text declared rest h = tokens-shorter h.0 text rest h.2
 names_itself : (name : List ℕ) (left : ℕ) → is_name name ≡ true → name_of name left ≡ Ok name
 unfolding name_of
 names_itself name left h = rw h refl
-
--- a name is no keyword
-pub no_keyword : (name : List ℕ) → is_name name ≡ true → same_letters name (codes "END_VAR") ≡ false
-no_keyword name h =
-    let parts = and_parts (nat_le (length name) 11) (not (list_any (same_letters name) keywords)) (and_parts (has_name_form name) _ h).1 in
-    (or_false _ _ (or_false _ _ (not-true (list_any (same_letters name) keywords) parts.1)).1).0
 
 joined-nil : (a : Declared) → joined a [] ≡ a
 joined-nil a =
@@ -100,23 +86,12 @@ decls_read [] a ts closing text rest (suc n) enough is_end derived kept h =
     let first = first_token closing [] text rest only in
     rw (first.1, is_end, first.2) (ap (λ d. Ok (d, rest)) (sym (joined-nil a)))
 decls_read (d ∷ ds) a ts closing text rest (suc n) enough is_end derived kept h =
-    let (behind, back, parts, is_named, is_body, others) = derived in
-    let later : List (List ℕ) = behind ++ (back ++ closing ∷ []) in
-    let whole : ts ++ closing ∷ [] ≡ d.name ∷ later
-    = ap (λ z. z ++ closing ∷ []) parts ∙ ap (λ z. d.name ∷ z) (append_assoc behind back (closing ∷ [])) in
-    let tokens : AreTokens (d.name ∷ later) text rest = subst (λ z. AreTokens z text rest) whole h in
-    let first = first_token d.name later text rest tokens in
-    let b = body_reads behind (back ++ closing ∷ []) d.body first.0 rest is_body first.2 in
-    let named : name_of d.name (length first.0) ≡ Ok d.name = names_itself d.name (length first.0) is_named in
-    let not_end : same_letters d.name (codes "END_VAR") ≡ false = no_keyword d.name is_named in
-    let more : added a d.name d.body (length first.0) ≡ Ok (with_decl a d.name d.body) = adds a d ds (length first.0) kept in
-    let taken : TakesBody d.body first.0 b.0 = body_takes d.body first.0 b.0 b.1 in
-    let shorter : length b.0 < n = omega (arith, first.3, tokens-shorter taken.behind first.0 b.0 taken.tokens) in
+    let l = leads d ds ts text closing rest derived h in
+    let named : name_of d.name (length l.behind) ≡ Ok d.name = names_itself d.name (length l.behind) l.named in
+    let more : added a d.name d.body (length l.behind) ≡ Ok (with_decl a d.name d.body) = adds a d ds (length l.behind) kept in
     let kept_later : AreKept (joined (with_decl a d.name d.body) ds) = subst AreKept (sym (joined-more a d ds)) kept in
-    let all = decls_read ds (with_decl a d.name d.body) back closing b.0 rest n shorter is_end others kept_later b.2 in
-    let same : decls_from n (with_decl a d.name d.body) b.0 ≡ Ok (joined a (d ∷ ds), rest)
-    = subst (λ z. decls_from n (with_decl a d.name d.body) b.0 ≡ Ok (z, rest)) (joined-more a d ds) all in
-    rw (first.1, not_end, named, b.1, more) same
+    let all = decls_read ds (with_decl a d.name d.body) l.back closing l.after rest n (omega (arith, l.shorter)) is_end l.others kept_later l.read in
+    rw (l.next.0, l.next.1, named, l.next.2, more) (all ∙ ap (λ z. Ok (z, rest)) (joined-more a d ds))
 
 pub all_reads : (text : List ℕ) (declared : Declared) (rest : List ℕ) → HasDecls text declared rest → all_of text ≡ Ok (declared, rest)
 unfolding all_of
@@ -125,8 +100,8 @@ all_reads text declared rest h =
     let whole : ts ≡ opening ∷ (between ++ closing ∷ []) = parts ∙ ap (λ z. z ++ closing ∷ []) split in
     let tokens : AreTokens (opening ∷ (between ++ closing ∷ [])) text rest = subst (λ ts. AreTokens ts text rest) whole read in
     let first = expect_reads (codes "VAR") opening (between ++ closing ∷ []) text rest is_var tokens in
-    let enough : length first.0 < length first.0 + 1 = omega arith in
+    let enough : length first.0 < suc (length first.0) = omega arith in
     let kept : AreKept (joined nothing ds) = subst AreKept declared_is kept_ in
-    let found : decls_from (length first.0 + 1) nothing first.0 ≡ Ok (joined nothing ds, rest)
-    = decls_read ds nothing between closing first.0 rest (length first.0 + 1) enough is_end derived kept first.2 in
-    rw first.1 (subst (λ d. decls_from (length first.0 + 1) nothing first.0 ≡ Ok (d, rest)) (sym declared_is) found)
+    let found : decls_from (suc (length first.0)) nothing first.0 ≡ Ok (joined nothing ds, rest)
+    = decls_read ds nothing between closing first.0 rest (suc (length first.0)) enough is_end derived kept first.2 in
+    rw first.1 (subst (λ d. decls_from (suc (length first.0)) nothing first.0 ≡ Ok (d, rest)) (sym declared_is) found)

@@ -1,5 +1,5 @@
 -- What is read is declared by the text.
-use Rattle.std.proofs.Common.{◌≡◌, ℕ, zero, suc, ◌+◌, inl, inr, true, List, [], ◌∷◌, ◌++◌, length, codes, Option, Some, None, Ok, refl, sym, ap, subst, ◌∙◌, append_assoc}
+use Rattle.std.proofs.Common.{◌≡◌, ℕ, zero, suc, inl, inr, true, List, [], ◌∷◌, ◌++◌, length, codes, Option, Some, None, Ok, refl, sym, ap, subst, ◌∙◌, append_assoc}
 use Rattle.std.proofs.lemmas.List.{append-nil}
 use Rattle.std.proofs.lemmas.List.Elements.{filter_map-append}
 use Rattle.ladder_vars.specs.declared.fault.VarRule.{VarRule}
@@ -14,7 +14,7 @@ use Rattle.ladder_vars.specs.ReadDecls.{expect, name_of, refusal, with_decl, ref
 use Rattle.ladder_times.proofs.Steps.{chosen}
 use Rattle.ladder_vars.proofs.Steps.{bind_ok}
 use Rattle.ladder_vars.proofs.TextTakes.{token_takes, AreTokens-append}
-use Rattle.ladder_vars.proofs.GrammarTakes.{halves, expect_takes, TakesBody, body_takes}
+use Rattle.ladder_vars.proofs.BodyReads.{halves, expect_takes, TakesBody, body_takes}
 
 -- the text reads VAR and these declarations up to here
 pub record ReadsTo (text : List ℕ) (ds : List Decl) (due : List ℕ) : Type 0 where
@@ -120,4 +120,4 @@ all_take text all rest kept h =
     let start = bind_ok (expect (codes "VAR") text) _ (all, rest) h in
     let opening = expect_takes (codes "VAR") text start.0 start.1 in
     let due : ReadsTo text [] start.0 = record { opening = opening.0; tokens = []; is_var = opening.1; derived = refl; read = opening.2 } in
-    decls_take (length start.0 + 1) text [] nothing start.0 all rest due refl kept start.2
+    decls_take (suc (length start.0)) text [] nothing start.0 all rest due refl kept start.2

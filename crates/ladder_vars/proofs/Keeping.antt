@@ -9,6 +9,8 @@ use Rattle.std.proofs.lemmas.List.Elements.{All-nil, All-push, filter_map-append
 use Rattle.std.proofs.lemmas.List.Folds.{list_any-append}
 use Rattle.std.proofs.lemmas.Bool.{cases_lt, le-ltb, leb-false, lt-ltb, ltb-false}
 use Rattle.ladder_vars.specs.declared.decls.Address.{Address}
+use Rattle.ladder_vars.specs.declared.decls.VarKind.{VarKind}
+use Rattle.ladder_vars.specs.declared.kind.BlockKind.{BlockKind}
 use Rattle.ladder_vars.specs.declared.decls.Var.{Var}
 use Rattle.ladder_vars.specs.declared.decls.Instance.{Instance}
 use Rattle.ladder_vars.specs.declared.decls.Symbol.TheVariants as symbol
@@ -137,55 +139,59 @@ addresses_kept vars v d same h new =
           rw (whole, one) (IsDistinct-put_between same_address same_address-flips (addresses_of vars) a [] distinct unlike)
     ] refl
 
-pub AreInRange-var : (d : Declared) (v : Var) → AreInRange d → refusal d v.name (body.Var v.kind v.address v.initial) ≡ None
-    → AreInRange (with_var d v)
-AreInRange-var d v kept accepted =
-    elim (chosen (list_any (same_letters v.name) (names_of d)) _ _ _ accepted) [
+-- what holds where no rule refuses one more variable, and one more instance
+pub new_var : (d : Declared) (name : List ℕ) (kind : VarKind) (address : Option Address) (initial : Bool) → refusal d name (body.Var kind address initial) ≡ None
+    → (list_any (same_letters name) (names_of d) ≡ false) × (is_taken d address ≡ false) × (length d.vars < 256)
+new_var d name kind address initial accepted =
+    elim (chosen (list_any (same_letters name) (names_of d)) _ _ _ accepted) [
       | inl twice ↦ absurd cc
-      | inr new ↦ elim (chosen (is_taken d v.address) _ _ _ new.1) [
+      | inr new ↦ elim (chosen (is_taken d address) _ _ _ new.1) [
         | inl taken ↦ absurd cc
-        | inr unused ↦ elim (chosen (nat_le 256 (length d.vars)) _ _ _ unused.1) [
+        | inr unused ↦ elim (chosen (nat_le 256 (length d.vars)) _ _ _ unused.1) [ inl full ↦ absurd cc | inr room ↦ (new.0, unused.0, leb-false 256 (length d.vars) room.0) ]
+      ]
+    ]
+
+pub new_instance : (d : Declared) (name : List ℕ) (kind : BlockKind) (preset : ℕ) → refusal d name (body.Instance kind preset) ≡ None
+    → (length name ≤ (traits_of kind).longest_name) × (list_any (same_letters name) (names_of d) ≡ false) × (length d.instances < 64)
+new_instance d name kind preset accepted =
+    elim (chosen (nat_lt (traits_of kind).longest_name (length name)) _ _ _ accepted) [
+      | inl long ↦ absurd cc
+      | inr short ↦ elim (chosen (list_any (same_letters name) (names_of d)) _ _ _ short.1) [
+        | inl twice ↦ absurd cc
+        | inr new ↦ elim (chosen (nat_le 64 (length d.instances)) _ _ _ new.1) [
           | inl full ↦ absurd cc
-          | inr room ↦
-              let apart : list_any (same_letters v.name) (names_of d) ≡ false = new.0 in
-              let few : length d.vars < 256 = leb-false 256 (length d.vars) room.0 in
-              let still : AreKept (with_var d v) = (
-                rw (names-var d v) (IsDistinct-put_between same_letters same_letters-flips (map (λ x. x.name) d.vars) v.name (map (λ i. i.name) d.instances) kept.kept.0 apart),
-                addresses_kept d.vars v d refl kept.kept.1 unused.0,
-                omega (arith, length-append {A = Var} d.vars (v ∷ [])),
-                kept.kept.3,
-                kept.kept.4,
-              ) in
-              record { kept = still; presets = kept.presets }
+          | inr room ↦ (ltb-false (traits_of kind).longest_name (length name) short.0, new.0, leb-false 64 (length d.instances) room.0)
         ]
       ]
     ]
 
+pub AreInRange-var : (d : Declared) (v : Var) → AreInRange d → refusal d v.name (body.Var v.kind v.address v.initial) ≡ None
+    → AreInRange (with_var d v)
+AreInRange-var d v kept accepted =
+    let (apart, unused, few) = new_var d v.name v.kind v.address v.initial accepted in
+    let still : AreKept (with_var d v) = (
+      rw (names-var d v) (IsDistinct-put_between same_letters same_letters-flips (map (λ x. x.name) d.vars) v.name (map (λ i. i.name) d.instances) kept.kept.0 apart),
+      addresses_kept d.vars v d refl kept.kept.1 unused,
+      omega (arith, few, length-append {A = Var} d.vars (v ∷ [])),
+      kept.kept.3,
+      kept.kept.4,
+    ) in
+    record { kept = still; presets = kept.presets }
+
 pub AreInRange-instance : (d : Declared) (i : Instance) → AreInRange d → refusal d i.name (body.Instance i.kind i.preset) ≡ None → i.preset ≤ largest_preset i.kind
     → AreInRange (with_instance d i)
 AreInRange-instance d i kept accepted fits =
-    elim (chosen (nat_lt (traits_of i.kind).longest_name (length i.name)) _ _ _ accepted) [
-      | inl long ↦ absurd cc
-      | inr short ↦ elim (chosen (list_any (same_letters i.name) (names_of d)) _ _ _ short.1) [
-        | inl twice ↦ absurd cc
-        | inr new ↦ elim (chosen (nat_le 64 (length d.instances)) _ _ _ new.1) [
-          | inl full ↦ absurd cc
-          | inr room ↦
-              let apart : list_any (same_letters i.name) (names_of d ++ []) ≡ false = rw (append-nil (names_of d)) (new.0) in
-              let distinct : IsDistinct same_letters (names_of d ++ []) = rw (append-nil (names_of d)) kept.kept.0 in
-              let few : length d.instances < 64 = leb-false 64 (length d.instances) room.0 in
-              let short_name : length i.name ≤ (traits_of i.kind).longest_name = ltb-false (traits_of i.kind).longest_name (length i.name) short.0 in
-              let still : AreKept (with_instance d i) = (
-                rw (names-instance d i) (IsDistinct-put_between same_letters same_letters-flips (names_of d) i.name [] distinct apart),
-                kept.kept.1,
-                kept.kept.2,
-                omega (arith, length-append {A = Instance} d.instances (i ∷ [])),
-                All-push (λ x. length x.name ≤ (traits_of x.kind).longest_name) d.instances i kept.kept.4 short_name,
-              ) in
-              record { kept = still; presets = All-push (λ x. x.preset ≤ largest_preset x.kind) d.instances i kept.presets fits }
-        ]
-      ]
-    ]
+    let (short, new, few) = new_instance d i.name i.kind i.preset accepted in
+    let apart : list_any (same_letters i.name) (names_of d ++ []) ≡ false = rw (append-nil (names_of d)) new in
+    let distinct : IsDistinct same_letters (names_of d ++ []) = rw (append-nil (names_of d)) kept.kept.0 in
+    let still : AreKept (with_instance d i) = (
+      rw (names-instance d i) (IsDistinct-put_between same_letters same_letters-flips (names_of d) i.name [] distinct apart),
+      kept.kept.1,
+      kept.kept.2,
+      omega (arith, few, length-append {A = Instance} d.instances (i ∷ [])),
+      All-push (λ x. length x.name ≤ (traits_of x.kind).longest_name) d.instances i kept.kept.4 short,
+    ) in
+    record { kept = still; presets = All-push (λ x. x.preset ≤ largest_preset x.kind) d.instances i kept.presets fits }
 
 -- So many declarations there may be while the text is read.
 pub record AreFew (d : Declared) : Type 0 where
@@ -194,33 +200,11 @@ pub record AreFew (d : Declared) : Type 0 where
 
 pub AreFew-decl : (d : Declared) (name : List ℕ) (b : Body) → AreFew d → refusal d name b ≡ None → AreFew (with_decl d name b)
 AreFew-decl d name (body.Var kind address initial) few accepted =
-    elim (chosen (list_any (same_letters name) (names_of d)) _ _ _ accepted) [
-      | inl twice ↦ absurd cc
-      | inr new ↦ elim (chosen (is_taken d address) _ _ _ new.1) [
-        | inl taken ↦ absurd cc
-        | inr unused ↦ elim (chosen (nat_le 256 (length d.vars)) _ _ _ unused.1) [
-          | inl full ↦ absurd cc
-          | inr room ↦
-              let below : length d.vars < 256 = leb-false 256 (length d.vars) room.0 in
-              let v : Var = record { name = name; title = name; kind = kind; address = address; initial = initial } in
-              record { vars = omega (arith, length-append {A = Var} d.vars (v ∷ [])); instances = few.instances }
-        ]
-      ]
-    ]
+    let v : Var = record { name = name; title = name; kind = kind; address = address; initial = initial } in
+    record { vars = omega (arith, (new_var d name kind address initial accepted).2, length-append {A = Var} d.vars (v ∷ [])); instances = few.instances }
 AreFew-decl d name (body.Instance kind preset) few accepted =
-    elim (chosen (nat_lt (traits_of kind).longest_name (length name)) _ _ _ accepted) [
-      | inl long ↦ absurd cc
-      | inr short ↦ elim (chosen (list_any (same_letters name) (names_of d)) _ _ _ short.1) [
-        | inl twice ↦ absurd cc
-        | inr new ↦ elim (chosen (nat_le 64 (length d.instances)) _ _ _ new.1) [
-          | inl full ↦ absurd cc
-          | inr room ↦
-              let below : length d.instances < 64 = leb-false 64 (length d.instances) room.0 in
-              let i : Instance = record { name = name; title = name; kind = kind; preset = preset } in
-              record { vars = few.vars; instances = omega (arith, length-append {A = Instance} d.instances (i ∷ [])) }
-        ]
-      ]
-    ]
+    let i : Instance = record { name = name; title = name; kind = kind; preset = preset } in
+    record { vars = few.vars; instances = omega (arith, (new_instance d name kind preset accepted).2, length-append {A = Instance} d.instances (i ∷ [])) }
 
 pub AreInRange-decl : (d : Declared) (name : List ℕ) (b : Body) → AreInRange d → refusal d name b ≡ None → PresetFits b → AreInRange (with_decl d name b)
 AreInRange-decl d name (body.Var kind address initial) kept accepted fits =

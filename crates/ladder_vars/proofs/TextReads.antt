@@ -85,3 +85,7 @@ first_token t ts text rest h =
       h.6,
       omega (arith, gap-shorter h.2, ap length h.3, length-append {A = ℕ} t h.1, h.4),
     )
+
+pub tokens-shorter : (ts : List (List ℕ)) (text rest : List ℕ) → AreTokens ts text rest → length rest ≤ length text
+tokens-shorter [] text rest h = omega (arith, ap length h)
+tokens-shorter (t ∷ ts) text rest h = let first = first_token t ts text rest h in omega (arith, first.3, tokens-shorter ts first.0 rest first.2)

@@ -1,14 +1,15 @@
 -- What is found stands there: a token that `token_at` gives is the first of a reading, behind a gap.
-use Rattle.std.proofs.Common.{◌≡◌, ◌≢◌, ℕ, ◌≤◌, min, ◌⊎◌, inl, inr, Bool, true, false, not, ◌==◌, ◌||◌, ◌&&◌, List, [], ◌∷◌, ◌++◌, length, take, drop, Ok, refl, sym, ap, subst, ◌∙◌, arith}
-use Rattle.std.specs.List.{list_all, prefix_len}
+use Rattle.std.proofs.Common.{◌≡◌, ◌≢◌, ℕ, ◌≤◌, min, ◌⊎◌, inl, inr, true, false, not, ◌==◌, ◌||◌, ◌&&◌, List, [], ◌∷◌, ◌++◌, length, take, drop, Result, Ok, Err, refl, sym, ap, subst, ◌∙◌, arith}
+use Rattle.std.specs.List.{list_all}
 use Rattle.std.specs.Char.{is_ascii_alphanumeric}
 use Rattle.std.proofs.lemmas.Bool.{eqb-true, eqb-false, and_parts, false≢true, cond_both}
 use Rattle.std.proofs.lemmas.List.{take-append-drop, length-take}
 use Rattle.std.proofs.lemmas.List.Sums.{prefix_len-le-length}
+use Rattle.ladder_vars.specs.declared.fault.Fault.{Fault}
 use Rattle.ladder_vars.specs.declared.text.Within.{Within}
 use Rattle.ladder_vars.specs.declared.text.Within.TheVariants as state
-use Rattle.ladder_vars.specs.Text.{begins_with, is_blank, is_word_byte, token_len, closes, Gap, Nothing, Blank, Comment, LineComment, AreTokens}
-use Rattle.ladder_vars.specs.ReadText.{skip_from, token_at}
+use Rattle.ladder_vars.specs.Text.{begins_with, is_blank, is_word_byte, token_len, closes, Gap, Nothing, Blank, Comment, LineComment, AreTokens, begins_comment, IsUnfinished}
+use Rattle.ladder_vars.specs.ReadText.{skip_from, unfinished, token_at}
 use Rattle.ladder_times.proofs.Steps.{chosen}
 use Rattle.ladder_vars.proofs.Steps.{bind_ok}
 use Rattle.ladder_vars.proofs.TextReads.{begins_with-append}
@@ -77,60 +78,105 @@ gap_line b bs rest h line =
     let first : b ≡ 47 = eqb-true b 47 both.0 in
     rw first (gap_line_at bs rest line.inside line.after both.1 line.parts line.one_line line.end line.gap)
 
-pub skipped : (s : Within) (text rest : List ℕ) → skip_from s text ≡ Ok rest → GapFrom s text rest
-skipped state.Blanks [] rest h = let e : [] ≡ rest = cc in subst (λ z. Gap [] z) e (gap_none [])
-skipped state.LineComment [] rest h =
-    let e : [] ≡ rest = cc in
-    record { inside = []; after = []; parts = refl; one_line = refl; end = inl refl; gap = subst (λ z. Gap [] z) e (gap_none []) }
-skipped state.Opening [] rest h = absurd cc
-skipped state.Comment [] rest h = absurd cc
-skipped state.Closing [] rest h = absurd cc
-skipped state.Blanks (b ∷ bs) rest h =
-    elim (chosen (is_blank b bs) _ _ _ h) [
-      | inl blank ↦ gap_blank b bs rest blank.0 (skipped state.Blanks bs rest blank.1)
-      | inr other ↦ elim (chosen (b == 40 && begins_with 42 bs) _ _ _ other.1) [
-        | inl block ↦ gap_block b bs rest block.0 (skipped state.Opening bs rest block.1)
-        | inr rest_of ↦ elim (chosen (b == 47 && begins_with 47 bs) _ _ _ rest_of.1) [
-          | inl line ↦ gap_line b bs rest line.0 (skipped state.LineComment bs rest line.1)
-          | inr end ↦ let e : b ∷ bs ≡ rest = cc in subst (λ z. Gap (b ∷ bs) z) e (gap_none (b ∷ bs))
-        ]
-      ]
-    ]
-skipped state.Opening (b ∷ bs) rest h = (b, bs, refl, skipped state.Comment bs rest h)
-skipped state.Closing (b ∷ bs) rest h = (b, bs, refl, skipped state.Blanks bs rest h)
-skipped state.Comment (b ∷ bs) rest h =
-    elim (chosen (b == 42 && begins_with 41 bs) _ _ _ h) [
-      | inl ends ↦
-          let both = and_parts (b == 42) (begins_with 41 bs) ends.0 in
-          let first : b ≡ 42 = eqb-true b 42 both.0 in
-          let paren = begins_cons 41 bs both.1 in
-          let g : GapFrom state.Closing bs rest = skipped state.Closing bs rest ends.1 in
-          let second : g.0 ≡ 41 = head_same g.0 41 g.1 paren.0 (sym g.2 ∙ paren.1) in
-          record { inside = []; after = g.1; parts = rw (g.2, first, second) refl; first = refl; gap = g.3 }
-      | inr more ↦
-          let g : EndsComment bs rest = skipped state.Comment bs rest more.1 in
-          let front : begins_with 41 bs ≡ begins_with 41 g.inside
-          = ap (begins_with 41) g.parts ∙ begins_with-append 41 42 g.inside (41 ∷ g.after) refl in
-          let not_here : (b == 42 && begins_with 41 g.inside) ≡ false = ap (λ t. b == 42 && t) (sym front) ∙ more.0 in
-          record { inside = b ∷ g.inside; after = g.after; parts = ap (λ z. b ∷ z) g.parts; first = rw not_here g.first; gap = g.gap }
-    ]
-skipped state.LineComment (b ∷ bs) rest h =
-    elim (chosen (b == 10) _ _ _ h) [
-      | inl ends ↦
-          let lf : b ≡ 10 = eqb-true b 10 ends.0 in
-          let blank : is_blank b bs ≡ true = rw lf refl in
-          record { inside = []; after = b ∷ bs; parts = refl; one_line = refl; end = inr ends.0; gap = gap_blank b bs rest blank (skipped state.Blanks bs rest ends.1) }
-      | inr more ↦
-          let g : EndsLine bs rest = skipped state.LineComment bs rest more.1 in
-          record { inside = b ∷ g.inside; after = g.after; parts = ap (λ z. b ∷ z) g.parts; one_line = rw more.0 g.one_line; end = g.end; gap = g.gap }
-    ]
+-- where the skipping ends there is neither a blank nor a comment
+abbrev pub NoGap : List ℕ → Type 0
+NoGap [] = Unit {0}
+NoGap (b ∷ bs) = (is_blank b bs ≡ false) × (begins_comment (b ∷ bs) ≡ false)
+
+-- the comment never ends
+abbrev pub Never : Within → List ℕ → Type 0
+Never state.Opening [] = Unit {0}
+Never state.Opening (b ∷ bs) = closes bs ≡ false
+Never state.Comment text = closes text ≡ false
+Never state.Closing [] = Unit {0}
+Never state.Closing (b ∷ bs) = ⊥
+Never state.Blanks text = ⊥
+Never state.LineComment text = ⊥
+
+-- it never ends, or another one behind it
+abbrev pub OpenFrom : Within → List ℕ → Type 0
+OpenFrom s text = Never s text ⊎ ((at : List ℕ) × GapFrom s text at × IsUnfinished at)
+
+comment_end : (b : ℕ) (bs at : List ℕ) → (b == 42 && begins_with 41 bs) ≡ true → GapFrom state.Closing bs at → EndsComment (b ∷ bs) at
+comment_end b bs at ends g =
+    let both = and_parts (b == 42) (begins_with 41 bs) ends in
+    let first : b ≡ 42 = eqb-true b 42 both.0 in
+    let paren = begins_cons 41 bs both.1 in
+    let second : g.0 ≡ 41 = head_same g.0 41 g.1 paren.0 (sym g.2 ∙ paren.1) in
+    record { inside = []; after = g.1; parts = rw (g.2, first, second) refl; first = refl; gap = g.3 }
+
+comment_more : (b : ℕ) (bs at : List ℕ) → (b == 42 && begins_with 41 bs) ≡ false → EndsComment bs at → EndsComment (b ∷ bs) at
+comment_more b bs at more g =
+    let front : begins_with 41 bs ≡ begins_with 41 g.inside
+    = ap (begins_with 41) g.parts ∙ begins_with-append 41 42 g.inside (41 ∷ g.after) refl in
+    let not_here : (b == 42 && begins_with 41 g.inside) ≡ false = ap (λ t. b == 42 && t) (sym front) ∙ more in
+    record { inside = b ∷ g.inside; after = g.after; parts = ap (λ z. b ∷ z) g.parts; first = rw not_here g.first; gap = g.gap }
+
+line_end : (b : ℕ) (bs at : List ℕ) → (b == 10) ≡ true → Gap bs at → EndsLine (b ∷ bs) at
+line_end b bs at ends g =
+    let lf : b ≡ 10 = eqb-true b 10 ends in
+    let blank : is_blank b bs ≡ true = rw lf refl in
+    record { inside = []; after = b ∷ bs; parts = refl; one_line = refl; end = inr ends; gap = gap_blank b bs at blank g }
+
+line_more : (b : ℕ) (bs at : List ℕ) → (b == 10) ≡ false → EndsLine bs at → EndsLine (b ∷ bs) at
+line_more b bs at more g =
+    record { inside = b ∷ g.inside; after = g.after; parts = ap (λ z. b ∷ z) g.parts; one_line = rw more g.one_line; end = g.end; gap = g.gap }
+
+-- what skipping from here shows
+abbrev pub Shows : Within → List ℕ → Result (List ℕ) Fault → Type 0
+Shows s text (Ok rest) = GapFrom s text rest × NoGap rest
+Shows s text (Err f) = (f ≡ unfinished) × OpenFrom s text
+
+-- one byte before the rest
+moves : (s n : Within) (text rest : List ℕ) (r : Result (List ℕ) Fault) → ((at : List ℕ) → GapFrom n rest at → GapFrom s text at)
+    → (Never n rest → OpenFrom s text) → Shows n rest r → Shows s text r
+moves s n text rest (Ok x) gap open_yet h = (gap x h.0, h.1)
+moves s n text rest (Err f) gap open_yet h = (h.0, elim h.1 [ inl never ↦ open_yet never | inr (at, g, u) ↦ inr (at, gap at g, u) ])
+
+never_opened : (b : ℕ) (bs : List ℕ) → (b == 40 && begins_with 42 bs) ≡ true → Never state.Opening bs → OpenFrom state.Blanks (b ∷ bs)
+never_opened b [] h never = absurd (let both = and_parts (b == 40) (begins_with 42 []) h in cc)
+never_opened b (c ∷ cs) h never =
+    let both = and_parts (b == 40) (begins_with 42 (c ∷ cs)) h in
+    inr (b ∷ c ∷ cs, gap_none (b ∷ c ∷ cs), (eqb-true b 40 both.0, eqb-true c 42 both.1, never))
+
+never_closing : (b : ℕ) (bs : List ℕ) → (b == 42 && begins_with 41 bs) ≡ true → Never state.Closing bs → ⊥
+never_closing b [] h never = let both = and_parts (b == 42) (begins_with 41 []) h in absurd cc
+never_closing b (c ∷ cs) h never = never
+
+pub shows : (text : List ℕ) (s : Within) → Shows s text (skip_from s text)
+shows [] state.Blanks = (gap_none [], tt)
+shows [] state.LineComment = (record { inside = []; after = []; parts = refl; one_line = refl; end = inl refl; gap = gap_none [] }, tt)
+shows [] state.Opening = (refl, inl tt)
+shows [] state.Comment = (refl, inl refl)
+shows [] state.Closing = (refl, inl tt)
+shows (b ∷ bs) state.Blanks =
+    let text : List ℕ = b ∷ bs in
+    cond_both (is_blank b bs) _ _ (Shows state.Blanks text) (λ blank.
+    moves state.Blanks state.Blanks text bs _ (λ at g. gap_blank b bs at blank g) (λ never. absurd never) (shows bs state.Blanks)) (λ dark.
+    cond_both (b == 40 && begins_with 42 bs) _ _ (Shows state.Blanks text) (λ block.
+    moves state.Blanks state.Opening text bs _ (λ at g. gap_block b bs at block g) (λ never. never_opened b bs block never) (shows bs state.Opening)) (λ no_block.
+    cond_both (b == 47 && begins_with 47 bs) _ _ (Shows state.Blanks text) (λ line.
+    moves state.Blanks state.LineComment text bs _ (λ at g. gap_line b bs at line g) (λ never. absurd never) (shows bs state.LineComment))
+    (λ no_line. (gap_none text, (dark, rw (no_block, no_line) refl)))))
+shows (b ∷ bs) state.Opening = moves state.Opening state.Comment (b ∷ bs) bs _ (λ at g. (b, bs, refl, g)) (λ never. inl never) (shows bs state.Comment)
+shows (b ∷ bs) state.Closing = moves state.Closing state.Blanks (b ∷ bs) bs _ (λ at g. (b, bs, refl, g)) (λ never. absurd never) (shows bs state.Blanks)
+shows (b ∷ bs) state.Comment =
+    let text : List ℕ = b ∷ bs in
+    cond_both (b == 42 && begins_with 41 bs) _ _ (Shows state.Comment text) (λ end.
+    moves state.Comment state.Closing text bs _ (λ at g. comment_end b bs at end g) (λ never. absurd (never_closing b bs end never)) (shows bs state.Closing))
+    (λ more. moves state.Comment state.Comment text bs _ (λ at g. comment_more b bs at more g) (λ never. inl (rw (more, never) refl)) (shows bs state.Comment))
+shows (b ∷ bs) state.LineComment =
+    let text : List ℕ = b ∷ bs in
+    cond_both (b == 10) _ _ (Shows state.LineComment text) (λ end.
+    moves state.LineComment state.Blanks text bs _ (λ at g. line_end b bs at end g) (λ never. absurd never) (shows bs state.Blanks))
+    (λ more. moves state.LineComment state.LineComment text bs _ (λ at g. line_more b bs at more g) (λ never. absurd never) (shows bs state.LineComment))
+
+pub skipped : (text rest : List ℕ) → skip_from state.Blanks text ≡ Ok rest → Gap text rest × NoGap rest
+skipped text rest h = subst (Shows state.Blanks text) h (shows text state.Blanks)
 
 pub AreTokens-append : (ts us : List (List ℕ)) (a b c : List ℕ) → AreTokens ts a b → AreTokens us b c → AreTokens (ts ++ us) a c
 AreTokens-append [] us a b c p q = rw p q
 AreTokens-append (t ∷ ts) us a b c p q = (p.0, p.1, p.2, p.3, p.4, p.5, AreTokens-append ts us p.1 b c p.6 q)
-
-prefix_len-le : (p : ℕ → Bool) (bs : List ℕ) → prefix_len p bs ≤ length bs
-prefix_len-le p bs = prefix_len-le-length p bs
 
 begins_some : (byte : ℕ) (bs : List ℕ) → begins_with byte bs ≡ true → 1 ≤ length bs
 begins_some byte [] h = cc
@@ -140,8 +186,8 @@ token_len-le : (text : List ℕ) → token_len text ≤ length text
 token_len-le [] = omega arith
 token_len-le (b ∷ bs) =
     let P : ℕ → Type 0 = λ n. n ≤ length (b ∷ bs) in
-    cond_both (is_word_byte b) _ _ P (λ _. omega (arith, prefix_len-le is_word_byte bs)) (λ _.
-    cond_both (b == 37) _ _ P (λ _. omega (arith, prefix_len-le (λ c. is_ascii_alphanumeric c || c == 46) bs)) (λ _.
+    cond_both (is_word_byte b) _ _ P (λ _. omega (arith, prefix_len-le-length is_word_byte bs)) (λ _.
+    cond_both (b == 37) _ _ P (λ _. omega (arith, prefix_len-le-length (λ c. is_ascii_alphanumeric c || c == 46) bs)) (λ _.
     cond_both (b == 58) _ _ P (λ _. cond_both (begins_with 61 bs) _ _ P (λ e. omega (arith, begins_some 61 bs e)) (λ _. omega arith)) (λ _.
     cond_both (b == 40) _ _ P (λ _. cond_both (begins_with 42 bs) _ _ P (λ _. omega arith) (λ _. omega arith)) (λ _.
     cond_both (b == 59 || b == 41) _ _ P (λ _. omega arith) (λ _. omega arith)))))
@@ -154,7 +200,7 @@ pub token_takes : (text t rest : List ℕ) → token_at text ≡ Ok (t, rest) �
 unfolding token_at
 token_takes text t rest h =
     let skip = bind_ok (skip_from state.Blanks text) _ (t, rest) h in
-    let gap : Gap text skip.0 = skipped state.Blanks text skip.0 skip.1 in
+    let gap : Gap text skip.0 = (skipped text skip.0 skip.1).0 in
     elim (chosen (token_len skip.0 == 0) _ _ _ skip.2) [
       | inl none ↦ absurd cc
       | inr some ↦

@@ -1,5 +1,5 @@
 -- Declarations get their titles one after the other.
-use Rattle.std.proofs.Common.{◌≡◌, ℕ, zero, suc, ◌+◌, ◌-◌, ◌<◌, ◌≤◌, inl, inr, true, false, Bool, ◌||◌, List, [], ◌∷◌, ◌++◌, length, map, take, drop, codes, Option, Some, None, Ok, Err, unwrap_or, slice_set, get_or, refl, sym, ap, ap₂, subst, ◌∙◌, arith, nat_lt, append_assoc}
+use Rattle.std.proofs.Common.{◌≡◌, ℕ, zero, suc, ◌+◌, ◌-◌, ◌<◌, ◌≤◌, ◌⊎◌, inl, inr, true, false, Bool, ◌||◌, List, [], ◌∷◌, ◌++◌, length, map, take, drop, codes, Option, Some, None, Ok, Err, unwrap_or, slice_set, get_or, refl, sym, ap, ap₂, subst, ◌∙◌, arith, append_assoc}
 use Rattle.std.specs.List.{All, AllByRecursion, IsDistinct, list_any}
 use Rattle.std.proofs.lemmas.Bool.{cases_lt, or_left, or_right, or_cases, true≢false}
 use Rattle.std.proofs.lemmas.List.{map-set, length-set, length-map, length-append, length-drop, length-take, get_or-map, get_or_append_left, get_or_at, get_or-take, get_or-drop, get_or-set_same, take-set-le, drop-set-lt, set-append_left, set-get_or, take_all}
@@ -22,21 +22,19 @@ use Rattle.ladder_vars.specs.Decls.{Declared, AreKept, names_of}
 use Rattle.ladder_vars.specs.Text.{AreTokens}
 use Rattle.ladder_vars.specs.Grammar.{Decl, declared_by, HasDecls}
 use Rattle.ladder_vars.specs.Rules.{DeclDue, line_of}
-use Rattle.ladder_vars.specs.ReadDecls.{expect, with_decl, refusal, all_of, decls_from}
-use Rattle.ladder_times.proofs.Steps.{chosen}
-use Rattle.ladder_vars.specs.Kind.{traits_of}
+use Rattle.ladder_vars.specs.ReadDecls.{expect, with_decl, all_of}
 use Rattle.ladder_vars.specs.Titles.{plain_var, plain_instance, plain, HasTitle, titles_of, AreTitled, IsTaken, HasTakenAlias, Declares}
 use Rattle.ladder_vars.specs.TakeTitles.{IsNext, IsLast, IsWithin, Retitles, IsPast}
 use Rattle.ladder_vars.proofs.Steps.{or_false, bind_ok}
 use Rattle.ladder_vars.proofs.Lists.{none_passes}
 use Rattle.ladder_vars.proofs.Keeping.{same_letters-flips, names-any, titles-any}
 use Rattle.ladder_vars.proofs.TextTakes.{token_takes, AreTokens-append}
-use Rattle.ladder_vars.proofs.GrammarTakes.{TakesBody, body_takes, expect_takes}
+use Rattle.ladder_vars.proofs.BodyReads.{TakesBody, body_takes, expect_takes, expect_reads, ok_same}
 use Rattle.ladder_vars.proofs.DeclReads.{all_reads}
 use Rattle.ladder_vars.proofs.DeclTakes.{ReadsTo, next_due, declared_by-push}
 use Rattle.ladder_vars.proofs.DeclFaults.{head_is}
 use Rattle.ladder_vars.proofs.Retitling.{map-set_same}
-use Rattle.ladder_vars.proofs.TitleLoop.{next_read, read_extends}
+use Rattle.ladder_vars.proofs.Ahead.{Ahead, extends, none_left, Passes, passes}
 
 -- ---- a list in which one element is another one
 
@@ -90,9 +88,7 @@ head_of P xs n d lt h =
 pub record Takes (text : List ℕ) (whole now : Declared) (rest : List ℕ) (vars instances : ℕ) : Type 0 where
   pub ds : List Decl
   pub reads : ReadsTo text ds rest
-  pub turns : ℕ
-  pub end : List ℕ
-  pub on : decls_from turns (declared_by ds) rest ≡ Ok (whole, end)
+  pub ahead : Ahead whole ds rest
   pub vars_are : vars ≡ length (declared_by ds).vars
   pub instances_are : instances ≡ length (declared_by ds).instances
   pub same : plain now ≡ whole
@@ -106,27 +102,16 @@ pub record Takes (text : List ℕ) (whole now : Declared) (rest : List ℕ) (var
 pub record Comes (text : List ℕ) (whole : Declared) (ds : List Decl) (rest name behind : List ℕ) (b : Body) (after : List ℕ) : Type 0 where
   pub reads : ReadsTo text (ds ++ record { name = name; body = b } ∷ []) after
   pub due : DeclDue text ds name b behind
-  pub turns : ℕ
-  pub end : List ℕ
-  pub on : decls_from turns (declared_by (ds ++ record { name = name; body = b } ∷ [])) after ≡ Ok (whole, end)
+  pub ahead : Ahead whole (ds ++ record { name = name; body = b } ∷ []) after
   pub more : declared_by (ds ++ record { name = name; body = b } ∷ []) ≡ with_decl (declared_by ds) name b
   pub new : list_any (same_letters name) (names_of (declared_by ds)) ≡ false
   pub extends : (vars : List Var) × (instances : List Instance) × (whole.vars ≡ (with_decl (declared_by ds) name b).vars ++ vars)
       × (whole.instances ≡ (with_decl (declared_by ds) name b).instances ++ instances)
 
-not_declared : (d : Declared) (name : List ℕ) (b : Body) → refusal d name b ≡ None → list_any (same_letters name) (names_of d) ≡ false
-not_declared d name (body.Var kind address initial) h =
-    elim (chosen (list_any (same_letters name) (names_of d)) _ _ _ h) [ inl twice ↦ absurd cc | inr new ↦ new.0 ]
-not_declared d name (body.Instance kind preset) h =
-    elim (chosen (nat_lt (traits_of kind).longest_name (length name)) _ _ _ h) [
-      | inl long ↦ absurd cc
-      | inr short ↦ elim (chosen (list_any (same_letters name) (names_of d)) _ _ _ short.1) [ inl twice ↦ absurd cc | inr new ↦ new.0 ]
-    ]
-
 pub comes : (text : List ℕ) (whole now : Declared) (rest : List ℕ) (vars instances : ℕ) (t : Takes text whole now rest vars instances) (name behind : List ℕ)
     (b : Body) (after : List ℕ) → IsNext rest name behind b after → Comes text whole t.ds rest name behind b after
 comes text whole now rest vars instances t name behind b after next =
-    let read = next_read t.turns (declared_by t.ds) whole rest t.end name behind b after t.on next in
+    let read : Passes whole t.ds name b after = passes whole t.ds rest name behind b after t.ahead next in
     let word : AreTokens (name ∷ []) rest behind = token_takes rest name behind next.0 in
     let taken : TakesBody b behind after = body_takes b behind after next.2 in
     let d : Decl = record { name = name; body = b } in
@@ -143,12 +128,11 @@ comes text whole now rest vars instances t name behind b after next =
         before = AreTokens-append (t.reads.opening ∷ t.reads.tokens) (name ∷ []) text rest behind t.reads.read word;
         read = taken.tokens;
       };
-      turns = read.turns;
-      end = t.end;
-      on = rw more read.goes_on;
+      ahead = read.ahead;
       more = more;
-      new = not_declared (declared_by t.ds) name b read.accepted;
-      extends = read_extends read.turns (with_decl (declared_by t.ds) name b) whole after t.end read.goes_on;
+      new = read.new;
+      extends = subst (λ x. (vars : List Var) × (instances : List Instance) × (whole.vars ≡ x.vars ++ vars) × (whole.instances ≡ x.instances ++ instances)) more
+          (extends whole (t.ds ++ d ∷ []) after read.ahead);
     }
 
 -- ---- the next variable
@@ -192,9 +176,7 @@ step_var text whole now rest vars instances t name behind kind address initial a
     record {
       ds = t.ds ++ record { name = name; body = b } ∷ [];
       reads = c.reads;
-      turns = c.turns;
-      end = c.end;
-      on = c.on;
+      ahead = c.ahead;
       vars_are = ap (λ n. n + 1) t.vars_are ∙ sym (ap (λ d. length d.vars) c.more ∙ length-append (declared_by t.ds).vars (var_of name kind address initial ∷ []));
       instances_are = t.instances_are ∙ sym (ap (λ d. length d.instances) c.more);
       same = ap (λ vs. record { vars = vs; instances = map plain_instance now.instances }) same ∙ t.same;
@@ -249,9 +231,7 @@ step_instance text whole now rest vars instances t name behind kind preset after
     record {
       ds = t.ds ++ record { name = name; body = b } ∷ [];
       reads = c.reads;
-      turns = c.turns;
-      end = c.end;
-      on = c.on;
+      ahead = c.ahead;
       vars_are = t.vars_are ∙ sym (ap (λ d. length d.vars) c.more);
       instances_are = ap (λ n. n + 1) t.instances_are
           ∙ sym (ap (λ d. length d.instances) c.more ∙ length-append (declared_by t.ds).instances (instance_of name kind preset ∷ []));
@@ -404,24 +384,33 @@ begins text d f (rest, has) h =
     cc
 
 pub starts : (text : List ℕ) (d : Declared) (first : List ℕ) → Declares text d → expect (codes "VAR") text ≡ Ok first → Takes text d d first 0 0
-unfolding all_of
 starts text d first (rest, has) begun =
+    let (ts, ds, read, (head, closing, parts, (word, between, split, is_var, derived), is_end), declared_is, kept) = has in
+    let whole : ts ≡ word ∷ (between ++ closing ∷ []) = parts ∙ ap (λ z. z ++ closing ∷ []) split in
+    let start = expect_reads (codes "VAR") word (between ++ closing ∷ []) text rest is_var (subst (λ ts. AreTokens ts text rest) whole read) in
     let plain_too : plain d ≡ d = declared_plain text d (rest, has) in
     let vars : map plain_var d.vars ≡ d.vars = ap (λ x. x.vars) plain_too in
     let instances : map plain_instance d.instances ≡ d.instances = ap (λ x. x.instances) plain_too in
-    let start = bind_ok (expect (codes "VAR") text) _ (d, rest) (all_reads text d rest has) in
-    let opening = expect_takes (codes "VAR") text start.0 start.1 in
-    let same : start.0 ≡ first = cc in
-    let reads : ReadsTo text [] start.0 = record { opening = opening.0; tokens = []; is_var = opening.1; derived = refl; read = opening.2 } in
+    let opening = expect_takes (codes "VAR") text first begun in
+    let same : start.0 ≡ first = ok_same start.0 first (sym start.1 ∙ begun) in
+    let reads : ReadsTo text [] first = record { opening = opening.0; tokens = []; is_var = opening.1; derived = refl; read = opening.2 } in
     let titles : titles_of d ≡ names_of d
     = ap titles_of (sym plain_too) ∙ ap₂ (λ xs ys. xs ++ ys) (titles_as plain_var (λ v. v.title) (λ v. v.name) (λ v. refl) d.vars)
     (titles_as plain_instance (λ i. i.title) (λ i. i.name) (λ i. refl) d.instances) in
-    let takes : Takes text d d start.0 0 0 = record {
+    record {
       ds = [];
       reads = reads;
-      turns = length start.0 + 1;
-      end = rest;
-      on = start.2;
+      ahead = record {
+        later = ds;
+        tokens = between;
+        closing = closing;
+        end = rest;
+        derived = derived;
+        is_end = is_end;
+        read = subst (λ z. AreTokens (between ++ closing ∷ []) z rest) same start.2;
+        whole_is = declared_is;
+        kept = kept;
+      };
       vars_are = refl;
       instances_are = refl;
       same = plain_too;
@@ -429,13 +418,12 @@ starts text d first (rest, has) begun =
       instance_titles = All-nil (λ i. HasTitle text i.name i.title);
       var_names = named_as plain_var (λ v. v.title) (λ v. v.name) (λ v. refl) d.vars vars;
       instance_names = named_as plain_instance (λ i. i.title) (λ i. i.name) (λ i. refl) d.instances instances;
-      apart = rw titles (kept_of text d rest has).0;
-    } in
-    subst (λ t. Takes text d d t 0 0) same takes
+      apart = rw titles kept.0;
+    }
 
 pub ends : (text : List ℕ) (whole now : Declared) (rest : List ℕ) (vars instances : ℕ) → Takes text whole now rest vars instances → IsLast rest → AreTitled text now
 ends text whole now rest vars instances t last =
-    let all : whole ≡ declared_by t.ds = last t.turns (declared_by t.ds) whole t.end t.on in
+    let all : whole ≡ declared_by t.ds = none_left whole t.ds rest t.ahead last in
     let same : plain now ≡ declared_by t.ds = t.same ∙ all in
     let var_count : length now.vars ≡ vars
     = sym (length-map now.vars plain_var) ∙ ap (λ d. length d.vars) same ∙ sym t.vars_are in
@@ -452,7 +440,7 @@ pub few : (text : List ℕ) (whole now : Declared) (rest : List ℕ) (vars insta
     → (vars ≤ 256) × (instances ≤ 64)
 few text whole now rest vars instances (end, has) t =
     let kept = kept_of text whole end has in
-    let more = read_extends t.turns (declared_by t.ds) whole rest t.end t.on in (
+    let more = extends whole t.ds rest t.ahead in (
       omega (arith, t.vars_are, kept.2, ap length more.2, length-append (declared_by t.ds).vars more.0),
       omega (arith, t.instances_are, kept.3, ap length more.3, length-append (declared_by t.ds).instances more.1),
     )
@@ -476,62 +464,54 @@ unlike p xs k d lt none =
       | false ↦ λ is. refl
     ] refl
 
+-- an element that is called so by its title: what has its title, and is no name, or what has the name for a title
+called : {A : Type 0} (name title : A → List ℕ) (plain_of : A → A) → ((x : A) → name (plain_of x) ≡ name x) → (text word alias : List ℕ) (xs first more : List A) (count : ℕ)
+    → map plain_of xs ≡ first ++ more → count ≡ length first → list_any (λ x. same_letters word (name x)) first ≡ false
+    → All (λ x. HasTitle text (name x) (title x)) (take count xs) → All (λ x. title x ≡ name x) (drop count xs)
+    → (k : ℕ) (v : A) → k < length xs → get_or xs k v ≡ v → same_letters alias (title v) ≡ true
+    → (HasTitle text (name v) (title v) × (same_letters word (name v) ≡ false)) ⊎ (list_any (λ x. same_letters alias (name x)) xs ≡ true)
+called {A} name title plain_of keeps text word alias xs first more count parts many new titles names k v lt here is =
+    elim (cases_lt k count) [
+      | inl before ↦
+          let inside : k < length first = omega (arith, before, many) in
+          let there : get_or first k (plain_of v) ≡ plain_of v
+          = sym (get_or_append_left first more (plain_of v) k inside) ∙ ap (λ ys. get_or ys k (plain_of v)) (sym parts)
+          ∙ get_or-map plain_of xs k v (plain_of v) lt ∙ ap plain_of here in
+          let other : same_letters word (name v) ≡ false
+          = ap (same_letters word) (sym (ap name there ∙ keeps v)) ∙ unlike (λ x. same_letters word (name x)) first k (plain_of v) inside new in
+          let at : get_or (take count xs) k v ≡ v = get_or-take count xs k v before ∙ here in
+          inl (subst (λ (x : A). HasTitle text (name x) (title x)) at (titles k v (omega (arith, before, lt, length-take count xs))), other)
+      | inr behind ↦
+          let at : get_or (drop count xs) (k - count) v ≡ v
+          = get_or-drop count xs (k - count) v ∙ ap (λ i. get_or xs i v) (omega (arith, behind)) ∙ here in
+          let named : title v ≡ name v
+          = subst (λ (x : A). title x ≡ name x) at (names (k - count) v (omega (arith, behind, lt, length-drop count xs))) in
+          let passes_here : same_letters alias (name (get_or xs k v)) ≡ true = ap (λ (x : A). same_letters alias (name x)) here ∙ ap (same_letters alias) (sym named) ∙ is in
+          inr (list_any_at (λ x. same_letters alias (name x)) xs k v lt passes_here)
+    ]
+
 var_taken : (text : List ℕ) (whole now : Declared) (rest : List ℕ) (vars instances : ℕ) (t : Takes text whole now rest vars instances) (name alias : List ℕ)
     → list_any (same_letters name) (names_of (declared_by t.ds)) ≡ false → (k : ℕ) (v : Var) → k < length now.vars → get_or now.vars k v ≡ v → same_letters alias v.title ≡ true
     → IsTaken text whole name alias
 var_taken text whole now rest vars instances t name alias new k v lt here is =
-    elim (cases_lt k vars) [
-      | inl before ↦
-          let more = read_extends t.turns (declared_by t.ds) whole rest t.end t.on in
-          let first : List Var = (declared_by t.ds).vars in
-          let inside : k < length first = omega (arith, before, t.vars_are) in
-          let there : get_or first k (plain_var v) ≡ plain_var v
-          = sym (get_or_append_left first more.0 (plain_var v) k inside) ∙ ap (λ xs. get_or xs k (plain_var v)) (sym more.2 ∙ sym (same_vars now whole t.same))
-          ∙ get_or-map plain_var now.vars k v (plain_var v) lt ∙ ap plain_var here in
-          let names = or_false (list_any (λ x. same_letters name x.name) first) (list_any (λ x. same_letters name x.name) (declared_by t.ds).instances) (sym (names-any (declared_by t.ds) name) ∙ new) in
-          let other : same_letters name v.name ≡ false
-          = ap (λ (x : Var). same_letters name x.name) (sym there) ∙ unlike (λ x. same_letters name x.name) first k (plain_var v) inside names.0 in
-          let at : get_or (take vars now.vars) k v ≡ v = get_or-take vars now.vars k v before ∙ here in
-          let titled : HasTitle text v.name v.title
-          = subst (λ (x : Var). HasTitle text x.name x.title) at (t.var_titles k v (omega (arith, before, lt, length-take vars now.vars))) in
-          inr (v.name, v.title, titled, other, is)
-      | inr behind ↦
-          let at : get_or (drop vars now.vars) (k - vars) v ≡ v
-          = get_or-drop vars now.vars (k - vars) v ∙ ap (λ i. get_or now.vars i v) (omega (arith, behind)) ∙ here in
-          let named : v.title ≡ v.name
-          = subst (λ (x : Var). x.title ≡ x.name) at (t.var_names (k - vars) v (omega (arith, behind, lt, length-drop vars now.vars))) in
-          let passes : same_letters alias (get_or now.vars k v).name ≡ true = ap (λ (x : Var). same_letters alias x.name) here ∙ ap (same_letters alias) (sym named) ∙ is in
-          name_taken text whole now name alias t.same (names-any now alias ∙ or_left _ _ (list_any_at (λ x. same_letters alias x.name) now.vars k v lt passes))
+    let more = extends whole t.ds rest t.ahead in
+    let names = or_false _ _ (sym (names-any (declared_by t.ds) name) ∙ new) in
+    elim (called (λ (x : Var). x.name) (λ x. x.title) plain_var (λ x. refl) text name alias now.vars (declared_by t.ds).vars more.0 vars (same_vars now whole t.same ∙ more.2)
+    t.vars_are names.0 t.var_titles t.var_names k v lt here is) [
+      | inl (titled, other) ↦ inr (v.name, v.title, titled, other, is)
+      | inr named ↦ name_taken text whole now name alias t.same (names-any now alias ∙ or_left _ _ named)
     ]
 
 instance_taken : (text : List ℕ) (whole now : Declared) (rest : List ℕ) (vars instances : ℕ) (t : Takes text whole now rest vars instances) (name alias : List ℕ)
     → list_any (same_letters name) (names_of (declared_by t.ds)) ≡ false → (k : ℕ) (i : Instance) → k < length now.instances → get_or now.instances k i ≡ i
     → same_letters alias i.title ≡ true → IsTaken text whole name alias
-instance_taken text whole now rest vars instances t name alias new k v lt here is =
-    elim (cases_lt k instances) [
-      | inl before ↦
-          let more = read_extends t.turns (declared_by t.ds) whole rest t.end t.on in
-          let first : List Instance = (declared_by t.ds).instances in
-          let inside : k < length first = omega (arith, before, t.instances_are) in
-          let there : get_or first k (plain_instance v) ≡ plain_instance v
-          = sym (get_or_append_left first more.1 (plain_instance v) k inside)
-          ∙ ap (λ xs. get_or xs k (plain_instance v)) (sym more.3 ∙ sym (same_instances now whole t.same))
-          ∙ get_or-map plain_instance now.instances k v (plain_instance v) lt ∙ ap plain_instance here in
-          let names = or_false (list_any (λ x. same_letters name x.name) (declared_by t.ds).vars) (list_any (λ x. same_letters name x.name) first) (sym (names-any (declared_by t.ds) name) ∙ new) in
-          let other : same_letters name v.name ≡ false
-          = ap (λ (x : Instance). same_letters name x.name) (sym there) ∙ unlike (λ x. same_letters name x.name) first k (plain_instance v) inside names.1 in
-          let at : get_or (take instances now.instances) k v ≡ v = get_or-take instances now.instances k v before ∙ here in
-          let titled : HasTitle text v.name v.title
-          = subst (λ (x : Instance). HasTitle text x.name x.title) at (t.instance_titles k v (omega (arith, before, lt, length-take instances now.instances))) in
-          inr (v.name, v.title, titled, other, is)
-      | inr behind ↦
-          let at : get_or (drop instances now.instances) (k - instances) v ≡ v
-          = get_or-drop instances now.instances (k - instances) v ∙ ap (λ i. get_or now.instances i v) (omega (arith, behind)) ∙ here in
-          let named : v.title ≡ v.name
-          = subst (λ (x : Instance). x.title ≡ x.name) at (t.instance_names (k - instances) v (omega (arith, behind, lt, length-drop instances now.instances))) in
-          let passes : same_letters alias (get_or now.instances k v).name ≡ true
-          = ap (λ (x : Instance). same_letters alias x.name) here ∙ ap (same_letters alias) (sym named) ∙ is in
-          name_taken text whole now name alias t.same (names-any now alias ∙ or_right _ _ (list_any_at (λ x. same_letters alias x.name) now.instances k v lt passes))
+instance_taken text whole now rest vars instances t name alias new k i lt here is =
+    let more = extends whole t.ds rest t.ahead in
+    let names = or_false _ _ (sym (names-any (declared_by t.ds) name) ∙ new) in
+    elim (called (λ (x : Instance). x.name) (λ x. x.title) plain_instance (λ x. refl) text name alias now.instances (declared_by t.ds).instances more.1 instances
+    (same_instances now whole t.same ∙ more.3) t.instances_are names.1 t.instance_titles t.instance_names k i lt here is) [
+      | inl (titled, other) ↦ inr (i.name, i.title, titled, other, is)
+      | inr named ↦ name_taken text whole now name alias t.same (names-any now alias ∙ or_right _ _ named)
     ]
 
 pub taken : (text : List ℕ) (whole now : Declared) (rest : List ℕ) (vars instances : ℕ) (t : Takes text whole now rest vars instances) (name behind alias : List ℕ)

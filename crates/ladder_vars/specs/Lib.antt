@@ -7,6 +7,7 @@ pub mod Grammar
 pub mod Rules
 pub mod ReadText
 pub mod ReadWords
+pub mod ReadSteps
 pub mod ReadDecls
 pub mod Titles
 pub mod TakeTitles

@@ -8,16 +8,16 @@ use Rattle.ladder_vars.specs.declared.titles.Passed.{Passed}
 use Rattle.ladder_vars.specs.Name.{same_letters}
 use Rattle.ladder_vars.specs.Decls.{Declared}
 use Rattle.ladder_vars.specs.ReadText.{token_at}
-use Rattle.ladder_vars.specs.ReadDecls.{body_at, decls_from}
+use Rattle.ladder_vars.specs.ReadDecls.{body_at}
 
 -- a declaration with this name is read at the start of the text
 abbrev pub IsNext : List ℕ → List ℕ → List ℕ → Body → List ℕ → Type 0
 IsNext text name behind b rest =
     (token_at text ≡ Ok (name, behind)) × (same_letters name (codes "END_VAR") ≡ false) × (body_at behind ≡ Ok (b, rest))
 
--- where reading these declarations goes on to a whole here, it is whole already
+-- there is none
 abbrev pub IsLast : List ℕ → Type 0
-IsLast text = (n : ℕ) (read all : Declared) (rest : List ℕ) → decls_from n read text ≡ Ok (all, rest) → all ≡ read
+IsLast text = (name behind : List ℕ) (b : Body) (after : List ℕ) → IsNext text name behind b after → ⊥
 
 -- the same declarations, but for the title of this variable
 abbrev pub SetsVar : ℕ → List ℕ → Declared → Declared → Type 0

@@ -1,10 +1,13 @@
 //! Reads one declaration of a block.
 
-ghost use Rattle.std.specs.Prelude.{◌≡◌, ◌≤◌, ◌<◌, ◌||◌, ◌==◌, length, Option, Some, None, IfOk, IfSome};
-ghost use Rattle.ladder_vars.specs.Kind.{largest_value, largest_of, largest_preset};
+ghost use Rattle.std.specs.Prelude.{◌≡◌, ◌≤◌, ◌<◌, ◌||◌, ◌==◌, length, IfOk, IfSome};
+ghost use Rattle.ladder_vars.specs.Kind.{largest_value};
+ghost use Rattle.ladder_vars.specs.Grammar.{bit_word};
 ghost use Rattle.ladder_vars.specs.ReadText.{Gives};
 ghost use Rattle.ladder_vars.specs.ReadWords.{value_of};
-ghost use Rattle.ladder_vars.specs.ReadDecls.{expect, given_bit, initial_at, preset_word, given_preset, given_to, preset_at, bool_at, placed, block_at, typed, body_at, PresetFits};
+ghost use Rattle.ladder_vars.specs.Name.{same_letters};
+ghost use Rattle.ladder_vars.specs.ReadSteps.{on, step, misfit};
+ghost use Rattle.ladder_vars.specs.ReadDecls.{expect, body_at, PresetFits};
 
 use crate::decls::{Address, Body, VarKind};
 use crate::fault::{Fault, VarRule};
@@ -14,14 +17,38 @@ use crate::text::{token, word_len};
 use crate::words::{address_of, block_of, short_number};
 use ladder_times::{read_time, same_letters};
 
-/// The fault of a token that has no place where it stands, with what follows it.
-fn bad_token(rest: &[u8]) -> Fault
-    ensures { result ≡ record { rule = VarRule.BadToken; left = length rest.now } }
-{
-    Fault {
-        rule: VarRule::BadToken,
-        left: rest.len(),
-    }
+/// What is due in a declaration, with what was read before it.
+#[derive(Clone, Copy)]
+enum Due {
+    /// `AT` or a colon, behind the name.
+    Place,
+    Address,
+    /// The colon behind an address.
+    Colon(VarKind, Address),
+    /// The type behind an address.
+    Bool(VarKind, Address),
+    /// The type, where there is no address.
+    Type,
+    /// `;`, or `:=` before a truth value.
+    Initial(VarKind, Option<Address>),
+    Bit(VarKind, Option<Address>),
+    /// `;`, or `:=` before a preset.
+    Preset(BlockKind),
+    Opening(BlockKind, Parameter),
+    /// The word of the parameter.
+    Word(BlockKind, Parameter),
+    Assign(BlockKind, Parameter),
+    Value(BlockKind, Parameter),
+    Closing(Body),
+    /// The `;` behind a value.
+    End(Body),
+}
+
+/// What a token leads to: more is due, or the declaration ends.
+#[derive(Clone, Copy)]
+enum Next {
+    Goes(Due),
+    Ends(Body),
 }
 
 /// What follows a keyword or a mark that is due.
@@ -34,41 +61,27 @@ pub(crate) fn expect<'a>(word: &[u8], text: &'a [u8]) -> Result<&'a [u8], Fault>
     if same_letters(found, word) {
         Ok(rest)
     } else {
-        Err(bad_token(rest))
+        Err(Fault {
+            rule: VarRule::BadToken,
+            left: rest.len(),
+        })
     }
 }
 
-/// A truth value and `;`.
-#[tactic(auto, unfolding(crate::specs::ReadDecls::given_bit))]
-fn given_bit(text: &[u8]) -> Result<(bool, &[u8]), Fault>
-    ensures value { Gives (λ x. (x.0, x.1.now)) result (given_bit text.now) }
-    ensures shorter { IfOk result (λ x. length x.1.now < length text.now) }
+/// The truth value that a word spells.
+fn bit_of(word: &[u8]) -> Option<bool>
+    ensures { result ≡ bit_word word.now }
 {
-    let (word, rest) = token(text)?;
-    let value = if same_letters(word, b"TRUE") || same_letters(word, b"1") {
-        true
-    } else if same_letters(word, b"FALSE") || same_letters(word, b"0") {
-        false
+    if same_letters(word, b"TRUE") {
+        Some(true)
+    } else if same_letters(word, b"FALSE") {
+        Some(false)
+    } else if same_letters(word, b"1") {
+        Some(true)
+    } else if same_letters(word, b"0") {
+        Some(false)
     } else {
-        return Err(bad_token(rest));
-    };
-    let rest = expect(b";", rest)?;
-    Ok((value, rest))
-}
-
-/// `;`, or `:=` with an initial value and `;`.
-#[tactic(auto, unfolding(crate::specs::ReadDecls::initial_at))]
-fn initial_at(text: &[u8]) -> Result<(bool, &[u8]), Fault>
-    ensures value { Gives (λ x. (x.0, x.1.now)) result (initial_at text.now) }
-    ensures shorter { IfOk result (λ x. length x.1.now < length text.now) }
-{
-    let (mark, rest) = token(text)?;
-    if same_letters(mark, b";") {
-        Ok((false, rest))
-    } else if same_letters(mark, b":=") {
-        given_bit(rest)
-    } else {
-        Err(bad_token(rest))
+        None
     }
 }
 
@@ -86,142 +99,119 @@ fn value_of(form: Parameter, word: &[u8]) -> Option<u32>
     }
 }
 
-#[tactic(auto, unfolding(crate::specs::ReadDecls::preset_word))]
-fn preset_word(form: Parameter, text: &[u8]) -> Result<(u32, &[u8]), Fault>
-    ensures value { Gives (λ x. (x.0, x.1.now)) result (preset_word form text.now) }
-    ensures fits { IfOk result (λ x. x.0 ≤ largest_value form) }
-    ensures shorter { IfOk result (λ x. length x.1.now < length text.now) }
+/// What a word leads to behind a variable's place; None where it is not due.
+fn var_step(kind: VarKind, address: Option<Address>, word: &[u8]) -> Option<Next>
+    ensures { result ≡ step (Due.Initial kind address) word.now }
 {
-    let (word, rest) = token(text)?;
-    if let Some(preset) = value_of(form, word) {
-        return Ok((preset, rest));
-    }
-    // A word is no preset, a mark is no word.
-    if word_len(word) > 0 || matches!(word, [b'%', ..]) {
-        Err(Fault {
-            rule: VarRule::BadPreset,
-            left: rest.len(),
-        })
+    if same_letters(word, b";") {
+        Some(Next::Ends(Body::Var {
+            kind,
+            address,
+            initial: false,
+        }))
+    } else if same_letters(word, b":=") {
+        Some(Next::Goes(Due::Bit(kind, address)))
     } else {
-        Err(bad_token(rest))
+        None
     }
 }
 
-/// `( PT := duration ) ;` or `( PV := number ) ;`.
-#[tactic(auto, unfolding(crate::specs::ReadDecls::given_preset))]
-fn given_preset(form: Parameter, text: &[u8]) -> Result<(u32, &[u8]), Fault>
-    ensures value { Gives (λ x. (x.0, x.1.now)) result (given_preset form text.now) }
-    ensures fits { IfOk result (λ x. x.0 ≤ largest_value form) }
-    ensures shorter { IfOk result (λ x. length x.1.now < length text.now) }
+/// What a word leads to behind the type of an instance; None where it is not due.
+fn instance_step(kind: BlockKind, word: &[u8]) -> Option<Next>
+    ensures { result ≡ step (Due.Preset kind) word.now }
 {
-    let rest = expect(b"(", text)?;
-    let rest = expect(form.word(), rest)?;
-    let rest = expect(b":=", rest)?;
-    let (preset, rest) = preset_word(form, rest)?;
-    let rest = expect(b")", rest)?;
-    let rest = expect(b";", rest)?;
-    Ok((preset, rest))
-}
-
-/// The preset after `:=`, where the block has a parameter.
-fn given_to(form: Option<Parameter>, text: &[u8]) -> Result<(u32, &[u8]), Fault>
-    ensures value { Gives (λ x. (x.0, x.1.now)) result (given_to form text.now) }
-    ensures fits { IfOk result (λ x. x.0 ≤ largest_of form) }
-    ensures shorter { IfOk result (λ x. length x.1.now < length text.now) }
-{
-    match form {
-        Some(form) => given_preset(form, text),
-        None => Err(bad_token(text)),
-    }
-}
-
-/// `;`, or `:=` with a preset and `;`.
-#[tactic(auto, unfolding(crate::specs::ReadDecls::preset_at))]
-fn preset_at(kind: BlockKind, text: &[u8]) -> Result<(u32, &[u8]), Fault>
-    ensures value { Gives (λ x. (x.0, x.1.now)) result (preset_at kind text.now) }
-    ensures fits { IfOk result (λ x. x.0 ≤ largest_preset kind) }
-    ensures shorter { IfOk result (λ x. length x.1.now < length text.now) }
-{
-    let (mark, rest) = token(text)?;
-    if same_letters(mark, b";") {
-        Ok((0, rest))
-    } else if same_letters(mark, b":=") {
-        given_to(kind.traits().parameter, rest)
+    if same_letters(word, b";") {
+        Some(Next::Ends(Body::Instance { kind, preset: 0 }))
+    } else if same_letters(word, b":=") {
+        let form = kind.traits().parameter?;
+        Some(Next::Goes(Due::Opening(kind, form)))
     } else {
-        Err(bad_token(rest))
+        None
     }
 }
 
-/// What follows the type BOOL.
-#[tactic(auto, unfolding(crate::specs::ReadDecls::bool_at))]
-fn bool_at(kind: VarKind, address: Option<Address>, text: &[u8]) -> Result<(Body, &[u8]), Fault>
-    ensures value { Gives (λ x. (x.0, x.1.now)) result (bool_at kind address text.now) }
-    ensures fits { IfOk result (λ x. PresetFits x.0) }
-    ensures shorter { IfOk result (λ x. length x.1.now < length text.now) }
+/// More is due where a word is the one that was due.
+fn on(word: &[u8], due: &[u8], then: Due) -> Option<Next>
+    ensures { result ≡ on (same_letters word.now due.now) (Next.Goes then) }
 {
-    let (initial, rest) = initial_at(text)?;
-    let body = Body::Var {
-        kind,
-        address,
-        initial,
-    };
-    Ok((body, rest))
-}
-
-/// What follows `AT`.
-#[tactic(auto, unfolding(crate::specs::ReadDecls::placed))]
-fn placed(text: &[u8]) -> Result<(Body, &[u8]), Fault>
-    ensures value { Gives (λ x. (x.0, x.1.now)) result (placed text.now) }
-    ensures fits { IfOk result (λ x. PresetFits x.0) }
-    ensures shorter { IfOk result (λ x. length x.1.now < length text.now) }
-{
-    let (word, rest) = token(text)?;
-    let (kind, address) = address_of(word).ok_or(bad_token(rest))?;
-    let rest = expect(b":", rest)?;
-    let rest = expect(b"BOOL", rest)?;
-    bool_at(kind, Some(address), rest)
-}
-
-/// What follows the type of an instance.
-#[tactic(auto, unfolding(crate::specs::ReadDecls::block_at))]
-fn block_at(kind: BlockKind, text: &[u8]) -> Result<(Body, &[u8]), Fault>
-    ensures value { Gives (λ x. (x.0, x.1.now)) result (block_at kind text.now) }
-    ensures fits { IfOk result (λ x. PresetFits x.0) }
-    ensures shorter { IfOk result (λ x. length x.1.now < length text.now) }
-{
-    let (preset, rest) = preset_at(kind, text)?;
-    Ok((Body::Instance { kind, preset }, rest))
-}
-
-/// What follows the colon of a declaration without `AT`.
-#[tactic(auto, unfolding(crate::specs::ReadDecls::typed))]
-fn typed(text: &[u8]) -> Result<(Body, &[u8]), Fault>
-    ensures value { Gives (λ x. (x.0, x.1.now)) result (typed text.now) }
-    ensures fits { IfOk result (λ x. PresetFits x.0) }
-    ensures shorter { IfOk result (λ x. length x.1.now < length text.now) }
-{
-    let (word, rest) = token(text)?;
-    if same_letters(word, b"BOOL") {
-        bool_at(VarKind::Memory, None, rest)
+    if same_letters(word, due) {
+        Some(Next::Goes(then))
     } else {
-        let kind = block_of(word).ok_or(bad_token(rest))?;
-        block_at(kind, rest)
+        None
+    }
+}
+
+/// What a word leads to where it is due; None where it is not.
+fn step(due: Due, word: &[u8]) -> Option<Next>
+    ensures { result ≡ step due word.now }
+{
+    match due {
+        Due::Place if same_letters(word, b"AT") => Some(Next::Goes(Due::Address)),
+        Due::Place => on(word, b":", Due::Type),
+        Due::Address => {
+            let (kind, address) = address_of(word)?;
+            Some(Next::Goes(Due::Colon(kind, address)))
+        }
+        Due::Colon(kind, address) => on(word, b":", Due::Bool(kind, address)),
+        Due::Bool(kind, address) => on(word, b"BOOL", Due::Initial(kind, Some(address))),
+        Due::Type if same_letters(word, b"BOOL") => Some(Next::Goes(Due::Initial(
+            VarKind::Memory,
+            None,
+        ))),
+        Due::Type => Some(Next::Goes(Due::Preset(block_of(word)?))),
+        Due::Initial(kind, address) => var_step(kind, address, word),
+        Due::Bit(kind, address) => {
+            let initial = bit_of(word)?;
+            Some(Next::Goes(Due::End(Body::Var {
+                kind,
+                address,
+                initial,
+            })))
+        }
+        Due::Preset(kind) => instance_step(kind, word),
+        Due::Opening(kind, form) => on(word, b"(", Due::Word(kind, form)),
+        Due::Word(kind, form) => on(word, form.word(), Due::Assign(kind, form)),
+        Due::Assign(kind, form) => on(word, b":=", Due::Value(kind, form)),
+        Due::Value(kind, form) => {
+            let preset = value_of(form, word)?;
+            Some(Next::Goes(Due::Closing(Body::Instance { kind, preset })))
+        }
+        Due::Closing(body) => on(word, b")", Due::End(body)),
+        Due::End(body) if same_letters(word, b";") => Some(Next::Ends(body)),
+        Due::End(_) => None,
+    }
+}
+
+/// The rule that a word breaks which is not due: where a value is due, a word is no preset, and a mark is no word.
+fn misfit(due: Due, word: &[u8]) -> VarRule
+    ensures { result ≡ misfit due word.now }
+{
+    match due {
+        Due::Value(..) if word_len(word) > 0 || matches!(word, [b'%', ..]) => VarRule::BadPreset,
+        _ => VarRule::BadToken,
     }
 }
 
 /// What follows the name of a declaration, up to its `;`.
-#[tactic(auto, unfolding(crate::specs::ReadDecls::body_at))]
 pub(crate) fn body_at(text: &[u8]) -> Result<(Body, &[u8]), Fault>
     ensures value { Gives (λ x. (x.0, x.1.now)) result (body_at text.now) }
     ensures fits { IfOk result (λ x. PresetFits x.0) }
     ensures shorter { IfOk result (λ x. length x.1.now < length text.now) }
 {
-    let (word, rest) = token(text)?;
-    if same_letters(word, b"AT") {
-        placed(rest)
-    } else if same_letters(word, b":") {
-        typed(rest)
-    } else {
-        Err(bad_token(rest))
+    let mut due = Due::Place;
+    let mut rest = text;
+    loop {
+        let (word, after) = token(rest)?;
+        match step(due, word) {
+            Some(Next::Goes(next)) => due = next,
+            Some(Next::Ends(body)) => return Ok((body, after)),
+            None => {
+                return Err(Fault {
+                    rule: misfit(due, word),
+                    left: after.len(),
+                });
+            }
+        }
+        rest = after;
     }
 }

@@ -1,6 +1,6 @@
 //! Reads the block of declarations at the head of a text.
 
-ghost use Rattle.std.specs.Prelude.{◌≡◌, ◌≤◌, ◌+◌, ◌≢◌, ℕ, List, length, drop, IfOk, IfErr};
+ghost use Rattle.std.specs.Prelude.{◌≡◌, ◌≤◌, ◌+◌, ◌≢◌, ℕ, suc, List, length, drop, IfOk, IfErr};
 ghost use Rattle.ladder_vars.specs.Decls.{Declared, AreInRange};
 ghost use Rattle.ladder_vars.specs.Grammar.{HasDecls, HasNoDecls};
 ghost use Rattle.ladder_vars.specs.Rules.{BreaksOn, line_of};
@@ -35,7 +35,7 @@ fn name_of(word: &[u8], left: usize) -> Result<Name, Fault>
 
 /// The declarations up to END_VAR, and what follows it.
 fn decls_from(alloc: Global, text: &[u8]) -> Result<(Decls, &[u8]), ReadFault>
-    ensures value { GivesInMemory (λ x. (x.0, x.1.now)) result (decls_from (length text.now + 1) nothing text.now) }
+    ensures value { GivesInMemory (λ x. (x.0, x.1.now)) result (decls_from (suc (length text.now)) nothing text.now) }
     ensures kept { IfOk result (λ x. AreInRange x.0) }
 {
     let mut decls = Decls::new(alloc);

@@ -1,0 +1,105 @@
+-- What follows a name is read where the grammar has it, and only there.
+use Rattle.std.proofs.Common.{◌≡◌, ℕ, zero, suc, ◌<◌, inl, inr, List, [], ◌∷◌, ◌++◌, length, Some, None, Result, Ok, refl, sym, ap, subst, ◌∙◌, arith}
+use Rattle.ladder_vars.specs.declared.fault.Fault.{Fault}
+use Rattle.ladder_vars.specs.declared.decls.Body.{Body}
+use Rattle.ladder_vars.specs.declared.declaration.Due.{Due}
+use Rattle.ladder_vars.specs.declared.declaration.Due.TheVariants as due
+use Rattle.ladder_vars.specs.declared.declaration.Next.TheVariants as then
+use Rattle.ladder_vars.specs.Name.{same_letters}
+use Rattle.ladder_vars.specs.Text.{AreTokens}
+use Rattle.ladder_vars.specs.Grammar.{Is, IsBody}
+use Rattle.ladder_vars.specs.ReadText.{token_at}
+use Rattle.ladder_vars.specs.ReadSteps.{step, misfit}
+use Rattle.ladder_vars.specs.ReadDecls.{at, expect, turn, body_from, body_at, PresetFits}
+use Rattle.ladder_times.proofs.Steps.{chosen}
+use Rattle.ladder_vars.proofs.Steps.{bind_ok}
+use Rattle.ladder_vars.proofs.TextReads.{first_token}
+use Rattle.ladder_vars.proofs.TextTakes.{token_takes, AreTokens-append}
+use Rattle.ladder_vars.proofs.Walks.{Walks, GoesOn, takes, walks, body_of, body_fits}
+
+pub ok_same : {A : Type 0} (x y : A) → ◌≡◌ {A = Result A Fault} (Ok x) (Ok y) → x ≡ y
+ok_same x y e = cc
+
+-- the value of a step, and what is left
+pub halves : {A B : Type 0} (a x : A) (b y : B) → ◌≡◌ {A = Result (A × B) Fault} (Ok (a, b)) (Ok (x, y)) → (a ≡ x) × (b ≡ y)
+halves {A} {B} a x b y e =
+    let pair : (a, b) ≡ (x, y) = ok_same (a, b) (x, y) e in
+    (ap (λ p. p.0) pair, ap (λ p. p.1) pair)
+
+-- ---- one word
+
+pub expect_reads : (word w : List ℕ) (ts : List (List ℕ)) (text rest : List ℕ) → Is word w → AreTokens (w ∷ ts) text rest
+    → (after : List ℕ) × (expect word text ≡ Ok after) × AreTokens ts after rest × (length after < length text)
+unfolding expect
+expect_reads word w ts text rest same h =
+    let first = first_token w ts text rest h in
+    (first.0, rw (first.1, same) refl, first.2, first.3)
+
+pub expect_takes : (word text rest : List ℕ) → expect word text ≡ Ok rest → (w : List ℕ) × Is word w × AreTokens (w ∷ []) text rest
+unfolding expect
+expect_takes word text rest h =
+    let found = bind_ok (token_at text) _ rest h in
+    elim (chosen (same_letters found.0.0 word) _ _ _ found.2) [
+      | inl same ↦
+          let after : found.0.1 ≡ rest = cc in
+          (found.0.0, same.0, subst (λ r. AreTokens (found.0.0 ∷ []) text r) after (token_takes text found.0.0 found.0.1 found.1))
+      | inr other ↦ absurd cc
+    ]
+
+-- ---- a body
+
+pub record TakesBody (b : Body) (text rest : List ℕ) : Type 0 where
+  pub behind : List (List ℕ)
+  pub is_body : IsBody behind b
+  pub tokens : AreTokens behind text rest
+
+from_takes : (n : ℕ) (d : Due) (b : Body) (text rest : List ℕ) → body_from n d text ≡ Ok (b, rest) → (ts : List (List ℕ)) × Walks d ts b × AreTokens ts text rest
+unfolding body_from
+from_takes zero d b text rest h = absurd cc
+from_takes (suc n) d b text rest h =
+    let word = bind_ok (token_at text) _ (b, rest) h in
+    let w : List ℕ = word.0.0 in
+    let a : List ℕ = word.0.1 in
+    let first : AreTokens (w ∷ []) text a = token_takes text w a word.1 in
+    elim (step d w) as (λ o. step d w ≡ o → turn (λ next. body_from n next a) (at (misfit d w) a) a o ≡ Ok (b, rest)
+    → (ts : List (List ℕ)) × Walks d ts b × AreTokens ts text rest) [
+      | None ↦ λ is more. absurd cc
+      | Some (then.Ends c) ↦ λ is more.
+          let parts = halves c b a rest more in
+          (w ∷ [], takes d w (w ∷ []) [] b (Some (then.Ends c)) refl is (refl, sym parts.0), subst (λ r. AreTokens (w ∷ []) text r) parts.1 first)
+      | Some (then.Goes next) ↦ λ is more.
+          let x = from_takes n next b a rest more in
+          (w ∷ x.0, takes d w (w ∷ x.0) x.0 b (Some (then.Goes next)) refl is x.1, AreTokens-append (w ∷ []) x.0 text a rest first x.2)
+    ] refl word.2
+
+pub body_takes : (b : Body) (text rest : List ℕ) → body_at text ≡ Ok (b, rest) → TakesBody b text rest
+unfolding body_at
+body_takes b text rest h =
+    let x = from_takes _ due.Place b text rest h in
+    record { behind = x.0; is_body = body_of x.0 b x.1; tokens = x.2 }
+
+pub fits : (text : List ℕ) (b : Body) (rest : List ℕ) → body_at text ≡ Ok (b, rest) → PresetFits b
+fits text b rest h = let x = body_takes b text rest h in body_fits x.behind b x.is_body
+
+from_reads : (ts us : List (List ℕ)) (n : ℕ) (d : Due) (b : Body) (text rest : List ℕ) → length text < n → Walks d ts b → AreTokens (ts ++ us) text rest
+    → (after : List ℕ) × (body_from n d text ≡ Ok (b, after)) × AreTokens us after rest
+unfolding body_from
+from_reads [] us n d b text rest enough w h = absurd w
+from_reads (t ∷ ts) us zero d b text rest enough w h = absurd (omega (arith, enough))
+from_reads (t ∷ ts) us (suc n) d b text rest enough w h =
+    let first = first_token t (ts ++ us) text rest h in
+    let a : List ℕ = first.0 in
+    let one : body_from (suc n) d text ≡ turn (λ next. body_from n next a) (at (misfit d t) a) a (step d t) = rw first.1 refl in
+    elim (step d t) as (λ o. body_from (suc n) d text ≡ turn (λ next. body_from n next a) (at (misfit d t) a) a o
+    → GoesOn (λ next. Walks next ts b) ts b o → (after : List ℕ) × (body_from (suc n) d text ≡ Ok (b, after)) × AreTokens us after rest) [
+      | None ↦ λ one w. absurd w
+      | Some (then.Ends c) ↦ λ one w. (a, one ∙ ap (λ z. Ok (z, a)) (sym w.1), subst (λ z. AreTokens (z ++ us) a rest) w.0 first.2)
+      | Some (then.Goes next) ↦ λ one w.
+          let x = from_reads ts us n next b a rest (omega (arith, enough, first.3)) w first.2 in
+          (x.0, one ∙ x.1, x.2)
+    ] one w
+
+pub body_reads : (ts us : List (List ℕ)) (b : Body) (text rest : List ℕ) → IsBody ts b → AreTokens (ts ++ us) text rest
+    → (after : List ℕ) × (body_at text ≡ Ok (b, after)) × AreTokens us after rest
+unfolding body_at
+body_reads ts us b text rest h tokens = from_reads ts us (suc (length text)) due.Place b text rest (omega arith) (walks ts b h) tokens

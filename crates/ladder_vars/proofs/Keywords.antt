@@ -1,0 +1,50 @@
+-- The keywords of a declaration: what a word is that is one of them.
+use Rattle.std.proofs.Common.{◌≡◌, inl, inr, ℕ, Bool, true, false, List, [], ◌∷◌, codes, Some, refl, subst, ◌∙◌, find}
+use Rattle.std.specs.Str.{str_to_ascii_lowercase}
+use Rattle.std.proofs.lemmas.Cmp.{nat_list_eq_equiv}
+use Rattle.ladder_vars.specs.declared.kind.BlockKind.{BlockKind}
+use Rattle.ladder_vars.specs.declared.kind.BlockKind.TheVariants as block_kind
+use Rattle.ladder_vars.specs.Name.{same_letters}
+use Rattle.ladder_vars.specs.Kind.{traits_of}
+use Rattle.ladder_vars.specs.Grammar.{Is}
+use Rattle.ladder_vars.specs.ReadWords.{all_kinds, block_of}
+use Rattle.ladder_times.proofs.PartLaws.{same_bytes}
+use Rattle.ladder_times.proofs.Steps.{chosen}
+
+-- a token that is one word is another where the words are
+pub alike : (word other token : List ℕ) → Is word token → same_letters token other ≡ same_letters word other
+alike word other token h =
+    nat_list_eq_equiv.congr (str_to_ascii_lowercase token) (str_to_ascii_lowercase word) (str_to_ascii_lowercase other) h
+
+block_lower : (w : List ℕ) (kind : BlockKind) → str_to_ascii_lowercase w ≡ str_to_ascii_lowercase (traits_of kind).word → block_of w ≡ Some kind
+block_lower w block_kind.Ton e = rw e refl
+block_lower w block_kind.Tof e = rw e refl
+block_lower w block_kind.Tp e = rw e refl
+block_lower w block_kind.Ctu e = rw e refl
+block_lower w block_kind.Ctd e = rw e refl
+block_lower w block_kind.Sr e = rw e refl
+block_lower w block_kind.Rs e = rw e refl
+
+pub block_reads : (w : List ℕ) (kind : BlockKind) → Is (traits_of kind).word w → block_of w ≡ Some kind
+block_reads w kind h = block_lower w kind (same_bytes (str_to_ascii_lowercase w) (str_to_ascii_lowercase (traits_of kind).word) h)
+
+find_passes : {X : Type 0} (p : X → Bool) (xs : List X) (x : X) → find p xs ≡ Some x → p x ≡ true
+find_passes p [] x h = absurd cc
+find_passes p (y ∷ ys) x h =
+    elim (chosen (p y) _ _ _ h) [ inl is ↦ let same : y ≡ x = cc in subst (λ z. p z ≡ true) same is.0 | inr other ↦ find_passes p ys x other.1 ]
+
+pub block_takes : (w : List ℕ) (kind : BlockKind) → block_of w ≡ Some kind → Is (traits_of kind).word w
+block_takes w kind h = find_passes (λ k. same_letters w (traits_of k).word) all_kinds kind h
+
+-- a block's name isn't BOOL
+no_bool : (kind : BlockKind) → same_letters (traits_of kind).word (codes "BOOL") ≡ false
+no_bool block_kind.Ton = refl
+no_bool block_kind.Tof = refl
+no_bool block_kind.Tp = refl
+no_bool block_kind.Ctu = refl
+no_bool block_kind.Ctd = refl
+no_bool block_kind.Sr = refl
+no_bool block_kind.Rs = refl
+
+pub block_of-other : (word : List ℕ) (kind : BlockKind) → block_of word ≡ Some kind → same_letters word (codes "BOOL") ≡ false
+block_of-other word kind h = alike (traits_of kind).word (codes "BOOL") word (block_takes word kind h) ∙ no_bool kind

@@ -1,0 +1,31 @@
+use Rattle.std.proofs.Common.{sym, ap, ◌∙◌, Some}
+use Rattle.std.proofs.lemmas.Result.{err_from_is_err_and}
+use Rattle.ladder_vars.proofs.BodyReads.{fits}
+use Rattle.ladder_vars.proofs.BodyLoop.{stands_first, no_word, refuses, ends, goes}
+use Rattle.ladder_vars.proofs.declaration.body_at.Goals as goal
+
+pub loop-word-init : goal.loop-word-init
+loop-word-init c = stands_first _
+
+pub returns-in_err-word-clause-value : goal.returns-in_err-word-clause-value
+returns-in_err-word-clause-value c =
+    let p = err_from_is_err_and c.from_residual.result c.from_residual.ensures.1 in
+    rw (p.1, p.2) (no_word _ _ _ _ c.loop-word.invariant c.in_err-word.ensures.value)
+
+pub returns-in-Some-Ends-clause-value : goal.returns-in-Some-Ends-clause-value
+returns-in-Some-Ends-clause-value c =
+    rw c.in-Some-Ends.body-is (ends _ _ _ _ _ _ c.loop-word.invariant c.in_ok-word.ensures.value (sym c.step.ensures ∙ c.in-Some-Ends.is ∙ ap Some c.in-Some-Ends.field-0-is))
+
+pub returns-in-None-clause-value : goal.returns-in-None-clause-value
+returns-in-None-clause-value c =
+    rw c.misfit.ensures (refuses _ _ _ _ _ c.loop-word.invariant c.in_ok-word.ensures.value (sym c.step.ensures ∙ c.in-None.is))
+
+pub loop-word-preserved : goal.loop-word-preserved
+loop-word-preserved c =
+    rw c.in-Some-Goes.next-is (goes _ _ _ _ _ _ c.loop-word.invariant c.in_ok-word.ensures.value c.in_ok-word.ensures.shorter
+    (sym c.step.ensures ∙ c.in-Some-Goes.is ∙ ap Some c.in-Some-Goes.field-0-is))
+
+pub returns-in-Some-Ends-clause-fits : goal.returns-in-Some-Ends-clause-fits
+returns-in-Some-Ends-clause-fits c =
+    rw c.in-Some-Ends.body-is (fits _ _ _ (ends _ _ _ _ _ _ c.loop-word.invariant c.in_ok-word.ensures.value
+    (sym c.step.ensures ∙ c.in-Some-Ends.is ∙ ap Some c.in-Some-Ends.field-0-is)))
