@@ -1,9 +1,10 @@
 //! The picture of a rung: which character is where.
 
-ghost use Rattle.std.specs.Prelude.{◌≡◌, ◌+◌, ◌*◌, ◌<◌, ◌↔◌, map, IsTrue, slice_index_or, []};
-ghost use Rattle.std.specs.List.{range_with_len};
+ghost use Rattle.std.specs.Prelude.{◌≡◌, ◌+◌, ◌*◌, ◌<◌, ◌↔◌, ◌==◌, not, map, IsTrue, slice_index_or, []};
+ghost use Rattle.std.specs.List.{list_any, range_with_len};
+ghost use Rattle.ladder_page.specs.Bytes.{space};
 ghost use Rattle.ladder_page.specs.declared.geometry.TheConstants.{CELL, PITCH, ROWS, COLUMNS};
-ghost use Rattle.ladder_page.specs.Picture.{half_line, ch, has_text, joint, vertical, SameGroup};
+ghost use Rattle.ladder_page.specs.Picture.{half_line, ch, joint, vertical, SameGroup};
 
 use crate::geometry::{CELL, PITCH};
 
@@ -52,7 +53,7 @@ pub fn ch(lines: &[&[u8]], line: usize, place: usize) -> u8
 
 /// Whether there is a character that is no space.
 pub fn has_text(chars: &[u8]) -> bool
-    ensures { result ≡ has_text chars.now }
+    ensures { result ≡ list_any (λ b. not (b == space)) chars.now }
 {
     chars.iter().any(|b| *b != b' ')
 }

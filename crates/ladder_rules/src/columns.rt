@@ -1,8 +1,8 @@
 //! In which column of its line a rule is broken.
 
-ghost use Rattle.std.specs.Prelude.{◌≡◌, ◌/◌, ◌≤◌, length, IfOk, IfSome};
+ghost use Rattle.std.specs.Prelude.{◌≡◌, ◌/◌, ◌≤◌, ◌==◌, count_by, length, IfOk, IfSome};
 ghost use Rattle.ladder_rules.specs.Columns.{IsColumnIn, IsColumnOf};
-ghost use Rattle.ladder_page.specs.Lines.{line_feeds};
+ghost use Rattle.ladder_page.specs.Bytes.{line_feed};
 ghost use Rattle.ladder_page.specs.Picture.{half_line};
 ghost use Rattle.ladder_page.specs.ReadLines.{page_of};
 ghost use Rattle.ladder_page.specs.Seen.{seen};
@@ -74,7 +74,7 @@ fn column_after(
 }
 
 fn line_feeds(text: &[u8]) -> usize
-    ensures value { result ≡ line_feeds text.now }
+    ensures value { result ≡ count_by (λ b. b == line_feed) text.now }
     ensures few { result ≤ length text.now }
 {
     text.iter().filter(|b| **b == b'\n').count()

@@ -1,11 +1,10 @@
 -- How many inputs lead, as variables are declared one after the other.
-use Rattle.std.proofs.Common.{◌≡◌, ℕ, ◌+◌, ◌≤◌, true, false, cond, ◌&&◌, ◌==◌, List, [], ◌∷◌, ◌++◌, length, refl, sym, ap, ◌∙◌, arith}
+use Rattle.std.proofs.Common.{◌≡◌, ℕ, ◌+◌, true, false, cond, ◌&&◌, ◌==◌, List, [], ◌∷◌, ◌++◌, length, refl, sym, ap, ◌∙◌, arith}
 use Rattle.std.specs.List.{prefix_len}
 use Rattle.std.proofs.lemmas.Bool.{eqb-true}
 use Rattle.std.proofs.lemmas.List.Folds.{prefix_len-append}
-use Rattle.std.proofs.lemmas.List.Sums.{prefix_len-le-length}
 use Rattle.ladder_vars.specs.declared.decls.Var.{Var}
-use Rattle.ladder_vars.specs.Decls.{Declared, is_input, AreInRange}
+use Rattle.ladder_vars.specs.Decls.{is_input}
 
 pub leading-var : (vars : List Var) (v : Var) (leading : ℕ) → leading ≡ prefix_len is_input vars
     → cond (leading == length vars && is_input v) (leading + 1) leading ≡ prefix_len is_input (vars ++ v ∷ [])
@@ -18,6 +17,3 @@ leading-var vars v leading is =
           elim (is_input v) as (λ b. length vars + cond b (1 + 0) 0 ≡ cond b (leading + 1) leading) [ true ↦ omega (arith, all) | false ↦ omega (arith, all) ]
       | false ↦ λ _. refl
     ] refl)
-
-pub few_leading : (d : Declared) (leading : ℕ) → leading ≡ prefix_len is_input d.vars → AreInRange d → leading ≤ 256
-few_leading d leading is kept = omega (arith, is, prefix_len-le-length is_input d.vars, kept.kept.2)

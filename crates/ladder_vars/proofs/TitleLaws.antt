@@ -1,5 +1,5 @@
 -- Each name is a title.
-use Rattle.std.proofs.Common.{◌≡◌, ℕ, ◌≤◌, Bool, true, false, ◌||◌, ◌==◌, nat_le, List, [], ◌∷◌, length, refl, arith}
+use Rattle.std.proofs.Common.{◌≡◌, ℕ, Bool, true, false, ◌||◌, ◌==◌, nat_le, List, [], ◌∷◌, length, refl, arith}
 use Rattle.std.specs.List.{list_all}
 use Rattle.std.proofs.lemmas.Bool.{and_parts, leb-true, le-leb}
 use Rattle.std.specs.Char.{is_ascii_alphabetic, is_ascii_alphanumeric}
@@ -34,8 +34,3 @@ name_is_title (b ∷ bs) h =
     let few : nat_le (length (b ∷ bs)) 32 ≡ true = le-leb (length (b ∷ bs)) 32 (omega (arith, leb-true (length (b ∷ bs)) 11 short.0)) in
     let some : nat_le 1 (length (b ∷ bs)) ≡ true = le-leb 1 (length (b ∷ bs)) (omega arith) in
     rw (some, few, byte_is b (first_is b form.0), bytes_are bs form.1) refl
-
-pub name_short : (word : List ℕ) → is_name word ≡ true → length word ≤ 11
-name_short word h =
-    let parts = and_parts (has_name_form word) _ h in
-    leb-true (length word) 11 (and_parts (nat_le (length word) 11) _ parts.1).0

@@ -1,12 +1,12 @@
 //! Reads one declaration of a block.
 
-ghost use Rattle.std.specs.Prelude.{◌≡◌, ◌≤◌, ◌<◌, ◌||◌, ◌==◌, length, IfOk, IfSome};
+ghost use Rattle.std.specs.Prelude.{◌≡◌, ◌≤◌, ◌<◌, ◌||◌, ◌==◌, if◌then◌else◌, length, IfOk, IfSome, Some, None};
 ghost use Rattle.ladder_vars.specs.Kind.{largest_value};
 ghost use Rattle.ladder_vars.specs.Grammar.{bit_word};
 ghost use Rattle.ladder_vars.specs.ReadText.{Gives};
 ghost use Rattle.ladder_vars.specs.ReadWords.{value_of};
 ghost use Rattle.ladder_vars.specs.Name.{same_letters};
-ghost use Rattle.ladder_vars.specs.ReadSteps.{on, step, misfit};
+ghost use Rattle.ladder_vars.specs.ReadSteps.{step, misfit};
 ghost use Rattle.ladder_vars.specs.ReadDecls.{expect, body_at, PresetFits};
 
 use crate::decls::{Address, Body, VarKind};
@@ -131,11 +131,11 @@ fn instance_step(kind: BlockKind, word: &[u8]) -> Option<Next>
 }
 
 /// More is due where a word is the one that was due.
-fn on(word: &[u8], due: &[u8], then: Due) -> Option<Next>
-    ensures { result ≡ on (same_letters word.now due.now) (Next.Goes then) }
+fn on(word: &[u8], due: &[u8], next: Due) -> Option<Next>
+    ensures { result ≡ (if same_letters word.now due.now then Some (Next.Goes next) else None) }
 {
     if same_letters(word, due) {
-        Some(Next::Goes(then))
+        Some(Next::Goes(next))
     } else {
         None
     }
