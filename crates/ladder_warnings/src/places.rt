@@ -1,7 +1,7 @@
 //! Which places of a program have a warning.
 
-ghost use Rattle.std.specs.Prelude.{◌≡◌, ◌*◌, ◌/◌, ◌%◌, ◌<◌, ◌≤◌, ◌↔◌, IsTrue, Some, true};
-ghost use Rattle.ladder_page.specs.declared.geometry.TheConstants.{COLUMNS, PLACES, ROWS};
+ghost use Rattle.std.specs.Prelude.{◌≡◌, ◌*◌, ◌<◌, ◌≤◌, ◌↔◌, IsTrue, Some, true};
+ghost use Rattle.ladder_page.specs.declared.geometry.TheConstants.{PLACES};
 ghost use Rattle.ladder_grid.specs.Program.{block_in, cell_in, is_coil_of};
 ghost use Rattle.ladder_warnings.specs.Warned.{Clashes, HasCell, HasCellBefore, IsLooseCrossing, IsNeverRead, IsNeverWritten, IsUnwritten, IsWarned, IsWrittenTwice, Reads};
 
@@ -15,21 +15,13 @@ use ladder_page::CoilMode;
 use ladder_page::geometry::{PLACES, Place, ROWS};
 use ladder_vars::{Symbol, VarKind};
 
-/// The place with this number, by rung, column and row.
-fn place_of(program: &Program, place: usize) -> Place
-    requires { place < PLACES * program.now.rungs }
-    ensures { (result.rung ≡ place / PLACES) × (result.row ≡ place % PLACES % ROWS) × (result.column ≡ place % PLACES / ROWS) }
-{
-    let _rungs = program.rungs();
-    Place::of(place)
-}
-
 /// The cell at a place. Places go by rung, column and row.
 pub(crate) fn cell_in(program: &Program, place: usize) -> Cell
     requires { place < PLACES * program.now.rungs }
     ensures { result ≡ cell_in program.now place }
 {
-    program.site(place_of(program, place)).cell
+    let _rungs = program.rungs();
+    program.site(Place::of(place)).cell
 }
 
 fn is_loose_crossing(program: &Program, at: Place) -> bool
@@ -163,7 +155,8 @@ pub(crate) fn is_warned(program: &Program, place: usize, warning: Warning) -> bo
     requires { place < PLACES * program.now.rungs }
     ensures { IsTrue result ↔ IsWarned program.now place warning }
 {
-    let at = place_of(program, place);
+    let _rungs = program.rungs();
+    let at = Place::of(place);
     match warning {
         Warning::LooseCrossing => is_loose_crossing(program, at),
         Warning::Apart => is_apart(program, at),

@@ -8,42 +8,37 @@ ghost use Rattle.ladder_warnings.specs.Reaching.{AreWired};
 use ladder_grid::{Cell, Program};
 use ladder_page::geometry::{Place, ROWS};
 
-/// Whether a wire in the row `from` of a column feeds the row of the next one; `wired`: whether wires connect it to the left rail.
+/// Whether a wire at a place feeds this row of the next column; `wired`: whether wires connect it to the left rail.
 #[tactic(auto, unfolding(crate::specs::Ways::IsWiredBy))]
-fn is_wired_by(
-    program: &Program,
-    rung: usize,
-    row: usize,
-    from: usize,
-    column: usize,
-    wired: bool,
-) -> bool
-    requires rungs { rung < program.now.rungs }
-    requires few { rung < RUNGS }
-    requires columns { column + 1 < COLUMNS }
-    requires rows { (row < ROWS) × (from < ROWS) }
-    requires wired { IsTrue wired ↔ IsWired program.now rung column from }
-    ensures { IsTrue result ↔ IsWiredBy program.now rung row from column (IsWired program.now rung column from) }
+fn is_wired_by(program: &Program, row: usize, at: Place, wired: bool) -> bool
+    requires rungs { at.rung < program.now.rungs }
+    requires columns { at.column + 1 < COLUMNS }
+    requires rows { row < ROWS }
+    requires wired { IsTrue wired ↔ IsWired program.now at.rung at.column at.row }
+    ensures { IsTrue result ↔ IsWiredBy program.now at.rung row at.row at.column (IsWired program.now at.rung at.column at.row) }
 {
     let fed = Place {
-        rung,
+        rung: at.rung,
         row,
-        column: column + 1,
+        column: at.column + 1,
     };
-    program.feeds(fed, from) && program.cell(rung, from, column) == Cell::Wire && wired
+    program.feeds(fed, at.row) && program.site(at).cell == Cell::Wire && wired
 }
 
-/// Whether wires connect the left end of a cell to the left rail; `wired`: which left ends in the column before they do.
-fn is_wired(program: &Program, rung: usize, row: usize, column: usize, wired: &[bool; ROWS]) -> bool
-    requires rungs { rung < program.now.rungs }
-    requires few { rung < RUNGS }
-    requires rows { row < ROWS }
-    requires columns { column + 1 < COLUMNS }
-    requires wired { AreWired program.now rung column wired.now }
-    ensures { IsTrue result ↔ IsWired program.now rung (column + 1) row }
+/// Whether wires connect the left end of the cell behind a place to the left rail; `wired`: which left ends in the place's column they do.
+fn is_wired(program: &Program, at: Place, wired: &[bool; ROWS]) -> bool
+    requires rungs { at.rung < program.now.rungs }
+    requires columns { at.column + 1 < COLUMNS }
+    requires wired { AreWired program.now at.rung at.column wired.now }
+    ensures { IsTrue result ↔ IsWired program.now at.rung (at.column + 1) at.row }
 {
     for from in 0..ROWS {
-        if is_wired_by(program, rung, row, from, column, wired[from]) {
+        let wire = Place {
+            rung: at.rung,
+            row: from,
+            column: at.column,
+        };
+        if is_wired_by(program, at.row, wire, wired[from]) {
             return true;
         }
     }
@@ -60,7 +55,7 @@ fn wired_behind(program: &Program, rung: usize, column: usize, wired: &[bool; RO
 {
     let mut behind = [false; ROWS];
     for row in 0..ROWS {
-        behind[row] = is_wired(program, rung, row, column, wired);
+        behind[row] = is_wired(program, Place { rung, row, column }, wired);
     }
     behind
 }

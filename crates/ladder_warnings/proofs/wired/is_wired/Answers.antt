@@ -17,10 +17,10 @@ all_rows d rung row column from e =
 
 pub returns-then-is_wired_by : goal.returns-then-is_wired_by
 returns-then-is_wired_by c =
-    let all = all_rows c.args.program.now c.args.rung c.args.row c.args.column ROWS refl in
+    let all = all_rows c.args.program.now c.args.at.rung c.args.at.row c.args.at.column ROWS refl in
     (λ h. all.0 (c.loop-from.from, c.loop-from-test.true, c.is_wired_by.ensures.0 c.if-is_wired_by.true), λ h. refl)
 
 pub returns : goal.returns
 returns c =
     let end : c.loop-from.from ≡ ROWS = omega (arith, c.loop-from-test.false, c.loop-from.auto.from-end) in
-    (λ h. absurd (true≢false (sym h)), λ h. absurd (c.loop-from.invariant ((all_rows c.args.program.now c.args.rung c.args.row c.args.column c.loop-from.from end).1 h)))
+    (λ h. absurd (true≢false (sym h)), λ h. absurd (c.loop-from.invariant ((all_rows c.args.program.now c.args.at.rung c.args.at.row c.args.at.column c.loop-from.from end).1 h)))
