@@ -3,10 +3,6 @@
 
 #[cfg(test)]
 mod causes;
-#[cfg(test)]
-mod declarations;
-#[cfg(test)]
-mod drawings;
 pub mod memory;
 #[cfg(test)]
 mod order;

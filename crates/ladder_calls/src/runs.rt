@@ -3,15 +3,12 @@
 use crate::scans::{Look, looked, wrong_row};
 use ladder_causes::{Tri, Word64};
 
-pub(crate) const COUNT_UP: &[u8] =
-    b"VAR\n  Count AT %IX0 : BOOL;\n  Zero AT %IX1 : BOOL;\n  Y AT %QX0 : BOOL;\n  C1 : CTU := (PV := 2);\nEND_VAR\n\n|   Count         C1          Y\n|----| |------|CU CTU Q|-----( )----\n|   Zero\n|----| |------|R       |\n";
-
 /// A jump over the rung of Y, which is ON at the start.
-pub(crate) const JUMP: &[u8] =
+const JUMP: &[u8] =
     b"VAR\n  Skip AT %IX0 : BOOL;\n  A AT %IX1 : BOOL;\n  Y AT %QX0 : BOOL := TRUE;\nEND_VAR\n\n|   Skip\n|----| |--------->>DONE\n\n|     A           Y\n|----| |---------( )----\n\nDONE:\n|\n";
 
 /// A return before the rung of Y, which is ON at the start.
-pub(crate) const RETURN: &[u8] =
+const RETURN: &[u8] =
     b"VAR\n  Skip AT %IX0 : BOOL;\n  A AT %IX1 : BOOL;\n  Y AT %QX0 : BOOL := TRUE;\nEND_VAR\n\n|   Skip\n|----| |--------<RETURN>\n\n|     A           Y\n|----| |---------( )----\n";
 
 /// The variable Y is the third one.

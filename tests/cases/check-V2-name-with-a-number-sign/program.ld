@@ -1,0 +1,3 @@
+VAR
+A# : BOOL;
+END_VAR

@@ -1,0 +1,3 @@
+VAR
+A.Q : BOOL;
+END_VAR

@@ -1,0 +1,3 @@
+VAR
+AT : BOOL;
+END_VAR

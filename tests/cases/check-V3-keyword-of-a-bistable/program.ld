@@ -1,0 +1,3 @@
+VAR
+rs : BOOL;
+END_VAR

@@ -1,0 +1,3 @@
+VAR
+tp : BOOL;
+END_VAR

@@ -1,0 +1,3 @@
+VAR
+var : BOOL;
+END_VAR

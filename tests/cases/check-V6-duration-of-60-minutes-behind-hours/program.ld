@@ -1,0 +1,3 @@
+VAR
+T1 : TON := (PT := T#1h60m);
+END_VAR

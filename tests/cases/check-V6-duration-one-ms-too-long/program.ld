@@ -1,0 +1,3 @@
+VAR
+T1 : TON := (PT := T#49d17h2m47s296ms);
+END_VAR

@@ -1,0 +1,3 @@
+VAR
+T1 : TON := (PT := T#5sx);
+END_VAR

@@ -1,0 +1,3 @@
+VAR
+T1 : TON := (PT := T#_5s);
+END_VAR

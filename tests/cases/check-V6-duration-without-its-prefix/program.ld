@@ -1,0 +1,3 @@
+VAR
+T1 : TON := (PT := 5s);
+END_VAR

@@ -1,0 +1,1 @@
+VAR END_VAR// a

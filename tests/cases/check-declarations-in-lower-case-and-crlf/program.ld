@@ -1,0 +1,4 @@
+var
+end_var
+
+|

@@ -1,0 +1,7 @@
+VAR
+A : BOOL;
+_ : BOOL;
+a1_ : BOOL;
+A__b : BOOL;
+TONS : BOOL;
+END_VAR
