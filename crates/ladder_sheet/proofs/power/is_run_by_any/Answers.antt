@@ -1,6 +1,12 @@
-use Rattle.std.proofs.Common.{below_more}
+use Rattle.std.proofs.Common.{below_more, arith}
+use Rattle.ladder_sheet.specs.Sheets.{IsRun}
 use Rattle.ladder_sheet.proofs.power.is_run_by_any.Goals as goal
 use Rattle.ladder_sheet.proofs.power.is_run_by_any.Goals.{else-is_running-via-then-is_running+else-fed, else-is_running-via-else-is_running}
+
+-- After the last row there was none.
+pub returns : goal.returns
+unfolding IsRun
+returns c = (λ h. cc, λ run. absurd (c.loop-from.invariant run.0 (omega (arith, run.1, c.loop-from-test.false)) run.2 run.3))
 
 pub loop-from-preserved : goal.loop-from-preserved
 loop-from-preserved c =
