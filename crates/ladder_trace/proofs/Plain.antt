@@ -13,13 +13,13 @@ use Rattle.ladder_scan.specs.Standing.{Standing}
 use Rattle.ladder_text.specs.Log.{WriteLog}
 use Rattle.ladder_trace.specs.declared.fault.SimFault.{SimFault}
 use Rattle.ladder_trace.specs.declared.fault.SimFault.TheVariants as fault
-use Rattle.ladder_trace.specs.declared.recording.Recording.{Recording}
 use Rattle.ladder_trace.specs.declared.filling.Filling.{Filling}
 use Rattle.ladder_trace.specs.Coming.{Comes, IsSound, coming}
 use Rattle.ladder_trace.specs.Filled.{Numbered, all_fields, filled, filled_after, held_between, in_file, is_number, moment_in, numbered, told_of}
-use Rattle.ladder_trace.specs.Simulation.{Follows, FollowsEvery, most}
+use Rattle.ladder_trace.specs.Simulation.{Follows, FollowsEvery}
 use Rattle.ladder_trace.specs.Steps.{Ends}
 use Rattle.ladder_trace.specs.Stimulus.{IsHeader, are_bits, input_named}
+use Rattle.ladder_trace.specs.Trace.{Recorded}
 use Rattle.ladder_trace.proofs.Coming.{is_less}
 use Rattle.ladder_trace.proofs.Lists.{all_first, some_same, within}
 
@@ -61,35 +61,35 @@ plain_first : (rows : List Fields) → in_file (filled 0 rows) 1 ≡ 1
 plain_first [] = refl
 plain_first (header ∷ rows) = refl
 
-told_plain : (recording : Recording) (p : Drawing) (s : Standing) (rows : List Fields) (t : Standing) (old new : WriteLog) (r : Result ℕ SimFault)
-    → Follows recording p s rows t old new r → told_of (filled 0 rows) r ≡ r
-told_plain recording p s rows t old new (Ok n) h = refl
-told_plain recording p s rows t old new (Err (fault.BadRow n)) (inl (k, taken, (fields, at, bad), few, same)) =
+told_plain : (recorded : Recorded) (p : Drawing) (s : Standing) (rows : List Fields) (t : Standing) (old new : WriteLog) (r : Result ℕ SimFault)
+    → Follows recorded p s rows t old new r → told_of (filled 0 rows) r ≡ r
+told_plain recorded p s rows t old new (Ok n) h = refl
+told_plain recorded p s rows t old new (Err (fault.BadRow n)) (inl (k, taken, (fields, at, bad), few, same)) =
     ap (λ x. Err (fault.BadRow x)) (ap (in_file (filled 0 rows)) same ∙ plain_number rows k (within rows (k + 1) fields at) ∙ sym same)
-told_plain recording p s rows t old new (Err (fault.BadRow n)) (inr (same, bad, kept)) =
+told_plain recorded p s rows t old new (Err (fault.BadRow n)) (inr (same, bad, kept)) =
     ap (λ x. Err (fault.BadRow x)) (ap (in_file (filled 0 rows)) same ∙ plain_first rows ∙ sym same)
-told_plain recording p s rows t old new (Err (fault.UnknownName n)) (same, bad, kept) =
+told_plain recorded p s rows t old new (Err (fault.UnknownName n)) (same, bad, kept) =
     ap (λ x. Err (fault.UnknownName x)) (ap (in_file (filled 0 rows)) same ∙ plain_first rows ∙ sym same)
-told_plain recording p s rows t old new (Err (fault.MomentBack n)) (k, taken, (fields, at, bad), few, same) =
+told_plain recorded p s rows t old new (Err (fault.MomentBack n)) (k, taken, (fields, at, bad), few, same) =
     ap (λ x. Err (fault.MomentBack x)) (ap (in_file (filled 0 rows)) same ∙ plain_number rows k (within rows (k + 1) fields at) ∙ sym same)
-told_plain recording p s rows t old new (Err (fault.TooLong n)) (taken, more, same) =
-    ap (λ x. Err (fault.TooLong x)) (ap (in_file (filled 0 rows)) same ∙ plain_number rows (most recording) more ∙ sym same)
-told_plain recording p s rows t old new (Err fault.Write) h = refl
-told_plain recording p s rows t old new (Err fault.Memory) h = refl
+told_plain recorded p s rows t old new (Err (fault.TooLong n)) (taken, more, same) =
+    ap (λ x. Err (fault.TooLong x)) (ap (in_file (filled 0 rows)) same ∙ plain_number rows recorded.most more ∙ sym same)
+told_plain recorded p s rows t old new (Err fault.Write) h = refl
+told_plain recorded p s rows t old new (Err fault.Memory) h = refl
 
-ends_every : (recording : Recording) (every : ℕ) (p : Drawing) (s : Standing) (rows : List Fields) (t : Standing) (old new : WriteLog) (end : Result ℕ SimFault)
-    → Ends recording p s (filled every rows) t old new end → FollowsEvery recording every p s rows t old new end
-ends_every recording (suc n) p s rows t old new end h = h
-ends_every recording zero p s rows t old new end (r, follows, same) =
-    let plain : Follows recording p s rows t old new r = subst (λ l. Follows recording p s l t old new r) (plain_fields rows) follows in
-    subst (Follows recording p s rows t old new) (sym (same ∙ told_plain recording p s rows t old new r plain)) plain
+ends_every : (recorded : Recorded) (every : ℕ) (p : Drawing) (s : Standing) (rows : List Fields) (t : Standing) (old new : WriteLog) (end : Result ℕ SimFault)
+    → Ends recorded p s (filled every rows) t old new end → FollowsEvery recorded every p s rows t old new end
+ends_every recorded (suc n) p s rows t old new end h = h
+ends_every recorded zero p s rows t old new end (r, follows, same) =
+    let plain : Follows recorded p s rows t old new r = subst (λ l. Follows recorded p s l t old new r) (plain_fields rows) follows in
+    subst (Follows recorded p s rows t old new) (sym (same ∙ told_plain recorded p s rows t old new r plain)) plain
 
-pub ends_by : (recording : Recording) (every held : ℕ) (p : Drawing) (s : Standing) (rows : List Fields) (t : Standing) (old new : WriteLog) (end : Result ℕ SimFault) → held ≡ every
-    → Ends recording p s (filled held rows) t old new end → FollowsEvery recording every p s rows t old new end
-ends_by recording every held p s rows t old new end e h = ends_every recording every p s rows t old new end (subst (λ x. Ends recording p s (filled x rows) t old new end) e h)
+pub ends_by : (recorded : Recorded) (every held : ℕ) (p : Drawing) (s : Standing) (rows : List Fields) (t : Standing) (old new : WriteLog) (end : Result ℕ SimFault) → held ≡ every
+    → Ends recorded p s (filled held rows) t old new end → FollowsEvery recorded every p s rows t old new end
+ends_by recorded every held p s rows t old new end e h = ends_every recorded every p s rows t old new end (subst (λ x. Ends recorded p s (filled x rows) t old new end) e h)
 
-pub every_starved : (recording : Recording) (every : ℕ) (p : Drawing) (s : Standing) (rows : List Fields) (old : WriteLog) → FollowsEvery recording every p s rows s old old (Err fault.Memory)
-every_starved recording every p s rows old = ends_every recording every p s rows s old old (Err fault.Memory) (Err fault.Memory, inr (refl, refl), refl)
+pub every_starved : (recorded : Recorded) (every : ℕ) (p : Drawing) (s : Standing) (rows : List Fields) (old : WriteLog) → FollowsEvery recorded every p s rows s old old (Err fault.Memory)
+every_starved recorded every p s rows old = ends_every recorded every p s rows s old old (Err fault.Memory) (Err fault.Memory, inr (refl, refl), refl)
 
 -- ---- the header
 

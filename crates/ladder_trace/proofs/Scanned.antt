@@ -6,13 +6,11 @@ use Rattle.ladder_grid.specs.Program.{Drawing}
 use Rattle.ladder_records.specs.Left.{Fields}
 use Rattle.ladder_scan.specs.Standing.{Standing}
 use Rattle.ladder_text.specs.Log.{WriteLog}
-use Rattle.ladder_vars.specs.Decls.{is_input}
 use Rattle.ladder_trace.specs.declared.fault.SimFault.{SimFault}
 use Rattle.ladder_trace.specs.declared.fault.SimFault.TheVariants as fault
-use Rattle.ladder_trace.specs.declared.recording.Recording.{Recording}
 use Rattle.ladder_trace.specs.Steps.{IsScan, ScansTo, StepsTo}
 use Rattle.ladder_trace.specs.Stimulus.{IsRow, given_by}
-use Rattle.ladder_trace.specs.Trace.{IsStep, values_of}
+use Rattle.ladder_trace.specs.Trace.{IsStep, Recorded, inputs_given}
 
 -- A slice that is written whole takes the place of all items of its vector.
 replaced : (n : ℕ) (new old : List Bool) → length new ≡ n → length old ≡ n → take n (new ++ drop (length new) old) ≡ new
@@ -31,25 +29,25 @@ given_image n columns bits items first second values between a b c same filled g
     ∙ given
     ∙ ap (given_by columns bits) (same ∙ kept ∙ filled)
 
-step_of : (recording : Recording) (p : Drawing) (columns : List ℕ) (s : Standing) (fields : Fields) (moment : ℕ) (bits inputs : List Bool) (t : Standing) (piece : List ℕ)
-    → IsRow columns fields moment bits → inputs ≡ given_by columns bits (values_of is_input p.decls.vars s.held.values) → IsScan recording p s moment inputs t piece
-    → IsStep recording p columns s fields t piece
-step_of recording p columns s fields moment bits inputs t piece row given scan =
-    let same = subst (λ (i : List Bool). IsScan recording p s moment i t piece) given scan in
+step_of : (recorded : Recorded) (p : Drawing) (columns : List ℕ) (s : Standing) (fields : Fields) (moment : ℕ) (bits inputs : List Bool) (t : Standing) (piece : List ℕ)
+    → IsRow columns fields moment bits → inputs ≡ inputs_given p columns bits s → IsScan recorded p s moment inputs t piece
+    → IsStep recorded p columns s fields t piece
+step_of recorded p columns s fields moment bits inputs t piece row given scan =
+    let same = subst (λ (i : List Bool). IsScan recorded p s moment i t piece) given scan in
     record { moment = moment; bits = bits; row = row; later = same.later; after = same.after; told = same.told }
 
-pub steps_of : {T : Type 0} (recording : Recording) (p : Drawing) (columns : List ℕ) (number : ℕ) (s : Standing) (fields : Fields) (moment : ℕ) (bits inputs : List Bool) (t : Standing)
-    (old new : WriteLog) (r : Result T SimFault) → IsRow columns fields moment bits → inputs ≡ given_by columns bits (values_of is_input p.decls.vars s.held.values)
-    → ScansTo recording p number s moment inputs t old new r → StepsTo recording p columns number s fields t old new r
-steps_of recording p columns number s fields moment bits inputs t old new (Ok u) row given h =
-    (h.0, step_of recording p columns s fields moment bits inputs t h.0 row given h.1, h.2)
-steps_of recording p columns number s fields moment bits inputs t old new (Err (fault.BadRow n)) row given h = absurd h
-steps_of recording p columns number s fields moment bits inputs t old new (Err (fault.UnknownName n)) row given h = absurd h
-steps_of recording p columns number s fields moment bits inputs t old new (Err (fault.MomentBack n)) row given h = (h.0, (moment, bits, row, h.1), h.2)
-steps_of recording p columns number s fields moment bits inputs t old new (Err (fault.TooLong n)) row given h = absurd h
-steps_of recording p columns number s fields moment bits inputs t old new (Err fault.Write) row given h =
-    (h.0, step_of recording p columns s fields moment bits inputs t h.0 row given h.1, h.2)
-steps_of recording p columns number s fields moment bits inputs t old new (Err fault.Memory) row given h = h
+pub steps_of : {T : Type 0} (recorded : Recorded) (p : Drawing) (columns : List ℕ) (number : ℕ) (s : Standing) (fields : Fields) (moment : ℕ) (bits inputs : List Bool) (t : Standing)
+    (old new : WriteLog) (r : Result T SimFault) → IsRow columns fields moment bits → inputs ≡ inputs_given p columns bits s
+    → ScansTo recorded p number s moment inputs t old new r → StepsTo recorded p columns number s fields t old new r
+steps_of recorded p columns number s fields moment bits inputs t old new (Ok u) row given h =
+    (h.0, step_of recorded p columns s fields moment bits inputs t h.0 row given h.1, h.2)
+steps_of recorded p columns number s fields moment bits inputs t old new (Err (fault.BadRow n)) row given h = absurd h
+steps_of recorded p columns number s fields moment bits inputs t old new (Err (fault.UnknownName n)) row given h = absurd h
+steps_of recorded p columns number s fields moment bits inputs t old new (Err (fault.MomentBack n)) row given h = (h.0, (moment, bits, row, h.1), h.2)
+steps_of recorded p columns number s fields moment bits inputs t old new (Err (fault.TooLong n)) row given h = absurd h
+steps_of recorded p columns number s fields moment bits inputs t old new (Err fault.Write) row given h =
+    (h.0, step_of recorded p columns s fields moment bits inputs t h.0 row given h.1, h.2)
+steps_of recorded p columns number s fields moment bits inputs t old new (Err fault.Memory) row given h = h
 
 -- what holds anyway holds of a good result
 pub on_ok : {T E : Type 0} (r : Result T E) (P : Type 0) → P → OnOk r P

@@ -15,13 +15,12 @@ use Rattle.ladder_trace.specs.declared.fault.SimFault.{SimFault}
 use Rattle.ladder_trace.specs.declared.fault.SimFault.TheVariants as fault
 use Rattle.ladder_trace.specs.declared.filling.Filling.{Filling}
 use Rattle.ladder_trace.specs.declared.filling.Taken.{Taken}
-use Rattle.ladder_trace.specs.declared.recording.Recording.{Recording}
 use Rattle.ladder_trace.specs.Coming.{Comes, Gives, Takes}
 use Rattle.ladder_trace.specs.Filled.{Numbered, all_fields, in_file}
-use Rattle.ladder_trace.specs.Simulation.{IsTaken, Runs, most}
+use Rattle.ladder_trace.specs.Simulation.{IsTaken, Runs}
 use Rattle.ladder_trace.specs.Steps.{Ends, IsGoing, StepsTo}
 use Rattle.ladder_trace.specs.Stimulus.{IsHeader}
-use Rattle.ladder_trace.specs.Trace.{IsStep, head_text}
+use Rattle.ladder_trace.specs.Trace.{IsStep, Recorded}
 use Rattle.ladder_trace.proofs.Lists.{some_same, within}
 
 -- ---- the records that a reader has left
@@ -83,88 +82,88 @@ in_file_at all k r e =
 
 -- ---- the records that are taken
 
-runs_within : (recording : Recording) (p : Drawing) (columns : List ℕ) (s : Standing) (rows : List Fields) (k : ℕ) (text piece : List ℕ) (t : Standing)
-    → Runs recording p columns s rows k text piece t → k < length rows
+runs_within : (recorded : Recorded) (p : Drawing) (columns : List ℕ) (s : Standing) (rows : List Fields) (k : ℕ) (text piece : List ℕ) (t : Standing)
+    → Runs recorded p columns s rows k text piece t → k < length rows
 unfolding Runs
-runs_within recording p columns s rows zero text piece t ((r, here, good), none, same, start) = within rows 0 r here
-runs_within recording p columns s rows (suc k) text piece t (before, last, u, runs, cut, (r, here, step)) = within rows (suc k) r here
+runs_within recorded p columns s rows zero text piece t ((r, here, good), none, same, start) = within rows 0 r here
+runs_within recorded p columns s rows (suc k) text piece t (before, last, u, runs, cut, (r, here, step)) = within rows (suc k) r here
 
-runs_more : (recording : Recording) (p : Drawing) (columns : List ℕ) (s : Standing) (rows : List Fields) (k : ℕ) (text piece more : List ℕ) (t u : Standing) (r : Fields)
-    → Runs recording p columns s rows k text piece t → slice_get rows (k + 1) ≡ Some r → IsStep recording p columns t r u more
-    → Runs recording p columns s rows (k + 1) (text ++ piece) more u
+runs_more : (recorded : Recorded) (p : Drawing) (columns : List ℕ) (s : Standing) (rows : List Fields) (k : ℕ) (text piece more : List ℕ) (t u : Standing) (r : Fields)
+    → Runs recorded p columns s rows k text piece t → slice_get rows (k + 1) ≡ Some r → IsStep recorded p columns t r u more
+    → Runs recorded p columns s rows (k + 1) (text ++ piece) more u
 unfolding Runs
-runs_more recording p columns s rows k text piece more t u r h here step = rw add-one (text, piece, t, h, refl, (r, rw (← add-one) here, step))
+runs_more recorded p columns s rows k text piece more t u r h here step = rw add-one (text, piece, t, h, refl, (r, rw (← add-one) here, step))
 
-pub going_none : (recording : Recording) (p : Drawing) (columns : List ℕ) (s : Standing) (all : List Numbered) (r : Numbered) (a b : WriteLog) (f : Filling)
-    → slice_get all 0 ≡ Some r → IsHeader p.decls r.fields columns → PutsAll a b (head_text recording p s) → Comes columns f (drop 1 all)
-    → IsGoing recording p columns s all 0 s a b f
+pub going_none : (recorded : Recorded) (p : Drawing) (columns : List ℕ) (s : Standing) (all : List Numbered) (r : Numbered) (a b : WriteLog) (f : Filling)
+    → slice_get all 0 ≡ Some r → IsHeader p.decls r.fields columns → PutsAll a b (recorded.head p s) → Comes columns f (drop 1 all)
+    → IsGoing recorded p columns s all 0 s a b f
 unfolding Runs
-going_none recording p columns s all r a b f here header wrote left =
-    record { text = []; piece = head_text recording p s; runs = ((r.fields, fields_at all 0 r here, header), refl, refl, refl); wrote = wrote; left = left }
+going_none recorded p columns s all r a b f here header wrote left =
+    record { text = []; piece = recorded.head p s; runs = ((r.fields, fields_at all 0 r here, header), refl, refl, refl); wrote = wrote; left = left }
 
-pub going_more : (recording : Recording) (p : Drawing) (columns : List ℕ) (s t u : Standing) (all : List Numbered) (taken : Taken) (a b c : WriteLog) (number : ℕ) (f g : Filling)
-    → IsGoing recording p columns s all number t a b f → Takes columns (drop (number + 1) all) (Some taken) g
-    → ((fields : Fields) → Gives columns taken.moment (fields_of g.last) fields → (piece : List ℕ) × IsStep recording p columns t fields u piece × PutsAll b c piece)
-    → IsGoing recording p columns s all (number + 1) u a c g
-going_more recording p columns s t u all taken a b c number f g h takes steps =
+pub going_more : (recorded : Recorded) (p : Drawing) (columns : List ℕ) (s t u : Standing) (all : List Numbered) (taken : Taken) (a b c : WriteLog) (number : ℕ) (f g : Filling)
+    → IsGoing recorded p columns s all number t a b f → Takes columns (drop (number + 1) all) (Some taken) g
+    → ((fields : Fields) → Gives columns taken.moment (fields_of g.last) fields → (piece : List ℕ) × IsStep recorded p columns t fields u piece × PutsAll b c piece)
+    → IsGoing recorded p columns s all (number + 1) u a c g
+going_more recorded p columns s t u all taken a b c number f g h takes steps =
     let (r, at, same, gives, comes) = one_taken columns all (number + 1) taken g takes in
     let (piece, step, wrote) = steps r.fields gives in
     record {
       text = h.text ++ h.piece;
       piece = piece;
-      runs = runs_more recording p columns s (all_fields all) number h.text h.piece piece t u r.fields h.runs (fields_at all (number + 1) r at) step;
+      runs = runs_more recorded p columns s (all_fields all) number h.text h.piece piece t u r.fields h.runs (fields_at all (number + 1) r at) step;
       wrote = puts_more a b c (h.text ++ h.piece) piece h.wrote wrote;
       left = comes;
     }
 
 -- ---- how it ends
 
-was_taken : (recording : Recording) (p : Drawing) (columns : List ℕ) (s t u : Standing) (all : List Numbered) (a b c : WriteLog) (number : ℕ) (f : Filling)
-    → IsGoing recording p columns s all number t a b f → number ≤ most recording → u ≡ t → c ≡ b → IsTaken recording p s (all_fields all) number u a c
-was_taken recording p columns s t u all a b c number f h few e g = record {
-  course = record { columns = columns; text = h.text; piece = h.piece; runs = subst (Runs recording p columns s (all_fields all) number h.text h.piece) (sym e) h.runs; few = few };
+was_taken : (recorded : Recorded) (p : Drawing) (columns : List ℕ) (s t u : Standing) (all : List Numbered) (a b c : WriteLog) (number : ℕ) (f : Filling)
+    → IsGoing recorded p columns s all number t a b f → number ≤ recorded.most → u ≡ t → c ≡ b → IsTaken recorded p s (all_fields all) number u a c
+was_taken recorded p columns s t u all a b c number f h few e g = record {
+  course = record { columns = columns; text = h.text; piece = h.piece; runs = subst (Runs recorded p columns s (all_fields all) number h.text h.piece) (sym e) h.runs; few = few };
   wrote = subst (λ x. PutsAll a x (h.text ++ h.piece)) (sym g) h.wrote;
 }
 
-pub going_done : (recording : Recording) (p : Drawing) (columns : List ℕ) (s t : Standing) (all : List Numbered) (a b : WriteLog) (number : ℕ) (f g : Filling)
-    → IsGoing recording p columns s all number t a b f → Takes columns (drop (number + 1) all) None g → number ≤ most recording
-    → Ends recording p s all t a b (Ok number)
-going_done recording p columns s t all a b number f g h takes few =
+pub going_done : (recorded : Recorded) (p : Drawing) (columns : List ℕ) (s t : Standing) (all : List Numbered) (a b : WriteLog) (number : ℕ) (f g : Filling)
+    → IsGoing recorded p columns s all number t a b f → Takes columns (drop (number + 1) all) None g → number ≤ recorded.most
+    → Ends recorded p s all t a b (Ok number)
+going_done recorded p columns s t all a b number f g h takes few =
     let none = none_taken columns all (number + 1) g takes in
-    let some = runs_within recording p columns s (all_fields all) number h.text h.piece t h.runs in
+    let some = runs_within recorded p columns s (all_fields all) number h.text h.piece t h.runs in
     let size : length (all_fields all) ≡ length all = length-map all (λ (r : Numbered). r.fields) in
-    (Ok number, (was_taken recording p columns s t t all a b b number f h few refl refl, omega (arith, none, some, size)), refl)
+    (Ok number, (was_taken recorded p columns s t t all a b b number f h few refl refl, omega (arith, none, some, size)), refl)
 
-pub going_stops : (recording : Recording) (p : Drawing) (columns : List ℕ) (s t u : Standing) (all : List Numbered) (taken : Taken) (stop : SimFault) (a b c : WriteLog) (number : ℕ) (f g : Filling)
-    → IsGoing recording p columns s all number t a b f → number < most recording → Takes columns (drop (number + 1) all) (Some taken) g
-    → ((fields : Fields) → Gives columns taken.moment (fields_of g.last) fields → StepsTo {T = ⊤} recording p columns taken.number t fields u b c (Err stop))
-    → Ends recording p s all u a c (Err stop)
+pub going_stops : (recorded : Recorded) (p : Drawing) (columns : List ℕ) (s t u : Standing) (all : List Numbered) (taken : Taken) (stop : SimFault) (a b c : WriteLog) (number : ℕ) (f g : Filling)
+    → IsGoing recorded p columns s all number t a b f → number < recorded.most → Takes columns (drop (number + 1) all) (Some taken) g
+    → ((fields : Fields) → Gives columns taken.moment (fields_of g.last) fields → StepsTo {T = ⊤} recorded p columns taken.number t fields u b c (Err stop))
+    → Ends recorded p s all u a c (Err stop)
 unfolding was_taken
-going_stops recording p columns s t u all taken (fault.BadRow n) a b c number f g h few takes steps =
+going_stops recorded p columns s t u all taken (fault.BadRow n) a b c number f g h few takes steps =
     let (r, at, told, gives, comes) = one_taken columns all (number + 1) taken g takes in
     let (same, bad, (ks, kl)) = steps r.fields gives in (
       Err (fault.BadRow (number + 2)),
-      inl (number, was_taken recording p columns s t u all a b c number f h (omega (arith, few)) ks kl, (r.fields, fields_at all (number + 1) r at, bad), few, refl),
+      inl (number, was_taken recorded p columns s t u all a b c number f h (omega (arith, few)) ks kl, (r.fields, fields_at all (number + 1) r at, bad), few, refl),
       ap (λ x. Err (fault.BadRow x)) (same ∙ told ∙ sym (in_file_at all number r at)),
     )
-going_stops recording p columns s t u all taken (fault.UnknownName n) a b c number f g h few takes steps =
+going_stops recorded p columns s t u all taken (fault.UnknownName n) a b c number f g h few takes steps =
     let (r, at, told, gives, comes) = one_taken columns all (number + 1) taken g takes in absurd (steps r.fields gives)
-going_stops recording p columns s t u all taken (fault.MomentBack n) a b c number f g h few takes steps =
+going_stops recorded p columns s t u all taken (fault.MomentBack n) a b c number f g h few takes steps =
     let (r, at, told, gives, comes) = one_taken columns all (number + 1) taken g takes in
     let (same, (m, bits, row, less), (ks, kl)) = steps r.fields gives in (
       Err (fault.MomentBack (number + 2)),
       (
         number,
-        was_taken recording p columns s t u all a b c number f h (omega (arith, few)) ks kl,
+        was_taken recorded p columns s t u all a b c number f h (omega (arith, few)) ks kl,
         (r.fields, fields_at all (number + 1) r at, (m, bits, row, subst (λ (x : Standing). m < x.moment) (sym ks) less)),
         few,
         refl,
       ),
       ap (λ x. Err (fault.MomentBack x)) (same ∙ told ∙ sym (in_file_at all number r at)),
     )
-going_stops recording p columns s t u all taken (fault.TooLong n) a b c number f g h few takes steps =
+going_stops recorded p columns s t u all taken (fault.TooLong n) a b c number f g h few takes steps =
     let (r, at, told, gives, comes) = one_taken columns all (number + 1) taken g takes in absurd (steps r.fields gives)
-going_stops recording p columns s t u all taken fault.Write a b c number f g h few takes steps =
+going_stops recorded p columns s t u all taken fault.Write a b c number f g h few takes steps =
     let (r, at, told, gives, comes) = one_taken columns all (number + 1) taken g takes in
     let (piece, step, cut) = steps r.fields gives in
     let front = cut.bytes.0 in
@@ -178,7 +177,7 @@ going_stops recording p columns s t u all taken fault.Write a b c number f g h f
           columns = columns;
           text = text;
           piece = piece;
-          runs = runs_more recording p columns s (all_fields all) number h.text h.piece piece t u r.fields h.runs (fields_at all (number + 1) r at) step;
+          runs = runs_more recorded p columns s (all_fields all) number h.text h.piece piece t u r.fields h.runs (fields_at all (number + 1) r at) step;
           few = omega (arith, few);
         },
         record {
@@ -189,28 +188,28 @@ going_stops recording p columns s t u all taken fault.Write a b c number f g h f
       ),
       refl,
     )
-going_stops recording p columns s t u all taken fault.Memory a b c number f g h few takes steps =
+going_stops recorded p columns s t u all taken fault.Memory a b c number f g h few takes steps =
     let (r, at, told, gives, comes) = one_taken columns all (number + 1) taken g takes in
     let (ks, kl) = steps r.fields gives in
-    (Err fault.Memory, inl (number, was_taken recording p columns s t u all a b c number f h (omega (arith, few)) ks kl), refl)
+    (Err fault.Memory, inl (number, was_taken recorded p columns s t u all a b c number f h (omega (arith, few)) ks kl), refl)
 
-pub going_many : (recording : Recording) (p : Drawing) (columns : List ℕ) (s t : Standing) (all : List Numbered) (taken : Taken) (a b : WriteLog) (number row : ℕ) (f g : Filling)
-    → IsGoing recording p columns s all number t a b f → Takes columns (drop (number + 1) all) (Some taken) g → number ≡ most recording
-    → row ≡ taken.number → Ends recording p s all t a b (Err (fault.TooLong row))
-going_many recording p columns s t all taken a b number row f g h takes count same =
+pub going_many : (recorded : Recorded) (p : Drawing) (columns : List ℕ) (s t : Standing) (all : List Numbered) (taken : Taken) (a b : WriteLog) (number row : ℕ) (f g : Filling)
+    → IsGoing recorded p columns s all number t a b f → Takes columns (drop (number + 1) all) (Some taken) g → number ≡ recorded.most
+    → row ≡ taken.number → Ends recorded p s all t a b (Err (fault.TooLong row))
+going_many recorded p columns s t all taken a b number row f g h takes count same =
     let (r, at, told, gives, comes) = one_taken columns all (number + 1) taken g takes in
     let more = within (all_fields all) (number + 1) r.fields (fields_at all (number + 1) r at) in
-    let place : in_file all (most recording + 2) ≡ r.number = subst (λ k. in_file all (k + 2) ≡ r.number) count (in_file_at all number r at) in (
-      Err (fault.TooLong (most recording + 2)),
+    let place : in_file all (recorded.most + 2) ≡ r.number = subst (λ k. in_file all (k + 2) ≡ r.number) count (in_file_at all number r at) in (
+      Err (fault.TooLong (recorded.most + 2)),
       (
-        subst (λ k. IsTaken recording p s (all_fields all) k t a b) count (was_taken recording p columns s t t all a b b number f h (omega (arith, count)) refl refl),
+        subst (λ k. IsTaken recorded p s (all_fields all) k t a b) count (was_taken recorded p columns s t t all a b b number f h (omega (arith, count)) refl refl),
         omega (arith, more, count),
         refl,
       ),
       ap (λ x. Err (fault.TooLong x)) (same ∙ told ∙ sym place),
     )
 
-pub going_starved : (recording : Recording) (p : Drawing) (columns : List ℕ) (s t : Standing) (all : List Numbered) (a b : WriteLog) (number : ℕ) (f : Filling)
-    → IsGoing recording p columns s all number t a b f → number ≤ most recording → Ends recording p s all t a b (Err fault.Memory)
-going_starved recording p columns s t all a b number f h few =
-    (Err fault.Memory, inl (number, was_taken recording p columns s t t all a b b number f h few refl refl), refl)
+pub going_starved : (recorded : Recorded) (p : Drawing) (columns : List ℕ) (s t : Standing) (all : List Numbered) (a b : WriteLog) (number : ℕ) (f : Filling)
+    → IsGoing recorded p columns s all number t a b f → number ≤ recorded.most → Ends recorded p s all t a b (Err fault.Memory)
+going_starved recorded p columns s t all a b number f h few =
+    (Err fault.Memory, inl (number, was_taken recorded p columns s t t all a b b number f h few refl refl), refl)

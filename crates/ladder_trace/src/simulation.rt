@@ -15,9 +15,9 @@ ghost use Rattle.ladder_vars.specs.Decls.{is_input};
 ghost use Rattle.ladder_trace.specs.Coming.{Gives, IsFresh, IsSound};
 ghost use Rattle.ladder_trace.specs.Filled.{Numbered, filled};
 ghost use Rattle.ladder_trace.specs.Room.{IsReady};
-ghost use Rattle.ladder_trace.specs.Simulation.{Films, FollowsEvery, SimulatesEvery, WatchesEvery, WavesEvery, most};
-ghost use Rattle.ladder_trace.specs.Steps.{CanRecord, Ends, IsGoing, ScansTo, StepsTo};
-ghost use Rattle.ladder_trace.specs.Trace.{head_text};
+ghost use Rattle.ladder_trace.specs.Simulation.{Films, FollowsEvery, SimulatesEvery, WatchesEvery, WavesEvery, as_film, as_waves};
+ghost use Rattle.ladder_trace.specs.Steps.{CanRecord, Ends, IsGoing, ScansTo, StepsTo, as_asked};
+ghost use Rattle.ladder_trace.specs.Trace.{as_trace, as_watched};
 
 use crate::column::Column;
 use crate::fault::SimFault;
@@ -68,7 +68,7 @@ struct Run<'a> {
 }
 
 fn most(recording: Recording<'_>) -> u64
-    ensures value { result ≡ most recording.entry }
+    ensures value { result ≡ (as_asked recording.entry).most }
     ensures small { result ≤ 1000000 }
 {
     match recording {
@@ -86,7 +86,7 @@ fn write_head<W: Sink>(
     writer: &mut W,
 ) -> Result<(), WriteFault>
     requires { block.old ≡ [] }
-    ensures wrote { Puts (W.log writer.old) (W.log writer.new) result (head_text recording.entry program.now state.now) }
+    ensures wrote { Puts (W.log writer.old) (W.log writer.new) result ((as_asked recording.entry).head program.now state.now) }
     ensures empty { OnOk result (block.new ≡ []) }
 {
     match recording {
@@ -112,7 +112,7 @@ fn trace_scan<W: Sink>(
     ensures fits { Fits program.now state.new }
     ensures ready { OnOk result (IsReady program.now room.new) }
     ensures rest { OnOk result (IsTrueOf (diagram_of program.now) state.new.moment state.new.held room.new.resting) }
-    ensures scans { ScansTo Recording.Trace program.now number state.old moment room.old.image.items state.new (W.log writer.old) (W.log writer.new) result }
+    ensures scans { ScansTo as_trace program.now number state.old moment room.old.image.items state.new (W.log writer.old) (W.log writer.new) result }
 {
     let Ok(()) = scan(program, state, &mut room.resting, &room.image, moment) else {
         return Err(SimFault::MomentBack { row: number });
@@ -140,7 +140,7 @@ fn watch_scan<W: Sink>(
     ensures fits { Fits program.now state.new }
     ensures ready { OnOk result (IsReady program.now room.new) }
     ensures rest { OnOk result (IsTrueOf (diagram_of program.now) state.new.moment state.new.held room.new.resting) }
-    ensures scans { ScansTo (Recording.Watched watched.entry) program.now number state.old moment room.old.image.items state.new (W.log writer.old) (W.log writer.new) result }
+    ensures scans { ScansTo (as_watched watched.now) program.now number state.old moment room.old.image.items state.new (W.log writer.old) (W.log writer.new) result }
 {
     match scan(program, state, &mut room.resting, &room.image, moment) {
         Ok(()) => (),
@@ -167,7 +167,7 @@ fn draw_scan<W: Sink>(
     requires drawn { IsProgram film.text.now (without_aliases run.program.now) }
     requires fits { Fits run.program.now state.old }
     ensures fits { Fits run.entry.program.now state.new }
-    ensures scans { ScansTo (Recording.Film film.entry) run.entry.program.now number state.old moment image.now state.new (W.log writer.old) (W.log writer.new) result }
+    ensures scans { ScansTo (as_film film.entry) run.entry.program.now number state.old moment image.now state.new (W.log writer.old) (W.log writer.new) result }
 {
     if moment < state.moment() {
         return Err(SimFault::MomentBack { row: number });
@@ -212,7 +212,7 @@ fn wave_scan<W: Sink>(
     ensures fits { Fits run.entry.program.now state.new }
     ensures ready { OnOk result (IsReady run.entry.program.now room.new) }
     ensures rest { OnOk result (IsTrueOf (diagram_of run.entry.program.now) state.new.moment state.new.held room.new.resting) }
-    ensures scans { ScansTo Recording.Waves run.entry.program.now number state.old moment room.old.image.items state.new (W.log writer.old) (W.log writer.new) result }
+    ensures scans { ScansTo as_waves run.entry.program.now number state.old moment room.old.image.items state.new (W.log writer.old) (W.log writer.new) result }
 {
     keep(run.program, state, &mut room.before);
     let Ok(()) = scan(run.program, state, &mut room.resting, &room.image, moment) else {
@@ -244,7 +244,7 @@ fn step<W: Sink>(
     ensures ready { OnOk result (IsReady run.entry.program.now room.new) }
     ensures rest { OnOk result (IsTrueOf (diagram_of run.entry.program.now) state.new.moment state.new.held room.new.resting) }
     ensures steps { (fields : Fields) → Gives columns.now taken.moment (fields_of row.now) fields
-        → StepsTo run.entry.recording run.entry.program.now columns.now taken.number state.old fields state.new (W.log writer.old) (W.log writer.new) result }
+        → StepsTo (as_asked run.entry.recording) run.entry.program.now columns.now taken.number state.old fields state.new (W.log writer.old) (W.log writer.new) result }
 {
     let number = taken.number;
     let Some(moment) = taken.moment else {
@@ -284,8 +284,8 @@ fn follow_rows<W: Sink>(
     requires below { All (λ c. c < count_by is_input run.program.now.decls.vars) columns.now }
     ensures fits { Fits run.entry.program.now state.new }
     ensures ends { (all : List Numbered) (log : WriteLog)
-        → IsGoing run.entry.recording run.entry.program.now columns.now state.old all 0 state.old log (W.log writer.old) filling.old
-        → Ends run.entry.recording run.entry.program.now state.old all state.new log (W.log writer.new) result }
+        → IsGoing (as_asked run.entry.recording) run.entry.program.now columns.now state.old all 0 state.old log (W.log writer.old) filling.old
+        → Ends (as_asked run.entry.recording) run.entry.program.now state.old all state.new log (W.log writer.new) result }
 {
     let most = most(run.recording);
     for done in 0..u64::MAX {
@@ -320,7 +320,7 @@ fn follow_records<W: Sink>(
     requires rest { IsTrueOf (diagram_of run.program.now) state.old.moment state.old.held room.old.resting }
     ensures fits { Fits run.entry.program.now state.new }
     ensures ends { (rows : List Fields) → Left filling.old.records rows
-        → Ends run.entry.recording run.entry.program.now state.old (filled filling.old.every rows) state.new (W.log writer.old) (W.log writer.new) result }
+        → Ends (as_asked run.entry.recording) run.entry.program.now state.old (filled filling.old.every rows) state.new (W.log writer.old) (W.log writer.new) result }
 {
     let Ok(found) = next(&mut filling.records, &mut filling.last) else {
         return Err(SimFault::Memory);
@@ -373,7 +373,7 @@ fn follow<W: Sink>(
     requires recorded { CanRecord run.recording run.program.now }
     requires fits { Fits run.program.now state.old }
     ensures fits { Fits run.entry.program.now state.new }
-    ensures ends { FollowsEvery run.entry.recording run.entry.every run.entry.program.now state.old (records_of stimulus.now) state.new (W.log writer.old) (W.log writer.new) result }
+    ensures ends { FollowsEvery (as_asked run.entry.recording) run.entry.every run.entry.program.now state.old (records_of stimulus.now) state.new (W.log writer.old) (W.log writer.new) result }
 {
     let (alloc, program) = (run.alloc, run.program);
     let mut filling = filling_from(alloc, stimulus, run.every);
