@@ -17,8 +17,8 @@ fn is_bit(row: &ByteRecord, number: usize) -> bool
     ensures { result ≡ is_bit (field_at (fields_of row.now) number) }
 {
     match row.get(number) {
-        Some(field) => field == b"1".as_slice() || field == b"0".as_slice(),
-        None => false,
+        Some([byte]) => *byte == b'1' || *byte == b'0',
+        Some(_) | None => false,
     }
 }
 
