@@ -1,114 +1,171 @@
--- The declarations of a text that are still to come.
-use Rattle.std.proofs.Common.{◌≡◌, ℕ, ◌<◌, arith, length, true, false, List, [], ◌∷◌, ◌++◌, codes, None, refl, sym, ap, ap₂, subst, ◌∙◌, append_assoc}
-use Rattle.std.specs.List.{list_any}
+-- The declarations of a text that are read, and those that are still to come.
+use Rattle.std.proofs.Common.{◌≡◌, ℕ, ◌⊎◌, inl, inr, true, List, [], ◌∷◌, ◌++◌, codes, Ok, refl, sym, ap, subst, ◌∙◌, append_assoc}
 use Rattle.std.proofs.lemmas.Bool.{true≢false}
 use Rattle.std.proofs.lemmas.List.{append-nil}
 use Rattle.std.proofs.lemmas.List.Elements.{filter_map-append}
-use Rattle.ladder_vars.specs.declared.decls.Var.{Var}
-use Rattle.ladder_vars.specs.declared.decls.Instance.{Instance}
 use Rattle.ladder_vars.specs.declared.decls.Body.{Body}
-use Rattle.ladder_vars.specs.declared.decls.Body.TheVariants as body
 use Rattle.ladder_vars.specs.Name.{same_letters, is_name}
-use Rattle.ladder_vars.specs.Decls.{Declared, AreKept, names_of}
+use Rattle.ladder_vars.specs.Decls.{Declared, AreKept}
 use Rattle.ladder_vars.specs.Text.{AreTokens}
-use Rattle.ladder_vars.specs.Grammar.{Is, Decl, AreDecls, declared_var, declared_instance, declared_by}
-use Rattle.ladder_vars.specs.ReadDecls.{body_at, refusal}
-use Rattle.ladder_vars.specs.TakeTitles.{IsNext, IsLast}
-use Rattle.ladder_vars.proofs.TextReads.{first_token, tokens-shorter}
-use Rattle.ladder_vars.proofs.BodyReads.{halves, body_reads, body_takes}
+use Rattle.ladder_vars.specs.Grammar.{Is, Decl, IsBody, AreDecls, declared_var, declared_instance, declared_by, IsHead, HasDecls}
+use Rattle.ladder_vars.specs.Rules.{DeclDue}
+use Rattle.ladder_vars.specs.ReadText.{token_at}
+use Rattle.ladder_vars.specs.ReadDecls.{expect, with_decl}
+use Rattle.ladder_vars.specs.TakeTitles.{IsNext}
+use Rattle.ladder_vars.proofs.TextReads.{first_token}
+use Rattle.ladder_vars.proofs.TextTakes.{token_takes, AreTokens-append}
+use Rattle.ladder_vars.proofs.BodyReads.{ok_same, expect_reads, expect_takes, body_reads, body_takes}
 use Rattle.ladder_vars.proofs.Blocks.{no_keyword}
-use Rattle.ladder_vars.proofs.Accepting.{joined, accepts}
-use Rattle.ladder_vars.proofs.Keeping.{new_var, new_instance}
+use Rattle.ladder_vars.proofs.Keeping.{joined, joined-nil, joined-more}
 
--- behind the declarations that are passed, these complete the whole
-pub record Ahead (whole : Declared) (ds : List Decl) (rest : List ℕ) : Type 0 where
+-- behind the declarations that are read here, these complete the whole
+pub record Ahead (whole : Declared) (end : List ℕ) (ds : List Decl) (here : List ℕ) : Type 0 where
   pub later : List Decl
   pub tokens : List (List ℕ)
   pub closing : List ℕ
-  pub end : List ℕ
   pub derived : AreDecls tokens later
   pub is_end : Is (codes "END_VAR") closing
-  pub read : AreTokens (tokens ++ closing ∷ []) rest end
-  pub whole_is : whole ≡ declared_by (ds ++ later)
+  pub read : AreTokens (tokens ++ closing ∷ []) here end
+  pub whole_is : whole ≡ joined (declared_by ds) later
   pub kept : AreKept whole
 
-declared_by-append : (ds more : List Decl) → declared_by (ds ++ more) ≡ joined (declared_by ds) more
-declared_by-append ds more = rw (filter_map-append declared_var ds more, filter_map-append declared_instance ds more) refl
+pub declared_by-push : (ds : List Decl) (name : List ℕ) (b : Body) → declared_by (ds ++ record { name = name; body = b } ∷ []) ≡ with_decl (declared_by ds) name b
+declared_by-push ds name b =
+    let d : Decl = record { name = name; body = b } in
+    rw (filter_map-append declared_var ds (d ∷ []), filter_map-append declared_instance ds (d ∷ []))
+    (sym (joined-more (declared_by ds) name b []) ∙ joined-nil (with_decl (declared_by ds) name b))
 
--- what was declared before stays, and more comes behind it
-pub extends : (whole : Declared) (ds : List Decl) (rest : List ℕ) → Ahead whole ds rest
-    → (vars : List Var) × (instances : List Instance) × (whole.vars ≡ (declared_by ds).vars ++ vars) × (whole.instances ≡ (declared_by ds).instances ++ instances)
-extends whole ds rest a =
-    let is : whole ≡ joined (declared_by ds) a.later = a.whole_is ∙ declared_by-append ds a.later in
-    ((declared_by a.later).vars, (declared_by a.later).instances, ap (λ d. d.vars) is, ap (λ d. d.instances) is)
+-- END_VAR comes next
+pub record IsOver (whole : Declared) (end : List ℕ) (ds : List Decl) (here : List ℕ) (later : List Decl) : Type 0 where
+  pub closing : List ℕ
+  pub found : token_at here ≡ Ok (closing, end)
+  pub is_end : Is (codes "END_VAR") closing
+  pub none : later ≡ []
+  pub all : whole ≡ declared_by ds
 
--- the first of them is read
-pub record Leads (d : Decl) (later : List Decl) (rest closing end : List ℕ) : Type 0 where
-  pub behind : List ℕ
-  pub after : List ℕ
-  pub back : List (List ℕ)
-  pub next : IsNext rest d.name behind d.body after
-  pub named : is_name d.name ≡ true
-  pub others : AreDecls back later
-  pub read : AreTokens (back ++ closing ∷ []) after end
-  pub shorter : length after < length rest
-
-pub leads : (d : Decl) (later : List Decl) (tokens : List (List ℕ)) (rest closing end : List ℕ) → AreDecls tokens (d ∷ later) → AreTokens (tokens ++ closing ∷ []) rest end
-    → Leads d later rest closing end
-leads d later tokens rest closing end (behind, back, parts, named, is_body, others) h =
-    let whole : tokens ++ closing ∷ [] ≡ d.name ∷ (behind ++ (back ++ closing ∷ []))
-    = ap (λ z. z ++ closing ∷ []) parts ∙ ap (λ z. d.name ∷ z) (append_assoc behind back (closing ∷ [])) in
-    let first = first_token d.name (behind ++ (back ++ closing ∷ [])) rest end (subst (λ z. AreTokens z rest end) whole h) in
-    let b = body_reads behind (back ++ closing ∷ []) d.body first.0 end is_body first.2 in
-    let taken = body_takes d.body first.0 b.0 b.1 in
-    let shorter : length b.0 < length rest = omega (arith, first.3, tokens-shorter taken.behind first.0 b.0 taken.tokens) in
-    record { behind = first.0; after = b.0; back = back; next = (first.1, no_keyword d.name named, b.1); named = named; others = others; read = b.2; shorter = shorter }
-
-pub none_left : (whole : Declared) (ds : List Decl) (rest : List ℕ) → Ahead whole ds rest → IsLast rest → whole ≡ declared_by ds
-none_left whole ds rest a last =
-    elim a.later as (λ later. AreDecls a.tokens later → whole ≡ declared_by (ds ++ later) → whole ≡ declared_by ds) [
-      | [] ↦ λ _ is. is ∙ ap declared_by (append-nil ds)
-      | d ∷ later ↦ λ derived _. let l = leads d later a.tokens rest a.closing a.end derived a.read in absurd (last d.name l.behind d.body l.after l.next)
-    ] a.derived a.whole_is
-
-not_declared : (d : Declared) (name : List ℕ) (b : Body) → refusal d name b ≡ None → list_any (same_letters name) (names_of d) ≡ false
-not_declared d name (body.Var kind address initial) h = (new_var d name kind address initial h).0
-not_declared d name (body.Instance kind preset) h = (new_instance d name kind preset h).1
-
--- one of them is passed
-pub record Passes (whole : Declared) (ds : List Decl) (name : List ℕ) (b : Body) (after : List ℕ) : Type 0 where
+-- this declaration comes next, and the others behind it
+pub record Comes (whole : Declared) (end : List ℕ) (ds : List Decl) (here : List ℕ) (later : List Decl) (name behind : List ℕ) (b : Body) (after : List ℕ) : Type 0 where
+  pub next : IsNext here name behind b after
   pub named : is_name name ≡ true
-  pub new : list_any (same_letters name) (names_of (declared_by ds)) ≡ false
-  pub ahead : Ahead whole (ds ++ record { name = name; body = b } ∷ []) after
+  pub ahead : Ahead whole end (ds ++ record { name = name; body = b } ∷ []) after
+  pub first : later ≡ record { name = name; body = b } ∷ ahead.later
+  pub kept : AreKept (joined (with_decl (declared_by ds) name b) ahead.later)
 
-pub passes : (whole : Declared) (ds : List Decl) (rest name behind : List ℕ) (b : Body) (after : List ℕ) → Ahead whole ds rest → IsNext rest name behind b after
-    → Passes whole ds name b after
-passes whole ds rest name behind b after a next =
-    elim a.later as (λ later. AreDecls a.tokens later → whole ≡ declared_by (ds ++ later) → Passes whole ds name b after) [
-      | [] ↦ λ none _.
-          let first = first_token a.closing [] rest a.end (subst (λ z. AreTokens (z ++ a.closing ∷ []) rest a.end) none a.read) in
-          let p = halves a.closing name first.0 behind (sym first.1 ∙ next.0) in
-          absurd (true≢false (sym a.is_end ∙ ap (λ w. same_letters w (codes "END_VAR")) p.0 ∙ next.1))
-      | d ∷ later ↦ λ derived is.
-          let l = leads d later a.tokens rest a.closing a.end derived a.read in
-          let p = halves d.name name l.behind behind (sym l.next.0 ∙ next.0) in
-          let q = halves d.body b l.after after (sym l.next.2 ∙ ap body_at p.1 ∙ next.2) in
-          let e : Decl = record { name = name; body = b } in
-          let same : d ≡ e = ap₂ (λ n x. record { name = n; body = x }) p.0 q.0 in
-          let kept : AreKept (joined (declared_by ds) (d ∷ later)) = subst AreKept (is ∙ declared_by-append ds (d ∷ later)) a.kept in
-          record {
-            named = subst (λ n. is_name n ≡ true) p.0 l.named;
-            new = subst (λ n. list_any (same_letters n) (names_of (declared_by ds)) ≡ false) p.0 (not_declared (declared_by ds) d.name d.body (accepts (declared_by ds) d later kept));
-            ahead = record {
-              later = later;
-              tokens = l.back;
-              closing = a.closing;
-              end = a.end;
-              derived = l.others;
-              is_end = a.is_end;
-              read = subst (λ z. AreTokens (l.back ++ a.closing ∷ []) z a.end) q.1 l.read;
-              whole_is = is ∙ ap (λ x. declared_by (ds ++ x ∷ later)) same ∙ ap declared_by (sym (append_assoc ds (e ∷ []) later));
-              kept = a.kept;
-            };
-          }
+pub peek : (whole : Declared) (end : List ℕ) (ds : List Decl) (here : List ℕ) (a : Ahead whole end ds here)
+    → IsOver whole end ds here a.later ⊎ ((name behind : List ℕ) × (b : Body) × (after : List ℕ) × Comes whole end ds here a.later name behind b after)
+peek whole end ds here a =
+    elim a.later as (λ later. AreDecls a.tokens later → whole ≡ joined (declared_by ds) later
+    → IsOver whole end ds here later ⊎ ((name behind : List ℕ) × (b : Body) × (after : List ℕ) × Comes whole end ds here later name behind b after)) [
+      | [] ↦ λ none all.
+          let first = first_token a.closing [] here end (subst (λ z. AreTokens (z ++ a.closing ∷ []) here end) none a.read) in
+          inl (record {
+            closing = a.closing;
+            found = first.1 ∙ ap (λ z. Ok (a.closing, z)) first.2;
+            is_end = a.is_end;
+            none = refl;
+            all = all ∙ joined-nil (declared_by ds);
+          })
+      | d ∷ later ↦ λ derived all.
+          let (behind, back, parts, named, is_body, others) = derived in
+          let tokens : a.tokens ++ a.closing ∷ [] ≡ d.name ∷ (behind ++ (back ++ a.closing ∷ []))
+          = ap (λ z. z ++ a.closing ∷ []) parts ∙ ap (λ z. d.name ∷ z) (append_assoc behind back (a.closing ∷ [])) in
+          let first = first_token d.name (behind ++ (back ++ a.closing ∷ [])) here end (subst (λ z. AreTokens z here end) tokens a.read) in
+          let read = body_reads behind (back ++ a.closing ∷ []) d.body first.0 end is_body first.2 in
+          let with_it : whole ≡ joined (with_decl (declared_by ds) d.name d.body) later = all ∙ sym (joined-more (declared_by ds) d.name d.body later) in
+          let rest : Ahead whole end (ds ++ d ∷ []) read.0 = record {
+            later = later;
+            tokens = back;
+            closing = a.closing;
+            derived = others;
+            is_end = a.is_end;
+            read = read.2;
+            whole_is = with_it ∙ ap (λ x. joined x later) (sym (declared_by-push ds d.name d.body));
+            kept = a.kept;
+          } in
+          inr (
+            d.name,
+            first.0,
+            d.body,
+            read.0,
+            record {
+              next = (first.1, no_keyword d.name named, read.1);
+              named = named;
+              ahead = rest;
+              first = refl;
+              kept = subst AreKept with_it a.kept;
+            },
+          )
     ] a.derived a.whole_is
+
+-- where one is read here, it is that which comes next
+pub passes : (whole : Declared) (end : List ℕ) (ds : List Decl) (here name behind : List ℕ) (b : Body) (after : List ℕ) (a : Ahead whole end ds here)
+    → IsNext here name behind b after → Comes whole end ds here a.later name behind b after
+passes whole end ds here name behind b after a next =
+    elim (peek whole end ds here a) [
+      | inl over ↦
+          let same = ok_same (over.closing, end) (name, behind) (sym over.found ∙ next.0) in
+          absurd (true≢false (sym over.is_end ∙ ap (λ p. same_letters p.0 (codes "END_VAR")) same ∙ next.1))
+      | inr (name', behind', b', after', comes) ↦
+          let same = ok_same (name', behind') (name, behind) (sym comes.next.0 ∙ next.0) in
+          let moved = subst (λ p. Comes whole end ds here a.later p.0 p.1 b' after') same comes in
+          subst (λ p. Comes whole end ds here a.later name behind p.0 p.1) (ok_same (b', after') (b, after) (sym moved.next.2 ∙ next.2)) moved
+    ]
+
+-- ---- from the start of a text
+
+-- VAR and these declarations are read up to here, and each reading of the text goes on from here
+pub record Reads (text : List ℕ) (ds : List Decl) (here : List ℕ) : Type 0 where
+  pub head : List (List ℕ)
+  pub is_head : IsHead head ds
+  pub read : AreTokens head text here
+  pub ahead : (whole : Declared) (end : List ℕ) → HasDecls text whole end → Ahead whole end ds here
+
+pub begins : (text : List ℕ) (whole : Declared) (end : List ℕ) → HasDecls text whole end → (first : List ℕ)
+    × (expect (codes "VAR") text ≡ Ok first) × Ahead whole end [] first
+begins text whole end (tokens, ds, read, (head, closing, parts, (word, between, split, is_var, derived), is_end), whole_is, kept) =
+    let all : tokens ≡ word ∷ (between ++ closing ∷ []) = parts ∙ ap (λ z. z ++ closing ∷ []) split in
+    let start = expect_reads (codes "VAR") word (between ++ closing ∷ []) text end is_var (subst (λ ts. AreTokens ts text end) all read) in
+    (start.0, start.1, record { later = ds; tokens = between; closing = closing; derived = derived; is_end = is_end; read = start.2; whole_is = whole_is; kept = kept })
+
+pub starts : (text first : List ℕ) → expect (codes "VAR") text ≡ Ok first → Reads text [] first
+starts text first begun =
+    let opening = expect_takes (codes "VAR") text first begun in
+    record {
+      head = opening.0 ∷ [];
+      is_head = (opening.0, [], refl, opening.1, refl);
+      read = opening.2;
+      ahead = λ whole end has. let start = begins text whole end has in subst (Ahead whole end []) (ok_same start.0 first (sym start.1 ∙ begun)) start.2;
+    }
+
+AreDecls-push : (ds : List Decl) (ts behind : List (List ℕ)) (d : Decl) → AreDecls ts ds → is_name d.name ≡ true → IsBody behind d.body
+    → AreDecls (ts ++ (d.name ∷ behind)) (ds ++ d ∷ [])
+AreDecls-push [] ts behind d h named is_body =
+    (behind, [], ap (λ z. z ++ (d.name ∷ behind)) h ∙ ap (λ z. d.name ∷ z) (sym (append-nil behind)), named, is_body, refl)
+AreDecls-push (e ∷ ds) ts behind d (first, back, parts, e_named, e_body, others) named is_body =
+    let whole = ap (λ z. z ++ (d.name ∷ behind)) parts ∙ ap (λ z. e.name ∷ z) (append_assoc first back (d.name ∷ behind)) in
+    (first, back ++ (d.name ∷ behind), whole, e_named, e_body, AreDecls-push ds back behind d others named is_body)
+
+pub goes_on : (text : List ℕ) (ds : List Decl) (here name behind : List ℕ) (b : Body) (after : List ℕ) → Reads text ds here → IsNext here name behind b after
+    → is_name name ≡ true → DeclDue text ds name b behind × Reads text (ds ++ record { name = name; body = b } ∷ []) after
+goes_on text ds here name behind b after r next named =
+    let word : AreTokens (name ∷ []) here behind = token_takes here name behind next.0 in
+    let taken = body_takes b behind after next.2 in
+    let (opening, between, parts, is_var, derived) = r.is_head in
+    let d : Decl = record { name = name; body = b } in (
+      record {
+        head = r.head;
+        behind = taken.behind;
+        rest = after;
+        is_head = r.is_head;
+        named = named;
+        is_body = taken.is_body;
+        before = AreTokens-append r.head (name ∷ []) text here behind r.read word;
+        read = taken.tokens;
+      },
+      record {
+        head = r.head ++ (name ∷ taken.behind);
+        is_head = (opening, between ++ (name ∷ taken.behind), ap (λ z. z ++ (name ∷ taken.behind)) parts, is_var, AreDecls-push ds between taken.behind d derived named taken.is_body);
+        read = AreTokens-append r.head (name ∷ taken.behind) text here after r.read (AreTokens-append (name ∷ []) taken.behind here behind after word taken.tokens);
+        ahead = λ whole end has. (passes whole end ds here name behind b after (r.ahead whole end has) next).ahead;
+      },
+    )

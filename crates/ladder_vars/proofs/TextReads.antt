@@ -1,5 +1,5 @@
 -- Every token that stands in a text is found: the first token of a reading is the one that `token_at` gives.
-use Rattle.std.proofs.Common.{◌≡◌, ℕ, ◌<◌, ◌≤◌, ◌⊎◌, inl, inr, true, false, not, cond, ◌==◌, ◌&&◌, List, [], ◌∷◌, ◌++◌, length, Ok, refl, sym, ap, ◌∙◌, arith}
+use Rattle.std.proofs.Common.{◌≡◌, ℕ, ◌<◌, ◌≤◌, ◌⊎◌, inl, inr, true, false, not, cond, ◌==◌, ◌&&◌, List, [], ◌∷◌, ◌++◌, length, codes, Ok, refl, sym, ap, subst, ◌∙◌, arith, append_assoc}
 use Rattle.std.specs.List.{list_all}
 use Rattle.std.proofs.lemmas.Bool.{eqb-true, ne_eqb, and_parts, not-true}
 use Rattle.std.proofs.lemmas.List.{length-append}
@@ -65,11 +65,18 @@ gap_skipped (Blank blank g) = rw blank (gap_skipped g)
 gap_skipped (Comment inside {after} unclosed g) = block_skipped inside after unclosed ∙ gap_skipped g
 gap_skipped (LineComment inside {after} one_line end g) = line_skipped inside after one_line end ∙ gap_skipped g
 
-gap-shorter : {text rest : List ℕ} → Gap text rest → length rest ≤ length text
-gap-shorter Nothing = omega arith
-gap-shorter (Blank blank g) = omega (arith, gap-shorter g)
-gap-shorter (Comment inside {after} unclosed g) = omega (arith, length-append {A = ℕ} inside (42 ∷ 41 ∷ after), gap-shorter g)
-gap-shorter (LineComment inside {after} one_line end g) = omega (arith, length-append {A = ℕ} inside after, gap-shorter g)
+-- the rest ends the text
+abbrev pub IsEnd : List ℕ → List ℕ → Type 0
+IsEnd text rest = (front : List ℕ) × (text ≡ front ++ rest)
+
+behind : (front text rest : List ℕ) → IsEnd text rest → IsEnd (front ++ text) rest
+behind front text rest h = (front ++ h.0, ap (λ z. front ++ z) h.1 ∙ sym (append_assoc front h.0 rest))
+
+gap-end : {text rest : List ℕ} → Gap text rest → IsEnd text rest
+gap-end Nothing = ([], refl)
+gap-end (Blank {b} {after} {rest} blank g) = behind (b ∷ []) after rest (gap-end g)
+gap-end (Comment inside {after} {rest} unclosed g) = behind (codes "(*") _ rest (behind inside _ rest (behind (codes "*)") after rest (gap-end g)))
+gap-end (LineComment inside {after} {rest} one_line end g) = behind (codes "//") _ rest (behind inside after rest (gap-end g))
 
 token_at-skipped : (a b : List ℕ) → skip_from state.Blanks a ≡ skip_from state.Blanks b → token_at a ≡ token_at b
 unfolding token_at
@@ -83,9 +90,15 @@ first_token t ts text rest h =
       h.1,
       same ∙ token_found t h.1 h.4 (ap token_len (sym h.3) ∙ h.5),
       h.6,
-      omega (arith, gap-shorter h.2, ap length h.3, length-append {A = ℕ} t h.1, h.4),
+      omega (arith, ap length (gap-end h.2).1, length-append {A = ℕ}, ap length h.3, h.4),
     )
 
+pub tokens-end : (ts : List (List ℕ)) (text rest : List ℕ) → AreTokens ts text rest → IsEnd text rest
+tokens-end [] text rest h = ([], h)
+tokens-end (t ∷ ts) text rest h =
+    let gap = gap-end h.2 in
+    let more = behind gap.0 h.0 rest (subst (λ z. IsEnd z rest) (sym h.3) (behind t h.1 rest (tokens-end ts h.1 rest h.6))) in
+    (more.0, gap.1 ∙ more.1)
+
 pub tokens-shorter : (ts : List (List ℕ)) (text rest : List ℕ) → AreTokens ts text rest → length rest ≤ length text
-tokens-shorter [] text rest h = omega (arith, ap length h)
-tokens-shorter (t ∷ ts) text rest h = let first = first_token t ts text rest h in omega (arith, first.3, tokens-shorter ts first.0 rest first.2)
+tokens-shorter ts text rest h = let end = tokens-end ts text rest h in omega (arith, ap length end.1, length-append end.0 rest)
