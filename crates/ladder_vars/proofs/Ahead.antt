@@ -15,7 +15,7 @@ use Rattle.ladder_vars.specs.TakeTitles.{IsNext}
 use Rattle.ladder_vars.proofs.TextReads.{first_token}
 use Rattle.ladder_vars.proofs.TextTakes.{token_takes, AreTokens-append}
 use Rattle.ladder_vars.proofs.BodyReads.{ok_same, expect_reads, expect_takes, body_reads, body_takes}
-use Rattle.ladder_vars.proofs.Blocks.{no_keyword}
+use Rattle.ladder_vars.proofs.Blocks.{no_keyword, IsHead-push}
 use Rattle.ladder_vars.proofs.Keeping.{joined, joined-nil, joined-more}
 
 -- behind the declarations that are read here, these complete the whole
@@ -137,20 +137,11 @@ starts text first begun =
       ahead = λ whole end has. let start = begins text whole end has in subst (Ahead whole end []) (ok_same start.0 first (sym start.1 ∙ begun)) start.2;
     }
 
-AreDecls-push : (ds : List Decl) (ts behind : List (List ℕ)) (d : Decl) → AreDecls ts ds → is_name d.name ≡ true → IsBody behind d.body
-    → AreDecls (ts ++ (d.name ∷ behind)) (ds ++ d ∷ [])
-AreDecls-push [] ts behind d h named is_body =
-    (behind, [], ap (λ z. z ++ (d.name ∷ behind)) h ∙ ap (λ z. d.name ∷ z) (sym (append-nil behind)), named, is_body, refl)
-AreDecls-push (e ∷ ds) ts behind d (first, back, parts, e_named, e_body, others) named is_body =
-    let whole = ap (λ z. z ++ (d.name ∷ behind)) parts ∙ ap (λ z. e.name ∷ z) (append_assoc first back (d.name ∷ behind)) in
-    (first, back ++ (d.name ∷ behind), whole, e_named, e_body, AreDecls-push ds back behind d others named is_body)
-
 pub goes_on : (text : List ℕ) (ds : List Decl) (here name behind : List ℕ) (b : Body) (after : List ℕ) → Reads text ds here → IsNext here name behind b after
     → is_name name ≡ true → DeclDue text ds name b behind × Reads text (ds ++ record { name = name; body = b } ∷ []) after
 goes_on text ds here name behind b after r next named =
     let word : AreTokens (name ∷ []) here behind = token_takes here name behind next.0 in
     let taken = body_takes b behind after next.2 in
-    let (opening, between, parts, is_var, derived) = r.is_head in
     let d : Decl = record { name = name; body = b } in (
       record {
         head = r.head;
@@ -164,7 +155,7 @@ goes_on text ds here name behind b after r next named =
       },
       record {
         head = r.head ++ (name ∷ taken.behind);
-        is_head = (opening, between ++ (name ∷ taken.behind), ap (λ z. z ++ (name ∷ taken.behind)) parts, is_var, AreDecls-push ds between taken.behind d derived named taken.is_body);
+        is_head = IsHead-push r.head taken.behind ds name b r.is_head named taken.is_body;
         read = AreTokens-append r.head (name ∷ taken.behind) text here after r.read (AreTokens-append (name ∷ []) taken.behind here behind after word taken.tokens);
         ahead = λ whole end has. (passes whole end ds here name behind b after (r.ahead whole end has) next).ahead;
       },

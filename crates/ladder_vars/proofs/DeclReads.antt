@@ -23,8 +23,7 @@ use Rattle.ladder_vars.proofs.Steps.{bind_err}
 use Rattle.ladder_vars.proofs.TextReads.{tokens-end, tokens-shorter}
 use Rattle.ladder_vars.proofs.TextTakes.{token_takes, AreTokens-append}
 use Rattle.ladder_vars.proofs.BodyReads.{ok_same}
-use Rattle.ladder_vars.proofs.Blocks.{NeedVar, NeedName, In, Ended, next, run, head_runs, none_follows, name_next}
-use Rattle.ladder_vars.proofs.Meeting.{Came, came_first, came_on, token_due, no_token_breaks, token_breaks, body_breaks}
+use Rattle.ladder_vars.proofs.Blocks.{NeedVar, NeedName, In, Ended, next, none_follows, Came, came_first, came_head, token_due, no_token_breaks, token_breaks, within_first, body_breaks}
 use Rattle.ladder_vars.proofs.Keeping.{unbroken}
 use Rattle.ladder_vars.proofs.Ahead.{peek, passes, begins, Reads, goes_on}
 
@@ -59,13 +58,7 @@ abbrev pub IsFault : Fault → List ℕ → Type 0
 IsFault f text = Breaks f.rule text f.left × HasNoDecls text
 
 came : (text : List ℕ) (ds : List Decl) (here : List ℕ) (r : Reads text ds here) → Came text r.head NeedName here
-came text ds here r =
-    record {
-      read = r.read;
-      leads = ap (run NeedVar) (sym (append-nil r.head)) ∙ head_runs r.head [] ds r.is_head;
-      behind = tt;
-      goes_on = λ e. cc;
-    }
+came text ds here r = came_head text here r.head ds r.read r.is_head
 
 -- no VAR
 pub no_opening : (text : List ℕ) (f : Fault) → expect (codes "VAR") text ≡ Err f → IsFault f text
@@ -126,7 +119,7 @@ pub no_body : (text : List ℕ) (ds : List Decl) (here w after : List ℕ) (f : 
 unfolding body_at
 no_body text ds here w after f r h named none = (
   body_breaks _ text after (r.head ++ w ∷ []) stage.Place f (omega arith)
-      (came_on text here after w r.head NeedName (In stage.Place) (came text ds here r) (token_takes here w after h.word) (name_next w named) tt (λ e. cc)) none,
+  (within_first text here w after r.head ds r.read r.is_head (token_takes here w after h.word) named) none,
   λ whole end has. let comes = comes_here text ds here w after whole end r h has in cc,
 )
 

@@ -18,12 +18,7 @@ alike word other token h =
 
 block_lower : (w : List ℕ) (kind : BlockKind) → str_to_ascii_lowercase w ≡ str_to_ascii_lowercase (traits_of kind).word → block_of w ≡ Some kind
 block_lower w block_kind.Ton e = rw e refl
-block_lower w block_kind.Tof e = rw e refl
-block_lower w block_kind.Tp e = rw e refl
-block_lower w block_kind.Ctu e = rw e refl
-block_lower w block_kind.Ctd e = rw e refl
-block_lower w block_kind.Sr e = rw e refl
-block_lower w block_kind.Rs e = rw e refl
+block_lower w other e = rw e refl
 
 pub block_reads : (w : List ℕ) (kind : BlockKind) → Is (traits_of kind).word w → block_of w ≡ Some kind
 block_reads w kind h = block_lower w kind (same_bytes (str_to_ascii_lowercase w) (str_to_ascii_lowercase (traits_of kind).word) h)
@@ -39,12 +34,7 @@ block_takes w kind h = find_passes (λ k. same_letters w (traits_of k).word) all
 -- a block's name isn't BOOL
 no_bool : (kind : BlockKind) → same_letters (traits_of kind).word (codes "BOOL") ≡ false
 no_bool block_kind.Ton = refl
-no_bool block_kind.Tof = refl
-no_bool block_kind.Tp = refl
-no_bool block_kind.Ctu = refl
-no_bool block_kind.Ctd = refl
-no_bool block_kind.Sr = refl
-no_bool block_kind.Rs = refl
+no_bool other = refl
 
 pub block_of-other : (word : List ℕ) (kind : BlockKind) → block_of word ≡ Some kind → same_letters word (codes "BOOL") ≡ false
 block_of-other word kind h = alike (traits_of kind).word (codes "BOOL") word (block_takes word kind h) ∙ no_bool kind

@@ -13,7 +13,6 @@ mod Keywords
 mod Walks
 mod BodyReads
 mod Blocks
-mod Meeting
 mod Ahead
 mod DeclReads
 mod Retitling
