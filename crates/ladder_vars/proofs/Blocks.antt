@@ -179,30 +179,6 @@ abbrev Follows : List (List ℕ) → Next → Type 0
 Follows ts n = Behind (state_of n) ts
 
 follows : (d : Due) (t : List ℕ) (ts : List (List ℕ)) → Behind (In d) ts → Each (Follows (ts ++ t ∷ [])) (step d t)
-follows due.Place t ts b =
-    let P : Next → Type 0 = Follows (ts ++ t ∷ []) in
-    either P (same_letters t (codes "AT")) (Some (then.Goes due.Address)) (on (same_letters t (codes ":")) (then.Goes due.Type)) (λ _. tt)
-    (when P (same_letters t (codes ":")) (then.Goes due.Type) (λ _. tt))
-follows due.Address t ts b = found (Follows (ts ++ t ∷ [])) (address_of t) (λ p. Some (then.Goes (due.Colon p.0 p.1))) (λ _ _. tt)
-follows (due.Colon kind a) t ts b = when (Follows (ts ++ t ∷ [])) (same_letters t (codes ":")) (then.Goes (due.Bool kind a)) (λ _. tt)
-follows (due.Bool kind a) t ts b = when (Follows (ts ++ t ∷ [])) (same_letters t (codes "BOOL")) (then.Goes (due.Initial kind (Some a))) (λ _. tt)
-follows due.Type t ts b =
-    let P : Next → Type 0 = Follows (ts ++ t ∷ []) in
-    let more : List ℕ → Option Next = λ t. block_of t >>= λ kind. Some (then.Goes (due.Preset kind)) in
-    either P (same_letters t (codes "BOOL")) (Some (then.Goes (due.Initial var_kind.Memory None))) (more t) (λ _. tt)
-    (found P (block_of t) (λ kind. Some (then.Goes (due.Preset kind))) (λ _ _. tt))
-follows (due.Initial kind address) t ts b =
-    let P : Next → Type 0 = Follows (ts ++ t ∷ []) in
-    let bit : Next = then.Goes (due.Bit kind address) in
-    either P (same_letters t (codes ";")) (Some (then.Ends (body.Var kind address false))) (on (same_letters t (codes ":=")) bit) (λ _. tt)
-    (when P (same_letters t (codes ":=")) bit (λ _. tt))
-follows (due.Bit kind address) t ts b = found (Follows (ts ++ t ∷ [])) (bit_word t) (λ value. Some (then.Goes (due.End (body.Var kind address value)))) (λ _ _. tt)
-follows (due.Preset kind) t ts b =
-    let P : Next → Type 0 = Follows (ts ++ t ∷ []) in
-    let opening : Parameter → Option Next = λ form. Some (then.Goes (due.Opening kind form)) in
-    let given : Option Next = (traits_of kind).parameter >>= opening in
-    either P (same_letters t (codes ";")) (Some (then.Ends (body.Instance kind 0))) (if same_letters t (codes ":=") then given else None) (λ _. tt)
-    (either P (same_letters t (codes ":=")) given None (λ _. found P (traits_of kind).parameter opening (λ _ _. tt)) tt)
 follows (due.Opening kind form) t ts b = when (Follows (ts ++ t ∷ [])) (same_letters t (codes "(")) (then.Goes (due.Word kind form)) (λ is. (ts, t, refl, is))
 follows (due.Word kind form) t ts (before, opening, parts, is) =
     when (Follows (ts ++ t ∷ [])) (same_letters t (parameter_word form)) (then.Goes (due.Assign kind form))
@@ -210,9 +186,7 @@ follows (due.Word kind form) t ts (before, opening, parts, is) =
 follows (due.Assign kind form) t ts (before, opening, word, parts, is) =
     when (Follows (ts ++ t ∷ [])) (same_letters t (codes ":=")) (then.Goes (due.Value kind form))
     (λ _. (before, opening, word, t, ap (λ z. z ++ t ∷ []) parts ∙ append_assoc before (opening ∷ word ∷ []) (t ∷ []), is))
-follows (due.Value kind form) t ts b = found (Follows (ts ++ t ∷ [])) (value_of form t) (λ n. Some (then.Goes (due.Closing (body.Instance kind n)))) (λ _ _. tt)
-follows (due.Closing c) t ts b = when (Follows (ts ++ t ∷ [])) (same_letters t (codes ")")) (then.Goes (due.End c)) (λ _. tt)
-follows (due.End c) t ts b = when (Follows (ts ++ t ∷ [])) (same_letters t (codes ";")) (then.Ends c) (λ _. tt)
+follows other t ts b = search (when, either, found)
 
 pub goes_behind : (d n : Due) (t : List ℕ) (ts : List (List ℕ)) → Behind (In d) ts → step d t ≡ Some (then.Goes n) → Behind (In n) (ts ++ t ∷ [])
 goes_behind d n t ts b is = subst (Each (Follows (ts ++ t ∷ []))) is (follows d t ts b)
