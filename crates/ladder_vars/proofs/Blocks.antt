@@ -3,6 +3,7 @@ use Rattle.std.proofs.Common.{◌≡◌, ◌≢◌, inl, inr, ℕ, Bool, true, f
 use Rattle.std.specs.Char.{to_ascii_lowercase}
 use Rattle.std.specs.List.{list_any}
 use Rattle.std.specs.Str.{str_to_ascii_lowercase}
+use Rattle.std.proofs.lemmas.Bool.Decides.{nat_tests}
 use Rattle.std.proofs.lemmas.Bool.{ltb-false, and_parts, not-true}
 use Rattle.ladder_vars.specs.declared.fault.VarRule.{VarRule}
 use Rattle.ladder_vars.specs.declared.fault.VarRule.TheVariants as rule
@@ -192,11 +193,7 @@ pub goes_behind : (d n : Due) (t : List ℕ) (ts : List (List ℕ)) → Behind (
 goes_behind d n t ts b is = subst (Each (Follows (ts ++ t ∷ []))) is (follows d t ts b)
 
 one_byte : (b : ℕ) → to_ascii_lowercase b ≡ 40 → b ≡ 40
-one_byte b h =
-    elim (chosen (nat_lt b 65) _ _ _ h) [
-      | inl small ↦ small.1
-      | inr large ↦ elim (chosen (nat_lt b 91) _ _ _ large.1) [ inl capital ↦ absurd (omega (arith, capital.1, ltb-false b 65 large.0)) | inr same ↦ same.1 ]
-    ]
+one_byte b h = grind (arith, nat_tests)
 
 opening_is : (t : List ℕ) → Is (codes "(") t → t ≡ codes "("
 opening_is [] h = absurd cc

@@ -2,6 +2,7 @@
 use Rattle.std.proofs.Common.{◌≡◌, ◌≢◌, ℕ, ◌≤◌, min, ◌⊎◌, inl, inr, true, false, not, ◌==◌, ◌||◌, ◌&&◌, List, [], ◌∷◌, ◌++◌, length, take, drop, Result, Ok, Err, refl, sym, ap, subst, ◌∙◌, arith}
 use Rattle.std.specs.List.{list_all}
 use Rattle.std.specs.Char.{is_ascii_alphanumeric}
+use Rattle.std.proofs.lemmas.Bool.Decides.{nat_tests}
 use Rattle.std.proofs.lemmas.Bool.{eqb-true, eqb-false, and_parts, false≢true, cond_both}
 use Rattle.std.proofs.lemmas.List.{take-append-drop, length-take}
 use Rattle.std.proofs.lemmas.List.Sums.{prefix_len-le-length}
@@ -15,8 +16,7 @@ use Rattle.ladder_vars.proofs.Steps.{bind_ok}
 use Rattle.ladder_vars.proofs.TextReads.{begins_with-append}
 
 pub begins_cons : (byte : ℕ) (text : List ℕ) → begins_with byte text ≡ true → (rest : List ℕ) × (text ≡ byte ∷ rest)
-begins_cons byte [] h = cc
-begins_cons byte (b ∷ bs) h = let e : b ≡ byte = eqb-true b byte h in (bs, ap (λ x. x ∷ bs) e)
+begins_cons byte text h = grind (arith, nat_tests)
 
 pub head_same : (a b : ℕ) (xs ys : List ℕ) → a ∷ xs ≡ b ∷ ys → a ≡ b
 head_same a b xs ys e = cc
@@ -52,31 +52,22 @@ gap_none rest = Nothing
 
 pub gap_block : (b : ℕ) (bs rest : List ℕ) → (b == 40 && begins_with 42 bs) ≡ true → GapFrom state.Opening bs rest → Gap (b ∷ bs) rest
 gap_block b bs rest h g =
-    let both = and_parts (b == 40) (begins_with 42 bs) h in
-    let first : b ≡ 40 = eqb-true b 40 both.0 in
-    let star = begins_cons 42 bs both.1 in
-    let second : g.0 ≡ 42 = head_same g.0 42 g.1 star.0 (sym g.2 ∙ star.1) in
     let block = g.3 in
-    let whole : b ∷ bs ≡ 40 ∷ 42 ∷ (block.inside ++ (42 ∷ 41 ∷ block.after)) = rw (g.2, first, second) (ap (λ (z : List ℕ). 40 ∷ 42 ∷ z) block.parts) in
+    let whole : b ∷ bs ≡ 40 ∷ 42 ∷ (block.inside ++ (42 ∷ 41 ∷ block.after)) = grind (arith, nat_tests) in
     subst (λ z. Gap z rest) (sym whole) (Comment block.inside block.first block.gap)
 
 gap_line_at : (bs rest inside after : List ℕ) → begins_with 47 bs ≡ true → bs ≡ inside ++ after → list_all (λ b. not (b == 10)) inside ≡ true
     → (after ≡ []) ⊎ (begins_with 10 after ≡ true) → Gap after rest → Gap (47 ∷ bs) rest
-gap_line_at bs rest [] after slash parts one_line (inl e) gap = absurd (false≢true (ap (begins_with 47) (sym (parts ∙ e)) ∙ slash))
-gap_line_at bs rest [] after slash parts one_line (inr e) gap =
-    let lf = begins_cons 10 after e in
-    absurd (false≢true (ap (begins_with 47) (sym (parts ∙ lf.1)) ∙ slash))
+gap_line_at bs rest [] after slash parts one_line end gap = grind arith
 gap_line_at bs rest (c ∷ cs) after slash parts one_line end gap =
-    let same : c ≡ 47 = eqb-true c 47 (ap (begins_with 47) (sym parts) ∙ slash) in
     let both = and_parts (not (c == 10)) (list_all (λ b. not (b == 10)) cs) one_line in
-    let whole : 47 ∷ bs ≡ 47 ∷ 47 ∷ (cs ++ after) = ap (λ z. 47 ∷ z) (parts ∙ ap (λ x. x ∷ (cs ++ after)) same) in
+    let whole : 47 ∷ bs ≡ 47 ∷ 47 ∷ (cs ++ after) = grind (arith, nat_tests) in
     subst (λ z. Gap z rest) (sym whole) (LineComment cs both.1 end gap)
 
 pub gap_line : (b : ℕ) (bs rest : List ℕ) → (b == 47 && begins_with 47 bs) ≡ true → EndsLine bs rest → Gap (b ∷ bs) rest
 gap_line b bs rest h line =
-    let both = and_parts (b == 47) (begins_with 47 bs) h in
-    let first : b ≡ 47 = eqb-true b 47 both.0 in
-    rw first (gap_line_at bs rest line.inside line.after both.1 line.parts line.one_line line.end line.gap)
+    let first : b ≡ 47 = grind (arith, nat_tests) in
+    rw first (gap_line_at bs rest line.inside line.after (grind arith) line.parts line.one_line line.end line.gap)
 
 -- where the skipping ends there is neither a blank nor a comment
 abbrev pub NoGap : List ℕ → Type 0
@@ -98,25 +89,13 @@ abbrev pub OpenFrom : Within → List ℕ → Type 0
 OpenFrom s text = Never s text ⊎ ((at : List ℕ) × GapFrom s text at × IsUnfinished at)
 
 comment_end : (b : ℕ) (bs at : List ℕ) → (b == 42 && begins_with 41 bs) ≡ true → GapFrom state.Closing bs at → EndsComment (b ∷ bs) at
-comment_end b bs at ends g =
-    let both = and_parts (b == 42) (begins_with 41 bs) ends in
-    let first : b ≡ 42 = eqb-true b 42 both.0 in
-    let paren = begins_cons 41 bs both.1 in
-    let second : g.0 ≡ 41 = head_same g.0 41 g.1 paren.0 (sym g.2 ∙ paren.1) in
-    record { inside = []; after = g.1; parts = rw (g.2, first, second) refl; first = refl; gap = g.3 }
+comment_end b bs at ends g = record { inside = []; after = g.1; parts = grind (arith, nat_tests); first = refl; gap = g.3 }
 
 comment_more : (b : ℕ) (bs at : List ℕ) → (b == 42 && begins_with 41 bs) ≡ false → EndsComment bs at → EndsComment (b ∷ bs) at
-comment_more b bs at more g =
-    let front : begins_with 41 bs ≡ begins_with 41 g.inside
-    = ap (begins_with 41) g.parts ∙ begins_with-append 41 42 g.inside (41 ∷ g.after) refl in
-    let not_here : (b == 42 && begins_with 41 g.inside) ≡ false = ap (λ t. b == 42 && t) (sym front) ∙ more in
-    record { inside = b ∷ g.inside; after = g.after; parts = ap (λ z. b ∷ z) g.parts; first = rw not_here g.first; gap = g.gap }
+comment_more b bs at more g = record { inside = b ∷ g.inside; after = g.after; parts = ap (λ z. b ∷ z) g.parts; first = grind (arith, begins_with-append); gap = g.gap }
 
 line_end : (b : ℕ) (bs at : List ℕ) → (b == 10) ≡ true → Gap bs at → EndsLine (b ∷ bs) at
-line_end b bs at ends g =
-    let lf : b ≡ 10 = eqb-true b 10 ends in
-    let blank : is_blank b bs ≡ true = rw lf refl in
-    record { inside = []; after = b ∷ bs; parts = refl; one_line = refl; end = inr ends; gap = gap_blank b bs at blank g }
+line_end b bs at ends g = let lf : b ≡ 10 = eqb-true b 10 ends in record { inside = []; after = b ∷ bs; parts = refl; one_line = refl; end = inr ends; gap = Blank (rw lf refl) g }
 
 line_more : (b : ℕ) (bs at : List ℕ) → (b == 10) ≡ false → EndsLine bs at → EndsLine (b ∷ bs) at
 line_more b bs at more g =
@@ -134,14 +113,11 @@ moves s n text rest (Ok x) gap open_yet h = (gap x h.0, h.1)
 moves s n text rest (Err f) gap open_yet h = (h.0, elim h.1 [ inl never ↦ open_yet never | inr (at, g, u) ↦ inr (at, gap at g, u) ])
 
 never_opened : (b : ℕ) (bs : List ℕ) → (b == 40 && begins_with 42 bs) ≡ true → Never state.Opening bs → OpenFrom state.Blanks (b ∷ bs)
-never_opened b [] h never = absurd (let both = and_parts (b == 40) (begins_with 42 []) h in cc)
-never_opened b (c ∷ cs) h never =
-    let both = and_parts (b == 40) (begins_with 42 (c ∷ cs)) h in
-    inr (b ∷ c ∷ cs, gap_none (b ∷ c ∷ cs), (eqb-true b 40 both.0, eqb-true c 42 both.1, never))
+never_opened b [] h never = grind arith
+never_opened b (c ∷ cs) h never = inr (b ∷ c ∷ cs, gap_none (b ∷ c ∷ cs), grind (arith, nat_tests))
 
 never_closing : (b : ℕ) (bs : List ℕ) → (b == 42 && begins_with 41 bs) ≡ true → Never state.Closing bs → ⊥
-never_closing b [] h never = let both = and_parts (b == 42) (begins_with 41 []) h in absurd cc
-never_closing b (c ∷ cs) h never = never
+never_closing b bs h never = grind arith
 
 pub shows : (text : List ℕ) (s : Within) → Shows s text (skip_from s text)
 shows [] state.Blanks = (gap_none [], tt)
@@ -184,13 +160,7 @@ begins_some byte (b ∷ bs) h = omega arith
 
 token_len-le : (text : List ℕ) → token_len text ≤ length text
 token_len-le [] = omega arith
-token_len-le (b ∷ bs) =
-    let P : ℕ → Type 0 = λ n. n ≤ length (b ∷ bs) in
-    cond_both (is_word_byte b) _ _ P (λ _. omega (arith, prefix_len-le-length is_word_byte bs)) (λ _.
-    cond_both (b == 37) _ _ P (λ _. omega (arith, prefix_len-le-length (λ c. is_ascii_alphanumeric c || c == 46) bs)) (λ _.
-    cond_both (b == 58) _ _ P (λ _. cond_both (begins_with 61 bs) _ _ P (λ e. omega (arith, begins_some 61 bs e)) (λ _. omega arith)) (λ _.
-    cond_both (b == 40) _ _ P (λ _. cond_both (begins_with 42 bs) _ _ P (λ _. omega arith) (λ _. omega arith)) (λ _.
-    cond_both (b == 59 || b == 41) _ _ P (λ _. omega arith) (λ _. omega arith)))))
+token_len-le (b ∷ bs) = grind (arith, prefix_len-le-length, begins_some)
 
 min_is : (m n : ℕ) → m ≤ n → min m n ≡ m
 min_is m n h = omega arith

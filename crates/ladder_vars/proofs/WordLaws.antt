@@ -22,31 +22,16 @@ use Rattle.ladder_times.proofs.TimeLaws.{time_reads, time_takes}
 -- ---- numbers
 
 number_reads : (word : List ℕ) (n : ℕ) → IsNumber word n → short_number word ≡ Some n
-number_reads word n h = rw (le-leb 1 (length word) h.0, le-leb (length word) 5 h.1, h.2) (ap Some (sym h.3))
+number_reads word n h = grind (arith, nat_tests)
 
 number_takes : (word : List ℕ) (n : ℕ) → short_number word ≡ Some n → IsNumber word n
-number_takes word n h =
-    elim (chosen (nat_le 1 (length word) && (nat_le (length word) 5 && list_all is_ascii_digit word)) _ _ _ h) [
-      | inl fits ↦
-          let a = and_parts (nat_le 1 (length word)) _ fits.0 in
-          let b = and_parts (nat_le (length word) 5) _ a.1 in
-          let value : number_of word ≡ n = cc in
-          (leb-true 1 (length word) a.0, leb-true (length word) 5 b.0, b.1, sym value)
-      | inr other ↦ absurd cc
-    ]
+number_takes word n h = grind (arith, nat_tests)
 
 count_reads : (word : List ℕ) (n : ℕ) → IsValue parameter.Count word n → count_of word ≡ Some n
-count_reads word n h = rw (number_reads word n h.0, le-leb n 32767 h.1) refl
+count_reads word n h = grind (arith, nat_tests, number_reads)
 
 count_takes : (word : List ℕ) (n : ℕ) → count_of word ≡ Some n → IsValue parameter.Count word n
-count_takes word n h =
-    let m = bind_some (short_number word) _ n h in
-    elim (chosen (nat_le m.0 32767) _ _ _ m.2) [
-      | inl fits ↦
-          let same : m.0 ≡ n = cc in
-          (number_takes word n (m.1 ∙ ap Some same), subst (λ k. k ≤ 32767) same (leb-true m.0 32767 fits.0))
-      | inr other ↦ absurd cc
-    ]
+count_takes word n h = grind (arith, nat_tests, number_takes)
 
 -- ---- addresses
 
@@ -54,55 +39,37 @@ capital_x : (b : ℕ) → to_ascii_lowercase b ≡ 120 → to_ascii_uppercase b 
 capital_x b h = grind (arith, nat_tests)
 
 digit_no_x : (b : ℕ) → is_ascii_digit b ≡ true → (to_ascii_uppercase b == 88) ≡ false
-digit_no_x b h =
-    let le : b ≤ 57 = leb-true b 57 (and_parts (nat_le 48 b) (nat_le b 57) h).1 in
-    let same : to_ascii_uppercase b ≡ b = grind (arith, nat_tests) in
-    rw same (ne_eqb b 88 (λ e. omega (arith, e)))
+digit_no_x b h = grind (arith, nat_tests)
 
 x_alone : (size : List ℕ) → Is (codes "X") size → (x : ℕ) × (size ≡ x ∷ []) × (to_ascii_uppercase x ≡ 88)
-x_alone [] h = absurd cc
-x_alone (x ∷ []) h = (x, refl, capital_x x (eqb-true (to_ascii_lowercase x) 120 (and_parts (to_ascii_lowercase x == 120) _ h).0))
-x_alone (x ∷ y ∷ more) h = absurd (let two = and_parts (to_ascii_lowercase x == 120) _ h in cc)
+x_alone (x ∷ []) h = (x, refl, grind (arith, nat_tests))
+x_alone other h = grind arith
 
 after_size-size : (size first second : List ℕ) → (size ≡ []) ⊎ Is (codes "X") size → 1 ≤ length first → list_all is_ascii_digit first ≡ true
     → after_size (size ++ (first ++ second)) ≡ first ++ second
-after_size-size size [] second s some digits = absurd (omega arith)
-after_size-size size (d ∷ ds) second (inl none) some digits =
-    let digit = (and_parts (is_ascii_digit d) (list_all is_ascii_digit ds) digits).0 in
-    rw (none, digit_no_x d digit) refl
-after_size-size size (d ∷ ds) second (inr x) some digits =
-    let one = x_alone size x in
-    rw (one.1, one.2) refl
+after_size-size size [] second is_size some digits = absurd (omega arith)
+after_size-size size (d ∷ ds) second (inl none) some digits = rw none (grind (arith, digit_no_x))
+after_size-size size (d ∷ ds) second (inr x) some digits = let one = x_alone size x in rw one.1 (grind arith)
 
 after_size_is : (text : List ℕ) → (size : List ℕ) × (text ≡ size ++ after_size text) × ((size ≡ []) ⊎ Is (codes "X") size)
 after_size_is [] = ([], refl, inl refl)
 after_size_is (b ∷ bs) =
     elim (to_ascii_uppercase b == 88) as (λ t. (to_ascii_uppercase b == 88) ≡ t → (size : List ℕ) × (b ∷ bs ≡ size ++ after_size (b ∷ bs)) × ((size ≡ []) ⊎ Is (codes "X") size)) [
-      | true ↦ λ e.
-          let small : to_ascii_lowercase b ≡ 120 = sym (lowercase-uppercase b) ∙ ap to_ascii_lowercase (eqb-true (to_ascii_uppercase b) 88 e) in
-          (b ∷ [], rw e refl, inr (rw small refl))
-      | false ↦ λ e. ([], rw e refl, inl refl)
+      | true ↦ λ e. (b ∷ [], grind arith, inr (grind (arith, nat_tests)))
+      | false ↦ λ e. ([], grind arith, inl refl)
     ] refl
 
 second_reads : (text : List ℕ) (o : Option ℕ) → IsSecond text o → second_of text ≡ Some o
 second_reads text None h = rw h refl
-second_reads text (Some n) h = rw h.1 (rw (number_reads h.0 n h.2) refl)
+second_reads text (Some n) h = grind (arith, nat_tests, number_reads)
 
 second_takes : (text : List ℕ) (o : Option ℕ) → second_of text ≡ Some o → IsSecond text o
-second_takes [] o h = let e : None ≡ o = cc in subst (λ z. IsSecond [] z) e refl
-second_takes (b ∷ bs) o h =
-    elim (chosen (b == 46) _ _ _ h) [
-      | inl point ↦
-          let m = bind_some (short_number bs) _ o point.1 in
-          let e : Some m.0 ≡ o = cc in
-          let dot : b ≡ 46 = eqb-true b 46 point.0 in
-          subst (λ z. IsSecond (b ∷ bs) z) e (bs, ap (λ x. x ∷ bs) dot, number_takes bs m.0 m.1)
-      | inr other ↦ absurd cc
-    ]
+second_takes [] o h = grind (arith, nat_tests)
+second_takes (b ∷ bs) o h = grind (arith, nat_tests, number_takes)
 
 no_digit : (second : List ℕ) (o : Option ℕ) → IsSecond second o → begins is_ascii_digit second ≡ false
 no_digit second None h = rw h refl
-no_digit second (Some n) h = rw h.1 refl
+no_digit second (Some n) h = grind arith
 
 numbers_read : (first second : List ℕ) (n : ℕ) (o : Option ℕ) → IsNumber first n → IsSecond second o → numbers_of (first ++ second) ≡ Some (n, o)
 unfolding numbers_of
@@ -134,17 +101,12 @@ numbers_take : (text : List ℕ) (n : ℕ) (o : Option ℕ) → numbers_of text 
 unfolding numbers_of
 numbers_take text n o h =
     let k : ℕ = prefix_len is_ascii_digit text in
-    let a = bind_some (short_number (take k text)) _ (n, o) h in
-    let b = bind_some (second_of (drop k text)) _ (n, o) a.2 in
-    let got : ℕ × Option ℕ = (a.0, b.0) in
-    let wanted : ℕ × Option ℕ = (n, o) in
-    let pair : got ≡ wanted = cc in
     record {
       first = take k text;
       second = drop k text;
       parts = sym (take-append-drop k text);
-      is_first = number_takes (take k text) n (a.1 ∙ ap (λ p. Some (p.0)) pair);
-      is_second = second_takes (drop k text) o (b.1 ∙ ap (λ p. Some (p.1)) pair);
+      is_first = number_takes (take k text) n (grind arith);
+      is_second = second_takes (drop k text) o (grind arith);
     }
 
 pub address_takes : (word : List ℕ) (kind : VarKind) (a : Address) → address_of word ≡ Some (kind, a) → IsAddress word kind a
