@@ -1,13 +1,12 @@
 -- The declarations of a text that are read, and those that are still to come.
 use Rattle.std.proofs.Common.{◌≡◌, ℕ, ◌⊎◌, inl, inr, true, List, [], ◌∷◌, ◌++◌, codes, Ok, refl, sym, ap, subst, ◌∙◌, append_assoc}
 use Rattle.std.proofs.lemmas.Bool.{true≢false}
-use Rattle.std.proofs.lemmas.List.{append-nil}
 use Rattle.std.proofs.lemmas.List.Elements.{filter_map-append}
 use Rattle.ladder_vars.specs.declared.decls.Body.{Body}
 use Rattle.ladder_vars.specs.Name.{same_letters, is_name}
 use Rattle.ladder_vars.specs.Decls.{Declared, AreKept}
 use Rattle.ladder_vars.specs.Text.{AreTokens}
-use Rattle.ladder_vars.specs.Grammar.{Is, Decl, IsBody, AreDecls, declared_var, declared_instance, declared_by, IsHead, HasDecls}
+use Rattle.ladder_vars.specs.Grammar.{Is, Decl, AreDecls, declared_var, declared_instance, declared_by, IsHead, HasDecls}
 use Rattle.ladder_vars.specs.Rules.{DeclDue}
 use Rattle.ladder_vars.specs.ReadText.{token_at}
 use Rattle.ladder_vars.specs.ReadDecls.{expect, with_decl}

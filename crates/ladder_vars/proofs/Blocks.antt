@@ -1,10 +1,6 @@
 -- A block as an automaton: which tokens can follow, as the grammar says, and where a fault shows.
-use Rattle.std.proofs.Common.{◌≡◌, ◌≢◌, inl, inr, ℕ, Bool, true, false, cond, if◌then◌else◌, List, [], ◌∷◌, ◌++◌, length, codes, Option, Some, None, refl, sym, ap, subst, ◌∙◌, append_assoc, nat_lt, nat_le, not, arith, zero, suc, ◌<◌, Err}
-use Rattle.std.specs.Char.{to_ascii_lowercase}
-use Rattle.std.specs.List.{list_any}
-use Rattle.std.specs.Str.{str_to_ascii_lowercase}
+use Rattle.std.proofs.Common.{◌≡◌, inl, inr, ℕ, Bool, true, false, if◌then◌else◌, List, [], ◌∷◌, ◌++◌, length, codes, Option, Some, None, refl, sym, ap, subst, ◌∙◌, append_assoc, arith, zero, suc, ◌<◌, Err}
 use Rattle.std.proofs.lemmas.Bool.Decides.{nat_tests}
-use Rattle.std.proofs.lemmas.Bool.{ltb-false, and_parts, not-true}
 use Rattle.ladder_vars.specs.declared.fault.VarRule.{VarRule}
 use Rattle.ladder_vars.specs.declared.fault.VarRule.TheVariants as rule
 use Rattle.ladder_vars.specs.declared.decls.VarKind.TheVariants as var_kind
@@ -17,15 +13,13 @@ use Rattle.ladder_vars.specs.declared.declaration.Due.{Due}
 use Rattle.ladder_vars.specs.declared.declaration.Due.TheVariants as due
 use Rattle.ladder_vars.specs.declared.declaration.Next.{Next}
 use Rattle.ladder_vars.specs.declared.declaration.Next.TheVariants as then
-use Rattle.ladder_vars.specs.Name.{same_letters, keywords, is_name, has_name_form}
-use Rattle.ladder_vars.specs.Kind.{traits_of, parameter_word}
-use Rattle.ladder_vars.specs.Grammar.{Is, Decl, IsBody, AreDecls, IsHead, IsBlock, CanFollow, bit_word}
+use Rattle.ladder_vars.specs.Name.{same_letters, is_name, has_name_form}
+use Rattle.ladder_vars.specs.Kind.{parameter_word}
+use Rattle.ladder_vars.specs.Grammar.{Is, Decl, IsBody, AreDecls, IsHead, IsBlock, CanFollow}
 use Rattle.ladder_times.specs.ReadTimes.{◌>>=◌, part_at, total_from, total_of, time_of}
-use Rattle.ladder_vars.specs.ReadWords.{numbers_of, address_of, value_of, block_of}
+use Rattle.ladder_vars.specs.ReadWords.{numbers_of}
 use Rattle.ladder_vars.specs.ReadSteps.{on, step, misfit}
-use Rattle.ladder_times.proofs.Steps.{chosen}
-use Rattle.ladder_times.proofs.PartLaws.{same_bytes}
-use Rattle.ladder_vars.proofs.Steps.{or_false, bind_err}
+use Rattle.ladder_vars.proofs.Steps.{bind_err}
 use Rattle.ladder_vars.proofs.Walks.{Walks, GoesOn, Each, when, either, found, takes, walks, body_of}
 use Rattle.std.proofs.lemmas.List.{append-nil}
 use Rattle.ladder_vars.specs.declared.fault.Fault.{Fault}
@@ -67,8 +61,7 @@ run s (t ∷ ts) = next s t >>= λ n. run n ts
 
 pub run-append : (ts us : List (List ℕ)) (s : State) → run s (ts ++ us) ≡ run s ts >>= λ n. run n us
 run-append [] us s = refl
-run-append (t ∷ ts) us s =
-    elim (next s t) as (λ o. (o >>= λ n. run n (ts ++ us)) ≡ (o >>= λ n. run n ts) >>= λ n. run n us) [ None ↦ refl | Some n ↦ run-append ts us n ]
+run-append (t ∷ ts) us s = grind (arith, run-append ts us)
 
 -- ---- one declaration more
 
@@ -98,13 +91,10 @@ body_runs (t ∷ ts) us d b w =
 
 -- a name is no keyword
 pub no_keyword : (name : List ℕ) → is_name name ≡ true → same_letters name (codes "END_VAR") ≡ false
-no_keyword name h =
-    let parts = and_parts (nat_le (length name) 11) (not (list_any (same_letters name) keywords)) (and_parts (has_name_form name) _ h).1 in
-    (or_false _ _ (or_false _ _ (not-true (list_any (same_letters name) keywords) parts.1)).1).0
+no_keyword name h = grind (arith, nat_tests)
 
 pub name_next : (name : List ℕ) → is_name name ≡ true → next NeedName name ≡ Some (In due.Place)
-name_next name named =
-    ap (λ b. if same_letters name (codes "END_VAR") then Some Ended else (if b then Some (In due.Place) else None)) named ∙ rw (no_keyword name named) refl
+name_next name named = grind (arith, no_keyword)
 
 decls_run : (ds : List Decl) (ts us : List (List ℕ)) → AreDecls ts ds → run NeedName (ts ++ us) ≡ run NeedName us
 decls_run [] ts us h = rw h refl
@@ -192,16 +182,9 @@ follows other t ts b = search (when, either, found)
 pub goes_behind : (d n : Due) (t : List ℕ) (ts : List (List ℕ)) → Behind (In d) ts → step d t ≡ Some (then.Goes n) → Behind (In n) (ts ++ t ∷ [])
 goes_behind d n t ts b is = subst (Each (Follows (ts ++ t ∷ []))) is (follows d t ts b)
 
-one_byte : (b : ℕ) → to_ascii_lowercase b ≡ 40 → b ≡ 40
-one_byte b h = grind (arith, nat_tests)
-
 opening_is : (t : List ℕ) → Is (codes "(") t → t ≡ codes "("
-opening_is [] h = absurd cc
-opening_is (b ∷ []) h =
-    let same : str_to_ascii_lowercase (b ∷ []) ≡ codes "(" = same_bytes (str_to_ascii_lowercase (b ∷ [])) (codes "(") h in
-    let first : to_ascii_lowercase b ≡ 40 = cc in
-    ap (λ z. z ∷ []) (one_byte b first)
-opening_is (b ∷ c ∷ bs) h = absurd (let e = same_bytes (str_to_ascii_lowercase (b ∷ c ∷ bs)) (codes "(") h in cc)
+opening_is (b ∷ []) h = grind (arith, nat_tests)
+opening_is other h = grind arith
 
 -- only one state takes it
 opens : (s n : State) → next s (codes "(") ≡ Some n → (kind : BlockKind) × (form : Parameter) × (n ≡ In (due.Word kind form))
@@ -220,8 +203,7 @@ step_of None ts last h = absurd cc
 
 -- the last two
 goes_to : (b : Bool) (d : Due) (s : State) → (on b (then.Goes d) >>= λ n. Some (state_of n)) ≡ Some s → In d ≡ s
-goes_to true d s h = cc
-goes_to false d s h = absurd cc
+goes_to b d s h = grind arith
 
 same_state : (s n : State) → run s [] ≡ Some n → s ≡ n
 same_state s n h = cc
@@ -273,15 +255,14 @@ no_name_due : (ts : List (List ℕ)) (t : List ℕ) (s : State) → run NeedVar 
 no_name_due ts t s leads breaks (ds, head, form) =
     let runs : run NeedVar ts ≡ Some NeedName = ap (run NeedVar) (sym (append-nil ts)) ∙ head_runs ts [] ds head in
     let same : s ≡ NeedName = cc in
-    let name : rule.BadName ≡ rule.BadToken = ap (λ b. if b then rule.BadName else rule.BadToken) (sym form) ∙ subst (λ s. broken_by s t ≡ rule.BadToken) same breaks in
-    cc
+    let broken : broken_by NeedName t ≡ rule.BadToken = subst (λ s. broken_by s t ≡ rule.BadToken) same breaks in
+    grind arith
 
 no_value_due : (ts : List (List ℕ)) (t : List ℕ) (s : State) → run NeedVar ts ≡ Some s → broken_by s t ≡ rule.BadToken → IsForValue ts t → ⊥
 no_value_due ts t s leads breaks (before, opening, word, assign, parts, is_opening, is_word) =
-    let value = value_due before opening word assign s is_opening (ap (run NeedVar) (sym parts) ∙ leads) in
-    let preset : rule.BadPreset ≡ rule.BadToken
-    = ap (λ b. if b then rule.BadPreset else rule.BadToken) (sym is_word) ∙ subst (λ s. broken_by s t ≡ rule.BadToken) value.2 breaks in
-    cc
+    let (kind, form, is) = value_due before opening word assign s is_opening (ap (run NeedVar) (sym parts) ∙ leads) in
+    let broken : broken_by (In (due.Value kind form)) t ≡ rule.BadToken = subst (λ s. broken_by s t ≡ rule.BadToken) is breaks in
+    grind arith
 
 -- a token is here that can't follow
 pub token_breaks : (text here after t : List ℕ) (ts : List (List ℕ)) (s : State) → Came text ts s here → AreTokens (t ∷ []) here after → next s t ≡ None

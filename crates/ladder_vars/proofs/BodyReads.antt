@@ -1,17 +1,15 @@
 -- What follows a name is read where the grammar has it, and only there.
-use Rattle.std.proofs.Common.{◌≡◌, ℕ, zero, suc, ◌<◌, inl, inr, List, [], ◌∷◌, ◌++◌, length, Some, None, Result, Ok, refl, sym, ap, subst, ◌∙◌, arith}
+use Rattle.std.proofs.Common.{◌≡◌, ℕ, zero, suc, ◌<◌, List, [], ◌∷◌, ◌++◌, length, Some, None, Result, Ok, refl, sym, ap, subst, ◌∙◌, arith}
 use Rattle.ladder_vars.specs.declared.fault.Fault.{Fault}
 use Rattle.ladder_vars.specs.declared.decls.Body.{Body}
 use Rattle.ladder_vars.specs.declared.declaration.Due.{Due}
 use Rattle.ladder_vars.specs.declared.declaration.Due.TheVariants as due
 use Rattle.ladder_vars.specs.declared.declaration.Next.TheVariants as then
-use Rattle.ladder_vars.specs.Name.{same_letters}
 use Rattle.ladder_vars.specs.Text.{AreTokens}
 use Rattle.ladder_vars.specs.Grammar.{Is, IsBody}
 use Rattle.ladder_vars.specs.ReadText.{token_at}
 use Rattle.ladder_vars.specs.ReadSteps.{step, misfit}
 use Rattle.ladder_vars.specs.ReadDecls.{at, expect, turn, body_from, body_at, PresetFits}
-use Rattle.ladder_times.proofs.Steps.{chosen}
 use Rattle.ladder_vars.proofs.Steps.{bind_ok}
 use Rattle.ladder_vars.proofs.TextReads.{first_token}
 use Rattle.ladder_vars.proofs.TextTakes.{token_takes, AreTokens-append}
@@ -31,20 +29,14 @@ halves {A} {B} a x b y e =
 pub expect_reads : (word w : List ℕ) (ts : List (List ℕ)) (text rest : List ℕ) → Is word w → AreTokens (w ∷ ts) text rest
     → (after : List ℕ) × (expect word text ≡ Ok after) × AreTokens ts after rest × (length after < length text)
 unfolding expect
-expect_reads word w ts text rest same h =
-    let first = first_token w ts text rest h in
-    (first.0, rw (first.1, same) refl, first.2, first.3)
+expect_reads word w ts text rest same h = let first = first_token w ts text rest h in (first.0, grind arith, first.2, first.3)
 
 pub expect_takes : (word text rest : List ℕ) → expect word text ≡ Ok rest → (w : List ℕ) × Is word w × AreTokens (w ∷ []) text rest
 unfolding expect
 expect_takes word text rest h =
     let found = bind_ok (token_at text) _ rest h in
-    elim (chosen (same_letters found.0.0 word) _ _ _ found.2) [
-      | inl same ↦
-          let after : found.0.1 ≡ rest = cc in
-          (found.0.0, same.0, subst (λ r. AreTokens (found.0.0 ∷ []) text r) after (token_takes text found.0.0 found.0.1 found.1))
-      | inr other ↦ absurd cc
-    ]
+    let after : found.0.1 ≡ rest = grind arith in
+    (found.0.0, grind arith, subst (λ r. AreTokens (found.0.0 ∷ []) text r) after (token_takes text found.0.0 found.0.1 found.1))
 
 -- ---- a body
 

@@ -1,7 +1,7 @@
 -- How a reading of declarations ends: with END_VAR, or at a fault, whose rule is broken there.
 use Rattle.std.proofs.Common.{◌≡◌, ℕ, ◌-◌, ◌≤◌, inl, inr, true, false, if◌then◌else◌, List, [], ◌∷◌, ◌++◌, length, drop, codes, Ok, Err, None, Some, refl, sym, ap, subst, ◌∙◌, arith}
 use Rattle.std.proofs.lemmas.Bool.{true≢false}
-use Rattle.std.proofs.lemmas.List.{append-nil, length-append}
+use Rattle.std.proofs.lemmas.List.{length-append}
 use Rattle.std.proofs.Math.Seq.{drop-append_seam}
 use Rattle.ladder_vars.specs.declared.fault.Fault.{Fault}
 use Rattle.ladder_vars.specs.declared.fault.ReadFault.{ReadFault}
@@ -119,7 +119,7 @@ pub no_body : (text : List ℕ) (ds : List Decl) (here w after : List ℕ) (f : 
 unfolding body_at
 no_body text ds here w after f r h named none = (
   body_breaks _ text after (r.head ++ w ∷ []) stage.Place f (omega arith)
-  (within_first text here w after r.head ds r.read r.is_head (token_takes here w after h.word) named) none,
+      (within_first text here w after r.head ds r.read r.is_head (token_takes here w after h.word) named) none,
   λ whole end has. let comes = comes_here text ds here w after whole end r h has in cc,
 )
 

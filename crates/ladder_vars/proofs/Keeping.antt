@@ -43,8 +43,7 @@ same_letters-flips a b = nat_list_eq_equiv.symm (str_to_ascii_lowercase a) (str_
 same_number-flips : (a b : Option ℕ) → option_eq (λ m n. m == n) a b ≡ option_eq (λ m n. m == n) b a
 same_number-flips (Some m) (Some n) = nat_eq_equiv.symm m n
 same_number-flips None None = refl
-same_number-flips (Some m) None = refl
-same_number-flips None (Some n) = refl
+same_number-flips a b = refl
 
 same_address-flips : (a b : Address) → same_address a b ≡ same_address b a
 same_address-flips a b = rw (nat_eq_equiv.symm a.letter b.letter, nat_eq_equiv.symm a.first b.first, same_number-flips a.second b.second) refl

@@ -1,5 +1,5 @@
 -- The keywords of a declaration: what a word is that is one of them.
-use Rattle.std.proofs.Common.{◌≡◌, inl, inr, ℕ, Bool, true, false, List, [], ◌∷◌, codes, Some, refl, subst, ◌∙◌, find}
+use Rattle.std.proofs.Common.{◌≡◌, ℕ, Bool, true, false, List, [], ◌∷◌, codes, Some, refl, ◌∙◌, find, arith}
 use Rattle.std.specs.Str.{str_to_ascii_lowercase}
 use Rattle.std.proofs.lemmas.Cmp.{nat_list_eq_equiv}
 use Rattle.ladder_vars.specs.declared.kind.BlockKind.{BlockKind}
@@ -9,7 +9,6 @@ use Rattle.ladder_vars.specs.Kind.{traits_of}
 use Rattle.ladder_vars.specs.Grammar.{Is}
 use Rattle.ladder_vars.specs.ReadWords.{all_kinds, block_of}
 use Rattle.ladder_times.proofs.PartLaws.{same_bytes}
-use Rattle.ladder_times.proofs.Steps.{chosen}
 
 -- a token that is one word is another where the words are
 pub alike : (word other token : List ℕ) → Is word token → same_letters token other ≡ same_letters word other
@@ -25,8 +24,7 @@ block_reads w kind h = block_lower w kind (same_bytes (str_to_ascii_lowercase w)
 
 find_passes : {X : Type 0} (p : X → Bool) (xs : List X) (x : X) → find p xs ≡ Some x → p x ≡ true
 find_passes p [] x h = absurd cc
-find_passes p (y ∷ ys) x h =
-    elim (chosen (p y) _ _ _ h) [ inl is ↦ let same : y ≡ x = cc in subst (λ z. p z ≡ true) same is.0 | inr other ↦ find_passes p ys x other.1 ]
+find_passes p (y ∷ ys) x h = grind (arith, find_passes p ys)
 
 pub block_takes : (w : List ℕ) (kind : BlockKind) → block_of w ≡ Some kind → Is (traits_of kind).word w
 block_takes w kind h = find_passes (λ k. same_letters w (traits_of k).word) all_kinds kind h

@@ -1,5 +1,6 @@
 -- How large a number of few digits is.
-use Rattle.std.proofs.Common.{◌≡◌, ℕ, ◌+◌, ◌-◌, ◌*◌, ◌≤◌, zero, suc, true, nat_le, List, [], ◌∷◌, length, replicate, arith}
+use Rattle.std.proofs.Common.{◌≡◌, ℕ, ◌+◌, ◌-◌, ◌*◌, ◌≤◌, suc, true, nat_le, List, [], ◌∷◌, length, replicate, arith}
+use Rattle.std.proofs.lemmas.Bool.Decides.{nat_tests}
 use Rattle.std.proofs.lemmas.Bool.{leb-true, and_parts}
 use Rattle.std.specs.List.{list_all}
 use Rattle.std.specs.Char.{is_ascii_digit}
@@ -10,25 +11,15 @@ digit-le : (b : ℕ) → is_ascii_digit b ≡ true → b ≤ 57
 digit-le b h = leb-true b 57 (and_parts (nat_le 48 b) (nat_le b 57) h).1
 
 first_digit : (b : ℕ) (bs : List ℕ) → list_all is_ascii_digit (b ∷ bs) ≡ true → (b ≤ 57) × (list_all is_ascii_digit bs ≡ true)
-first_digit b bs h =
-    let parts = and_parts (is_ascii_digit b) (list_all is_ascii_digit bs) h in
-    (digit-le b parts.0, parts.1)
+first_digit b bs h = grind (arith, nat_tests)
 
 value_from-le : (n m : ℕ) (bs : List ℕ) → list_all is_ascii_digit bs ≡ true → n ≤ m → value_from n bs ≤ value_from m (replicate (length bs) 57)
 value_from-le n m [] h le = le
-value_from-le n m (b ∷ bs) h le =
-    let first = first_digit b bs h in
-    let more : n * 10 + (b - 48) ≤ m * 10 + 9 = omega (arith, first.0) in
-    value_from-le (n * 10 + (b - 48)) (m * 10 + 9) bs first.1 more
+value_from-le n m (b ∷ bs) h le = grind (arith, nat_tests, value_from-le (n * 10 + (b - 48)) (m * 10 + 9) bs)
 
 nines-le : (k : ℕ) → k ≤ 5 → value_from 0 (replicate k 57) ≤ 99999
-nines-le zero h = omega arith
-nines-le (suc zero) h = omega arith
-nines-le (suc (suc zero)) h = omega arith
-nines-le (suc (suc (suc zero))) h = omega arith
-nines-le (suc (suc (suc (suc zero)))) h = omega arith
-nines-le (suc (suc (suc (suc (suc zero))))) h = omega arith
 nines-le (suc (suc (suc (suc (suc (suc k)))))) h = absurd (omega arith)
+nines-le k h = omega arith
 
 -- five digits spell at most 99999
 pub number_of_short : (word : List ℕ) → length word ≤ 5 → list_all is_ascii_digit word ≡ true → number_of word ≤ 99999

@@ -1,13 +1,12 @@
 -- Every token that stands in a text is found: the first token of a reading is the one that `token_at` gives.
-use Rattle.std.proofs.Common.{◌≡◌, ℕ, ◌<◌, ◌≤◌, ◌⊎◌, inl, inr, true, false, not, cond, ◌==◌, ◌&&◌, List, [], ◌∷◌, ◌++◌, length, codes, Ok, refl, sym, ap, subst, ◌∙◌, arith, append_assoc}
+use Rattle.std.proofs.Common.{◌≡◌, ℕ, ◌<◌, ◌≤◌, ◌⊎◌, true, false, not, ◌==◌, List, [], ◌∷◌, ◌++◌, length, codes, Ok, refl, sym, ap, subst, ◌∙◌, arith, append_assoc}
 use Rattle.std.specs.List.{list_all}
-use Rattle.std.proofs.lemmas.Bool.{eqb-true, ne_eqb, and_parts, not-true}
+use Rattle.std.proofs.lemmas.Bool.Decides.{nat_tests}
 use Rattle.std.proofs.lemmas.List.{length-append}
 use Rattle.std.proofs.Math.Seq.{take-append_seam, drop-append_seam}
 use Rattle.ladder_vars.specs.declared.text.Within.TheVariants as state
 use Rattle.ladder_vars.specs.Text.{begins_with, token_len, closes, Gap, Nothing, Blank, Comment, LineComment, AreTokens}
 use Rattle.ladder_vars.specs.ReadText.{skip_from, token_at}
-use Rattle.ladder_vars.proofs.Steps.{or_false, and_false, and_true_left}
 
 pub begins_with-append : (byte other : ℕ) (inside rest : List ℕ) → (other == byte) ≡ false → begins_with byte (inside ++ (other ∷ rest)) ≡ begins_with byte inside
 begins_with-append byte other [] rest h = h
@@ -15,48 +14,20 @@ begins_with-append byte other (b ∷ bs) rest h = refl
 
 block_skipped : (inside after : List ℕ) → closes inside ≡ false → skip_from state.Comment (inside ++ (42 ∷ 41 ∷ after)) ≡ skip_from state.Blanks after
 block_skipped [] after h = refl
-block_skipped (b ∷ bs) after h =
-    let parts : ((b == 42 && begins_with 41 bs) ≡ false) × (closes bs ≡ false) = or_false (b == 42 && begins_with 41 bs) (closes bs) h in
-    let front : begins_with 41 (bs ++ (42 ∷ 41 ∷ after)) ≡ begins_with 41 bs = begins_with-append 41 42 bs (41 ∷ after) refl in
-    let open_yet : (b == 42 && begins_with 41 (bs ++ (42 ∷ 41 ∷ after))) ≡ false = ap (λ t. b == 42 && t) front ∙ parts.0 in
-    rw open_yet (block_skipped bs after parts.1)
+block_skipped (b ∷ bs) after h = grind (arith, begins_with-append, block_skipped bs after)
 
 line_skipped : (inside after : List ℕ) → list_all (λ b. not (b == 10)) inside ≡ true → (after ≡ []) ⊎ (begins_with 10 after ≡ true) → skip_from state.LineComment (inside ++ after) ≡ skip_from state.Blanks after
-line_skipped [] [] h end = refl
-line_skipped [] (b ∷ bs) h (inl e) = absurd cc
-line_skipped [] (b ∷ bs) h (inr e) = let lf : b ≡ 10 = eqb-true b 10 e in rw lf refl
-line_skipped (b ∷ bs) after h end =
-    let parts = and_parts (not (b == 10)) (list_all (λ x. not (x == 10)) bs) h in
-    let other : (b == 10) ≡ false = not-true (b == 10) parts.0 in
-    rw other (line_skipped bs after parts.1 end)
+line_skipped [] after h end = grind (arith, nat_tests)
+line_skipped (b ∷ bs) after h end = grind (arith, line_skipped bs after)
 
 -- where a token stands there is nothing to skip
 token_stands : (text : List ℕ) → 0 < token_len text → skip_from state.Blanks text ≡ Ok text
-token_stands [] h = absurd (omega arith)
-token_stands (b ∷ bs) h =
-    let dull : (byte : ℕ) → token_len (byte ∷ bs) ≡ 0 → (b == byte) ≡ false
-    = λ byte none. elim (b == byte) as (λ t. (b == byte) ≡ t → t ≡ false) [
-      | true ↦ λ same. let e : b ≡ byte = eqb-true b byte same in absurd (let z : token_len (b ∷ bs) ≡ 0 = rw e none in omega (arith, z))
-      | false ↦ λ _. refl
-    ] refl in
-    let space : (b == 32) ≡ false = dull 32 refl in
-    let tab : (b == 9) ≡ false = dull 9 refl in
-    let lf : (b == 10) ≡ false = dull 10 refl in
-    let cr : (b == 13) ≡ false = dull 13 refl in
-    let slash : (b == 47) ≡ false = dull 47 refl in
-    let open_comment : (b == 40 && begins_with 42 bs) ≡ false
-    = elim (begins_with 42 bs) as (λ t. begins_with 42 bs ≡ t → (b == 40 && t) ≡ false) [
-      | true ↦ λ star. and_true_left (b == 40) (dull 40 (ap (λ t. cond t 0 1) star))
-      | false ↦ λ _. and_false (b == 40)
-    ] refl in
-    rw (space, tab, lf, cr, slash, open_comment) refl
+token_stands [] h = grind arith
+token_stands (b ∷ bs) h = grind (arith, nat_tests)
 
 pub token_found : (u after : List ℕ) → 0 < length u → token_len (u ++ after) ≡ length u → token_at (u ++ after) ≡ Ok (u, after)
 unfolding token_at
-token_found u after some len =
-    let stands : skip_from state.Blanks (u ++ after) ≡ Ok (u ++ after) = token_stands (u ++ after) (omega (arith, len)) in
-    let not_none : (length u == 0) ≡ false = ne_eqb (length u) 0 (λ e. omega (arith, e)) in
-    rw (stands, len, not_none, take-append_seam u after, drop-append_seam u after) refl
+token_found u after some len = grind (arith, nat_tests, token_stands, take-append_seam, drop-append_seam)
 
 -- what is skipped makes no difference
 gap_skipped : {text rest : List ℕ} → Gap text rest → skip_from state.Blanks text ≡ skip_from state.Blanks rest

@@ -1,15 +1,14 @@
 -- What is found stands there: a token that `token_at` gives is the first of a reading, behind a gap.
-use Rattle.std.proofs.Common.{◌≡◌, ◌≢◌, ℕ, ◌≤◌, min, ◌⊎◌, inl, inr, true, false, not, ◌==◌, ◌||◌, ◌&&◌, List, [], ◌∷◌, ◌++◌, length, take, drop, Result, Ok, Err, refl, sym, ap, subst, ◌∙◌, arith}
+use Rattle.std.proofs.Common.{◌≡◌, ◌≢◌, ℕ, ◌≤◌, min, ◌⊎◌, inl, inr, true, false, not, ◌==◌, ◌&&◌, List, [], ◌∷◌, ◌++◌, length, take, drop, Result, Ok, Err, refl, sym, ap, subst, ◌∙◌, arith}
 use Rattle.std.specs.List.{list_all}
-use Rattle.std.specs.Char.{is_ascii_alphanumeric}
 use Rattle.std.proofs.lemmas.Bool.Decides.{nat_tests}
-use Rattle.std.proofs.lemmas.Bool.{eqb-true, eqb-false, and_parts, false≢true, cond_both}
+use Rattle.std.proofs.lemmas.Bool.{eqb-true, eqb-false, and_parts, cond_both}
 use Rattle.std.proofs.lemmas.List.{take-append-drop, length-take}
 use Rattle.std.proofs.lemmas.List.Sums.{prefix_len-le-length}
 use Rattle.ladder_vars.specs.declared.fault.Fault.{Fault}
 use Rattle.ladder_vars.specs.declared.text.Within.{Within}
 use Rattle.ladder_vars.specs.declared.text.Within.TheVariants as state
-use Rattle.ladder_vars.specs.Text.{begins_with, is_blank, is_word_byte, token_len, closes, Gap, Nothing, Blank, Comment, LineComment, AreTokens, begins_comment, IsUnfinished}
+use Rattle.ladder_vars.specs.Text.{begins_with, is_blank, token_len, closes, Gap, Nothing, Blank, Comment, LineComment, AreTokens, begins_comment, IsUnfinished}
 use Rattle.ladder_vars.specs.ReadText.{skip_from, unfinished, token_at}
 use Rattle.ladder_times.proofs.Steps.{chosen}
 use Rattle.ladder_vars.proofs.Steps.{bind_ok}

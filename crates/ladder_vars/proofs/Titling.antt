@@ -116,8 +116,7 @@ ends text whole now here vars instances t last =
     elim (peek whole t.end t.ds here t.ahead) [
       | inl over ↦
           let same : now ≡ t.done = t.now_is ∙ ap (joined t.done) over.none ∙ joined-nil t.done in
-          subst (AreTitled text) (sym same)
-          (record { vars = t.var_titles; instances = t.instance_titles; apart = subst (λ d. IsDistinct same_letters (titles_of d)) same t.apart })
+          rw same (record { vars = t.var_titles; instances = t.instance_titles; apart = rw same at t.apart })
       | inr (name, behind, b, after, comes) ↦ absurd (last name behind b after comes.next)
     ]
 
@@ -170,10 +169,8 @@ retitled done name title (body.Instance kind preset) later then sets =
 
 counted : (done : Declared) (name title : List ℕ) (b : Body) (before past : Passed) → before.vars ≡ length done.vars → before.instances ≡ length done.instances → IsPast before b past
     → (past.vars ≡ length (with_title done name title b).vars) × (past.instances ≡ length (with_title done name title b).instances)
-counted done name title (body.Var kind address initial) before past vars instances passed =
-    (omega (arith, passed.0, vars, length-append {A = Var}), passed.1 ∙ instances)
-counted done name title (body.Instance kind preset) before past vars instances passed =
-    (passed.0 ∙ vars, omega (arith, passed.1, instances, length-append {A = Instance}))
+counted done name title (body.Var kind address initial) before past vars instances passed = grind (arith, length-append {A = Var})
+counted done name title (body.Instance kind preset) before past vars instances passed = grind (arith, length-append {A = Instance})
 
 titled : (text : List ℕ) (done : Declared) (name title : List ℕ) (b : Body) → All (λ v. HasTitle text v.name v.title) done.vars → All (λ i. HasTitle text i.name i.title) done.instances
     → HasTitle text name title
@@ -216,9 +213,7 @@ without_alias text whole now here before past t name behind b after next none pa
 
 not_titled : {A : Type 0} (p : List ℕ → Bool) (name title : A → List ℕ) (xs : List A) → list_any (λ x. p (name x) || p (title x)) xs ≡ false → list_any p (map title xs) ≡ false
 not_titled p name title [] h = refl
-not_titled p name title (x ∷ xs) h =
-    let parts = or_parts (p (name x) || p (title x)) (list_any (λ x. p (name x) || p (title x)) xs) h in
-    or_from (p (title x)) _ (or_parts (p (name x)) (p (title x)) parts.0).1 (not_titled p name title xs parts.1)
+not_titled p name title (x ∷ xs) h = grind (arith, not_titled p name title xs)
 
 -- with an alias that nothing is called by
 pub with_alias : (text : List ℕ) (whole now then : Declared) (here : List ℕ) (before past : Passed) → Takes text whole now here before.vars before.instances
