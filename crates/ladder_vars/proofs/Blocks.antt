@@ -19,7 +19,7 @@ use Rattle.ladder_vars.specs.Grammar.{Is, Decl, IsBody, AreDecls, IsHead, IsBloc
 use Rattle.ladder_times.specs.ReadTimes.{◌>>=◌, part_at, total_from, total_of, time_of}
 use Rattle.ladder_vars.specs.ReadWords.{numbers_of}
 use Rattle.ladder_vars.specs.ReadSteps.{on, step, misfit}
-use Rattle.ladder_vars.proofs.Steps.{bind_err}
+use Rattle.ladder_vars.proofs.Tokens.{bind_err, first_token, token_takes, AreTokens-append, no_token-found}
 use Rattle.ladder_vars.proofs.Walks.{Walks, GoesOn, Each, when, either, found, takes, walks, body_of}
 use Rattle.std.proofs.lemmas.List.{append-nil}
 use Rattle.ladder_vars.specs.declared.fault.Fault.{Fault}
@@ -27,9 +27,6 @@ use Rattle.ladder_vars.specs.Text.{begins_word, AreTokens}
 use Rattle.ladder_vars.specs.Rules.{TokenDue, IsForName, IsForValue, Breaks}
 use Rattle.ladder_vars.specs.ReadText.{token_at}
 use Rattle.ladder_vars.specs.ReadDecls.{at, turn, body_from}
-use Rattle.ladder_vars.proofs.TextReads.{first_token}
-use Rattle.ladder_vars.proofs.TextTakes.{token_takes, AreTokens-append}
-use Rattle.ladder_vars.proofs.TextFaults.{no_token-found}
 
 -- what is due in a block
 pub data State : Type 0 where

@@ -1,19 +1,13 @@
-mod Steps
-mod TextReads
-mod TextTakes
-mod TextFaults
+mod Tokens
 pub mod Numbers
 mod Keeping
 mod Leading
 mod Lists
 mod TitleLaws
-mod BodyLoop
 mod WordLaws
-mod Keywords
 mod Walks
 mod BodyReads
 mod Blocks
-mod Ahead
 mod DeclReads
 mod Retitling
 mod Titling

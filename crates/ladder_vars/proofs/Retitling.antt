@@ -1,6 +1,6 @@
 -- Declarations of which one has another title: names, addresses and limits are the same.
-use Rattle.std.proofs.Common.{◌≡◌, ℕ, zero, suc, ◌<◌, ◌≤◌, List, [], ◌∷◌, length, map, Option, slice_set, get_or, refl, ap, ◌∙◌, Bool}
-use Rattle.std.specs.List.{filter_map, prefix_len}
+use Rattle.std.proofs.Common.{◌≡◌, ℕ, zero, suc, ◌<◌, ◌≤◌, List, [], ◌∷◌, length, map, Option, slice_set, get_or, refl, ap, ◌∙◌, arith}
+use Rattle.std.specs.List.{filter_map}
 use Rattle.std.proofs.lemmas.List.{length-set}
 use Rattle.std.proofs.lemmas.List.Elements.{All-set}
 use Rattle.ladder_vars.specs.declared.decls.Var.{Var}
@@ -10,18 +10,13 @@ use Rattle.ladder_vars.specs.Decls.{Declared, AreInRange, addresses_of}
 
 pub map-set_same : {A B : Type 0} (f : A → B) (xs : List A) (n : ℕ) (y d : A) → f y ≡ f (get_or xs n d) → map f (slice_set xs n y) ≡ map f xs
 map-set_same f [] n y d e = refl
-map-set_same f (x ∷ xs) zero y d e = ap (λ z. z ∷ map f xs) e
-map-set_same f (x ∷ xs) (suc n) y d e = ap (λ zs. f x ∷ zs) (map-set_same f xs n y d e)
+map-set_same f (x ∷ xs) zero y d e = grind arith
+map-set_same f (x ∷ xs) (suc n) y d e = grind (arith, map-set_same f xs n y d)
 
 filter_map-set : {A B : Type 0} (f : A → Option B) (xs : List A) (n : ℕ) (y d : A) → f y ≡ f (get_or xs n d) → filter_map f (slice_set xs n y) ≡ filter_map f xs
 filter_map-set f [] n y d e = refl
 filter_map-set f (x ∷ xs) zero y d e = rw e refl
 filter_map-set f (x ∷ xs) (suc n) y d e = rw (filter_map-set f xs n y d e) refl
-
-pub prefix_len-set : {A : Type 0} (f : A → Bool) (xs : List A) (n : ℕ) (y d : A) → f y ≡ f (get_or xs n d) → prefix_len f (slice_set xs n y) ≡ prefix_len f xs
-prefix_len-set f [] n y d e = refl
-prefix_len-set f (x ∷ xs) zero y d e = rw e refl
-prefix_len-set f (x ∷ xs) (suc n) y d e = rw (prefix_len-set f xs n y d e) refl
 
 pub var_in_range : (d : Declared) (n : ℕ) (v w : Var) → v ≡ get_or d.vars n v → w ≡ record v { title = w.title } → AreInRange d
     → AreInRange (record d { vars = slice_set d.vars n w })

@@ -24,7 +24,7 @@ use Rattle.ladder_vars.specs.Titles.{plain_var, plain_instance, plain, HasTitle,
 use Rattle.ladder_vars.specs.TakeTitles.{IsNext, IsLast, IsWithin, Retitles, IsPast, is_called}
 use Rattle.ladder_vars.proofs.Lists.{none_passes, IsDistinct-more, IsDistinct-less}
 use Rattle.ladder_vars.proofs.Keeping.{same_letters-flips, names_any, joined, joined-nil, joined-more, titles-with, new_name}
-use Rattle.ladder_vars.proofs.Ahead.{declared_by-push, Ahead, Comes, peek, passes, Reads, begins, starts, goes_on}
+use Rattle.ladder_vars.proofs.DeclReads.{declared_by-push, Ahead, Comes, peek, passes, Reads, begins, starts, goes_on}
 
 -- ---- declarations without their aliases
 

@@ -19,8 +19,7 @@ use Rattle.ladder_times.specs.ReadTimes.{◌>>=◌}
 use Rattle.ladder_vars.specs.ReadWords.{IsValue, address_of, value_of, block_of}
 use Rattle.ladder_vars.specs.ReadSteps.{on, step}
 use Rattle.ladder_vars.specs.ReadDecls.{PresetFits}
-use Rattle.ladder_vars.proofs.Keywords.{alike, block_reads, block_takes, block_of-other}
-use Rattle.ladder_vars.proofs.WordLaws.{address_takes, address_reads, value_takes, value_reads}
+use Rattle.ladder_vars.proofs.WordLaws.{alike, block_reads, block_takes, block_of-other, address_takes, address_reads, value_takes, value_reads}
 
 -- ---- walks
 

@@ -1,7 +1,6 @@
 use Rattle.std.proofs.Common.{sym, ap, ◌∙◌, Some}
 use Rattle.std.proofs.lemmas.Result.{err_from_is_err_and}
-use Rattle.ladder_vars.proofs.BodyReads.{fits}
-use Rattle.ladder_vars.proofs.BodyLoop.{stands_first, no_word, refuses, ends, goes}
+use Rattle.ladder_vars.proofs.BodyReads.{fits, stands_first, no_word, refuses, ends, goes}
 use Rattle.ladder_vars.proofs.declaration.body_at.Goals as goal
 
 pub loop-word-init : goal.loop-word-init

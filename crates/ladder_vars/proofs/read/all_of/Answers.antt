@@ -5,8 +5,7 @@ use Rattle.ladder_vars.specs.Grammar.{HasDecls}
 use Rattle.ladder_vars.specs.Rules.{IsRefused}
 use Rattle.ladder_vars.specs.ReadDecls.{with_decl}
 use Rattle.ladder_vars.specs.TakeTitles.{IsNext}
-use Rattle.ladder_vars.proofs.Ahead.{declared_by-push, starts, goes_on}
-use Rattle.ladder_vars.proofs.DeclReads.{IsFault, HasWord, ends, only, no_opening, no_word, no_name, no_body, refuses, IfBroken-weaker}
+use Rattle.ladder_vars.proofs.DeclReads.{declared_by-push, starts, goes_on, IsFault, HasWord, ends, only, no_opening, no_word, no_name, no_body, refuses, IfBroken-weaker}
 use Rattle.ladder_vars.proofs.read.all_of.Goals as goal
 
 pub returns-in_err-rest-clause-broken : goal.returns-in_err-rest-clause-broken

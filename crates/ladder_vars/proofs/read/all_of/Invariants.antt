@@ -1,6 +1,6 @@
 use Rattle.std.proofs.Common.{◌≡◌, List, length}
 use Rattle.ladder_vars.specs.Grammar.{Decl, declared_by}
-use Rattle.ladder_vars.proofs.Ahead.{Reads}
+use Rattle.ladder_vars.proofs.DeclReads.{Reads}
 use Rattle.ladder_vars.proofs.read.all_of.Given as goal
 
 abbrev pub invariant-loop-decls : goal.invariant-loop-decls

@@ -1,24 +1,93 @@
--- What is found stands there: a token that `token_at` gives is the first of a reading, behind a gap.
-use Rattle.std.proofs.Common.{◌≡◌, ◌≢◌, ℕ, ◌≤◌, min, ◌⊎◌, inl, inr, true, false, not, ◌==◌, ◌&&◌, List, [], ◌∷◌, ◌++◌, length, take, drop, Result, Ok, Err, refl, sym, ap, subst, ◌∙◌, arith}
+-- A token is read where it stands in a text, behind a gap, and only there; where none is read a byte may not stand there, or the text ends.
+use Rattle.std.proofs.Common.{◌≡◌, ◌⊎◌, inl, inr, Result, Ok, Err, refl, ℕ, ◌<◌, ◌≤◌, true, false, not, ◌==◌, List, [], ◌∷◌, ◌++◌, length, codes, sym, ap, subst, ◌∙◌, arith, append_assoc, ◌&&◌, take, drop, ap₂}
+use Rattle.ladder_vars.specs.declared.fault.Fault.{Fault}
+use Rattle.ladder_vars.specs.ReadText.{◌>>=◌, skip_from, token_at, unfinished, no_token}
 use Rattle.std.specs.List.{list_all}
 use Rattle.std.proofs.lemmas.Bool.Decides.{nat_tests}
-use Rattle.std.proofs.lemmas.Bool.{eqb-true, eqb-false, and_parts, cond_both}
-use Rattle.std.proofs.lemmas.List.{take-append-drop, length-take}
-use Rattle.std.proofs.lemmas.List.Sums.{prefix_len-le-length}
-use Rattle.ladder_vars.specs.declared.fault.Fault.{Fault}
-use Rattle.ladder_vars.specs.declared.text.Within.{Within}
+use Rattle.std.proofs.lemmas.List.{length-append, take-append-drop, length-take}
+use Rattle.std.proofs.Math.Seq.{take-append_seam, drop-append_seam}
 use Rattle.ladder_vars.specs.declared.text.Within.TheVariants as state
-use Rattle.ladder_vars.specs.Text.{begins_with, is_blank, token_len, closes, Gap, Nothing, Blank, Comment, LineComment, AreTokens, begins_comment, IsUnfinished}
-use Rattle.ladder_vars.specs.ReadText.{skip_from, unfinished, token_at}
+use Rattle.ladder_vars.specs.Text.{begins_with, token_len, closes, Gap, Nothing, Blank, Comment, LineComment, AreTokens, is_blank, begins_comment, IsUnfinished, is_printed, IsBadByte, IsStray}
+use Rattle.std.proofs.lemmas.Bool.{eqb-true, and_parts, cond_both}
+use Rattle.std.proofs.lemmas.List.Sums.{prefix_len-le-length}
+use Rattle.ladder_vars.specs.declared.text.Within.{Within}
 use Rattle.ladder_times.proofs.Steps.{chosen}
-use Rattle.ladder_vars.proofs.Steps.{bind_ok}
-use Rattle.ladder_vars.proofs.TextReads.{begins_with-append}
+use Rattle.ladder_vars.specs.declared.fault.VarRule.TheVariants as rule
 
-pub begins_cons : (byte : ℕ) (text : List ℕ) → begins_with byte text ≡ true → (rest : List ℕ) × (text ≡ byte ∷ rest)
-begins_cons byte text h = grind (arith, nat_tests)
+-- the value of a step that did not fail
+pub bind_ok : {A B : Type 0} (r : Result A Fault) (f : A → Result B Fault) (y : B) → (r >>= f) ≡ Ok y → (x : A) × (r ≡ Ok x) × (f x ≡ Ok y)
+bind_ok (Ok x) f y e = (x, refl, e)
+bind_ok (Err d) f y e = absurd cc
 
-pub head_same : (a b : ℕ) (xs ys : List ℕ) → a ∷ xs ≡ b ∷ ys → a ≡ b
-head_same a b xs ys e = cc
+pub bind_err : {A B : Type 0} (r : Result A Fault) (f : A → Result B Fault) (d : Fault) → (r >>= f) ≡ Err d → (r ≡ Err d) ⊎ ((x : A) × (r ≡ Ok x) × (f x ≡ Err d))
+bind_err (Ok x) f d e = inr (x, refl, e)
+bind_err (Err g) f d e = inl cc
+
+pub begins_with-append : (byte other : ℕ) (inside rest : List ℕ) → (other == byte) ≡ false → begins_with byte (inside ++ (other ∷ rest)) ≡ begins_with byte inside
+begins_with-append byte other [] rest h = h
+begins_with-append byte other (b ∷ bs) rest h = refl
+
+block_skipped : (inside after : List ℕ) → closes inside ≡ false → skip_from state.Comment (inside ++ (42 ∷ 41 ∷ after)) ≡ skip_from state.Blanks after
+block_skipped [] after h = refl
+block_skipped (b ∷ bs) after h = grind (arith, begins_with-append, block_skipped bs after)
+
+line_skipped : (inside after : List ℕ) → list_all (λ b. not (b == 10)) inside ≡ true → (after ≡ []) ⊎ (begins_with 10 after ≡ true) → skip_from state.LineComment (inside ++ after) ≡ skip_from state.Blanks after
+line_skipped [] after h end = grind (arith, nat_tests)
+line_skipped (b ∷ bs) after h end = grind (arith, line_skipped bs after)
+
+-- where a token stands there is nothing to skip
+token_stands : (text : List ℕ) → 0 < token_len text → skip_from state.Blanks text ≡ Ok text
+token_stands [] h = grind arith
+token_stands (b ∷ bs) h = grind (arith, nat_tests)
+
+pub token_found : (u after : List ℕ) → 0 < length u → token_len (u ++ after) ≡ length u → token_at (u ++ after) ≡ Ok (u, after)
+unfolding token_at
+token_found u after some len = grind (arith, nat_tests, token_stands, take-append_seam, drop-append_seam)
+
+-- what is skipped makes no difference
+gap_skipped : {text rest : List ℕ} → Gap text rest → skip_from state.Blanks text ≡ skip_from state.Blanks rest
+gap_skipped Nothing = refl
+gap_skipped (Blank blank g) = rw blank (gap_skipped g)
+gap_skipped (Comment inside {after} unclosed g) = block_skipped inside after unclosed ∙ gap_skipped g
+gap_skipped (LineComment inside {after} one_line end g) = line_skipped inside after one_line end ∙ gap_skipped g
+
+-- the rest ends the text
+abbrev pub IsEnd : List ℕ → List ℕ → Type 0
+IsEnd text rest = (front : List ℕ) × (text ≡ front ++ rest)
+
+behind : (front text rest : List ℕ) → IsEnd text rest → IsEnd (front ++ text) rest
+behind front text rest h = (front ++ h.0, ap (λ z. front ++ z) h.1 ∙ sym (append_assoc front h.0 rest))
+
+gap-end : {text rest : List ℕ} → Gap text rest → IsEnd text rest
+gap-end Nothing = ([], refl)
+gap-end (Blank {b} {after} {rest} blank g) = behind (b ∷ []) after rest (gap-end g)
+gap-end (Comment inside {after} {rest} unclosed g) = behind (codes "(*") _ rest (behind inside _ rest (behind (codes "*)") after rest (gap-end g)))
+gap-end (LineComment inside {after} {rest} one_line end g) = behind (codes "//") _ rest (behind inside after rest (gap-end g))
+
+token_at-skipped : (a b : List ℕ) → skip_from state.Blanks a ≡ skip_from state.Blanks b → token_at a ≡ token_at b
+unfolding token_at
+token_at-skipped a b e = rw e refl
+
+-- the first token of a reading is found, and the others are read after it
+pub first_token : (t : List ℕ) (ts : List (List ℕ)) (text rest : List ℕ) → AreTokens (t ∷ ts) text rest
+    → (after : List ℕ) × (token_at text ≡ Ok (t, after)) × AreTokens ts after rest × (length after < length text)
+first_token t ts text rest h =
+    let same : token_at text ≡ token_at (t ++ h.1) = token_at-skipped text h.0 (gap_skipped h.2) ∙ ap token_at h.3 in (
+      h.1,
+      same ∙ token_found t h.1 h.4 (ap token_len (sym h.3) ∙ h.5),
+      h.6,
+      omega (arith, ap length (gap-end h.2).1, length-append {A = ℕ}, ap length h.3, h.4),
+    )
+
+pub tokens-end : (ts : List (List ℕ)) (text rest : List ℕ) → AreTokens ts text rest → IsEnd text rest
+tokens-end [] text rest h = ([], h)
+tokens-end (t ∷ ts) text rest h =
+    let gap = gap-end h.2 in
+    let more = behind gap.0 h.0 rest (subst (λ z. IsEnd z rest) (sym h.3) (behind t h.1 rest (tokens-end ts h.1 rest h.6))) in
+    (more.0, gap.1 ∙ more.1)
+
+pub tokens-shorter : (ts : List (List ℕ)) (text rest : List ℕ) → AreTokens ts text rest → length rest ≤ length text
+tokens-shorter ts text rest h = let end = tokens-end ts text rest h in omega (arith, ap length end.1, length-append end.0 rest)
 
 -- inside a block comment, and inside a line comment
 pub record EndsComment (text rest : List ℕ) : Type 0 where
@@ -42,12 +111,6 @@ GapFrom state.Opening text rest = (b : ℕ) × (after : List ℕ) × (text ≡ b
 GapFrom state.Comment text rest = EndsComment text rest
 GapFrom state.Closing text rest = (b : ℕ) × (after : List ℕ) × (text ≡ b ∷ after) × Gap after rest
 GapFrom state.LineComment text rest = EndsLine text rest
-
-pub gap_blank : (b : ℕ) (bs rest : List ℕ) → is_blank b bs ≡ true → Gap bs rest → Gap (b ∷ bs) rest
-gap_blank b bs rest h g = Blank h g
-
-pub gap_none : (rest : List ℕ) → Gap rest rest
-gap_none rest = Nothing
 
 pub gap_block : (b : ℕ) (bs rest : List ℕ) → (b == 40 && begins_with 42 bs) ≡ true → GapFrom state.Opening bs rest → Gap (b ∷ bs) rest
 gap_block b bs rest h g =
@@ -113,26 +176,26 @@ moves s n text rest (Err f) gap open_yet h = (h.0, elim h.1 [ inl never ↦ open
 
 never_opened : (b : ℕ) (bs : List ℕ) → (b == 40 && begins_with 42 bs) ≡ true → Never state.Opening bs → OpenFrom state.Blanks (b ∷ bs)
 never_opened b [] h never = grind arith
-never_opened b (c ∷ cs) h never = inr (b ∷ c ∷ cs, gap_none (b ∷ c ∷ cs), grind (arith, nat_tests))
+never_opened b (c ∷ cs) h never = inr (b ∷ c ∷ cs, Nothing, grind (arith, nat_tests))
 
 never_closing : (b : ℕ) (bs : List ℕ) → (b == 42 && begins_with 41 bs) ≡ true → Never state.Closing bs → ⊥
 never_closing b bs h never = grind arith
 
 pub shows : (text : List ℕ) (s : Within) → Shows s text (skip_from s text)
-shows [] state.Blanks = (gap_none [], tt)
-shows [] state.LineComment = (record { inside = []; after = []; parts = refl; one_line = refl; end = inl refl; gap = gap_none [] }, tt)
+shows [] state.Blanks = (Nothing, tt)
+shows [] state.LineComment = (record { inside = []; after = []; parts = refl; one_line = refl; end = inl refl; gap = Nothing }, tt)
 shows [] state.Opening = (refl, inl tt)
 shows [] state.Comment = (refl, inl refl)
 shows [] state.Closing = (refl, inl tt)
 shows (b ∷ bs) state.Blanks =
     let text : List ℕ = b ∷ bs in
     cond_both (is_blank b bs) _ _ (Shows state.Blanks text) (λ blank.
-    moves state.Blanks state.Blanks text bs _ (λ at g. gap_blank b bs at blank g) (λ never. absurd never) (shows bs state.Blanks)) (λ dark.
+    moves state.Blanks state.Blanks text bs _ (λ at g. Blank blank g) (λ never. absurd never) (shows bs state.Blanks)) (λ dark.
     cond_both (b == 40 && begins_with 42 bs) _ _ (Shows state.Blanks text) (λ block.
     moves state.Blanks state.Opening text bs _ (λ at g. gap_block b bs at block g) (λ never. never_opened b bs block never) (shows bs state.Opening)) (λ no_block.
     cond_both (b == 47 && begins_with 47 bs) _ _ (Shows state.Blanks text) (λ line.
     moves state.Blanks state.LineComment text bs _ (λ at g. gap_line b bs at line g) (λ never. absurd never) (shows bs state.LineComment))
-    (λ no_line. (gap_none text, (dark, rw (no_block, no_line) refl)))))
+    (λ no_line. (Nothing, (dark, rw (no_block, no_line) refl)))))
 shows (b ∷ bs) state.Opening = moves state.Opening state.Comment (b ∷ bs) bs _ (λ at g. (b, bs, refl, g)) (λ never. inl never) (shows bs state.Comment)
 shows (b ∷ bs) state.Closing = moves state.Closing state.Blanks (b ∷ bs) bs _ (λ at g. (b, bs, refl, g)) (λ never. absurd never) (shows bs state.Blanks)
 shows (b ∷ bs) state.Comment =
@@ -161,24 +224,47 @@ token_len-le : (text : List ℕ) → token_len text ≤ length text
 token_len-le [] = omega arith
 token_len-le (b ∷ bs) = grind (arith, prefix_len-le-length, begins_some)
 
-min_is : (m n : ℕ) → m ≤ n → min m n ≡ m
-min_is m n h = omega arith
-
 -- a token that is found is there
 pub token_takes : (text t rest : List ℕ) → token_at text ≡ Ok (t, rest) → AreTokens (t ∷ []) text rest
 unfolding token_at
 token_takes text t rest h =
     let skip = bind_ok (skip_from state.Blanks text) _ (t, rest) h in
-    let gap : Gap text skip.0 = (skipped text skip.0 skip.1).0 in
-    elim (chosen (token_len skip.0 == 0) _ _ _ skip.2) [
-      | inl none ↦ absurd cc
-      | inr some ↦
-          let n : ℕ = token_len skip.0 in
-          let got : List ℕ × List ℕ = (take n skip.0, drop n skip.0) in
-          let wanted : List ℕ × List ℕ = (t, rest) in
-          let pair : got ≡ wanted = cc in
-          let len : length t ≡ n = ap length (sym (ap (λ p. p.0) pair)) ∙ length-take n skip.0 ∙ min_is n (length skip.0) (token_len-le skip.0) in
-          let parts : skip.0 ≡ t ++ rest = sym (take-append-drop n skip.0) ∙ ap (λ p. p.0 ++ p.1) pair in
-          let not_none : n ≢ 0 = eqb-false n 0 some.0 in
-          (skip.0, rest, gap, parts, omega (arith, not_none, len), sym len, refl)
+    let n : ℕ = token_len skip.0 in
+    let some : 0 < n = grind (arith, nat_tests) in
+    let first : take n skip.0 ≡ t = grind arith in
+    let behind : drop n skip.0 ≡ rest = grind arith in
+    let len : length t ≡ n = ap length (sym first) ∙ length-take n skip.0 ∙ omega (arith, token_len-le skip.0) in
+    let parts : skip.0 ≡ t ++ rest = sym (take-append-drop n skip.0) ∙ ap₂ (λ x y. x ++ y) first behind in
+    (skip.0, rest, (skipped text skip.0 skip.1).0, parts, omega (arith, some, len), sym len, refl)
+
+-- a text that goes on with a gap and then no token shows the fault
+abbrev pub HasNoToken : Fault → List ℕ → Type 0
+HasNoToken f due =
+    (at : List ℕ) × Gap due at × (((f.rule ≡ rule.BadByte) × IsBadByte at × (f.left ≡ length at))
+    ⊎ (((f.rule ≡ rule.BadToken) × IsStray at × (f.left ≡ length at)) ⊎ ((f.rule ≡ rule.Unfinished) × IsUnfinished at × (f.left ≡ 0))))
+
+no_token-shows : (due at : List ℕ) (f : Fault) → Gap due at → NoGap at → token_len at ≡ 0 → no_token at ≡ f → HasNoToken f due
+no_token-shows due [] f gap stop none e = ([], gap, inr (inr (grind arith)))
+no_token-shows due (b ∷ bs) f gap stop none e =
+    elim (is_printed b) as (λ t. is_printed b ≡ t → HasNoToken f due) [
+      | true ↦ λ printed. (b ∷ bs, gap, inr (inl (grind arith)))
+      | false ↦ λ other. (b ∷ bs, gap, inl (grind arith))
+    ] refl
+
+pub no_token-found : (due : List ℕ) (f : Fault) → token_at due ≡ Err f → HasNoToken f due
+unfolding token_at
+no_token-found due f h =
+    elim (bind_err (skip_from state.Blanks due) _ f h) [
+      | inl skip ↦
+          let (unf, open_yet) : Shows state.Blanks due (Err f) = subst (Shows state.Blanks due) skip (shows due state.Blanks) in
+          elim open_yet [
+            | inl never ↦ absurd never
+            | inr (at, gap, u) ↦ (at, gap, inr (inr (ap (λ x. x.rule) unf, u, ap (λ x. x.left) unf)))
+          ]
+      | inr (rest, skip, then) ↦ elim (chosen (token_len rest == 0) _ _ _ then) [
+        | inl none ↦
+            let e : no_token rest ≡ f = cc in
+            no_token-shows due rest f (skipped due rest skip).0 (skipped due rest skip).1 (eqb-true (token_len rest) 0 none.0) e
+        | inr some ↦ absurd cc
+      ]
     ]
