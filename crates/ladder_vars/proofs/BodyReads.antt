@@ -26,16 +26,16 @@ stands_first text = record { turns = length text; enough = omega arith; within =
 
 pub no_word : (d : Due) (here text : List ℕ) (f : Fault) → Stands d here text → token_at here ≡ Err f → body_at text ≡ Err f
 unfolding body_from
-no_word d here text f s word = sym s.same ∙ rw word refl
+no_word d here text f s word = sym s.same ∙ grind arith
 
 pub refuses : (d : Due) (here text w a : List ℕ) → Stands d here text → token_at here ≡ Ok (w, a) → step d w ≡ None → body_at text ≡ Err (at (misfit d w) a)
 unfolding body_from
-refuses d here text w a s word none = sym s.same ∙ rw word (ap (turn (λ n. body_from s.turns n a) (at (misfit d w) a) a) none)
+refuses d here text w a s word none = sym s.same ∙ grind arith
 
 pub ends : (d : Due) (here text w a : List ℕ) (b : Body) → Stands d here text → token_at here ≡ Ok (w, a) → step d w ≡ Some (then.Ends b)
     → body_at text ≡ Ok (b, a)
 unfolding body_from
-ends d here text w a b s word end = sym s.same ∙ rw word (ap (turn (λ n. body_from s.turns n a) (at (misfit d w) a) a) end)
+ends d here text w a b s word end = sym s.same ∙ grind arith
 
 pub goes : (d next : Due) (here text w a : List ℕ) → Stands d here text → token_at here ≡ Ok (w, a) → length a < length here
     → step d w ≡ Some (then.Goes next) → Stands next a text

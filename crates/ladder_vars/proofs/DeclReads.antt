@@ -23,7 +23,6 @@ use Rattle.ladder_vars.specs.declared.fault.ReadFault.TheVariants as fault
 use Rattle.ladder_vars.specs.declared.fault.VarRule.{VarRule}
 use Rattle.ladder_vars.specs.declared.fault.VarRule.TheVariants as rule
 use Rattle.ladder_vars.specs.declared.declaration.Due.TheVariants as stage
-use Rattle.ladder_times.proofs.Steps.{chosen}
 
 -- behind the declarations that are read here, these complete the whole
 pub record Ahead (whole : Declared) (end : List ℕ) (ds : List Decl) (here : List ℕ) : Type 0 where
@@ -109,9 +108,7 @@ pub passes : (whole : Declared) (end : List ℕ) (ds : List Decl) (here name beh
     → IsNext here name behind b after → Comes whole end ds here a.later name behind b after
 passes whole end ds here name behind b after a next =
     elim (peek whole end ds here a) [
-      | inl over ↦
-          let same = ok_same (over.closing, end) (name, behind) (sym over.found ∙ next.0) in
-          absurd (true≢false (sym over.is_end ∙ ap (λ p. same_letters p.0 (codes "END_VAR")) same ∙ next.1))
+      | inl over ↦ let found = over.found in let is_end = over.is_end in let (word, other, read) = next in grind arith
       | inr (name', behind', b', after', comes) ↦
           let same = ok_same (name', behind') (name, behind) (sym comes.next.0 ∙ next.0) in
           let moved = subst (λ p. Comes whole end ds here a.later p.0 p.1 b' after') same comes in
@@ -187,10 +184,8 @@ pub only : (text : List ℕ) (ds : List Decl) (here w after : List ℕ) → Read
     → (whole : Declared) (end : List ℕ) → HasDecls text whole end → (whole ≡ declared_by ds) × (end ≡ after)
 only text ds here w after r word is_end whole end has =
     elim (peek whole end ds here (r.ahead whole end has)) [
-      | inl over ↦ (over.all, ap (λ p. p.1) (ok_same (over.closing, end) (w, after) (sym over.found ∙ word)))
-      | inr (name, behind, b, rest, comes) ↦
-          let same = ok_same (name, behind) (w, after) (sym comes.next.0 ∙ word) in
-          absurd (true≢false (sym is_end ∙ ap (λ p. same_letters p.0 (codes "END_VAR")) (sym same) ∙ comes.next.1))
+      | inl over ↦ let found = over.found in (over.all, grind arith)
+      | inr (name, behind, b, rest, comes) ↦ let found = comes.next.0 in let other = comes.next.1 in grind arith
     ]
 
 -- ---- a fault is here
@@ -207,13 +202,10 @@ unfolding expect
 no_opening text f h =
     let breaks : Breaks f.rule text f.left = elim (bind_err (token_at text) _ f h) [
       | inl none ↦ no_token_breaks text text [] NeedVar f (came_first text) none
-      | inr ((w, after), found, more) ↦ elim (chosen (same_letters w (codes "VAR")) _ _ _ more) [
-        | inl same ↦ absurd cc
-        | inr wrong ↦
-            let same : at rule.BadToken after ≡ f = cc in
-            subst (λ g. Breaks g.rule text g.left) same
-            (token_breaks text text after w [] NeedVar (came_first text) (token_takes text w after found) (rw wrong.0 refl) refl)
-      ]
+      | inr ((w, after), found, more) ↦
+          let wrong : next NeedVar w ≡ None = grind arith in
+          let same : at rule.BadToken after ≡ f = grind arith in
+          subst (λ g. Breaks g.rule text g.left) same (token_breaks text text after w [] NeedVar (came_first text) (token_takes text w after found) wrong refl)
     ] in
     (breaks, λ whole end has. let start = begins text whole end has in cc)
 
@@ -233,9 +225,7 @@ comes_here : (text : List ℕ) (ds : List Decl) (here w after : List ℕ) (whole
     → (is_name w ≡ true) × (b : Body) × (rest : List ℕ) × (body_at after ≡ Ok (b, rest))
 comes_here text ds here w after whole end r h has =
     elim (peek whole end ds here (r.ahead whole end has)) [
-      | inl over ↦
-          let same = ok_same (over.closing, end) (w, after) (sym over.found ∙ h.word) in
-          absurd (true≢false (sym over.is_end ∙ ap (λ p. same_letters p.0 (codes "END_VAR")) same ∙ h.other))
+      | inl over ↦ let found = over.found in let is_end = over.is_end in grind arith
       | inr (name, behind, b, rest, comes) ↦
           let same = ok_same (name, behind) (w, after) (sym comes.next.0 ∙ h.word) in
           (ap (λ p. is_name p.0) (sym same) ∙ comes.named, b, rest, ap (λ p. body_at p.1) (sym same) ∙ comes.next.2)

@@ -1,7 +1,4 @@
 mod Tokens
-pub mod Numbers
-mod Keeping
-mod Leading
 mod Lists
 mod TitleLaws
 mod WordLaws
@@ -9,5 +6,5 @@ mod Walks
 mod BodyReads
 mod Blocks
 mod DeclReads
-mod Retitling
+mod Keeping
 mod Titling

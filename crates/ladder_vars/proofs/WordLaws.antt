@@ -1,5 +1,11 @@
--- Words: a keyword, an address or a preset is read exactly where the word is one.
-use Rattle.std.proofs.Common.{◌≡◌, ℕ, Bool, true, false, List, [], ◌∷◌, codes, Some, refl, ◌∙◌, find, arith, ◌≤◌, ◌⊎◌, inl, inr, ◌==◌, ◌++◌, length, take, drop, Option, None, sym, ap, subst}
+-- Words: a keyword, a number, an address or a preset is read exactly where the word is one.
+use Rattle.std.proofs.Common.{◌≡◌, ℕ, ◌+◌, ◌-◌, ◌*◌, ◌≤◌, suc, true, nat_le, List, [], ◌∷◌, length, replicate, arith, Bool, false, codes, Some, refl, ◌∙◌, find, ◌⊎◌, inl, inr, ◌==◌, ◌++◌, take, drop, Option, None, sym, ap, subst}
+use Rattle.std.proofs.lemmas.Bool.Decides.{nat_tests}
+use Rattle.std.proofs.lemmas.Bool.{leb-true, and_parts, eqb-true}
+use Rattle.std.specs.List.{list_all, prefix_len}
+use Rattle.std.specs.Char.{is_ascii_digit, to_ascii_uppercase, to_ascii_lowercase}
+use Rattle.ladder_times.specs.Duration.{number_of}
+use Rattle.ladder_times.specs.ReadTimes.{value_from}
 use Rattle.std.specs.Str.{str_to_ascii_lowercase}
 use Rattle.std.proofs.lemmas.Cmp.{nat_list_eq_equiv}
 use Rattle.ladder_vars.specs.declared.kind.BlockKind.{BlockKind}
@@ -9,10 +15,6 @@ use Rattle.ladder_vars.specs.Kind.{traits_of}
 use Rattle.ladder_vars.specs.Grammar.{Is, IsNumber, IsSecond, IsAddress}
 use Rattle.ladder_vars.specs.ReadWords.{all_kinds, block_of, kind_of, IsValue, short_number, count_of, after_size, second_of, numbers_of, placed_at, address_of, value_of}
 use Rattle.ladder_times.proofs.PartLaws.{same_bytes}
-use Rattle.std.specs.List.{list_all, prefix_len}
-use Rattle.std.specs.Char.{is_ascii_digit, to_ascii_uppercase, to_ascii_lowercase}
-use Rattle.std.proofs.lemmas.Bool.{eqb-true}
-use Rattle.std.proofs.lemmas.Bool.Decides.{nat_tests}
 use Rattle.std.proofs.lemmas.List.{take-append-drop}
 use Rattle.std.proofs.Math.Seq.{take-append_seam, drop-append_seam}
 use Rattle.ladder_vars.specs.declared.decls.VarKind.{VarKind}
@@ -23,6 +25,24 @@ use Rattle.ladder_vars.specs.Text.{begins}
 use Rattle.ladder_times.proofs.Steps.{bind_some, chosen}
 use Rattle.ladder_times.proofs.Runs.{prefix_len-run}
 use Rattle.ladder_times.proofs.TimeLaws.{time_reads, time_takes}
+
+digit-le : (b : ℕ) → is_ascii_digit b ≡ true → b ≤ 57
+digit-le b h = leb-true b 57 (and_parts (nat_le 48 b) (nat_le b 57) h).1
+
+first_digit : (b : ℕ) (bs : List ℕ) → list_all is_ascii_digit (b ∷ bs) ≡ true → (b ≤ 57) × (list_all is_ascii_digit bs ≡ true)
+first_digit b bs h = grind (arith, nat_tests)
+
+value_from-le : (n m : ℕ) (bs : List ℕ) → list_all is_ascii_digit bs ≡ true → n ≤ m → value_from n bs ≤ value_from m (replicate (length bs) 57)
+value_from-le n m [] h le = le
+value_from-le n m (b ∷ bs) h le = grind (arith, nat_tests, value_from-le (n * 10 + (b - 48)) (m * 10 + 9) bs)
+
+nines-le : (k : ℕ) → k ≤ 5 → value_from 0 (replicate k 57) ≤ 99999
+nines-le (suc (suc (suc (suc (suc (suc k)))))) h = absurd (omega arith)
+nines-le k h = omega arith
+
+-- five digits spell at most 99999
+pub number_of_short : (word : List ℕ) → length word ≤ 5 → list_all is_ascii_digit word ≡ true → number_of word ≤ 99999
+number_of_short word few h = omega (arith, value_from-le 0 0 word h (omega arith), nines-le (length word) few)
 
 -- a token that is one word is another where the words are
 pub alike : (word other token : List ℕ) → Is word token → same_letters token other ≡ same_letters word other

@@ -3,7 +3,7 @@ use Rattle.std.proofs.lemmas.List.Folds.{prefix_len-set}
 use Rattle.std.proofs.lemmas.Option.{get_or_from_slice_get}
 use Rattle.ladder_vars.specs.Decls.{Declared, is_input}
 use Rattle.ladder_vars.specs.declared.decls.Var.{Var}
-use Rattle.ladder_vars.proofs.Retitling.{var_in_range}
+use Rattle.ladder_vars.proofs.Keeping.{var_in_range}
 use Rattle.ladder_vars.proofs.decls.Decls.set_var_title.Goals as goal
 
 pub invariant_of-self : goal.invariant_of-self
