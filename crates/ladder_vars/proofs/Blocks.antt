@@ -202,9 +202,6 @@ step_of None ts last h = absurd cc
 goes_to : (b : Bool) (d : Due) (s : State) → (on b (then.Goes d) >>= λ n. Some (state_of n)) ≡ Some s → In d ≡ s
 goes_to b d s h = grind arith
 
-same_state : (s n : State) → run s [] ≡ Some n → s ≡ n
-same_state s n h = cc
-
 pub value_due : (before : List (List ℕ)) (opening word assign : List ℕ) (last : State) → Is (codes "(") opening
     → run NeedVar (before ++ opening ∷ word ∷ assign ∷ []) ≡ Some last → (kind : BlockKind) × (form : Parameter) × (last ≡ In (due.Value kind form))
 value_due before opening word assign last is_opening h =
@@ -213,7 +210,7 @@ value_due before opening word assign last is_opening h =
     let (kind, form, is) = opens a.0 b.0 (ap (next a.0) (sym (opening_is opening is_opening)) ∙ b.1) in
     let c = step_of (next (In (due.Word kind form)) word) (assign ∷ []) last (ap (λ s. run s (word ∷ assign ∷ [])) (sym is) ∙ b.2) in
     let d = step_of (next (In (due.Assign kind form)) assign) [] last (ap (λ s. run s (assign ∷ [])) (goes_to _ (due.Assign kind form) c.0 c.1) ∙ c.2) in
-    (kind, form, sym (goes_to _ (due.Value kind form) d.0 d.1 ∙ same_state d.0 last d.2))
+    (kind, form, sym (goes_to _ (due.Value kind form) last (d.1 ∙ d.2)))
 
 -- ---- where a fault shows
 

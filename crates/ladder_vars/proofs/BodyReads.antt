@@ -20,10 +20,6 @@ pub record Stands (d : Due) (here text : List ℕ) : Type 0 where
   pub within : length here ≤ length text
   pub same : body_from (suc turns) d here ≡ body_at text
 
-pub stands_first : (text : List ℕ) → Stands due.Place text text
-unfolding body_at
-stands_first text = record { turns = length text; enough = omega arith; within = omega arith; same = refl }
-
 pub no_word : (d : Due) (here text : List ℕ) (f : Fault) → Stands d here text → token_at here ≡ Err f → body_at text ≡ Err f
 unfolding body_from
 no_word d here text f s word = sym s.same ∙ grind arith

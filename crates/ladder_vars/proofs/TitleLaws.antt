@@ -10,12 +10,6 @@ use Rattle.ladder_titles.specs.Title.{is_title_byte, is_title}
 byte_is : (b : ℕ) → is_name_byte b ≡ true → is_title_byte b ≡ true
 byte_is b h = grind (arith, nat_tests)
 
-letter_is : (digit upper lower x : Bool) → ((upper || lower) || x) ≡ true → (((digit || upper) || lower) || x) ≡ true
-letter_is digit upper lower x h = grind arith
-
-first_is : (b : ℕ) → (is_ascii_alphabetic b || b == 95) ≡ true → is_name_byte b ≡ true
-first_is b h = grind (arith, nat_tests)
-
 bytes_are : (bs : List ℕ) → list_all is_name_byte bs ≡ true → list_all is_title_byte bs ≡ true
 bytes_are [] h = refl
 bytes_are (b ∷ bs) h = grind (arith, byte_is, bytes_are bs)
@@ -24,6 +18,6 @@ pub name_is_title : (word : List ℕ) → is_name word ≡ true → is_title wor
 name_is_title [] h = absurd cc
 name_is_title (b ∷ bs) h =
     let short : length (b ∷ bs) ≤ 11 = grind (arith, nat_tests) in
-    let first : is_title_byte b ≡ true = grind (arith, byte_is, first_is) in
+    let first : is_title_byte b ≡ true = grind (arith, nat_tests) in
     let others : list_all is_title_byte bs ≡ true = grind (arith, bytes_are) in
     rw (first, others, le-leb (length (b ∷ bs)) 32 (omega arith), le-leb 1 (length (b ∷ bs)) (omega arith)) refl

@@ -64,20 +64,13 @@ gap-end (Blank {b} {after} {rest} blank g) = behind (b ∷ []) after rest (gap-e
 gap-end (Comment inside {after} {rest} unclosed g) = behind (codes "(*") _ rest (behind inside _ rest (behind (codes "*)") after rest (gap-end g)))
 gap-end (LineComment inside {after} {rest} one_line end g) = behind (codes "//") _ rest (behind inside after rest (gap-end g))
 
-token_at-skipped : (a b : List ℕ) → skip_from state.Blanks a ≡ skip_from state.Blanks b → token_at a ≡ token_at b
-unfolding token_at
-token_at-skipped a b e = rw e refl
-
 -- the first token of a reading is found, and the others are read after it
 pub first_token : (t : List ℕ) (ts : List (List ℕ)) (text rest : List ℕ) → AreTokens (t ∷ ts) text rest
     → (after : List ℕ) × (token_at text ≡ Ok (t, after)) × AreTokens ts after rest × (length after < length text)
+unfolding token_at
 first_token t ts text rest h =
-    let same : token_at text ≡ token_at (t ++ h.1) = token_at-skipped text h.0 (gap_skipped h.2) ∙ ap token_at h.3 in (
-      h.1,
-      same ∙ token_found t h.1 h.4 (ap token_len (sym h.3) ∙ h.5),
-      h.6,
-      omega (arith, ap length (gap-end h.2).1, length-append {A = ℕ}, ap length h.3, h.4),
-    )
+    let found = token_found t h.1 h.4 (ap token_len (sym h.3) ∙ h.5) in
+    (h.1, rw (gap_skipped h.2, h.3) found, h.6, omega (arith, ap length (gap-end h.2).1, length-append {A = ℕ}, ap length h.3, h.4))
 
 pub tokens-end : (ts : List (List ℕ)) (text rest : List ℕ) → AreTokens ts text rest → IsEnd text rest
 tokens-end [] text rest h = ([], h)
@@ -178,9 +171,6 @@ never_opened : (b : ℕ) (bs : List ℕ) → (b == 40 && begins_with 42 bs) ≡ 
 never_opened b [] h never = grind arith
 never_opened b (c ∷ cs) h never = inr (b ∷ c ∷ cs, Nothing, grind (arith, nat_tests))
 
-never_closing : (b : ℕ) (bs : List ℕ) → (b == 42 && begins_with 41 bs) ≡ true → Never state.Closing bs → ⊥
-never_closing b bs h never = grind arith
-
 pub shows : (text : List ℕ) (s : Within) → Shows s text (skip_from s text)
 shows [] state.Blanks = (Nothing, tt)
 shows [] state.LineComment = (record { inside = []; after = []; parts = refl; one_line = refl; end = inl refl; gap = Nothing }, tt)
@@ -201,7 +191,7 @@ shows (b ∷ bs) state.Closing = moves state.Closing state.Blanks (b ∷ bs) bs 
 shows (b ∷ bs) state.Comment =
     let text : List ℕ = b ∷ bs in
     cond_both (b == 42 && begins_with 41 bs) _ _ (Shows state.Comment text) (λ end.
-    moves state.Comment state.Closing text bs _ (λ at g. comment_end b bs at end g) (λ never. absurd (never_closing b bs end never)) (shows bs state.Closing))
+    moves state.Comment state.Closing text bs _ (λ at g. comment_end b bs at end g) (λ never. grind arith) (shows bs state.Closing))
     (λ more. moves state.Comment state.Comment text bs _ (λ at g. comment_more b bs at more g) (λ never. inl (rw (more, never) refl)) (shows bs state.Comment))
 shows (b ∷ bs) state.LineComment =
     let text : List ℕ = b ∷ bs in

@@ -26,12 +26,6 @@ use Rattle.ladder_times.proofs.Steps.{bind_some, chosen}
 use Rattle.ladder_times.proofs.Runs.{prefix_len-run}
 use Rattle.ladder_times.proofs.TimeLaws.{time_reads, time_takes}
 
-digit-le : (b : ℕ) → is_ascii_digit b ≡ true → b ≤ 57
-digit-le b h = leb-true b 57 (and_parts (nat_le 48 b) (nat_le b 57) h).1
-
-first_digit : (b : ℕ) (bs : List ℕ) → list_all is_ascii_digit (b ∷ bs) ≡ true → (b ≤ 57) × (list_all is_ascii_digit bs ≡ true)
-first_digit b bs h = grind (arith, nat_tests)
-
 value_from-le : (n m : ℕ) (bs : List ℕ) → list_all is_ascii_digit bs ≡ true → n ≤ m → value_from n bs ≤ value_from m (replicate (length bs) 57)
 value_from-le n m [] h le = le
 value_from-le n m (b ∷ bs) h le = grind (arith, nat_tests, value_from-le (n * 10 + (b - 48)) (m * 10 + 9) bs)
@@ -79,19 +73,7 @@ number_reads word n h = grind (arith, nat_tests)
 number_takes : (word : List ℕ) (n : ℕ) → short_number word ≡ Some n → IsNumber word n
 number_takes word n h = grind (arith, nat_tests)
 
-count_reads : (word : List ℕ) (n : ℕ) → IsValue parameter.Count word n → count_of word ≡ Some n
-count_reads word n h = grind (arith, nat_tests, number_reads)
-
-count_takes : (word : List ℕ) (n : ℕ) → count_of word ≡ Some n → IsValue parameter.Count word n
-count_takes word n h = grind (arith, nat_tests, number_takes)
-
 -- ---- addresses
-
-capital_x : (b : ℕ) → to_ascii_lowercase b ≡ 120 → to_ascii_uppercase b ≡ 88
-capital_x b h = grind (arith, nat_tests)
-
-digit_no_x : (b : ℕ) → is_ascii_digit b ≡ true → (to_ascii_uppercase b == 88) ≡ false
-digit_no_x b h = grind (arith, nat_tests)
 
 x_alone : (size : List ℕ) → Is (codes "X") size → (x : ℕ) × (size ≡ x ∷ []) × (to_ascii_uppercase x ≡ 88)
 x_alone (x ∷ []) h = (x, refl, grind (arith, nat_tests))
@@ -100,7 +82,7 @@ x_alone other h = grind arith
 after_size-size : (size first second : List ℕ) → (size ≡ []) ⊎ Is (codes "X") size → 1 ≤ length first → list_all is_ascii_digit first ≡ true
     → after_size (size ++ (first ++ second)) ≡ first ++ second
 after_size-size size [] second is_size some digits = absurd (omega arith)
-after_size-size size (d ∷ ds) second (inl none) some digits = rw none (grind (arith, digit_no_x))
+after_size-size size (d ∷ ds) second (inl none) some digits = rw none (grind (arith, nat_tests))
 after_size-size size (d ∷ ds) second (inr x) some digits = let one = x_alone size x in rw one.1 (grind arith)
 
 after_size_is : (text : List ℕ) → (size : List ℕ) × (text ≡ size ++ after_size text) × ((size ≡ []) ⊎ Is (codes "X") size)
@@ -188,8 +170,8 @@ address_takes (percent ∷ letter ∷ text) kind a h =
 
 pub value_reads : (form : Parameter) (word : List ℕ) (n : ℕ) → IsValue form word n → value_of form word ≡ Some n
 value_reads parameter.Time word n h = time_reads word n h
-value_reads parameter.Count word n h = count_reads word n h
+value_reads parameter.Count word n h = grind (arith, nat_tests, number_reads)
 
 pub value_takes : (form : Parameter) (word : List ℕ) (n : ℕ) → value_of form word ≡ Some n → IsValue form word n
 value_takes parameter.Time word n h = time_takes word n h
-value_takes parameter.Count word n h = count_takes word n h
+value_takes parameter.Count word n h = grind (arith, nat_tests, number_takes)
