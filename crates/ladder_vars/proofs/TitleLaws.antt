@@ -1,9 +1,8 @@
 -- Each name is a title.
-use Rattle.std.proofs.Common.{◌≡◌, ℕ, ◌≤◌, Bool, true, ◌||◌, ◌==◌, List, [], ◌∷◌, length, refl, arith}
+use Rattle.std.proofs.Common.{◌≡◌, ℕ, ◌≤◌, true, List, [], ◌∷◌, length, refl, arith}
 use Rattle.std.specs.List.{list_all}
 use Rattle.std.proofs.lemmas.Bool.Decides.{nat_tests}
 use Rattle.std.proofs.lemmas.Bool.{le-leb}
-use Rattle.std.specs.Char.{is_ascii_alphabetic}
 use Rattle.ladder_vars.specs.Name.{is_name_byte, is_name}
 use Rattle.ladder_titles.specs.Title.{is_title_byte, is_title}
 

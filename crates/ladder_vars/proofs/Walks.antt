@@ -110,11 +110,9 @@ Rest (due.End c) ts b = (b ≡ c) × Sequence semicolon ts
 
 -- ---- the grammar has what a walk takes
 
-form_closed : (form : Parameter) (n : ℕ) (ts : List (List ℕ))
-    → Sequence (bracket form n) ts
-    → Preset (Some form) n ts
-form_closed parameter.Time n ts h = h
-form_closed parameter.Count n ts h = h
+preset_form : (form : Parameter) (n : ℕ) (ts : List (List ℕ)) → (Preset (Some form) n ts → Sequence (bracket form n) ts) × (Sequence (bracket form n) ts → Preset (Some form) n ts)
+preset_form parameter.Time n ts = (λ h. h, λ h. h)
+preset_form parameter.Count n ts = (λ h. h, λ h. h)
 
 split_sequence : (phrases more : List Phrase) (ts : List (List ℕ)) → Sequence (phrases ++ more) ts
     → (front back : List (List ℕ)) × (ts ≡ front ++ back) × Sequence phrases front × Sequence more back
@@ -127,7 +125,7 @@ preset_before : (kind : BlockKind) (form : Parameter) (t : List ℕ) (ts : List 
     → IsInstance (λ n. Token (Is (codes "(")) ∷ after_opening form n) kind ts b → IsInstance (after_block kind) kind (t ∷ ts) b
 preset_before kind form t ts b parameter_is is (n, e, h) =
     let x = split_sequence (bracket form n) semicolon ts h in
-    let given : Preset (traits_of kind).parameter n x.0 = subst (λ o. Preset o n x.0) (sym parameter_is) (form_closed form n x.0 x.3) in
+    let given : Preset (traits_of kind).parameter n x.0 = subst (λ o. Preset o n x.0) (sym parameter_is) ((preset_form form n x.0).1 x.3) in
     (n, e, (t ∷ x.0, x.1, ap (λ z. t ∷ z) x.2, inl (t ∷ [], x.0, refl, (t, refl, is), (x.0, [], sym (append-nil x.0), given, refl)), x.4))
 
 type_before : (t : List ℕ) (ts : List (List ℕ)) (b : Body) → Is (codes ":") t → Rest due.Type ts b → IsBody (t ∷ ts) b
@@ -211,11 +209,6 @@ bracket_walks kind form n ts
     (takes (due.Value kind form) t4 b3 b4 b (Some (then.Goes (due.Closing b))) (one_more b3 f4 b4 t4 p4 o4) (rw (value_reads form t4 n is4) refl)
     (takes (due.Closing b) t5 b4 b5 b (Some (then.Goes (due.End b))) (one_more b4 f5 b5 t5 p5 o5) (rw is5 refl) (end_walks b b5 rest)))))
 
-form_opened : (form : Parameter) (n : ℕ) (ts : List (List ℕ)) → Preset (Some form) n ts
-    → Sequence (bracket form n) ts
-form_opened parameter.Time n ts h = h
-form_opened parameter.Count n ts h = h
-
 join_sequence : (phrases more : List Phrase) (front back : List (List ℕ)) → Sequence phrases front → Sequence more back → Sequence (phrases ++ more) (front ++ back)
 join_sequence [] more front back none h = subst (λ z. Sequence more (z ++ back)) (sym none) h
 join_sequence (P ∷ phrases) more front back (f, b, parts, p, h) others =
@@ -232,7 +225,7 @@ preset_walks kind (Some form) n ts parameter_is (front, back, parts, inl (f, b, 
     let whole : ts ≡ t ∷ (g ++ back) = parts ∙ ap (λ z. z ++ back) (one_more front f b t p one ∙ ap (λ z. t ∷ z) b_is) in
     takes (due.Preset kind) t ts (g ++ back) (body.Instance kind n) (Some (then.Goes (due.Opening kind form))) whole
     (rw (alike (codes ":=") (codes ";") t is, is, parameter_is) refl)
-    (bracket_walks kind form n (g ++ back) (join_sequence (bracket form n) semicolon g back (form_opened form n g given) rest))
+    (bracket_walks kind form n (g ++ back) (join_sequence (bracket form n) semicolon g back ((preset_form form n g).0 given) rest))
 
 pub walks : (ts : List (List ℕ)) (b : Body) → IsBody ts b → Walks due.Place ts b
 walks ts (body.Var kind address value) (place, a, pa, inr (empty, (none, memory)), (f, b, pb, (colon, ob, is), (g, c, pc, (bool, oc, is_bool), more))) =

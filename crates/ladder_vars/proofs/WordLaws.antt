@@ -1,9 +1,8 @@
 -- Words: a keyword, a number, an address or a preset is read exactly where the word is one.
-use Rattle.std.proofs.Common.{◌≡◌, ℕ, ◌+◌, ◌-◌, ◌*◌, ◌≤◌, suc, true, nat_le, List, [], ◌∷◌, length, replicate, arith, Bool, false, codes, Some, refl, ◌∙◌, find, ◌⊎◌, inl, inr, ◌==◌, ◌++◌, take, drop, Option, None, sym, ap, subst}
+use Rattle.std.proofs.Common.{◌≡◌, ℕ, ◌+◌, ◌-◌, ◌*◌, ◌≤◌, suc, true, List, [], ◌∷◌, length, replicate, arith, Bool, false, codes, Some, refl, ◌∙◌, find, ◌⊎◌, inl, inr, ◌==◌, ◌++◌, take, drop, Option, None, ap}
 use Rattle.std.proofs.lemmas.Bool.Decides.{nat_tests}
-use Rattle.std.proofs.lemmas.Bool.{leb-true, and_parts, eqb-true}
 use Rattle.std.specs.List.{list_all, prefix_len}
-use Rattle.std.specs.Char.{is_ascii_digit, to_ascii_uppercase, to_ascii_lowercase}
+use Rattle.std.specs.Char.{is_ascii_digit, to_ascii_uppercase}
 use Rattle.ladder_times.specs.Duration.{number_of}
 use Rattle.ladder_times.specs.ReadTimes.{value_from}
 use Rattle.std.specs.Str.{str_to_ascii_lowercase}
@@ -13,7 +12,7 @@ use Rattle.ladder_vars.specs.declared.kind.BlockKind.TheVariants as block_kind
 use Rattle.ladder_vars.specs.Name.{same_letters}
 use Rattle.ladder_vars.specs.Kind.{traits_of}
 use Rattle.ladder_vars.specs.Grammar.{Is, IsNumber, IsSecond, IsAddress}
-use Rattle.ladder_vars.specs.ReadWords.{all_kinds, block_of, kind_of, IsValue, short_number, count_of, after_size, second_of, numbers_of, placed_at, address_of, value_of}
+use Rattle.ladder_vars.specs.ReadWords.{all_kinds, block_of, kind_of, IsValue, short_number, after_size, second_of, numbers_of, address_of, value_of}
 use Rattle.ladder_times.proofs.PartLaws.{same_bytes}
 use Rattle.std.proofs.lemmas.List.{take-append-drop}
 use Rattle.std.proofs.Math.Seq.{take-append_seam, drop-append_seam}
@@ -22,7 +21,6 @@ use Rattle.ladder_vars.specs.declared.kind.Parameter.{Parameter}
 use Rattle.ladder_vars.specs.declared.kind.Parameter.TheVariants as parameter
 use Rattle.ladder_vars.specs.declared.decls.Address.{Address}
 use Rattle.ladder_vars.specs.Text.{begins}
-use Rattle.ladder_times.proofs.Steps.{bind_some, chosen}
 use Rattle.ladder_times.proofs.Runs.{prefix_len-run}
 use Rattle.ladder_times.proofs.TimeLaws.{time_reads, time_takes}
 
@@ -107,64 +105,30 @@ no_digit second (Some n) h = grind arith
 
 numbers_read : (first second : List ℕ) (n : ℕ) (o : Option ℕ) → IsNumber first n → IsSecond second o → numbers_of (first ++ second) ≡ Some (n, o)
 unfolding numbers_of
-numbers_read first second n o h s =
-    let len : prefix_len is_ascii_digit (first ++ second) ≡ length first = prefix_len-run is_ascii_digit first second h.2 (no_digit second o s) in
-    rw (len, take-append_seam first second, drop-append_seam first second, number_reads first n h, second_reads second o s) refl
+numbers_read first second n o h s = grind (arith, prefix_len-run, no_digit, take-append_seam, drop-append_seam, number_reads, second_reads)
 
 pub address_reads : (word : List ℕ) (kind : VarKind) (a : Address) → IsAddress word kind a → address_of word ≡ Some (kind, a)
 address_reads word kind a (letter, size, first, second, spelled, capital, kind_of_letter, is_size, is_first, is_second) =
-    let kind_is : kind_of (to_ascii_uppercase letter) ≡ Some kind = ap kind_of (sym capital) ∙ kind_of_letter in
     let rest : after_size (size ++ (first ++ second)) ≡ first ++ second = after_size-size size first second is_size is_first.0 is_first.2 in
     let numbers : numbers_of (after_size (size ++ (first ++ second))) ≡ Some (a.first, a.second)
     = ap numbers_of rest ∙ numbers_read first second a.first a.second is_first is_second in
-    let one : address_of word ≡ placed_at (to_ascii_uppercase letter) (size ++ (first ++ second)) = ap address_of spelled in
-    let found : placed_at (to_ascii_uppercase letter) (size ++ (first ++ second))
-    ≡ Some (kind, record { letter = to_ascii_uppercase letter; first = a.first; second = a.second }) = rw (kind_is, numbers) refl in
-    let same : record { letter = to_ascii_uppercase letter; first = a.first; second = a.second } ≡ a
-    = ap (λ l. record { letter = l; first = a.first; second = a.second }) (sym capital) in
-    one ∙ found ∙ ap (λ x. Some (kind, x)) same
-
-record Numbers (text : List ℕ) (n : ℕ) (o : Option ℕ) : Type 0 where
-  first : List ℕ
-  second : List ℕ
-  parts : text ≡ first ++ second
-  is_first : IsNumber first n
-  is_second : IsSecond second o
-
-numbers_take : (text : List ℕ) (n : ℕ) (o : Option ℕ) → numbers_of text ≡ Some (n, o) → Numbers text n o
-unfolding numbers_of
-numbers_take text n o h =
-    let k : ℕ = prefix_len is_ascii_digit text in
-    record {
-      first = take k text;
-      second = drop k text;
-      parts = sym (take-append-drop k text);
-      is_first = number_takes (take k text) n (grind arith);
-      is_second = second_takes (drop k text) o (grind arith);
-    }
+    grind arith
 
 pub address_takes : (word : List ℕ) (kind : VarKind) (a : Address) → address_of word ≡ Some (kind, a) → IsAddress word kind a
+unfolding numbers_of
 address_takes [] kind a h = absurd cc
 address_takes (b ∷ []) kind a h = absurd cc
 address_takes (percent ∷ letter ∷ text) kind a h =
-    elim (chosen (percent == 37) _ _ _ h) [
-      | inr other ↦ absurd cc
-      | inl yes_ ↦
-          let k = bind_some (kind_of (to_ascii_uppercase letter)) _ (kind, a) yes_.1 in
-          let ns = bind_some (numbers_of (after_size text)) _ (kind, a) k.2 in
-          let made : Address = record { letter = to_ascii_uppercase letter; first = ns.0.0; second = ns.0.1 } in
-          let got : VarKind × Address = (k.0, made) in
-          let wanted : VarKind × Address = (kind, a) in
-          let pair : got ≡ wanted = cc in
-          let size = after_size_is text in
-          let numbers : Numbers (after_size text) ns.0.0 ns.0.1 = numbers_take (after_size text) ns.0.0 ns.0.1 ns.1 in
-          let first : percent ≡ 37 = eqb-true percent 37 yes_.0 in
-          let spelled : percent ∷ letter ∷ text ≡ 37 ∷ letter ∷ (size.0 ++ (numbers.first ++ numbers.second))
-          = ap (λ p. p ∷ letter ∷ text) first ∙ ap (λ (z : List ℕ). 37 ∷ letter ∷ z) (size.1 ∙ ap (λ z. size.0 ++ z) numbers.parts) in
-          let is : IsAddress (percent ∷ letter ∷ text) k.0 made
-          = (letter, size.0, numbers.first, numbers.second, spelled, refl, k.1, size.2, numbers.is_first, numbers.is_second) in
-          subst (λ p. IsAddress (percent ∷ letter ∷ text) p.0 p.1) pair is
-    ]
+    let size = after_size_is text in
+    let rest : List ℕ = after_size text in
+    let k : ℕ = prefix_len is_ascii_digit rest in
+    let spelled : percent ∷ letter ∷ text ≡ 37 ∷ letter ∷ (size.0 ++ (take k rest ++ drop k rest))
+    = rw (take-append-drop k rest) (let same = size.1 in grind (arith, nat_tests)) in
+    let capital : a.letter ≡ to_ascii_uppercase letter = grind arith in
+    let place : kind_of (to_ascii_uppercase letter) ≡ Some kind = grind arith in
+    let first : short_number (take k rest) ≡ Some a.first = grind arith in
+    let second : second_of (drop k rest) ≡ Some a.second = grind arith in
+    (letter, size.0, take k rest, drop k rest, spelled, capital, rw capital place, size.2, number_takes _ _ first, second_takes _ _ second)
 
 -- ---- presets
 
