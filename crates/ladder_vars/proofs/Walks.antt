@@ -180,34 +180,26 @@ body_of ts b w = rest_of ts due.Place b w
 
 -- a token, and what follows it
 one_more : (ts front back : List (List ℕ)) (t : List ℕ) → ts ≡ front ++ back → front ≡ t ∷ [] → ts ≡ t ∷ back
-one_more ts front back t parts one = parts ∙ ap (λ z. z ++ back) one
+one_more ts front back t parts one = grind arith
 
 end_walks : (c : Body) (ts : List (List ℕ)) → Sequence semicolon ts → Walks (due.End c) ts c
-end_walks c ts (f, back, parts, (t, one, is), none) = takes (due.End c) t ts back c (Some (then.Ends c)) (one_more ts f back t parts one) (rw is refl) (none, refl)
+end_walks c ts (f, back, parts, (t, one, is), none) = grind arith
 
 initial_walks : (kind : VarKind) (address : Option Address) (value : Bool) (ts : List (List ℕ)) → Sequence (after_bool value) ts
     → Walks (due.Initial kind address) ts (body.Var kind address value)
-initial_walks kind address value ts (front, back, parts, inr (empty, off), (f, c, p, (t, one, is), none)) =
-    takes (due.Initial kind address) t ts c (body.Var kind address value) (Some (then.Ends (body.Var kind address false)))
-    (parts ∙ ap (λ z. z ++ back) empty ∙ one_more back f c t p one) (rw is refl) (none, ap (body.Var kind address) off)
+initial_walks kind address value ts (front, back, parts, inr (empty, off), (f, c, p, (t, one, is), none)) = grind arith
 initial_walks kind address value ts (front, back, parts, inl (f, b, p, (t, one, is), (g, c, q, (bit, other, is_bit), end)), rest) =
-    let b_is : b ≡ bit ∷ [] = one_more b g c bit q other ∙ ap (λ z. bit ∷ z) end in
-    let whole : ts ≡ t ∷ bit ∷ back = parts ∙ ap (λ z. z ++ back) (one_more front f b t p one ∙ ap (λ z. t ∷ z) b_is) in
-    takes (due.Initial kind address) t ts (bit ∷ back) (body.Var kind address value) (Some (then.Goes (due.Bit kind address))) whole
-    (rw (alike (codes ":=") (codes ";") t is, is) refl)
-    (takes (due.Bit kind address) bit (bit ∷ back) back (body.Var kind address value) (Some (then.Goes (due.End (body.Var kind address value)))) refl (rw is_bit refl)
-    (end_walks (body.Var kind address value) back rest))
+    let no_end = alike (codes ":=") (codes ";") t is in
+    let end_ = end_walks (body.Var kind address value) back rest in
+    grind arith
 
 bracket_walks : (kind : BlockKind) (form : Parameter) (n : ℕ) (ts : List (List ℕ))
     → Sequence (Token (Is (codes "(")) ∷ after_opening form n) ts → Walks (due.Opening kind form) ts (body.Instance kind n)
 bracket_walks kind form n ts
     (f1, b1, p1, (t1, o1, is1), (f2, b2, p2, (t2, o2, is2), (f3, b3, p3, (t3, o3, is3), (f4, b4, p4, (t4, o4, is4), (f5, b5, p5, (t5, o5, is5), rest))))) =
-    let b : Body = body.Instance kind n in
-    takes (due.Opening kind form) t1 ts b1 b (Some (then.Goes (due.Word kind form))) (one_more ts f1 b1 t1 p1 o1) (rw is1 refl)
-    (takes (due.Word kind form) t2 b1 b2 b (Some (then.Goes (due.Assign kind form))) (one_more b1 f2 b2 t2 p2 o2) (rw is2 refl)
-    (takes (due.Assign kind form) t3 b2 b3 b (Some (then.Goes (due.Value kind form))) (one_more b2 f3 b3 t3 p3 o3) (rw is3 refl)
-    (takes (due.Value kind form) t4 b3 b4 b (Some (then.Goes (due.Closing b))) (one_more b3 f4 b4 t4 p4 o4) (rw (value_reads form t4 n is4) refl)
-    (takes (due.Closing b) t5 b4 b5 b (Some (then.Goes (due.End b))) (one_more b4 f5 b5 t5 p5 o5) (rw is5 refl) (end_walks b b5 rest)))))
+    let value = value_reads form t4 n is4 in
+    let end = end_walks (body.Instance kind n) b5 rest in
+    grind arith
 
 join_sequence : (phrases more : List Phrase) (front back : List (List ℕ)) → Sequence phrases front → Sequence more back → Sequence (phrases ++ more) (front ++ back)
 join_sequence [] more front back none h = subst (λ z. Sequence more (z ++ back)) (sym none) h
