@@ -208,41 +208,29 @@ join_sequence (P ∷ phrases) more front back (f, b, parts, p, h) others =
 
 preset_walks : (kind : BlockKind) (o : Option Parameter) (n : ℕ) (ts : List (List ℕ)) → (traits_of kind).parameter ≡ o
     → Sequence (Optional (Token (Is (codes ":=")) ∷ Preset o n ∷ []) (n ≡ 0) ∷ semicolon) ts → Walks (due.Preset kind) ts (body.Instance kind n)
-preset_walks kind o n ts parameter_is (front, back, parts, inr (empty, zero_), (f, c, p, (t, one, is), none)) =
-    takes (due.Preset kind) t ts c (body.Instance kind n) (Some (then.Ends (body.Instance kind 0)))
-    (parts ∙ ap (λ z. z ++ back) empty ∙ one_more back f c t p one) (rw is refl) (none, ap (body.Instance kind) zero_)
+preset_walks kind o n ts parameter_is (front, back, parts, inr (empty, zero_), (f, c, p, (t, one, is), none)) = grind arith
 preset_walks kind None n ts parameter_is (front, back, parts, inl (f, b, p, assign, (g, c, q, never, end)), rest) = absurd never
 preset_walks kind (Some form) n ts parameter_is (front, back, parts, inl (f, b, p, (t, one, is), (g, c, q, given, end)), rest) =
-    let b_is : b ≡ g = q ∙ ap (λ z. g ++ z) end ∙ append-nil g in
-    let whole : ts ≡ t ∷ (g ++ back) = parts ∙ ap (λ z. z ++ back) (one_more front f b t p one ∙ ap (λ z. t ∷ z) b_is) in
-    takes (due.Preset kind) t ts (g ++ back) (body.Instance kind n) (Some (then.Goes (due.Opening kind form))) whole
-    (rw (alike (codes ":=") (codes ";") t is, is, parameter_is) refl)
-    (bracket_walks kind form n (g ++ back) (join_sequence (bracket form n) semicolon g back ((preset_form form n g).0 given) rest))
+    let no_end = alike (codes ":=") (codes ";") t is in
+    let more = bracket_walks kind form n (g ++ back) (join_sequence (bracket form n) semicolon g back ((preset_form form n g).0 given) rest) in
+    grind (arith, append-nil {A = List ℕ})
 
 pub walks : (ts : List (List ℕ)) (b : Body) → IsBody ts b → Walks due.Place ts b
 walks ts (body.Var kind address value) (place, a, pa, inr (empty, (none, memory)), (f, b, pb, (colon, ob, is), (g, c, pc, (bool, oc, is_bool), more))) =
-    let it : Body = body.Var kind address value in
-    let same : body.Var var_kind.Memory None value ≡ it = ap (λ k. body.Var k None value) (sym memory) ∙ ap (λ o. body.Var kind o value) (sym none) in
-    takes due.Place colon ts b it (Some (then.Goes due.Type)) (pa ∙ ap (λ z. z ++ a) empty ∙ one_more a f b colon pb ob)
-    (rw (alike (codes ":") (codes "AT") colon is, is) refl)
-    (takes due.Type bool b c it (Some (then.Goes (due.Initial var_kind.Memory None))) (one_more b g c bool pc oc) (rw is_bool refl)
-    (subst (Walks (due.Initial var_kind.Memory None) c) same (initial_walks var_kind.Memory None value c more)))
+    let no_at = alike (codes ":") (codes "AT") colon is in
+    let rest = initial_walks var_kind.Memory None value c more in
+    grind arith
 walks ts (body.Var kind address value)
     (place, a, pa, inl (h, d, pd, (at, oat, is_at), (i, e, pe, (word, oe, (x, some, is_address)), end)), (f, b, pb, (colon, ob, is), (g, c, pc, (bool, oc, is_bool), more))) =
-    let it : Body = body.Var kind address value in
-    let same : body.Var kind (Some x) value ≡ it = ap (λ o. body.Var kind o value) (sym some) in
-    let whole : ts ≡ at ∷ word ∷ a = pa ∙ ap (λ z. z ++ a) (one_more place h d at pd oat ∙ ap (λ z. at ∷ z) (one_more d i e word pe oe ∙ ap (λ z. word ∷ z) end)) in
-    takes due.Place at ts (word ∷ a) it (Some (then.Goes due.Address)) whole (rw is_at refl)
-    (takes due.Address word (word ∷ a) a it (Some (then.Goes (due.Colon kind x))) refl (rw (address_reads word kind x is_address) refl)
-    (takes (due.Colon kind x) colon a b it (Some (then.Goes (due.Bool kind x))) (one_more a f b colon pb ob) (rw is refl)
-    (takes (due.Bool kind x) bool b c it (Some (then.Goes (due.Initial kind (Some x)))) (one_more b g c bool pc oc) (rw is_bool refl)
-    (subst (Walks (due.Initial kind (Some x)) c) same (initial_walks kind (Some x) value c more)))))
+    let found = address_reads word kind x is_address in
+    let rest = initial_walks kind (Some x) value c more in
+    grind arith
 walks ts (body.Instance kind n) (f, a, pa, (colon, oa, is), (g, b, pb, (block, ob, is_block), more)) =
-    let it : Body = body.Instance kind n in
-    let named : block_of block ≡ Some kind = block_reads block kind is_block in
-    takes due.Place colon ts a it (Some (then.Goes due.Type)) (one_more ts f a colon pa oa) (rw (alike (codes ":") (codes "AT") colon is, is) refl)
-    (takes due.Type block a b it (Some (then.Goes (due.Preset kind))) (one_more a g b block pb ob) (rw (block_of-other block kind named, named) refl)
-    (preset_walks kind (traits_of kind).parameter n b refl more))
+    let no_at = alike (codes ":") (codes "AT") colon is in
+    let named = block_reads block kind is_block in
+    let no_bool = block_of-other block kind named in
+    let rest = preset_walks kind (traits_of kind).parameter n b refl more in
+    grind arith
 
 -- ---- each preset is in range
 
