@@ -1,5 +1,5 @@
 -- A block as an automaton: which tokens can follow, as the grammar says, and where a fault shows.
-use Rattle.std.proofs.Common.{◌≡◌, inl, inr, ℕ, Bool, true, false, if◌then◌else◌, List, [], ◌∷◌, ◌++◌, length, codes, Option, Some, None, refl, sym, ap, subst, ◌∙◌, append_assoc, arith, zero, suc, ◌<◌, Err}
+use Rattle.std.proofs.Common.{◌≡◌, inl, inr, ℕ, true, false, if◌then◌else◌, List, [], ◌∷◌, ◌++◌, length, codes, Option, Some, None, refl, sym, ap, subst, ◌∙◌, append_assoc, arith, zero, suc, ◌<◌, Err}
 use Rattle.std.proofs.lemmas.Bool.Decides.{nat_tests}
 use Rattle.ladder_vars.specs.declared.fault.VarRule.{VarRule}
 use Rattle.ladder_vars.specs.declared.fault.VarRule.TheVariants as rule
@@ -18,7 +18,7 @@ use Rattle.ladder_vars.specs.Kind.{parameter_word}
 use Rattle.ladder_vars.specs.Grammar.{Is, Decl, IsBody, AreDecls, IsHead, IsBlock, CanFollow}
 use Rattle.ladder_times.specs.ReadTimes.{◌>>=◌, part_at, total_from, total_of, time_of}
 use Rattle.ladder_vars.specs.ReadWords.{numbers_of}
-use Rattle.ladder_vars.specs.ReadSteps.{on, step, misfit}
+use Rattle.ladder_vars.specs.ReadSteps.{step, misfit}
 use Rattle.ladder_vars.proofs.Tokens.{bind_err, first_token, token_takes, AreTokens-append, no_token-found}
 use Rattle.ladder_vars.proofs.Walks.{Walks, GoesOn, Each, when, either, found, takes, walks, body_of}
 use Rattle.std.proofs.lemmas.List.{append-nil}
@@ -96,20 +96,15 @@ name_next name named = grind (arith, no_keyword)
 decls_run : (ds : List Decl) (ts us : List (List ℕ)) → AreDecls ts ds → run NeedName (ts ++ us) ≡ run NeedName us
 decls_run [] ts us h = rw h refl
 decls_run (d ∷ ds) ts us (behind, back, parts, named, is, others) =
-    let whole : ts ++ us ≡ d.name ∷ (behind ++ (back ++ us)) = ap (λ z. z ++ us) parts ∙ ap (λ z. d.name ∷ z) (append_assoc behind back us) in
-    ap (run NeedName) whole
-    ∙ ap (λ o. o >>= λ n. run n (behind ++ (back ++ us))) (name_next d.name named)
-    ∙ body_runs behind (back ++ us) due.Place d.body (walks behind d.body is)
-    ∙ decls_run ds back us others
+    let one = body_runs behind (back ++ us) due.Place d.body (walks behind d.body is) in
+    let more = decls_run ds back us others in
+    grind (arith, name_next, append_assoc)
 
 pub head_runs : (ts us : List (List ℕ)) (ds : List Decl) → IsHead ts ds → run NeedVar (ts ++ us) ≡ run NeedName us
-head_runs ts us ds (opening, between, parts, is_var, derived) =
-    ap (λ z. run NeedVar (z ++ us)) parts
-    ∙ ap (λ o. o >>= λ n. run n (between ++ us)) (ap (λ b. if b then Some NeedName else None) is_var)
-    ∙ decls_run ds between us derived
+head_runs ts us ds (opening, between, parts, is_var, derived) = let more = decls_run ds between us derived in grind arith
 
 block_runs : (ts : List (List ℕ)) (ds : List Decl) → IsBlock ts ds → run NeedVar ts ≡ Some Ended
-block_runs ts ds (head, closing, parts, is_head, is_end) = ap (run NeedVar) parts ∙ head_runs head (closing ∷ []) ds is_head ∙ rw is_end refl
+block_runs ts ds (head, closing, parts, is_head, is_end) = let more = head_runs head (closing ∷ []) ds is_head in grind arith
 
 -- ---- what can follow
 
@@ -148,10 +143,9 @@ some_follows ts (t ∷ rest) ds h =
 
 pub none_follows : (ts : List (List ℕ)) (t : List ℕ) (s : State) → run NeedVar ts ≡ Some s → next s t ≡ None → CanFollow ts t → ⊥
 none_follows ts t s h none (more, ds, block) =
-    let stops : run s (t ∷ more) ≡ None = ap (λ o. o >>= λ n. run n more) none in
-    let read : run s (t ∷ more) ≡ Some Ended
-    = ap (λ o. o >>= λ n. run n (t ∷ more)) (sym h) ∙ sym (run-append ts (t ∷ more) NeedVar) ∙ block_runs (ts ++ t ∷ more) ds block in
-    cc
+    let all = block_runs (ts ++ t ∷ more) ds block in
+    let split = run-append ts (t ∷ more) NeedVar in
+    grind arith
 
 -- ---- where a value is due
 
@@ -176,7 +170,7 @@ follows (due.Assign kind form) t ts (before, opening, word, parts, is) =
     (λ _. (before, opening, word, t, ap (λ z. z ++ t ∷ []) parts ∙ append_assoc before (opening ∷ word ∷ []) (t ∷ []), is))
 follows other t ts b = search (when, either, found)
 
-pub goes_behind : (d n : Due) (t : List ℕ) (ts : List (List ℕ)) → Behind (In d) ts → step d t ≡ Some (then.Goes n) → Behind (In n) (ts ++ t ∷ [])
+goes_behind : (d n : Due) (t : List ℕ) (ts : List (List ℕ)) → Behind (In d) ts → step d t ≡ Some (then.Goes n) → Behind (In n) (ts ++ t ∷ [])
 goes_behind d n t ts b is = subst (Each (Follows (ts ++ t ∷ []))) is (follows d t ts b)
 
 opening_is : (t : List ℕ) → Is (codes "(") t → t ≡ codes "("
@@ -198,19 +192,16 @@ step_of : (o : Option State) (ts : List (List ℕ)) (last : State) → (o >>= λ
 step_of (Some n) ts last h = (n, refl, h)
 step_of None ts last h = absurd cc
 
--- the last two
-goes_to : (b : Bool) (d : Due) (s : State) → (on b (then.Goes d) >>= λ n. Some (state_of n)) ≡ Some s → In d ≡ s
-goes_to b d s h = grind arith
+last_two : (kind : BlockKind) (form : Parameter) (word assign : List ℕ) (last : State) → run (In (due.Word kind form)) (word ∷ assign ∷ []) ≡ Some last → last ≡ In (due.Value kind form)
+last_two kind form word assign last h = grind arith
 
-pub value_due : (before : List (List ℕ)) (opening word assign : List ℕ) (last : State) → Is (codes "(") opening
+value_due : (before : List (List ℕ)) (opening word assign : List ℕ) (last : State) → Is (codes "(") opening
     → run NeedVar (before ++ opening ∷ word ∷ assign ∷ []) ≡ Some last → (kind : BlockKind) × (form : Parameter) × (last ≡ In (due.Value kind form))
 value_due before opening word assign last is_opening h =
     let a = step_of (run NeedVar before) (opening ∷ word ∷ assign ∷ []) last (sym (run-append before (opening ∷ word ∷ assign ∷ []) NeedVar) ∙ h) in
     let b = step_of (next a.0 opening) (word ∷ assign ∷ []) last a.2 in
     let (kind, form, is) = opens a.0 b.0 (ap (next a.0) (sym (opening_is opening is_opening)) ∙ b.1) in
-    let c = step_of (next (In (due.Word kind form)) word) (assign ∷ []) last (ap (λ s. run s (word ∷ assign ∷ [])) (sym is) ∙ b.2) in
-    let d = step_of (next (In (due.Assign kind form)) assign) [] last (ap (λ s. run s (assign ∷ [])) (goes_to _ (due.Assign kind form) c.0 c.1) ∙ c.2) in
-    (kind, form, sym (goes_to _ (due.Value kind form) last (d.1 ∙ d.2)))
+    (kind, form, last_two kind form word assign last (ap (λ s. run s (word ∷ assign ∷ [])) (sym is) ∙ b.2))
 
 -- ---- where a fault shows
 

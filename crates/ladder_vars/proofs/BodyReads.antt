@@ -48,9 +48,7 @@ ok_same x y e = cc
 
 -- the value of a step, and what is left
 pub halves : {A B : Type 0} (a x : A) (b y : B) → ◌≡◌ {A = Result (A × B) Fault} (Ok (a, b)) (Ok (x, y)) → (a ≡ x) × (b ≡ y)
-halves {A} {B} a x b y e =
-    let pair : (a, b) ≡ (x, y) = ok_same (a, b) (x, y) e in
-    (ap (λ p. p.0) pair, ap (λ p. p.1) pair)
+halves a x b y e = grind arith
 
 -- ---- one word
 

@@ -1,5 +1,5 @@
 -- The declarations of a text that are read, those that are still to come, and how a reading ends: with END_VAR, or at a fault, whose rule is broken there.
-use Rattle.std.proofs.Common.{◌≡◌, ℕ, ◌⊎◌, inl, inr, true, List, [], ◌∷◌, ◌++◌, codes, Ok, refl, sym, ap, subst, ◌∙◌, append_assoc, ◌-◌, ◌≤◌, false, if◌then◌else◌, length, drop, Err, None, Some, arith}
+use Rattle.std.proofs.Common.{◌≡◌, ℕ, ◌⊎◌, inl, inr, true, List, [], ◌∷◌, ◌++◌, codes, Ok, refl, sym, ap, subst, ◌∙◌, append_assoc, ◌-◌, ◌≤◌, false, if◌then◌else◌, length, drop, Err, None, arith}
 use Rattle.std.proofs.lemmas.Bool.{true≢false}
 use Rattle.std.proofs.lemmas.List.Elements.{filter_map-append}
 use Rattle.ladder_vars.specs.declared.decls.Body.{Body}
@@ -13,10 +13,9 @@ use Rattle.ladder_vars.specs.ReadDecls.{expect, with_decl, at, body_at, IfBroken
 use Rattle.ladder_vars.specs.TakeTitles.{IsNext}
 use Rattle.ladder_vars.proofs.Tokens.{first_token, token_takes, AreTokens-append, bind_err, tokens-end, tokens-shorter}
 use Rattle.ladder_vars.proofs.BodyReads.{ok_same, expect_reads, expect_takes, body_reads, body_takes}
-use Rattle.ladder_vars.proofs.Blocks.{no_keyword, IsHead-push, NeedVar, NeedName, In, Ended, next, none_follows, Came, came_first, came_head, token_due, no_token_breaks, token_breaks, within_first, body_breaks}
+use Rattle.ladder_vars.proofs.Blocks.{no_keyword, IsHead-push, NeedVar, NeedName, next, none_follows, Came, came_first, came_head, token_due, no_token_breaks, token_breaks, within_first, body_breaks}
 use Rattle.ladder_vars.proofs.Keeping.{joined, joined-nil, joined-more, unbroken}
-use Rattle.std.proofs.lemmas.List.{length-append}
-use Rattle.std.proofs.Math.Seq.{drop-append_seam}
+use Rattle.std.proofs.lemmas.List.Prefix.{end_rest}
 use Rattle.ladder_vars.specs.declared.fault.Fault.{Fault}
 use Rattle.ladder_vars.specs.declared.fault.ReadFault.{ReadFault}
 use Rattle.ladder_vars.specs.declared.fault.ReadFault.TheVariants as fault
@@ -170,8 +169,7 @@ pub place_after : (text : List ℕ) (whole : Declared) (rest : List ℕ) → Has
     → (length rest ≤ length text) × (rest ≡ drop (length text - length rest) text)
 place_after text whole rest has =
     let end = tokens-end has.0 text rest has.2 in
-    let many : length (end.0 ++ rest) - length rest ≡ length end.0 = omega (arith, length-append end.0 rest) in
-    (tokens-shorter has.0 text rest has.2, rw (end.1, many) (sym (drop-append_seam end.0 rest)))
+    (tokens-shorter has.0 text rest has.2, sym (end_rest text rest end.0 end.1))
 
 -- ---- END_VAR is here
 
@@ -236,8 +234,8 @@ pub no_name : (text : List ℕ) (ds : List Decl) (here w after : List ℕ) (f : 
 no_name text ds here w after f r h (unnamed, breaks, left) =
     let it : Came text r.head NeedName here = came text ds here r in
     let read : AreTokens (w ∷ []) here after = token_takes here w after h.word in
-    let none : next NeedName w ≡ None
-    = ap (λ b. if same_letters w (codes "END_VAR") then Some Ended else (if b then Some (In stage.Place) else None)) unnamed ∙ rw h.other refl in
+    let other = h.other in
+    let none : next NeedName w ≡ None = grind arith in
     let broken : Breaks (if has_name_form w then rule.BadName else rule.BadToken) text (length after)
     = elim (has_name_form w) as (λ t. has_name_form w ≡ t → Breaks (if t then rule.BadName else rule.BadToken) text (length after)) [
       | true ↦ λ form. inl (r.head, w, here, after, token_due text here r.head NeedName it, read, none_follows r.head w NeedName it.leads none, refl, (ds, r.is_head, form))

@@ -4,9 +4,9 @@ use Rattle.std.specs.List.{IsDistinct, list_any, prefix_len, filter_map}
 use Rattle.std.specs.List.Sorted.{IsPermutation}
 use Rattle.std.specs.Option.{option_eq}
 use Rattle.std.specs.Str.{str_to_ascii_lowercase}
-use Rattle.std.proofs.lemmas.Bool.{or_parts, or_from, true≢false}
+use Rattle.std.proofs.lemmas.Bool.{true≢false}
 use Rattle.std.proofs.lemmas.Cmp.{nat_eq_equiv, nat_list_eq_equiv}
-use Rattle.std.proofs.lemmas.List.{append-nil, length-append, length-set}
+use Rattle.std.proofs.lemmas.List.{map-append, append-nil, length-append, length-set}
 use Rattle.std.proofs.lemmas.List.Elements.{All-nil, All-push, filter_map-append, All-set}
 use Rattle.std.proofs.lemmas.List.Folds.{list_any-append, prefix_len-append}
 use Rattle.std.proofs.lemmas.List.Sorted.{IsPermutation-to_front, IsPermutation-middle, IsPermutation-map, IsPermutation-append_left, IsPermutation-append_right, IsPermutation-trans}
@@ -151,10 +151,8 @@ AreInRange-instance d name kind preset h new short few fits =
 pub new_name : (a : Declared) (name : List ℕ) (b : Body) (ds : List Decl) → AreKept (joined (with_decl a name b) ds) → list_any (same_letters name) (names_of a) ≡ false
 new_name a name b ds kept =
     let others = IsDistinct-less same_letters same_letters-flips name (names_of (joined a ds)) _ (names-with a name b ds) kept.0 in
-    let both = or_parts _ _ (sym (names_any (joined a ds) name) ∙ others.1) in
-    let vars = list_any-left (λ v. same_letters name v.name) a.vars (declared_by ds).vars both.0 in
-    let instances = list_any-left (λ i. same_letters name i.name) a.instances (declared_by ds).instances both.1 in
-    names_any a name ∙ or_from _ _ vars instances
+    let apart = others.1 in
+    grind (arith, list_any-append, map-append)
 
 pub unbroken : (a : Declared) (name : List ℕ) (b : Body) (ds : List Decl) → AreKept (joined (with_decl a name b) ds) → (r : VarRule) → IsRefused r a name b → ⊥
 unbroken a name b ds kept rule.Duplicate twice = true≢false (sym twice ∙ new_name a name b ds kept)
@@ -187,8 +185,8 @@ map-set_same f (x ∷ xs) (suc n) y d e = grind (arith, map-set_same f xs n y d)
 
 filter_map-set : {A B : Type 0} (f : A → Option B) (xs : List A) (n : ℕ) (y d : A) → f y ≡ f (get_or xs n d) → filter_map f (slice_set xs n y) ≡ filter_map f xs
 filter_map-set f [] n y d e = refl
-filter_map-set f (x ∷ xs) zero y d e = rw e refl
-filter_map-set f (x ∷ xs) (suc n) y d e = rw (filter_map-set f xs n y d e) refl
+filter_map-set f (x ∷ xs) zero y d e = grind arith
+filter_map-set f (x ∷ xs) (suc n) y d e = grind (arith, filter_map-set f xs n y d)
 
 pub var_in_range : (d : Declared) (n : ℕ) (v w : Var) → v ≡ get_or d.vars n v → w ≡ record v { title = w.title } → AreInRange d
     → AreInRange (record d { vars = slice_set d.vars n w })

@@ -60,7 +60,7 @@ plain-with done name title (body.Instance kind preset) =
     ap (λ is. record { vars = map plain_var done.vars; instances = is }) (map-append plain_instance done.instances (_ ∷ []))
 
 names-plain : (d : Declared) → names_of (plain d) ≡ names_of d
-names-plain d = ap₂ (λ xs ys. xs ++ ys) (map-map (λ v. v.name) plain_var d.vars) (map-map (λ i. i.name) plain_instance d.instances)
+names-plain d = rw (map-map (λ v. v.name) plain_var d.vars, map-map (λ i. i.name) plain_instance d.instances) refl
 
 titles-plain : (d : Declared) → titles_of (plain d) ≡ names_of d
 titles-plain d = ap₂ (λ xs ys. xs ++ ys) (map-map (λ v. v.title) plain_var d.vars) (map-map (λ i. i.title) plain_instance d.instances)
