@@ -1,7 +1,7 @@
 -- Declarations get their titles one after the other.
 use Rattle.std.proofs.Common.{◌≡◌, ℕ, ◌≤◌, ◌⊎◌, inl, inr, true, false, Bool, ◌||◌, List, [], ◌∷◌, ◌++◌, length, map, codes, Some, None, Ok, Err, unwrap_or, refl, sym, ap, ap₂, subst, ◌∙◌, arith, append_assoc}
 use Rattle.std.specs.List.{All, AllByRecursion, IsDistinct, list_any}
-use Rattle.std.proofs.lemmas.Bool.{or_left, or_right, or_cases, or_parts, or_from}
+use Rattle.std.proofs.lemmas.Bool.{or_left, or_right, or_cases, or_parts}
 use Rattle.std.proofs.lemmas.List.{map-append, length-map, length-append, get_or_at, set_at}
 use Rattle.std.proofs.lemmas.List.Elements.{All-nil, All-head, All-tail, All-push, All-append, All-from_recursion}
 use Rattle.std.proofs.lemmas.List.Folds.{list_any-append}
@@ -215,6 +215,12 @@ not_titled : {A : Type 0} (p : List ℕ → Bool) (name title : A → List ℕ) 
 not_titled p name title [] h = refl
 not_titled p name title (x ∷ xs) h = grind (arith, not_titled p name title xs)
 
+not_called : (alias : List ℕ) (d : Declared) → is_called alias d ≡ false → list_any (same_letters alias) (titles_of d) ≡ false
+not_called alias d free =
+    let vars = not_titled (same_letters alias) (λ v. v.name) (λ v. v.title) d.vars in
+    let instances = not_titled (same_letters alias) (λ i. i.name) (λ i. i.title) d.instances in
+    grind (arith, list_any-append, vars, instances)
+
 -- with an alias that nothing is called by
 pub with_alias : (text : List ℕ) (whole now then : Declared) (here : List ℕ) (before past : Passed) → Takes text whole now here before.vars before.instances
     → (name behind alias : List ℕ) (b : Body) (after : List ℕ) → IsNext here name behind b after → alias_of name behind ≡ Some alias → is_called alias now ≡ false
@@ -224,15 +230,10 @@ with_alias text whole now then here before past t name behind alias b after next
     let then_is = retitled t.done name alias b c.ahead.later then (rw (t.vars_are, t.instances_are, is) at sets) in
     let others : List (List ℕ) = titles_of (joined t.done c.ahead.later) in
     let moved = titles-with t.done name name b c.ahead.later in
-    let now_apart = subst (λ d. IsDistinct same_letters (titles_of d)) (is ∙ sym (joined-more t.done name b c.ahead.later)) t.apart in
-    let apart = (IsDistinct-less same_letters same_letters-flips name others _ moved now_apart).0 in
-    let each = or_parts (list_any (λ v. same_letters alias v.name || same_letters alias v.title) now.vars) _ free in
-    let new_now : list_any (same_letters alias) (titles_of now) ≡ false
-    = list_any-append (same_letters alias) (map (λ v. v.title) now.vars) (map (λ i. i.title) now.instances)
-    ∙ or_from _ _ (not_titled (same_letters alias) (λ v. v.name) (λ v. v.title) now.vars each.0)
-    (not_titled (same_letters alias) (λ i. i.name) (λ i. i.title) now.instances each.1) in
-    let new_with = subst (λ d. list_any (same_letters alias) (titles_of d) ≡ false) (is ∙ sym (joined-more t.done name b c.ahead.later)) new_now in
-    let new = (or_parts (same_letters alias name) _ (sym (list_any-IsPermutation (same_letters alias) _ (name ∷ others) moved) ∙ new_with)).1 in
+    let now_is = is ∙ sym (joined-more t.done name b c.ahead.later) in
+    let apart = (IsDistinct-less same_letters same_letters-flips name others _ moved (subst (λ d. IsDistinct same_letters (titles_of d)) now_is t.apart)).0 in
+    let new_now = subst (λ d. list_any (same_letters alias) (titles_of d) ≡ false) now_is (not_called alias now free) in
+    let new = (or_parts (same_letters alias name) _ (sym (list_any-IsPermutation (same_letters alias) _ (name ∷ others) moved) ∙ new_now)).1 in
     let then_apart = IsDistinct-more same_letters same_letters-flips alias others _ (titles-with t.done name alias b c.ahead.later) apart new in
     step text whole now then here before past t name behind alias b after c (ap (λ o. unwrap_or o name) (sym is_alias)) then_is
     (subst (λ d. IsDistinct same_letters (titles_of d)) (sym then_is) then_apart) passed

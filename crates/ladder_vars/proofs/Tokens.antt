@@ -11,7 +11,6 @@ use Rattle.ladder_vars.specs.Text.{begins_with, token_len, closes, Gap, Nothing,
 use Rattle.std.proofs.lemmas.Bool.{eqb-true, and_parts, cond_both}
 use Rattle.std.proofs.lemmas.List.Sums.{prefix_len-le-length}
 use Rattle.ladder_vars.specs.declared.text.Within.{Within}
-use Rattle.ladder_times.proofs.Steps.{chosen}
 use Rattle.ladder_vars.specs.declared.fault.VarRule.TheVariants as rule
 
 -- the value of a step that did not fail
@@ -247,14 +246,8 @@ no_token-found due f h =
     elim (bind_err (skip_from state.Blanks due) _ f h) [
       | inl skip ↦
           let (unf, open_yet) : Shows state.Blanks due (Err f) = subst (Shows state.Blanks due) skip (shows due state.Blanks) in
-          elim open_yet [
-            | inl never ↦ absurd never
-            | inr (at, gap, u) ↦ (at, gap, inr (inr (ap (λ x. x.rule) unf, u, ap (λ x. x.left) unf)))
-          ]
-      | inr (rest, skip, then) ↦ elim (chosen (token_len rest == 0) _ _ _ then) [
-        | inl none ↦
-            let e : no_token rest ≡ f = cc in
-            no_token-shows due rest f (skipped due rest skip).0 (skipped due rest skip).1 (eqb-true (token_len rest) 0 none.0) e
-        | inr some ↦ absurd cc
-      ]
+          elim open_yet [ inl never ↦ absurd never | inr (at, gap, u) ↦ (at, gap, inr (inr (grind arith))) ]
+      | inr (rest, skip, then) ↦
+          let none : token_len rest ≡ 0 = grind (arith, nat_tests) in
+          no_token-shows due rest f (skipped due rest skip).0 (skipped due rest skip).1 none (grind arith)
     ]
