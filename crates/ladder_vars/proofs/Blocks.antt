@@ -1,6 +1,7 @@
 -- A block as an automaton: which tokens can follow, as the grammar says, and where a fault shows.
 use Rattle.std.proofs.Common.{◌≡◌, inl, inr, ℕ, true, false, if◌then◌else◌, List, [], ◌∷◌, ◌++◌, length, codes, Option, Some, None, refl, sym, ap, subst, ◌∙◌, append_assoc, arith, zero, suc, ◌<◌, Err}
 use Rattle.std.proofs.lemmas.Bool.Decides.{nat_tests}
+use Rattle.std.proofs.lemmas.List.{append-nil}
 use Rattle.ladder_vars.specs.declared.fault.VarRule.{VarRule}
 use Rattle.ladder_vars.specs.declared.fault.VarRule.TheVariants as rule
 use Rattle.ladder_vars.specs.declared.decls.VarKind.TheVariants as var_kind
@@ -13,20 +14,19 @@ use Rattle.ladder_vars.specs.declared.declaration.Due.{Due}
 use Rattle.ladder_vars.specs.declared.declaration.Due.TheVariants as due
 use Rattle.ladder_vars.specs.declared.declaration.Next.{Next}
 use Rattle.ladder_vars.specs.declared.declaration.Next.TheVariants as then
+use Rattle.ladder_vars.specs.declared.fault.Fault.{Fault}
 use Rattle.ladder_vars.specs.Name.{same_letters, is_name, has_name_form}
 use Rattle.ladder_vars.specs.Kind.{parameter_word}
 use Rattle.ladder_vars.specs.Grammar.{Is, Decl, IsBody, AreDecls, IsHead, IsBlock, CanFollow}
 use Rattle.ladder_times.specs.ReadTimes.{◌>>=◌, part_at, total_from, total_of, time_of}
 use Rattle.ladder_vars.specs.ReadWords.{numbers_of}
 use Rattle.ladder_vars.specs.ReadSteps.{step, misfit}
-use Rattle.ladder_vars.proofs.Tokens.{bind_err, first_token, token_takes, AreTokens-append, no_token-found}
-use Rattle.ladder_vars.proofs.Walks.{Walks, GoesOn, Each, when, either, found, takes, walks, body_of}
-use Rattle.std.proofs.lemmas.List.{append-nil}
-use Rattle.ladder_vars.specs.declared.fault.Fault.{Fault}
 use Rattle.ladder_vars.specs.Text.{begins_word, AreTokens}
 use Rattle.ladder_vars.specs.Rules.{TokenDue, IsForName, IsForValue, Breaks}
 use Rattle.ladder_vars.specs.ReadText.{token_at}
 use Rattle.ladder_vars.specs.ReadDecls.{at, turn, body_from}
+use Rattle.ladder_vars.proofs.Tokens.{bind_err, first_token, token_takes, AreTokens-append, no_token-found}
+use Rattle.ladder_vars.proofs.Walks.{Walks, GoesOn, Each, when, either, found, takes, walks, body_of}
 
 -- what is due in a block
 pub data State : Type 0 where

@@ -2,7 +2,14 @@
 use Rattle.std.proofs.Common.{◌≡◌, ℕ, ◌⊎◌, inl, inr, true, List, [], ◌∷◌, ◌++◌, codes, Ok, refl, sym, ap, subst, ◌∙◌, append_assoc, ◌-◌, ◌≤◌, false, if◌then◌else◌, length, drop, Err, None, arith}
 use Rattle.std.proofs.lemmas.Bool.{true≢false}
 use Rattle.std.proofs.lemmas.List.Elements.{filter_map-append}
+use Rattle.std.proofs.lemmas.List.Prefix.{end_rest}
 use Rattle.ladder_vars.specs.declared.decls.Body.{Body}
+use Rattle.ladder_vars.specs.declared.fault.Fault.{Fault}
+use Rattle.ladder_vars.specs.declared.fault.ReadFault.{ReadFault}
+use Rattle.ladder_vars.specs.declared.fault.ReadFault.TheVariants as fault
+use Rattle.ladder_vars.specs.declared.fault.VarRule.{VarRule}
+use Rattle.ladder_vars.specs.declared.fault.VarRule.TheVariants as rule
+use Rattle.ladder_vars.specs.declared.declaration.Due.TheVariants as stage
 use Rattle.ladder_vars.specs.Name.{same_letters, is_name, has_name_form}
 use Rattle.ladder_vars.specs.Decls.{Declared, AreKept}
 use Rattle.ladder_vars.specs.Text.{AreTokens}
@@ -15,13 +22,6 @@ use Rattle.ladder_vars.proofs.Tokens.{first_token, token_takes, AreTokens-append
 use Rattle.ladder_vars.proofs.BodyReads.{ok_same, expect_reads, expect_takes, body_reads, body_takes}
 use Rattle.ladder_vars.proofs.Blocks.{no_keyword, IsHead-push, NeedVar, NeedName, next, none_follows, Came, came_first, came_head, token_due, no_token_breaks, token_breaks, within_first, body_breaks}
 use Rattle.ladder_vars.proofs.Keeping.{joined, joined-nil, joined-more, unbroken}
-use Rattle.std.proofs.lemmas.List.Prefix.{end_rest}
-use Rattle.ladder_vars.specs.declared.fault.Fault.{Fault}
-use Rattle.ladder_vars.specs.declared.fault.ReadFault.{ReadFault}
-use Rattle.ladder_vars.specs.declared.fault.ReadFault.TheVariants as fault
-use Rattle.ladder_vars.specs.declared.fault.VarRule.{VarRule}
-use Rattle.ladder_vars.specs.declared.fault.VarRule.TheVariants as rule
-use Rattle.ladder_vars.specs.declared.declaration.Due.TheVariants as stage
 
 -- behind the declarations that are read here, these complete the whole
 pub record Ahead (whole : Declared) (end : List ℕ) (ds : List Decl) (here : List ℕ) : Type 0 where

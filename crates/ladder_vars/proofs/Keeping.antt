@@ -10,6 +10,7 @@ use Rattle.std.proofs.lemmas.List.{map-append, append-nil, length-append, length
 use Rattle.std.proofs.lemmas.List.Elements.{All-nil, All-push, filter_map-append, All-set}
 use Rattle.std.proofs.lemmas.List.Folds.{list_any-append, prefix_len-append}
 use Rattle.std.proofs.lemmas.List.Sorted.{IsPermutation-to_front, IsPermutation-middle, IsPermutation-map, IsPermutation-append_left, IsPermutation-append_right, IsPermutation-trans}
+use Rattle.std.proofs.lemmas.Bool.Decides.{nat_tests}
 use Rattle.ladder_vars.specs.declared.decls.Address.{Address}
 use Rattle.ladder_vars.specs.declared.decls.VarKind.{VarKind}
 use Rattle.ladder_vars.specs.declared.kind.BlockKind.{BlockKind}
@@ -27,7 +28,6 @@ use Rattle.ladder_vars.specs.Rules.{IsRefused}
 use Rattle.ladder_vars.specs.Titles.{titles_of}
 use Rattle.ladder_vars.specs.ReadDecls.{is_taken, nothing, with_var, with_instance, with_title, with_decl}
 use Rattle.ladder_vars.proofs.Lists.{list_any-map, list_any-left, All-middle, IsDistinct-more, IsDistinct-less}
-use Rattle.std.proofs.lemmas.Bool.Decides.{nat_tests}
 
 pub AreInRange-nothing : AreInRange nothing
 unfolding IsDistinct

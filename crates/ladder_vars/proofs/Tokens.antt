@@ -1,17 +1,17 @@
 -- A token is read where it stands in a text, behind a gap, and only there; where none is read a byte may not stand there, or the text ends.
 use Rattle.std.proofs.Common.{◌≡◌, ◌⊎◌, inl, inr, Result, Ok, Err, refl, ℕ, ◌<◌, ◌≤◌, true, false, not, ◌==◌, List, [], ◌∷◌, ◌++◌, length, codes, sym, ap, subst, ◌∙◌, arith, append_assoc, ◌&&◌, take, drop, ap₂}
-use Rattle.ladder_vars.specs.declared.fault.Fault.{Fault}
-use Rattle.ladder_vars.specs.ReadText.{◌>>=◌, skip_from, token_at, unfinished, no_token}
 use Rattle.std.specs.List.{list_all}
 use Rattle.std.proofs.lemmas.Bool.Decides.{nat_tests}
 use Rattle.std.proofs.lemmas.List.{length-append, take-append-drop, length-take}
 use Rattle.std.proofs.Math.Seq.{take-append_seam, drop-append_seam}
-use Rattle.ladder_vars.specs.declared.text.Within.TheVariants as state
-use Rattle.ladder_vars.specs.Text.{begins_with, token_len, closes, Gap, Nothing, Blank, Comment, LineComment, AreTokens, is_blank, begins_comment, IsUnfinished, is_printed, IsBadByte, IsStray}
 use Rattle.std.proofs.lemmas.Bool.{eqb-true, and_parts, cond_both}
 use Rattle.std.proofs.lemmas.List.Sums.{prefix_len-le-length}
+use Rattle.ladder_vars.specs.declared.fault.Fault.{Fault}
+use Rattle.ladder_vars.specs.declared.text.Within.TheVariants as state
 use Rattle.ladder_vars.specs.declared.text.Within.{Within}
 use Rattle.ladder_vars.specs.declared.fault.VarRule.TheVariants as rule
+use Rattle.ladder_vars.specs.ReadText.{◌>>=◌, skip_from, token_at, unfinished, no_token}
+use Rattle.ladder_vars.specs.Text.{begins_with, token_len, closes, Gap, Nothing, Blank, Comment, LineComment, AreTokens, is_blank, begins_comment, IsUnfinished, is_printed, IsBadByte, IsStray}
 
 -- the value of a step that did not fail
 pub bind_ok : {A B : Type 0} (r : Result A Fault) (f : A → Result B Fault) (y : B) → (r >>= f) ≡ Ok y → (x : A) × (r ≡ Ok x) × (f x ≡ Ok y)

@@ -3,24 +3,24 @@ use Rattle.std.proofs.Common.{◌≡◌, ℕ, ◌+◌, ◌-◌, ◌*◌, ◌≤�
 use Rattle.std.proofs.lemmas.Bool.Decides.{nat_tests}
 use Rattle.std.specs.List.{list_all, prefix_len}
 use Rattle.std.specs.Char.{is_ascii_digit, to_ascii_uppercase}
-use Rattle.ladder_times.specs.Duration.{number_of}
-use Rattle.ladder_times.specs.ReadTimes.{value_from}
 use Rattle.std.specs.Str.{str_to_ascii_lowercase}
 use Rattle.std.proofs.lemmas.Cmp.{nat_list_eq_equiv}
-use Rattle.ladder_vars.specs.declared.kind.BlockKind.{BlockKind}
-use Rattle.ladder_vars.specs.declared.kind.BlockKind.TheVariants as block_kind
-use Rattle.ladder_vars.specs.Name.{same_letters}
-use Rattle.ladder_vars.specs.Kind.{traits_of}
-use Rattle.ladder_vars.specs.Grammar.{Is, IsNumber, IsSecond, IsAddress}
-use Rattle.ladder_vars.specs.ReadWords.{all_kinds, block_of, kind_of, IsValue, short_number, after_size, second_of, numbers_of, address_of, value_of}
-use Rattle.ladder_times.proofs.PartLaws.{same_bytes}
 use Rattle.std.proofs.lemmas.List.{take-append-drop}
 use Rattle.std.proofs.Math.Seq.{take-append_seam, drop-append_seam}
+use Rattle.ladder_vars.specs.declared.kind.BlockKind.{BlockKind}
+use Rattle.ladder_vars.specs.declared.kind.BlockKind.TheVariants as block_kind
 use Rattle.ladder_vars.specs.declared.decls.VarKind.{VarKind}
 use Rattle.ladder_vars.specs.declared.kind.Parameter.{Parameter}
 use Rattle.ladder_vars.specs.declared.kind.Parameter.TheVariants as parameter
 use Rattle.ladder_vars.specs.declared.decls.Address.{Address}
+use Rattle.ladder_times.specs.Duration.{number_of}
+use Rattle.ladder_times.specs.ReadTimes.{value_from}
+use Rattle.ladder_vars.specs.Name.{same_letters}
+use Rattle.ladder_vars.specs.Kind.{traits_of}
+use Rattle.ladder_vars.specs.Grammar.{Is, IsNumber, IsSecond, IsAddress}
+use Rattle.ladder_vars.specs.ReadWords.{all_kinds, block_of, kind_of, IsValue, short_number, after_size, second_of, numbers_of, address_of, value_of}
 use Rattle.ladder_vars.specs.Text.{begins}
+use Rattle.ladder_times.proofs.PartLaws.{same_bytes}
 use Rattle.ladder_times.proofs.Runs.{prefix_len-run}
 use Rattle.ladder_times.proofs.TimeLaws.{time_reads, time_takes}
 
