@@ -1,9 +1,7 @@
--- A block as an automaton: which tokens can follow, as the grammar says.
-use Rattle.std.proofs.Common.{◌≡◌, ◌≢◌, inl, inr, ℕ, Bool, true, false, cond, if◌then◌else◌, List, [], ◌∷◌, ◌++◌, length, codes, Option, Some, None, refl, sym, ap, subst, ◌∙◌, append_assoc, nat_lt, nat_le, not, arith}
-use Rattle.std.specs.Char.{to_ascii_lowercase}
-use Rattle.std.specs.List.{list_any}
-use Rattle.std.specs.Str.{str_to_ascii_lowercase}
-use Rattle.std.proofs.lemmas.Bool.{ltb-false, and_parts, not-true}
+-- A block as an automaton: which tokens can follow, as the grammar says, and where a fault shows.
+use Rattle.std.proofs.Common.{◌≡◌, inl, inr, ℕ, true, false, if◌then◌else◌, List, [], ◌∷◌, ◌++◌, length, codes, Option, Some, None, refl, sym, ap, subst, ◌∙◌, append_assoc, arith, zero, suc, ◌<◌, Err}
+use Rattle.std.proofs.lemmas.Bool.Decides.{nat_tests}
+use Rattle.std.proofs.lemmas.List.{append-nil}
 use Rattle.ladder_vars.specs.declared.fault.VarRule.{VarRule}
 use Rattle.ladder_vars.specs.declared.fault.VarRule.TheVariants as rule
 use Rattle.ladder_vars.specs.declared.decls.VarKind.TheVariants as var_kind
@@ -16,15 +14,18 @@ use Rattle.ladder_vars.specs.declared.declaration.Due.{Due}
 use Rattle.ladder_vars.specs.declared.declaration.Due.TheVariants as due
 use Rattle.ladder_vars.specs.declared.declaration.Next.{Next}
 use Rattle.ladder_vars.specs.declared.declaration.Next.TheVariants as then
-use Rattle.ladder_vars.specs.Name.{same_letters, keywords, is_name, has_name_form}
-use Rattle.ladder_vars.specs.Kind.{traits_of, parameter_word}
-use Rattle.ladder_vars.specs.Grammar.{Is, Decl, AreDecls, IsHead, IsBlock, CanFollow, bit_word}
+use Rattle.ladder_vars.specs.declared.fault.Fault.{Fault}
+use Rattle.ladder_vars.specs.Name.{same_letters, is_name, has_name_form}
+use Rattle.ladder_vars.specs.Kind.{parameter_word}
+use Rattle.ladder_vars.specs.Grammar.{Is, Decl, IsBody, AreDecls, IsHead, IsBlock, CanFollow}
 use Rattle.ladder_times.specs.ReadTimes.{◌>>=◌, part_at, total_from, total_of, time_of}
-use Rattle.ladder_vars.specs.ReadWords.{numbers_of, address_of, value_of, block_of}
-use Rattle.ladder_vars.specs.ReadSteps.{on, step, misfit}
-use Rattle.ladder_times.proofs.Steps.{chosen}
-use Rattle.ladder_times.proofs.PartLaws.{same_bytes}
-use Rattle.ladder_vars.proofs.Steps.{or_false}
+use Rattle.ladder_vars.specs.ReadWords.{numbers_of}
+use Rattle.ladder_vars.specs.ReadSteps.{step, misfit}
+use Rattle.ladder_vars.specs.Text.{begins_word, AreTokens}
+use Rattle.ladder_vars.specs.Rules.{TokenDue, IsForName, IsForValue, Breaks}
+use Rattle.ladder_vars.specs.ReadText.{token_at}
+use Rattle.ladder_vars.specs.ReadDecls.{at, turn, body_from}
+use Rattle.ladder_vars.proofs.Tokens.{bind_err, first_token, token_takes, AreTokens-append, no_token-found}
 use Rattle.ladder_vars.proofs.Walks.{Walks, GoesOn, Each, when, either, found, takes, walks, body_of}
 
 -- what is due in a block
@@ -57,8 +58,22 @@ run s (t ∷ ts) = next s t >>= λ n. run n ts
 
 pub run-append : (ts us : List (List ℕ)) (s : State) → run s (ts ++ us) ≡ run s ts >>= λ n. run n us
 run-append [] us s = refl
-run-append (t ∷ ts) us s =
-    elim (next s t) as (λ o. (o >>= λ n. run n (ts ++ us)) ≡ (o >>= λ n. run n ts) >>= λ n. run n us) [ None ↦ refl | Some n ↦ run-append ts us n ]
+run-append (t ∷ ts) us s = grind (arith, run-append ts us)
+
+-- ---- one declaration more
+
+AreDecls-push : (ds : List Decl) (ts behind : List (List ℕ)) (d : Decl) → AreDecls ts ds → is_name d.name ≡ true → IsBody behind d.body
+    → AreDecls (ts ++ (d.name ∷ behind)) (ds ++ d ∷ [])
+AreDecls-push [] ts behind d h named is_body =
+    (behind, [], ap (λ z. z ++ (d.name ∷ behind)) h ∙ ap (λ z. d.name ∷ z) (sym (append-nil behind)), named, is_body, refl)
+AreDecls-push (e ∷ ds) ts behind d (first, back, parts, e_named, e_body, others) named is_body =
+    let whole = ap (λ z. z ++ (d.name ∷ behind)) parts ∙ ap (λ z. e.name ∷ z) (append_assoc first back (d.name ∷ behind)) in
+    (first, back ++ (d.name ∷ behind), whole, e_named, e_body, AreDecls-push ds back behind d others named is_body)
+
+pub IsHead-push : (head behind : List (List ℕ)) (ds : List Decl) (name : List ℕ) (b : Body) → IsHead head ds → is_name name ≡ true → IsBody behind b
+    → IsHead (head ++ (name ∷ behind)) (ds ++ record { name = name; body = b } ∷ [])
+IsHead-push head behind ds name b (opening, between, parts, is_var, derived) named is_body =
+    (opening, between ++ (name ∷ behind), ap (λ z. z ++ (name ∷ behind)) parts, is_var, AreDecls-push ds between behind _ derived named is_body)
 
 -- ---- a block is read to its end
 
@@ -73,78 +88,23 @@ body_runs (t ∷ ts) us d b w =
 
 -- a name is no keyword
 pub no_keyword : (name : List ℕ) → is_name name ≡ true → same_letters name (codes "END_VAR") ≡ false
-no_keyword name h =
-    let parts = and_parts (nat_le (length name) 11) (not (list_any (same_letters name) keywords)) (and_parts (has_name_form name) _ h).1 in
-    (or_false _ _ (or_false _ _ (not-true (list_any (same_letters name) keywords) parts.1)).1).0
+no_keyword name h = grind (arith, nat_tests)
 
 pub name_next : (name : List ℕ) → is_name name ≡ true → next NeedName name ≡ Some (In due.Place)
-name_next name named =
-    ap (λ b. if same_letters name (codes "END_VAR") then Some Ended else (if b then Some (In due.Place) else None)) named ∙ rw (no_keyword name named) refl
+name_next name named = grind (arith, no_keyword)
 
 decls_run : (ds : List Decl) (ts us : List (List ℕ)) → AreDecls ts ds → run NeedName (ts ++ us) ≡ run NeedName us
 decls_run [] ts us h = rw h refl
 decls_run (d ∷ ds) ts us (behind, back, parts, named, is, others) =
-    let whole : ts ++ us ≡ d.name ∷ (behind ++ (back ++ us)) = ap (λ z. z ++ us) parts ∙ ap (λ z. d.name ∷ z) (append_assoc behind back us) in
-    ap (run NeedName) whole
-    ∙ ap (λ o. o >>= λ n. run n (behind ++ (back ++ us))) (name_next d.name named)
-    ∙ body_runs behind (back ++ us) due.Place d.body (walks behind d.body is)
-    ∙ decls_run ds back us others
+    let one = body_runs behind (back ++ us) due.Place d.body (walks behind d.body is) in
+    let more = decls_run ds back us others in
+    grind (arith, name_next, append_assoc)
 
 pub head_runs : (ts us : List (List ℕ)) (ds : List Decl) → IsHead ts ds → run NeedVar (ts ++ us) ≡ run NeedName us
-head_runs ts us ds (opening, between, parts, is_var, derived) =
-    ap (λ z. run NeedVar (z ++ us)) parts
-    ∙ ap (λ o. o >>= λ n. run n (between ++ us)) (ap (λ b. if b then Some NeedName else None) is_var)
-    ∙ decls_run ds between us derived
+head_runs ts us ds (opening, between, parts, is_var, derived) = let more = decls_run ds between us derived in grind arith
 
 block_runs : (ts : List (List ℕ)) (ds : List Decl) → IsBlock ts ds → run NeedVar ts ≡ Some Ended
-block_runs ts ds (head, closing, parts, is_head, is_end) = ap (run NeedVar) parts ∙ head_runs head (closing ∷ []) ds is_head ∙ rw is_end refl
-
--- ---- what is read to an end is a block
-
-abbrev HasEnd : List (List ℕ) → Type 0
-HasEnd ts = (tokens : List (List ℕ)) × (closing : List ℕ) × (ds : List Decl) × (ts ≡ tokens ++ closing ∷ []) × Is (codes "END_VAR") closing × AreDecls tokens ds
-
-abbrev Rest : State → List (List ℕ) → Type 0
-Rest NeedVar ts = (ds : List Decl) × IsBlock ts ds
-Rest NeedName ts = HasEnd ts
-Rest (In d) ts = (front back : List (List ℕ)) × (b : Body) × (ts ≡ front ++ back) × Walks d front b × HasEnd back
-Rest Ended ts = ts ≡ []
-
-name_before : (t : List ℕ) (ts : List (List ℕ)) → is_name t ≡ true → Rest (In due.Place) ts → HasEnd (t ∷ ts)
-name_before t ts named (front, back, b, parts, w, (tokens, closing, ds, split, is_end, derived)) =
-    let d : Decl = record { name = t; body = b } in
-    let whole : t ∷ ts ≡ ((t ∷ front) ++ tokens) ++ closing ∷ []
-    = ap (λ z. t ∷ z) (parts ∙ ap (λ z. front ++ z) split ∙ sym (append_assoc front tokens (closing ∷ []))) in
-    ((t ∷ front) ++ tokens, closing, d ∷ ds, whole, is_end, (front, tokens, refl, named, body_of front b w, derived))
-
-rest_of : (ts : List (List ℕ)) (s : State) → run s ts ≡ Some Ended → Rest s ts
-rest_of [] s h = let e : s ≡ Ended = cc in subst (λ z. Rest z []) (sym e) refl
-rest_of (t ∷ ts) NeedVar h =
-    elim (same_letters t (codes "VAR")) as (λ b. same_letters t (codes "VAR") ≡ b → (cond b (Some NeedName) None >>= λ n. run n ts) ≡ Some Ended
-    → (ds : List Decl) × IsBlock (t ∷ ts) ds) [
-      | false ↦ λ is h. absurd cc
-      | true ↦ λ is h.
-          let (tokens, closing, ds, parts, is_end, derived) = rest_of ts NeedName h in
-          (ds, (t ∷ tokens, closing, ap (λ z. t ∷ z) parts, (t, tokens, refl, is, derived), is_end))
-    ] refl h
-rest_of (t ∷ ts) NeedName h =
-    elim (same_letters t (codes "END_VAR")) as (λ b. same_letters t (codes "END_VAR") ≡ b
-    → (cond b (Some Ended) (if is_name t then Some (In due.Place) else None) >>= λ n. run n ts) ≡ Some Ended → HasEnd (t ∷ ts)) [
-      | true ↦ λ is h. ([], t, [], ap (λ z. t ∷ z) (rest_of ts Ended h), is, refl)
-      | false ↦ λ _ h. elim (is_name t) as (λ b. is_name t ≡ b → (cond b (Some (In due.Place)) None >>= λ n. run n ts) ≡ Some Ended → HasEnd (t ∷ ts)) [
-        | false ↦ λ _ h. absurd cc
-        | true ↦ λ named h. name_before t ts named (rest_of ts (In due.Place) h)
-      ] refl h
-    ] refl h
-rest_of (t ∷ ts) (In d) h =
-    elim (step d t) as (λ o. step d t ≡ o → ((o >>= λ n. Some (state_of n)) >>= λ n. run n ts) ≡ Some Ended → Rest (In d) (t ∷ ts)) [
-      | None ↦ λ is h. absurd cc
-      | Some (then.Ends c) ↦ λ is h. (t ∷ [], ts, c, refl, takes d t (t ∷ []) [] c (Some (then.Ends c)) refl is (refl, refl), rest_of ts NeedName h)
-      | Some (then.Goes n) ↦ λ is h.
-          let (front, back, b, parts, w, end) = rest_of ts (In n) h in
-          (t ∷ front, back, b, ap (λ z. t ∷ z) parts, takes d t (t ∷ front) front b (Some (then.Goes n)) refl is w, end)
-    ] refl h
-rest_of (t ∷ ts) Ended h = absurd cc
+block_runs ts ds (head, closing, parts, is_head, is_end) = let more = head_runs head (closing ∷ []) ds is_head in grind arith
 
 -- ---- what can follow
 
@@ -152,23 +112,8 @@ rest_of (t ∷ ts) Ended h = absurd cc
 abbrev Ends : Due → Type 0
 Ends d = (ts : List (List ℕ)) × (b : Body) × Walks d ts b
 
-with_value : (form : Parameter) → (t : List ℕ) × (value_of form t ≡ Some 0)
-unfolding time_of total_of total_from part_at
-with_value parameter.Time = (codes "T#0s", refl)
-with_value parameter.Count = (codes "0", refl)
-
-value_ends : (kind : BlockKind) (form : Parameter) → Ends (due.Value kind form)
-value_ends kind form =
-    let v = with_value form in
-    let b : Body = body.Instance kind 0 in
-    (v.0 ∷ codes ")" ∷ codes ";" ∷ [], b, takes (due.Value kind form) v.0 _ (codes ")" ∷ codes ";" ∷ []) b (Some (then.Goes (due.Closing b))) refl (rw v.1 refl) (refl, refl))
-
-word_ends : (kind : BlockKind) (form : Parameter) → Ends (due.Word kind form)
-word_ends kind parameter.Time = let v = value_ends kind parameter.Time in (codes "PT" ∷ codes ":=" ∷ v.0, v.1, v.2)
-word_ends kind parameter.Count = let v = value_ends kind parameter.Count in (codes "PV" ∷ codes ":=" ∷ v.0, v.1, v.2)
-
 ends : (d : Due) → Ends d
-unfolding numbers_of
+unfolding numbers_of time_of total_of total_from part_at
 ends due.Place = (codes ":" ∷ codes "BOOL" ∷ codes ";" ∷ [], body.Var var_kind.Memory None false, (refl, refl))
 ends due.Address =
     (codes "%I0" ∷ codes ":" ∷ codes "BOOL" ∷ codes ";" ∷ [], body.Var var_kind.Input (Some (record { letter = 73; first = 0; second = None })) false, (refl, refl))
@@ -178,37 +123,29 @@ ends due.Type = (codes "BOOL" ∷ codes ";" ∷ [], body.Var var_kind.Memory Non
 ends (due.Initial kind address) = (codes ";" ∷ [], body.Var kind address false, (refl, refl))
 ends (due.Bit kind address) = (codes "TRUE" ∷ codes ";" ∷ [], body.Var kind address true, (refl, refl))
 ends (due.Preset kind) = (codes ";" ∷ [], body.Instance kind 0, (refl, refl))
-ends (due.Opening kind form) = let w = word_ends kind form in (codes "(" ∷ w.0, w.1, w.2)
-ends (due.Word kind form) = word_ends kind form
-ends (due.Assign kind form) = let v = value_ends kind form in (codes ":=" ∷ v.0, v.1, v.2)
-ends (due.Value kind form) = value_ends kind form
+ends (due.Opening kind parameter.Time) = (codes "(" ∷ codes "PT" ∷ codes ":=" ∷ codes "T#0s" ∷ codes ")" ∷ codes ";" ∷ [], body.Instance kind 0, (refl, refl))
+ends (due.Opening kind parameter.Count) = (codes "(" ∷ codes "PV" ∷ codes ":=" ∷ codes "0" ∷ codes ")" ∷ codes ";" ∷ [], body.Instance kind 0, (refl, refl))
+ends (due.Word kind parameter.Time) = (codes "PT" ∷ codes ":=" ∷ codes "T#0s" ∷ codes ")" ∷ codes ";" ∷ [], body.Instance kind 0, (refl, refl))
+ends (due.Word kind parameter.Count) = (codes "PV" ∷ codes ":=" ∷ codes "0" ∷ codes ")" ∷ codes ";" ∷ [], body.Instance kind 0, (refl, refl))
+ends (due.Assign kind parameter.Time) = (codes ":=" ∷ codes "T#0s" ∷ codes ")" ∷ codes ";" ∷ [], body.Instance kind 0, (refl, refl))
+ends (due.Assign kind parameter.Count) = (codes ":=" ∷ codes "0" ∷ codes ")" ∷ codes ";" ∷ [], body.Instance kind 0, (refl, refl))
+ends (due.Value kind parameter.Time) = (codes "T#0s" ∷ codes ")" ∷ codes ";" ∷ [], body.Instance kind 0, (refl, refl))
+ends (due.Value kind parameter.Count) = (codes "0" ∷ codes ")" ∷ codes ";" ∷ [], body.Instance kind 0, (refl, refl))
 ends (due.Closing b) = (codes ")" ∷ codes ";" ∷ [], b, (refl, refl))
 ends (due.End b) = (codes ";" ∷ [], b, (refl, refl))
 
-block_ends : (s : State) → s ≢ Ended → (t : List ℕ) × (more : List (List ℕ)) × (run s (t ∷ more) ≡ Some Ended)
-block_ends NeedVar other = (codes "VAR", codes "END_VAR" ∷ [], refl)
-block_ends NeedName other = (codes "END_VAR", [], refl)
-block_ends (In d) other =
-    let e = ends d in
-    elim e.0 as (λ ts. Walks d ts e.1 → (t : List ℕ) × (more : List (List ℕ)) × (run (In d) (t ∷ more) ≡ Some Ended)) [
-      | [] ↦ λ w. absurd w
-      | t ∷ ts ↦ λ w. (t, ts ++ codes "END_VAR" ∷ [], body_runs (t ∷ ts) (codes "END_VAR" ∷ []) d e.1 w)
-    ] e.2
-block_ends Ended other = absurd (other refl)
-
-pub some_follows : (ts : List (List ℕ)) (s : State) → run NeedVar ts ≡ Some s → s ≢ Ended → (t : List ℕ) × CanFollow ts t
-some_follows ts s h other =
-    let e = block_ends s other in
-    let read : run NeedVar (ts ++ e.0 ∷ e.1) ≡ Some Ended = run-append ts (e.0 ∷ e.1) NeedVar ∙ ap (λ o. o >>= λ n. run n (e.0 ∷ e.1)) h ∙ e.2 in
-    let block = rest_of (ts ++ e.0 ∷ e.1) NeedVar read in
-    (e.0, (e.1, block.0, block.1))
+-- tokens with which whole declarations begin
+pub some_follows : (ts rest : List (List ℕ)) (ds : List Decl) → IsHead (ts ++ rest) ds → (t : List ℕ) × CanFollow ts t
+some_follows ts [] ds h =
+    (codes "END_VAR", ([], ds, (ts ++ [], codes "END_VAR", ap (λ z. z ++ codes "END_VAR" ∷ []) (sym (append-nil ts)), h, refl)))
+some_follows ts (t ∷ rest) ds h =
+    (t, (rest ++ codes "END_VAR" ∷ [], ds, (ts ++ t ∷ rest, codes "END_VAR", sym (append_assoc ts (t ∷ rest) (codes "END_VAR" ∷ [])), h, refl)))
 
 pub none_follows : (ts : List (List ℕ)) (t : List ℕ) (s : State) → run NeedVar ts ≡ Some s → next s t ≡ None → CanFollow ts t → ⊥
 none_follows ts t s h none (more, ds, block) =
-    let stops : run s (t ∷ more) ≡ None = ap (λ o. o >>= λ n. run n more) none in
-    let read : run s (t ∷ more) ≡ Some Ended
-    = ap (λ o. o >>= λ n. run n (t ∷ more)) (sym h) ∙ sym (run-append ts (t ∷ more) NeedVar) ∙ block_runs (ts ++ t ∷ more) ds block in
-    cc
+    let all = block_runs (ts ++ t ∷ more) ds block in
+    let split = run-append ts (t ∷ more) NeedVar in
+    grind arith
 
 -- ---- where a value is due
 
@@ -224,30 +161,6 @@ abbrev Follows : List (List ℕ) → Next → Type 0
 Follows ts n = Behind (state_of n) ts
 
 follows : (d : Due) (t : List ℕ) (ts : List (List ℕ)) → Behind (In d) ts → Each (Follows (ts ++ t ∷ [])) (step d t)
-follows due.Place t ts b =
-    let P : Next → Type 0 = Follows (ts ++ t ∷ []) in
-    either P (same_letters t (codes "AT")) (Some (then.Goes due.Address)) (on (same_letters t (codes ":")) (then.Goes due.Type)) (λ _. tt)
-    (when P (same_letters t (codes ":")) (then.Goes due.Type) (λ _. tt))
-follows due.Address t ts b = found (Follows (ts ++ t ∷ [])) (address_of t) (λ p. Some (then.Goes (due.Colon p.0 p.1))) (λ _ _. tt)
-follows (due.Colon kind a) t ts b = when (Follows (ts ++ t ∷ [])) (same_letters t (codes ":")) (then.Goes (due.Bool kind a)) (λ _. tt)
-follows (due.Bool kind a) t ts b = when (Follows (ts ++ t ∷ [])) (same_letters t (codes "BOOL")) (then.Goes (due.Initial kind (Some a))) (λ _. tt)
-follows due.Type t ts b =
-    let P : Next → Type 0 = Follows (ts ++ t ∷ []) in
-    let more : List ℕ → Option Next = λ t. block_of t >>= λ kind. Some (then.Goes (due.Preset kind)) in
-    either P (same_letters t (codes "BOOL")) (Some (then.Goes (due.Initial var_kind.Memory None))) (more t) (λ _. tt)
-    (found P (block_of t) (λ kind. Some (then.Goes (due.Preset kind))) (λ _ _. tt))
-follows (due.Initial kind address) t ts b =
-    let P : Next → Type 0 = Follows (ts ++ t ∷ []) in
-    let bit : Next = then.Goes (due.Bit kind address) in
-    either P (same_letters t (codes ";")) (Some (then.Ends (body.Var kind address false))) (on (same_letters t (codes ":=")) bit) (λ _. tt)
-    (when P (same_letters t (codes ":=")) bit (λ _. tt))
-follows (due.Bit kind address) t ts b = found (Follows (ts ++ t ∷ [])) (bit_word t) (λ value. Some (then.Goes (due.End (body.Var kind address value)))) (λ _ _. tt)
-follows (due.Preset kind) t ts b =
-    let P : Next → Type 0 = Follows (ts ++ t ∷ []) in
-    let opening : Parameter → Option Next = λ form. Some (then.Goes (due.Opening kind form)) in
-    let given : Option Next = (traits_of kind).parameter >>= opening in
-    either P (same_letters t (codes ";")) (Some (then.Ends (body.Instance kind 0))) (if same_letters t (codes ":=") then given else None) (λ _. tt)
-    (either P (same_letters t (codes ":=")) given None (λ _. found P (traits_of kind).parameter opening (λ _ _. tt)) tt)
 follows (due.Opening kind form) t ts b = when (Follows (ts ++ t ∷ [])) (same_letters t (codes "(")) (then.Goes (due.Word kind form)) (λ is. (ts, t, refl, is))
 follows (due.Word kind form) t ts (before, opening, parts, is) =
     when (Follows (ts ++ t ∷ [])) (same_letters t (parameter_word form)) (then.Goes (due.Assign kind form))
@@ -255,70 +168,160 @@ follows (due.Word kind form) t ts (before, opening, parts, is) =
 follows (due.Assign kind form) t ts (before, opening, word, parts, is) =
     when (Follows (ts ++ t ∷ [])) (same_letters t (codes ":=")) (then.Goes (due.Value kind form))
     (λ _. (before, opening, word, t, ap (λ z. z ++ t ∷ []) parts ∙ append_assoc before (opening ∷ word ∷ []) (t ∷ []), is))
-follows (due.Value kind form) t ts b = found (Follows (ts ++ t ∷ [])) (value_of form t) (λ n. Some (then.Goes (due.Closing (body.Instance kind n)))) (λ _ _. tt)
-follows (due.Closing c) t ts b = when (Follows (ts ++ t ∷ [])) (same_letters t (codes ")")) (then.Goes (due.End c)) (λ _. tt)
-follows (due.End c) t ts b = when (Follows (ts ++ t ∷ [])) (same_letters t (codes ";")) (then.Ends c) (λ _. tt)
+follows other t ts b = search (when, either, found)
 
-pub goes_behind : (d n : Due) (t : List ℕ) (ts : List (List ℕ)) → Behind (In d) ts → step d t ≡ Some (then.Goes n) → Behind (In n) (ts ++ t ∷ [])
+goes_behind : (d n : Due) (t : List ℕ) (ts : List (List ℕ)) → Behind (In d) ts → step d t ≡ Some (then.Goes n) → Behind (In n) (ts ++ t ∷ [])
 goes_behind d n t ts b is = subst (Each (Follows (ts ++ t ∷ []))) is (follows d t ts b)
 
-one_byte : (b : ℕ) → to_ascii_lowercase b ≡ 40 → b ≡ 40
-one_byte b h =
-    elim (chosen (nat_lt b 65) _ _ _ h) [
-      | inl small ↦ small.1
-      | inr large ↦ elim (chosen (nat_lt b 91) _ _ _ large.1) [ inl capital ↦ absurd (omega (arith, capital.1, ltb-false b 65 large.0)) | inr same ↦ same.1 ]
-    ]
-
 opening_is : (t : List ℕ) → Is (codes "(") t → t ≡ codes "("
-opening_is [] h = absurd cc
-opening_is (b ∷ []) h =
-    let same : str_to_ascii_lowercase (b ∷ []) ≡ codes "(" = same_bytes (str_to_ascii_lowercase (b ∷ [])) (codes "(") h in
-    let first : to_ascii_lowercase b ≡ 40 = cc in
-    ap (λ z. z ∷ []) (one_byte b first)
-opening_is (b ∷ c ∷ bs) h = absurd (let e = same_bytes (str_to_ascii_lowercase (b ∷ c ∷ bs)) (codes "(") h in cc)
+opening_is (b ∷ []) h = grind (arith, nat_tests)
+opening_is other h = grind arith
 
 -- only one state takes it
 opens : (s n : State) → next s (codes "(") ≡ Some n → (kind : BlockKind) × (form : Parameter) × (n ≡ In (due.Word kind form))
 unfolding time_of
-opens NeedVar n h = absurd cc
-opens NeedName n h = absurd cc
-opens (In due.Place) n h = absurd cc
-opens (In due.Address) n h = absurd cc
-opens (In (due.Colon kind a)) n h = absurd cc
-opens (In (due.Bool kind a)) n h = absurd cc
-opens (In due.Type) n h = absurd cc
-opens (In (due.Initial kind address)) n h = absurd cc
-opens (In (due.Bit kind address)) n h = absurd cc
-opens (In (due.Preset kind)) n h = absurd cc
 opens (In (due.Opening kind form)) n h = (kind, form, cc)
 opens (In (due.Word kind parameter.Time)) n h = absurd cc
 opens (In (due.Word kind parameter.Count)) n h = absurd cc
-opens (In (due.Assign kind form)) n h = absurd cc
 opens (In (due.Value kind parameter.Time)) n h = absurd cc
 opens (In (due.Value kind parameter.Count)) n h = absurd cc
-opens (In (due.Closing b)) n h = absurd cc
-opens (In (due.End b)) n h = absurd cc
-opens Ended n h = absurd cc
+opens other n h = absurd cc
 
 -- the first of some steps
 step_of : (o : Option State) (ts : List (List ℕ)) (last : State) → (o >>= λ n. run n ts) ≡ Some last → (n : State) × (o ≡ Some n) × (run n ts ≡ Some last)
 step_of (Some n) ts last h = (n, refl, h)
 step_of None ts last h = absurd cc
 
--- the last two
-goes_to : (b : Bool) (d : Due) (s : State) → (on b (then.Goes d) >>= λ n. Some (state_of n)) ≡ Some s → In d ≡ s
-goes_to true d s h = cc
-goes_to false d s h = absurd cc
+last_two : (kind : BlockKind) (form : Parameter) (word assign : List ℕ) (last : State) → run (In (due.Word kind form)) (word ∷ assign ∷ []) ≡ Some last → last ≡ In (due.Value kind form)
+last_two kind form word assign last h = grind arith
 
-same_state : (s n : State) → run s [] ≡ Some n → s ≡ n
-same_state s n h = cc
-
-pub value_due : (before : List (List ℕ)) (opening word assign : List ℕ) (last : State) → Is (codes "(") opening
+value_due : (before : List (List ℕ)) (opening word assign : List ℕ) (last : State) → Is (codes "(") opening
     → run NeedVar (before ++ opening ∷ word ∷ assign ∷ []) ≡ Some last → (kind : BlockKind) × (form : Parameter) × (last ≡ In (due.Value kind form))
 value_due before opening word assign last is_opening h =
     let a = step_of (run NeedVar before) (opening ∷ word ∷ assign ∷ []) last (sym (run-append before (opening ∷ word ∷ assign ∷ []) NeedVar) ∙ h) in
     let b = step_of (next a.0 opening) (word ∷ assign ∷ []) last a.2 in
     let (kind, form, is) = opens a.0 b.0 (ap (next a.0) (sym (opening_is opening is_opening)) ∙ b.1) in
-    let c = step_of (next (In (due.Word kind form)) word) (assign ∷ []) last (ap (λ s. run s (word ∷ assign ∷ [])) (sym is) ∙ b.2) in
-    let d = step_of (next (In (due.Assign kind form)) assign) [] last (ap (λ s. run s (assign ∷ [])) (goes_to _ (due.Assign kind form) c.0 c.1) ∙ c.2) in
-    (kind, form, sym (goes_to _ (due.Value kind form) d.0 d.1 ∙ same_state d.0 last d.2))
+    (kind, form, last_two kind form word assign last (ap (λ s. run s (word ∷ assign ∷ [])) (sym is) ∙ b.2))
+
+-- ---- where a fault shows
+
+-- these tokens of the text lead to this state here
+pub record Came (text : List ℕ) (tokens : List (List ℕ)) (s : State) (here : List ℕ) : Type 0 where
+  pub read : AreTokens tokens text here
+  pub leads : run NeedVar tokens ≡ Some s
+  pub follow : (t : List ℕ) × CanFollow tokens t
+
+pub came_first : (text : List ℕ) → Came text [] NeedVar text
+came_first text = record { read = refl; leads = refl; follow = some_follows [] (codes "VAR" ∷ []) [] (codes "VAR", [], refl, refl, refl) }
+
+pub came_head : (text here : List ℕ) (head : List (List ℕ)) (ds : List Decl) → AreTokens head text here → IsHead head ds → Came text head NeedName here
+came_head text here head ds read h =
+    record {
+      read = read;
+      leads = ap (run NeedVar) (sym (append-nil head)) ∙ head_runs head [] ds h;
+      follow = some_follows head [] ds (rw (append-nil head) h);
+    }
+
+pub token_due : (text here : List ℕ) (ts : List (List ℕ)) (s : State) → Came text ts s here → TokenDue text ts here
+token_due text here ts s c = (c.follow.0, c.follow.1, c.read)
+
+-- no token is here
+pub no_token_breaks : (text here : List ℕ) (ts : List (List ℕ)) (s : State) (f : Fault) → Came text ts s here → token_at here ≡ Err f → Breaks f.rule text f.left
+no_token_breaks text here ts s f c none =
+    let due_here : TokenDue text ts here = token_due text here ts s c in
+    let (stop, gap, why) = no_token-found here f none in
+    elim why [
+      | inl (is, bad, left) ↦ subst (λ r. Breaks r text f.left) (sym is) (ts, here, stop, due_here, gap, (bad, left))
+      | inr (inl (is, stray, left)) ↦ subst (λ r. Breaks r text f.left) (sym is) (inl (ts, here, stop, due_here, gap, (stray, left)))
+      | inr (inr (is, end, left)) ↦ subst (λ r. Breaks r text f.left) (sym is) (ts, here, stop, due_here, gap, (end, left))
+    ]
+
+no_name_due : (ts : List (List ℕ)) (t : List ℕ) (s : State) → run NeedVar ts ≡ Some s → broken_by s t ≡ rule.BadToken → IsForName ts t → ⊥
+no_name_due ts t s leads breaks (ds, head, form) =
+    let runs : run NeedVar ts ≡ Some NeedName = ap (run NeedVar) (sym (append-nil ts)) ∙ head_runs ts [] ds head in
+    let same : s ≡ NeedName = cc in
+    let broken : broken_by NeedName t ≡ rule.BadToken = subst (λ s. broken_by s t ≡ rule.BadToken) same breaks in
+    grind arith
+
+no_value_due : (ts : List (List ℕ)) (t : List ℕ) (s : State) → run NeedVar ts ≡ Some s → broken_by s t ≡ rule.BadToken → IsForValue ts t → ⊥
+no_value_due ts t s leads breaks (before, opening, word, assign, parts, is_opening, is_word) =
+    let (kind, form, is) = value_due before opening word assign s is_opening (ap (run NeedVar) (sym parts) ∙ leads) in
+    let broken : broken_by (In (due.Value kind form)) t ≡ rule.BadToken = subst (λ s. broken_by s t ≡ rule.BadToken) is breaks in
+    grind arith
+
+-- a token is here that can't follow
+pub token_breaks : (text here after t : List ℕ) (ts : List (List ℕ)) (s : State) → Came text ts s here → AreTokens (t ∷ []) here after → next s t ≡ None
+    → broken_by s t ≡ rule.BadToken → Breaks rule.BadToken text (length after)
+token_breaks text here after t ts s c read none breaks =
+    inr (ts, t, here, after, token_due text here ts s c, read, none_follows ts t s c.leads none, refl, (no_name_due ts t s c.leads breaks, no_value_due ts t s c.leads breaks))
+
+value_breaks : (text here after t : List ℕ) (ts : List (List ℕ)) (kind : BlockKind) (form : Parameter) → Came text ts (In (due.Value kind form)) here
+    → Behind (In (due.Value kind form)) ts → AreTokens (t ∷ []) here after → next (In (due.Value kind form)) t ≡ None → Breaks (misfit (due.Value kind form) t) text (length after)
+value_breaks text here after t ts kind form c (before, opening, word, assign, parts, is) read none =
+    let s : State = In (due.Value kind form) in
+    elim (begins_word t) as (λ b. begins_word t ≡ b → Breaks (if b then rule.BadPreset else rule.BadToken) text (length after)) [
+      | false ↦ λ mark. token_breaks text here after t ts s c read none (rw mark refl)
+      | true ↦ λ is_word.
+          (ts, t, here, after, token_due text here ts s c, read, none_follows ts t s c.leads none, refl, (before, opening, word, assign, parts, is, is_word))
+    ] refl
+
+due_breaks : (text here after t : List ℕ) (ts : List (List ℕ)) (d : Due) → Came text ts (In d) here → Behind (In d) ts → AreTokens (t ∷ []) here after → next (In d) t ≡ None
+    → Breaks (misfit d t) text (length after)
+due_breaks text here after t ts (due.Value kind form) c behind read none = value_breaks text here after t ts kind form c behind read none
+due_breaks text here after t ts other c behind read none = token_breaks text here after t ts (In other) c read none refl
+
+-- within a declaration
+pub record Within (text : List ℕ) (tokens : List (List ℕ)) (d : Due) (here : List ℕ) : Type 0 where
+  pub read : AreTokens tokens text here
+  pub leads : run NeedVar tokens ≡ Some (In d)
+  pub behind : Behind (In d) tokens
+  pub ends : (rest : List (List ℕ)) (b : Body) → Walks d rest b → (ds : List Decl) × IsHead (tokens ++ rest) ds
+
+came_within : (text : List ℕ) (ts : List (List ℕ)) (d : Due) (here : List ℕ) → Within text ts d here → Came text ts (In d) here
+came_within text ts d here w =
+    let rest = ends d in
+    let head = w.ends rest.0 rest.1 rest.2 in
+    record { read = w.read; leads = w.leads; follow = some_follows ts rest.0 head.0 head.1 }
+
+pub within_first : (text here name after : List ℕ) (head : List (List ℕ)) (ds : List Decl) → AreTokens head text here → IsHead head ds → AreTokens (name ∷ []) here after
+    → is_name name ≡ true → Within text (head ++ name ∷ []) due.Place after
+within_first text here name after head ds read h word named =
+    record {
+      read = AreTokens-append head (name ∷ []) text here after read word;
+      leads = head_runs head (name ∷ []) ds h ∙ ap (λ o. o >>= λ n. Some n) (name_next name named);
+      behind = tt;
+      ends = λ rest b w. (ds ++ record { name = name; body = b } ∷ [], rw (append_assoc head (name ∷ []) rest) (IsHead-push head rest ds name b h named (body_of rest b w)));
+    }
+
+within_more : (text here after t : List ℕ) (ts : List (List ℕ)) (d n : Due) → Within text ts d here → AreTokens (t ∷ []) here after → step d t ≡ Some (then.Goes n)
+    → Within text (ts ++ t ∷ []) n after
+within_more text here after t ts d n w read is =
+    record {
+      read = AreTokens-append ts (t ∷ []) text here after w.read read;
+      leads = run-append ts (t ∷ []) NeedVar ∙ ap (λ o. o >>= λ s. run s (t ∷ [])) w.leads ∙ ap (λ o. (o >>= λ s. Some (state_of s)) >>= λ s. Some s) is;
+      behind = goes_behind d n t ts w.behind is;
+      ends = λ rest b walk.
+          let head = w.ends (t ∷ rest) b (takes d t (t ∷ rest) rest b (Some (then.Goes n)) refl is walk) in
+          (head.0, rw (append_assoc ts (t ∷ []) rest) head.1);
+    }
+
+pub body_breaks : (n : ℕ) (text here : List ℕ) (ts : List (List ℕ)) (d : Due) (f : Fault) → length here < n → Within text ts d here → body_from n d here ≡ Err f
+    → Breaks f.rule text f.left
+unfolding body_from
+body_breaks zero text here ts d f enough w h = absurd (omega (arith, enough))
+body_breaks (suc n) text here ts d f enough w h =
+    let c : Came text ts (In d) here = came_within text ts d here w in
+    elim (bind_err (token_at here) _ f h) [
+      | inl none ↦ no_token_breaks text here ts (In d) f c none
+      | inr ((t, after), found, more) ↦
+          let read : AreTokens (t ∷ []) here after = token_takes here t after found in
+          let first = first_token t [] here after read in
+          let shorter : length after < n = omega (arith, enough, first.3, ap length first.2) in
+          elim (step d t) as (λ o. step d t ≡ o → turn (λ next. body_from n next after) (at (misfit d t) after) after o ≡ Err f → Breaks f.rule text f.left) [
+            | None ↦ λ is more.
+                let same : at (misfit d t) after ≡ f = cc in
+                subst (λ g. Breaks g.rule text g.left) same (due_breaks text here after t ts d c w.behind read (ap (λ o. o >>= λ n. Some (state_of n)) is))
+            | Some (then.Ends b) ↦ λ is more. absurd cc
+            | Some (then.Goes m) ↦ λ is more. body_breaks n text after (ts ++ t ∷ []) m f shorter (within_more text here after t ts d m w read is) more
+          ] refl more
+    ]

@@ -1,50 +1,68 @@
 -- What follows a name is read where the grammar has it, and only there.
-use Rattle.std.proofs.Common.{◌≡◌, ℕ, zero, suc, ◌<◌, inl, inr, List, [], ◌∷◌, ◌++◌, length, Some, None, Result, Ok, refl, sym, ap, subst, ◌∙◌, arith}
+use Rattle.std.proofs.Common.{◌≡◌, ℕ, zero, suc, ◌<◌, ◌≤◌, List, length, None, Some, Ok, Err, sym, ◌∙◌, refl, ap, arith, [], ◌∷◌, ◌++◌, Result, subst}
 use Rattle.ladder_vars.specs.declared.fault.Fault.{Fault}
 use Rattle.ladder_vars.specs.declared.decls.Body.{Body}
 use Rattle.ladder_vars.specs.declared.declaration.Due.{Due}
 use Rattle.ladder_vars.specs.declared.declaration.Due.TheVariants as due
 use Rattle.ladder_vars.specs.declared.declaration.Next.TheVariants as then
-use Rattle.ladder_vars.specs.Name.{same_letters}
-use Rattle.ladder_vars.specs.Text.{AreTokens}
-use Rattle.ladder_vars.specs.Grammar.{Is, IsBody}
 use Rattle.ladder_vars.specs.ReadText.{token_at}
 use Rattle.ladder_vars.specs.ReadSteps.{step, misfit}
-use Rattle.ladder_vars.specs.ReadDecls.{at, expect, turn, body_from, body_at, PresetFits}
-use Rattle.ladder_times.proofs.Steps.{chosen}
-use Rattle.ladder_vars.proofs.Steps.{bind_ok}
-use Rattle.ladder_vars.proofs.TextReads.{first_token}
-use Rattle.ladder_vars.proofs.TextTakes.{token_takes, AreTokens-append}
+use Rattle.ladder_vars.specs.ReadDecls.{at, turn, body_from, body_at, expect, PresetFits}
+use Rattle.ladder_vars.specs.Text.{AreTokens}
+use Rattle.ladder_vars.specs.Grammar.{Is, IsBody}
+use Rattle.ladder_vars.proofs.Tokens.{bind_ok, first_token, token_takes, AreTokens-append}
 use Rattle.ladder_vars.proofs.Walks.{Walks, GoesOn, takes, walks, body_of, body_fits}
+
+-- before this text this is due, and one more turn gives what the whole gives
+pub record Stands (d : Due) (here text : List ℕ) : Type 0 where
+  pub turns : ℕ
+  pub enough : length here ≤ turns
+  pub within : length here ≤ length text
+  pub same : body_from (suc turns) d here ≡ body_at text
+
+pub no_word : (d : Due) (here text : List ℕ) (f : Fault) → Stands d here text → token_at here ≡ Err f → body_at text ≡ Err f
+unfolding body_from
+no_word d here text f s word = sym s.same ∙ grind arith
+
+pub refuses : (d : Due) (here text w a : List ℕ) → Stands d here text → token_at here ≡ Ok (w, a) → step d w ≡ None → body_at text ≡ Err (at (misfit d w) a)
+unfolding body_from
+refuses d here text w a s word none = sym s.same ∙ grind arith
+
+pub ends : (d : Due) (here text w a : List ℕ) (b : Body) → Stands d here text → token_at here ≡ Ok (w, a) → step d w ≡ Some (then.Ends b)
+    → body_at text ≡ Ok (b, a)
+unfolding body_from
+ends d here text w a b s word end = sym s.same ∙ grind arith
+
+pub goes : (d next : Due) (here text w a : List ℕ) → Stands d here text → token_at here ≡ Ok (w, a) → length a < length here
+    → step d w ≡ Some (then.Goes next) → Stands next a text
+unfolding body_from
+goes d next here text w a s word shorter more =
+    let one : body_from (suc s.turns) d here ≡ body_from s.turns next a = rw word (ap (turn (λ n. body_from s.turns n a) (at (misfit d w) a) a) more) in
+    elim s.turns as (λ n. length here ≤ n → body_from n next a ≡ body_at text → Stands next a text) [
+      | zero ↦ λ enough same. absurd (omega (arith, shorter))
+      | suc n ↦ λ enough same. record { turns = n; enough = omega (arith, shorter); within = omega (arith, shorter, s.within); same = same }
+    ] s.enough (sym one ∙ s.same)
 
 pub ok_same : {A : Type 0} (x y : A) → ◌≡◌ {A = Result A Fault} (Ok x) (Ok y) → x ≡ y
 ok_same x y e = cc
 
 -- the value of a step, and what is left
 pub halves : {A B : Type 0} (a x : A) (b y : B) → ◌≡◌ {A = Result (A × B) Fault} (Ok (a, b)) (Ok (x, y)) → (a ≡ x) × (b ≡ y)
-halves {A} {B} a x b y e =
-    let pair : (a, b) ≡ (x, y) = ok_same (a, b) (x, y) e in
-    (ap (λ p. p.0) pair, ap (λ p. p.1) pair)
+halves a x b y e = grind arith
 
 -- ---- one word
 
 pub expect_reads : (word w : List ℕ) (ts : List (List ℕ)) (text rest : List ℕ) → Is word w → AreTokens (w ∷ ts) text rest
     → (after : List ℕ) × (expect word text ≡ Ok after) × AreTokens ts after rest × (length after < length text)
 unfolding expect
-expect_reads word w ts text rest same h =
-    let first = first_token w ts text rest h in
-    (first.0, rw (first.1, same) refl, first.2, first.3)
+expect_reads word w ts text rest same h = let first = first_token w ts text rest h in (first.0, grind arith, first.2, first.3)
 
 pub expect_takes : (word text rest : List ℕ) → expect word text ≡ Ok rest → (w : List ℕ) × Is word w × AreTokens (w ∷ []) text rest
 unfolding expect
 expect_takes word text rest h =
     let found = bind_ok (token_at text) _ rest h in
-    elim (chosen (same_letters found.0.0 word) _ _ _ found.2) [
-      | inl same ↦
-          let after : found.0.1 ≡ rest = cc in
-          (found.0.0, same.0, subst (λ r. AreTokens (found.0.0 ∷ []) text r) after (token_takes text found.0.0 found.0.1 found.1))
-      | inr other ↦ absurd cc
-    ]
+    let after : found.0.1 ≡ rest = grind arith in
+    (found.0.0, grind arith, subst (λ r. AreTokens (found.0.0 ∷ []) text r) after (token_takes text found.0.0 found.0.1 found.1))
 
 -- ---- a body
 

@@ -1,28 +1,33 @@
--- Names, addresses and limits are kept by one more declaration exactly where no rule refuses it.
-use Rattle.std.proofs.Common.{◌≡◌, Bool, true, suc, ◌+◌, not, cond, is_some, option_map, position, ℕ, ◌≤◌, ◌<◌, false, ◌||◌, ◌==◌, nat_le, nat_lt, List, [], ◌∷◌, ◌++◌, length, map, Option, Some, None, refl, sym, ap, ◌∙◌, arith, append_assoc, inl, inr}
-use Rattle.std.specs.List.{IsDistinct, list_any, prefix_len}
-use Rattle.std.specs.Option.{option_eq, option_or}
+-- Names, addresses and limits are kept by one more declaration exactly where no rule refuses it, and where one gets another title.
+use Rattle.std.proofs.Common.{◌≡◌, ℕ, ◌≤◌, ◌<◌, false, ◌||◌, ◌==◌, List, [], ◌∷◌, ◌++◌, length, map, Option, Some, None, refl, sym, ap, ap₂, ◌∙◌, arith, append_assoc, ◌+◌, cond, ◌&&◌, zero, suc, slice_set, get_or}
+use Rattle.std.specs.List.{IsDistinct, list_any, prefix_len, filter_map}
+use Rattle.std.specs.List.Sorted.{IsPermutation}
+use Rattle.std.specs.Option.{option_eq}
 use Rattle.std.specs.Str.{str_to_ascii_lowercase}
+use Rattle.std.proofs.lemmas.Bool.{true≢false}
 use Rattle.std.proofs.lemmas.Cmp.{nat_eq_equiv, nat_list_eq_equiv}
-use Rattle.std.proofs.lemmas.List.{append-nil, length-append, map-append}
-use Rattle.std.proofs.lemmas.List.Elements.{All-nil, All-push, filter_map-append}
-use Rattle.std.proofs.lemmas.List.Folds.{list_any-append}
-use Rattle.std.proofs.lemmas.Bool.{cases_lt, le-ltb, leb-false, lt-ltb, ltb-false}
+use Rattle.std.proofs.lemmas.List.{map-append, append-nil, length-append, length-set}
+use Rattle.std.proofs.lemmas.List.Elements.{All-nil, All-push, filter_map-append, All-set}
+use Rattle.std.proofs.lemmas.List.Folds.{list_any-append, prefix_len-append}
+use Rattle.std.proofs.lemmas.List.Sorted.{IsPermutation-to_front, IsPermutation-middle, IsPermutation-map, IsPermutation-append_left, IsPermutation-append_right, IsPermutation-trans}
+use Rattle.std.proofs.lemmas.Bool.Decides.{nat_tests}
 use Rattle.ladder_vars.specs.declared.decls.Address.{Address}
 use Rattle.ladder_vars.specs.declared.decls.VarKind.{VarKind}
 use Rattle.ladder_vars.specs.declared.kind.BlockKind.{BlockKind}
 use Rattle.ladder_vars.specs.declared.decls.Var.{Var}
 use Rattle.ladder_vars.specs.declared.decls.Instance.{Instance}
-use Rattle.ladder_vars.specs.declared.decls.Symbol.TheVariants as symbol
 use Rattle.ladder_vars.specs.declared.decls.Body.{Body}
 use Rattle.ladder_vars.specs.declared.decls.Body.TheVariants as body
+use Rattle.ladder_vars.specs.declared.fault.VarRule.{VarRule}
+use Rattle.ladder_vars.specs.declared.fault.VarRule.TheVariants as rule
 use Rattle.ladder_vars.specs.Name.{same_letters}
-use Rattle.ladder_vars.specs.Decls.{Declared, AreKept, AreInRange, find, names_of, addresses_of, same_address}
-use Rattle.ladder_vars.specs.Titles.{titles_of}
 use Rattle.ladder_vars.specs.Kind.{traits_of, largest_preset}
-use Rattle.ladder_vars.specs.ReadDecls.{nothing, is_taken, refusal, with_var, with_instance, with_decl, PresetFits}
-use Rattle.ladder_times.proofs.Steps.{chosen}
-use Rattle.ladder_vars.proofs.Lists.{or_swap, list_any-or, list_any-map, IsDistinct-put_between}
+use Rattle.ladder_vars.specs.Decls.{Declared, AreKept, AreInRange, names_of, addresses_of, same_address, is_input}
+use Rattle.ladder_vars.specs.Grammar.{Decl, declared_by}
+use Rattle.ladder_vars.specs.Rules.{IsRefused}
+use Rattle.ladder_vars.specs.Titles.{titles_of}
+use Rattle.ladder_vars.specs.ReadDecls.{is_taken, nothing, with_var, with_instance, with_title, with_decl}
+use Rattle.ladder_vars.proofs.Lists.{list_any-map, list_any-left, All-middle, IsDistinct-more, IsDistinct-less}
 
 pub AreInRange-nothing : AreInRange nothing
 unfolding IsDistinct
@@ -33,181 +38,188 @@ AreInRange-nothing = record {
 
 -- ---- equalities that do not mind the order of their sides
 
-nat_eq-flips : (m n : ℕ) → (m == n) ≡ (n == m)
-nat_eq-flips m n = nat_eq_equiv.symm m n
-
 pub same_letters-flips : (a b : List ℕ) → same_letters a b ≡ same_letters b a
 same_letters-flips a b = nat_list_eq_equiv.symm (str_to_ascii_lowercase a) (str_to_ascii_lowercase b)
 
 same_number-flips : (a b : Option ℕ) → option_eq (λ m n. m == n) a b ≡ option_eq (λ m n. m == n) b a
-same_number-flips (Some m) (Some n) = nat_eq-flips m n
+same_number-flips (Some m) (Some n) = nat_eq_equiv.symm m n
 same_number-flips None None = refl
-same_number-flips (Some m) None = refl
-same_number-flips None (Some n) = refl
+same_number-flips a b = refl
 
-pub same_address-flips : (a b : Address) → same_address a b ≡ same_address b a
-same_address-flips a b = rw (nat_eq-flips a.letter b.letter, nat_eq-flips a.first b.first, same_number-flips a.second b.second) refl
+same_address-flips : (a b : Address) → same_address a b ≡ same_address b a
+same_address-flips a b = rw (nat_eq_equiv.symm a.letter b.letter, nat_eq_equiv.symm a.first b.first, same_number-flips a.second b.second) refl
 
--- ---- what a declaration is compared with
+-- ---- declarations, and more behind them
 
-lt_next : (m n : ℕ) → nat_lt (1 + m) (suc n) ≡ nat_lt m n
-lt_next m n =
-    elim (cases_lt m n) [
-      | inl less ↦ lt-ltb (1 + m) (suc n) (omega (arith, less)) ∙ sym (lt-ltb m n less)
-      | inr more ↦ le-ltb (1 + m) (suc n) (omega (arith, more)) ∙ sym (le-ltb m n more)
-    ]
+abbrev pub joined : Declared → List Decl → Declared
+joined a ds = record { vars = a.vars ++ (declared_by ds).vars; instances = a.instances ++ (declared_by ds).instances }
 
-any_within : {X : Type 0} (p : X → Bool) (xs : List X) → nat_lt (prefix_len (λ x. not (p x)) xs) (length xs) ≡ list_any p xs
-any_within p [] = refl
-any_within p (x ∷ xs) =
-    elim (p x) as (λ t. nat_lt (cond (not t) (1 + prefix_len (λ y. not (p y)) xs) 0) (suc (length xs)) ≡ (t || list_any p xs)) [
-      | true ↦ lt-ltb 0 (suc (length xs)) (omega arith)
-      | false ↦ lt_next (prefix_len (λ y. not (p y)) xs) (length xs) ∙ any_within p xs
-    ]
+pub joined-nil : (a : Declared) → joined a [] ≡ a
+joined-nil a = ap₂ (λ vs is. record { vars = vs; instances = is }) (append-nil a.vars) (append-nil a.instances)
 
-some_when : {X : Type 0} (b : Bool) (x : X) → is_some (cond b (Some x) None) ≡ b
-some_when true x = refl
-some_when false x = refl
+pub joined-more : (a : Declared) (name : List ℕ) (b : Body) (ds : List Decl) → joined (with_decl a name b) ds ≡ joined a (record { name = name; body = b } ∷ ds)
+joined-more a name (body.Var kind address initial) ds =
+    ap (λ vs. record { vars = vs; instances = a.instances ++ (declared_by ds).instances }) (append_assoc a.vars _ (declared_by ds).vars)
+joined-more a name (body.Instance kind preset) ds =
+    ap (λ is. record { vars = a.vars ++ (declared_by ds).vars; instances = is }) (append_assoc a.instances _ (declared_by ds).instances)
 
-pub position_any : {X : Type 0} (p : X → Bool) (xs : List X) → is_some (position p xs) ≡ list_any p xs
-position_any p xs = some_when (nat_lt (prefix_len (λ x. not (p x)) xs) (length xs)) (prefix_len (λ x. not (p x)) xs) ∙ any_within p xs
+abbrev labels : (Var → List ℕ) → (Instance → List ℕ) → Declared → List (List ℕ)
+labels f g d = map f d.vars ++ map g d.instances
 
-pub names-any : (d : Declared) (name : List ℕ) → list_any (same_letters name) (names_of d)
+labels-var : (f : Var → List ℕ) (g : Instance → List ℕ) (a : Declared) (v : Var) (ds : List Decl)
+    → IsPermutation (labels f g (joined (with_var a v) ds)) (f v ∷ labels f g (joined a ds))
+labels-var f g a v ds =
+    let vs : List Var = (declared_by ds).vars in
+    let first : IsPermutation ((a.vars ++ v ∷ []) ++ vs) (v ∷ (a.vars ++ vs)) = rw (append_assoc a.vars (v ∷ []) vs) (IsPermutation-middle a.vars v vs) in
+    IsPermutation-append_left (map g (a.instances ++ (declared_by ds).instances)) _ _ (IsPermutation-map f _ _ first)
+
+labels-instance : (f : Var → List ℕ) (g : Instance → List ℕ) (a : Declared) (i : Instance) (ds : List Decl)
+    → IsPermutation (labels f g (joined (with_instance a i) ds)) (g i ∷ labels f g (joined a ds))
+labels-instance f g a i ds =
+    let is : List Instance = (declared_by ds).instances in
+    let vars : List (List ℕ) = map f (a.vars ++ (declared_by ds).vars) in
+    let first : IsPermutation ((a.instances ++ i ∷ []) ++ is) (i ∷ (a.instances ++ is))
+    = rw (append_assoc a.instances (i ∷ []) is) (IsPermutation-middle a.instances i is) in
+    IsPermutation-trans _ _ _ (IsPermutation-append_right vars _ _ (IsPermutation-map g _ _ first)) (IsPermutation-middle vars (g i) (map g (a.instances ++ is)))
+
+names-with : (a : Declared) (name : List ℕ) (b : Body) (ds : List Decl) → IsPermutation (names_of (joined (with_decl a name b) ds)) (name ∷ names_of (joined a ds))
+names-with a name (body.Var kind address initial) ds =
+    labels-var (λ v. v.name) (λ i. i.name) a (record { name = name; title = name; kind = kind; address = address; initial = initial }) ds
+names-with a name (body.Instance kind preset) ds =
+    labels-instance (λ v. v.name) (λ i. i.name) a (record { name = name; title = name; kind = kind; preset = preset }) ds
+
+pub titles-with : (a : Declared) (name title : List ℕ) (b : Body) (ds : List Decl)
+    → IsPermutation (titles_of (joined (with_title a name title b) ds)) (title ∷ titles_of (joined a ds))
+titles-with a name title (body.Var kind address initial) ds =
+    labels-var (λ v. v.title) (λ i. i.title) a (record { name = name; title = title; kind = kind; address = address; initial = initial }) ds
+titles-with a name title (body.Instance kind preset) ds =
+    labels-instance (λ v. v.title) (λ i. i.title) a (record { name = name; title = title; kind = kind; preset = preset }) ds
+
+pub names_any : (d : Declared) (name : List ℕ) → list_any (same_letters name) (names_of d)
     ≡ (list_any (λ v. same_letters name v.name) d.vars || list_any (λ i. same_letters name i.name) d.instances)
-names-any d name =
+names_any d name =
     list_any-append (same_letters name) (map (λ v. v.name) d.vars) (map (λ i. i.name) d.instances)
     ∙ rw (list_any-map (same_letters name) (λ v. v.name) d.vars, list_any-map (same_letters name) (λ i. i.name) d.instances) refl
 
-pub titles-any : (d : Declared) (word : List ℕ) → list_any (same_letters word) (titles_of d)
-    ≡ (list_any (λ v. same_letters word v.title) d.vars || list_any (λ i. same_letters word i.title) d.instances)
-titles-any d word =
-    list_any-append (same_letters word) (map (λ v. v.title) d.vars) (map (λ i. i.title) d.instances)
-    ∙ rw (list_any-map (same_letters word) (λ v. v.title) d.vars, list_any-map (same_letters word) (λ i. i.title) d.instances) refl
+-- ---- where no rule refuses one more declaration
 
--- by each declaration, or by all names and all titles
-pub is_either : (d : Declared) (word : List ℕ)
-    → (list_any (λ v. same_letters word v.name || same_letters word v.title) d.vars || list_any (λ i. same_letters word i.name || same_letters word i.title) d.instances)
-    ≡ (list_any (same_letters word) (names_of d) || list_any (same_letters word) (titles_of d))
-is_either d word =
-    rw (
-      names-any d word,
-      titles-any d word,
-      list_any-or (λ v. same_letters word v.name) (λ v. same_letters word v.title) d.vars,
-      list_any-or (λ i. same_letters word i.name) (λ i. same_letters word i.title) d.instances,
-    ) (or_swap
-    (list_any (λ v. same_letters word v.name) d.vars) (list_any (λ v. same_letters word v.title) d.vars)
-    (list_any (λ i. same_letters word i.name) d.instances) (list_any (λ i. same_letters word i.title) d.instances))
+names_kept : (d : Declared) (name : List ℕ) (b : Body) → IsDistinct same_letters (names_of d) → list_any (same_letters name) (names_of d) ≡ false
+    → IsDistinct same_letters (names_of (with_decl d name b))
+names_kept d name b h new = IsDistinct-more same_letters same_letters-flips name (names_of d) _ (simp append-nil at (names-with d name b [])) h new
 
-either_found : {A B C : Type 0} (f : A → C) (g : B → C) (o : Option A) (p : Option B) → is_some (option_or (option_map f o) (option_map g p)) ≡ (is_some o || is_some p)
-either_found f g None None = refl
-either_found f g None (Some y) = refl
-either_found f g (Some x) p = refl
+addresses_kept : (vars : List Var) (v : Var) (address : Option Address) → v.address ≡ address → IsDistinct same_address (addresses_of vars)
+    → is_taken vars address ≡ false → IsDistinct same_address (addresses_of (vars ++ v ∷ []))
+addresses_kept vars v None none h new = rw (filter_map-append (λ x. x.address) vars (v ∷ []), none, append-nil (addresses_of vars)) h
+addresses_kept vars v (Some a) some h new =
+    rw (filter_map-append (λ x. x.address) vars (v ∷ []), some)
+    (IsDistinct-more same_address same_address-flips a (addresses_of vars) _ (IsPermutation-to_front (addresses_of vars) a) h new)
 
-pub is_found : (d : Declared) (name : List ℕ) → is_some (find d name) ≡ list_any (same_letters name) (names_of d)
-is_found d name =
-    either_found symbol.Var symbol.Instance (position (λ v. same_letters name v.name) d.vars) (position (λ i. same_letters name i.name) d.instances)
-    ∙ rw (position_any (λ v. same_letters name v.name) d.vars, position_any (λ i. same_letters name i.name) d.instances) (sym (names-any d name))
-
--- ---- one more declaration
-
--- a variable, which stands behind the other variables and before the instances
-names-var : (d : Declared) (v : Var) → names_of (with_var d v)
-    ≡ map (λ x. x.name) d.vars ++ (v.name ∷ map (λ i. i.name) d.instances)
-names-var d v =
-    ap (λ ns. ns ++ map (λ i. i.name) d.instances) (map-append (λ x. x.name) d.vars (v ∷ []))
-    ∙ append_assoc (map (λ x. x.name) d.vars) (v.name ∷ []) (map (λ i. i.name) d.instances)
-
-names-instance : (d : Declared) (i : Instance) → names_of (with_instance d i)
-    ≡ names_of d ++ (i.name ∷ [])
-names-instance d i =
-    ap (λ ns. map (λ x. x.name) d.vars ++ ns) (map-append (λ x. x.name) d.instances (i ∷ []))
-    ∙ sym (append_assoc (map (λ x. x.name) d.vars) (map (λ x. x.name) d.instances) (i.name ∷ []))
-
-addresses_kept : (vars : List Var) (v : Var) (d : Declared) → d.vars ≡ vars → IsDistinct same_address (addresses_of vars) → is_taken d v.address ≡ false
-    → IsDistinct same_address (addresses_of (vars ++ v ∷ []))
-addresses_kept vars v d same h new =
-    let whole : addresses_of (vars ++ v ∷ []) ≡ addresses_of vars ++ addresses_of (v ∷ []) = filter_map-append (λ x. x.address) vars (v ∷ []) in
-    elim v.address as (λ place. v.address ≡ place → IsDistinct same_address (addresses_of (vars ++ v ∷ []))) [
-      | None ↦ λ none.
-          let nothing_new : addresses_of (v ∷ []) ≡ [] = rw none refl in
-          rw (whole, nothing_new, append-nil (addresses_of vars)) h
-      | Some a ↦ λ some.
-          let one : addresses_of (v ∷ []) ≡ a ∷ [] = rw some refl in
-          let apart : list_any (same_address a) (addresses_of vars) ≡ false = ap (λ xs. list_any (same_address a) (addresses_of xs)) (sym same) ∙ (rw some at new) in
-          let distinct : IsDistinct same_address (addresses_of vars ++ []) = rw (append-nil (addresses_of vars)) h in
-          let unlike : list_any (same_address a) (addresses_of vars ++ []) ≡ false = rw (append-nil (addresses_of vars)) apart in
-          rw (whole, one) (IsDistinct-put_between same_address same_address-flips (addresses_of vars) a [] distinct unlike)
-    ] refl
-
--- what holds where no rule refuses one more variable, and one more instance
-pub new_var : (d : Declared) (name : List ℕ) (kind : VarKind) (address : Option Address) (initial : Bool) → refusal d name (body.Var kind address initial) ≡ None
-    → (list_any (same_letters name) (names_of d) ≡ false) × (is_taken d address ≡ false) × (length d.vars < 256)
-new_var d name kind address initial accepted =
-    elim (chosen (list_any (same_letters name) (names_of d)) _ _ _ accepted) [
-      | inl twice ↦ absurd cc
-      | inr new ↦ elim (chosen (is_taken d address) _ _ _ new.1) [
-        | inl taken ↦ absurd cc
-        | inr unused ↦ elim (chosen (nat_le 256 (length d.vars)) _ _ _ unused.1) [ inl full ↦ absurd cc | inr room ↦ (new.0, unused.0, leb-false 256 (length d.vars) room.0) ]
-      ]
-    ]
-
-pub new_instance : (d : Declared) (name : List ℕ) (kind : BlockKind) (preset : ℕ) → refusal d name (body.Instance kind preset) ≡ None
-    → (length name ≤ (traits_of kind).longest_name) × (list_any (same_letters name) (names_of d) ≡ false) × (length d.instances < 64)
-new_instance d name kind preset accepted =
-    elim (chosen (nat_lt (traits_of kind).longest_name (length name)) _ _ _ accepted) [
-      | inl long ↦ absurd cc
-      | inr short ↦ elim (chosen (list_any (same_letters name) (names_of d)) _ _ _ short.1) [
-        | inl twice ↦ absurd cc
-        | inr new ↦ elim (chosen (nat_le 64 (length d.instances)) _ _ _ new.1) [
-          | inl full ↦ absurd cc
-          | inr room ↦ (ltb-false (traits_of kind).longest_name (length name) short.0, new.0, leb-false 64 (length d.instances) room.0)
-        ]
-      ]
-    ]
-
-pub AreInRange-var : (d : Declared) (v : Var) → AreInRange d → refusal d v.name (body.Var v.kind v.address v.initial) ≡ None
-    → AreInRange (with_var d v)
-AreInRange-var d v kept accepted =
-    let (apart, unused, few) = new_var d v.name v.kind v.address v.initial accepted in
-    let still : AreKept (with_var d v) = (
-      rw (names-var d v) (IsDistinct-put_between same_letters same_letters-flips (map (λ x. x.name) d.vars) v.name (map (λ i. i.name) d.instances) kept.kept.0 apart),
-      addresses_kept d.vars v d refl kept.kept.1 unused,
-      omega (arith, few, length-append {A = Var} d.vars (v ∷ [])),
-      kept.kept.3,
-      kept.kept.4,
-    ) in
-    record { kept = still; presets = kept.presets }
-
-pub AreInRange-instance : (d : Declared) (i : Instance) → AreInRange d → refusal d i.name (body.Instance i.kind i.preset) ≡ None → i.preset ≤ largest_preset i.kind
-    → AreInRange (with_instance d i)
-AreInRange-instance d i kept accepted fits =
-    let (short, new, few) = new_instance d i.name i.kind i.preset accepted in
-    let apart : list_any (same_letters i.name) (names_of d ++ []) ≡ false = rw (append-nil (names_of d)) new in
-    let distinct : IsDistinct same_letters (names_of d ++ []) = rw (append-nil (names_of d)) kept.kept.0 in
-    let still : AreKept (with_instance d i) = (
-      rw (names-instance d i) (IsDistinct-put_between same_letters same_letters-flips (names_of d) i.name [] distinct apart),
-      kept.kept.1,
-      kept.kept.2,
-      omega (arith, few, length-append {A = Instance} d.instances (i ∷ [])),
-      All-push (λ x. length x.name ≤ (traits_of x.kind).longest_name) d.instances i kept.kept.4 short,
-    ) in
-    record { kept = still; presets = All-push (λ x. x.preset ≤ largest_preset x.kind) d.instances i kept.presets fits }
-
--- So many declarations there may be while the text is read.
-pub record AreFew (d : Declared) : Type 0 where
-  pub vars : length d.vars ≤ 256
-  pub instances : length d.instances ≤ 64
-
-pub AreFew-decl : (d : Declared) (name : List ℕ) (b : Body) → AreFew d → refusal d name b ≡ None → AreFew (with_decl d name b)
-AreFew-decl d name (body.Var kind address initial) few accepted =
+pub AreInRange-var : (d : Declared) (name : List ℕ) (kind : VarKind) (address : Option Address) (initial : _) → AreInRange d
+    → list_any (same_letters name) (names_of d) ≡ false → is_taken d.vars address ≡ false → length d.vars < 256
+    → AreInRange (with_decl d name (body.Var kind address initial))
+AreInRange-var d name kind address initial h new unused few =
     let v : Var = record { name = name; title = name; kind = kind; address = address; initial = initial } in
-    record { vars = omega (arith, (new_var d name kind address initial accepted).2, length-append {A = Var} d.vars (v ∷ [])); instances = few.instances }
-AreFew-decl d name (body.Instance kind preset) few accepted =
-    let i : Instance = record { name = name; title = name; kind = kind; preset = preset } in
-    record { vars = few.vars; instances = omega (arith, (new_instance d name kind preset accepted).2, length-append {A = Instance} d.instances (i ∷ [])) }
+    record {
+      kept = (
+        names_kept d name (body.Var kind address initial) h.kept.0 new,
+        addresses_kept d.vars v address refl h.kept.1 unused,
+        omega (arith, few, length-append {A = Var} d.vars (v ∷ [])),
+        h.kept.3,
+        h.kept.4,
+      );
+      presets = h.presets;
+    }
 
-pub AreInRange-decl : (d : Declared) (name : List ℕ) (b : Body) → AreInRange d → refusal d name b ≡ None → PresetFits b → AreInRange (with_decl d name b)
-AreInRange-decl d name (body.Var kind address initial) kept accepted fits =
-    AreInRange-var d (record { name = name; title = name; kind = kind; address = address; initial = initial }) kept accepted
-AreInRange-decl d name (body.Instance kind preset) kept accepted fits =
-    AreInRange-instance d (record { name = name; title = name; kind = kind; preset = preset }) kept accepted fits
+pub AreInRange-instance : (d : Declared) (name : List ℕ) (kind : BlockKind) (preset : ℕ) → AreInRange d
+    → list_any (same_letters name) (names_of d) ≡ false → length name ≤ (traits_of kind).longest_name → length d.instances < 64 → preset ≤ largest_preset kind
+    → AreInRange (with_decl d name (body.Instance kind preset))
+AreInRange-instance d name kind preset h new short few fits =
+    let i : Instance = record { name = name; title = name; kind = kind; preset = preset } in
+    record {
+      kept = (
+        names_kept d name (body.Instance kind preset) h.kept.0 new,
+        h.kept.1,
+        h.kept.2,
+        omega (arith, few, length-append {A = Instance} d.instances (i ∷ [])),
+        All-push (λ x. length x.name ≤ (traits_of x.kind).longest_name) d.instances i h.kept.4 short,
+      );
+      presets = All-push (λ x. x.preset ≤ largest_preset x.kind) d.instances i h.presets fits;
+    }
+
+-- ---- where all of them are kept no rule refuses one
+
+pub new_name : (a : Declared) (name : List ℕ) (b : Body) (ds : List Decl) → AreKept (joined (with_decl a name b) ds) → list_any (same_letters name) (names_of a) ≡ false
+new_name a name b ds kept =
+    let others = IsDistinct-less same_letters same_letters-flips name (names_of (joined a ds)) _ (names-with a name b ds) kept.0 in
+    let apart = others.1 in
+    grind (arith, list_any-append, map-append)
+
+pub unbroken : (a : Declared) (name : List ℕ) (b : Body) (ds : List Decl) → AreKept (joined (with_decl a name b) ds) → (r : VarRule) → IsRefused r a name b → ⊥
+unbroken a name b ds kept rule.Duplicate twice = true≢false (sym twice ∙ new_name a name b ds kept)
+unbroken a name (body.Var kind (Some x) initial) ds kept rule.DuplicateAddress used =
+    let v : Var = record { name = name; title = name; kind = kind; address = Some x; initial = initial } in
+    let before : List Address = addresses_of a.vars in
+    let behind : List Address = addresses_of (declared_by ds).vars in
+    let whole : addresses_of ((a.vars ++ v ∷ []) ++ (declared_by ds).vars) ≡ before ++ x ∷ behind
+    = ap addresses_of (append_assoc a.vars (v ∷ []) (declared_by ds).vars) ∙ filter_map-append (λ v. v.address) a.vars (v ∷ (declared_by ds).vars) in
+    let apart = IsDistinct-less same_address same_address-flips x (before ++ behind) _ (IsPermutation-middle before x behind) (rw whole at kept.1) in
+    true≢false (sym used ∙ list_any-left (same_address x) before behind apart.1)
+unbroken a name (body.Var kind address initial) ds kept rule.TooMany full =
+    omega (arith, full, kept.2, length-append {A = Var})
+unbroken a name (body.Instance kind preset) ds kept rule.TooMany full =
+    omega (arith, full, kept.3, length-append {A = Instance})
+unbroken a name (body.Instance kind preset) ds kept rule.BadName long =
+    let i : Instance = record { name = name; title = name; kind = kind; preset = preset } in
+    let all = rw (append_assoc a.instances (i ∷ []) (declared_by ds).instances) at kept.4 in
+    omega (arith, long, All-middle (λ x. length x.name ≤ (traits_of x.kind).longest_name) a.instances i (declared_by ds).instances all)
+unbroken a name b ds kept r never = never
+
+pub leading-var : (vars : List Var) (v : Var) (leading : ℕ) → leading ≡ prefix_len is_input vars
+    → cond (leading == length vars && is_input v) (leading + 1) leading ≡ prefix_len is_input (vars ++ v ∷ [])
+leading-var vars v leading is = grind (arith, nat_tests, prefix_len-append)
+
+pub map-set_same : {A B : Type 0} (f : A → B) (xs : List A) (n : ℕ) (y d : A) → f y ≡ f (get_or xs n d) → map f (slice_set xs n y) ≡ map f xs
+map-set_same f [] n y d e = refl
+map-set_same f (x ∷ xs) zero y d e = grind arith
+map-set_same f (x ∷ xs) (suc n) y d e = grind (arith, map-set_same f xs n y d)
+
+filter_map-set : {A B : Type 0} (f : A → Option B) (xs : List A) (n : ℕ) (y d : A) → f y ≡ f (get_or xs n d) → filter_map f (slice_set xs n y) ≡ filter_map f xs
+filter_map-set f [] n y d e = refl
+filter_map-set f (x ∷ xs) zero y d e = grind arith
+filter_map-set f (x ∷ xs) (suc n) y d e = grind (arith, filter_map-set f xs n y d)
+
+pub var_in_range : (d : Declared) (n : ℕ) (v w : Var) → v ≡ get_or d.vars n v → w ≡ record v { title = w.title } → AreInRange d
+    → AreInRange (record d { vars = slice_set d.vars n w })
+var_in_range d n v w is same h =
+    let name : w.name ≡ (get_or d.vars n v).name = ap (λ x. x.name) same ∙ ap (λ x. x.name) is in
+    let address : w.address ≡ (get_or d.vars n v).address = ap (λ x. x.address) same ∙ ap (λ x. x.address) is in
+    let names : map (λ x. x.name) (slice_set d.vars n w) ≡ map (λ x. x.name) d.vars = map-set_same (λ x. x.name) d.vars n w v name in
+    let addresses : addresses_of (slice_set d.vars n w) ≡ addresses_of d.vars = filter_map-set (λ x. x.address) d.vars n w v address in
+    record {
+      kept = (
+        rw names h.kept.0,
+        rw addresses h.kept.1,
+        rw (length-set d.vars n w) h.kept.2,
+        h.kept.3,
+        h.kept.4,
+      );
+      presets = h.presets;
+    }
+
+pub instance_in_range : (d : Declared) (n : ℕ) (i j : Instance) → n < length d.instances → i ≡ get_or d.instances n i → j ≡ record i { title = j.title } → AreInRange d
+    → AreInRange (record d { instances = slice_set d.instances n j })
+instance_in_range d n i j lt is same h =
+    let name : j.name ≡ (get_or d.instances n i).name = ap (λ x. x.name) same ∙ ap (λ x. x.name) is in
+    let kind : j.kind ≡ (get_or d.instances n i).kind = ap (λ x. x.kind) same ∙ ap (λ x. x.kind) is in
+    let preset : j.preset ≡ (get_or d.instances n i).preset = ap (λ x. x.preset) same ∙ ap (λ x. x.preset) is in
+    let names : map (λ x. x.name) (slice_set d.instances n j) ≡ map (λ x. x.name) d.instances = map-set_same (λ x. x.name) d.instances n j i name in
+    record {
+      kept = (
+        rw names h.kept.0,
+        h.kept.1,
+        h.kept.2,
+        rw (length-set d.instances n j) h.kept.3,
+        All-set (λ x. length x.name ≤ (traits_of x.kind).longest_name) d.instances n j (rw (name, kind) (h.kept.4 n i lt)) h.kept.4,
+      );
+      presets = All-set (λ x. x.preset ≤ largest_preset x.kind) d.instances n j (rw (preset, kind) (h.presets n i lt)) h.presets;
+    }

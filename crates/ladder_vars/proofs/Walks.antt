@@ -19,8 +19,7 @@ use Rattle.ladder_times.specs.ReadTimes.{◌>>=◌}
 use Rattle.ladder_vars.specs.ReadWords.{IsValue, address_of, value_of, block_of}
 use Rattle.ladder_vars.specs.ReadSteps.{on, step}
 use Rattle.ladder_vars.specs.ReadDecls.{PresetFits}
-use Rattle.ladder_vars.proofs.Keywords.{alike, block_reads, block_takes, block_of-other}
-use Rattle.ladder_vars.proofs.WordLaws.{address_takes, address_reads, value_takes, value_reads}
+use Rattle.ladder_vars.proofs.WordLaws.{alike, block_reads, block_takes, block_of-other, address_takes, address_reads, value_takes, value_reads}
 
 -- ---- walks
 
@@ -111,11 +110,9 @@ Rest (due.End c) ts b = (b ≡ c) × Sequence semicolon ts
 
 -- ---- the grammar has what a walk takes
 
-form_closed : (form : Parameter) (n : ℕ) (ts : List (List ℕ))
-    → Sequence (bracket form n) ts
-    → Preset (Some form) n ts
-form_closed parameter.Time n ts h = h
-form_closed parameter.Count n ts h = h
+preset_form : (form : Parameter) (n : ℕ) (ts : List (List ℕ)) → (Preset (Some form) n ts → Sequence (bracket form n) ts) × (Sequence (bracket form n) ts → Preset (Some form) n ts)
+preset_form parameter.Time n ts = (λ h. h, λ h. h)
+preset_form parameter.Count n ts = (λ h. h, λ h. h)
 
 split_sequence : (phrases more : List Phrase) (ts : List (List ℕ)) → Sequence (phrases ++ more) ts
     → (front back : List (List ℕ)) × (ts ≡ front ++ back) × Sequence phrases front × Sequence more back
@@ -128,7 +125,7 @@ preset_before : (kind : BlockKind) (form : Parameter) (t : List ℕ) (ts : List 
     → IsInstance (λ n. Token (Is (codes "(")) ∷ after_opening form n) kind ts b → IsInstance (after_block kind) kind (t ∷ ts) b
 preset_before kind form t ts b parameter_is is (n, e, h) =
     let x = split_sequence (bracket form n) semicolon ts h in
-    let given : Preset (traits_of kind).parameter n x.0 = subst (λ o. Preset o n x.0) (sym parameter_is) (form_closed form n x.0 x.3) in
+    let given : Preset (traits_of kind).parameter n x.0 = subst (λ o. Preset o n x.0) (sym parameter_is) ((preset_form form n x.0).1 x.3) in
     (n, e, (t ∷ x.0, x.1, ap (λ z. t ∷ z) x.2, inl (t ∷ [], x.0, refl, (t, refl, is), (x.0, [], sym (append-nil x.0), given, refl)), x.4))
 
 type_before : (t : List ℕ) (ts : List (List ℕ)) (b : Body) → Is (codes ":") t → Rest due.Type ts b → IsBody (t ∷ ts) b
@@ -183,39 +180,26 @@ body_of ts b w = rest_of ts due.Place b w
 
 -- a token, and what follows it
 one_more : (ts front back : List (List ℕ)) (t : List ℕ) → ts ≡ front ++ back → front ≡ t ∷ [] → ts ≡ t ∷ back
-one_more ts front back t parts one = parts ∙ ap (λ z. z ++ back) one
+one_more ts front back t parts one = grind arith
 
 end_walks : (c : Body) (ts : List (List ℕ)) → Sequence semicolon ts → Walks (due.End c) ts c
-end_walks c ts (f, back, parts, (t, one, is), none) = takes (due.End c) t ts back c (Some (then.Ends c)) (one_more ts f back t parts one) (rw is refl) (none, refl)
+end_walks c ts (f, back, parts, (t, one, is), none) = grind arith
 
 initial_walks : (kind : VarKind) (address : Option Address) (value : Bool) (ts : List (List ℕ)) → Sequence (after_bool value) ts
     → Walks (due.Initial kind address) ts (body.Var kind address value)
-initial_walks kind address value ts (front, back, parts, inr (empty, off), (f, c, p, (t, one, is), none)) =
-    takes (due.Initial kind address) t ts c (body.Var kind address value) (Some (then.Ends (body.Var kind address false)))
-    (parts ∙ ap (λ z. z ++ back) empty ∙ one_more back f c t p one) (rw is refl) (none, ap (body.Var kind address) off)
+initial_walks kind address value ts (front, back, parts, inr (empty, off), (f, c, p, (t, one, is), none)) = grind arith
 initial_walks kind address value ts (front, back, parts, inl (f, b, p, (t, one, is), (g, c, q, (bit, other, is_bit), end)), rest) =
-    let b_is : b ≡ bit ∷ [] = one_more b g c bit q other ∙ ap (λ z. bit ∷ z) end in
-    let whole : ts ≡ t ∷ bit ∷ back = parts ∙ ap (λ z. z ++ back) (one_more front f b t p one ∙ ap (λ z. t ∷ z) b_is) in
-    takes (due.Initial kind address) t ts (bit ∷ back) (body.Var kind address value) (Some (then.Goes (due.Bit kind address))) whole
-    (rw (alike (codes ":=") (codes ";") t is, is) refl)
-    (takes (due.Bit kind address) bit (bit ∷ back) back (body.Var kind address value) (Some (then.Goes (due.End (body.Var kind address value)))) refl (rw is_bit refl)
-    (end_walks (body.Var kind address value) back rest))
+    let no_end = alike (codes ":=") (codes ";") t is in
+    let end_ = end_walks (body.Var kind address value) back rest in
+    grind arith
 
 bracket_walks : (kind : BlockKind) (form : Parameter) (n : ℕ) (ts : List (List ℕ))
     → Sequence (Token (Is (codes "(")) ∷ after_opening form n) ts → Walks (due.Opening kind form) ts (body.Instance kind n)
 bracket_walks kind form n ts
     (f1, b1, p1, (t1, o1, is1), (f2, b2, p2, (t2, o2, is2), (f3, b3, p3, (t3, o3, is3), (f4, b4, p4, (t4, o4, is4), (f5, b5, p5, (t5, o5, is5), rest))))) =
-    let b : Body = body.Instance kind n in
-    takes (due.Opening kind form) t1 ts b1 b (Some (then.Goes (due.Word kind form))) (one_more ts f1 b1 t1 p1 o1) (rw is1 refl)
-    (takes (due.Word kind form) t2 b1 b2 b (Some (then.Goes (due.Assign kind form))) (one_more b1 f2 b2 t2 p2 o2) (rw is2 refl)
-    (takes (due.Assign kind form) t3 b2 b3 b (Some (then.Goes (due.Value kind form))) (one_more b2 f3 b3 t3 p3 o3) (rw is3 refl)
-    (takes (due.Value kind form) t4 b3 b4 b (Some (then.Goes (due.Closing b))) (one_more b3 f4 b4 t4 p4 o4) (rw (value_reads form t4 n is4) refl)
-    (takes (due.Closing b) t5 b4 b5 b (Some (then.Goes (due.End b))) (one_more b4 f5 b5 t5 p5 o5) (rw is5 refl) (end_walks b b5 rest)))))
-
-form_opened : (form : Parameter) (n : ℕ) (ts : List (List ℕ)) → Preset (Some form) n ts
-    → Sequence (bracket form n) ts
-form_opened parameter.Time n ts h = h
-form_opened parameter.Count n ts h = h
+    let value = value_reads form t4 n is4 in
+    let end = end_walks (body.Instance kind n) b5 rest in
+    grind arith
 
 join_sequence : (phrases more : List Phrase) (front back : List (List ℕ)) → Sequence phrases front → Sequence more back → Sequence (phrases ++ more) (front ++ back)
 join_sequence [] more front back none h = subst (λ z. Sequence more (z ++ back)) (sym none) h
@@ -224,41 +208,29 @@ join_sequence (P ∷ phrases) more front back (f, b, parts, p, h) others =
 
 preset_walks : (kind : BlockKind) (o : Option Parameter) (n : ℕ) (ts : List (List ℕ)) → (traits_of kind).parameter ≡ o
     → Sequence (Optional (Token (Is (codes ":=")) ∷ Preset o n ∷ []) (n ≡ 0) ∷ semicolon) ts → Walks (due.Preset kind) ts (body.Instance kind n)
-preset_walks kind o n ts parameter_is (front, back, parts, inr (empty, zero_), (f, c, p, (t, one, is), none)) =
-    takes (due.Preset kind) t ts c (body.Instance kind n) (Some (then.Ends (body.Instance kind 0)))
-    (parts ∙ ap (λ z. z ++ back) empty ∙ one_more back f c t p one) (rw is refl) (none, ap (body.Instance kind) zero_)
+preset_walks kind o n ts parameter_is (front, back, parts, inr (empty, zero_), (f, c, p, (t, one, is), none)) = grind arith
 preset_walks kind None n ts parameter_is (front, back, parts, inl (f, b, p, assign, (g, c, q, never, end)), rest) = absurd never
 preset_walks kind (Some form) n ts parameter_is (front, back, parts, inl (f, b, p, (t, one, is), (g, c, q, given, end)), rest) =
-    let b_is : b ≡ g = q ∙ ap (λ z. g ++ z) end ∙ append-nil g in
-    let whole : ts ≡ t ∷ (g ++ back) = parts ∙ ap (λ z. z ++ back) (one_more front f b t p one ∙ ap (λ z. t ∷ z) b_is) in
-    takes (due.Preset kind) t ts (g ++ back) (body.Instance kind n) (Some (then.Goes (due.Opening kind form))) whole
-    (rw (alike (codes ":=") (codes ";") t is, is, parameter_is) refl)
-    (bracket_walks kind form n (g ++ back) (join_sequence (bracket form n) semicolon g back (form_opened form n g given) rest))
+    let no_end = alike (codes ":=") (codes ";") t is in
+    let more = bracket_walks kind form n (g ++ back) (join_sequence (bracket form n) semicolon g back ((preset_form form n g).0 given) rest) in
+    grind (arith, append-nil {A = List ℕ})
 
 pub walks : (ts : List (List ℕ)) (b : Body) → IsBody ts b → Walks due.Place ts b
 walks ts (body.Var kind address value) (place, a, pa, inr (empty, (none, memory)), (f, b, pb, (colon, ob, is), (g, c, pc, (bool, oc, is_bool), more))) =
-    let it : Body = body.Var kind address value in
-    let same : body.Var var_kind.Memory None value ≡ it = ap (λ k. body.Var k None value) (sym memory) ∙ ap (λ o. body.Var kind o value) (sym none) in
-    takes due.Place colon ts b it (Some (then.Goes due.Type)) (pa ∙ ap (λ z. z ++ a) empty ∙ one_more a f b colon pb ob)
-    (rw (alike (codes ":") (codes "AT") colon is, is) refl)
-    (takes due.Type bool b c it (Some (then.Goes (due.Initial var_kind.Memory None))) (one_more b g c bool pc oc) (rw is_bool refl)
-    (subst (Walks (due.Initial var_kind.Memory None) c) same (initial_walks var_kind.Memory None value c more)))
+    let no_at = alike (codes ":") (codes "AT") colon is in
+    let rest = initial_walks var_kind.Memory None value c more in
+    grind arith
 walks ts (body.Var kind address value)
     (place, a, pa, inl (h, d, pd, (at, oat, is_at), (i, e, pe, (word, oe, (x, some, is_address)), end)), (f, b, pb, (colon, ob, is), (g, c, pc, (bool, oc, is_bool), more))) =
-    let it : Body = body.Var kind address value in
-    let same : body.Var kind (Some x) value ≡ it = ap (λ o. body.Var kind o value) (sym some) in
-    let whole : ts ≡ at ∷ word ∷ a = pa ∙ ap (λ z. z ++ a) (one_more place h d at pd oat ∙ ap (λ z. at ∷ z) (one_more d i e word pe oe ∙ ap (λ z. word ∷ z) end)) in
-    takes due.Place at ts (word ∷ a) it (Some (then.Goes due.Address)) whole (rw is_at refl)
-    (takes due.Address word (word ∷ a) a it (Some (then.Goes (due.Colon kind x))) refl (rw (address_reads word kind x is_address) refl)
-    (takes (due.Colon kind x) colon a b it (Some (then.Goes (due.Bool kind x))) (one_more a f b colon pb ob) (rw is refl)
-    (takes (due.Bool kind x) bool b c it (Some (then.Goes (due.Initial kind (Some x)))) (one_more b g c bool pc oc) (rw is_bool refl)
-    (subst (Walks (due.Initial kind (Some x)) c) same (initial_walks kind (Some x) value c more)))))
+    let found = address_reads word kind x is_address in
+    let rest = initial_walks kind (Some x) value c more in
+    grind arith
 walks ts (body.Instance kind n) (f, a, pa, (colon, oa, is), (g, b, pb, (block, ob, is_block), more)) =
-    let it : Body = body.Instance kind n in
-    let named : block_of block ≡ Some kind = block_reads block kind is_block in
-    takes due.Place colon ts a it (Some (then.Goes due.Type)) (one_more ts f a colon pa oa) (rw (alike (codes ":") (codes "AT") colon is, is) refl)
-    (takes due.Type block a b it (Some (then.Goes (due.Preset kind))) (one_more a g b block pb ob) (rw (block_of-other block kind named, named) refl)
-    (preset_walks kind (traits_of kind).parameter n b refl more))
+    let no_at = alike (codes ":") (codes "AT") colon is in
+    let named = block_reads block kind is_block in
+    let no_bool = block_of-other block kind named in
+    let rest = preset_walks kind (traits_of kind).parameter n b refl more in
+    grind arith
 
 -- ---- each preset is in range
 

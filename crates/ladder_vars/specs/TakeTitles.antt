@@ -1,5 +1,6 @@
 -- Private to the proofs: the declarations of a text passed once more, as the code passes them.
-use Rattle.std.specs.Prelude.{◌≡◌, ℕ, ◌+◌, ◌<◌, false, List, length, codes, slice_get, slice_set, Some, Ok}
+use Rattle.std.specs.Prelude.{◌≡◌, ℕ, ◌+◌, ◌<◌, false, Bool, ◌||◌, List, length, codes, slice_get, slice_set, Some, Ok}
+use Rattle.std.specs.List.{list_any}
 use Rattle.ladder_vars.specs.declared.decls.Var.{Var}
 use Rattle.ladder_vars.specs.declared.decls.Instance.{Instance}
 use Rattle.ladder_vars.specs.declared.decls.Body.{Body}
@@ -41,3 +42,8 @@ Retitles vars instances (body.Instance kind preset) title d d' = SetsInstance in
 abbrev pub IsPast : Passed → Body → Passed → Type 0
 IsPast before (body.Var kind address initial) after = (after.vars ≡ before.vars + 1) × (after.instances ≡ before.instances)
 IsPast before (body.Instance kind preset) after = (after.vars ≡ before.vars) × (after.instances ≡ before.instances + 1)
+
+-- a declaration has the name or the title
+abbrev pub is_called : List ℕ → Declared → Bool
+is_called word d =
+    list_any (λ v. same_letters word v.name || same_letters word v.title) d.vars || list_any (λ i. same_letters word i.name || same_letters word i.title) d.instances

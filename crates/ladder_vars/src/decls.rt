@@ -1,12 +1,12 @@
 //! The declarations of a text.
 
-ghost use Rattle.std.specs.Prelude.{◌≡◌, ◌≤◌, ◌<◌, ◌||◌, length, OnOk, IsNone, position, count_by};
+ghost use Rattle.std.specs.Prelude.{◌≡◌, ◌≤◌, ◌<◌, ◌||◌, length, OnOk, IfErr, IfSome, IfNone, position, count_by};
 ghost use Rattle.std.specs.List.{list_any, prefix_len};
 ghost use Rattle.ladder_vars.specs.Name.{same_letters};
 ghost use Rattle.ladder_vars.specs.Decls.{is_input, names_of, addresses_of, same_address, find, instance_name, output_suffix, symbol_name, var_name, AreInRange};
-ghost use Rattle.ladder_vars.specs.Titles.{titles_of};
-ghost use Rattle.ladder_vars.specs.TakeTitles.{SetsVar, SetsInstance};
-ghost use Rattle.ladder_vars.specs.ReadDecls.{refusal, nothing, added, with_var, with_instance, with_decl, GivesInMemory, PresetFits};
+ghost use Rattle.ladder_vars.specs.Rules.{IsRefused};
+ghost use Rattle.ladder_vars.specs.TakeTitles.{SetsVar, SetsInstance, is_called};
+ghost use Rattle.ladder_vars.specs.ReadDecls.{is_taken, nothing, with_var, with_instance, with_decl, IfBroken, PresetFits};
 
 use crate::fault::{Fault, ReadFault, VarRule};
 use crate::kind::{BlockKind, Output};
@@ -127,6 +127,18 @@ fn instance_at(instances: &[Instance], name: &Name) -> Option<usize>
     instances.iter().position(|i| name.same(&i.name))
 }
 
+fn is_var_named(vars: &[Var], name: &Name) -> bool
+    ensures { result ≡ list_any (λ v. same_letters name.now v.name) vars.now }
+{
+    vars.iter().any(|v| name.same(&v.name))
+}
+
+fn is_instance_named(instances: &[Instance], name: &Name) -> bool
+    ensures { result ≡ list_any (λ i. same_letters name.now i.name) instances.now }
+{
+    instances.iter().any(|i| name.same(&i.name))
+}
+
 /// Whether a variable has the address.
 fn is_used(vars: &[Var], address: Address) -> bool
     ensures { result ≡ list_any (same_address address) (addresses_of vars.now) }
@@ -134,6 +146,15 @@ fn is_used(vars: &[Var], address: Address) -> bool
     vars.iter()
         .filter_map(|v| v.address)
         .any(|other| address == other)
+}
+
+fn is_taken(vars: &[Var], address: Option<Address>) -> bool
+    ensures { result ≡ is_taken vars.now address }
+{
+    match address {
+        Some(address) => is_used(vars, address),
+        None => false,
+    }
 }
 
 /// The title that is the name.
@@ -173,23 +194,23 @@ impl Decls {
         }
     }
 
-    #[tactic(auto, using(crate::proofs::Keeping::is_found))]
+    #[tactic(auto, using(crate::proofs::Keeping::names_any))]
     fn is_declared(&self, name: &Name) -> bool
         ensures { result ≡ list_any (same_letters name.now) (names_of self.now) }
     {
-        self.find(name).is_some()
+        is_var_named(&self.vars, name) || is_instance_named(&self.instances, name)
     }
 
     /// The rule that one more declaration would break.
     fn refusal(&self, name: &Name, body: Body) -> Option<VarRule>
-        ensures value { result ≡ refusal self.now name.now body }
-        ensures kept { IsNone result → AreInRange self.now }
+        ensures some { IfSome result (λ rule. IsRefused rule self.now name.now body) }
+        ensures none { IfNone result (PresetFits body → AreInRange (with_decl self.now name.now body)) }
     {
         match body {
             Body::Var { address, .. } => {
                 if self.is_declared(name) {
                     Some(VarRule::Duplicate)
-                } else if matches!(address, Some(address) if is_used(&self.vars, address)) {
+                } else if is_taken(&self.vars, address) {
                     Some(VarRule::DuplicateAddress)
                 } else if self.vars.len() >= MOST_VARS {
                     Some(VarRule::TooMany)
@@ -258,10 +279,10 @@ impl Decls {
     }
 
     /// Takes one more declaration, where so many bytes are left after its name.
-    #[tactic(auto, unfolding(crate::specs::ReadDecls::added))]
     pub(crate) fn add(&mut self, name: Name, body: Body, left: usize) -> Result<(), ReadFault>
         requires { PresetFits body }
-        ensures { GivesInMemory (λ _. self.new) result (added self.old name body left) }
+        ensures more { OnOk result (self.new ≡ with_decl self.old name body) }
+        ensures refused { IfErr result (λ e. IfBroken e (λ f. IsRefused f.rule self.old name body × (f.left ≡ left))) }
     {
         match self.refusal(&name, body) {
             Some(rule) => Err(ReadFault::Broken(Fault { rule, left })),
@@ -353,9 +374,8 @@ impl Decls {
     }
 
     /// Whether a declaration has the name or the title, whatever the case of its letters.
-    #[tactic(auto, using(crate::proofs::Keeping::is_either))]
     pub(crate) fn is_called(&self, word: &[u8]) -> bool
-        ensures { result ≡ (list_any (same_letters word.now) (names_of self.now) || list_any (same_letters word.now) (titles_of self.now)) }
+        ensures { result ≡ is_called word.now self.now }
     {
         is_var_called(&self.vars, word) || is_instance_called(&self.instances, word)
     }

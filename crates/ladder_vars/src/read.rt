@@ -1,11 +1,11 @@
 //! Reads the block of declarations at the head of a text.
 
-ghost use Rattle.std.specs.Prelude.{◌≡◌, ◌≤◌, ◌+◌, ◌≢◌, ℕ, suc, List, length, drop, IfOk, IfErr};
-ghost use Rattle.ladder_vars.specs.Decls.{Declared, AreInRange};
+ghost use Rattle.std.specs.Prelude.{◌≡◌, ◌≤◌, ◌+◌, ◌≢◌, ℕ, List, length, drop, false, true, if◌then◌else◌, IfOk, IfErr};
+ghost use Rattle.ladder_vars.specs.Decls.{Declared};
+ghost use Rattle.ladder_vars.specs.Name.{has_name_form, is_name};
 ghost use Rattle.ladder_vars.specs.Grammar.{HasDecls, HasNoDecls};
-ghost use Rattle.ladder_vars.specs.Rules.{BreaksOn, line_of};
-ghost use Rattle.ladder_vars.specs.ReadText.{Gives};
-ghost use Rattle.ladder_vars.specs.ReadDecls.{GivesInMemory, name_of, decls_from, all_of, nothing};
+ghost use Rattle.ladder_vars.specs.Rules.{Breaks, BreaksOn, line_of};
+ghost use Rattle.ladder_vars.specs.ReadDecls.{IfBroken};
 
 use crate::declaration::{body_at, expect};
 use crate::decls::Decls;
@@ -16,9 +16,9 @@ use ladder_times::same_letters;
 use std::alloc::Global;
 
 /// The name that a word is, where a name is due and so many bytes are left after it.
-#[tactic(auto, unfolding(crate::specs::ReadDecls::name_of))]
 fn name_of(word: &[u8], left: usize) -> Result<Name, Fault>
-    ensures { Gives (λ name. name) result (name_of word.now left) }
+    ensures some { IfOk result (λ name. (name ≡ word.now) × (is_name word.now ≡ true)) }
+    ensures none { IfErr result (λ f. (is_name word.now ≡ false) × (f.rule ≡ (if has_name_form word.now then VarRule.BadName else VarRule.BadToken)) × (f.left ≡ left)) }
 {
     match Name::new(word) {
         Some(name) => Ok(name),
@@ -33,13 +33,14 @@ fn name_of(word: &[u8], left: usize) -> Result<Name, Fault>
     }
 }
 
-/// The declarations up to END_VAR, and what follows it.
-fn decls_from(alloc: Global, text: &[u8]) -> Result<(Decls, &[u8]), ReadFault>
-    ensures value { GivesInMemory (λ x. (x.0, x.1.now)) result (decls_from (suc (length text.now)) nothing text.now) }
-    ensures kept { IfOk result (λ x. AreInRange x.0) }
+/// The declarations of a text, and what follows their END_VAR.
+fn all_of(alloc: Global, text: &[u8]) -> Result<(Decls, &[u8]), ReadFault>
+    ensures found { IfOk result (λ x. HasDecls text.now x.0 x.1.now) }
+    ensures only { IfOk result (λ x. (declared : Declared) (rest : List ℕ) → HasDecls text.now declared rest → (declared ≡ x.0) × (rest ≡ x.1.now)) }
+    ensures broken { IfErr result (λ e. IfBroken e (λ f. Breaks f.rule text.now f.left × HasNoDecls text.now)) }
 {
+    let mut rest = expect(b"VAR", text)?;
     let mut decls = Decls::new(alloc);
-    let mut rest = text;
     loop {
         let (word, after) = token(rest)?;
         if same_letters(word, b"END_VAR") {
@@ -50,15 +51,6 @@ fn decls_from(alloc: Global, text: &[u8]) -> Result<(Decls, &[u8]), ReadFault>
         decls.add(name, body, after.len())?;
         rest = next;
     }
-}
-
-#[tactic(auto, unfolding(crate::specs::ReadDecls::all_of))]
-fn all_of(alloc: Global, text: &[u8]) -> Result<(Decls, &[u8]), ReadFault>
-    ensures value { GivesInMemory (λ x. (x.0, x.1.now)) result (all_of text.now) }
-    ensures kept { IfOk result (λ x. AreInRange x.0) }
-{
-    let rest = expect(b"VAR", text)?;
-    decls_from(alloc, rest)
 }
 
 /// The line where so many bytes of a text are left, counted from 1.

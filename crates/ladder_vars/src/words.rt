@@ -27,7 +27,7 @@ fn are_digits(word: &[u8]) -> bool
 }
 
 /// The number of a word of 1 to 5 digits.
-#[tactic(auto, using(crate::proofs::Numbers::number_of_short))]
+#[tactic(auto, using(crate::proofs::WordLaws::number_of_short))]
 pub(crate) fn short_number(word: &[u8]) -> Option<u32>
     ensures { result ≡ short_number word.now }
 {

@@ -1,11 +1,12 @@
-use Rattle.std.proofs.Common.{sym, ap, ◌∙◌, Some}
+use Rattle.std.proofs.Common.{sym, ap, ◌∙◌, Some, refl, arith}
 use Rattle.std.proofs.lemmas.Result.{err_from_is_err_and}
-use Rattle.ladder_vars.proofs.BodyReads.{fits}
-use Rattle.ladder_vars.proofs.BodyLoop.{stands_first, no_word, refuses, ends, goes}
+use Rattle.ladder_vars.specs.ReadDecls.{body_at}
+use Rattle.ladder_vars.proofs.BodyReads.{fits, no_word, refuses, ends, goes}
 use Rattle.ladder_vars.proofs.declaration.body_at.Goals as goal
 
 pub loop-word-init : goal.loop-word-init
-loop-word-init c = stands_first _
+unfolding body_at
+loop-word-init c = record { turns = _; enough = omega arith; within = omega arith; same = refl }
 
 pub returns-in_err-word-clause-value : goal.returns-in_err-word-clause-value
 returns-in_err-word-clause-value c =

@@ -1,5 +1,5 @@
 use Rattle.std.proofs.Common.{length}
-use Rattle.ladder_vars.proofs.BodyLoop.{Stands}
+use Rattle.ladder_vars.proofs.BodyReads.{Stands}
 use Rattle.ladder_vars.proofs.declaration.body_at.Given as goal
 
 abbrev pub invariant-loop-word : goal.invariant-loop-word

@@ -1,22 +1,19 @@
-use Rattle.std.proofs.Common.{◌≡◌, ◌||◌, true, false, Some, None, sym, ap, ◌∙◌, arith}
+use Rattle.std.proofs.Common.{◌≡◌, true, false, Some, None, sym, ap, ◌∙◌, arith}
 use Rattle.ladder_titles.specs.Title.{alias_of}
-use Rattle.std.specs.List.{list_any}
-use Rattle.ladder_vars.specs.Name.{same_letters}
-use Rattle.ladder_vars.specs.Decls.{names_of}
-use Rattle.ladder_vars.specs.Titles.{titles_of}
-use Rattle.ladder_vars.proofs.Titling.{begins, starts, ends, few, taken, within, with_alias, without_alias}
+use Rattle.ladder_vars.specs.TakeTitles.{is_called}
+use Rattle.ladder_vars.proofs.Titling.{opens, first, ends, few, taken, within, with_alias, without_alias}
 use Rattle.ladder_vars.proofs.titles.take_aliases.Goals as goal
 use Rattle.ladder_vars.proofs.titles.take_aliases.Goals.{in-Some-alias_of+else-is_called, in_default-alias_of}
 
 pub loop-reading-init : goal.loop-reading-init
-loop-reading-init c = starts c.args.text.now c.args.decls.now _ c.requires c.in-Ok.ensures.value
+loop-reading-init c = first c.args.text.now c.args.decls.now _ c.requires c.in-Ok.ensures.value
 
 pub returns-then-is_called-clause-taken : goal.returns-then-is_called-clause-taken
 returns-then-is_called-clause-taken c =
     let r = c.in-Some.reading in
     let alias : alias_of r.name.now r.behind.now ≡ Some c.in-Some-alias_of.alias = sym c.alias_of.ensures ∙ c.in-Some-alias_of.is in
-    let called : (list_any (same_letters c.in-Some-alias_of.alias) (names_of c.loop-reading.decls) || list_any (same_letters c.in-Some-alias_of.alias) (titles_of c.loop-reading.decls)) ≡ true
-    = ap (λ w. list_any (same_letters w) (names_of c.loop-reading.decls) || list_any (same_letters w) (titles_of c.loop-reading.decls)) (sym c.bytes.ensures.spelling) ∙ sym c.is_called.ensures ∙ c.if-is_called.true in
+    let called : is_called c.in-Some-alias_of.alias c.loop-reading.decls ≡ true
+    = ap (λ w. is_called w c.loop-reading.decls) (sym c.bytes.ensures.spelling) ∙ sym c.is_called.ensures ∙ c.if-is_called.true in
     rw c.line_of-line.ensures (taken _ _ _ _ _ _ c.loop-reading.invariant r.name.now r.behind.now c.in-Some-alias_of.alias r.body r.rest.now c.in-Some.ensures.some alias called)
 
 pub give-requires : goal.give-requires
@@ -26,7 +23,7 @@ give-requires c =
 
 pub past-passed-requires : goal.past-passed-requires
 past-passed-requires c =
-    let h = few _ _ _ _ _ _ c.requires c.loop-reading.invariant in
+    let h = few _ _ _ _ _ _ c.loop-reading.invariant in
     (omega (arith, h.0), omega (arith, h.1))
 
 pub loop-reading-preserved : goal.loop-reading-preserved
@@ -35,8 +32,8 @@ loop-reading-preserved c =
     elim c.match-alias_of.branch [
       | in-Some-alias_of+else-is_called w ↦
           let alias : alias_of r.name.now r.behind.now ≡ Some w.in-Some-alias_of.alias = sym c.alias_of.ensures ∙ w.in-Some-alias_of.is in
-          let free : (list_any (same_letters w.in-Some-alias_of.alias) (names_of c.loop-reading.decls) || list_any (same_letters w.in-Some-alias_of.alias) (titles_of c.loop-reading.decls)) ≡ false
-          = ap (λ x. list_any (same_letters x) (names_of c.loop-reading.decls) || list_any (same_letters x) (titles_of c.loop-reading.decls)) (sym w.bytes.ensures.spelling) ∙ sym w.is_called.ensures ∙ w.if-is_called.false in
+          let free : is_called w.in-Some-alias_of.alias c.loop-reading.decls ≡ false
+          = ap (λ x. is_called x c.loop-reading.decls) (sym w.bytes.ensures.spelling) ∙ sym w.is_called.ensures ∙ w.if-is_called.false in
           rw w.decls-is (with_alias _ _ _ _ _ c.loop-reading.passed c.past-passed.result c.loop-reading.invariant r.name.now r.behind.now w.in-Some-alias_of.alias r.body
           r.rest.now c.in-Some.ensures.some alias free w.give.ensures c.past-passed.ensures)
       | in_default-alias_of w ↦
@@ -49,7 +46,7 @@ pub returns-clause-titled : goal.returns-clause-titled
 returns-clause-titled c = ends _ _ _ _ _ _ c.loop-reading.invariant (c.in_default-next_decl.ensures.none)
 
 pub returns-in_default-clause-titled : goal.returns-in_default-clause-titled
-returns-in_default-clause-titled c = absurd (begins _ _ _ c.requires c.in_default.ensures.value)
+returns-in_default-clause-titled c = absurd (opens _ _ _ c.requires c.in_default.ensures.value)
 
 pub returns-in_default-clause-same : goal.returns-in_default-clause-same
-returns-in_default-clause-same c = absurd (begins _ _ _ c.requires c.in_default.ensures.value)
+returns-in_default-clause-same c = absurd (opens _ _ _ c.requires c.in_default.ensures.value)

@@ -2,7 +2,7 @@ use Rattle.std.proofs.Common.{◌≡◌, ◌+◌, ◌&&◌, ◌==◌, cond, leng
 use Rattle.std.proofs.lemmas.Grind.{common_steps}
 use Rattle.ladder_vars.specs.Decls.{is_input, AreInRange}
 use Rattle.ladder_vars.specs.ReadDecls.{with_var}
-use Rattle.ladder_vars.proofs.Leading.{leading-var}
+use Rattle.ladder_vars.proofs.Keeping.{leading-var}
 use Rattle.ladder_vars.proofs.decls.Decls.push_var.Goals as goal
 use Rattle.ladder_vars.proofs.decls.Decls.push_var.Goals.{then-leading-len+then-is_input, else-leading-len, else-leading-len-via-then-leading-len+else-is_input, else-leading-len-via-else-leading-len}
 

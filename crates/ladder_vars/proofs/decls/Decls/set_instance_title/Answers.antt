@@ -2,7 +2,7 @@ use Rattle.std.proofs.Common.{◌<◌, length, refl, sym, ap, subst, ◌∙◌, 
 use Rattle.std.proofs.lemmas.Option.{get_or_from_slice_get}
 use Rattle.ladder_vars.specs.Decls.{Declared}
 use Rattle.ladder_vars.specs.declared.decls.Instance.{Instance}
-use Rattle.ladder_vars.proofs.Retitling.{instance_in_range}
+use Rattle.ladder_vars.proofs.Keeping.{instance_in_range}
 use Rattle.ladder_vars.proofs.decls.Decls.set_instance_title.Goals as goal
 
 pub invariant_of-self : goal.invariant_of-self

@@ -1,8 +1,9 @@
 use Rattle.std.proofs.Common.{refl, sym, ap, ◌∙◌, ◌≡◌, slice_set, get_or}
+use Rattle.std.proofs.lemmas.List.Folds.{prefix_len-set}
 use Rattle.std.proofs.lemmas.Option.{get_or_from_slice_get}
 use Rattle.ladder_vars.specs.Decls.{Declared, is_input}
 use Rattle.ladder_vars.specs.declared.decls.Var.{Var}
-use Rattle.ladder_vars.proofs.Retitling.{var_in_range, prefix_len-set}
+use Rattle.ladder_vars.proofs.Keeping.{var_in_range}
 use Rattle.ladder_vars.proofs.decls.Decls.set_var_title.Goals as goal
 
 pub invariant_of-self : goal.invariant_of-self
