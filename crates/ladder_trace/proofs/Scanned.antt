@@ -12,8 +12,12 @@ use Rattle.ladder_trace.specs.Steps.{IsScan, ScansTo, StepsTo}
 use Rattle.ladder_trace.specs.Stimulus.{IsRow, given_by}
 use Rattle.ladder_trace.specs.Trace.{IsStep, Recorded, inputs_given}
 
--- A slice that is written whole takes the place of all items of its vector.
-replaced : (n : ℕ) (new old : List Bool) → length new ≡ n → length old ≡ n → take n (new ++ drop (length new) old) ≡ new
+-- A slice is written over the first n items of its vector.
+abbrev pub over : ℕ → List Bool → List Bool → List Bool
+over n new old = take n (new ++ drop (length new) old)
+
+-- One that is written whole takes the place of all items.
+replaced : (n : ℕ) (new old : List Bool) → length new ≡ n → length old ≡ n → over n new old ≡ new
 replaced n new old e f =
     ap (λ rest. take n (new ++ rest)) (drop_all (length new) old (omega (arith, e, f)))
     ∙ ap (take n) (append-nil new)
@@ -21,11 +25,11 @@ replaced n new old e f =
 
 -- the input image after the values of all inputs, and then the bits of a row
 pub given_image : (n : ℕ) (columns : List ℕ) (bits items first second values between : List Bool) → length items ≡ n → length first ≡ n → length second ≡ n
-    → between ≡ take n (first ++ drop (length first) items) → first ≡ values → second ≡ given_by columns bits between
-    → take n (second ++ drop (length second) (take n (first ++ drop (length first) items))) ≡ given_by columns bits values
+    → between ≡ over n first items → first ≡ values → second ≡ given_by columns bits between
+    → over n second (over n first items) ≡ given_by columns bits values
 given_image n columns bits items first second values between a b c same filled given =
     let kept = replaced n first items b a in
-    replaced n second (take n (first ++ drop (length first) items)) c (ap length kept ∙ b)
+    replaced n second (over n first items) c (ap length kept ∙ b)
     ∙ given
     ∙ ap (given_by columns bits) (same ∙ kept ∙ filled)
 
