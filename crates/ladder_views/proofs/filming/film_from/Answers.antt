@@ -1,6 +1,7 @@
 use Rattle.std.proofs.Common.{Err, Ok, sym, refl, inl, inr, ◌∙◌}
 use Rattle.ladder_setting.specs.declared.fault.ToolFault.TheVariants as fault
 use Rattle.ladder_setting.specs.Setting.{given_by}
+use Rattle.ladder_trace.specs.declared.recording.Film.{Film}
 use Rattle.ladder_views.proofs.Endings.{same_film}
 use Rattle.ladder_views.proofs.Plain.{drawn_plain}
 use Rattle.ladder_views.proofs.filming.film_from.Goals as goal
@@ -39,41 +40,44 @@ returns-in-Some-clause-failed g c = λ save status.
     })
 
 pub returns-in-Ok-write_film-clause-done : goal.returns-in-Ok-write_film-clause-done
-returns-in-Ok-write_film-clause-done g c = λ status. (
-  (
-    c.in-Ok-write_film.field-0,
-    record {
-      program = c.args.program.now;
-      before = c.args.state.now;
-      after = c.write_film.new.state;
-      coil = c.in-Ok.asked.coil;
-      set = c.requires.set;
-      explained = rw c.decls.ensures at c.in-Ok.ensures.coil;
-      accepted = sym c.coil_refusal.ensures ∙ c.in-None.is;
-      film = record { style = c.styles_of.result.frame; text = c.deref.result; coil = c.in-Ok.asked.coil };
-      is = record { drawn = c.styles_of.ensures.frame; described = c.deref.ensures.value; explained = refl };
-      shown = same_film _ c.args.program.now c.args.state.now c.write_film.new.state _ _ (g.O.Sink.log c.args.out.now) (g.O.Sink.log c.write_film.new.writer) (Ok c.in-Ok-write_film.field-0) c.stimulus.ensures
-          c.in-Ok-write_film.ensures.ends;
-    },
-  ),
-  refl,
-)
+returns-in-Ok-write_film-clause-done g c = λ status.
+    let film : Film = record { style = c.styles_of.result.frame; text = c.deref.result; coil = c.in-Ok.asked.coil } in (
+      (
+        c.in-Ok-write_film.field-0,
+        record {
+          program = c.args.program.now;
+          before = c.args.state.now;
+          after = c.write_film.new.state;
+          coil = c.in-Ok.asked.coil;
+          set = c.requires.set;
+          explained = rw c.decls.ensures at c.in-Ok.ensures.coil;
+          accepted = sym c.coil_refusal.ensures ∙ c.in-None.is;
+          film = film;
+          is = record { drawn = c.styles_of.ensures.frame; described = c.deref.ensures.value; explained = refl };
+          shown = same_film film c.args.program.now c.args.state.now c.write_film.new.state _ _ (g.O.Sink.log c.args.out.now) (g.O.Sink.log c.write_film.new.writer) (Ok c.in-Ok-write_film.field-0) c.stimulus.ensures
+              c.in-Ok-write_film.ensures.ends;
+        },
+      ),
+      refl,
+    )
 
 pub returns-clause-failed : goal.returns-clause-failed
-returns-clause-failed g c = λ save status. inr (
-  c.in-Err-write_film.fault,
-  record {
-    program = c.args.program.now;
-    before = c.args.state.now;
-    after = c.write_film.new.state;
-    coil = c.in-Ok.asked.coil;
-    set = c.requires.set;
-    explained = rw c.decls.ensures at c.in-Ok.ensures.coil;
-    accepted = sym c.coil_refusal.ensures ∙ c.in-None.is;
-    film = record { style = c.styles_of.result.frame; text = c.deref.result; coil = c.in-Ok.asked.coil };
-    is = record { drawn = c.styles_of.ensures.frame; described = c.deref.ensures.value; explained = refl };
-    shown = same_film _ c.args.program.now c.args.state.now c.write_film.new.state _ _ (g.O.Sink.log c.args.out.now) (g.O.Sink.log c.write_film.new.writer) (Err c.in-Err-write_film.fault) c.stimulus.ensures
-        c.in-Err-write_film.ensures.ends;
-  },
-  c.report-in-Err-write_film.ensures.line,
-)
+returns-clause-failed g c = λ save status.
+    let film : Film = record { style = c.styles_of.result.frame; text = c.deref.result; coil = c.in-Ok.asked.coil } in
+    inr (
+      c.in-Err-write_film.fault,
+      record {
+        program = c.args.program.now;
+        before = c.args.state.now;
+        after = c.write_film.new.state;
+        coil = c.in-Ok.asked.coil;
+        set = c.requires.set;
+        explained = rw c.decls.ensures at c.in-Ok.ensures.coil;
+        accepted = sym c.coil_refusal.ensures ∙ c.in-None.is;
+        film = film;
+        is = record { drawn = c.styles_of.ensures.frame; described = c.deref.ensures.value; explained = refl };
+        shown = same_film film c.args.program.now c.args.state.now c.write_film.new.state _ _ (g.O.Sink.log c.args.out.now) (g.O.Sink.log c.write_film.new.writer) (Err c.in-Err-write_film.fault) c.stimulus.ensures
+            c.in-Err-write_film.ensures.ends;
+      },
+      c.report-in-Err-write_film.ensures.line,
+    )
