@@ -9,6 +9,7 @@ pub mod Likening
 pub mod LookLaws
 pub mod Order
 pub mod Parts
+pub mod Passing
 pub mod Prefixes
 pub mod Probes
 pub mod Sifting

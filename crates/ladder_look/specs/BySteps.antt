@@ -7,6 +7,7 @@ use Rattle.ladder_elements.specs.Algebra.{Algebra}
 use Rattle.ladder_scan.specs.Programs.{diagram_of}
 use Rattle.ladder_scan.specs.Rung.{Held}
 use Rattle.ladder_look.specs.ByFrames.{look_frame}
+use Rattle.ladder_look.specs.Outcomes.{left_of}
 use Rattle.ladder_look.specs.Stepping.{all_gone, going}
 
 -- These values are what the steps leave, one after the other, from what a look begins with: no jump is taken, and of the links ON and OFF
@@ -20,3 +21,8 @@ pub record AreLeftBy {S : Type 0} (o : Algebra S) (p : Drawing) (now : ℕ) (ste
   pub on : slice_index_or links ON (o.known false) ≡ o.known true
   pub off : slice_index_or links OFF (o.known false) ≡ o.known false
   pub are : values ≡ (all_gone o p h.kept now steps (going (look_frame o (diagram_of p) inputs h) taken links (o.known true))).frame.values
+
+-- The steps leave of a variable what a look leaves of it.
+abbrev pub LeaveAsLook : {S : Type 0} → Algebra S → Drawing → ℕ → List Step → List S → Held → ℕ → Type 0
+LeaveAsLook {S} o p now steps inputs h var = (values : List S) → AreLeftBy o p now steps inputs h values
+    → slice_index_or values var (o.known false) ≡ left_of o (diagram_of p) now inputs h var

@@ -3,6 +3,7 @@ pub mod Look
 pub mod ByFrames
 pub mod Laws
 pub mod Lanes
+pub mod Outcomes
 pub mod Sheets
 pub mod Gating
 pub mod Stepping

@@ -1,15 +1,17 @@
 //! A look by some steps of a program in place of all.
 
-ghost use Rattle.std.specs.Prelude.{◌≡◌, ◌+◌, ◌-◌, ◌^◌, All, length, min};
+ghost use Rattle.std.specs.Prelude.{◌≡◌, ◌+◌, ◌-◌, ◌^◌, All, length, min, false, slice_index_or};
 ghost use Rattle.ladder_grid.specs.declared.gates.TheConstants.{LINKS};
 ghost use Rattle.ladder_scan.specs.Programs.{diagram_of, IsSound};
 ghost use Rattle.ladder_scan.specs.Rung.{SameSizes};
 ghost use Rattle.ladder_scan.specs.Standing.{Fits};
-ghost use Rattle.ladder_look.specs.BySteps.{AreLeftBy};
+ghost use Rattle.ladder_look.specs.BySteps.{AreLeftBy, LeaveAsLook};
+ghost use Rattle.ladder_look.specs.Outcomes.{left_of, outcome_of};
 ghost use Rattle.ladder_look.specs.Sheets.{HasRoom};
 ghost use Rattle.ladder_look.specs.Stepping.{IsWithin};
 
 use crate::looking::{Work, begin, clear};
+use crate::outcome::Outcome;
 use crate::steps::{Base, go};
 use ladder_elements::Operations;
 use ladder_grid::Program;
@@ -44,7 +46,7 @@ fn take_steps<S: Operations>(
 }
 
 /// What [`look`] does, but for the steps: these are taken in place of all that the program has. `work` then holds what they leave of
-/// the variables.
+/// the variables, and the outcome is what they leave of the variable with number `var`.
 ///
 /// It needs no memory.
 ///
@@ -55,11 +57,15 @@ pub fn look_by_steps<S: Operations>(
     inputs: &[S],
     now: u64,
     steps: &[Step],
+    var: usize,
     work: &mut Work<S>,
-)
+) -> Outcome<S>
     requires state { Fits program.now state.now }
     requires work { HasRoom program.now work.old }
     requires steps { All (IsWithin program.now.rungs (length program.now.decls.vars)) steps.now }
+    requires alike { LeaveAsLook S.algebra program.now now steps.now inputs.now state.now.held var }
+    ensures outcome { outcome_of result ≡ left_of S.algebra (diagram_of program.now) now inputs.now state.now.held var }
+    ensures value { slice_index_or work.new.values var (S.algebra.known false) ≡ left_of S.algebra (diagram_of program.now) now inputs.now state.now.held var }
     ensures values { AreLeftBy S.algebra program.now now steps.now inputs.now state.now.held work.new.values }
     ensures fits { HasRoom program.now work.new }
     ensures looks { work.new.looks ≡ min (work.old.looks + 1) (2 ^ 64 - 1) }
@@ -80,4 +86,7 @@ pub fn look_by_steps<S: Operations>(
         &mut work.links,
     );
     work.looks = work.looks.saturating_add(1);
+    Outcome {
+        value: work.seen.value(var),
+    }
 }

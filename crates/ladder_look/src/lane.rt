@@ -2,11 +2,13 @@
 
 ghost use Rattle.std.specs.Prelude.{◌≡◌, ◌≢◌, ◌<◌, ◌+◌, ◌-◌, ◌^◌, ℕ, length, min, slice_index_or, false};
 ghost use Rattle.ladder_grid.specs.Program.{Drawing};
-ghost use Rattle.ladder_look.specs.Lanes.{IsLookInLane};
+ghost use Rattle.ladder_look.specs.Lanes.{IsLookInLane, IsWideLook};
+ghost use Rattle.ladder_look.specs.Outcomes.{outcome_of};
 ghost use Rattle.ladder_look.specs.Sheets.{HasRoom};
 
 use crate::laws::related;
 use crate::looking::Work;
+use crate::outcome::Outcome;
 use ladder_elements::Lane;
 
 /// The look that stands in a lane of another one, of which `wide` is what it left of the variable. `work` then holds what [`look`]
@@ -15,14 +17,15 @@ use ladder_elements::Lane;
 /// The other variables keep the values that `work` holds of them. It needs no memory.
 ///
 /// [`look`]: crate::look
-pub fn look_in_lane<L: Lane>(lane: L, wide: L::Left, var: usize, work: &mut Work<L::Right>)
+pub fn look_in_lane<L: Lane>(lane: L, wide: Outcome<L::Left>, var: usize, work: &mut Work<L::Right>)
     requires variable { var < length work.old.values }
-    ensures value { IsLookInLane L.Left.algebra L.Right.algebra (L.related lane) var wide (slice_index_or work.new.values var (L.Right.algebra.known false)) }
+    requires wide { IsWideLook L.Left.algebra (L.related lane) var (outcome_of wide) }
+    ensures value { IsLookInLane L.Left.algebra L.Right.algebra (L.related lane) var (outcome_of wide) (slice_index_or work.new.values var (L.Right.algebra.known false)) }
     ensures others { (i : ℕ) → i ≢ var → slice_index_or work.new.values i (L.Right.algebra.known false) ≡ slice_index_or work.old.values i (L.Right.algebra.known false) }
     ensures fits { (p : Drawing) → HasRoom p work.old → HasRoom p work.new }
     ensures looks { work.new.looks ≡ min (work.old.looks + 1) (2 ^ 64 - 1) }
 {
     related::<L>();
-    let value = lane.read(wide);
+    let value = lane.read(wide.value);
     work.take(var, value);
 }

@@ -7,10 +7,12 @@ mod lane;
 pub mod laws;
 mod likening;
 mod looking;
+mod outcome;
 mod steps;
 
 pub use by_steps::look_by_steps;
 pub use lane::look_in_lane;
 pub use likening::liken;
 pub use looking::{Work, look};
+pub use outcome::Outcome;
 pub use steps::guard_by;

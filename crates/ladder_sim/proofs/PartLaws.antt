@@ -101,7 +101,7 @@ looks_at_limit last limit old a count g p is =
 -- A cursor that gave none has given what it had given.
 pub takes_on : (old a b : Cursor) (n : ℕ) → Takes old a n → KeepsQuestion a b → b.rest ≡ a.rest → Takes old b n
 takes_on old a b n t same rest = record {
-  question = same ∙ ap (λ (c : Cursor). record c { rest = b.rest; tri = b.tri; words = b.words }) t.question;
+  question = same ∙ ap (λ (c : Cursor). record c { rest = b.rest; tri = b.tri; words = b.words; lanes = b.lanes; fours = b.fours }) t.question;
   rest = rest ∙ t.rest;
 }
 

@@ -70,7 +70,7 @@ going_many old a b count ns g first same some looks =
     let each = recursion_from_All (λ n. looks_of b ≡ looks_until (searched old) n) ns counted in
     record {
       takes = record {
-        question = same ∙ ap (λ (c : Cursor). record c { rest = b.rest; tri = b.tri; words = b.words }) g.takes.question;
+        question = same ∙ ap (λ (c : Cursor). record c { rest = b.rest; tri = b.tri; words = b.words; lanes = b.lanes; fours = b.fours }) g.takes.question;
         rest = dropped_many old.rest ns b.rest count left;
       };
       looks = sym (ap (looks_through (searched old) (looks_of old)) (taken_many old.rest ns b.rest count g.within left)

@@ -177,7 +177,7 @@ upto_twice s before n last order = elim (cases_lt n s.first) [
   | inl none ↦ ap (λ b. looks_upto s b last) (none_count s before n none)
   | inr some ↦
       let here = some_count s before n some in
-      let more = looks_grow s s.top 0 n last order in
+      let more = looks_grow 1 s s.top 0 n last order in
       let there : s.first ≤ last = omega (arith, some, order) in
       let one = some_count s (looks_upto s before n) last there in
       let other = some_count s before last there in
@@ -293,7 +293,7 @@ way_begins upto limit c = record {
 -- What was taken, and then more.
 pub takes_both : (old a b : Cursor) (n k : ℕ) → Takes old a n → Takes a b k → Takes old b (n + k)
 takes_both old a b n k t u = record {
-  question = u.question ∙ ap (λ (c : Cursor). record c { rest = b.rest; tri = b.tri; words = b.words }) t.question;
+  question = u.question ∙ ap (λ (c : Cursor). record c { rest = b.rest; tri = b.tri; words = b.words; lanes = b.lanes; fours = b.fours }) t.question;
   rest = u.rest ∙ ap (drop k) t.rest ∙ drop_twice n k old.rest;
 }
 

@@ -5,6 +5,7 @@ ghost use Rattle.ladder_grid.specs.Steps.{steps_below};
 ghost use Rattle.ladder_scan.specs.Programs.{diagram_of};
 ghost use Rattle.ladder_scan.specs.Standing.{Fits};
 ghost use Rattle.ladder_look.specs.Look.{after_look};
+ghost use Rattle.ladder_look.specs.Outcomes.{left_of, outcome_of};
 ghost use Rattle.ladder_look.specs.Sheets.{HasRoom};
 ghost use Rattle.ladder_look.specs.Stepping.{IsWithin};
 ghost use Rattle.ladder_slices.specs.Slicing.{kept_of, slice_of};
@@ -14,7 +15,7 @@ use crate::reading::{keeps, read_step};
 use ladder_elements::Signal;
 use ladder_grid::Program;
 use ladder_grid::steps::Step;
-use ladder_look::{Work, look_by_steps};
+use ladder_look::{Outcome, Work, look_by_steps};
 use ladder_scan::scene::checked;
 use ladder_scan::{Memory, State};
 use std::alloc::{AllocError, Global};
@@ -87,15 +88,22 @@ impl<'a> Slice<'a> {
     }
 
     /// One scan over a signal at the moment `now`, from the values, memories and instances of the state, which is not changed. `work`
-    /// then holds what [`look`] leaves of the variable of the slice; of the other variables it may hold anything.
+    /// then holds what [`look`] leaves of the variable of the slice, which is the outcome; of the other variables it may hold anything.
     ///
     /// It needs no memory.
     ///
     /// [`look`]: ladder_look::look
-    pub fn look<S: Signal>(&self, state: &State, inputs: &[S], now: u64, work: &mut Work<S>)
+    pub fn look<S: Signal>(
+        &self,
+        state: &State,
+        inputs: &[S],
+        now: u64,
+        work: &mut Work<S>,
+    ) -> Outcome<S>
         requires state { Fits self.now.program state.now }
         requires work { HasRoom self.now.program work.old }
         requires inputs { All S.value inputs.now }
+        ensures outcome { outcome_of result ≡ left_of S.algebra (diagram_of self.entry.now.program) now inputs.now state.now.held self.entry.now.variable }
         ensures value { slice_index_or work.new.values self.entry.now.variable (S.algebra.known false)
             ≡ slice_index_or (after_look S.algebra (diagram_of self.entry.now.program) now inputs.now state.now.held) self.entry.now.variable (S.algebra.known false) }
         ensures fits { HasRoom self.entry.now.program work.new }
@@ -103,6 +111,14 @@ impl<'a> Slice<'a> {
     {
         self.program.checked();
         checked(self.program);
-        look_by_steps(self.program, state, inputs, now, &self.steps, work);
+        look_by_steps(
+            self.program,
+            state,
+            inputs,
+            now,
+            &self.steps,
+            self.var,
+            work,
+        )
     }
 }

@@ -21,6 +21,7 @@ loop-init c =
     } in
     record {
       plan = plan;
-      walking = subst (λ (n : ℕ). IsWalking s n w.number w.mask w.ahead w.base w.height) (sym c.in_ok-table.ensures.looks) (c.begin-walk.ensures.walking s plan);
+      walking = subst (λ (n : ℕ). IsWalking 1 s n w.number w.mask w.ahead w.base w.height) (sym c.in_ok-table.ensures.looks) (c.begin-walk.ensures.walking s plan);
+      longest = subst (λ (n : ℕ). IsWalking 0 s n w.number w.mask w.ahead w.base w.height) (omega (arith, c.in_ok-table.ensures.looks)) (c.begin-walk.ensures.longest s plan);
       ready = search rules;
     }

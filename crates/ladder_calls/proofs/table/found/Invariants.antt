@@ -1,5 +1,5 @@
 use Rattle.std.proofs.Common.{◌≡◌, ◌+◌, length}
-use Rattle.ladder_search.specs.Path.{Walking}
+use Rattle.ladder_search.specs.Path.{Walking, WalkingLongest}
 use Rattle.ladder_search.specs.Trees.{IsPlan}
 use Rattle.ladder_calls.specs.Table.{table_search}
 use Rattle.ladder_calls.proofs.table.found.Given as goal
@@ -8,5 +8,6 @@ abbrev pub invariant-loop : goal.invariant-loop
 invariant-loop l = record {
   plan : IsPlan l.plan (table_search l.table.chosen.items l.table.first);
   walking : Walking (table_search l.table.chosen.items l.table.first) (l.table.shorter + l.table.longest) l.walk;
+  longest : WalkingLongest (table_search l.table.chosen.items l.table.first) l.table.longest l.walk;
   ready : length l.table.chosen.items ≡ 16;
 }

@@ -30,3 +30,9 @@ returns-clause-fits g c =
           ∙ ap length c.requires.state.kinds
           ∙ length-map c.args.program.now.decls.instances (λ i. i.kind);
     }
+
+pub returns-clause-value : goal.returns-clause-value
+returns-clause-value g c = c.requires.alike c.take_steps.new.seen.values (returns-clause-values g c)
+
+pub returns-clause-outcome : goal.returns-clause-outcome
+returns-clause-outcome g c = c.value.ensures ∙ returns-clause-value g c

@@ -3,6 +3,7 @@ use Rattle.ladder_grid.specs.declared.steps.Step.{Step}
 use Rattle.ladder_grid.specs.Steps.{steps_below}
 use Rattle.ladder_scan.specs.Programs.{diagram_of}
 use Rattle.ladder_look.specs.Look.{after_look}
+use Rattle.ladder_look.specs.Outcomes.{left_of, outcome_of}
 use Rattle.ladder_look.specs.Stepping.{IsWithin}
 use Rattle.ladder_look.proofs.StepLaws.{all_within}
 use Rattle.ladder_slices.specs.Slices.{SliceOf}
@@ -17,12 +18,21 @@ look_by_steps-requires-clause-steps g c =
     subst (λ (ss : List Step). All (IsWithin p.rungs (length p.decls.vars)) ss) (sym (c.deref.ensures.value ∙ c.self.invariant))
     (kept_all (IsWithin p.rungs (length p.decls.vars)) p (steps_below p p.rungs) (needs_of p c.self.inside.var) (all_within p c.checked-2.ensures c.checked.ensures))
 
+pub look_by_steps-requires-clause-alike : goal.look_by_steps-requires-clause-alike
+look_by_steps-requires-clause-alike g c = λ values left.
+    sliced g.S.Operations.algebra g.S.Operations.value g.met.S.Signal.lattice c.self.inside.program.now c.args.now c.self.inside.var c.args.inputs.now c.args.state.now.held c.deref.result.now
+    values c.checked-2.ensures c.requires.inputs (c.deref.ensures.value ∙ c.self.invariant) left
+
 pub returns-clause-value : goal.returns-clause-value
 returns-clause-value g c =
     let o = g.S.Operations.algebra in
     subst
     (λ (s : SliceOf). slice_index_or c.look_by_steps.new.work.values s.variable (o.known false)
     ≡ slice_index_or (after_look o (diagram_of s.program) c.args.now c.args.inputs.now c.args.state.now.held) s.variable (o.known false))
-    c.self.view_is
-    (sliced o g.S.Operations.value g.met.S.Signal.lattice c.self.inside.program.now c.args.now c.self.inside.var c.args.inputs.now c.args.state.now.held c.deref.result.now
-    c.look_by_steps.new.work.values c.checked-2.ensures c.requires.inputs (c.deref.ensures.value ∙ c.self.invariant) c.look_by_steps.ensures.values)
+    c.self.view_is c.look_by_steps.ensures.value
+
+pub returns-clause-outcome : goal.returns-clause-outcome
+returns-clause-outcome g c =
+    subst
+    (λ (s : SliceOf). outcome_of c.look_by_steps.result ≡ left_of g.S.Operations.algebra (diagram_of s.program) c.args.now c.args.inputs.now c.args.state.now.held s.variable)
+    c.self.view_is c.look_by_steps.ensures.outcome
