@@ -1,5 +1,6 @@
 -- What is said was written, or a prefix of it.
-use Rattle.std.proofs.Common.{◌≡◌, ◌⊎◌, ℕ, List, Result, Ok, Err, inl, inr}
+use Rattle.std.proofs.Common.{◌≡◌, ◌⊎◌, ◌≤◌, ◌==◌, Bool, false, ℕ, List, Result, Ok, Err, arith, inl, inr}
+use Rattle.std.proofs.lemmas.Bool.Decides.{nat_tests}
 use Rattle.ladder_text.specs.Log.{Puts, PutsAll, PutsPrefix, WriteLog}
 use Rattle.ladder_carry.specs.Lines.{numbered_text}
 
@@ -11,3 +12,7 @@ either a b xs (Err x) p = inr p
 pub same_text : {T E : Type 0} (a b : WriteLog) (r : Result T E) (line : List ℕ) (n m : ℕ) (s t : List ℕ) → n ≡ m → s ≡ t
     → Puts a b r (numbered_text line n s) → Puts a b r (numbered_text line m t)
 same_text a b r line n m s t number said h = rw (number, said) at h
+
+-- A list that isn't empty has an element.
+pub some_in : (n : ℕ) (is_empty : Bool) → is_empty ≡ (n == 0) → is_empty ≡ false → 1 ≤ n
+some_in n is_empty is filled = grind (arith, nat_tests)

@@ -1,10 +1,10 @@
 -- How `ladder import` ends: the program text of the project is written, or what is said of why there is none.
-use Rattle.std.specs.Prelude.{◌≡◌, ◌⊎◌, All, ℕ, Bool, List}
+use Rattle.std.specs.Prelude.{◌≡◌, ◌⊎◌, ◌≤◌, All, ℕ, Bool, List, length}
 use Rattle.ladder_clp.specs.Project.{IsProject, IsRight}
 use Rattle.ladder_clp.specs.declared.fault.ClpFault.{ClpFault}
 use Rattle.ladder_clp.specs.declared.project.Project.{Project}
 use Rattle.ladder_clp.specs.declared.reading.Reading.{Reading}
-use Rattle.ladder_import.specs.Import.{HasText, IsFault}
+use Rattle.ladder_import.specs.Import.{HasText, IsFaultOfAny}
 use Rattle.ladder_import.specs.Refusals.{IsThere}
 use Rattle.ladder_import.specs.declared.importing.ImportFault.{ImportFault}
 use Rattle.ladder_import.specs.declared.refusal.Refusal.{Refusal}
@@ -25,14 +25,15 @@ pub record Carries (reading : Reading) (text : List ℕ) (Written : List ℕ →
 abbrev pub IsNoProject : Reading → Bool → List ℕ → List ℕ → Type 0
 IsNoProject reading why text said = (f : ClpFault) × IsRight reading text f × (said ≡ project_text why f)
 
--- Or which elements of the project can't be carried over: each of them is there, with its reason.
+-- Or which elements of the project can't be carried over: at least one, and each of them is there, with its reason.
 abbrev pub IsRefused : Reading → Bool → List ℕ → List ℕ → Type 0
 IsRefused reading why text said =
-    (p : Project) × (refusals : List Refusal) × IsProject reading text p × All (IsThere reading p.rungs.items) refusals × (said ≡ refusals_text why refusals)
+    (p : Project) × (refusals : List Refusal) × IsProject reading text p × (1 ≤ length refusals) × All (IsThere reading p) refusals
+    × (said ≡ refusals_text why refusals)
 
 -- Or why it has none though no element is refused.
 abbrev pub HasNone : Reading → Bool → List ℕ → List ℕ → Type 0
-HasNone reading why text said = (p : Project) × (f : ImportFault) × IsProject reading text p × IsFault reading p f × (said ≡ import_text why f)
+HasNone reading why text said = (p : Project) × (f : ImportFault) × IsProject reading text p × IsFaultOfAny reading p f × (said ≡ import_text why f)
 
 -- This is said, or a prefix of it before the writer failed.
 pub record Says (reading : Reading) (why : Bool) (text : List ℕ) (old new : WriteLog) : Type 0 where

@@ -2,14 +2,14 @@
 
 ghost use Rattle.std.specs.Prelude.{◌≡◌, ◌≤◌, IfErr, IfOk};
 ghost use Rattle.ladder_clp.specs.Project.{IsProject};
-ghost use Rattle.ladder_import.specs.Import.{HasText, IsFault};
+ghost use Rattle.ladder_import.specs.Import.{HasText, IsFaultOfAny};
 ghost use Rattle.ladder_text.specs.Log.{PutsAll};
 ghost use Rattle.ladder_carry.specs.Carrying.{BreaksCarrying, Carries};
 
 use crate::faults::{write_import_fault, write_project_fault, write_refusals};
 use ladder_clp::{Project, Reading, read_project};
 use ladder_hal::{joined, links_in};
-use ladder_import::{ImportFault, import, refusals};
+use ladder_import::{ImportFault, Linked, import, refusals};
 use ladder_setting::{ToolFault, report_unread};
 use ladder_text::{Sink, WriteFault, put};
 use std::alloc::Global;
@@ -32,13 +32,13 @@ fn text_of(
     hal: &[u8],
 ) -> Result<Vec<u8>, ImportFault>
     ensures carried { IfOk result (λ v. HasText reading project.now v.items) }
-    ensures fault { IfErr result (λ e. IsFault reading project.now e) }
+    ensures fault { IfErr result (λ e. IsFaultOfAny reading project.now e) }
 {
     let Ok(lines) = joined(alloc, hal) else {
         return Err(ImportFault::Memory);
     };
     match links_in(alloc, &lines) {
-        Ok(links) => import(alloc, reading, project, &links),
+        Ok(links) => import(alloc, reading, project, &Linked { links: &links }),
         Err(_) => Err(ImportFault::Memory),
     }
 }

@@ -155,13 +155,16 @@ IsUnseen expressions e = e.kind ≡ 60 → IsTrue (writes_number expressions e.n
 unfoldable pub AreUnseen : List Expression → Placed → Type 0
 AreUnseen expressions x = All (IsUnseen expressions) x.rung.elements
 
--- A program is a project carried over: instance i stands for one of the project's blocks, each for another one; all variables
+-- A program is a project carried over, with these blocks: instance i stands for block i, each for another one; all variables
 -- begin as OFF; the rungs are those of the scan; and what the operates write, no rung reads.
-pub record IsCarriedOver (reading : Reading) (p : Project) (d : Drawing) : Type 0 where
-  pub blocks : List BlockRef
+pub record IsCarriedBy (reading : Reading) (p : Project) (blocks : List BlockRef) (d : Drawing) : Type 0 where
   pub apart : AreApart blocks
   pub instances : AreInstances p blocks d.decls.instances
   pub off : list_all (λ v. not v.initial) d.decls.vars ≡ true
   pub unseen : All (AreUnseen p.expressions.items) p.rungs.items
   pub count : d.rungs ≡ length p.rungs.items
   pub rungs : AreCarried reading d p.rungs.items blocks
+
+-- A program is a project carried over: its instances stand for some of the project's blocks.
+abbrev pub IsCarriedOver : Reading → Project → Drawing → Type 0
+IsCarriedOver reading p d = (blocks : List BlockRef) × IsCarriedBy reading p blocks d

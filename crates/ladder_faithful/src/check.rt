@@ -1,13 +1,13 @@
 //! Whether a program has what a project has.
 
-ghost use Rattle.std.specs.Prelude.{◌≡◌, ◌↔◌, ◌+◌, ◌-◌, ◌/◌, ◌%◌, ◌<◌, ◌≤◌, All, IsTrue, Some, length, not, slice_get, true};
+ghost use Rattle.std.specs.Prelude.{◌≡◌, ◌↔◌, ◌+◌, ◌-◌, ◌/◌, ◌%◌, ◌<◌, ◌≤◌, All, IsTrue, Some, length, not, slice_get};
 ghost use Rattle.std.specs.List.{list_all};
 ghost use Rattle.ladder_page.specs.declared.geometry.TheConstants.{COLUMNS, PLACES, ROWS, RUNGS};
 ghost use Rattle.ladder_grid.specs.Program.{feeds};
 ghost use Rattle.ladder_grid.specs.declared.cell.Operand.TheVariants as operands;
 ghost use Rattle.ladder_sheet.specs.Reach.{AreReached, IsPower};
 ghost use Rattle.ladder_sheet.specs.Sheets.{IsFed};
-ghost use Rattle.ladder_faithful.specs.Carried.{AreApart, AreCarried, AreInstances, AreUnseen, IsAlike, IsCarriedOver, IsBlockOf, IsCell, IsCoilOn, IsContactOn, IsFedAlike, IsInstance, IsJumpTo, IsLeftOut, IsNever, IsNoneOf, IsOperand, IsPlaceCarried, IsRungCarried, IsTarget, IsUnseen, IsVar, IsWritten, IsContactAt, IsDeclaredAt, opened_at};
+ghost use Rattle.ladder_faithful.specs.Carried.{AreApart, AreCarried, AreInstances, AreUnseen, IsAlike, IsCarriedBy, IsBlockOf, IsCell, IsCoilOn, IsContactOn, IsFedAlike, IsInstance, IsJumpTo, IsLeftOut, IsNever, IsNoneOf, IsOperand, IsPlaceCarried, IsRungCarried, IsTarget, IsUnseen, IsVar, IsWritten, IsContactAt, IsDeclaredAt, opened_at};
 
 use ladder_clp::{Element, Expression, Placed, Project, Reading, writes_number};
 use ladder_grid::{Cell, Operand, Program};
@@ -20,7 +20,7 @@ use ladder_sheet::{
 use ladder_vars::{Address, Decls, Instance, Var};
 
 fn is_at(place: Option<Address>, address: Address) -> bool
-    ensures { result ≡ true → place ≡ Some address }
+    ensures { IsTrue result ↔ (place ≡ Some address) }
 {
     match place {
         Some(other) => other == address,
@@ -30,7 +30,7 @@ fn is_at(place: Option<Address>, address: Address) -> bool
 
 /// Whether the variable is declared at this address.
 fn is_declared_at(decls: &Decls, address: Address, var: usize) -> bool
-    ensures { result ≡ true → IsDeclaredAt decls.now address var }
+    ensures { IsTrue result ↔ IsDeclaredAt decls.now address var }
 {
     match decls.vars().get(var) {
         Some(v) => is_at(v.address, address),
@@ -40,7 +40,7 @@ fn is_declared_at(decls: &Decls, address: Address, var: usize) -> bool
 
 /// Whether the variable is declared at an address of this letter, with this one number.
 fn is_var(decls: &Decls, letter: char, number: u32, var: usize) -> bool
-    ensures { result ≡ true → IsVar decls.now letter number var }
+    ensures { IsTrue result ↔ IsVar decls.now letter number var }
 {
     let address = Address {
         letter,
@@ -63,7 +63,7 @@ fn opened_at(at: Place) -> Address
 
 /// Whether the instance stands for the block.
 fn is_instance_of(blocks: &[BlockRef], block: BlockRef, inst: usize) -> bool
-    ensures { result ≡ true → slice_get blocks.now inst ≡ Some block }
+    ensures { IsTrue result ↔ (slice_get blocks.now inst ≡ Some block) }
 {
     match blocks.get(inst) {
         Some(other) => *other == block,
@@ -73,7 +73,7 @@ fn is_instance_of(blocks: &[BlockRef], block: BlockRef, inst: usize) -> bool
 
 /// Whether the variable is always OFF.
 fn is_never(program: &Program, var: usize) -> bool
-    ensures { result ≡ true → IsNever program.now var }
+    ensures { IsTrue result ↔ IsNever program.now var }
 {
     let is_input = match program.decls().vars().get(var) {
         Some(v) => v.is_input(),
@@ -90,7 +90,7 @@ fn is_var_read(
     number: u32,
     var: usize,
 ) -> bool
-    ensures { result ≡ true → IsOperand program.now blocks.now source number (operands.Var var) }
+    ensures { IsTrue result ↔ IsOperand program.now blocks.now source number (operands.Var var) }
 {
     match source {
         Source::Input => is_var(program.decls(), 'I', number, var),
@@ -110,7 +110,7 @@ fn is_operand(
     number: u32,
     operand: Operand,
 ) -> bool
-    ensures { result ≡ true → IsOperand program.now blocks.now source number operand }
+    ensures { IsTrue result ↔ IsOperand program.now blocks.now source number operand }
 {
     match operand {
         Operand::Var(var) => is_var_read(program, blocks, source, number, var),
@@ -123,7 +123,7 @@ fn is_operand(
 
 /// Whether the variable is what a coil writes.
 fn is_written(program: &Program, source: Source, number: u32, var: usize) -> bool
-    ensures { result ≡ true → IsWritten program.now source number var }
+    ensures { IsTrue result ↔ IsWritten program.now source number var }
 {
     match source {
         Source::Output => is_var(program.decls(), 'Q', number, var),
@@ -134,7 +134,7 @@ fn is_written(program: &Program, source: Source, number: u32, var: usize) -> boo
 
 /// Whether a rung with this number, of the same section, is in this place in the scan.
 fn is_target(rungs: &[Placed<'_>], section: u32, number: u32, target: usize) -> bool
-    ensures { result ≡ true → IsTarget rungs.now section number target }
+    ensures { IsTrue result ↔ IsTarget rungs.now section number target }
 {
     match rungs.get(target) {
         Some(placed) => placed.rung.number == number && placed.section == section,
@@ -151,7 +151,7 @@ fn is_contact_on(
     number: u32,
     cell: Cell,
 ) -> bool
-    ensures { result ≡ true → IsContactOn program.now blocks.now mode source number cell }
+    ensures { IsTrue result ↔ IsContactOn program.now blocks.now mode source number cell }
 {
     match cell {
         Cell::Contact {
@@ -171,7 +171,7 @@ fn is_contact_on(
 
 /// Whether the cell is a contact of this mode on the variable with an address.
 fn is_contact_at(program: &Program, mode: Mode, address: Address, cell: Cell) -> bool
-    ensures { result ≡ true → IsContactAt program.now mode address cell }
+    ensures { IsTrue result ↔ IsContactAt program.now mode address cell }
 {
     match cell {
         Cell::Contact {
@@ -195,7 +195,7 @@ fn is_contact_at(program: &Program, mode: Mode, address: Address, cell: Cell) ->
 
 /// Whether the cell is a coil of this mode on the variable.
 fn is_coil_on(program: &Program, mode: CoilMode, source: Source, number: u32, cell: Cell) -> bool
-    ensures { result ≡ true → IsCoilOn program.now mode source number cell }
+    ensures { IsTrue result ↔ IsCoilOn program.now mode source number cell }
 {
     match cell {
         Cell::Coil {
@@ -214,7 +214,7 @@ fn is_coil_on(program: &Program, mode: CoilMode, source: Source, number: u32, ce
 }
 
 fn is_jump_to(rungs: &[Placed<'_>], section: u32, number: u32, cell: Cell) -> bool
-    ensures { result ≡ true → IsJumpTo rungs.now section number cell }
+    ensures { IsTrue result ↔ IsJumpTo rungs.now section number cell }
 {
     match cell {
         Cell::Jump { target } => is_target(rungs, section, number, target),
@@ -229,7 +229,7 @@ fn is_jump_to(rungs: &[Placed<'_>], section: u32, number: u32, cell: Cell) -> bo
 }
 
 fn is_block_of(blocks: &[BlockRef], block: BlockRef, cell: Cell) -> bool
-    ensures { result ≡ true → IsBlockOf blocks.now block cell }
+    ensures { IsTrue result ↔ IsBlockOf blocks.now block cell }
 {
     match cell {
         Cell::Block { inst } => is_instance_of(blocks, block, inst),
@@ -255,7 +255,7 @@ fn is_cell(
     meaning: Meaning,
     cell: Cell,
 ) -> bool
-    ensures { result ≡ true → IsCell program.now rungs.now blocks.now section address element meaning cell }
+    ensures { IsTrue result ↔ IsCell program.now rungs.now blocks.now section address element meaning cell }
 {
     let source = source_of(element.class);
     let number = element.number;
@@ -288,7 +288,7 @@ fn is_left_out(
     requires rows { row < ROWS }
     requires columns { column < COLUMNS }
     requires power { IsPower reading elements.now power.now }
-    ensures { result ≡ true → IsLeftOut reading elements.now row column cell }
+    ensures { IsTrue result ↔ IsLeftOut reading elements.now row column cell }
 {
     cell == Cell::Empty
         && !power[column][row]
@@ -307,7 +307,7 @@ fn is_fed_alike(
     requires rungs { at.rung < program.now.rungs }
     requires rows { from < ROWS }
     requires before { AreReached reading elements.now (at.column - 1) before.now }
-    ensures { result ≡ true → IsTrue (feeds program.now at.rung at.row at.column from) ↔ IsFed reading elements.now at.row at.column from }
+    ensures { IsTrue result ↔ (IsTrue (feeds program.now at.rung at.row at.column from) ↔ IsFed reading elements.now at.row at.column from) }
 {
     program.feeds(at, from) == fed(reading, elements, at.row, at.column, from, before)
 }
@@ -322,7 +322,7 @@ fn are_fed_alike(
 ) -> bool
     requires rungs { at.rung < program.now.rungs }
     requires power { IsPower reading elements.now power.now }
-    ensures { result ≡ true → IsFedAlike reading program.now at.rung elements.now at.row at.column }
+    ensures { IsTrue result ↔ IsFedAlike reading program.now at.rung elements.now at.row at.column }
 {
     let before = power[at.before().column];
     for from in 0..ROWS {
@@ -343,7 +343,7 @@ fn is_alike(
 ) -> bool
     requires rungs { at.rung < program.now.rungs }
     requires power { IsPower reading elements.now power.now }
-    ensures { result ≡ true → IsAlike reading program.now at.rung elements.now at.row at.column }
+    ensures { IsTrue result ↔ IsAlike reading program.now at.rung elements.now at.row at.column }
 {
     stands(reading, elements, at.row, at.column)
         && !reads_late(reading, elements, at.row, at.column)
@@ -362,7 +362,7 @@ fn is_place_carried(
 ) -> bool
     requires rungs { at.rung < program.now.rungs }
     requires power { IsPower reading placed.now.rung.elements power.now }
-    ensures { result ≡ true → IsPlaceCarried reading program.now rungs.now blocks.now at.rung placed.now at.row at.column }
+    ensures { IsTrue result ↔ IsPlaceCarried reading program.now rungs.now blocks.now at.rung placed.now at.row at.column }
 {
     let cell = program.site(at).cell;
     let elements = placed.rung.elements.as_slice();
@@ -391,7 +391,7 @@ fn is_rung_carried(
 ) -> bool
     requires rungs { rung < program.now.rungs }
     requires few { rung < RUNGS }
-    ensures { result ≡ true → IsRungCarried reading program.now rungs.now blocks.now rung placed.now }
+    ensures { IsTrue result ↔ IsRungCarried reading program.now rungs.now blocks.now rung placed.now }
 {
     let power = power_of(reading, placed.rung.elements.as_slice());
     for place in 0..PLACES {
@@ -415,7 +415,7 @@ fn are_carried(
     blocks: &[BlockRef],
 ) -> bool
     requires { program.now.rungs ≡ length rungs.now }
-    ensures { result ≡ true → AreCarried reading program.now rungs.now blocks.now }
+    ensures { IsTrue result ↔ AreCarried reading program.now rungs.now blocks.now }
 {
     for rung in 0..program.rungs() {
         if !is_rung_carried(reading, program, rungs, blocks, rung, &rungs[rung]) {
@@ -440,7 +440,7 @@ fn is_none_of(mut others: &[BlockRef], block: BlockRef) -> bool
 
 /// Whether no block is twice among them.
 fn are_apart(mut blocks: &[BlockRef]) -> bool
-    ensures { result ≡ true → AreApart blocks.entry.now }
+    ensures { IsTrue result ↔ AreApart blocks.entry.now }
 {
     while let [block, rest @ ..] = blocks {
         if !is_none_of(rest, *block) {
@@ -452,7 +452,7 @@ fn are_apart(mut blocks: &[BlockRef]) -> bool
 }
 
 fn is_instance(project: &Project<'_>, block: BlockRef, instance: Instance) -> bool
-    ensures { result ≡ true → IsInstance project.now block instance }
+    ensures { IsTrue result ↔ IsInstance project.now block instance }
 {
     match timed_as(
         block.sort,
@@ -465,7 +465,7 @@ fn is_instance(project: &Project<'_>, block: BlockRef, instance: Instance) -> bo
 
 /// Whether each instance has the kind and the preset of the block that it stands for.
 fn are_instances(project: &Project<'_>, mut blocks: &[BlockRef], mut instances: &[Instance]) -> bool
-    ensures { result ≡ true → AreInstances project.now blocks.entry.now instances.entry.now }
+    ensures { IsTrue result ↔ AreInstances project.now blocks.entry.now instances.entry.now }
 {
     while let [block, others @ ..] = blocks {
         let [instance, rest @ ..] = instances else {
@@ -535,7 +535,7 @@ pub fn is_carried_over(
     blocks: &[BlockRef],
     program: &Program,
 ) -> bool
-    ensures { result ≡ true → IsCarriedOver reading project.now program.now }
+    ensures { IsTrue result ↔ IsCarriedBy reading project.now blocks.now program.now }
 {
     let decls = program.decls();
     let rungs = project.rungs.as_slice();

@@ -1,18 +1,18 @@
 //! The program text of a project.
 
-ghost use Rattle.std.specs.Prelude.{◌≡◌, All, IfErr, IfOk};
-ghost use Rattle.ladder_clp.specs.declared.project.Project.{Project};
-ghost use Rattle.ladder_clp.specs.declared.reading.Reading.{Reading};
-ghost use Rattle.ladder_faithful.specs.Carried.{IsCarriedOver};
-ghost use Rattle.ladder_import.specs.Import.{HasText, IsFault};
+ghost use Rattle.std.specs.Prelude.{◌≡◌, ◌⊎◌, All, IfErr, IfOk};
+ghost use Rattle.ladder_faithful.specs.Carried.{IsCarriedBy};
+ghost use Rattle.ladder_grid.specs.Reading.{IsMemory};
+ghost use Rattle.ladder_import.specs.Import.{HasText, HasTextBy, IsEarly, IsFault, IsOfText, fault_of};
 ghost use Rattle.ladder_import.specs.Refusals.{IsThere};
+ghost use Rattle.ladder_import.specs.declared.importing.ImportFault.TheVariants.{Memory, NotFaithful};
 
+use crate::drafting::Drafting;
 use crate::refusal::{Refusal, refusals};
 use ladder_clp::{Project, Reading};
-use ladder_draft::{DraftFault, Drafted, draft};
+use ladder_draft::{DraftFault, Drafted};
 use ladder_faithful::is_carried_over;
 use ladder_grid::{GridFault, Program, read_program};
-use ladder_hal::Link;
 use ladder_page::geometry::RUNGS;
 use ladder_sheet::BlockRef;
 use ladder_vars::VarRule;
@@ -36,9 +36,8 @@ pub enum ImportFault {
     NotFaithful,
 }
 
-/// A fault of the draft, which says nothing of the elements.
 fn draft_fault(fault: DraftFault) -> ImportFault
-    ensures { (reading : Reading) (p : Project) → IsFault reading p result }
+    ensures { result ≡ fault_of fault }
 {
     match fault {
         DraftFault::Memory => ImportFault::Memory,
@@ -47,8 +46,8 @@ fn draft_fault(fault: DraftFault) -> ImportFault
     }
 }
 
-fn fault_of(fault: GridFault) -> ImportFault
-    ensures { (reading : Reading) (p : Project) → IsFault reading p result }
+fn text_fault(fault: GridFault) -> ImportFault
+    ensures { (result ≡ Memory) ⊎ ((result ≡ NotFaithful) × ¬ (IsMemory fault)) }
 {
     match fault {
         GridFault::Vars(fault) if fault.rule == VarRule::Memory => ImportFault::Memory,
@@ -63,8 +62,8 @@ fn compared(
     blocks: &[BlockRef],
     program: &Program,
 ) -> Result<(), ImportFault>
-    ensures same { IfOk result (λ _. IsCarriedOver reading project.now program.now) }
-    ensures fault { IfErr result (λ e. IsFault reading project.now e) }
+    ensures same { IfOk result (λ _. IsCarriedBy reading project.now blocks.now program.now) }
+    ensures fault { IfErr result (λ e. (e ≡ NotFaithful) × ¬ (IsCarriedBy reading project.now blocks.now program.now)) }
 {
     if is_carried_over(reading, project, blocks, program) {
         Ok(())
@@ -81,26 +80,26 @@ fn checked(
     blocks: &[BlockRef],
     text: &[u8],
 ) -> Result<(), ImportFault>
-    ensures text { IfOk result (λ _. HasText reading project.now text.now) }
-    ensures fault { IfErr result (λ e. IsFault reading project.now e) }
+    ensures text { IfOk result (λ _. HasTextBy reading project.now blocks.now text.now) }
+    ensures fault { IfErr result (λ e. IsOfText reading project.now blocks.now text.now e) }
 {
     match read_program(alloc, text) {
         Ok(program) => compared(reading, project, blocks, &program),
-        Err(fault) => Err(fault_of(fault)),
+        Err(fault) => Err(text_fault(fault)),
     }
 }
 
 /// The text as it is drawn, and then checked.
-fn drawn(
+fn drawn<D: Drafting>(
     alloc: Global,
     reading: Reading,
     project: &Project<'_>,
-    links: &[Link<'_>],
+    drafting: &D,
 ) -> Result<Vec<u8>, ImportFault>
     ensures text { IfOk result (λ v. HasText reading project.now v.items) }
-    ensures fault { IfErr result (λ e. IsFault reading project.now e) }
+    ensures fault { IfErr result (λ e. IsFault (D.answers drafting.now reading project.now) reading project.now e) }
 {
-    match draft(alloc, reading, project, links) {
+    match drafting.draft(alloc, reading, project) {
         Ok(Drafted { text, blocks }) => match checked(alloc, reading, project, &blocks, &text) {
             Ok(()) => Ok(text),
             Err(fault) => Err(fault),
@@ -115,8 +114,8 @@ fn none_refused(
     project: &Project<'_>,
     refused: &[Refusal],
 ) -> Result<(), ImportFault>
-    requires { All (IsThere reading project.now.rungs.items) refused.now }
-    ensures { IfErr result (λ e. IsFault reading project.now e) }
+    requires { All (IsThere reading project.now) refused.now }
+    ensures { IfErr result (λ e. IsEarly reading project.now e) }
 {
     if refused.len() >= 1 {
         Err(ImportFault::Refused)
@@ -127,25 +126,24 @@ fn none_refused(
     }
 }
 
-/// The program text of a project: it reads as a program, and that has what the project has, as it is read. An input or an output whose symbol is no
-/// name is called after the signal that a link connects with its pin.
+/// The program text of a project, as it is drawn: it reads as a program, and that has what the project has, as it is read.
 ///
 /// # Errors
 ///
-/// Why there is none. `Refused` where `refusals` names elements; `NotFaithful` never in practice: then the text that was written
+/// Why there is none. `Refused` where `refusals` names elements; `NotFaithful` never in practice: then the text that was drawn
 /// did not pass the check.
-pub fn import(
+pub fn import<D: Drafting>(
     alloc: Global,
     reading: Reading,
     project: &Project<'_>,
-    links: &[Link<'_>],
+    drafting: &D,
 ) -> Result<Vec<u8>, ImportFault>
     ensures carried { IfOk result (λ v. HasText reading project.now v.items) }
-    ensures fault { IfErr result (λ e. IsFault reading project.now e) }
+    ensures fault { IfErr result (λ e. IsFault (D.answers drafting.now reading project.now) reading project.now e) }
 {
     match refusals(alloc, reading, project) {
         Ok(refused) => match none_refused(reading, project, &refused) {
-            Ok(()) => drawn(alloc, reading, project, links),
+            Ok(()) => drawn(alloc, reading, project, drafting),
             Err(fault) => Err(fault),
         },
         Err(_) => Err(ImportFault::Memory),

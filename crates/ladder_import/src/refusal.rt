@@ -1,17 +1,17 @@
 //! The elements that can't be carried over.
 
-ghost use Rattle.std.specs.Prelude.{◌↔◌, ◌+◌, ◌-◌, ◌<◌, ◌≤◌, IsTrue, IfSome, All, IfOk, length};
+ghost use Rattle.std.specs.Prelude.{◌<◌, IfSome, All, IfOk};
 ghost use Rattle.ladder_page.specs.declared.geometry.TheConstants.{COLUMNS, ROWS};
 ghost use Rattle.ladder_sheet.specs.Reach.{IsPower};
-ghost use Rattle.ladder_import.specs.Refusals.{Holds, IsCoil, IsThere};
+ghost use Rattle.ladder_import.specs.Refusals.{IsThere};
 
-use ladder_clp::{Element, Placed, Project, Reading, writes_number};
+use crate::holding::{has_later, has_no_refused_kind, has_preset, holds};
+use ladder_clp::{Element, Project, Reading, writes_number};
 use ladder_draft::blocks_of;
 use ladder_page::geometry::{COLUMNS, PLACES};
 use ladder_sheet::{
-    BlockRef, BlockSort, Meaning, Power, Source, element_at, ends_rung, entry_of, has_places,
-    is_block, is_contact, is_idle, is_run_by_any, meaning_at, meaning_of, power_of, reads_late,
-    source_of, stands, timed_as,
+    BlockRef, BlockSort, Meaning, Power, Source, element_at, has_places, is_idle, is_run_by_any,
+    meaning_at, power_of, reads_late, source_of, stands,
 };
 use std::alloc::{AllocError, Global};
 
@@ -71,70 +71,10 @@ pub struct Refusal {
     pub reason: Reason,
 }
 
-fn is_coil(meaning: Meaning) -> bool
-    ensures { IsTrue result ↔ IsCoil meaning }
-{
-    match meaning {
-        Meaning::Coil(_) => true,
-        Meaning::Blank
-        | Meaning::Wire
-        | Meaning::Contact(_)
-        | Meaning::Opened(_)
-        | Meaning::Jump
-        | Meaning::Block(_)
-        | Meaning::Off
-        | Meaning::Operate
-        | Meaning::Other => false,
-    }
-}
-
-/// Whether the reason holds of the element at a place.
-#[tactic(auto, unfolding(crate::specs::Refusals::Holds))]
-fn holds(
-    reading: Reading,
-    reason: Reason,
-    elements: &[Element],
-    power: &Power,
-    row: usize,
-    column: usize,
-) -> bool
-    requires rows { row < ROWS }
-    requires columns { column < COLUMNS }
-    requires power { IsPower reading elements.now power.now }
-    ensures { IsTrue result ↔ Holds reading reason elements.now row column }
-{
-    let element = element_at(elements, row, column);
-    let meaning = meaning_at(reading, elements, row, column);
-    let source = source_of(element.class);
-    match reason {
-        Reason::Counter => element.kind == 12,
-        Reason::Compare => element.kind == 20,
-        Reason::Operate => element.kind == 60,
-        Reason::Call => element.kind == 55,
-        Reason::Unknown => meaning == Meaning::Other,
-        Reason::Step => is_contact(meaning) && element.class == 30,
-        Reason::RunningContact => is_contact(meaning) && element.class == 11,
-        Reason::OtherContact => is_contact(meaning) && source == Source::Other,
-        Reason::WritesInput => is_coil(meaning) && element.class == 50,
-        Reason::OtherCoil => is_coil(meaning),
-        Reason::LargeNumber => element.number > 99999,
-        Reason::OutOfPlace => !stands(reading, elements, row, column),
-        Reason::BelowJump => !ends_rung(reading, elements, row, column),
-        Reason::BlockPlaces => is_block(meaning_of(element.kind))
-            && !has_places(reading, elements, row, column),
-        Reason::Switched => element.kind == 10 && !stands(reading, elements, row, column),
-        Reason::NoPreset | Reason::Twice => is_block(meaning_of(element.kind)),
-        Reason::ReadsLate => reads_late(reading, elements, row, column),
-        Reason::NoPower => !power[column][row] && !is_idle(meaning),
-        Reason::Running => is_run_by_any(reading, elements, power, row, column),
-        Reason::Elsewhere => element.kind == 54,
-    }
-}
-
 /// The reason as a refusal, where it holds.
 fn refused(
     reading: Reading,
-    rungs: &[Placed<'_>],
+    project: &Project<'_>,
     rung: usize,
     row: usize,
     column: usize,
@@ -142,20 +82,12 @@ fn refused(
 ) -> Option<Refusal>
     requires rows { row < ROWS }
     requires columns { column < COLUMNS }
-    ensures { IfSome result (λ f. IsThere reading rungs.now f) }
+    ensures { IfSome result (λ f. IsThere reading project.now f) }
 {
-    let Some(placed) = rungs.get(rung) else {
+    let Some(placed) = project.rungs.get(rung) else {
         return None;
     };
-    let elements = placed.rung.elements.as_slice();
-    if holds(
-        reading,
-        reason,
-        elements,
-        &power_of(reading, elements),
-        row,
-        column,
-    ) {
+    if holds(reading, project, rung, placed, row, column, reason) {
         Some(Refusal {
             rung: placed.rung.number,
             row: row + 1,
@@ -227,33 +159,11 @@ fn coil_reason(element: Element) -> Option<Reason> {
     }
 }
 
-/// Whether a later rung of the section has the number.
-fn is_later(rungs: &[Placed<'_>], rung: usize, number: u32) -> bool {
-    let Some(placed) = rungs.get(rung) else {
-        return false;
-    };
-    for later in rung..rungs.len() {
-        let other = &rungs[later];
-        if later > rung && other.rung.number == number && other.section == placed.section {
-            return true;
-        }
-    }
-    false
-}
-
 fn jump_reason(project: &Project<'_>, rung: usize, element: Element) -> Option<Reason> {
-    if is_later(&project.rungs, rung, element.number) {
-        large_number(element)
-    } else {
-        Some(Reason::Elsewhere)
-    }
-}
-
-/// Whether the block has a kind and a preset that a program can have.
-fn has_preset(project: &Project<'_>, sort: BlockSort, number: u32) -> bool {
-    match timed_as(sort, entry_of(project, sort, number as usize)) {
-        Some(timed) => timed.preset <= u64::from(u32::MAX),
-        None => false,
+    match project.rungs.get(rung) {
+        Some(placed) if has_later(&project.rungs, rung, placed.section, element.number) =>
+            large_number(element),
+        _ => Some(Reason::Elsewhere),
     }
 }
 
@@ -349,17 +259,6 @@ fn is_blank(meaning: Meaning) -> bool {
     }
 }
 
-/// Whether an element of the rung is of a kind that can't be carried over. Where power comes from there isn't known, so that others
-/// behind it may have it.
-fn has_refused_kind(reading: Reading, project: &Project<'_>, elements: &[Element]) -> bool {
-    for element in elements {
-        if kind_reason(reading, project, *element).is_some() {
-            return true;
-        }
-    }
-    false
-}
-
 /// Why the element at a place can't be carried over.
 fn reason_at(
     reading: Reading,
@@ -390,7 +289,7 @@ fn reason_at(
         if is_idle(meaning) {
             return None;
         }
-        if !has_refused_kind(reading, project, elements) {
+        if has_no_refused_kind(reading, project, elements) {
             return Some(Reason::NoPower);
         }
     }
@@ -415,11 +314,11 @@ fn add_place(
     requires rows { row < ROWS }
     requires columns { column < COLUMNS }
     requires power { IsPower reading elements.now power.now }
-    requires before { All (IsThere reading project.now.rungs.items) refusals.old.items }
-    ensures { IfOk result (λ _. All (IsThere reading project.now.rungs.items) refusals.new.items) }
+    requires before { All (IsThere reading project.now) refusals.old.items }
+    ensures { IfOk result (λ _. All (IsThere reading project.now) refusals.new.items) }
 {
     match reason_at(reading, project, blocks, rung, elements, power, row, column) {
-        Some(reason) => match refused(reading, &project.rungs, rung, row, column, reason) {
+        Some(reason) => match refused(reading, project, rung, row, column, reason) {
             Some(refusal) => {
                 refusals.push(refusal)?;
                 Ok(())
@@ -438,8 +337,8 @@ fn add_rung(
     rung: usize,
     refusals: &mut Vec<Refusal>,
 ) -> Result<(), AllocError>
-    requires before { All (IsThere reading project.now.rungs.items) refusals.old.items }
-    ensures { IfOk result (λ _. All (IsThere reading project.now.rungs.items) refusals.new.items) }
+    requires before { All (IsThere reading project.now) refusals.old.items }
+    ensures { IfOk result (λ _. All (IsThere reading project.now) refusals.new.items) }
 {
     let Some(placed) = project.rungs.get(rung) else {
         return Ok(());
@@ -465,7 +364,7 @@ pub fn refusals(
     reading: Reading,
     project: &Project<'_>,
 ) -> Result<Vec<Refusal>, AllocError>
-    ensures { IfOk result (λ v. All (IsThere reading project.now.rungs.items) v.items) }
+    ensures { IfOk result (λ v. All (IsThere reading project.now) v.items) }
 {
     let blocks = blocks_of(alloc, reading, project)?;
     let mut refusals = Vec::new(alloc);

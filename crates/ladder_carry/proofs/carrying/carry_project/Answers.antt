@@ -1,15 +1,15 @@
-use Rattle.std.proofs.Common.{inl, inr, refl}
+use Rattle.std.proofs.Common.{◌≤◌, arith, inl, inr, refl}
 use Rattle.ladder_import.specs.declared.importing.ImportFault.TheVariants.{Memory}
 use Rattle.ladder_carry.specs.Lines.{import_text, refusals_text}
-use Rattle.ladder_carry.proofs.Saying.{either}
+use Rattle.ladder_carry.proofs.Saying.{either, some_in}
 use Rattle.ladder_carry.proofs.carrying.carry_project.Goals as goal
 
 pub returns-else-is_empty-clause-failed : goal.returns-else-is_empty-clause-failed
-returns-else-is_empty-clause-failed g c = λ status. inl (
+returns-else-is_empty-clause-failed g c = λ status. let filled : 1 ≤ c.in-Ok.refused.len = some_in _ _ c.is_empty.ensures c.if-is_empty.false in inl (
   refl,
   record {
     said = refusals_text c.args.why c.deref.result.now;
-    is = inr (inl (c.args.project.now, c.deref.result.now, c.requires, rw c.deref.ensures.value c.in-Ok.ensures, refl));
+    is = inr (inl (c.args.project.now, c.deref.result.now, c.requires, omega (arith, filled, c.deref.ensures.len), rw c.deref.ensures.value c.in-Ok.ensures, refl));
     written = either _ _ _ _ c.write_refusals.ensures;
   },
 )

@@ -8,4 +8,4 @@ first_of P [] all h = absurd (omega arith)
 first_of P (x ∷ xs) all h = (x, All-head P x xs all)
 
 pub returns-then-refused-ge1 : goal.returns-then-refused-ge1
-returns-then-refused-ge1 c = first_of (IsThere c.args.reading c.args.project.now.rungs.items) c.args.refused.now c.requires c.if-refused-ge1.true
+returns-then-refused-ge1 c = first_of (IsThere c.args.reading c.args.project.now) c.args.refused.now c.requires c.if-refused-ge1.true

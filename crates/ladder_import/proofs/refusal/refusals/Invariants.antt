@@ -3,4 +3,4 @@ use Rattle.ladder_import.specs.Refusals.{IsThere}
 use Rattle.ladder_import.proofs.refusal.refusals.Given as goal
 
 abbrev pub invariant-loop-rung : goal.invariant-loop-rung
-invariant-loop-rung l = All (IsThere l.reading l.project.rungs.items) l.refusals.items
+invariant-loop-rung l = All (IsThere l.reading l.project) l.refusals.items
