@@ -34,7 +34,7 @@ use Rattle.ladder_never.specs.Cases.{IsSteady}
 use Rattle.ladder_never.specs.Never.{Bits, IsSo, after_each}
 use Rattle.ladder_never.specs.Never as never
 use Rattle.ladder_pair_text.specs.PairText.{pairs_text}
-use Rattle.ladder_pairs.specs.Pairs.{AreApart, ArePairs}
+use Rattle.ladder_pairs.specs.Pairs.{AreApart, ArePairs, HasToldApart}
 use Rattle.ladder_pairs.specs.declared.pair.Pair.{Pair}
 use Rattle.ladder_sim.specs.CauseText.{cause_text, limited}
 use Rattle.ladder_possible.specs.Possible.{AreRows}
@@ -47,7 +47,7 @@ use Rattle.ladder_possible.specs.declared.claim.Claim.TheVariants as claim
 use Rattle.ladder_possible.specs.declared.possible.PossibleCause.{PossibleCause}
 use Rattle.ladder_possible_groups.specs.Cursor.{ArePossibleGroups}
 use Rattle.ladder_sim.specs.HeldText.{held_text}
-use Rattle.ladder_sim.specs.PossibleText.{possible_text}
+use Rattle.ladder_sim.specs.PossibleText.{AreFew, possible_text}
 use Rattle.ladder_sim.specs.Parts.{part}
 use Rattle.ladder_sim.specs.Progress.{TellsAll, TellsUntil}
 use Rattle.ladder_sim.specs.TermText.{form_text}
@@ -348,7 +348,7 @@ BreaksSteady value g r old new =
 -- ---- what is never ON together
 
 -- Pairs of variables and outputs of blocks are written, whole or as far as `Written` says. None is an input or never changes, of no pair both
--- are ON in the state, and so it is after any scans from there, with any inputs and at any moments.
+-- are ON in the state, and so it is after any scans from there, with any inputs and at any moments. All that one scan settles is among them.
 pub record ListsPairs (g : Given) (Written : List ℕ → Type 0) : Type 0 where
   pub program : Drawing
   pub state : Standing
@@ -357,6 +357,7 @@ pub record ListsPairs (g : Given) (Written : List ℕ → Type 0) : Type 0 where
   pub settled : IsSteady program state steady
   pub pairs : List Pair
   pub are : ArePairs program state steady pairs
+  pub told : HasToldApart program state steady pairs
   pub apart : (scans : List never.OneScan) → AreApart pairs (after_each (diagram_of program) scans state.held)
   pub rows : Written (pairs_text program pairs)
 
@@ -396,18 +397,20 @@ abbrev pub counted : Bool → Option Staying → States
 counted true staying = record { before = before.Off; staying = staying }
 counted false staying = record { before = before.Any; staying = staying }
 
--- What stays so from the state on: nothing is asked for, or it is settled, and it is so in each state that a run reaches.
+-- What stays so from the state on: nothing is asked for, or it is settled, with all that one scan settles, and it is so in each state that a run
+-- reaches.
 abbrev pub IsStayingBy : Bool → Drawing → Standing → Option Staying → Type 0
 IsStayingBy false p s staying = staying ≡ None
 IsStayingBy true p s staying = (known : Staying) × (staying ≡ Some known) × IsStaying p s known × AreReached p s known
+    × HasToldApart p s known.steady known.apart
 
 -- what a row claims of its number: that every state that counts leaves the coil ON, or that some one does
 abbrev pub claimed : Bool → Claim
 claimed true = claim.Forced
 claimed false = claim.Possible
 
--- The text of some rows is written, whole or as far as `Written` says: below a number each one of which the claim holds has a row, and the
--- claim holds of each row that is settled. It is of each state, or of those in which it is so what stays so.
+-- The text of some rows is written, no more than the limit allows, whole or as far as `Written` says: below a number each one of which the
+-- claim holds has a row, and the claim holds of each row that is settled. It is of each state, or of those in which it is so what stays so.
 pub record ListsPossible (g : Given) (r : PossibleRequest) (Written : List ℕ → Type 0) : Type 0 where
   pub question : Question
   pub asked : IsAskedOfAll g r question
@@ -415,6 +418,7 @@ pub record ListsPossible (g : Given) (r : PossibleRequest) (Written : List ℕ �
   pub staying : Option Staying
   pub stays : IsStayingBy r.reachable question.program question.state staying
   pub rows : List PossibleCause
+  pub few : AreFew r.limit rows
   pub to : ℕ
   pub are : AreRows question.program question.coil question.listed (counted r.off staying) (claimed r.must) 0 to rows
   pub written : Written (possible_text question.program question.listed rows)

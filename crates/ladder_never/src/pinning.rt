@@ -1,6 +1,6 @@
 //! What is known of a point, and what is known with a value for it.
 
-ghost use Rattle.std.specs.Prelude.{◌≡◌, true};
+ghost use Rattle.std.specs.Prelude.{◌≡◌, ◌↔◌, IsTrue};
 ghost use Rattle.ladder_glance.specs.Sizes.{AreAsLong};
 ghost use Rattle.ladder_known.specs.KnownScan.{kept_at};
 ghost use Rattle.ladder_never.specs.Cases.{answering, pinned, told};
@@ -15,7 +15,7 @@ use ladder_signals::Tri;
 
 /// Whether it is known to be this value.
 pub fn is_known(known: Tri, value: bool) -> bool
-    ensures { result ≡ true → known ≡ three_known value }
+    ensures { IsTrue result ↔ (known ≡ three_known value) }
 {
     match known {
         Tri::On => value,

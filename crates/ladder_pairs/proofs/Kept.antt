@@ -1,8 +1,9 @@
 -- Lists of pairs to which some are added, and from which some are removed.
-use Rattle.std.proofs.Common.{◌≡◌, ◌<◌, ◌≤◌, ◌+◌, ◌⊎◌, inl, inr, ℕ, false, List, get_or, length, take, drop, suc, refl, sym, subst}
+use Rattle.std.proofs.Common.{◌≡◌, ◌∙◌, ◌<◌, ◌≤◌, ◌+◌, ◌⊎◌, ◌++◌, ◌∷◌, [], ap, arith, inl, inr, ℕ, false, List, get_or, length, take, drop, zero, suc, refl, sym, subst}
 use Rattle.std.specs.Prelude.{All, Contains, remove}
-use Rattle.std.proofs.lemmas.List.{take_all}
-use Rattle.std.proofs.lemmas.List.Elements.{All-append, All-contains, All-contains_itself, All-drop, All-more, All-push, All-take, All-weaker}
+use Rattle.std.proofs.lemmas.List.{take_all, take-append-drop}
+use Rattle.std.proofs.lemmas.List.Elements.{Contains-append_cases, Contains-append_left, Contains-append_right, All-append, All-contains, All-contains_itself, All-drop, All-more, All-push, All-take, All-weaker}
+use Rattle.std.proofs.Math.Seq.{drop-cons}
 use Rattle.ladder_vars.specs.declared.decls.Symbol.{Symbol}
 use Rattle.ladder_grid.specs.Program.{Drawing}
 use Rattle.ladder_scan.specs.Rung.{Held}
@@ -11,7 +12,7 @@ use Rattle.ladder_known.specs.KnownScan.{Known}
 use Rattle.ladder_signals.specs.declared.tri.Tri.{Tri}
 use Rattle.ladder_never.specs.Never.{Bits, knowing}
 use Rattle.ladder_never.specs.declared.outcome.Outcome.{Outcome}
-use Rattle.ladder_pairs.specs.Beginning.{AddsPairs, MayAdd}
+use Rattle.ladder_pairs.specs.Beginning.{AddsPairs, HasEach, MayAdd, MustHave}
 use Rattle.ladder_pairs.specs.Pairs.{AreApart, ArePairs, IsExcluded, IsOutside, IsPairOutside, are_both_on}
 use Rattle.ladder_pairs.specs.declared.pair.Pair.{Pair}
 
@@ -42,7 +43,38 @@ outside_more p z first others old new one all before added =
       | inr h ↦ record { first = subst (IsOutside p z) (sym h.0) one; second = All-contains (IsOutside p z) others x.second all h.1 }
     ]) new added
 
+-- ---- what is in a list that grows
+
+pub grown : (h : Held) (pair : Pair) (xs ys : List Pair) → MayAdd h pair xs ys → All (Contains ys) xs
+grown h pair xs ys may = elim may [
+  | inl e ↦ subst (λ (zs : List Pair). All (Contains zs) xs) (sym e) (All-contains_itself xs)
+  | inr e ↦ subst (λ (zs : List Pair). All (Contains zs) xs) (sym e.0)
+      (All-weaker (Contains xs) (Contains (xs ++ pair ∷ [])) (λ x h. Contains-append_left xs (pair ∷ []) x h) xs (All-contains_itself xs))
+]
+
+pub grown_on : (xs ys zs : List Pair) → All (Contains ys) xs → All (Contains zs) ys → All (Contains zs) xs
+grown_on xs ys zs h k = All-weaker (Contains ys) (Contains zs) (λ x c. All-contains (Contains zs) ys x k c) xs h
+
+pub each_on : (h : Held) (after : Known Tri Outcome) (xs ys : List Pair) (first : Symbol) (others : List Symbol) → All (Contains ys) xs → HasEach h after xs first others
+    → HasEach h after ys first others
+each_on h after xs ys first others more each =
+    All-weaker (λ second. MustHave h after xs (record { first = first; second = second })) (λ second. MustHave h after ys (record { first = first; second = second }))
+    (λ second must off told. All-contains (Contains ys) xs (record { first = first; second = second }) more (must off told)) others each
+
 -- ---- removed
+
+contains_tail : {X : Type 0} (y : X) (ys : List X) (x : X) → Contains (y ∷ ys) x → (x ≡ y → ⊥) → Contains ys x
+contains_tail y ys x (zero, l, e) n = absurd (n (sym e))
+contains_tail y ys x (suc k, l, e) n = (k, omega (arith, l), e)
+
+-- What isn't removed stays.
+pub still_there : {X : Type 0} (xs : List X) (i : ℕ) (x d : X) → i < length xs → Contains xs x → (x ≡ get_or xs i d → ⊥) → Contains (remove xs i) x
+still_there xs i x d h c n =
+    let split : xs ≡ take i xs ++ (get_or xs i d ∷ drop (suc i) xs) = sym (take-append-drop i xs) ∙ ap (λ ys. take i xs ++ ys) (drop-cons xs i d h) in
+    elim (Contains-append_cases (take i xs) (get_or xs i d ∷ drop (suc i) xs) x (subst (λ ys. Contains ys x) split c)) as (λ _. Contains (remove xs i) x) [
+      | inl k ↦ Contains-append_left (take i xs) (drop (suc i) xs) x k
+      | inr k ↦ Contains-append_right (take i xs) (drop (suc i) xs) x (contains_tail (get_or xs i d) (drop (suc i) xs) x k n)
+    ]
 
 pub fewer : (all xs ys : List Pair) (i : ℕ) → All (Contains all) xs → ys ≡ remove xs i → All (Contains all) ys
 fewer all xs ys i h e =

@@ -1,5 +1,5 @@
 -- What is never ON together: pairs of variables and outputs of blocks of which not both are ON, whatever the inputs do.
-use Rattle.std.specs.Prelude.{◌≡◌, ◌<◌, ◌&&◌, ℕ, Bool, true, false, List, [], All, Contains, length, map, slice_index_or}
+use Rattle.std.specs.Prelude.{◌≡◌, ◌⊎◌, ◌<◌, ◌&&◌, ℕ, Bool, true, false, List, [], All, Contains, length, map, slice_index_or}
 use Rattle.ladder_vars.specs.Decls.{is_input}
 use Rattle.ladder_vars.specs.declared.decls.Symbol.{Symbol}
 use Rattle.ladder_vars.specs.declared.decls.Symbol.TheVariants as symbol
@@ -79,6 +79,20 @@ pub record ArePairs (p : Drawing) (s : Standing) (z : Bits) (pairs : List Pair) 
   pub outside : All (IsPairOutside p z) pairs
   pub apart : AreApart pairs s.held
   pub excluded : AreExcluded p z pairs
+
+-- One scan over three values from what is known tells that not both of a pair are ON after it.
+abbrev pub IsToldApart : Drawing → Pair → Known Tri Outcome → Type 0
+IsToldApart p pair k = both_told pair (after_known three outcomes (diagram_of p) 0 [] k) ≡ three_known false
+
+-- the pair the other way round
+abbrev pub turned : Pair → Pair
+turned pair = record { first = pair.second; second = pair.first }
+
+-- All that one scan tells is listed: each pair of two that are outside the set, not both ON in a state, of which one scan from all that is known
+-- where the set is so tells that not both are ON after it, is among the pairs, in one order or the other.
+abbrev pub HasToldApart : Drawing → Standing → Bits → List Pair → Type 0
+HasToldApart p s z pairs = (pair : Pair) → IsPairOutside p z pair → (pair.first ≡ pair.second → ⊥) → are_both_on s.held pair ≡ false
+    → IsToldApart p pair (knowing p z) → Contains pairs pair ⊎ Contains pairs (turned pair)
 
 -- Such pairs exclude each other for ever: where the set is so in a state, and of no pair both are ON, of no pair both are ON after any scans
 -- from there, with any inputs and at any moments.

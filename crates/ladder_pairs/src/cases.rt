@@ -1,12 +1,12 @@
 //! Settling, by cases, whether both of a pair are ON after a scan.
 
-ghost use Rattle.std.specs.Prelude.{◌≡◌, ◌≤◌, [], length, IsTrue};
+ghost use Rattle.std.specs.Prelude.{◌≡◌, ◌≤◌, ◌<◌, [], length, IsTrue};
 ghost use Rattle.ladder_scan.specs.Programs.{diagram_of};
 ghost use Rattle.ladder_known.specs.KnownScan.{after_known};
 ghost use Rattle.ladder_glance.specs.Sizes.{HasSizes, IsSpareFor};
 ghost use Rattle.ladder_never.specs.Outcomes.{outcomes};
 ghost use Rattle.ladder_pairs.specs.Pairs.{IsSettledBoth, both_told};
-ghost use Rattle.ladder_signals.specs.Three.{three};
+ghost use Rattle.ladder_signals.specs.Three.{three, three_known};
 
 use crate::choosing::choose;
 use crate::pair::Pair;
@@ -58,6 +58,7 @@ pub fn settle_both(
     requires trial { HasSizes program.now trial.old }
     requires room { IsSpareFor program.now room.old }
     ensures settled { IsTrue result.is_settled → IsSettledBoth program.now pairs.now target wanted case.old }
+    ensures at_once { 0 < scans → both_told target (after_known three outcomes (diagram_of program.now) 0 [] case.old) ≡ three_known wanted → IsTrue result.is_settled }
     ensures scans { result.scans ≤ scans }
     ensures case { case.new ≡ case.old }
     ensures trial { HasSizes program.now trial.new }

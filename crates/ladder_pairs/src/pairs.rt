@@ -5,14 +5,14 @@ ghost use Rattle.ladder_scan.specs.Programs.{diagram_of};
 ghost use Rattle.ladder_scan.specs.Standing.{Fits};
 ghost use Rattle.ladder_never.specs.Cases.{IsSteady};
 ghost use Rattle.ladder_never.specs.Never.{OneScan, after_each};
-ghost use Rattle.ladder_pairs.specs.Pairs.{AreApart, ArePairs};
+ghost use Rattle.ladder_pairs.specs.Pairs.{AreApart, ArePairs, HasToldApart};
 
 use crate::begin::begin;
 use crate::laws;
 use crate::pair::Pair;
 use crate::points::are_apart;
 use crate::removing::{Space, settle};
-use ladder_glance::{Knowledge, Room};
+use ladder_glance::{Knowledge, Room, scan_known};
 use ladder_grid::Program;
 use ladder_never::knowing::know;
 use ladder_never::{Set, Writers};
@@ -55,7 +55,8 @@ impl Pairs {
 ///
 /// They are of what the set says nothing of, and no input. Of no pair both are ON in the state, and from any state in which that is so, and
 /// the set is so, a scan leaves it so, as scans over three values settle by cases, in each round at most so many `scans` for one
-/// pair. A pair that isn't among them may exclude each other all the same: more scans may settle it.
+/// pair, and at least one. All that one scan settles are among them. A pair that isn't may exclude each other all the same: more scans may
+/// settle it.
 ///
 /// # Errors
 ///
@@ -70,11 +71,11 @@ pub fn never_both(
     requires fits { Fits program.now state.now }
     requires set { IsSteady program.now state.now set.now }
     ensures are { IfOk result (λ pairs. ArePairs program.now state.now set.now pairs) }
+    ensures told { IfOk result (HasToldApart program.now state.now set.now) }
     ensures apart { IfOk result (λ pairs. (scans : List OneScan) → AreApart pairs (after_each (diagram_of program.now) scans state.now.held)) }
 {
     laws::never_both(program);
     state.checked();
-    let mut pairs = begin(alloc, program, state, set)?;
     let mut space = Space {
         case: Knowledge::new(alloc, program)?,
         trial: Knowledge::new(alloc, program)?,
@@ -82,6 +83,9 @@ pub fn never_both(
         writers: Writers::new(alloc, program)?,
     };
     know(program, set, &mut space.case);
-    settle(program, &mut pairs, &mut space, scans);
+    space.trial.copy_from(&space.case);
+    scan_known(program, &mut space.trial, &[], 0, &mut space.room);
+    let mut pairs = begin(alloc, program, state, set, &space.trial)?;
+    settle(program, &mut pairs, &mut space, scans.max(1));
     Ok(Pairs { pairs })
 }

@@ -1,8 +1,9 @@
 //! Removing the pairs that aren't settled to stay apart.
 
-ghost use Rattle.std.specs.Prelude.{◌≡◌, ◌+◌, All, Contains, IsTrue, length};
+ghost use Rattle.std.specs.Prelude.{◌≡◌, ◌+◌, ◌<◌, All, Contains, IsTrue, length};
 ghost use Rattle.ladder_glance.specs.Sizes.{HasSizes, IsSpareFor};
-ghost use Rattle.ladder_pairs.specs.Pairs.{IsExcluded};
+ghost use Rattle.ladder_pairs.specs.Pairs.{IsExcluded, IsToldApart};
+ghost use Rattle.ladder_pairs.specs.declared.pair.Pair.{Pair};
 
 use crate::cases::settle_both;
 use crate::pair::Pair;
@@ -31,7 +32,9 @@ fn stays_apart(
     requires case { HasSizes program.now space.old.case }
     requires trial { HasSizes program.now space.old.trial }
     requires room { IsSpareFor program.now space.old.room }
+    requires some { 0 < scans }
     ensures excluded { IsTrue result → IsExcluded program.now pairs.now target space.old.case }
+    ensures told { IsToldApart program.now target space.old.case → IsTrue result }
     ensures case { space.new.case ≡ space.old.case }
     ensures trial { HasSizes program.now space.new.trial }
     ensures room { space.new.room ≡ space.old.room }
@@ -55,6 +58,8 @@ fn remove(program: &Program, pairs: &mut Vec<Pair>, space: &mut Space, scans: u3
     requires case { HasSizes program.now space.old.case }
     requires trial { HasSizes program.now space.old.trial }
     requires room { IsSpareFor program.now space.old.room }
+    requires some { 0 < scans }
+    ensures told { (pair : Pair) → IsToldApart program.now pair space.old.case → Contains pairs.old.items pair → Contains pairs.new.items pair }
     ensures within { All (Contains pairs.old.items) pairs.new.items }
     ensures count { length pairs.new.items + result ≡ length pairs.old.items }
     ensures excluded { result ≡ 0 → All (λ pair. IsExcluded program.now pairs.new.items pair space.old.case) pairs.new.items }
@@ -80,6 +85,8 @@ pub(crate) fn settle(program: &Program, pairs: &mut Vec<Pair>, space: &mut Space
     requires case { HasSizes program.now space.old.case }
     requires trial { HasSizes program.now space.old.trial }
     requires room { IsSpareFor program.now space.old.room }
+    requires some { 0 < scans }
+    ensures told { (pair : Pair) → IsToldApart program.now pair space.old.case → Contains pairs.old.items pair → Contains pairs.new.items pair }
     ensures within { All (Contains pairs.old.items) pairs.new.items }
     ensures excluded { All (λ pair. IsExcluded program.now pairs.new.items pair space.old.case) pairs.new.items }
 {

@@ -2,6 +2,7 @@
 
 ghost use Rattle.std.specs.Prelude.{IfOk};
 ghost use Rattle.ladder_scan.specs.Standing.{Fits};
+ghost use Rattle.ladder_pairs.specs.Pairs.{HasToldApart};
 ghost use Rattle.ladder_possible.specs.Reached.{AreReached, IsStaying};
 
 use crate::laws;
@@ -27,6 +28,7 @@ pub fn staying_from(
 ) -> Result<Staying, Memory>
     requires { Fits program.now state.now }
     ensures settled { IfOk result (λ staying. IsStaying program.now state.now staying) }
+    ensures told { IfOk result (λ staying. HasToldApart program.now state.now staying.steady staying.apart) }
     ensures reached { IfOk result (λ staying. AreReached program.now state.now staying) }
 {
     laws::reached(program);

@@ -6,7 +6,7 @@ use Rattle.ladder_records.specs.Text.{lines_text}
 use Rattle.ladder_text.specs.Block.{Sends, SendsAll}
 use Rattle.ladder_text.specs.Log.{WriteLog}
 use Rattle.ladder_text.specs.declared.fault.WriteFault.{WriteFault}
-use Rattle.ladder_sim.specs.PossibleText.{AreAll, Gave, IsCount, possible_record}
+use Rattle.ladder_sim.specs.PossibleText.{AreAll, AreFew, Gave, IsCount, possible_record}
 use Rattle.ladder_sim.specs.declared.possible_text.PossibleSummary.{PossibleSummary}
 
 abbrev pub row_lines : PossibleCursor → List PossibleCause → List ℕ
@@ -16,6 +16,7 @@ row_lines c rows = lines_text (map (possible_record (length c.listed)) rows)
 pub record AddsRows (a b : WriteLog) (waited waits : List ℕ) (c d : PossibleCursor) (limit : Option ℕ) (r : Result PossibleSummary WriteFault) : Type 0 where
   pub rows : List PossibleCause
   pub gave : Gave c rows d
+  pub few : AreFew limit rows
   pub sends : Sends a b waited waits r (row_lines c rows)
   pub counts : IfOk r (λ s. IsCount s rows)
   pub all : IfOk r (λ _. AreAll d rows limit)

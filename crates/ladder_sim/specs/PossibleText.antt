@@ -1,5 +1,5 @@
 -- The text of what is possible, or forced: a record with the names of the listed inputs, and one for each row.
-use Rattle.std.specs.Prelude.{◌≡◌, ◌⊎◌, ◌≤◌, ℕ, ◌^◌, Bool, true, false, not, List, ◌∷◌, length, map, codes, count_by, decimal, Option, Some}
+use Rattle.std.specs.Prelude.{◌≡◌, ◌⊎◌, ◌≤◌, ℕ, ◌^◌, Bool, true, false, not, List, ◌∷◌, length, map, codes, count_by, decimal, IfSome, Option, Some}
 use Rattle.std.specs.List.{range_with_len}
 use Rattle.ladder_records.specs.Left.{Fields}
 use Rattle.ladder_records.specs.Text.{bit_text, lines_text}
@@ -34,6 +34,10 @@ pub record Gave (c : PossibleCursor) (rows : List PossibleCause) (d : PossibleCu
   pub later : c.from ≤ d.from
   pub rows_are : AreRows c.program c.coil c.listed c.states c.claim c.from d.from rows
   pub same : d ≡ record c { from = d.from }
+
+-- They are no more than a limit allows.
+abbrev pub AreFew : Option ℕ → List PossibleCause → Type 0
+AreFew limit rows = IfSome limit (λ n. length rows ≤ n)
 
 -- They were all, or as many as the limit allows.
 abbrev pub AreAll : PossibleCursor → List PossibleCause → Option ℕ → Type 0

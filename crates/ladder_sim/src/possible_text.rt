@@ -7,7 +7,7 @@ ghost use Rattle.ladder_text.specs.Block.{Sends};
 ghost use Rattle.ladder_text.specs.Log.{Puts};
 ghost use Rattle.ladder_possible.specs.declared.possible.PossibleCause.{PossibleCause};
 ghost use Rattle.ladder_sim.specs.PossibleRows.{AddsRows};
-ghost use Rattle.ladder_sim.specs.PossibleText.{AreAll, Gave, IsCount, mark, possible_record, possible_text};
+ghost use Rattle.ladder_sim.specs.PossibleText.{AreAll, AreFew, Gave, IsCount, mark, possible_record, possible_text};
 
 use crate::cause_text::{DIGITS, ROW, add_header, fill_end, is_reached};
 use ladder_possible::{PossibleCause, PossibleCauses};
@@ -92,13 +92,13 @@ fn add_rows<W: Sink>(
 ///
 /// # Errors
 ///
-/// X6: the writer failed. What was written is a prefix of the text of the rows that the cursor gave.
+/// X6: the writer failed. What was written is a prefix of the text of the rows that the cursor gave, which are no more than the limit.
 pub fn write_possible_causes<W: Sink>(
     causes: &mut PossibleCauses<'_>,
     limit: Option<u64>,
     writer: &mut W,
 ) -> Result<PossibleSummary, WriteFault>
-    ensures { (rows : List PossibleCause) × Gave causes.old rows causes.new
+    ensures { (rows : List PossibleCause) × Gave causes.old rows causes.new × AreFew limit rows
         × Puts (W.log writer.old) (W.log writer.new) result (possible_text causes.old.program causes.old.listed rows)
         × IfOk result (λ s. IsCount s rows × AreAll causes.new rows limit) }
 {

@@ -34,6 +34,7 @@ returns-in_default-write_pairs-clause-failed g c = λ save status.
         settled = c.in-Ok.ensures.is;
         pairs = c.in-Ok-never_both.pairs;
         are = made.are;
+        told = made.told;
         apart = made.apart;
         rows = c.in_default-write_pairs.ensures.wrote;
       },
@@ -53,6 +54,7 @@ returns-in_default-put_count-clause-failed g c = λ save status.
         settled = c.in-Ok.ensures.is;
         pairs = c.in-Ok-never_both.pairs;
         are = made.are;
+        told = made.told;
         apart = made.apart;
         rows = w.ensures.wrote;
       };
@@ -72,6 +74,7 @@ returns-clause-done g c = λ status.
         settled = c.in-Ok.ensures.is;
         pairs = c.in-Ok-never_both.pairs;
         are = made.are;
+        told = made.told;
         apart = made.apart;
         rows = w.ensures.wrote;
       };

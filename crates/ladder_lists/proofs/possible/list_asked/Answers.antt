@@ -31,7 +31,7 @@ returns-in_default-clause-failed g c = λ save status.
     inr (inl ((
       lists (given_by c.args.texts.now) r q c.in-Ok.cursor c.write_possible_causes-written.new.causes w.0
           (PutsPrefix (g.O.Sink.log c.args.out.now) (g.O.Sink.log c.write_possible_causes-written.new.writer))
-          c.requires.asked c.in-Ok.ensures.accepted c.in-Ok.ensures.cursor w.1 w.2,
+          c.requires.asked c.in-Ok.ensures.accepted c.in-Ok.ensures.cursor w.1 w.2 w.3,
       c.report-in_default.ensures.line,
     )))
 
@@ -43,7 +43,7 @@ returns-in_default-put_counts-clause-failed g c = λ save status.
     inr (inr (counts (given_by c.args.texts.now) r q c.in-Ok.cursor c.write_possible_causes-written.new.causes w.0
     (g.O.Sink.log c.args.out.now) (g.O.Sink.log c.write_possible_causes-written.new.writer)
     (PutsPrefix (g.E.Sink.log c.args.err.now) (g.E.Sink.log c.put_counts.new.err)) c.in-Ok-written.summary
-    c.requires.asked c.in-Ok.ensures.accepted c.in-Ok.ensures.cursor w.1 w.2 w.3.0 w.3.1 c.in_default-put_counts.ensures))
+    c.requires.asked c.in-Ok.ensures.accepted c.in-Ok.ensures.cursor w.1 w.2 w.3 w.4.0 w.4.1 c.in_default-put_counts.ensures))
 
 pub returns-clause-done : goal.returns-clause-done
 returns-clause-done g c = λ status.
@@ -53,4 +53,4 @@ returns-clause-done g c = λ status.
     counts (given_by c.args.texts.now) r q c.in-Ok.cursor c.write_possible_causes-written.new.causes w.0
     (g.O.Sink.log c.args.out.now) (g.O.Sink.log c.write_possible_causes-written.new.writer)
     (PutsAll (g.E.Sink.log c.args.err.now) (g.E.Sink.log c.put_counts.new.err)) c.in-Ok-written.summary
-    c.requires.asked c.in-Ok.ensures.accepted c.in-Ok.ensures.cursor w.1 w.2 w.3.0 w.3.1 c.in-Ok-put_counts.ensures
+    c.requires.asked c.in-Ok.ensures.accepted c.in-Ok.ensures.cursor w.1 w.2 w.3 w.4.0 w.4.1 c.in-Ok-put_counts.ensures

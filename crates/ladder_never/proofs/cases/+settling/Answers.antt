@@ -4,7 +4,7 @@ use Rattle.ladder_never.proofs.PinnedTwice.{answer_over, case_over, not_not, oth
 use Rattle.ladder_never.proofs.cases.+settling.Goals as goal
 
 pub settle_value-returns-in-None-clause-settled : goal.settle_value-returns-in-None-clause-settled
-settle_value-returns-in-None-clause-settled t c = λ known. by_scan c.args.case.now (sym c.look-value.ensures.told ∙ c.is_known.ensures known)
+settle_value-returns-in-None-clause-settled t c = λ known. by_scan c.args.case.now (sym c.look-value.ensures.told ∙ c.is_known.ensures.0 known)
 
 pub by_values-returns-then-not-on-clause-case : goal.by_values-returns-then-not-on-clause-case
 by_values-returns-then-not-on-clause-case t c =

@@ -1,4 +1,7 @@
-use Rattle.std.specs.Prelude.{All}
+use Rattle.std.proofs.Common.{◌<◌, ◌+◌, ℕ, drop}
+use Rattle.std.specs.Prelude.{All, slice_index_or}
+use Rattle.ladder_vars.specs.declared.decls.Symbol.{Symbol}
+use Rattle.ladder_pairs.specs.Beginning.{HasEach}
 use Rattle.ladder_pairs.specs.Pairs.{AreApart, IsPairOutside}
 use Rattle.ladder_pairs.proofs.begin.begin.Given as goal
 
@@ -6,4 +9,6 @@ abbrev pub invariant-loop-number : goal.invariant-loop-number
 invariant-loop-number l = record {
   outside : All (IsPairOutside l.program l.set) l.pairs.items;
   apart : AreApart l.pairs.items l.state.held;
+  each : (i : ℕ) (d : Symbol) → i < l.number
+      → HasEach l.state.held l.after l.pairs.items (slice_index_or l.symbols.items i d) (drop (i + 1) l.symbols.items);
 }

@@ -64,4 +64,7 @@ by_partners-returns-clause-case t c =
     c.pin.ensures.known c.by_partners-search.ensures.case c.told-before.ensures c.pin-2.ensures.known
 
 pub settle_both-returns-in_default-clause-settled : goal.settle_both-returns-in_default-clause-settled
-settle_both-returns-in_default-clause-settled t c = λ yes. by_scan c.args.case.now (sym c.look-both.ensures.told ∙ c.is_known.ensures yes)
+settle_both-returns-in_default-clause-settled t c = λ yes. by_scan c.args.case.now (sym c.look-both.ensures.told ∙ c.is_known.ensures.0 yes)
+
+pub settle_both-returns-in_default-clause-at_once : goal.settle_both-returns-in_default-clause-at_once
+settle_both-returns-in_default-clause-at_once t c = λ some told. c.is_known.ensures.1 (c.look-both.ensures.told ∙ told)

@@ -1,11 +1,13 @@
 use Rattle.std.proofs.Common.{◌≡◌, ◌+◌, length}
 use Rattle.std.specs.Prelude.{All, Contains}
 use Rattle.ladder_glance.specs.Sizes.{HasSizes}
-use Rattle.ladder_pairs.specs.Pairs.{IsExcluded}
+use Rattle.ladder_pairs.specs.Pairs.{IsExcluded, IsToldApart}
+use Rattle.ladder_pairs.specs.declared.pair.Pair.{Pair}
 use Rattle.ladder_pairs.proofs.removing.settle.Given as goal
 
 abbrev pub invariant-loop-removed : goal.invariant-loop-removed
 invariant-loop-removed l = record {
+  told : (pair : Pair) → IsToldApart l.program pair l.fn.space.case → Contains l.fn.pairs.items pair → Contains l.pairs.items pair;
   within : All (Contains l.fn.pairs.items) l.pairs.items;
   excluded : l.removed ≡ 0 → All (λ pair. IsExcluded l.program l.pairs.items pair l.fn.space.case) l.pairs.items;
   case : l.space.case ≡ l.fn.space.case;

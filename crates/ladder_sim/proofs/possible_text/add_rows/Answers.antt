@@ -4,23 +4,47 @@ use Rattle.ladder_possible.specs.Possible.{PossibleCursor}
 use Rattle.ladder_possible.specs.declared.possible.PossibleCause.{PossibleCause}
 use Rattle.ladder_records.specs.Text.{line_text}
 use Rattle.ladder_text.specs.Block.{SendsAll}
+use Rattle.ladder_possible.proofs.Rows.{no_rows}
+use Rattle.ladder_text.proofs.Sending.{sends_none}
 use Rattle.ladder_text.specs.Log.{PutsPrefix}
 use Rattle.ladder_sim.specs.PossibleText.{possible_record}
-use Rattle.ladder_sim.proofs.PossibleLaws.{ends, ends_cut, more_added}
+use Rattle.ladder_sim.proofs.PossibleLaws.{ends, ends_cut, ends_there, more_added, none_within, one_more_within}
 use Rattle.ladder_sim.proofs.possible_text.add_rows.Goals as goal
+
+pub loop-limit-init : goal.loop-limit-init
+loop-limit-init g c =
+    let asked = c.args.causes.now in
+    record {
+      added = record {
+        rows = [];
+        gave = record { later = omega arith; rows_are = no_rows asked.program asked.coil asked.listed asked.states asked.claim asked.from; same = refl };
+        sends = sends_none _ c.args.block.now;
+        counts = (refl, refl);
+      };
+      rows = omega arith;
+      unsettled = omega arith;
+      few = none_within c.args.limit;
+      within = c.requires.within;
+    }
+
+pub returns-then-is_reached : goal.returns-then-is_reached
+returns-then-is_reached g c =
+    ends_there _ _ _ _ c.args.causes.now c.loop-limit.causes c.loop-limit.count c.args.limit c.loop-limit.invariant.added c.loop-limit.invariant.few
+    (c.is_reached.ensures.yes c.if-is_reached.true)
 
 pub returns-in_default : goal.returns-in_default
 returns-in_default g c =
     let added = c.loop-limit.invariant.added in
     let listed = ap (λ (x : PossibleCursor). x.listed) added.gave.same in
-    ends _ _ _ _ c.args.causes.now c.loop-limit.causes c.next.new.self c.loop-limit.count c.args.limit added
+    ends _ _ _ _ c.args.causes.now c.loop-limit.causes c.next.new.self c.loop-limit.count c.args.limit added c.loop-limit.invariant.few
     (subst (λ (xs : List ℕ). c.loop-limit.causes.from ≤ 2 ^ length xs) (sym listed) c.loop-limit.invariant.within)
     (c.in_default.ensures.end refl) (c.in_default.ensures.same refl)
 
 pub returns-in_err-add_row : goal.returns-in_err-add_row
 returns-in_err-add_row g c =
     ends_cut _ _ _ _ _ _ c.args.causes.now c.loop-limit.causes c.next.new.self c.loop-limit.count c.in-Some.cause c.args.limit _
-    c.from_residual.ensures.0 c.loop-limit.invariant.added c.in-Some.ensures.row
+    c.from_residual.ensures.0 c.loop-limit.invariant.added
+    (one_more_within c.args.limit c.loop-limit.count.rows c.loop-limit.invariant.few (c.is_reached.ensures.no c.if-is_reached.false)) c.in-Some.ensures.row
     (subst (λ (k : ℕ). PutsPrefix (g.W.Sink.log c.loop-limit.writer) (g.W.Sink.log c.add_row.new.writer) (c.loop-limit.block ++ line_text (possible_record k c.in-Some.cause)))
     c.requires.listed c.in_err-add_row.ensures)
 
@@ -39,5 +63,6 @@ loop-limit-preserved g c =
           c.requires.listed c.in_ok-add_row.ensures) c.unsettled.ensures;
       rows = omega (arith, inv.rows, gives.from, from);
       unsettled = omega (arith, inv.unsettled, one, c.unsettled.ensures);
+      few = one_more_within c.args.limit c.loop-limit.count.rows inv.few (c.is_reached.ensures.no c.if-is_reached.false);
       within = omega (arith, from, within);
     }

@@ -1,4 +1,5 @@
 use Rattle.std.proofs.Common.{◌≤◌, ◌^◌, ◌-◌, length}
+use Rattle.std.specs.Prelude.{IfSome}
 use Rattle.ladder_sim.specs.PossibleRows.{AddedRows}
 use Rattle.ladder_sim.proofs.possible_text.add_rows.Given as goal
 
@@ -7,6 +8,7 @@ invariant-loop-limit g l = record {
   added : AddedRows (g.W.Sink.log l.fn.writer) (g.W.Sink.log l.writer) l.fn.block l.block l.fn.causes l.causes l.count;
   rows : l.count.rows ≤ l.causes.from;
   unsettled : l.count.unsettled ≤ l.count.rows;
+  few : IfSome l.limit (λ n. l.count.rows ≤ n);
   within : l.causes.from ≤ 2 ^ length l.fn.causes.listed;
 }
 

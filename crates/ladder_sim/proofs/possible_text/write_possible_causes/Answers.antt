@@ -1,6 +1,7 @@
 use Rattle.std.proofs.Common.{◌++◌, [], ap, append-nil, arith, refl, sym}
 use Rattle.std.proofs.lemmas.Result.{IfOk-from_err}
 use Rattle.ladder_possible.proofs.Rows.{no_rows}
+use Rattle.ladder_sim.proofs.PossibleLaws.{none_few}
 use Rattle.ladder_records.specs.Text.{line_text}
 use Rattle.ladder_sim.specs.PossibleRows.{row_lines}
 use Rattle.ladder_sim.specs.PossibleText.{possible_header, possible_text}
@@ -13,6 +14,7 @@ returns-in_err-add_header g c =
     let failed = c.from_residual.ensures.0 in (
       [],
       record { later = omega arith; rows_are = no_rows asked.program asked.coil asked.listed asked.states asked.claim asked.from; same = refl },
+      none_few c.args.limit,
       puts_err _ _ _ _ failed
           (sends_prefix _ _ _ [] [] (possible_text asked.program asked.listed []) [] (line_text (possible_header asked.program asked.listed)) [] refl (sends_none _ [])
           (rw (c.new-block.ensures, c.program-program.ensures, c.listed.ensures.listed) at c.in_err-add_header.ensures)),
@@ -29,6 +31,7 @@ returns-in_err-count g c =
     let headed = rw (c.new-block.ensures, c.program-program.ensures, c.listed.ensures.listed) at c.in_ok-add_header.ensures in (
       added.rows,
       added.gave,
+      added.few,
       puts_err _ _ _ _ failed (sends_prefix _ _ _ [] _ (head ++ left) head left [] (ap (λ t. head ++ t) (sym (append-nil left))) headed added.sends),
       IfOk-from_err _ _ failed,
     )
@@ -43,6 +46,7 @@ returns-in_err-flush g c =
     let headed = rw (c.new-block.ensures, c.program-program.ensures, c.listed.ensures.listed) at c.in_ok-add_header.ensures in (
       added.rows,
       added.gave,
+      added.few,
       puts_err _ _ _ _ failed (flush_prefix _ _ _ _ (head ++ left) (sends_more _ _ _ [] _ _ head left headed added.sends) c.in_err-flush.ensures.wrote),
       IfOk-from_err _ _ failed,
     )
@@ -56,6 +60,7 @@ returns g c =
     let headed = rw (c.new-block.ensures, c.program-program.ensures, c.listed.ensures.listed) at c.in_ok-add_header.ensures in (
       added.rows,
       added.gave,
+      added.few,
       flush_all _ _ _ _ (head ++ left) (sends_more _ _ _ [] _ _ head left headed added.sends) c.in_ok-flush.ensures.wrote,
       (added.counts, added.all),
     )
