@@ -3,15 +3,18 @@
 
 The state goes to the file that it was read from. Whether the program is killed before a call, or the call fails, the file must have
 what it had or the whole new state, nothing else may be left where the program ended by itself, and the next run must save. Then places
-that a state can't go to, and those that are no plain files. Needs a C compiler; without one it is passed over.
+that a state can't go to, and those that are no plain files. Without a C compiler the toolchain's own is taken; where there is none at all,
+the program is stopped at no call, and the last line says so.
 """
 import os
 import pathlib
-import shutil
+import shlex
 import stat
 import subprocess
 import sys
 import tempfile
+
+from compiling import compiled
 
 HERE = pathlib.Path(__file__).resolve().parent
 TEXTS = {
@@ -52,6 +55,15 @@ def stopped(program, library, how, number):
         return [f"{how} at call {number}: status {status}, {said!r}, {has!r}, left {left}"] if wrong else []
 
 
+def traced_to_a_pipe(program, folder):
+    """How a request ends that saves its state to the named pipe that its trace goes to."""
+    words = f"{shlex.quote(program)} sim --save pipe motor.ld stimulus.csv > pipe"
+    with subprocess.Popen(["sh", "-c", words], cwd=folder, stderr=subprocess.PIPE) as child:
+        traced = (folder / "pipe").read_bytes()
+        said = child.stderr.read()
+        return child.wait(timeout=60), traced, said
+
+
 def refused_places(program):
     """Places that the request reads, or writes its trace to, and what is no plain file."""
     wrong = []
@@ -80,32 +92,46 @@ def refused_places(program):
         with subprocess.Popen([program, "sim", "--save", "pipe", "motor.ld", "stimulus.csv"], cwd=folder, stdout=subprocess.DEVNULL) as child:
             expect("a pipe", (folder / "pipe").read_bytes(), NEW)
             expect("a pipe's status", child.wait(timeout=60), 0)
+        for place in ("/dev/stdout", "/dev/fd/1", "/proc/self/fd/1"):
+            expect(f"{place}, a pipe", run(program, ["sim", "--save", place, "motor.ld", "stimulus.csv"], folder), usage)
+        (folder / "link.out").symlink_to("/dev/stdout")
+        expect("a link to standard output", run(program, ["sim", "--save", "link.out", "motor.ld", "stimulus.csv"], folder), usage)
+        expect("a named pipe that the trace goes to", traced_to_a_pipe(program, folder), (2, b"", b"fault usage\n"))
+        for link, place in (("nowhere", "none.csv"), ("circle", "circle")):
+            (folder / link).symlink_to(place)
+            expect(link, run(program, ["sim", "--save", link, "motor.ld", "stimulus.csv"], folder)[::2], (1, b"fault X6\n"))
+            expect(f"{link} that stays one", os.readlink(folder / link), place)
         left = sorted(path.name for path in folder.iterdir() if path.name.endswith(".ladder-new"))
         expect("what is left", left, [])
     return wrong
 
 
+def stops_of(program):
+    """How many stops were tried, and what is wrong; None where nothing can stop the program."""
+    with tempfile.TemporaryDirectory() as folder:
+        library, counted = str(pathlib.Path(folder) / "stop.so"), str(pathlib.Path(folder) / "counted")
+        if not compiled(HERE / "stop_at_call.c", library):
+            return None, []
+        with tempfile.TemporaryDirectory() as name:
+            status, _, said = run(program, WORDS, filled(name), LD_PRELOAD=library, COUNTED=counted)
+        wrong = [] if (status, said) == (0, b"") else [f"without a stop: status {status}, {said!r}"]
+        calls = int(pathlib.Path(counted).read_text("ascii"))
+        for how in ("kill", "fail"):
+            for number in range(1, calls + 1):
+                wrong += stopped(program, library, how, number)
+        return 2 * calls, wrong
+
+
 def main():
-    program, compiler = os.path.abspath(sys.argv[1]), shutil.which("cc")
-    wrong, stops = refused_places(program), 0
-    if compiler:
-        with tempfile.TemporaryDirectory() as folder:
-            library, counted = str(pathlib.Path(folder) / "stop.so"), str(pathlib.Path(folder) / "counted")
-            subprocess.run([compiler, "-shared", "-fPIC", "-O1", "-o", library, str(HERE / "stop_at_call.c"), "-ldl"], check=True)
-            with tempfile.TemporaryDirectory() as name:
-                status, _, said = run(program, WORDS, filled(name), LD_PRELOAD=library, COUNTED=counted)
-            calls = int(pathlib.Path(counted).read_text("ascii"))
-            if (status, said) != (0, b""):
-                wrong.append(f"without a stop: status {status}, {said!r}")
-            for how in ("kill", "fail"):
-                for number in range(1, calls + 1):
-                    stops += 1
-                    wrong += stopped(program, library, how, number)
+    program = os.path.abspath(sys.argv[1])
+    misplaced, (stops, wrong) = refused_places(program), stops_of(program)
+    print(*misplaced, *wrong, sep="\n", end="\n" if misplaced or wrong else "")
+    print("places of a state: " + ("as they must be" if not misplaced else "WRONG"))
+    if stops is None:
+        print("0 of 40 stops while a state is saved passed: there is no C compiler, so none was tried")
     else:
-        print("no C compiler: the stops at each call are passed over")
-    print(*wrong, sep="\n", end="\n" if wrong else "")
-    print(f"a state that is saved: {stops} stops, {len(wrong)} wrong")
-    return 1 if wrong else 0
+        print(f"{stops - len(wrong)} of {stops} stops while a state is saved passed")
+    return 1 if misplaced or wrong else 0
 
 
 if __name__ == "__main__":

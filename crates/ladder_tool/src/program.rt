@@ -171,11 +171,12 @@ fn is_taken(
     sim: &SimRequest,
     saved: &SavedFile<'_>,
 ) -> Result<bool, AllocError> {
-    Ok(
-        saved.is_same(followed(rt, alloc, sim.file.as_str())?.as_str())
-            || saved.is_same(followed(rt, alloc, sim.stimulus.as_str())?.as_str())
-            || saved.is_same(followed(rt, alloc, "/dev/stdout")?.as_str()),
-    )
+    for path in [sim.file.as_str(), sim.stimulus.as_str(), "/dev/stdout"] {
+        if saved.is_same(alloc, followed(rt, alloc, path)?.as_str())? {
+            return Ok(true);
+        }
+    }
+    Ok(false)
 }
 
 /// Puts a state that was written in its place, or removes it where a fault stopped the request. Returns the status.

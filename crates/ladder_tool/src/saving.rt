@@ -8,6 +8,23 @@ use std::{fs, io};
 /// What a new file's name has behind that of the file whose place it takes.
 const NEW: &str = ".ladder-new";
 
+/// How many links are followed, one after the other, as the system does it.
+const LINKS: u32 = 40;
+
+/// Where the devices are.
+const DEVICES: &str = "/dev/";
+
+/// What is written to.
+#[derive(Drop)]
+enum Target {
+    /// A new file of this path, which takes the place of a plain file, or of none.
+    Beside(String),
+    /// What is no plain file, as a device or a pipe.
+    Itself,
+    /// A link that leads nowhere, or in a circle: it can't be written, and stays what it is.
+    Nowhere,
+}
+
 /// A file that a text is saved to. What is written goes to a new file beside it, which takes its place at the end: so whatever stops
 /// the program, the file has what it had, or the whole text. What is no plain file, as a device or a pipe, is written itself.
 ///
@@ -16,31 +33,39 @@ const NEW: &str = ".ladder-new";
 pub(crate) struct SavedFile<'a> {
     rt: &'a HostRuntime,
     path: String,
-    /// The path of the new file, where there is to be one.
-    beside: Option<String>,
+    target: Target,
     file: Option<File>,
 }
 
-/// A path with its links followed, where it leads somewhere.
+/// A path with its links followed: to a file, or to the system's name of a pipe.
 pub(crate) fn followed(rt: &HostRuntime, alloc: Global, path: &str) -> Result<String, AllocError> {
-    match fs::canonicalize(rt, path) {
-        Ok(path) => Ok(path.into_string()),
-        Err(_) => String::from_str(alloc, path),
+    if let Ok(path) = fs::canonicalize(rt, path) {
+        return Ok(path.into_string());
     }
-}
-
-/// Whether there is a plain file, or nothing yet.
-fn is_plain(rt: &HostRuntime, path: &str) -> bool {
-    match fs::metadata(rt, path) {
-        Ok(metadata) => metadata.is_file(),
-        Err(_) => true,
+    let mut path = String::from_str(alloc, path)?;
+    for _ in 0..LINKS {
+        let Ok(next) = fs::read_link(rt, path.as_str()) else {
+            return Ok(path);
+        };
+        path = next.into_string();
     }
+    Ok(path)
 }
 
 fn beside(alloc: Global, path: &str) -> Result<String, AllocError> {
     let mut beside = String::from_str(alloc, path)?;
     beside.push_str(NEW)?;
     Ok(beside)
+}
+
+/// What is written to for a path.
+fn target_of(rt: &HostRuntime, alloc: Global, path: &str) -> Result<Target, AllocError> {
+    match fs::metadata(rt, path) {
+        Ok(metadata) if metadata.is_file() => Ok(Target::Beside(beside(alloc, path)?)),
+        Ok(_) => Ok(Target::Itself),
+        Err(_) if fs::read_link(rt, path).is_ok() => Ok(Target::Nowhere),
+        Err(_) => Ok(Target::Beside(beside(alloc, path)?)),
+    }
 }
 
 impl<'a> SavedFile<'a> {
@@ -50,36 +75,37 @@ impl<'a> SavedFile<'a> {
         alloc: Global,
         path: &str,
     ) -> Result<SavedFile<'a>, AllocError> {
-        let path = followed(rt, alloc, path)?;
-        let beside = if is_plain(rt, path.as_str()) {
-            Some(beside(alloc, path.as_str())?)
-        } else {
-            None
+        let path = match fs::canonicalize(rt, path) {
+            Ok(path) => path.into_string(),
+            Err(_) => String::from_str(alloc, path)?,
         };
+        let target = target_of(rt, alloc, path.as_str())?;
         Ok(SavedFile {
             rt,
             path,
-            beside,
+            target,
             file: None,
         })
     }
 
-    /// Whether this path, with its links followed, is that of the file.
-    pub(crate) fn is_same(&self, path: &str) -> bool {
-        self.beside.is_some() && self.path.as_str() == path
+    /// Whether it is the file or the pipe of this path, whose links were followed. A device may be written by several.
+    pub(crate) fn is_same(&self, alloc: Global, path: &str) -> Result<bool, AllocError> {
+        let own = followed(self.rt, alloc, self.path.as_str())?;
+        Ok(own.as_str() == path && !path.starts_with(DEVICES))
     }
 
     /// Opens what is written to.
     fn open(&self) -> io::Result<File> {
-        match &self.beside {
-            Some(beside) => fs::create(self.rt, beside.as_str()),
-            None => fs::create(self.rt, self.path.as_str()),
+        match &self.target {
+            Target::Beside(beside) => fs::create(self.rt, beside.as_str()),
+            Target::Itself => fs::create(self.rt, self.path.as_str()),
+            Target::Nowhere => File::create_new(self.rt, self.path.as_str()),
         }
     }
 
     /// Puts what was written in the place of the file, once it is on the disk.
     pub(crate) fn keep(&self) -> io::Result<()> {
-        let (Some(file), Some(beside)) = (&self.file, &self.beside) else {
+        let (Some(file), Target::Beside(beside)) = (&self.file, &self.target) else {
             return Ok(());
         };
         file.sync_all()?;
@@ -88,7 +114,7 @@ impl<'a> SavedFile<'a> {
 
     /// Removes what was written in part.
     pub(crate) fn discard(&self) {
-        if let (Some(_), Some(beside)) = (&self.file, &self.beside) {
+        if let (Some(_), Target::Beside(beside)) = (&self.file, &self.target) {
             let _ = fs::remove_file(self.rt, beside.as_str());
         }
     }
