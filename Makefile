@@ -26,6 +26,7 @@ test:
 	python3 tests/mutants.py --where
 	python3 tests/completions.py $(PROGRAM)
 	python3 tests/growth.py $(PROGRAM)
+	python3 tests/full.py $(PROGRAM)
 	python3 tests/saving.py $(PROGRAM)
 	python3 tests/progress.py $(PROGRAM)
 	python3 tests/waves.py $(PROGRAM)
@@ -33,11 +34,11 @@ test:
 	python3 tests/filling.py $(PROGRAM)
 	python3 tests/importing.py $(PROGRAM) 200
 	python3 tests/stress.py $(PROGRAM) --sample 1000
+	python3 tests/wrong_bodies.py $(PROGRAM)
 
-# Some 84,000 broken texts and requests in less and less memory, each answered as it must be; and bodies that the prover can't refuse.
+# Some 84,000 broken texts and requests in less and less memory, each answered as it must be.
 stress: bin/ladder
 	python3 tests/stress.py bin/ladder
-	python3 tests/wrong_bodies.py bin/ladder
 
 # The mutants that the gate leaves out, of all crates (hours) or of those that are named: make mutants CRATES="ladder_sim ladder_words".
 mutants: bin/ladder

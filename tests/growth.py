@@ -4,17 +4,19 @@
 Each request below is first made whole, which counts its growths (refuse_growth.c, loaded before the C library), and then once for
 each of them, with that one refused. A request is answered whole in spite of it, or it ends by one of the lines for being out of
 memory, with nothing written but whole lines of a trace, and nothing saved. The last record of long.csv is longer than the ones before
-it, so memory grows in the middle of its trace. Then a list with all its rows must make as many growths as the same list with none.
-Needs a C compiler; without one it is passed over.
+it, so memory grows in the middle of its trace. Then a list with all its rows must make as many growths as the same list with none, and one
+must come whole where each growth after its cursor is made is refused.
+Without a C compiler the toolchain's own is taken; where there is none at all, nothing is tried, and the last line says so.
 """
 import collections
 import os
 import pathlib
-import shutil
 import subprocess
 import sys
 import tempfile
 from concurrent.futures import ThreadPoolExecutor
+
+from compiling import compiled
 
 HERE = pathlib.Path(__file__).resolve().parent
 TEXTS = {
@@ -59,12 +61,12 @@ REQUESTS = (
 Ending = collections.namedtuple("Ending", "out err status saved")
 
 
-def ended(program, library, words, refused, counted=None):
-    """How the request ends with that growth refused."""
+def ended(program, library, words, refused, counted=None, how="REFUSE"):
+    """How the request ends with that growth refused, or, where `how` is FROM, with each one from that on."""
     with tempfile.TemporaryDirectory() as folder:
         for name, text in TEXTS.items():
             (pathlib.Path(folder) / name).write_bytes(text)
-        told = {"LD_PRELOAD": library, "REFUSE": str(refused)} | ({"COUNTED": counted} if counted else {})
+        told = {"LD_PRELOAD": library, how: str(refused)} | ({"COUNTED": counted} if counted else {})
         done = subprocess.run([program, *words], cwd=folder, env=os.environ | told, stdin=subprocess.DEVNULL, capture_output=True, check=False, timeout=60)
         saved = pathlib.Path(folder) / "saved.csv"
         return Ending(done.stdout.decode(), done.stderr.decode(), done.returncode, saved.read_bytes() if saved.exists() else None)
@@ -117,20 +119,29 @@ def rows_that_grow(program, library, counted):
     return wrong
 
 
+def rows_without_memory(program, library, counted):
+    """What is wrong where each growth after the cursor is made is refused: the list must come whole all the same."""
+    TEXTS["chain24.ld"] = (HERE.parent / "bench" / "circuits" / "chain24.ld").read_bytes()
+    words = ["chain24.ld", "Y", *(f"I{number}" for number in range(1, 25))]
+    made, _ = growths_of(program, library, ["causes", "--limit", "0", *words], counted)
+    whole = ended(program, library, ["causes", *words], 0)
+    ending = ended(program, library, ["causes", *words], made + 1, how="FROM")
+    return [] if ending == whole and whole.status == 0 else [f"a list of 24 inputs with no growth after the first {made}: {ending}"]
+
+
 def main():
-    program, compiler = os.path.abspath(sys.argv[1]), shutil.which("cc")
-    if not compiler:
-        print("no C compiler: the test of refused growths is passed over")
-        return 0
+    program = os.path.abspath(sys.argv[1])
     total, wrong = 0, []
     with tempfile.TemporaryDirectory() as folder:
         library, counted = os.path.join(folder, "refuse_growth.so"), os.path.join(folder, "counted")
-        subprocess.run([compiler, "-shared", "-fPIC", "-O1", "-o", library, HERE / "refuse_growth.c"], check=True)
+        if not compiled(HERE / "refuse_growth.c", library):
+            print(f"0 of {len(REQUESTS)} requests with refused growths answered: there is no C compiler, so none was tried")
+            return 0
         for words, wanted in REQUESTS:
             growths, lines, faults = tried(program, library, words, wanted, counted)
             total, wrong = total + growths, wrong + faults
             print(f"{' '.join(words):72}{growths:5} growths, " + ", ".join(f"{line.strip()[6:]} {count}" for line, count in sorted(lines.items())))
-        growing = rows_that_grow(program, library, counted)
+        growing = rows_that_grow(program, library, counted) + rows_without_memory(program, library, counted)
     print(*growing, *wrong[:20], sep="\n", end="\n" if growing or wrong else "")
     print(f"{total - len(wrong)} of {total} refused growths are answered as they must be")
     return 1 if growing or wrong else 0

@@ -1,18 +1,29 @@
 /* Stops a program at one of its calls of the system: that with the number in STOP, counted from 1. With LD_PRELOAD, for tests/saving.py.
    HOW is `kill`: the program is killed before the call; or `fail`: the call fails (EIO). Calls that open, write, sync, rename, remove or
-   close are counted; at the end their number is written to the file COUNTED, where that is named. */
-#define _GNU_SOURCE
-#include <dlfcn.h>
-#include <errno.h>
-#include <fcntl.h>
-#include <signal.h>
-#include <stdarg.h>
-#include <stdio.h>
-#include <stdlib.h>
-#include <string.h>
-#include <sys/types.h>
-#include <sys/uio.h>
-#include <unistd.h>
+   close are counted; at the end their number is written to the file COUNTED, where that is named.
+   What it takes of the C library is declared here, so that a compiler without its headers will do. */
+#define EIO 5
+#define NULL ((void *)0)
+#define O_CREAT 0100
+#define RTLD_NEXT ((void *)-1L)
+#define SIGKILL 9
+
+typedef unsigned long size_t;
+typedef long ssize_t;
+typedef unsigned int mode_t;
+typedef struct file FILE;
+struct iovec;
+
+int *__errno_location(void);
+void *dlsym(void *library, const char *name);
+char *getenv(const char *name);
+int getpid(void);
+int kill(int process, int signal);
+int strcmp(const char *one, const char *other);
+unsigned long strtoul(const char *text, char **end, int base);
+FILE *fopen(const char *path, const char *mode);
+int fprintf(FILE *file, const char *form, ...);
+int fclose(FILE *file);
 
 static unsigned long calls;
 
@@ -26,25 +37,25 @@ static int stops(void) {
     if (how && !strcmp(how, "kill")) {
         kill(getpid(), SIGKILL);
     }
-    errno = EIO;
+    *__errno_location() = EIO;
     return 1;
 }
 
 #define NEXT(result, name, ...) ((result (*)(__VA_ARGS__))dlsym(RTLD_NEXT, name))
 
 int open(const char *path, int flags, ...) {
-    va_list rest;
-    va_start(rest, flags);
-    mode_t mode = flags & O_CREAT ? va_arg(rest, mode_t) : 0;
-    va_end(rest);
+    __builtin_va_list rest;
+    __builtin_va_start(rest, flags);
+    mode_t mode = flags & O_CREAT ? __builtin_va_arg(rest, mode_t) : 0;
+    __builtin_va_end(rest);
     return stops() ? -1 : NEXT(int, "open", const char *, int, ...)(path, flags, mode);
 }
 
 int openat(int folder, const char *path, int flags, ...) {
-    va_list rest;
-    va_start(rest, flags);
-    mode_t mode = flags & O_CREAT ? va_arg(rest, mode_t) : 0;
-    va_end(rest);
+    __builtin_va_list rest;
+    __builtin_va_start(rest, flags);
+    mode_t mode = flags & O_CREAT ? __builtin_va_arg(rest, mode_t) : 0;
+    __builtin_va_end(rest);
     return stops() ? -1 : NEXT(int, "openat", int, const char *, int, ...)(folder, path, flags, mode);
 }
 

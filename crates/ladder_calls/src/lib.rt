@@ -3,6 +3,8 @@
 
 #[cfg(test)]
 mod causes;
+#[cfg(test)]
+mod full;
 pub mod memory;
 #[cfg(test)]
 mod order;

@@ -13,7 +13,7 @@ pub(crate) const MOTOR: &[u8] =
     b"VAR\n  Start AT %IX0 : BOOL;\n  Stop AT %IX1 : BOOL;\n  Motor AT %QX0 : BOOL;\nEND_VAR\n\n|   Start       Stop        Motor\n|----| |----+----|/|---------( )----\n|   Motor   |\n|----| |----+\n";
 
 /// The number of the variable Motor.
-const COIL: usize = 2;
+pub(crate) const COIL: usize = 2;
 
 /// Y is ON whatever A is, but no route is ON while A is open.
 const EITHER: &[u8] =
@@ -74,7 +74,7 @@ pub(crate) fn looked<S: Signal>(
 }
 
 /// The moment of a state of the motor, and the value of its coil.
-fn told(state: &State, program: &Program) -> Option<(u64, bool)> {
+pub(crate) fn told(state: &State, program: &Program) -> Option<(u64, bool)> {
     if state.fits(program) && COIL < program.decls().vars().len() {
         Some((state.moment(), state.value(COIL)))
     } else {

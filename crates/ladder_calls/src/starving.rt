@@ -1,10 +1,13 @@
 //! Calls whose memory runs out and that the program doesn't make: the address space is used up, but for a reserve that is larger from
 //! run to run.
 
+use crate::memory::Hashes;
 use crate::scans::{begun, look_at};
+use ladder_causes::{Tri, Word64};
 use ladder_grid::Program;
 use ladder_scan::{Memory, State};
-use ladder_sim::{Writing, write_state};
+use ladder_sim::{SimFault, Writing, simulate, write_state};
+use ladder_text::{ReadFault, Reading, read_text};
 use std::alloc::{AllocError, Global};
 use std::io::{self, ErrorKind, Write};
 
@@ -65,11 +68,22 @@ fn empty() -> Writing<Fixed> {
 const EDGES_FRESH: &[u8] =
     b"version,2\nmoment,0\nvar,A,0\nvar,Lamp,1\nmemory,1,1,1,0\nmemory,1,2,1,0\nmemory,1,1,2,0\nmemory,2,1,1,0\ncounter,C1,0,0,0\ntimer,Wait,0,0,0,0\nbistable,B1,0\n";
 
+/// The last record is longer than those before it, so that memory grows in the middle of the trace. These are at moment 0, so that the
+/// simulation can be begun again where it ended after one of them.
+const STIMULUS: &[u8] = b"moment,A\n0,1\n0,0\n18446744073709551615,1\n";
+
+/// The moment of the state and the value of A after each record.
+const AFTER: [(u64, bool); 3] = [(0, true), (0, false), (u64::MAX, true)];
+
 /// The calls that allocate.
 #[derive(Clone, Copy)]
 enum Call {
     CopyState,
     NewWork,
+    NewWorkOverThreeValues,
+    NewWorkOverWords,
+    ReadText,
+    Simulate,
 }
 
 /// How a call ended.
@@ -113,11 +127,96 @@ fn making_a_work(alloc: Global, program: &Program, state: &State) -> Outcome {
     }
 }
 
-/// Makes a call; the program is that of the edges, and the state its fresh one.
-fn ended(alloc: Global, call: Call, program: &Program, state: &State) -> Outcome {
+fn making_a_work_over_three_values(alloc: Global, program: &Program, state: &State) -> Outcome {
+    match look_at(alloc, program, state, [Tri::On].as_slice(), 0, 1) {
+        Ok(lamp) => right(lamp == Some(Tri::On)),
+        Err(_) => Outcome::Refused,
+    }
+}
+
+fn making_a_work_over_words(alloc: Global, program: &Program, state: &State) -> Outcome {
+    match look_at(alloc, program, state, [Word64(10)].as_slice(), 0, 1) {
+        Ok(lamp) => right(lamp == Some(Word64(10))),
+        Err(_) => Outcome::Refused,
+    }
+}
+
+/// Reads a text as long as its limit.
+fn reading_a_text(alloc: Global) -> Outcome {
+    let wanted: &[u8] = b"#####";
+    let mut reader = Reading::new(Hashes {
+        left: 5,
+        step: 5,
+        calls: 0,
+        failing: 0,
+    });
+    match read_text(alloc, &mut reader, 5) {
+        Ok(text) => right(text.as_slice() == wanted),
+        Err(ReadFault::Memory) => Outcome::Refused,
+        Err(_) => Outcome::Wrong,
+    }
+}
+
+/// How many rows of a trace stand in a text, behind its header.
+fn rows_in(text: &[u8]) -> usize {
+    let mut lines = 0usize;
+    for byte in text {
+        if *byte == b'\n' {
+            lines = lines.wrapping_add(1);
+        }
+    }
+    lines.saturating_sub(1)
+}
+
+/// The moment of a state and the value of A.
+fn told(state: &State) -> (u64, bool) {
+    (state.moment(), state.value_or_off(0))
+}
+
+/// What is told of the state after so many records, of which none leaves it as it was.
+fn after(rows: usize, before: (u64, bool)) -> (u64, bool) {
+    match rows {
+        0 => before,
+        1 => AFTER[0],
+        2 => AFTER[1],
+        _ => AFTER[2],
+    }
+}
+
+/// Follows the stimulus. Where memory runs out, the state must be that after the rows that were written.
+fn simulating(alloc: Global, program: &Program, state: &mut State) -> Outcome {
+    if !state.fits(program) {
+        return Outcome::Wrong;
+    }
+    let before = told(state);
+    let mut writer = empty();
+    let ended = simulate(alloc, program, state, STIMULUS, 0, &mut writer);
+    let rows = rows_in(writer.into_inner().taken());
+    let is_right = told(state) == after(rows, before);
+    match ended {
+        Ok(_) => right(is_right && rows == 3),
+        Err(SimFault::Memory) if is_right => Outcome::Refused,
+        Err(_) => Outcome::Wrong,
+    }
+}
+
+/// The program of the edges, and its fresh state.
+#[derive(Clone, Copy)]
+struct Edges<'a> {
+    program: &'a Program,
+    fresh: &'a State,
+}
+
+/// Makes a call.
+fn ended(alloc: Global, call: Call, edges: Edges<'_>, state: &mut State) -> Outcome {
+    let Edges { program, fresh } = edges;
     match call {
-        Call::CopyState => copying_a_state(alloc, program, state),
-        Call::NewWork => making_a_work(alloc, program, state),
+        Call::CopyState => copying_a_state(alloc, program, fresh),
+        Call::NewWork => making_a_work(alloc, program, fresh),
+        Call::NewWorkOverThreeValues => making_a_work_over_three_values(alloc, program, fresh),
+        Call::NewWorkOverWords => making_a_work_over_words(alloc, program, fresh),
+        Call::ReadText => reading_a_text(alloc),
+        Call::Simulate => simulating(alloc, program, state),
     }
 }
 
@@ -162,8 +261,8 @@ fn take(alloc: Global, blocks: &mut Vec<Vec<u8>>, size: usize) -> Result<(), All
 fn refusals(
     alloc: Global,
     call: Call,
-    program: &Program,
-    state: &State,
+    edges: Edges<'_>,
+    state: &mut State,
 ) -> Result<(u64, Outcome), AllocError> {
     let mut blocks = Vec::with_capacity(alloc, 200_000)?;
     // After large blocks were freed, the allocator takes those of the reserve's size from its heap.
@@ -180,7 +279,7 @@ fn refusals(
         if take(alloc, &mut blocks, RESERVE - STEP * run).is_err() {
             continue;
         }
-        last = ended(alloc, call, program, state);
+        last = ended(alloc, call, edges, state);
         if last != Outcome::Refused {
             break;
         }
@@ -194,24 +293,68 @@ fn refusals(
 type Ends = (Outcome, Outcome, bool);
 
 /// The first call takes the stack that it needs, of which there is none left afterwards.
-fn ends(alloc: Global, call: Call, program: &Program, state: &State) -> Result<Ends, AllocError> {
-    let first = ended(alloc, call, program, state);
-    let (count, last) = refusals(alloc, call, program, state)?;
-    Ok((first, last, 0 < count))
+fn ends(
+    alloc: Global,
+    call: Call,
+    edges: Edges<'_>,
+    first: &mut State,
+    state: &mut State,
+) -> Result<Ends, AllocError> {
+    let whole = ended(alloc, call, edges, first);
+    let (count, last) = refusals(alloc, call, edges, state)?;
+    Ok((whole, last, 0 < count))
 }
 
-fn starved(alloc: Global, call: Call) -> Result<Ends, Memory> {
-    let edges = begun(alloc, EDGES)?;
-    match ends(alloc, call, &edges.program, &edges.state) {
+/// What one function owns is let go at each of its exits, which takes long to prove; so each owns one thing.
+fn starved_after(
+    alloc: Global,
+    call: Call,
+    edges: Edges<'_>,
+    first: &mut State,
+) -> Result<Ends, Memory> {
+    let mut state = edges.fresh.copy(alloc)?;
+    match ends(alloc, call, edges, first, &mut state) {
         Ok(ends) => Ok(ends),
         Err(_) => Err(Memory),
     }
 }
 
+fn starved_over(alloc: Global, call: Call, edges: Edges<'_>) -> Result<Ends, Memory> {
+    let mut first = edges.fresh.copy(alloc)?;
+    starved_after(alloc, call, edges, &mut first)
+}
+
+fn starved(alloc: Global, call: Call) -> Result<Ends, Memory> {
+    let begun = begun(alloc, EDGES)?;
+    let edges = Edges {
+        program: &begun.program,
+        fresh: &begun.state,
+    };
+    starved_over(alloc, call, edges)
+}
+
+/// The calls, one after the other.
+const CALLS: [Call; 6] = [
+    Call::CopyState,
+    Call::NewWork,
+    Call::NewWorkOverThreeValues,
+    Call::NewWorkOverWords,
+    Call::ReadText,
+    Call::Simulate,
+];
+
+/// The number of the first call that doesn't end as it must.
+fn wrong_call(alloc: Global) -> Option<usize> {
+    let wanted = Ok((Outcome::Right, Outcome::Right, true));
+    for (number, call) in CALLS.iter().enumerate() {
+        if starved(alloc, *call) != wanted {
+            return Some(number);
+        }
+    }
+    None
+}
+
 #[test]
 fn a_refusal_is_named_until_memory_suffices(rt: HostRuntime) {
-    let copying = starved(rt.alloc(), Call::CopyState);
-    let working = starved(rt.alloc(), Call::NewWork);
-    let wanted = Ok((Outcome::Right, Outcome::Right, true));
-    assert!(rt; [copying, working] == [wanted; 2]);
+    assert_eq!(rt; wrong_call(rt.alloc()), None);
 }

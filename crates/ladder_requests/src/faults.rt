@@ -1,6 +1,6 @@
 //! The lines of faults, over writers that fail.
 
-use crate::requests::written;
+use crate::written::written;
 use ladder_calls::memory::{ENDS, End, with_room};
 use ladder_causes::CauseFault;
 use ladder_grid::GridFault;

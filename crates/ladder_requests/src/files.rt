@@ -1,10 +1,10 @@
 //! Requests, performed over readers in memory.
 
-use crate::requests::{Asked, request, written};
+use crate::written::written;
 use ladder_calls::memory::{End, Hashes, with_room};
 use ladder_text::Reading;
 use ladder_tool::{Readers, perform_files};
-use ladder_words::CommandLine;
+use ladder_words::{CommandLine, Request, SimRequest};
 use std::alloc::{AllocError, Global};
 
 /// A reader of bytes `#`.
@@ -70,12 +70,24 @@ fn performed(
     (status, [is_traced, is_saved], has_line)
 }
 
-fn left(alloc: Global, texts: [Text; 3], line: &[u8]) -> Result<Left, AllocError> {
-    let asked = CommandLine {
-        request: request(alloc, Asked::Saved)?,
+/// A simulation whose state is to be saved.
+fn simulation(alloc: Global) -> Result<CommandLine, AllocError> {
+    let sim = SimRequest {
+        state: None,
+        save: Some(String::from_str(alloc, "saved.csv")?),
+        every: None,
+        file: String::from_str(alloc, "motor.ld")?,
+        stimulus: String::from_str(alloc, "stimulus.csv")?,
+    };
+    Ok(CommandLine {
+        request: Request::Sim(sim),
         why: false,
         aliases: false,
-    };
+    })
+}
+
+fn left(alloc: Global, texts: [Text; 3], line: &[u8]) -> Result<Left, AllocError> {
+    let asked = simulation(alloc)?;
     let mut readers = readers(texts);
     Ok(performed(alloc, &asked, &mut readers, line))
 }

@@ -6,4 +6,4 @@ mod faults;
 #[cfg(test)]
 mod files;
 #[cfg(test)]
-mod requests;
+mod written;
