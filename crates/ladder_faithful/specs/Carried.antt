@@ -1,14 +1,13 @@
 -- A program has what a project has: each rung in its place in the scan, and each element in its row and column with its meaning.
 use Rattle.std.specs.Prelude.{◌≡◌, ◌↔◌, ◌⊎◌, All, ℕ, ◌+◌, ◌*◌, ◌<◌, not, true, false, IsTrue, List, [], ◌∷◌, length, slice_get, Some, None, option_map}
 use Rattle.std.specs.List.{list_all}
-use Rattle.ladder_vars.specs.Decls.{Declared}
+use Rattle.ladder_vars.specs.Decls.{Declared, is_input_at}
 use Rattle.ladder_vars.specs.declared.decls.Address.{Address}
 use Rattle.ladder_vars.specs.declared.decls.Instance.{Instance}
 use Rattle.ladder_page.specs.declared.geometry.TheConstants.{ROWS, COLUMNS}
 use Rattle.ladder_page.specs.declared.mode.Mode.{Mode}
 use Rattle.ladder_page.specs.declared.mode.Mode.TheVariants as mode
 use Rattle.ladder_page.specs.declared.mode.CoilMode.{CoilMode}
-use Rattle.ladder_page.specs.Operand.{is_input_at}
 use Rattle.ladder_grid.specs.declared.cell.Operand.{Operand}
 use Rattle.ladder_grid.specs.declared.cell.Operand.TheVariants as operand
 use Rattle.ladder_grid.specs.declared.cell.Cell.{Cell}

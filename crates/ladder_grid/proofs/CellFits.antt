@@ -1,7 +1,7 @@
 -- The numbers that a drawn cell has are those of declarations, and no coil writes an input.
 use Rattle.std.proofs.Common.{◌≡◌, ℕ, ◌<◌, true, false, length, slice_get, Option, Some, None, refl, ap}
 use Rattle.std.specs.Prelude.{option_map}
-use Rattle.ladder_vars.specs.Decls.{Declared, is_input}
+use Rattle.ladder_vars.specs.Decls.{Declared, is_input, is_input_at}
 use Rattle.ladder_vars.specs.declared.decls.Var.{Var}
 use Rattle.ladder_vars.specs.declared.kind.BlockKind.{BlockKind}
 use Rattle.ladder_vars.specs.declared.decls.Symbol.{Symbol}
@@ -12,7 +12,7 @@ use Rattle.ladder_page.specs.declared.mode.CoilMode.{CoilMode}
 use Rattle.ladder_page.specs.declared.form.Form.{Form}
 use Rattle.ladder_page.specs.declared.form.Form.TheVariants.{Empty, Wire, Contact, Coil, Block, Lower, Jump, Return}
 use Rattle.ladder_page.specs.declared.operand.Reference.{Reference}
-use Rattle.ladder_page.specs.Operand.{MayHave, is_input_at}
+use Rattle.ladder_page.specs.Operand.{MayHave}
 use Rattle.ladder_rules.specs.Rules.{wants_name}
 use Rattle.ladder_page.proofs.FitLaws.{SymbolFits}
 use Rattle.ladder_grid.specs.Program.{Fits, has_memory}

@@ -3,9 +3,8 @@ use Rattle.std.proofs.Common.{◌≡◌, ℕ, zero, suc, ◌<◌, List, [], ◌�
 use Rattle.std.proofs.lemmas.List.{length-map}
 use Rattle.ladder_vars.specs.declared.decls.Var.{Var}
 use Rattle.ladder_vars.specs.declared.decls.Instance.{Instance}
-use Rattle.ladder_vars.specs.Decls.{Declared}
+use Rattle.ladder_vars.specs.Decls.{Declared, is_input_at}
 use Rattle.ladder_vars.specs.Titles.{plain, plain_var, plain_instance}
-use Rattle.ladder_page.specs.Operand.{is_input_at}
 use Rattle.ladder_grid.specs.declared.site.Site.{Site}
 use Rattle.ladder_grid.specs.declared.cell.Operand.{Operand}
 use Rattle.ladder_grid.specs.declared.cell.Operand.TheVariants as operand

@@ -2,12 +2,11 @@
 -- Rungs, rows and columns are counted from 0. The place of a cell in its rung is ROWS * column + row.
 use Rattle.std.specs.Prelude.{◌≡◌, ℕ, ◌+◌, ◌-◌, ◌*◌, ◌/◌, ◌%◌, ◌<◌, ◌≤◌, min, max, nat_le, Bool, true, false, ◌&&◌, ◌==◌, List, length, count_by, slice_get, slice_index_or, Option, Some, None, is_some, option_map}
 use Rattle.std.specs.List.{filter_map, list_all, list_any, range_with_len}
-use Rattle.ladder_vars.specs.Decls.{Declared}
+use Rattle.ladder_vars.specs.Decls.{Declared, is_input_at}
 use Rattle.ladder_vars.specs.declared.decls.Instance.{Instance}
 use Rattle.ladder_vars.specs.declared.kind.Pin.{Pin}
 use Rattle.ladder_page.specs.declared.geometry.TheConstants.{RUNGS, ROWS, PLACES}
 use Rattle.ladder_page.specs.Geometry.{place}
-use Rattle.ladder_page.specs.Operand.{is_input_at}
 use Rattle.ladder_vars.specs.Kind.{traits_of}
 use Rattle.ladder_grid.specs.declared.cell.Operand.{Operand}
 use Rattle.ladder_grid.specs.declared.cell.Operand.TheVariants as operand

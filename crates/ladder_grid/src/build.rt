@@ -11,7 +11,8 @@ ghost use Rattle.ladder_rules.specs.Stops.{IsBrokenIn, IsSmall, IsNear};
 ghost use Rattle.ladder_grid.specs.Reading.{is_edge, site_drawn, IsDrawn};
 
 use crate::program::Program;
-use crate::site::{Site, is_edge, site_drawn};
+use crate::drawn::{is_edge, site_drawn};
+use crate::site::Site;
 use ladder_page::geometry::{PLACES, Place, RUNGS};
 use ladder_page::lines::{lines, parts, shown_text};
 use ladder_page::page::{form_at, forms, overs};

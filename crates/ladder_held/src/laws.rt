@@ -4,7 +4,7 @@ ghost use Rattle.ladder_held.specs.Holding.{MoreScansKeepRows, OneScanIsCauses, 
 ghost use Rattle.ladder_scan.specs.Programs.{diagram_of};
 
 use ladder_grid::Program;
-use ladder_known::laws::goes_on_alike;
+use ladder_known::later_laws::goes_on_alike;
 
 /// With one scan the rows are those of the list of causes.
 pub fn one_scan()

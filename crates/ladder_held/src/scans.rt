@@ -1,7 +1,7 @@
 //! When the scans are, and the first of them after which a variable is ON.
 
 ghost use Rattle.std.specs.Prelude.{◌≡◌, ◌<◌, ◌≤◌, ◌-◌, ◌*◌, ◌⊎◌, false, length, true};
-ghost use Rattle.ladder_known.specs.KnownLaws.{IsLaterState};
+ghost use Rattle.ladder_known.specs.Later.{IsLaterState};
 ghost use Rattle.ladder_scan.specs.Programs.{diagram_of};
 ghost use Rattle.ladder_scan.specs.Standing.{Fits};
 ghost use Rattle.ladder_held.specs.Holding.{are_no_scans, first_on, moment_of};

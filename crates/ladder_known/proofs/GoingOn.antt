@@ -7,7 +7,8 @@ use Rattle.ladder_scan.specs.Cells.{Diagram}
 use Rattle.ladder_scan.specs.Rung.{Held}
 use Rattle.ladder_scan.specs.Scan.{after_scan}
 use Rattle.ladder_known.specs.KnownScan.{Known, after_known, plainly}
-use Rattle.ladder_known.specs.KnownLaws.{BothKnown, GoesOnAlike, KnownIsScan, ScanKeeps}
+use Rattle.ladder_known.specs.KnownLaws.{BothKnown, KnownIsScan, ScanKeeps}
+use Rattle.ladder_known.specs.Later.{GoesOnAlike}
 use Rattle.ladder_known.specs.Shifting.{IsLater}
 use Rattle.ladder_known.proofs.Lists.{both_same, same_both}
 use Rattle.ladder_known.proofs.KnownPlain.{known_of, known_same}

@@ -1,9 +1,7 @@
 -- Laws of the scan over what is known.
-use Rattle.std.specs.Prelude.{◌≡◌, ◌≤◌, ◌+◌, ℕ, suc, Bool, List, [], ◌∷◌}
+use Rattle.std.specs.Prelude.{◌≡◌, ℕ, suc, Bool, List, [], ◌∷◌}
 use Rattle.ladder_vars.specs.declared.kind.BlockKind.TheVariants.{Ton}
-use Rattle.ladder_elements.specs.declared.block.Stored.{Stored}
 use Rattle.ladder_elements.specs.Blocks.{new_block}
-use Rattle.ladder_known.specs.Shifting.{IsLater}
 use Rattle.ladder_elements.specs.Algebra.{Algebra}
 use Rattle.ladder_elements.specs.Truth.{plain}
 use Rattle.ladder_elements.specs.Relations.{Both}
@@ -43,18 +41,3 @@ ScanKeeps {S} {T} {B} {C} d a b v w R Q now then = (xs : List S) (ys : List T) �
 abbrev pub KnownIsScan : Diagram → Type 0
 KnownIsScan d = (h : Held) (now : ℕ) (inputs : List Bool)
     → after_known plain plainly d now inputs (all_known plain plainly h) ≡ all_known plain plainly (after_scan d now inputs h)
-
--- Each instance stores the same in both, but for the time by which the second is later.
-abbrev pub AreLater : Diagram → ℕ → ℕ → List Stored → List Stored → Type 0
-AreLater d moment shift = BothAt (λ inst. IsLater (d.preset inst) moment shift)
-
--- Two states are alike but for a time by which the second is later, so far as scans from `moment` on can tell.
-pub record IsLaterState (d : Diagram) (moment shift : ℕ) (h g : Held) : Type 0 where
-  pub values : h.values ≡ g.values
-  pub memories : h.kept.memories ≡ g.kept.memories
-  pub blocks : AreLater d moment shift h.kept.blocks g.kept.blocks
-
--- A state that comes again goes on as before: scans with the same inputs, the second later by that time, leave states that are alike.
-abbrev pub GoesOnAlike : Diagram → Type 0
-GoesOnAlike d = (moment shift now : ℕ) → moment ≤ now → (inputs : List Bool) (h g : Held) → IsLaterState d moment shift h g
-    → IsLaterState d moment shift (after_scan d now inputs h) (after_scan d (now + shift) inputs g)

@@ -1,4 +1,5 @@
 pub mod KnownScan
 pub mod Shifting
 pub mod KnownLaws
+pub mod Later
 pub mod ShiftingLaws

@@ -4,7 +4,7 @@ ghost use Rattle.std.specs.Prelude.{◌≡◌, ◌↔◌, IsTrue};
 ghost use Rattle.ladder_scan.specs.Programs.{diagram_of};
 ghost use Rattle.ladder_scan.specs.Standing.{Fits};
 ghost use Rattle.ladder_known.specs.Shifting.{IsLater, RunAlike};
-ghost use Rattle.ladder_known.specs.KnownLaws.{AreLater, IsLaterState};
+ghost use Rattle.ladder_known.specs.Later.{AreLater, IsLaterState};
 
 use ladder_elements::Stored;
 use ladder_grid::Program;
@@ -106,7 +106,7 @@ fn later_blocks(program: &Program, moment: u64, shift: u64, before: &State, afte
 /// timer that runs began later by that time, or that its preset has passed in both, at `moment` and that much later.
 ///
 /// Scans with the same inputs, of the first state from `moment` on and of the second that much later, leave such states again
-/// (`laws::goes_on_alike`).
+/// (`later_laws::goes_on_alike`).
 pub fn is_later(program: &Program, moment: u64, shift: u64, before: &State, after: &State) -> bool
     requires before { Fits program.now before.now }
     requires after { Fits program.now after.now }

@@ -5,9 +5,8 @@ ghost use Rattle.ladder_elements.specs.Relations.{IsKept};
 ghost use Rattle.ladder_scan.specs.Cells.{Diagram};
 ghost use Rattle.ladder_scan.specs.Programs.{diagram_of};
 ghost use Rattle.ladder_known.specs.KnownScan.{Keeping};
-ghost use Rattle.ladder_known.specs.KnownLaws.{GoesOnAlike, KnownIsScan, ScanKeeps, StepsKeep};
+ghost use Rattle.ladder_known.specs.KnownLaws.{KnownIsScan, ScanKeeps, StepsKeep};
 
-use crate::time_shift::TimeShift;
 use ladder_elements::Signal;
 use ladder_grid::Program;
 use ladder_scan::scene::checked;
@@ -50,12 +49,4 @@ pub fn known_is_scan(program: &Program)
     ensures { KnownIsScan (diagram_of program.now) }
 {
     checked(program);
-}
-
-/// A state that comes again goes on alike: scans with the same inputs, as far apart in time as the two states, leave such states again.
-pub fn goes_on_alike(program: &Program)
-    ensures { GoesOnAlike (diagram_of program.now) }
-{
-    known_is_scan(program);
-    scan_keeps::<TimeShift>();
 }

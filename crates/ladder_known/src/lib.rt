@@ -2,6 +2,7 @@
 #![tactic(auto)]
 
 mod later;
+pub mod later_laws;
 pub mod laws;
 mod time_shift;
 

@@ -43,10 +43,6 @@ refer_to decls word =
     else (if ends_in (codes ".Q1") word then reference decls (Some output.Q1) (take (length word - 3) word)
     else reference decls None word)
 
-abbrev pub is_input_at : Option Var → Bool
-is_input_at (Some v) = is_input v
-is_input_at None = false
-
 -- The names that a symbol may have: a contact that of a variable, or an output of an instance that has it; a coil that of a variable
 -- that is no input; a block that of an instance of its kind.
 abbrev pub MayHave : Declared → Option Form → Symbol → Option Output → Type 0

@@ -4,9 +4,8 @@ use Rattle.std.specs.List.{IsDistinct, count_by, list_all}
 use Rattle.ladder_vars.specs.declared.decls.Symbol.{Symbol}
 use Rattle.ladder_vars.specs.declared.decls.Symbol.TheVariants as symbol
 use Rattle.ladder_vars.specs.declared.decls.Var.{Var}
-use Rattle.ladder_vars.specs.Decls.{Declared, find, is_input}
+use Rattle.ladder_vars.specs.Decls.{Declared, find, is_input, is_input_at}
 use Rattle.ladder_vars.specs.Name.{is_name}
-use Rattle.ladder_page.specs.Operand.{is_input_at}
 use Rattle.ladder_records.specs.Left.{Fields}
 use Rattle.ladder_records.specs.Text.{bit_text}
 

@@ -21,6 +21,10 @@ pub record Declared : Type 0 where
 abbrev pub is_input : Var → Bool
 is_input v = elim v.kind [ kind.Input ↦ true | _ ↦ false ]
 
+abbrev pub is_input_at : Option Var → Bool
+is_input_at (Some v) = is_input v
+is_input_at None = false
+
 -- The variable or the instance that is declared with a name, in any letter case.
 abbrev pub find : Declared → List ℕ → Option Symbol
 find declared name =

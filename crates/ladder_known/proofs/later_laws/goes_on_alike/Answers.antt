@@ -1,6 +1,6 @@
 use Rattle.ladder_scan.specs.Programs.{diagram_of}
 use Rattle.ladder_known.proofs.GoingOn.{goes_on_alike}
-use Rattle.ladder_known.proofs.laws.goes_on_alike.Goals as goal
+use Rattle.ladder_known.proofs.later_laws.goes_on_alike.Goals as goal
 
 pub returns : goal.returns
 returns c =
