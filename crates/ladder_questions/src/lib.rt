@@ -4,12 +4,11 @@
 #![tactic(auto)]
 
 mod fault;
+mod limit;
 pub mod refusal;
 mod scan_inputs;
 pub mod source;
 
 pub use fault::CauseFault;
+pub use limit::LISTED_LIMIT;
 pub use scan_inputs::assignment;
-
-/// How many inputs a list of causes has at most.
-pub const LISTED_LIMIT: usize = 32;

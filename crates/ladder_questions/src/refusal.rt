@@ -6,9 +6,9 @@ ghost use Rattle.ladder_questions.specs.Causes.{question};
 ghost use Rattle.ladder_scan.specs.Standing.{Standing};
 ghost use Rattle.ladder_questions.specs.Refusal.{has_repetition, refusal};
 ghost use Rattle.ladder_questions.specs.Tests.{is_input_variable, list_refusal};
-ghost use Rattle.ladder_questions.specs.declared.TheConstants.{LISTED_LIMIT};
+ghost use Rattle.ladder_questions.specs.declared.limit.TheConstants.{LISTED_LIMIT};
 
-use crate::LISTED_LIMIT;
+use crate::limit::LISTED_LIMIT;
 use crate::fault::CauseFault;
 use ladder_grid::Program;
 use ladder_scan::State;

@@ -1,7 +1,7 @@
 //! The text of a list of what is possible, or forced.
 
 ghost use Rattle.std.specs.Prelude.{◌≡◌, ◌≤◌, ◌^◌, ◌∷◌, [], IfOk, List, count_by, length, not};
-ghost use Rattle.ladder_questions.specs.declared.TheConstants.{LISTED_LIMIT};
+ghost use Rattle.ladder_questions.specs.declared.limit.TheConstants.{LISTED_LIMIT};
 ghost use Rattle.ladder_records.specs.Text.{line_text};
 ghost use Rattle.ladder_text.specs.Block.{Sends};
 ghost use Rattle.ladder_text.specs.Log.{Puts};
