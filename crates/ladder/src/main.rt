@@ -1,7 +1,7 @@
 //! The program `ladder`.
 #![tactic(auto)]
 
-use ladder_sim::Writing;
+use ladder_sim::CountedWriter;
 use ladder_tool::{ToolFault, run, write_fault};
 use std::env;
 use std::io::ErrorKind;
@@ -17,7 +17,7 @@ fn fault_of(kind: ErrorKind) -> (ToolFault, u8) {
 
 fn report(rt: &HostRuntime, kind: ErrorKind) -> u8 {
     let (fault, status) = fault_of(kind);
-    let _ = write_fault(&fault, &mut Writing::new(rt.stderr()));
+    let _ = write_fault(&fault, &mut CountedWriter::new(rt.stderr()));
     status
 }
 

@@ -1,24 +1,33 @@
-//! Lists of causes: which assignments of the listed inputs switch a coil on, found by a pruned search.
+//! The list of causes in one scan: the combinations of the listed inputs that switch a coil on.
+//!
+//! This crate re-exports what a caller needs of `causes_query` and `causes_one_scan`, which prove it.
+//!
+//! ```
+//! use ladder_causes::{CauseFault, Causes};
+//! use ladder_grid::Program;
+//! use ladder_scan::State;
+//! use std::alloc::Global;
+//!
+//! /// Whether one input by itself decides that a fresh program switches a coil on.
+//! fn is_switched_by(
+//!     alloc: Global,
+//!     program: &Program,
+//!     coil: usize,
+//!     input: usize,
+//! ) -> Result<bool, CauseFault> {
+//!     let Ok(state) = State::fresh(alloc, program) else {
+//!         return Err(CauseFault::Memory);
+//!     };
+//!     let listed = [input];
+//!     let mut causes = Causes::new(alloc, program, &state, 0, coil, &listed, None)?;
+//!     Ok(causes.next() == Some(1))
+//! }
+//! ```
 #![tactic(auto)]
 
-mod asked;
-mod causes;
-mod entries;
-mod group_tree;
-mod groups;
-mod lanes;
 pub mod laws;
-mod likening;
-mod order;
-mod passes;
-mod probe;
-mod tree;
-mod words;
 
-pub use causes::Causes;
-pub use groups::Groups;
-pub use ladder_questions::{CauseFault, LISTED_LIMIT, assignment};
-pub use ladder_search::Marked;
-pub use ladder_signals::{Tri, Word64};
-pub use order::sifted;
-pub use passes::{LOOKS_BY_FOURS, LOOKS_BY_LANES, Passes};
+pub use causes_one_scan::{Causes, Groups, Passes, relevant_inputs, sifted};
+pub use causes_query::{CauseFault, LISTED_LIMIT, assignment};
+pub use scan_signals::{Tri, Word64};
+pub use search_tree::Marked;

@@ -1,22 +1,5 @@
 //! Laws over the definitions: each function does nothing, and its contract is the law.
 
-ghost use Rattle.ladder_scan.specs.Laws.{FollowsJumps};
-ghost use Rattle.ladder_scan.specs.Programs.{diagram_of};
-ghost use Rattle.ladder_scan.specs.Seen.{OneSight};
-
-use crate::scene::checked;
-use ladder_grid::Program;
-
-/// What a scan leaves is what the evaluation of its rungs leaves, one after the other along the jumps that are taken.
-pub fn scan_follows_jumps(program: &Program)
-    ensures { FollowsJumps (diagram_of program.now) }
-{
-    checked(program);
-}
-
-/// A scan has one list of marks.
-pub fn one_sight(program: &Program)
-    ensures { OneSight (diagram_of program.now) }
-{
-    checked(program);
-}
+pub use scan_cycle::laws::scan_follows_jumps;
+pub use scan_signals::laws::histories;
+pub use scan_symbolic::laws::{look_is_scan, related, sound};

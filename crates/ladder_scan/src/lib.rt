@@ -1,21 +1,29 @@
-//! The scan of a ladder diagram: how power flows through a rung, what its cells do, and what one scan leaves.
+//! The scan: power flow, function blocks, the state after a scan, and the same scan over any signal (a look).
 //!
-//! The modules `effects`, `gates`, `inputs`, `scene`, `signals` and `storage` are public for looks, which evaluate the same cells over any signal.
+//! This crate re-exports what a caller needs of `scan_signals`, `scan_cycle` and `scan_symbolic`, which prove it.
+//!
+//! ```
+//! use ladder_grid::Program;
+//! use ladder_scan::{Memory, State, scan};
+//! use std::alloc::Global;
+//!
+//! /// Whether a variable is ON after one scan of a fresh state in which all inputs are ON.
+//! fn is_on(alloc: Global, program: &Program, var: usize) -> Result<bool, Memory> {
+//!     let mut state = State::fresh(alloc, program)?;
+//!     let inputs = vec![in alloc; true; program.decls().inputs()]?;
+//!     if var >= program.decls().vars().len() {
+//!         return Ok(false);
+//!     }
+//!     match scan(program, &mut state, &inputs, 0) {
+//!         Ok(()) => Ok(state.value(var)),
+//!         Err(_) => Ok(false),
+//!     }
+//! }
+//! ```
 #![tactic(auto)]
 
-pub mod effects;
-pub mod gates;
-pub mod inputs;
 pub mod laws;
-mod memory;
-pub mod scanning;
-pub mod scene;
-mod seen;
-pub mod signals;
-mod state;
-pub mod storage;
 
-pub use memory::Memory;
-pub use scanning::{MomentBack, scan};
-pub use seen::{Mark, Sight, see};
-pub use state::State;
+pub use scan_cycle::{Mark, Memory, MomentBack, PowerFlow, State, scan, see};
+pub use scan_signals::{Lane, Likeness, Operations, Relation, Signal, Stored};
+pub use scan_symbolic::{Work, look};

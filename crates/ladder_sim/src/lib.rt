@@ -1,27 +1,32 @@
-//! The texts that the tool writes about a program.
+//! Texts: a state, a simulation's trace, a list of causes and a cross-reference, over readers and writers that count their calls.
+//!
+//! This crate re-exports what a caller needs of `io_text`, `text_state`, `text_trace`, `text_causes` and
+//! `text_cross_reference`, which prove it.
+//!
+//! ```
+//! use ladder_causes::Causes;
+//! use ladder_sim::{Sink, Summary, WriteFault, write_causes};
+//!
+//! /// Writes the first hundred rows of a list.
+//! fn write_first<W: Sink>(
+//!     causes: &mut Causes<'_>,
+//!     writer: &mut W,
+//! ) -> Result<Summary, WriteFault> {
+//!     write_causes(causes, Some(100), writer)
+//! }
+//! ```
 #![tactic(auto)]
 
-mod cause_text;
-mod group_text;
-mod held_text;
-mod kept;
-mod possible_text;
-mod progress;
-mod rows;
-mod runs;
-mod table;
-mod term_text;
-
-pub use cause_text::{Summary, add_header, is_reached, write_causes, write_part};
-pub use group_text::{GroupForm, GroupSummary, write_groups};
-pub use held_text::write_held_causes;
-pub use ladder_state::{StateFault, read_state, write_state};
-pub use ladder_text::{
-    Piece, ReadFailed, ReadFault, Reading, Sink, Source, Tally, WriteFailed, WriteFault, Writing,
-    put, put_pieces, read_text,
+pub use io_text::{
+    CountedReader, CountedWriter, ReadFailed, ReadFault, Sink, Source, Tally, WriteFailed,
+    WriteFault, put, read_text,
 };
-pub use ladder_trace::{Film, SimFault, simulate, write_film, write_waves};
-pub use ladder_uses::write_uses;
-pub use possible_text::{PossibleSummary, write_possible_causes};
-pub use progress::{ProgressFault, write_progress};
-pub use table::{fill_cells, size_of};
+pub use text_causes::{
+    GroupForm, GroupSummary, ProgressFault, Summary, write_causes, write_groups, write_part,
+    write_progress,
+};
+pub use text_cross_reference::write_uses;
+pub use text_state::{StateFault, read_state, write_state};
+pub use text_trace::{
+    Column, Film, SimFault, simulate, simulate_every, watch, write_film, write_waves,
+};

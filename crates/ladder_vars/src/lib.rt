@@ -1,25 +1,20 @@
-//! The declarations at the head of a ladder diagram: names, variables and function blocks.
+//! The declarations of a program text: names, durations, variables and function block instances.
 //!
-//! A program text begins with one block `VAR .. END_VAR` of IEC 61131-3. This crate says what the
-//! block declares, and refuses a text whose block breaks one of the rules V1 to V8.
+//! This crate re-exports what a caller needs of `diagram_declarations`, which proves it.
+//!
+//! ```
+//! use ladder_vars::{VarFault, read_decls};
+//! use std::alloc::Global;
+//!
+//! /// How many inputs a text declares.
+//! fn count_inputs(alloc: Global, text: &[u8]) -> Result<usize, VarFault> {
+//!     let (decls, _after) = read_decls(alloc, text)?;
+//!     Ok(decls.inputs())
+//! }
+//! ```
 #![tactic(auto)]
 
-mod declaration;
-mod decls;
-mod fault;
-mod kind;
-pub mod limits;
-mod name;
-mod read;
-mod text;
-mod titles;
-mod words;
-
-pub use decls::{Address, Decls, Instance, Symbol, Var, VarKind};
-pub use fault::{VarFault, VarRule};
-pub use kind::{BlockKind, BlockTraits, Output, Parameter, Pin};
-pub use ladder_times::read_time;
-pub use ladder_titles::Title;
-pub use name::Name;
-pub use read::read_decls;
-pub use titles::{TitleFault, take_aliases};
+pub use diagram_declarations::{
+    Address, BlockKind, BlockTraits, Decls, Instance, Name, Output, Parameter, Pin, Symbol, Title,
+    TitleFault, Var, VarFault, VarKind, VarRule, read_decls, read_time, take_aliases,
+};

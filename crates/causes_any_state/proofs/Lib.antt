@@ -1,0 +1,8 @@
+mod Asking
+mod Claims
+mod Covering
+mod Given
+pub mod Rows
+mod Running
+mod Words
+mod GroupJudging

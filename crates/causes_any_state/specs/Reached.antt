@@ -1,0 +1,39 @@
+-- What stays so in each state that a run reaches.
+use Rattle.std.specs.Prelude.{ℕ, ◌<◌, ◌≤◌, ◌^◌, List, [], ◌∷◌}
+use Rattle.diagram_program.specs.Program.{Drawing}
+use Rattle.scan_cycle.specs.Programs.{diagram_of}
+use Rattle.scan_cycle.specs.Scan.{after_scan}
+use Rattle.scan_cycle.specs.Standing.{Standing, Fits, IsStanding}
+use Rattle.invariant_values.specs.Cases.{IsSteady}
+use Rattle.invariant_values.specs.Never.{OneScan}
+use Rattle.invariant_pairs.specs.Pairs.{ArePairs}
+use Rattle.causes_any_state.specs.Possible.{StaysSo}
+use Rattle.causes_any_state.specs.declared.states.Staying.{Staying}
+
+-- Some scans are a run: from a first moment on their moments don't fall, and they have 64 bits.
+abbrev pub IsRun : ℕ → List OneScan → Type 0
+IsRun from [] = Unit {0}
+IsRun from (scan ∷ more) = (from ≤ scan.moment) × (scan.moment < 2 ^ 64) × IsRun scan.moment more
+
+-- The state that these scans leave, one after the other.
+abbrev pub reached : Drawing → List OneScan → Standing → Standing
+reached p [] s = s
+reached p (scan ∷ more) s = reached p more (record s { held = after_scan (diagram_of p) scan.moment scan.inputs s.held; moment = scan.moment })
+
+-- Each state that a run from this one reaches is a state of the program, in which it is so what stays so.
+pub record IsReached (p : Drawing) (staying : Staying) (s : Standing) : Type 0 where
+  pub fits : Fits p s
+  pub standing : IsStanding s
+  pub stays : StaysSo staying s.held
+
+abbrev pub AreReached : Drawing → Standing → Staying → Type 0
+AreReached p s staying = (scans : List OneScan) → IsRun s.moment scans → IsReached p staying (reached p scans s)
+
+-- All that the set claims is settled to stay so from this state on, and the pairs to stay apart.
+pub record IsStaying (p : Drawing) (s : Standing) (staying : Staying) : Type 0 where
+  pub steady : IsSteady p s staying.steady
+  pub apart : ArePairs p s staying.steady staying.apart
+
+-- So it is then so in each state that a run reaches.
+abbrev pub RunsStay : Drawing → Type 0
+RunsStay p = (s : Standing) → Fits p s → IsStanding s → (staying : Staying) → IsStaying p s staying → AreReached p s staying

@@ -1,0 +1,29 @@
+//! Which combinations of the listed inputs switch a coil on from some state, or from every state, and their groups.
+#![tactic(auto)]
+
+mod batch_look;
+mod before;
+mod buffers;
+mod candidate;
+mod claim;
+mod content;
+mod fault;
+mod groups;
+mod judging;
+pub mod laws;
+mod numbers;
+mod possible;
+mod query;
+mod seeking;
+mod states;
+mod staying;
+mod table;
+
+pub use before::Before;
+pub use claim::Claim;
+pub use fault::PossibleGroupFault;
+pub use groups::{PossibleGroups, is_settled};
+pub use possible::{PossibleCause, PossibleCauses};
+pub use states::{States, Staying};
+pub use staying::staying_from;
+pub use table::SETTLED;

@@ -1,0 +1,155 @@
+//! The search for a state that leaves the coil at the sought value.
+
+ghost use Rattle.std.specs.Prelude.{◌≡◌, ◌<◌, ◌≤◌, IsTrue, length};
+ghost use Rattle.scan_partial.specs.Sizes.{AreAsLong};
+ghost use Rattle.causes_any_state.specs.Possible.{AreStatesOf, SomeLeaves, pairs_of};
+ghost use Rattle.causes_any_state.specs.Searching.{AreStateBuffers};
+
+use crate::buffers::StateBuffers;
+use crate::candidate::is_found;
+use crate::query::{Knowing, StateQuery};
+use crate::states::pairs;
+use invariant_pairs::partners::next_forced;
+use invariant_values::cases::look;
+use invariant_values::choosing::open_point;
+use invariant_values::pinning::{is_known, pin, pin_answer};
+use invariant_values::{Answer, Outcome, Point, ScanKnowledge};
+use scan_partial::Knowledge;
+use scan_signals::Tri;
+
+/// Whether a state was found, and how many scans are left.
+#[derive(Clone, Copy)]
+pub(crate) struct Attempt {
+    pub is_found: bool,
+    pub scans: u32,
+}
+
+/// The cases of a point, in the order in which they are tried: it is ON or OFF, and an instance may also answer what its input is.
+const CASES: [Answer; 3] = [Answer::On, Answer::Off, Answer::Input];
+
+/// Takes a case of a point, where it has that one.
+fn choose(point: Point, answer: Answer, case: &mut Knowledge<Tri, Outcome>) -> bool
+    ensures { AreAsLong case.new case.old }
+{
+    match (point, answer) {
+        (Point::Answer(inst), _) => pin_answer(inst, answer, case),
+        (_, Answer::On) => pin(point, Tri::On, case),
+        (_, Answer::Off) => pin(point, Tri::Off, case),
+        (_, Answer::Input | Answer::Open) => return false,
+    }
+    true
+}
+
+/// Leaves a point open.
+fn leave(point: Point, case: &mut Knowledge<Tri, Outcome>)
+    ensures { AreAsLong case.new case.old }
+{
+    match point {
+        Point::Answer(inst) => pin_answer(inst, Answer::Open, case),
+        Point::Variable(_) | Point::Output(_) | Point::Memory(_) => pin(point, Tri::Unsure, case),
+    }
+}
+
+/// A point that leaves the coil open after the scan of the case.
+fn next_point(asked: StateQuery<'_>, known: &Knowing) -> Option<Point> {
+    let sight = ScanKnowledge {
+        program: asked.program,
+        writers: &known.writers,
+        before: &known.case,
+        after: &known.trial,
+    };
+    open_point(sight, Point::Variable(asked.coil))
+}
+
+/// Tries to find a state that leaves the coil at the sought value, among those that the case allows: by further cases, and by at most
+/// so many scans over three values. What is found is scanned as it stands.
+#[cycle(seeking)]
+pub(crate) fn seek(asked: StateQuery<'_>, space: &mut StateBuffers, scans: u32) -> Attempt
+    requires few { length asked.listed.now ≤ 64 }
+    requires coil { asked.coil < length asked.program.now.decls.vars }
+    requires states { AreStatesOf asked.program.now asked.states.now }
+    requires space { AreStateBuffers asked.program.now space.old }
+    ensures found { IsTrue result.is_found → SomeLeaves asked.entry.program.now asked.entry.coil asked.entry.listed.now asked.entry.states.now asked.entry.sought asked.entry.number }
+    ensures scans { result.scans ≤ scans }
+    ensures space { AreStateBuffers asked.entry.program.now space.new }
+{
+    if scans == 0 {
+        return Attempt {
+            is_found: false,
+            scans: 0,
+        };
+    }
+    let left = scans - 1;
+    let coil = Point::Variable(asked.coil);
+    let known = &mut space.knowing;
+    let value = look(
+        asked.program,
+        coil,
+        &known.case,
+        &mut known.trial,
+        &mut known.room,
+    );
+    if let Some(point) = next_point(asked, &space.knowing) {
+        return by_cases(asked, point, space, left);
+    }
+    let is_found = !is_known(value, !asked.sought)
+        && is_found(asked, &space.knowing.case, &mut space.tried);
+    Attempt {
+        is_found,
+        scans: left,
+    }
+}
+
+/// The same in each case of a point.
+#[cycle(seeking)]
+fn by_cases(asked: StateQuery<'_>, point: Point, space: &mut StateBuffers, scans: u32) -> Attempt
+    requires few { length asked.listed.now ≤ 64 }
+    requires coil { asked.coil < length asked.program.now.decls.vars }
+    requires states { AreStatesOf asked.program.now asked.states.now }
+    requires space { AreStateBuffers asked.program.now space.old }
+    ensures found { IsTrue result.is_found → SomeLeaves asked.entry.program.now asked.entry.coil asked.entry.listed.now asked.entry.states.now asked.entry.sought asked.entry.number }
+    ensures scans { result.scans ≤ scans }
+    ensures space { AreStateBuffers asked.entry.program.now space.new }
+{
+    let mut left = scans;
+    for case in 0..CASES.len() {
+        if choose(point, CASES[case], &mut space.knowing.case) {
+            let attempt = by_partners(asked, 0, space, left);
+            if attempt.is_found {
+                return attempt;
+            }
+            left = attempt.scans;
+        }
+    }
+    leave(point, &mut space.knowing.case);
+    Attempt {
+        is_found: false,
+        scans: left,
+    }
+}
+
+/// The same with all OFF that the pairs from a number on force to be.
+#[cycle(seeking)]
+fn by_partners(
+    asked: StateQuery<'_>,
+    number: usize,
+    space: &mut StateBuffers,
+    scans: u32,
+) -> Attempt
+    requires few { length asked.listed.now ≤ 64 }
+    requires coil { asked.coil < length asked.program.now.decls.vars }
+    requires number { number ≤ length (pairs_of asked.states.now.staying) }
+    requires states { AreStatesOf asked.program.now asked.states.now }
+    requires space { AreStateBuffers asked.program.now space.old }
+    ensures found { IsTrue result.is_found → SomeLeaves asked.entry.program.now asked.entry.coil asked.entry.listed.now asked.entry.states.now asked.entry.sought asked.entry.number }
+    ensures scans { result.scans ≤ scans }
+    ensures space { AreStateBuffers asked.entry.program.now space.new }
+{
+    let Some(forced) = next_forced(pairs(asked.states), number, &space.knowing.case) else {
+        return seek(asked, space, scans);
+    };
+    pin(forced.point, Tri::Off, &mut space.knowing.case);
+    let attempt = by_partners(asked, forced.number + 1, space, scans);
+    leave(forced.point, &mut space.knowing.case);
+    attempt
+}

@@ -1,0 +1,5 @@
+mod Settling
+mod Rows
+mod Words
+mod Going
+mod Tabling

@@ -1,0 +1,17 @@
+mod Finding
+mod Numbers
+mod Parting
+mod Pruning
+mod Telling
+mod Knowledge
+mod Likenings
+mod FourLaws
+mod LaneLaws
+mod GroupCounts
+mod AnyOrder
+mod Carrying
+mod Fewest
+mod Counting
+mod Sifting
+mod Assigning
+mod Deciding

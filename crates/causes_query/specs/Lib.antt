@@ -1,0 +1,9 @@
+pub mod Assignment
+pub mod Causes
+pub mod Listable
+pub mod Refusal
+pub mod Sources
+pub mod Tests
+pub mod Images
+pub mod Patterns
+pub mod Prefixes

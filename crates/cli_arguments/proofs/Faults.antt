@@ -1,0 +1,584 @@
+-- Why the arguments ask for no request.
+use Rattle.std.proofs.Common.{◌≡◌, ◌∙◌, ◌++◌, ℕ, Bool, true, false, List, [], ◌∷◌, Option, None, Some, ap, ap₂, arith, bytes_eq, codes, find, map, string_bytes, String, Global, ◌&&◌, get_or, inl, inr, is_some, option_and_then, option_map, refl, slice_get, subst, sym, unwrap_or}
+use Rattle.std.specs.List.{list_all}
+use Rattle.clap.specs.Words.{Row, Text, all_of, first_of}
+use Rattle.cli_options.specs.Pages.{is_fault_code}
+use Rattle.cli_arguments.specs.Asking.{Asks, AsksNone, HasCoil, HasControl, HasEvery, HasExcluded, HasNoTask, HasFlag, HasForm, HasInputs, HasLasting, HasNumber, HasOption, HasScans, HasSwitch, HasWatched, HasOrder, IsNamed, IsOfOneState, IsSingle, IsTable, MayGroup, MayHaveLimit, NamesCauses, NamesList, NamesTrace, input_texts, inputs_for}
+use Rattle.cli_arguments.specs.Parts.{HasGrouping, IsOfAnyState, IsOfOneScan, IsOfRecords, IsUncut, IsWhole, MayLast, NamesNoEnd, NamesNoStates, NamesScan, Plays}
+use Rattle.cli_arguments.specs.Faults.{UsageWhere}
+use Rattle.cli_arguments.specs.declared.request.GroupFormat.{GroupFormat}
+use Rattle.cli_arguments.specs.declared.request.GroupFormat.TheVariants.{Statement, Table, Terms}
+use Rattle.cli_arguments.specs.declared.request.InputOrder.{InputOrder}
+use Rattle.cli_arguments.specs.declared.request.InputOrder.TheVariants.{Given, Sifted}
+use Rattle.cli_arguments.specs.declared.request.ListRequest.{ListRequest}
+use Rattle.cli_arguments.specs.declared.lasting.Lasting.{Lasting}
+use Rattle.cli_arguments.specs.declared.parts.NamedScan.{NamedScan}
+use Rattle.cli_arguments.specs.declared.simulating.Played.{Played}
+use Rattle.cli_arguments.specs.declared.request.Grouping.{Grouping}
+use Rattle.cli_arguments.specs.declared.request.ShowRequest.{ShowRequest}
+use Rattle.cli_arguments.specs.declared.request.FilmRequest.{FilmRequest}
+use Rattle.cli_arguments.specs.declared.request.SimRequest.{SimRequest}
+use Rattle.cli_arguments.specs.declared.request.WatchRequest.{WatchRequest}
+use Rattle.cli_arguments.specs.declared.request.WavesRequest.{WavesRequest}
+use Rattle.cli_arguments.specs.declared.request.PossibleRequest.{PossibleRequest}
+use Rattle.cli_arguments.specs.declared.request.Excluded.{Excluded}
+use Rattle.cli_arguments.specs.declared.request.NeverRequest.{NeverRequest}
+use Rattle.cli_arguments.specs.declared.lasting.Lasting.TheVariants.{Count, Until}
+use Rattle.cli_arguments.specs.declared.request.Request.TheVariants.{Causes, Check, Film, Groups, Held, Import, Never, Possible, Progress, Relevant, Show, Sim, Uses, Watch, Waves}
+use Rattle.cli_arguments.specs.declared.request.WordFault.{WordFault}
+use Rattle.cli_arguments.specs.declared.request.WordFault.TheVariants.{Help, Memory, Mistake, Usage}
+use Rattle.cli_arguments.specs.declared.request.Task.TheVariants.{Explain, Perform, PerformAll}
+
+pub usage_weaker : {P Q : Type 0} (e : WordFault) → (P → Q) → UsageWhere P e → UsageWhere Q e
+usage_weaker Usage f p = f p
+usage_weaker (Mistake text) f p = absurd p
+usage_weaker (Help text) f p = absurd p
+usage_weaker Memory f p = tt
+
+pub out_of_memory : (P : Type 0) (e : WordFault) → e ≡ Memory → UsageWhere P e
+out_of_memory P e m = rw m tt
+
+pub no_order : (rows : List Row) (text : Text) → first_of (codes "order") rows ≡ Some text → ((o : InputOrder) → IsNamed text o → ⊥)
+    → (o : InputOrder) → HasOrder o rows → ⊥
+no_order rows text is none o (inl h) = let bad = sym is ∙ h.0 in cc
+no_order rows text is none o (inr h) =
+    let both = sym h.1 ∙ is in
+    let same : h.0 ≡ text = cc in
+    none o (rw same at h.2)
+
+-- The subcommand that explains makes no request, and no other one explains.
+name_differs : {name other : List ℕ} → name ≡ other → get_or name 0 0 ≡ get_or other 0 0
+name_differs same = ap (λ (name : List ℕ). get_or name 0 0) same
+
+explains_alone : (rows : List Row) → AsksNone (codes "explain") rows
+explains_alone rows (Check file warns) h = let other : 101 ≡ 99 = name_differs h.0 in absurd (omega (arith, other))
+explains_alone rows (Causes list after upto) h = let other : 101 ≡ 99 = name_differs h.0 in absurd (omega (arith, other))
+explains_alone rows (Progress list after upto) h = let other : 101 ≡ 99 = name_differs h.0 in absurd (omega (arith, other))
+explains_alone rows (Held list scans every grouped) h = let other : 101 ≡ 99 = name_differs h.0 in absurd (omega (arith, other))
+explains_alone rows (Groups list grouping) h = let other : 101 ≡ 99 = name_differs h.0 in absurd (omega (arith, other))
+explains_alone rows (Possible r) h = let other : 101 ≡ 99 = name_differs h.0 in absurd (omega (arith, other))
+explains_alone rows (Relevant list after grouping) h = let other : 101 ≡ 99 = name_differs h.0 in absurd (omega (arith, other))
+explains_alone rows (Show r) h = let other : 101 ≡ 115 = name_differs h.0 in absurd (omega (arith, other))
+explains_alone rows (Film r) h = let other : 101 ≡ 115 = name_differs h.0 in absurd (omega (arith, other))
+explains_alone rows (Sim r) h = let other : 101 ≡ 115 = name_differs h.0 in absurd (omega (arith, other))
+explains_alone rows (Watch r) h = let other : 101 ≡ 115 = name_differs h.0 in absurd (omega (arith, other))
+explains_alone rows (Waves r) h = let other : 101 ≡ 115 = name_differs h.0 in absurd (omega (arith, other))
+explains_alone rows (Uses file) h = let other : 101 ≡ 117 = name_differs h.0 in absurd (omega (arith, other))
+explains_alone rows (Never r) h = let other : 101 ≡ 110 = name_differs h.0 in absurd (omega (arith, other))
+explains_alone rows (Import opened control_on file hal) h = let other : 101 ≡ 105 = name_differs h.0 in absurd (omega (arith, other))
+
+abbrev pub all_codes : List (String Global) → Bool
+all_codes names = list_all (λ name. is_fault_code (string_bytes name)) names
+
+all_codes_of : (names : List (String Global)) → all_codes names ≡ list_all is_fault_code (map string_bytes names)
+all_codes_of [] = refl
+all_codes_of (name ∷ names) = ap (λ b. is_fault_code (string_bytes name) && b) (all_codes_of names)
+
+-- A name is no code.
+pub no_pages : (rows : List Row) (names : List (String Global)) → unwrap_or (all_of (codes "codes") rows) [] ≡ map string_bytes names → all_codes names ≡ false
+    → HasNoTask (codes "explain") rows
+no_pages rows names given none (Perform line) h = explains_alone rows line.request h.0.0
+no_pages rows names given none (PerformAll all) h = explains_alone rows all.line.request h.0.0
+no_pages rows names given none (Explain other) h =
+    let same = all_codes_of names ∙ ap (λ texts. list_all is_fault_code texts) (sym given ∙ h.1.0) ∙ sym (all_codes_of other.items) in
+    let bad = sym none ∙ same ∙ h.1.1 in
+    cc
+
+-- A subcommand asks for the requests of its name alone.
+pub no_check : (rows : List Row) → first_of (codes "file") rows ≡ None → AsksNone (codes "check") rows
+no_check rows none (Check file warns) h = let some = h.1 in cc
+no_check rows none (Causes list after upto) h = let other = h.0 in cc
+no_check rows none (Progress list after upto) h = let other = h.0 in cc
+no_check rows none (Held list scans every grouped) h = let other = h.0 in cc
+no_check rows none (Groups list grouping) h = let other = h.0 in cc
+no_check rows none (Possible r) h = let other = h.0 in cc
+no_check rows none (Relevant list after grouping) h = let other = h.0 in cc
+no_check rows none (Show r) h = let other = h.0 in cc
+no_check rows none (Film r) h = let other = h.0 in cc
+no_check rows none (Sim r) h = let other = h.0 in cc
+no_check rows none (Watch r) h = let other = h.0 in cc
+no_check rows none (Waves r) h = let other = h.0 in cc
+no_check rows none (Uses file) h = let other = h.0 in cc
+no_check rows none (Never r) h = let other : 99 ≡ 110 = ap (λ (name : List ℕ). get_or name 0 0) h.0 in absurd (omega (arith, other))
+no_check rows none (Import opened control_on file hal) h = let other : 99 ≡ 105 = ap (λ (name : List ℕ). get_or name 0 0) h.0 in absurd (omega (arith, other))
+
+pub only_causes : (rows : List Row)
+    → ((list : ListRequest) (after upto : Option ℕ) → NamesCauses rows list after upto → ⊥)
+    → ((list : ListRequest) (scans every : ℕ) (grouped : Bool) → Asks (codes "causes") rows (Held list scans every grouped) → ⊥)
+    → ((list : ListRequest) (grouping : Grouping) → Asks (codes "causes") rows (Groups list grouping) → ⊥)
+    → ((r : PossibleRequest) → Asks (codes "causes") rows (Possible r) → ⊥)
+    → ((list : ListRequest) (after : Option ℕ) (grouping : Option Grouping) → Asks (codes "causes") rows (Relevant list after grouping) → ⊥)
+    → AsksNone (codes "causes") rows
+only_causes rows causes held groups possible relevant (Check file warns) h = let other = h.0 in cc
+only_causes rows causes held groups possible relevant (Causes list after upto) h = causes list after upto h.1
+only_causes rows causes held groups possible relevant (Progress list after upto) h = causes list after upto h.1
+only_causes rows causes held groups possible relevant (Held list scans every grouped) h = held list scans every grouped h
+only_causes rows causes held groups possible relevant (Groups list grouping) h = groups list grouping h
+only_causes rows causes held groups possible relevant (Possible r) h = possible r h
+only_causes rows causes held groups possible relevant (Relevant list after grouping) h = relevant list after grouping h
+only_causes rows causes held groups possible relevant (Show r) h = let other = h.0 in cc
+only_causes rows causes held groups possible relevant (Film r) h = let other = h.0 in cc
+only_causes rows causes held groups possible relevant (Sim r) h = let other = h.0 in cc
+only_causes rows causes held groups possible relevant (Watch r) h = let other = h.0 in cc
+only_causes rows causes held groups possible relevant (Waves r) h = let other = h.0 in cc
+only_causes rows causes held groups possible relevant (Uses file) h = let other = h.0 in cc
+only_causes rows causes held groups possible relevant (Never r) h = let other : 99 ≡ 110 = ap (λ (name : List ℕ). get_or name 0 0) h.0 in absurd (omega (arith, other))
+only_causes rows causes held groups possible relevant (Import opened control_on file hal) h = let other : 99 ≡ 105 = ap (λ (name : List ℕ). get_or name 0 0) h.0 in absurd (omega (arith, other))
+
+-- What some state switches on is asked for by a flag, and the other lists without it.
+only_possible : (rows : List Row) → HasFlag (codes "any") rows → ((r : PossibleRequest) → Asks (codes "causes") rows (Possible r) → ⊥)
+    → AsksNone (codes "causes") rows
+only_possible rows any none = only_causes rows (λ list after upto h. h.4.0 any) (λ list scans every grouped h. h.8.0 any) (λ list grouping h. h.10.0 any) none (λ list after grouping h. h.6.0 any)
+
+only_of_one_state : (rows : List Row) → IsOfOneState rows → (HasFlag (codes "relevant") rows → ⊥)
+    → ((list : ListRequest) (after upto : Option ℕ) → NamesCauses rows list after upto → ⊥)
+    → ((list : ListRequest) (scans every : ℕ) (grouped : Bool) → Asks (codes "causes") rows (Held list scans every grouped) → ⊥)
+    → ((list : ListRequest) (grouping : Grouping) → Asks (codes "causes") rows (Groups list grouping) → ⊥)
+    → AsksNone (codes "causes") rows
+only_of_one_state rows one_state named causes held groups = only_causes rows causes held groups (λ r h. one_state.0 h.1) (λ list after grouping h. named h.1)
+
+-- Which states are meant is said of any state alone.
+pub no_one_state : (rows : List Row) → (HasFlag (codes "any") rows → ⊥) → (NamesNoStates rows → ⊥) → AsksNone (codes "causes") rows
+no_one_state rows not_any none =
+    only_causes rows (λ list after upto h. none (h.4.1, h.4.2, h.4.3, h.4.4)) (λ list scans every grouped h. none (h.8.1, h.8.2, h.8.3, h.8.4))
+    (λ list grouping h. none (h.10.1, h.10.2, h.10.3, h.10.4)) (λ r h. not_any h.1)
+    (λ list after grouping h. none (h.6.1, h.6.2, h.6.3, h.6.4))
+
+pub only_show : (rows : List Row)
+    → ((r : ShowRequest) → Asks (codes "show") rows (Show r) → ⊥)
+    → ((r : FilmRequest) → Asks (codes "show") rows (Film r) → ⊥)
+    → AsksNone (codes "show") rows
+only_show rows show film (Check file warns) h = let other = h.0 in cc
+only_show rows show film (Causes list after upto) h = let other = h.0 in cc
+only_show rows show film (Progress list after upto) h = let other = h.0 in cc
+only_show rows show film (Held list scans every grouped) h = let other = h.0 in cc
+only_show rows show film (Groups list grouping) h = let other = h.0 in cc
+only_show rows show film (Possible r) h = let other = h.0 in cc
+only_show rows show film (Relevant list after grouping) h = let other = h.0 in cc
+only_show rows show film (Show r) h = show r h
+only_show rows show film (Film r) h = film r h
+only_show rows show film (Sim r) h = let other = h.0 in cc
+only_show rows show film (Watch r) h = let other = h.0 in cc
+only_show rows show film (Waves r) h = let other = h.0 in cc
+only_show rows show film (Uses file) h = let other : 115 ≡ 117 = ap (λ (name : List ℕ). get_or name 0 0) h.0 in absurd (omega (arith, other))
+only_show rows show film (Never r) h = let other : 115 ≡ 110 = ap (λ (name : List ℕ). get_or name 0 0) h.0 in absurd (omega (arith, other))
+only_show rows show film (Import opened control_on file hal) h = let other : 115 ≡ 105 = ap (λ (name : List ℕ). get_or name 0 0) h.0 in absurd (omega (arith, other))
+
+pub only_sim : (rows : List Row)
+    → ((r : SimRequest) → Asks (codes "sim") rows (Sim r) → ⊥)
+    → ((r : WatchRequest) → Asks (codes "sim") rows (Watch r) → ⊥)
+    → ((r : WavesRequest) → Asks (codes "sim") rows (Waves r) → ⊥)
+    → AsksNone (codes "sim") rows
+only_sim rows sim watch waves (Check file warns) h = let other = h.0 in cc
+only_sim rows sim watch waves (Causes list after upto) h = let other = h.0 in cc
+only_sim rows sim watch waves (Progress list after upto) h = let other = h.0 in cc
+only_sim rows sim watch waves (Held list scans every grouped) h = let other = h.0 in cc
+only_sim rows sim watch waves (Groups list grouping) h = let other = h.0 in cc
+only_sim rows sim watch waves (Possible r) h = let other = h.0 in cc
+only_sim rows sim watch waves (Relevant list after grouping) h = let other = h.0 in cc
+only_sim rows sim watch waves (Show r) h = let other = h.0 in cc
+only_sim rows sim watch waves (Film r) h = let other = h.0 in cc
+only_sim rows sim watch waves (Sim r) h = sim r h
+only_sim rows sim watch waves (Watch r) h = watch r h
+only_sim rows sim watch waves (Waves r) h = waves r h
+only_sim rows sim watch waves (Uses file) h = let other : 115 ≡ 117 = ap (λ (name : List ℕ). get_or name 0 0) h.0 in absurd (omega (arith, other))
+only_sim rows sim watch waves (Never r) h = let other : 115 ≡ 110 = ap (λ (name : List ℕ). get_or name 0 0) h.0 in absurd (omega (arith, other))
+only_sim rows sim watch waves (Import opened control_on file hal) h = let other : 115 ≡ 105 = ap (λ (name : List ℕ). get_or name 0 0) h.0 in absurd (omega (arith, other))
+
+pub no_uses : (rows : List Row) → first_of (codes "file") rows ≡ None → AsksNone (codes "uses") rows
+no_uses rows none (Check file warns) h = let other = h.0 in cc
+no_uses rows none (Causes list after upto) h = let other = h.0 in cc
+no_uses rows none (Progress list after upto) h = let other = h.0 in cc
+no_uses rows none (Held list scans every grouped) h = let other = h.0 in cc
+no_uses rows none (Groups list grouping) h = let other = h.0 in cc
+no_uses rows none (Possible r) h = let other = h.0 in cc
+no_uses rows none (Relevant list after grouping) h = let other = h.0 in cc
+no_uses rows none (Show r) h = let other : 117 ≡ 115 = ap (λ (name : List ℕ). get_or name 0 0) h.0 in absurd (omega (arith, other))
+no_uses rows none (Film r) h = let other : 117 ≡ 115 = ap (λ (name : List ℕ). get_or name 0 0) h.0 in absurd (omega (arith, other))
+no_uses rows none (Sim r) h = let other : 117 ≡ 115 = ap (λ (name : List ℕ). get_or name 0 0) h.0 in absurd (omega (arith, other))
+no_uses rows none (Watch r) h = let other : 117 ≡ 115 = ap (λ (name : List ℕ). get_or name 0 0) h.0 in absurd (omega (arith, other))
+no_uses rows none (Waves r) h = let other : 117 ≡ 115 = ap (λ (name : List ℕ). get_or name 0 0) h.0 in absurd (omega (arith, other))
+no_uses rows none (Uses file) h = let some = h.1 in cc
+no_uses rows none (Never r) h = let other : 117 ≡ 110 = ap (λ (name : List ℕ). get_or name 0 0) h.0 in absurd (omega (arith, other))
+no_uses rows none (Import opened control_on file hal) h = let other : 117 ≡ 105 = ap (λ (name : List ℕ). get_or name 0 0) h.0 in absurd (omega (arith, other))
+
+only_import : (rows : List Row)
+    → ((opened control_on : Bool) (file : String Global) (hal : Option (String Global)) → Asks (codes "import") rows (Import opened control_on file hal) → ⊥)
+    → AsksNone (codes "import") rows
+only_import rows import (Check file warns) h = let other : 105 ≡ 99 = name_differs h.0 in absurd (omega (arith, other))
+only_import rows import (Causes list after upto) h = let other : 105 ≡ 99 = name_differs h.0 in absurd (omega (arith, other))
+only_import rows import (Progress list after upto) h = let other : 105 ≡ 99 = name_differs h.0 in absurd (omega (arith, other))
+only_import rows import (Held list scans every grouped) h = let other : 105 ≡ 99 = name_differs h.0 in absurd (omega (arith, other))
+only_import rows import (Groups list grouping) h = let other : 105 ≡ 99 = name_differs h.0 in absurd (omega (arith, other))
+only_import rows import (Possible r) h = let other : 105 ≡ 99 = name_differs h.0 in absurd (omega (arith, other))
+only_import rows import (Relevant list after grouping) h = let other : 105 ≡ 99 = name_differs h.0 in absurd (omega (arith, other))
+only_import rows import (Show r) h = let other : 105 ≡ 115 = name_differs h.0 in absurd (omega (arith, other))
+only_import rows import (Film r) h = let other : 105 ≡ 115 = name_differs h.0 in absurd (omega (arith, other))
+only_import rows import (Sim r) h = let other : 105 ≡ 115 = name_differs h.0 in absurd (omega (arith, other))
+only_import rows import (Watch r) h = let other : 105 ≡ 115 = name_differs h.0 in absurd (omega (arith, other))
+only_import rows import (Waves r) h = let other : 105 ≡ 115 = name_differs h.0 in absurd (omega (arith, other))
+only_import rows import (Uses file) h = let other : 105 ≡ 117 = name_differs h.0 in absurd (omega (arith, other))
+only_import rows import (Never r) h = let other : 105 ≡ 110 = name_differs h.0 in absurd (omega (arith, other))
+only_import rows import (Import opened control_on file hal) h = import opened control_on file hal h
+
+pub no_import : (rows : List Row) → first_of (codes "file") rows ≡ None → AsksNone (codes "import") rows
+no_import rows none = only_import rows (λ opened control_on file hal h. let some = h.3 in cc)
+
+pub no_control : (rows : List Row) → ((on : Bool) → HasControl on rows → ⊥) → AsksNone (codes "import") rows
+no_control rows none = only_import rows (λ opened control_on file hal h. none control_on h.2)
+
+-- a word that isn't the one of the option
+pub no_control_of : (rows : List Row) (text : Text) → first_of (codes "control") rows ≡ Some text → (text ≡ codes "on" → ⊥) → (on : Bool) → HasControl on rows → ⊥
+no_control_of rows text is other true h = let given : text ≡ codes "on" = let both = sym is ∙ h in cc in other given
+no_control_of rows text is other false h = let bad = sym is ∙ h in cc
+
+pub only_never : (rows : List Row)
+    → ((r : NeverRequest) → Asks (codes "never") rows (Never r) → ⊥)
+    → AsksNone (codes "never") rows
+only_never rows never (Check file warns) h = let other : 110 ≡ 99 = ap (λ (name : List ℕ). get_or name 0 0) h.0 in absurd (omega (arith, other))
+only_never rows never (Causes list after upto) h = let other : 110 ≡ 99 = ap (λ (name : List ℕ). get_or name 0 0) h.0 in absurd (omega (arith, other))
+only_never rows never (Progress list after upto) h = let other : 110 ≡ 99 = ap (λ (name : List ℕ). get_or name 0 0) h.0 in absurd (omega (arith, other))
+only_never rows never (Held list scans every grouped) h = let other : 110 ≡ 99 = ap (λ (name : List ℕ). get_or name 0 0) h.0 in absurd (omega (arith, other))
+only_never rows never (Groups list grouping) h = let other : 110 ≡ 99 = ap (λ (name : List ℕ). get_or name 0 0) h.0 in absurd (omega (arith, other))
+only_never rows never (Possible r) h = let other : 110 ≡ 99 = ap (λ (name : List ℕ). get_or name 0 0) h.0 in absurd (omega (arith, other))
+only_never rows never (Relevant list after grouping) h = let other : 110 ≡ 99 = ap (λ (name : List ℕ). get_or name 0 0) h.0 in absurd (omega (arith, other))
+only_never rows never (Show r) h = let other : 110 ≡ 115 = ap (λ (name : List ℕ). get_or name 0 0) h.0 in absurd (omega (arith, other))
+only_never rows never (Film r) h = let other : 110 ≡ 115 = ap (λ (name : List ℕ). get_or name 0 0) h.0 in absurd (omega (arith, other))
+only_never rows never (Sim r) h = let other : 110 ≡ 115 = ap (λ (name : List ℕ). get_or name 0 0) h.0 in absurd (omega (arith, other))
+only_never rows never (Watch r) h = let other : 110 ≡ 115 = ap (λ (name : List ℕ). get_or name 0 0) h.0 in absurd (omega (arith, other))
+only_never rows never (Waves r) h = let other : 110 ≡ 115 = ap (λ (name : List ℕ). get_or name 0 0) h.0 in absurd (omega (arith, other))
+only_never rows never (Uses file) h = let other : 110 ≡ 117 = ap (λ (name : List ℕ). get_or name 0 0) h.0 in absurd (omega (arith, other))
+only_never rows never (Never r) h = never r h
+only_never rows never (Import opened control_on file hal) h = let other : 110 ≡ 105 = ap (λ (name : List ℕ). get_or name 0 0) h.0 in absurd (omega (arith, other))
+
+lasts : (rows : List Row) (scans every : ℕ) → HasScans scans every rows → (o : Option Lasting) × MayLast o rows
+lasts rows scans every (inl h) = (Some (Count scans), h)
+lasts rows scans every (inr h) = (Some (Until h.1.0), (h.0, h.1.1))
+
+-- one scan, or several
+pub no_lasting : (rows : List Row) → IsOfOneState rows → (HasFlag (codes "relevant") rows → ⊥) → ((o : Option Lasting) → MayLast o rows → ⊥) → AsksNone (codes "causes") rows
+no_lasting rows one_state named none =
+    only_of_one_state rows one_state named (λ list after upto h. none None (h.1.0, h.1.1)) (λ list scans every grouped h. let l = lasts rows scans every h.4 in none l.0 l.1)
+    (λ list grouping h. none None (h.4, h.5))
+
+not_several : (rows : List Row) (scans every : ℕ) → MayLast None rows → HasScans scans every rows → ⊥
+not_several rows scans every none (inl h) = let some = h.0.1 in let no = none.0 in cc
+not_several rows scans every none (inr h) = let some = h.1.1.1 in let no = none.1 in cc
+
+-- Without groups a list of one scan has a row for each cause, and no form and order of groups.
+pub no_list_of_grouping : (rows : List Row) → IsOfOneState rows → (HasFlag (codes "relevant") rows → ⊥) → (HasFlag (codes "grouped") rows → ⊥) → MayLast None rows
+    → (HasForm Table rows → HasOrder Given rows → ⊥) → AsksNone (codes "causes") rows
+no_list_of_grouping rows one_state named single one none =
+    only_of_one_state rows one_state named (λ list after upto h. none h.0.1 h.0.2) (λ list scans every grouped h. not_several rows scans every one h.4) (λ list grouping h. single h.1)
+
+-- One scan has none that follows.
+pub no_list_of_every : (rows : List Row) → IsOfOneState rows → (HasFlag (codes "relevant") rows → ⊥) → (HasFlag (codes "grouped") rows → ⊥) → MayLast None rows → (HasNumber (codes "every") rows None → ⊥)
+    → AsksNone (codes "causes") rows
+no_list_of_every rows one_state named single one none =
+    only_of_one_state rows one_state named (λ list after upto h. none h.1.2) (λ list scans every grouped h. not_several rows scans every one h.4) (λ list grouping h. single h.1)
+
+pub no_list_of_start : (rows : List Row) → IsOfOneState rows → (HasFlag (codes "relevant") rows → ⊥) → ((o : Option ℕ) → HasNumber (codes "after") rows o → ⊥) → AsksNone (codes "causes") rows
+no_list_of_start rows one_state named none =
+    only_of_one_state rows one_state named (λ list after upto h. none after h.2) (λ list scans every grouped h. none None h.6) (λ list grouping h. none None h.7)
+
+pub no_list_of_end : (rows : List Row) → IsOfOneState rows → (HasFlag (codes "relevant") rows → ⊥) → ((o : Option ℕ) → HasNumber (codes "upto") rows o → ⊥) → AsksNone (codes "causes") rows
+no_list_of_end rows one_state named none =
+    only_of_one_state rows one_state named (λ list after upto h. none upto h.6) (λ list scans every grouped h. none None h.10) (λ list grouping h. none None h.12)
+
+pub no_causes_of_list : (rows : List Row) → IsOfOneState rows → (HasFlag (codes "relevant") rows → ⊥) → ((l : ListRequest) → NamesList rows l → ⊥) → AsksNone (codes "causes") rows
+no_causes_of_list rows one_state named none =
+    only_of_one_state rows one_state named (λ list after upto h. none list h.3) (λ list scans every grouped h. none list h.7) (λ list grouping h. none list h.9)
+
+given_at_all : (rows : List Row) (l : Lasting) → HasLasting l rows → HasNumber (codes "scans") rows None → HasNumber (codes "for") rows None → ⊥
+given_at_all rows (Count n) h none no_time = let given = h.0.1 in cc
+given_at_all rows (Until time) h none no_time = let given = h.1.1 in cc
+
+-- several scans, whose list begins after no number, ends at none and tells none that it is at
+pub no_held_of_part : (rows : List Row) → IsOfOneState rows → (HasFlag (codes "relevant") rows → ⊥) → (l : Lasting) → HasLasting l rows → (IsUncut rows → ⊥) → AsksNone (codes "causes") rows
+no_held_of_part rows one_state named l some none =
+    only_of_one_state rows one_state named (λ list after upto h. given_at_all rows l some h.1.0 h.1.1) (λ list scans every grouped h. none (h.6, (h.10, h.11)))
+    (λ list grouping h. none (h.7, (h.12, h.13)))
+
+-- Their groups have one form, and the inputs the order in which they are listed.
+pub no_held_of_grouping : (rows : List Row) → IsOfOneState rows → (HasFlag (codes "relevant") rows → ⊥) → (l : Lasting) → HasLasting l rows → (HasForm Table rows → HasOrder Given rows → ⊥) → AsksNone (codes "causes") rows
+no_held_of_grouping rows one_state named l some none =
+    only_of_one_state rows one_state named (λ list after upto h. given_at_all rows l some h.1.0 h.1.1) (λ list scans every grouped h. none h.2 h.3)
+    (λ list grouping h. given_at_all rows l some h.4 h.5)
+
+pub no_every : (rows : List Row) → ((o : Option ℕ) → HasNumber (codes "every") rows o → ⊥) → (every : ℕ) → HasEvery every rows → ⊥
+no_every rows none every (inl h) = none (Some every) h
+no_every rows none every (inr h) = none None h.0
+
+-- The period is asked for beside several scans alone.
+pub no_held_of_every : (rows : List Row) → IsOfOneState rows → (HasFlag (codes "relevant") rows → ⊥) → (l : Lasting) → HasLasting l rows → ((every : ℕ) → HasEvery every rows → ⊥) → AsksNone (codes "causes") rows
+no_held_of_every rows one_state named l some none =
+    only_of_one_state rows one_state named (λ list after upto h. given_at_all rows l some h.1.0 h.1.1) (λ list scans every grouped h. none every h.5)
+    (λ list grouping h. given_at_all rows l some h.4 h.5)
+
+pub no_groups_of_scan : (rows : List Row) → IsOfOneState rows → (HasFlag (codes "relevant") rows → ⊥) → HasFlag (codes "grouped") rows → MayLast None rows → (IsOfOneScan rows → ⊥) → AsksNone (codes "causes") rows
+no_groups_of_scan rows one_state named grouped one none =
+    only_of_one_state rows one_state named (λ list after upto h. h.0.0 grouped) (λ list scans every held h. not_several rows scans every one h.4)
+    (λ list grouping h. none (h.4, h.5, h.6, (h.7, (h.12, h.13))))
+
+is_whole : (rows : List Row) (form : GroupFormat) (limit : Option ℕ) → MayHaveLimit form limit → HasNumber (codes "limit") rows limit → IsWhole form rows
+is_whole rows Table limit may h = tt
+is_whole rows Terms limit may h = tt
+is_whole rows Statement None may h = h
+is_whole rows Statement (Some n) may h = cc
+
+pub no_groups_of_grouping : (rows : List Row) → IsOfOneState rows → (HasFlag (codes "relevant") rows → ⊥) → HasFlag (codes "grouped") rows → MayLast None rows → ((g : Grouping) → HasGrouping rows g → ⊥)
+    → AsksNone (codes "causes") rows
+no_groups_of_grouping rows one_state named grouped one none =
+    only_of_one_state rows one_state named (λ list after upto h. h.0.0 grouped) (λ list scans every held h. not_several rows scans every one h.4)
+    (λ list grouping h. none grouping (h.2, h.3, is_whole rows grouping.form list.limit h.8 h.9.2))
+
+-- what some state switches on
+pub no_possible_of_bound : (rows : List Row) → HasFlag (codes "any") rows → (IsOfAnyState rows → ⊥) → AsksNone (codes "causes") rows
+no_possible_of_bound rows any none = only_possible rows any (λ r h. none (h.4, h.5, (h.9, h.10, h.11, (h.12, (h.21, h.22))), h.18))
+
+pub no_possible_of_grouping : (rows : List Row) → HasFlag (codes "any") rows → (HasForm Table rows → HasOrder Given rows → ⊥) → AsksNone (codes "causes") rows
+no_possible_of_grouping rows any none = only_possible rows any (λ r h. none h.7 h.8)
+
+pub no_possible_of_looks : (rows : List Row) → HasFlag (codes "any") rows → ((o : Option ℕ) → HasNumber (codes "looks") rows o → ⊥) → AsksNone (codes "causes") rows
+no_possible_of_looks rows any none = only_possible rows any (λ r h. none r.looks h.20)
+
+pub no_possible_of_list : (rows : List Row) → HasFlag (codes "any") rows → ((l : ListRequest) → NamesList rows l → ⊥) → AsksNone (codes "causes") rows
+no_possible_of_list rows any none =
+    only_possible rows any
+    (λ r h.
+    none
+    (record { state = None; moment = None; limit = r.limit; quiet = r.quiet; file = r.file; coil = r.coil; all_inputs = r.all_inputs; inputs = r.inputs })
+    (h.4, h.5, h.13, h.14, h.15, h.16, h.17))
+
+-- the inputs that matter
+only_relevant : (rows : List Row) → HasFlag (codes "relevant") rows
+    → ((list : ListRequest) (after : Option ℕ) (grouping : Option Grouping) → Asks (codes "causes") rows (Relevant list after grouping) → ⊥)
+    → AsksNone (codes "causes") rows
+only_relevant rows flag none = only_causes rows (λ list after upto h. h.5 flag) (λ list scans every grouped h. h.9 flag) (λ list grouping h. h.11 flag) (λ r h. h.18 flag) none
+
+pub no_relevant_of_inputs : (rows : List Row) → HasFlag (codes "relevant") rows → (HasInputs rows false [] → ⊥) → AsksNone (codes "causes") rows
+no_relevant_of_inputs rows flag none = only_relevant rows flag (λ list after grouping h. none h.2)
+
+pub no_relevant_of_scans : (rows : List Row) → HasFlag (codes "relevant") rows → (IsSingle rows → ⊥) → AsksNone (codes "causes") rows
+no_relevant_of_scans rows flag none = only_relevant rows flag (λ list after grouping h. none h.3)
+
+pub no_relevant_of_end : (rows : List Row) → HasFlag (codes "relevant") rows → (NamesNoEnd rows → ⊥) → AsksNone (codes "causes") rows
+no_relevant_of_end rows flag none = only_relevant rows flag (λ list after grouping h. none (h.7, h.8))
+
+pub no_relevant_of_list : (rows : List Row) → HasFlag (codes "relevant") rows → ((l : ListRequest) → NamesList rows l → ⊥) → AsksNone (codes "causes") rows
+no_relevant_of_list rows flag none = only_relevant rows flag (λ list after grouping h. none list h.5)
+
+without_groups : (rows : List Row) → (HasFlag (codes "grouped") rows → ⊥) → (P : Type 0) → (limit after : Option ℕ) (grouping : Option Grouping) → MayGroup rows limit after grouping
+    → (IsTable rows → HasNumber (codes "after") rows after → P) → P
+without_groups rows single P limit after None h k = k h.0 h.1
+without_groups rows single P limit after (Some g) h k = absurd (single h.0)
+
+with_groups : (rows : List Row) → HasFlag (codes "grouped") rows → (P : Type 0) → (limit after : Option ℕ) (grouping : Option Grouping) → MayGroup rows limit after grouping
+    → ((g : Grouping) → HasForm g.form rows → HasOrder g.order rows → HasNumber (codes "after") rows None → MayHaveLimit g.form limit → P) → P
+with_groups rows grouped P limit after None h k = absurd (h.0.0 grouped)
+with_groups rows grouped P limit after (Some g) h k = k g h.1 h.2 (subst (λ (o : Option ℕ). HasNumber (codes "after") rows o) h.3 h.4) h.5
+
+pub no_relevant_of_grouping : (rows : List Row) → HasFlag (codes "relevant") rows → (HasFlag (codes "grouped") rows → ⊥) → (HasForm Table rows → HasOrder Given rows → ⊥)
+    → AsksNone (codes "causes") rows
+no_relevant_of_grouping rows flag single none =
+    only_relevant rows flag (λ list after grouping h. without_groups rows single ⊥ list.limit after grouping h.4 (λ table start. none table.1 table.2))
+
+pub no_relevant_of_start : (rows : List Row) → HasFlag (codes "relevant") rows → (HasFlag (codes "grouped") rows → ⊥) → ((o : Option ℕ) → HasNumber (codes "after") rows o → ⊥)
+    → AsksNone (codes "causes") rows
+no_relevant_of_start rows flag single none =
+    only_relevant rows flag (λ list after grouping h. without_groups rows single ⊥ list.limit after grouping h.4 (λ table start. none after start))
+
+pub no_relevant_groups_of_start : (rows : List Row) → HasFlag (codes "relevant") rows → HasFlag (codes "grouped") rows → (HasNumber (codes "after") rows None → ⊥)
+    → AsksNone (codes "causes") rows
+no_relevant_groups_of_start rows flag grouped none =
+    only_relevant rows flag (λ list after grouping h. with_groups rows grouped ⊥ list.limit after grouping h.4 (λ g form order start limit. none start))
+
+pub no_relevant_groups_of_grouping : (rows : List Row) → HasFlag (codes "relevant") rows → HasFlag (codes "grouped") rows → ((g : Grouping) → HasGrouping rows g → ⊥)
+    → AsksNone (codes "causes") rows
+no_relevant_groups_of_grouping rows flag grouped none =
+    only_relevant rows flag
+    (λ list after grouping h.
+    with_groups rows grouped ⊥ list.limit after grouping h.4 (λ g form order start limit. none g (form, order, is_whole rows g.form list.limit limit h.5.2)))
+
+-- One form is asked for.
+one_form : (rows : List Row) (a b : GroupFormat) → HasForm a rows → HasForm b rows → a ≡ b
+one_form rows Table Table h k = refl
+one_form rows Table Terms h k = absurd (h.0 k.0)
+one_form rows Table Statement h k = absurd (h.1 k.1)
+one_form rows Terms Table h k = absurd (k.0 h.0)
+one_form rows Terms Terms h k = refl
+one_form rows Terms Statement h k = absurd (k.0 h.0)
+one_form rows Statement Table h k = absurd (k.1 h.1)
+one_form rows Statement Terms h k = absurd (h.0 k.0)
+one_form rows Statement Statement h k = refl
+
+pub no_grouping_of_cut : (rows : List Row) (form : GroupFormat) → HasForm form rows → (IsWhole form rows → ⊥) → (g : Grouping) → HasGrouping rows g → ⊥
+no_grouping_of_cut rows form has cut g h = let same = one_form rows g.form form h.0 has in cut (rw same at h.2)
+
+pub not_sifted : (rows : List Row) → HasOrder Sifted rows → HasOrder Given rows → ⊥
+not_sifted rows (inl h) given = let other = h.1 in cc
+not_sifted rows (inr h) (inl g) = let some = h.1 in let none = g.0 in cc
+not_sifted rows (inr h) (inr g) =
+    let same : h.0 ≡ g.0 = let some = h.1 in let other = g.1 in cc in
+    let other : 97 ≡ 103 = ap (λ (name : List ℕ). get_or name 0 0) (sym h.2 ∙ same ∙ g.2) in
+    absurd (omega (arith, other))
+
+-- several scans, by their number or by a time
+pub no_lasting_of_scans : (rows : List Row) → ((o : Option ℕ) → HasNumber (codes "scans") rows o → ⊥) → (l : Option Lasting) → MayLast l rows → ⊥
+no_lasting_of_scans rows none None h = none None h.0
+no_lasting_of_scans rows none (Some (Count n)) h = none (Some n) h.0
+no_lasting_of_scans rows none (Some (Until time)) h = none None h.0
+
+pub no_lasting_of_time : (rows : List Row) → ((o : Option ℕ) → HasNumber (codes "for") rows o → ⊥) → (l : Option Lasting) → MayLast l rows → ⊥
+no_lasting_of_time rows none None h = none None h.1
+no_lasting_of_time rows none (Some (Count n)) h = none None h.1
+no_lasting_of_time rows none (Some (Until time)) h = none (Some time) h.1
+
+-- the parts of a list of causes
+pub no_list_of_limit : (rows : List Row) → ((o : Option ℕ) → HasNumber (codes "limit") rows o → ⊥) → (l : ListRequest) → NamesList rows l → ⊥
+no_list_of_limit rows none l h = none l.limit h.2
+
+pub no_list_of_coil : (rows : List Row) → ((name : Text) → HasCoil rows name → ⊥) → (l : ListRequest) → NamesList rows l → ⊥
+no_list_of_coil rows none l h = none (string_bytes l.coil) h.5
+
+pub no_list_of_scan : (rows : List Row) → ((s : NamedScan) → NamesScan rows s → ⊥) → (l : ListRequest) → NamesList rows l → ⊥
+no_list_of_scan rows none l h =
+    none (record { state = l.state; moment = l.moment; file = l.file; all_inputs = l.all_inputs; inputs = l.inputs }) (h.0, h.1, h.4, h.6)
+
+-- a drawing of one scan
+pub no_scan_of_number : (rows : List Row) → HasOption (codes "stimulus") rows None → ((o : Option ℕ) → HasNumber (codes "number") rows o → ⊥) → AsksNone (codes "show") rows
+no_scan_of_number rows one none = only_show rows (λ r h. none r.number h.4) (λ r h. let some = h.1 in cc)
+
+pub no_scan_of_scan : (rows : List Row) → HasOption (codes "stimulus") rows None → ((s : NamedScan) → NamesScan rows s → ⊥) → AsksNone (codes "show") rows
+no_scan_of_scan rows one none =
+    only_show rows
+    (λ r h. none (record { state = r.state; moment = r.moment; file = r.file; all_inputs = r.all_inputs; inputs = r.inputs }) (h.2, h.3, h.7, h.8))
+    (λ r h. let some = h.1 in cc)
+
+-- the drawings of a stimulus
+pub no_film_of_scan : (rows : List Row) → (HasOption (codes "stimulus") rows None → ⊥) → (IsOfRecords rows → ⊥) → AsksNone (codes "show") rows
+no_film_of_scan rows some none = only_show rows (λ r h. some h.1) (λ r h. none (h.2, h.3, h.4))
+
+pub no_film_of_waves : (rows : List Row) → (HasOption (codes "stimulus") rows None → ⊥) → ((w : Played) → Plays rows w → ⊥) → AsksNone (codes "show") rows
+no_film_of_waves rows some none =
+    only_show rows (λ r h. some h.1) (λ r h. none (record { state = r.state; file = r.file; stimulus = r.stimulus }) (h.5, h.8, h.1))
+
+-- the trace of a stimulus, and what is watched besides
+pub no_trace : (rows : List Row) → (HasFlag (codes "vcd") rows → ⊥) → HasWatched rows false [] → ((r : SimRequest) → NamesTrace rows r → ⊥) → AsksNone (codes "sim") rows
+no_trace rows vcd nothing none = only_sim rows (λ r h. none r h.3) (λ r h. h.2 nothing) (λ r h. vcd h.1)
+
+pub no_watch : (rows : List Row) → (HasFlag (codes "vcd") rows → ⊥) → (HasWatched rows false [] → ⊥) → ((r : SimRequest) → NamesTrace rows r → ⊥) → AsksNone (codes "sim") rows
+no_watch rows vcd some none = only_sim rows (λ r h. some h.2) (λ r h. none r.sim h.4) (λ r h. vcd h.1)
+
+pub no_watch_of_names : (rows : List Row) → (HasFlag (codes "vcd") rows → ⊥) → (HasWatched rows false [] → ⊥) → ((all : Bool) (names : List Text) → HasWatched rows all names → ⊥)
+    → AsksNone (codes "sim") rows
+no_watch_of_names rows vcd some none = only_sim rows (λ r h. some h.2) (λ r h. none r.all (map string_bytes r.names.items) h.3) (λ r h. vcd h.1)
+
+-- The time between two scans is a number.
+pub no_trace_of_every : (rows : List Row) → ((o : Option ℕ) → HasNumber (codes "every") rows o → ⊥) → (r : SimRequest) → NamesTrace rows r → ⊥
+no_trace_of_every rows none r h = none r.every h.2
+
+pub no_trace_of_played : (rows : List Row) → ((w : Played) → Plays rows w → ⊥) → (r : SimRequest) → NamesTrace rows r → ⊥
+no_trace_of_played rows none r h = none (record { state = r.state; file = r.file; stimulus = r.stimulus }) (h.0, h.3, h.4)
+
+-- the waveform of a stimulus
+pub no_waves_of_played : (rows : List Row) → HasFlag (codes "vcd") rows → ((w : Played) → Plays rows w → ⊥) → AsksNone (codes "sim") rows
+no_waves_of_played rows vcd none =
+    only_sim rows (λ r h. h.1 vcd) (λ r h. h.1 vcd) (λ r h. none (record { state = r.state; file = r.file; stimulus = r.stimulus }) (h.3, h.5, h.6))
+
+pub no_waves_of_every : (rows : List Row) → HasFlag (codes "vcd") rows → ((o : Option ℕ) → HasNumber (codes "every") rows o → ⊥) → AsksNone (codes "sim") rows
+no_waves_of_every rows vcd none = only_sim rows (λ r h. h.1 vcd) (λ r h. h.1 vcd) (λ r h. none r.every h.4)
+
+-- A state is saved beside a trace.
+pub no_waves_of_save : (rows : List Row) → HasFlag (codes "vcd") rows → (HasOption (codes "save") rows None → ⊥) → AsksNone (codes "sim") rows
+no_waves_of_save rows vcd none = only_sim rows (λ r h. h.1 vcd) (λ r h. h.1 vcd) (λ r h. none h.2)
+
+-- So is what is watched.
+pub no_waves_of_watched : (rows : List Row) → HasFlag (codes "vcd") rows → (HasWatched rows false [] → ⊥) → AsksNone (codes "sim") rows
+no_waves_of_watched rows vcd none = only_sim rows (λ r h. h.1 vcd) (λ r h. h.1 vcd) (λ r h. none h.7)
+
+-- what is read of a file that is not named
+pub no_excluded : (rows : List Row) → ((e : Excluded) → HasExcluded e rows → ⊥) → AsksNone (codes "never") rows
+no_excluded rows none = only_never rows (λ r h. none r.excluded h.2)
+
+pub no_never : (rows : List Row) → first_of (codes "file") rows ≡ None → AsksNone (codes "never") rows
+no_never rows none = only_never rows (λ r h. let some = h.3 in cc)
+
+-- the values of an option that was not given
+no_first : (vs : List Text) → slice_get vs 0 ≡ None → vs ≡ []
+no_first [] none = refl
+no_first (v ∷ vs) none = cc
+
+pub no_values : (id : Text) (rows : List Row) → first_of id rows ≡ None → unwrap_or (all_of id rows) [] ≡ []
+no_values id rows none = go (find (λ r. bytes_eq r.id id) rows) none
+  where
+    go : (o : Option Row) → option_and_then (λ (r : Row). slice_get r.values 0) o ≡ None → unwrap_or (option_map (λ (r : Row). r.values) o) [] ≡ []
+    go None e = refl
+    go (Some r) e = no_first r.values e
+
+pub no_value : (id : Text) (rows : List Row) → unwrap_or (all_of id rows) [] ≡ [] → first_of id rows ≡ None
+no_value id rows none = go (find (λ r. bytes_eq r.id id) rows) none
+  where
+    go : (o : Option Row) → unwrap_or (option_map (λ (r : Row). r.values) o) [] ≡ [] → option_and_then (λ (r : Row). slice_get r.values 0) o ≡ None
+    go None e = refl
+    go (Some r) e = ap (λ (vs : List Text). slice_get vs 0) e
+
+-- The names of the inputs, where one coil is meant and where each is.
+pub inputs_of_one : (rows : List Row) → first_of (codes "all-coils") rows ≡ None → input_texts rows ≡ unwrap_or (all_of (codes "inputs") rows) []
+inputs_of_one rows one = ap (λ (o : Option Text). inputs_for (is_some o) rows) one
+
+pub inputs_of_all : (rows : List Row) → (first_of (codes "all-coils") rows ≡ None → ⊥)
+    → input_texts rows ≡ unwrap_or (all_of (codes "coil") rows) [] ++ unwrap_or (all_of (codes "inputs") rows) []
+inputs_of_all rows each = go (first_of (codes "all-coils") rows) each
+  where
+    go : (o : Option Text) → (o ≡ None → ⊥) → inputs_for (is_some o) rows ≡ unwrap_or (all_of (codes "coil") rows) [] ++ unwrap_or (all_of (codes "inputs") rows) []
+    go None some = absurd (some refl)
+    go (Some folder) some = refl
+
+no_left : (xs ys : List Text) → xs ++ ys ≡ [] → xs ≡ []
+no_left [] ys none = refl
+no_left (x ∷ xs) ys none = cc
+
+no_right : (xs ys : List Text) → xs ++ ys ≡ [] → ys ≡ []
+no_right [] ys none = none
+no_right (x ∷ xs) ys none = cc
+
+-- No input is named.
+pub none_named : (rows : List Row) → first_of (codes "inputs") rows ≡ None → first_of (codes "all-coils") rows ≡ None → input_texts rows ≡ []
+none_named rows none one = inputs_of_one rows one ∙ no_values (codes "inputs") rows none
+
+pub none_named_first : (rows : List Row) → first_of (codes "inputs") rows ≡ None → first_of (codes "coil") rows ≡ None → input_texts rows ≡ []
+none_named_first rows none first = go (is_some (first_of (codes "all-coils") rows))
+  where
+    go : (b : Bool) → inputs_for b rows ≡ []
+    go true = ap₂ (λ (xs ys : List Text). xs ++ ys) (no_values (codes "coil") rows first) (no_values (codes "inputs") rows none)
+    go false = no_values (codes "inputs") rows none
+
+-- An input is named.
+pub some_named : (rows : List Row) → (first_of (codes "inputs") rows ≡ None → ⊥) → input_texts rows ≡ [] → ⊥
+some_named rows some = go (is_some (first_of (codes "all-coils") rows))
+  where
+    go : (b : Bool) → inputs_for b rows ≡ [] → ⊥
+    go true none = some (no_value (codes "inputs") rows (no_right _ _ none))
+    go false none = some (no_value (codes "inputs") rows none)
+
+pub some_named_first : (rows : List Row) → (first_of (codes "all-coils") rows ≡ None → ⊥) → (first_of (codes "coil") rows ≡ None → ⊥) → input_texts rows ≡ [] → ⊥
+some_named_first rows each some none = some (no_value (codes "coil") rows (no_left _ _ (sym (inputs_of_all rows each) ∙ none)))
+
+-- No inputs are listed.
+pub lists_none : (rows : List Row) (all : Bool) → HasSwitch (codes "all-inputs") rows all → all ≡ false → input_texts rows ≡ [] → HasInputs rows false []
+lists_none rows true flag named none = cc
+lists_none rows false flag named none = record { flag = flag; named = none; either = λ (same : false ≡ true). refl }
+
+pub lists_all : (rows : List Row) (all : Bool) → HasSwitch (codes "all-inputs") rows all → all ≡ true → HasInputs rows false [] → ⊥
+lists_all rows true flag set h = h.flag flag
+lists_all rows false flag set h = cc
+
+-- Nothing is watched.
+pub watches_none : (rows : List Row) (all : Bool) → HasSwitch (codes "watch-all") rows all → all ≡ false → first_of (codes "watch") rows ≡ None → HasWatched rows false []
+watches_none rows true flag named none = cc
+watches_none rows false flag named none = record { flag = flag; named = no_values (codes "watch") rows none; either = λ (same : false ≡ true). refl }
+
+pub watches_all : (rows : List Row) (all : Bool) → HasSwitch (codes "watch-all") rows all → all ≡ true → HasWatched rows false [] → ⊥
+watches_all rows true flag set h = h.flag flag
+watches_all rows false flag set h = cc

@@ -1,0 +1,76 @@
+-- What is read of the parts of a request.
+use Rattle.std.specs.Prelude.{⊤, false, List, Option, None, Some, map, codes, string_bytes, option_map, []}
+use Rattle.clap.specs.Words.{Row}
+use Rattle.cli_arguments.specs.Asking.{HasFlag, HasForm, HasInputs, HasLasting, HasNumber, HasOption, HasOrder, HasText}
+use Rattle.cli_arguments.specs.declared.lasting.Lasting.{Lasting}
+use Rattle.cli_arguments.specs.declared.parts.NamedScan.{NamedScan}
+use Rattle.cli_arguments.specs.declared.simulating.Played.{Played}
+use Rattle.cli_arguments.specs.declared.parts.Sources.{Sources}
+use Rattle.cli_arguments.specs.declared.request.GroupFormat.{GroupFormat}
+use Rattle.cli_arguments.specs.declared.request.GroupFormat.TheVariants.{Statement}
+use Rattle.cli_arguments.specs.declared.request.Grouping.{Grouping}
+
+-- the state and the program text
+abbrev pub HasSources : List Row → Sources → Type 0
+HasSources rows s = HasOption (codes "state") rows (option_map string_bytes s.state) × HasText (codes "file") rows (string_bytes s.file)
+
+-- the scan, and the inputs that are listed
+abbrev pub NamesScan : List Row → NamedScan → Type 0
+NamesScan rows s = HasOption (codes "state") rows (option_map string_bytes s.state)
+    × HasNumber (codes "at") rows s.moment
+    × HasText (codes "file") rows (string_bytes s.file)
+    × HasInputs rows s.all_inputs (map string_bytes s.inputs.items)
+
+-- a stimulus, with the state in which its first scan begins
+abbrev pub Plays : List Row → Played → Type 0
+Plays rows w = HasOption (codes "state") rows (option_map string_bytes w.state)
+    × HasText (codes "file") rows (string_bytes w.file)
+    × HasText (codes "stimulus") rows (string_bytes w.stimulus)
+
+-- Each record of a stimulus has its own moment and inputs, so none are given besides.
+abbrev pub IsOfRecords : List Row → Type 0
+IsOfRecords rows = HasNumber (codes "at") rows None × HasNumber (codes "number") rows None × HasInputs rows false []
+
+-- No number is given to end at, and no line is asked for that tells up to which one a list is written.
+abbrev pub NamesNoEnd : List Row → Type 0
+NamesNoEnd rows = HasNumber (codes "upto") rows None × (HasFlag (codes "progress") rows → ⊥)
+
+-- No number is given to begin after, and none to end at, and no line tells how far a list is.
+abbrev pub IsUncut : List Row → Type 0
+IsUncut rows = HasNumber (codes "after") rows None × NamesNoEnd rows
+
+-- One scan is asked for, no number to begin after or to end at, and no line that tells how far a list is.
+abbrev pub IsOfOneScan : List Row → Type 0
+IsOfOneScan rows = HasNumber (codes "scans") rows None
+    × HasNumber (codes "for") rows None
+    × HasNumber (codes "every") rows None
+    × IsUncut rows
+
+-- One scan of any state, at any moment, is asked for: no state and no moment are given, and no inputs are found for one state.
+abbrev pub IsOfAnyState : List Row → Type 0
+IsOfAnyState rows = HasOption (codes "state") rows None
+    × HasNumber (codes "at") rows None
+    × IsOfOneScan rows
+    × (HasFlag (codes "relevant") rows → ⊥)
+
+-- Nothing says which states count, whether every one is meant, or how long a search is.
+abbrev pub NamesNoStates : List Row → Type 0
+NamesNoStates rows = (HasFlag (codes "off") rows → ⊥) × (HasFlag (codes "must") rows → ⊥)
+    × (HasFlag (codes "reachable") rows → ⊥)
+    × HasNumber (codes "looks") rows None
+
+-- how long the scans last, where there are several
+abbrev pub MayLast : Option Lasting → List Row → Type 0
+MayLast None rows = HasNumber (codes "scans") rows None × HasNumber (codes "for") rows None
+MayLast (Some lasting) rows = HasLasting lasting rows
+
+-- A statement has no limit.
+abbrev pub IsWhole : GroupFormat → List Row → Type 0
+IsWhole Statement rows = HasNumber (codes "limit") rows None
+IsWhole form rows = ⊤
+
+-- how groups are asked for
+abbrev pub HasGrouping : List Row → Grouping → Type 0
+HasGrouping rows g = HasForm g.form rows
+    × HasOrder g.order rows
+    × IsWhole g.form rows

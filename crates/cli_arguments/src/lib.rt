@@ -1,0 +1,19 @@
+//! Reads the words of a command line into a request.
+#![tactic(auto)]
+
+mod causes;
+mod found;
+mod grouping;
+mod lasting;
+mod parts;
+mod request;
+mod showing;
+mod simulating;
+mod words;
+
+pub use request::{
+    AllCoils, CommandLine, Excluded, FilmRequest, GroupFormat, Grouping, InputOrder, ListRequest,
+    Medium, NeverRequest, PossibleRequest, Request, ShowRequest, SimRequest, Task, WatchRequest,
+    WavesRequest, WordFault,
+};
+pub use words::read_words;

@@ -1,0 +1,315 @@
+//! What the arguments of a command line ask for.
+
+use thiserror::Error;
+
+/// The form in which groups are written.
+#[derive(Clone, Copy, Debug, PartialEq, Eq)]
+pub enum GroupFormat {
+    /// A record for each group, with its number of causes.
+    Table,
+    /// A line for each group: the inputs that matter, joined by `AND`.
+    Terms,
+    /// One statement in Structured Text.
+    Statement,
+}
+
+/// The order in which the listed inputs are looked at.
+#[derive(Clone, Copy, Debug, PartialEq, Eq)]
+pub enum InputOrder {
+    /// That of the list.
+    Given,
+    /// The one that sifting leaves, in which there are fewer groups or as many.
+    Sifted,
+}
+
+/// How causes are grouped.
+#[derive(Clone, Copy, Debug, PartialEq, Eq)]
+pub struct Grouping {
+    /// How the groups are written.
+    pub form: GroupFormat,
+    /// By which order of the inputs they are.
+    pub order: InputOrder,
+}
+
+/// How a drawing is written.
+#[derive(Clone, Copy, Debug, PartialEq, Eq)]
+pub enum Medium {
+    /// As text, with marks in the place of characters.
+    Text,
+    /// As a page of HTML.
+    Page,
+}
+
+/// What a request for a list of causes names: the scan, the coil and the inputs, and how the list is written.
+#[derive(Drop)]
+pub struct ListRequest {
+    /// The file of the state in which the scan begins; the fresh one where there is none.
+    pub state: Option<String>,
+    /// The moment of the scan, in ms; the stored one where there is none.
+    pub moment: Option<u64>,
+    /// How many rows are written at most.
+    pub limit: Option<u64>,
+    /// Whether the line of counts is left out.
+    pub quiet: bool,
+    /// The file of the program text.
+    pub file: String,
+    /// The name of the coil's variable.
+    pub coil: String,
+    /// Whether all inputs are listed; otherwise they are named.
+    pub all_inputs: bool,
+    /// The names of the listed inputs, the first one most significant.
+    pub inputs: Vec<String>,
+}
+
+/// What a request for a list of any state names: the states, the coil and the inputs, and how the list is written.
+#[derive(Drop)]
+pub struct PossibleRequest {
+    /// Whether only states count in which the coil is OFF.
+    pub off: bool,
+    /// Whether every state that counts is to leave the coil ON, in place of some one.
+    pub must: bool,
+    /// Whether only states count in which it is so what stays so in each state that the machine reaches.
+    pub reachable: bool,
+    /// How many scans a search for one row makes at most, where it is said.
+    pub looks: Option<u64>,
+    /// Whether rows are those of groups, with the inputs that don't matter in each.
+    pub grouped: bool,
+    /// How many rows are written at most.
+    pub limit: Option<u64>,
+    /// Whether the line of counts is left out.
+    pub quiet: bool,
+    /// The file of the program text.
+    pub file: String,
+    /// The name of the coil's variable.
+    pub coil: String,
+    /// Whether all inputs are listed; otherwise they are named.
+    pub all_inputs: bool,
+    /// The names of the listed inputs, the first one most significant.
+    pub inputs: Vec<String>,
+}
+
+/// What is shut out for ever by what is listed.
+#[derive(Clone, Copy, Debug, PartialEq, Eq)]
+pub enum Excluded {
+    /// That a name comes ON.
+    On,
+    /// That a name goes OFF.
+    Off,
+    /// That both names of a pair are ON.
+    BothOn,
+}
+
+/// What a request for what never changes names.
+#[derive(Drop)]
+pub struct NeverRequest {
+    /// The file of the state from which on it is asked; the fresh one where there is none.
+    pub state: Option<String>,
+    /// What is to be shut out for ever.
+    pub excluded: Excluded,
+    /// Whether the number of rows isn't told.
+    pub quiet: bool,
+    /// The file of the program text.
+    pub file: String,
+}
+
+/// What a request for the drawing of one scan names.
+#[derive(Drop)]
+pub struct ShowRequest {
+    /// The file of the state in which the scan begins; the fresh one where there is none.
+    pub state: Option<String>,
+    /// The moment of the scan, in ms; the stored one where there is none.
+    pub moment: Option<u64>,
+    /// The number of the assignment of the listed inputs; 0 where there is none.
+    pub number: Option<u64>,
+    /// How the drawing is written.
+    pub medium: Medium,
+    /// The name of the variable of whose coils it is written why they have power, or none.
+    pub coil: Option<String>,
+    /// The file of the program text.
+    pub file: String,
+    /// Whether all inputs are listed; otherwise they are named.
+    pub all_inputs: bool,
+    /// The names of the listed inputs, the first one most significant.
+    pub inputs: Vec<String>,
+}
+
+/// What a request for the drawings of a stimulus names.
+#[derive(Drop)]
+pub struct FilmRequest {
+    /// The file of the state in which the first scan begins; the fresh one where there is none.
+    pub state: Option<String>,
+    /// How the drawings are written.
+    pub medium: Medium,
+    /// The name of the variable of whose coils it is written why they have power, or none.
+    pub coil: Option<String>,
+    /// The file of the program text.
+    pub file: String,
+    /// The file of the stimulus.
+    pub stimulus: String,
+}
+
+/// What a request for the trace of a stimulus names.
+#[derive(Drop)]
+pub struct SimRequest {
+    /// The file of the state in which the first scan begins; the fresh one where there is none.
+    pub state: Option<String>,
+    /// The file that the state after the last scan is written to.
+    pub save: Option<String>,
+    /// The time between two scans while a record is held, in ms; where there is none each record has one scan.
+    pub every: Option<u64>,
+    /// The file of the program text.
+    pub file: String,
+    /// The file of the stimulus.
+    pub stimulus: String,
+}
+
+/// What a request for the trace of a stimulus names where something is watched.
+#[derive(Drop)]
+pub struct WatchRequest {
+    /// What it names besides.
+    pub sim: SimRequest,
+    /// Whether all memory variables and all instances are watched; otherwise they are named.
+    pub all: bool,
+    /// The names of the variables and instances that are watched.
+    pub names: Vec<String>,
+}
+
+/// What a request for the waveform of a stimulus names.
+#[derive(Drop)]
+pub struct WavesRequest {
+    /// The file of the state in which the first scan begins; the fresh one where there is none.
+    pub state: Option<String>,
+    /// The time between two scans while a record is held, in ms; where there is none each record has one scan.
+    pub every: Option<u64>,
+    /// The file of the program text.
+    pub file: String,
+    /// The file of the stimulus.
+    pub stimulus: String,
+}
+
+/// What the arguments ask for.
+#[derive(Drop)]
+pub enum Request {
+    /// Whether a program text breaks no rule, and what it has.
+    Check {
+        /// The file of the program text.
+        file: String,
+        /// Whether it is warned of what breaks no rule and is most likely not meant.
+        warns: bool,
+    },
+    /// The causes of a coil: which assignments of the listed inputs switch it on.
+    Causes {
+        list: ListRequest,
+        /// The number to begin after.
+        after: Option<u64>,
+        /// The number to end at; the last one where there is none.
+        upto: Option<u64>,
+    },
+    /// The causes of a coil, with lines of how far the list is.
+    Progress {
+        list: ListRequest,
+        /// The number to begin after.
+        after: Option<u64>,
+        /// The number to end at; the last one where there is none.
+        upto: Option<u64>,
+    },
+    /// The causes of a coil over several scans, with the inputs held.
+    Held {
+        list: ListRequest,
+        /// How many scans there are.
+        scans: u64,
+        /// The time from each scan to the next, in ms.
+        every: u64,
+        /// Whether rows are those of groups, with the inputs that don't matter in each.
+        grouped: bool,
+    },
+    /// The causes of a coil in groups, with the inputs that don't matter in each.
+    Groups {
+        list: ListRequest,
+        /// Which groups, and how they are written.
+        grouping: Grouping,
+    },
+    /// The causes of a coil over the inputs that matter to it, in groups where these are asked for; no input is named.
+    Relevant {
+        list: ListRequest,
+        /// The number to begin after, where there are no groups.
+        after: Option<u64>,
+        /// Which groups, and how they are written.
+        grouping: Option<Grouping>,
+    },
+    /// What happens from any state: the assignments of the listed inputs with which some state, or every one, leaves a coil ON, at any moment.
+    Possible(PossibleRequest),
+    /// The drawing with the power flow of one scan.
+    Show(ShowRequest),
+    /// The drawings of a stimulus: one scan, with its power flow, for each of its records.
+    Film(FilmRequest),
+    /// The trace of a stimulus: one scan for each of its records, and those between them.
+    Sim(SimRequest),
+    /// The trace of a stimulus, with the variables and instances that are watched beside its outputs.
+    Watch(WatchRequest),
+    /// The waveform of a stimulus: what each of its scans changes.
+    Waves(WavesRequest),
+    /// The cross-reference: where each variable and each instance is drawn.
+    Uses {
+        /// The file of the program text.
+        file: String,
+    },
+    /// What never changes from a state on.
+    Never(NeverRequest),
+    /// The program text of a ClassicLadder project.
+    Import {
+        /// Whether numbers and sequential charts are opened.
+        opened: bool,
+        /// Whether a timer without a control input has it ON.
+        control_on: bool,
+        /// The file of the project.
+        file: String,
+        /// The HAL file after whose signals inputs and outputs are named.
+        hal: Option<String>,
+    },
+}
+
+/// What a command line asks for.
+#[derive(Drop)]
+pub enum Task {
+    /// To perform a request.
+    Perform(CommandLine),
+    /// To perform a request for each coil of its program.
+    PerformAll(AllCoils),
+    /// To say what the faults with these codes mean, or to list all faults where none is named.
+    Explain(Vec<String>),
+}
+
+/// A request, with the flags of every subcommand that makes one.
+#[derive(Drop)]
+pub struct CommandLine {
+    pub request: Request,
+    /// Whether aliases are printed in place of names; an import has none.
+    pub aliases: bool,
+    /// Whether a fault is explained, after its line.
+    pub why: bool,
+}
+
+/// A request for a list of causes that is made of each coil of a program.
+#[derive(Drop)]
+pub struct AllCoils {
+    /// The folder in which each coil has a file.
+    pub folder: String,
+    /// The request, in which the name of the coil is empty.
+    pub line: CommandLine,
+}
+
+/// Why the arguments are no request.
+#[derive(Debug, Drop, Error)]
+pub enum WordFault {
+    #[error("the arguments are no request")]
+    Usage,
+    /// `clap` finds a fault in them, and this is what it says of it.
+    #[error("{0}")]
+    Mistake(String),
+    /// They ask for help, and this is its text.
+    #[error("{0}")]
+    Help(String),
+    #[error("out of memory")]
+    Memory,
+}

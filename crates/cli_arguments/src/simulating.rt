@@ -1,0 +1,145 @@
+//! The requests of the subcommand `sim`.
+
+ghost use Rattle.std.specs.Prelude.{◌≡◌, Bool, List, [], true, false, codes, IfOk, IfErr, map, string_bytes, Option};
+ghost use Rattle.clap.specs.Words.{Text, found_of, rows_of};
+ghost use Rattle.cli_arguments.specs.Asking.{Asks, AsksNone, HasFlag, HasWatched, NamesTrace};
+ghost use Rattle.cli_arguments.specs.Parts.{Plays};
+ghost use Rattle.cli_arguments.specs.Faults.{UsageWhere};
+
+use crate::found::{is_given, is_set, number, optional, text, texts};
+use crate::parts::{Sources, sources_of};
+use crate::request::{Request, SimRequest, WatchRequest, WavesRequest, WordFault};
+use clap::ArgMatches;
+use std::alloc::Global;
+
+pub(crate) fn sim_request(alloc: Global, found: &ArgMatches<'_>) -> Result<Request, WordFault>
+    ensures ok { IfOk result (Asks (codes "sim") (rows_of (found_of found.now))) }
+    ensures err { IfErr result (UsageWhere (AsksNone (codes "sim") (rows_of (found_of found.now)))) }
+{
+    if is_set(found, "vcd") {
+        return waves_request(alloc, found);
+    }
+    if is_watched(found) {
+        return watch_request(alloc, found);
+    }
+    trace_request(alloc, found)
+}
+
+/// Whether something is watched.
+fn is_watched(found: &ArgMatches<'_>) -> bool
+    ensures none { result ≡ false → HasWatched (rows_of (found_of found.now)) false [] }
+    ensures some { result ≡ true → HasWatched (rows_of (found_of found.now)) false [] → ⊥ }
+{
+    is_set(found, "watch-all") || is_given(found, "watch")
+}
+
+fn waves_request(alloc: Global, found: &ArgMatches<'_>) -> Result<Request, WordFault>
+    requires { HasFlag (codes "vcd") (rows_of (found_of found.now)) }
+    ensures ok { IfOk result (Asks (codes "sim") (rows_of (found_of found.now))) }
+    ensures err { IfErr result (UsageWhere (AsksNone (codes "sim") (rows_of (found_of found.now)))) }
+{
+    // A state is saved beside a trace.
+    if is_given(found, "save") {
+        return Err(WordFault::Usage);
+    }
+    // A waveform has all that can be watched.
+    if is_watched(found) {
+        return Err(WordFault::Usage);
+    }
+    let pause = number(found, "every")?;
+    let Played {
+        state,
+        file,
+        stimulus,
+    } = played_of(alloc, found)?;
+    Ok(Request::Waves(WavesRequest {
+        state,
+        every: pause,
+        file,
+        stimulus,
+    }))
+}
+
+/// What is asked of a stimulus: the state in which the first scan begins, the program text and the stimulus itself.
+#[derive(Drop)]
+pub(crate) struct Played {
+    pub state: Option<String>,
+    pub file: String,
+    pub stimulus: String,
+}
+
+pub(crate) fn played_of(alloc: Global, found: &ArgMatches<'_>) -> Result<Played, WordFault>
+    ensures ok { IfOk result (Plays (rows_of (found_of found.now))) }
+    ensures err { IfErr result (UsageWhere ((w : Played) → Plays (rows_of (found_of found.now)) w → ⊥)) }
+{
+    let stimulus = text(alloc, found, "stimulus")?;
+    let Sources { state, file } = sources_of(alloc, found)?;
+    Ok(Played {
+        state,
+        file,
+        stimulus,
+    })
+}
+
+fn trace_request(alloc: Global, found: &ArgMatches<'_>) -> Result<Request, WordFault>
+    requires vcd { HasFlag (codes "vcd") (rows_of (found_of found.now)) → ⊥ }
+    requires watched { HasWatched (rows_of (found_of found.now)) false [] }
+    ensures ok { IfOk result (Asks (codes "sim") (rows_of (found_of found.now))) }
+    ensures err { IfErr result (UsageWhere (AsksNone (codes "sim") (rows_of (found_of found.now)))) }
+{
+    match traced_of(alloc, found) {
+        Ok(sim) => Ok(Request::Sim(sim)),
+        Err(fault) => Err(fault),
+    }
+}
+
+fn watch_request(alloc: Global, found: &ArgMatches<'_>) -> Result<Request, WordFault>
+    requires vcd { HasFlag (codes "vcd") (rows_of (found_of found.now)) → ⊥ }
+    requires watched { HasWatched (rows_of (found_of found.now)) false [] → ⊥ }
+    ensures ok { IfOk result (Asks (codes "sim") (rows_of (found_of found.now))) }
+    ensures err { IfErr result (UsageWhere (AsksNone (codes "sim") (rows_of (found_of found.now)))) }
+{
+    let WatchedNames { all, names } = watched_of(alloc, found)?;
+    let sim = traced_of(alloc, found)?;
+    Ok(Request::Watch(WatchRequest { sim, all, names }))
+}
+
+/// What is watched: all, or what has these names.
+#[derive(Drop)]
+struct WatchedNames {
+    all: bool,
+    names: Vec<String>,
+}
+
+fn watched_of(alloc: Global, found: &ArgMatches<'_>) -> Result<WatchedNames, WordFault>
+    ensures ok { IfOk result (λ w. HasWatched (rows_of (found_of found.now)) w.all (map string_bytes w.names.items)) }
+    ensures err { IfErr result (UsageWhere ((all : Bool) (names : List Text) → HasWatched (rows_of (found_of found.now)) all names → ⊥)) }
+{
+    let all = is_set(found, "watch-all");
+    let names = texts(alloc, found, "watch")?;
+    if all && !names.is_empty() {
+        return Err(WordFault::Usage);
+    }
+    Ok(WatchedNames { all, names })
+}
+
+/// What a trace is made of.
+fn traced_of(alloc: Global, found: &ArgMatches<'_>) -> Result<SimRequest, WordFault>
+    ensures ok { IfOk result (NamesTrace (rows_of (found_of found.now))) }
+    ensures err { IfErr result (UsageWhere ((r : SimRequest) → NamesTrace (rows_of (found_of found.now)) r → ⊥)) }
+{
+    let pause = number(found, "every")?;
+    let save = optional(alloc, found, "save")?;
+    let Played {
+        state,
+        file,
+        stimulus,
+    } = played_of(alloc, found)?;
+    Ok(SimRequest {
+        state,
+        save,
+        every: pause,
+        file,
+        stimulus,
+    })
+}

@@ -1,0 +1,223 @@
+//! From the arguments of a command line to a request.
+
+ghost use Rattle.std.specs.Prelude.{◌≡◌, [], Bool, codes, IfSome, IsSome, OnOk, IfOk, IfErr, map, string_bytes, None, Some};
+ghost use Rattle.std.specs.List.{list_all};
+ghost use Rattle.clap.specs.Words.{Text, found_of, kind_of, rows_of, subcommand_rows_of};
+ghost use Rattle.clap.specs.Words.{fault_of as clap_fault};
+ghost use Rattle.cli_options.specs.CommandLine.{ladder_app};
+ghost use Rattle.cli_options.specs.Pages.{is_fault_code};
+ghost use Rattle.cli_arguments.specs.Asking.{Asks, AsksBy, AsksNone, HasControl, HasExcluded, HasNoTask, HasTask, Says};
+ghost use Rattle.cli_arguments.specs.Faults.{IsFaultOf, SaysOf, UsageWhere};
+
+use crate::causes::causes_request;
+use crate::found::{is_set, optional, text, texts};
+use crate::parts::{Sources, sources_of};
+use crate::request::{AllCoils, CommandLine, Excluded, NeverRequest, Request, Task, WordFault};
+use crate::showing::show_request;
+use crate::simulating::sim_request;
+use clap::ArgMatches;
+use clap::error::ErrorKind;
+use cli_options::{ladder, page_of};
+use std::alloc::Global;
+
+/// Reads what a command line asks for. Its first word is the program's name.
+///
+/// # Errors
+///
+/// `Mistake` where `clap` finds a fault other than that help is asked for, with what it says of it, or `Usage` when there is no memory for that; `Usage` where a fault has none of the named codes, where groups of one scan or a list over several scans are to begin after a
+/// number, to end at one or to tell how far they are, where a list over the inputs that matter is to end at a number or to tell how far it is, where a time between scans is asked for without several scans, several scans by their number and by a time, where a form or the order `auto` is asked for without groups of one scan in one state, or both forms, or a statement with a limit, or an order that has another name, where
+/// neither a coil is named nor each meant, where inputs are named beside all of them, where those that matter are asked for and others are listed, or several scans or any state are asked of, where any state is asked of and a state, a moment, a number to begin after or to end at, lines of how far the list is, several scans, a time between scans, a form or the order `auto` is named as well, where it is said which states count, or how long a search is, and any state isn't asked of, where a stimulus is to be shown with a moment, a number or listed inputs, or a waveform to be written with a saved state or with what is watched, where names are watched beside all of them, where the control input of timers is to be anything but `on`, and nowhere else; `Help` with its text where help is asked for; `Memory` when out of memory.
+pub fn read_words(alloc: Global, words: Vec<String>) -> Result<Task, WordFault>
+    ensures asks { IfOk result (AsksBy ladder_app (map string_bytes words.items)) }
+
+    // Only arguments in which `clap` finds no fault ask for something.
+    ensures accepted { OnOk result (clap_fault ladder_app (map string_bytes words.items) ≡ []) }
+
+    // A usage fault comes only where `clap` finds one or the arguments ask for nothing, and help only where it is asked for.
+    ensures fault { IfErr result (IsFaultOf ladder_app (map string_bytes words.items)) }
+{
+    let Ok(command) = ladder(alloc) else {
+        return Err(WordFault::Memory);
+    };
+    match command.try_get_matches_from(words.as_slice()) {
+        Ok(matches) => task_in(alloc, &matches),
+        Err(error) => Err(fault_of(alloc, &error)),
+    }
+}
+
+fn fault_of(alloc: Global, error: &clap::Error) -> WordFault
+    ensures { SaysOf (kind_of error.now) result }
+{
+    match error.kind() {
+        ErrorKind::OutOfMemory => WordFault::Memory,
+        ErrorKind::DisplayHelp => match error.to_string(alloc) {
+            Ok(text) => WordFault::Help(text),
+            Err(_) => WordFault::Memory,
+        },
+        _ => match error.to_string(alloc) {
+            Ok(text) => WordFault::Mistake(text),
+            Err(_) => WordFault::Usage,
+        },
+    }
+}
+
+fn task_in(alloc: Global, matches: &ArgMatches<'_>) -> Result<Task, WordFault>
+    ensures ok { IfOk result (λ t. IfSome (subcommand_rows_of matches.now) (λ p. HasTask p.0 p.1 t) × IsSome (subcommand_rows_of matches.now)) }
+    ensures err { IfErr result (UsageWhere (IfSome (subcommand_rows_of matches.now) (λ p. HasNoTask p.0 p.1))) }
+{
+    match matches.subcommand() {
+        Some((name, found)) => task_of(alloc, name, found),
+        None => Err(WordFault::Usage),
+    }
+}
+
+fn task_of(alloc: Global, name: &str, found: &ArgMatches<'_>) -> Result<Task, WordFault>
+    ensures ok { IfOk result (HasTask name.now (rows_of (found_of found.now))) }
+    ensures err { IfErr result (UsageWhere (HasNoTask name.now (rows_of (found_of found.now)))) }
+{
+    if name == "explain" {
+        return explain_task(alloc, found);
+    }
+    match line_of(alloc, name, found) {
+        Ok(line) => task_for(alloc, found, line),
+        Err(fault) => Err(fault),
+    }
+}
+
+/// A request is performed as it is, or for each coil.
+fn task_for(alloc: Global, found: &ArgMatches<'_>, line: CommandLine) -> Result<Task, WordFault>
+    ensures ok { IfOk result (λ t. (name : Text) → Says name (rows_of (found_of found.now)) line → HasTask name (rows_of (found_of found.now)) t) }
+    ensures err { IfErr result (λ e. e ≡ WordFault.Memory) }
+{
+    match optional(alloc, found, "all-coils")? {
+        Some(folder) => Ok(Task::PerformAll(AllCoils { folder, line })),
+        None => Ok(Task::Perform(line)),
+    }
+}
+
+fn explain_task(alloc: Global, found: &ArgMatches<'_>) -> Result<Task, WordFault>
+    ensures ok { IfOk result (HasTask (codes "explain") (rows_of (found_of found.now))) }
+    ensures err { IfErr result (UsageWhere (HasNoTask (codes "explain") (rows_of (found_of found.now)))) }
+{
+    let names = texts(alloc, found, "codes")?;
+    if !are_codes(&names) {
+        return Err(WordFault::Usage);
+    }
+    Ok(Task::Explain(names))
+}
+
+fn is_code(name: &String) -> bool
+    ensures { result ≡ is_fault_code (string_bytes name.now) }
+{
+    page_of(name.as_str()).is_some()
+}
+
+/// Whether all are codes of faults.
+fn are_codes(names: &[String]) -> bool
+    ensures { result ≡ list_all (λ name. is_fault_code (string_bytes name)) names.now }
+{
+    names.iter().all(|name| is_code(name))
+}
+
+fn line_of(alloc: Global, name: &str, found: &ArgMatches<'_>) -> Result<CommandLine, WordFault>
+    ensures ok { IfOk result (Says name.now (rows_of (found_of found.now))) }
+    ensures err { IfErr result (UsageWhere (AsksNone name.now (rows_of (found_of found.now)))) }
+{
+    match request_of(alloc, name, found) {
+        Ok(request) => Ok(CommandLine {
+            request,
+            aliases: is_set(found, "aliases"),
+            why: is_set(found, "why"),
+        }),
+        Err(fault) => Err(fault),
+    }
+}
+
+fn request_of(alloc: Global, name: &str, found: &ArgMatches<'_>) -> Result<Request, WordFault>
+    ensures ok { IfOk result (Asks name.now (rows_of (found_of found.now))) }
+    ensures err { IfErr result (UsageWhere (AsksNone name.now (rows_of (found_of found.now)))) }
+{
+    match name {
+        "check" => check_request(alloc, found),
+        "uses" => uses_request(alloc, found),
+        "never" => never_request(alloc, found),
+        "causes" => causes_request(alloc, found),
+        "show" => show_request(alloc, found),
+        "sim" => sim_request(alloc, found),
+        "import" => import_request(alloc, found),
+        _ => Err(WordFault::Usage),
+    }
+}
+
+fn check_request(alloc: Global, found: &ArgMatches<'_>) -> Result<Request, WordFault>
+    ensures ok { IfOk result (Asks (codes "check") (rows_of (found_of found.now))) }
+    ensures err { IfErr result (UsageWhere (AsksNone (codes "check") (rows_of (found_of found.now)))) }
+{
+    let warns = is_set(found, "warn");
+    let file = text(alloc, found, "file")?;
+    Ok(Request::Check { file, warns })
+}
+
+fn uses_request(alloc: Global, found: &ArgMatches<'_>) -> Result<Request, WordFault>
+    ensures ok { IfOk result (Asks (codes "uses") (rows_of (found_of found.now))) }
+    ensures err { IfErr result (UsageWhere (AsksNone (codes "uses") (rows_of (found_of found.now)))) }
+{
+    let file = text(alloc, found, "file")?;
+    Ok(Request::Uses { file })
+}
+
+fn import_request(alloc: Global, found: &ArgMatches<'_>) -> Result<Request, WordFault>
+    ensures ok { IfOk result (Asks (codes "import") (rows_of (found_of found.now))) }
+    ensures err { IfErr result (UsageWhere (AsksNone (codes "import") (rows_of (found_of found.now)))) }
+{
+    let opened = is_set(found, "open");
+    let control_on = control_of(found)?;
+    let hal = optional(alloc, found, "hal")?;
+    let file = text(alloc, found, "file")?;
+    Ok(Request::Import {
+        opened,
+        control_on,
+        file,
+        hal,
+    })
+}
+
+/// Whether a timer without a control input has it ON.
+fn control_of(found: &ArgMatches<'_>) -> Result<bool, WordFault>
+    ensures ok { IfOk result (λ on. HasControl on (rows_of (found_of found.now))) }
+    ensures err { IfErr result (UsageWhere ((on : Bool) → HasControl on (rows_of (found_of found.now)) → ⊥)) }
+{
+    match found.get_str("control") {
+        None => Ok(false),
+        Some("on") => Ok(true),
+        Some(_) => Err(WordFault::Usage),
+    }
+}
+
+/// What the flags ask to be shut out for ever.
+fn excluded_of(found: &ArgMatches<'_>) -> Result<Excluded, WordFault>
+    ensures ok { IfOk result (λ e. HasExcluded e (rows_of (found_of found.now))) }
+    ensures err { IfErr result (UsageWhere ((e : Excluded) → HasExcluded e (rows_of (found_of found.now)) → ⊥)) }
+{
+    match (is_set(found, "off"), is_set(found, "pairs")) {
+        (false, false) => Ok(Excluded::On),
+        (true, false) => Ok(Excluded::Off),
+        (false, true) => Ok(Excluded::BothOn),
+        (true, true) => Err(WordFault::Usage),
+    }
+}
+
+fn never_request(alloc: Global, found: &ArgMatches<'_>) -> Result<Request, WordFault>
+    ensures ok { IfOk result (Asks (codes "never") (rows_of (found_of found.now))) }
+    ensures err { IfErr result (UsageWhere (AsksNone (codes "never") (rows_of (found_of found.now)))) }
+{
+    let excluded = excluded_of(found)?;
+    let quiet = is_set(found, "quiet");
+    let Sources { state, file } = sources_of(alloc, found)?;
+    Ok(Request::Never(NeverRequest {
+        state,
+        excluded,
+        quiet,
+        file,
+    }))
+}

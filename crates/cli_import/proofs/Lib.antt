@@ -1,0 +1,2 @@
+mod RefusalLaws
+mod Saying

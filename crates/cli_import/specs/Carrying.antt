@@ -1,0 +1,47 @@
+-- How `ladder import` ends: the program text of the project is written, or what is said of why there is none.
+use Rattle.std.specs.Prelude.{◌≡◌, ◌⊎◌, ◌≤◌, All, ℕ, Bool, List, length}
+use Rattle.clp_project.specs.Project.{IsProject, IsRight}
+use Rattle.clp_project.specs.declared.fault.ClpFault.{ClpFault}
+use Rattle.clp_project.specs.declared.project.Project.{Project}
+use Rattle.clp_project.specs.declared.reading.ReadingOptions.{ReadingOptions}
+use Rattle.clp_import.specs.Import.{HasText, IsFaultOfAny}
+use Rattle.clp_import.specs.Refusals.{IsThere}
+use Rattle.clp_import.specs.declared.importing.ImportFault.{ImportFault}
+use Rattle.clp_import.specs.declared.refusal.Refusal.{Refusal}
+use Rattle.cli_inputs.specs.Reports.{IsReported, unread}
+use Rattle.cli_inputs.specs.declared.fault.ToolFault.TheVariants as fault
+use Rattle.io_text.specs.Log.{PutsAll, PutsPrefix, WriteLog}
+use Rattle.cli_import.specs.Lines.{import_text, project_text, refusals_text}
+
+-- The text is that of a project, as it is read, and a program text of it is written, whole or as far as `Written` says.
+pub record Carries (reading : ReadingOptions) (text : List ℕ) (Written : List ℕ → Type 0) : Type 0 where
+  pub project : Project
+  pub is : IsProject reading text project
+  pub drawn : List ℕ
+  pub has : HasText reading project drawn
+  pub written : Written drawn
+
+-- What is said where there is no program text: why the text is no project.
+abbrev pub IsNoProject : ReadingOptions → Bool → List ℕ → List ℕ → Type 0
+IsNoProject reading why text said = (f : ClpFault) × IsRight reading text f × (said ≡ project_text why f)
+
+-- Or which elements of the project can't be carried over: at least one, and each of them is there, with its reason.
+abbrev pub IsRefused : ReadingOptions → Bool → List ℕ → List ℕ → Type 0
+IsRefused reading why text said =
+    (p : Project) × (refusals : List Refusal) × IsProject reading text p × (1 ≤ length refusals) × All (IsThere reading p) refusals
+    × (said ≡ refusals_text why refusals)
+
+-- Or why it has none though no element is refused.
+abbrev pub HasNone : ReadingOptions → Bool → List ℕ → List ℕ → Type 0
+HasNone reading why text said = (p : Project) × (f : ImportFault) × IsProject reading text p × IsFaultOfAny reading p f × (said ≡ import_text why f)
+
+-- This is said, or a prefix of it before the writer failed.
+pub record Says (reading : ReadingOptions) (why : Bool) (text : List ℕ) (old new : WriteLog) : Type 0 where
+  pub said : List ℕ
+  pub is : IsNoProject reading why text said ⊎ (IsRefused reading why text said ⊎ HasNone reading why text said)
+  pub written : PutsAll old new said ⊎ PutsPrefix old new said
+
+-- Status 1: there is no program text, and nothing is on `out`; or `out` failed.
+abbrev pub BreaksCarrying : ReadingOptions → Bool → List ℕ → WriteLog → WriteLog → WriteLog → WriteLog → Type 0
+BreaksCarrying reading why text out out' err err' =
+    ((out' ≡ out) × Says reading why text err err') ⊎ (Carries reading text (PutsPrefix out out') × IsReported (unread why) err err' fault.Write)

@@ -1,0 +1,117 @@
+//! The import of a project.
+
+ghost use Rattle.std.specs.Prelude.{◌≡◌, ◌≤◌, IfErr, IfOk};
+ghost use Rattle.clp_project.specs.Project.{IsProject};
+ghost use Rattle.clp_import.specs.Import.{HasText, IsFaultOfAny};
+ghost use Rattle.io_text.specs.Log.{PutsAll};
+ghost use Rattle.cli_import.specs.Carrying.{BreaksCarrying, Carries};
+
+use crate::faults::{write_import_fault, write_project_fault, write_refusals};
+use cli_inputs::{ToolFault, report_unread};
+use clp_import::{ImportFault, Linked, import, refusals};
+use clp_project::{Project, ReadingOptions, joined, links_in, read_project};
+use io_text::{Sink, WriteFault, put};
+use std::alloc::Global;
+
+/// The status where something was said of a fault, as far as the writer took it.
+fn told(written: Result<(), WriteFault>) -> u8
+    ensures { result ≡ 1 }
+{
+    match written {
+        Ok(()) => 1,
+        Err(_) => 1,
+    }
+}
+
+/// The program text of a project, with names from a HAL file.
+fn text_of(
+    alloc: Global,
+    reading: ReadingOptions,
+    project: &Project<'_>,
+    hal: &[u8],
+) -> Result<Vec<u8>, ImportFault>
+    ensures carried { IfOk result (λ v. HasText reading project.now v.items) }
+    ensures fault { IfErr result (λ e. IsFaultOfAny reading project.now e) }
+{
+    let Ok(lines) = joined(alloc, hal) else {
+        return Err(ImportFault::Memory);
+    };
+    match links_in(alloc, &lines) {
+        Ok(links) => import(alloc, reading, project, &Linked { links: &links }),
+        Err(_) => Err(ImportFault::Memory),
+    }
+}
+
+/// Writes the program text of a project none of whose elements is refused.
+fn carry_whole<O: Sink, E: Sink>(
+    alloc: Global,
+    reading: ReadingOptions,
+    why: bool,
+    text: &[u8],
+    project: &Project<'_>,
+    hal: &[u8],
+    out: &mut O,
+    err: &mut E,
+) -> u8
+    requires { IsProject reading text.now project.now }
+    ensures status { result ≤ 1 }
+    ensures done { result ≡ 0 → Carries reading text.now (PutsAll (O.log out.old) (O.log out.new)) × (E.log err.new ≡ E.log err.old) }
+    ensures failed { result ≡ 1 → BreaksCarrying reading why text.now (O.log out.old) (O.log out.new) (E.log err.old) (E.log err.new) }
+{
+    match text_of(alloc, reading, project, hal) {
+        Ok(drawn) => match put(out, &drawn) {
+            Ok(()) => 0,
+            Err(_) => report_unread(why, &ToolFault::Write, err),
+        },
+        Err(fault) => told(write_import_fault(why, fault, err)),
+    }
+}
+
+/// Writes the program text of the project, or what is refused of it.
+fn carry_project<O: Sink, E: Sink>(
+    alloc: Global,
+    reading: ReadingOptions,
+    why: bool,
+    text: &[u8],
+    project: &Project<'_>,
+    hal: &[u8],
+    out: &mut O,
+    err: &mut E,
+) -> u8
+    requires { IsProject reading text.now project.now }
+    ensures status { result ≤ 1 }
+    ensures done { result ≡ 0 → Carries reading text.now (PutsAll (O.log out.old) (O.log out.new)) × (E.log err.new ≡ E.log err.old) }
+    ensures failed { result ≡ 1 → BreaksCarrying reading why text.now (O.log out.old) (O.log out.new) (E.log err.old) (E.log err.new) }
+{
+    match refusals(alloc, reading, project) {
+        Ok(refused) => {
+            if refused.is_empty() {
+                return carry_whole(alloc, reading, why, text, project, hal, out, err);
+            }
+            told(write_refusals(why, &refused, err))
+        }
+        Err(_) => told(write_import_fault(why, ImportFault::Memory, err)),
+    }
+}
+
+/// Writes the program text of a ClassicLadder project on `out`, or on `err` what is said of why there is none: a line for each element
+/// that can't be carried over, or the line of another fault, each explained where that is asked for. The text of a HAL file, empty where
+/// there is none, gives names to inputs and outputs. Returns the status: 0 where the whole text was written, or 1.
+pub fn carry<O: Sink, E: Sink>(
+    alloc: Global,
+    reading: ReadingOptions,
+    why: bool,
+    text: &[u8],
+    hal: &[u8],
+    out: &mut O,
+    err: &mut E,
+) -> u8
+    ensures status { result ≤ 1 }
+    ensures done { result ≡ 0 → Carries reading text.now (PutsAll (O.log out.old) (O.log out.new)) × (E.log err.new ≡ E.log err.old) }
+    ensures failed { result ≡ 1 → BreaksCarrying reading why text.now (O.log out.old) (O.log out.new) (E.log err.old) (E.log err.new) }
+{
+    match read_project(alloc, reading, text) {
+        Ok(project) => carry_project(alloc, reading, why, text, &project, hal, out, err),
+        Err(fault) => told(write_project_fault(why, fault, err)),
+    }
+}

@@ -1,0 +1,3 @@
+pub mod Ends
+mod UnknownWords
+mod Quoting

@@ -1,0 +1,7 @@
+pub mod FaultLine
+pub mod Explained
+pub mod Variables
+pub mod Setting
+pub mod Reports
+pub mod Reasons
+pub mod Sentences

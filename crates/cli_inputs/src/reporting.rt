@@ -1,0 +1,59 @@
+//! The report of a fault.
+
+ghost use Rattle.std.specs.Prelude.{◌≡◌};
+ghost use Rattle.cli_inputs.specs.Explained.{IsMarked};
+ghost use Rattle.cli_inputs.specs.Reports.{IsReported, unread};
+ghost use Rattle.cli_inputs.specs.Setting.{given_by};
+
+use crate::explaining::write_report;
+use crate::fault::ToolFault;
+use crate::texts::Texts;
+use diagram_reader::GridFault;
+use io_text::Sink;
+use std::alloc::Global;
+
+/// The column in which the program text breaks the rule of the fault.
+fn column_of(alloc: Global, text: &[u8], fault: &ToolFault) -> Option<usize>
+    ensures { IsMarked text.now fault.now result }
+{
+    match *fault {
+        ToolFault::Grid(GridFault::Grid { rule, rung, line }) => {
+            diagram_reader::column_of(alloc, text, rule, rung, line)
+        }
+        _ => None,
+    }
+}
+
+/// The column to be marked, where the fault is explained.
+fn marked(texts: &Texts, fault: &ToolFault) -> Option<usize>
+    ensures { IsMarked (given_by texts.now).program fault.now result }
+{
+    if texts.why {
+        column_of(*texts.program.allocator(), &texts.program, fault)
+    } else {
+        None
+    }
+}
+
+/// Writes what is said of a fault, as far as the writer takes it. Returns the status 1.
+pub fn report<E: Sink>(texts: &Texts, fault: &ToolFault, err: &mut E) -> u8
+    ensures status { result ≡ 1 }
+    ensures line { IsReported (given_by texts.now) (E.log err.old) (E.log err.new) fault.now }
+{
+    let column = marked(texts, fault);
+    match write_report(texts.why, &texts.program, fault, column, err) {
+        Ok(()) => 1,
+        Err(_) => 1,
+    }
+}
+
+/// The same of a fault for which the texts weren't read.
+pub fn report_unread<E: Sink>(why: bool, fault: &ToolFault, err: &mut E) -> u8
+    ensures status { result ≡ 1 }
+    ensures line { IsReported (unread why) (E.log err.old) (E.log err.new) fault.now }
+{
+    match write_report(why, &[], fault, None, err) {
+        Ok(()) => 1,
+        Err(_) => 1,
+    }
+}

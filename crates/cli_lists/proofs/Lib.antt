@@ -1,0 +1,6 @@
+mod Deciding
+mod Endings
+mod PossibleEnds
+mod PossibleGroupEnds
+mod PartEnds
+mod ProgressEnds

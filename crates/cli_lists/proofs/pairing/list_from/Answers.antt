@@ -1,0 +1,82 @@
+use Rattle.std.proofs.Common.{ap, inl, inr, refl}
+use Rattle.cli_lists.specs.Lists.{held_line, unless_quiet}
+use Rattle.cli_inputs.specs.declared.fault.ToolFault.TheVariants as fault
+use Rattle.cli_inputs.proofs.Ends.{all_same, prefix_same}
+use Rattle.cli_lists.proofs.pairing.list_from.Goals as goal
+
+pub returns-in_default-clause-failed : goal.returns-in_default-clause-failed
+returns-in_default-clause-failed g c = λ save status. inl (record {
+  reason = fault.Memory;
+  has = inr refl;
+  unwritten = refl {a = g.O.Sink.log c.args.out.now};
+  unsaved = refl {a = save};
+  reported = c.report.ensures.line;
+})
+
+pub returns-in_default-never_both-clause-failed : goal.returns-in_default-never_both-clause-failed
+returns-in_default-never_both-clause-failed g c = λ save status. inl (record {
+  reason = fault.Memory;
+  has = inr refl;
+  unwritten = refl {a = g.O.Sink.log c.args.out.now};
+  unsaved = refl {a = save};
+  reported = c.report-in_default-never_both.ensures.line;
+})
+
+pub returns-in_default-write_pairs-clause-failed : goal.returns-in_default-write_pairs-clause-failed
+returns-in_default-write_pairs-clause-failed g c = λ save status.
+    let made = c.in-Ok-never_both.ensures in
+    inr (inl ((
+      record {
+        program = c.args.program.now;
+        state = c.args.state.now;
+        set = c.requires.set;
+        steady = c.in-Ok.steady;
+        settled = c.in-Ok.ensures.is;
+        pairs = c.in-Ok-never_both.pairs;
+        are = made.are;
+        told = made.told;
+        apart = made.apart;
+        rows = c.in_default-write_pairs.ensures.wrote;
+      },
+      c.report-in_default-write_pairs.ensures.line,
+    )))
+
+pub returns-in_default-put_count-clause-failed : goal.returns-in_default-put_count-clause-failed
+returns-in_default-put_count-clause-failed g c = λ save status.
+    let made = c.in-Ok-never_both.ensures in
+    let w = c.in-Ok-write_pairs in
+    inr (inr (record {
+      list = record {
+        program = c.args.program.now;
+        state = c.args.state.now;
+        set = c.requires.set;
+        steady = c.in-Ok.steady;
+        settled = c.in-Ok.ensures.is;
+        pairs = c.in-Ok-never_both.pairs;
+        are = made.are;
+        told = made.told;
+        apart = made.apart;
+        rows = w.ensures.wrote;
+      };
+      count = prefix_same _ _ _ _ (ap (λ n. unless_quiet c.args.request.now.quiet (held_line n)) w.ensures.rows) c.in_default-put_count.ensures;
+    }))
+
+pub returns-clause-done : goal.returns-clause-done
+returns-clause-done g c = λ status.
+    let made = c.in-Ok-never_both.ensures in
+    let w = c.in-Ok-write_pairs in
+    record {
+      list = record {
+        program = c.args.program.now;
+        state = c.args.state.now;
+        set = c.requires.set;
+        steady = c.in-Ok.steady;
+        settled = c.in-Ok.ensures.is;
+        pairs = c.in-Ok-never_both.pairs;
+        are = made.are;
+        told = made.told;
+        apart = made.apart;
+        rows = w.ensures.wrote;
+      };
+      count = all_same _ _ _ _ (ap (λ n. unless_quiet c.args.request.now.quiet (held_line n)) w.ensures.rows) c.in-Ok-put_count.ensures;
+    }

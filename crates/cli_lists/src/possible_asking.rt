@@ -1,0 +1,133 @@
+//! What a request for what some state, or every one, switches on asks.
+
+ghost use Rattle.std.specs.Prelude.{◌≡◌, IfErr, IfOk, None, ◌⊎◌};
+ghost use Rattle.causes_query.specs.Refusal.{reason, refusal};
+ghost use Rattle.scan_cycle.specs.Standing.{Fits};
+ghost use Rattle.cli_lists.specs.Query.{AsksFor, stored_question};
+ghost use Rattle.cli_lists.specs.Lists.{IsStayingBy, claimed, counted, HasNamesFault, IsAskedOfAll};
+ghost use Rattle.cli_inputs.specs.Setting.{HasSettingFault, given_by};
+
+use crate::asking::ListQuery;
+use causes_any_state::{Before, Claim, PossibleCauses, States, Staying, staying_from};
+use causes_query::CauseFault;
+use causes_query::refusal::refusal;
+use cli_arguments::PossibleRequest;
+use cli_inputs::{Setting, Texts, ToolFault, asked_variables, read_setting};
+use diagram_program::Program;
+use invariant_pairs::PAIR_SCANS;
+use invariant_values::SCANS;
+use scan_cycle::{Memory, State};
+use std::alloc::Global;
+
+/// How many scans over three values a search for one row makes at most, where the request doesn't say it.
+const LOOKS: u32 = 4096;
+
+/// How many scans a search for one row makes at most.
+fn looks_of(looks: Option<u64>) -> u32 {
+    match looks {
+        Some(looks) => u32::try_from(looks).unwrap_or(u32::MAX),
+        None => LOOKS,
+    }
+}
+
+/// Which states count, where this stays so.
+fn counted(off: bool, staying: Option<Staying>) -> States
+    ensures { result ≡ counted off staying }
+{
+    if off {
+        return States {
+            before: Before::Off,
+            staying,
+        };
+    }
+    States {
+        before: Before::Any,
+        staying,
+    }
+}
+
+/// What a row claims of its number.
+fn claim_of(must: bool) -> Claim
+    ensures { result ≡ claimed must }
+{
+    if must { Claim::Forced } else { Claim::Possible }
+}
+
+/// What stays so from the state on, where it is asked for.
+fn staying_of(
+    alloc: Global,
+    reachable: bool,
+    program: &Program,
+    state: &State,
+) -> Result<Option<Staying>, Memory>
+    requires { Fits program.now state.now }
+    ensures { IfOk result (λ staying. IsStayingBy reachable program.now state.now staying) }
+{
+    if !reachable {
+        return Ok(None);
+    }
+    let staying = staying_from(alloc, program, state, SCANS, PAIR_SCANS)?;
+    Ok(Some(staying))
+}
+
+/// The rows of what is asked.
+pub(crate) fn causes_of<'a>(
+    alloc: Global,
+    request: &PossibleRequest,
+    asked: &'a ListQuery,
+) -> Result<PossibleCauses<'a>, CauseFault>
+    requires fits { Fits asked.now.program asked.now.state }
+    ensures cursor { IfOk result (λ c. AsksFor request.now (stored_question asked.now) c) }
+    ensures accepted { IfOk result (λ _. refusal (stored_question asked.now) None ≡ None) }
+    ensures refused { IfErr result (λ e. refusal (stored_question asked.now) None ≡ reason e) }
+{
+    let (program, state) = (&asked.program, &asked.state);
+    let (coil, inputs) = (asked.coil, &asked.inputs);
+    // What is refused needs no search.
+    if let Some(fault) = refusal(program, state, state.moment(), coil, inputs, None) {
+        return Err(fault);
+    }
+    let Ok(staying) = staying_of(alloc, request.reachable, program, state) else {
+        return Err(CauseFault::Memory);
+    };
+    let states = counted(request.off, staying);
+    let claim = claim_of(request.must);
+    let looks = looks_of(request.looks);
+    PossibleCauses::new(alloc, program, state, coil, inputs, states, claim, looks)
+}
+
+/// Reads the program text and the names.
+pub(crate) fn read_asked(
+    alloc: Global,
+    request: &PossibleRequest,
+    texts: &Texts,
+) -> Result<ListQuery, ToolFault>
+    ensures fits { IfOk result (λ a. Fits a.program a.state) }
+    ensures asked { IfOk result (λ a. IsAskedOfAll (given_by texts.now) request.now (stored_question a)) }
+    ensures fault { IfErr result (λ f. HasSettingFault (given_by texts.now) f ⊎ HasNamesFault (given_by texts.now) request.now f) }
+{
+    let Setting { program, state } = match read_setting(alloc, texts) {
+        Ok(setting) => setting,
+        Err(fault) => return Err(fault),
+    };
+    let named = asked_variables(
+        alloc,
+        program.decls(),
+        request.coil.as_str(),
+        request.all_inputs,
+        &request.inputs,
+    );
+    match named {
+        Ok(named) => {
+            let moment = state.moment();
+            Ok(ListQuery {
+                program,
+                state,
+                moment,
+                coil: named.coil,
+                inputs: named.inputs,
+            })
+        }
+        Err(fault) => Err(fault),
+    }
+}

@@ -1,0 +1,71 @@
+//! A request for the causes of a coil over the inputs that matter.
+
+ghost use Rattle.std.specs.Prelude.{◌≡◌, ◌≤◌, ◌⊎◌, IfErr, IfOk};
+ghost use Rattle.scan_cycle.specs.Standing.{Fits};
+ghost use Rattle.io_text.specs.Log.{PutsAll, WriteLog};
+ghost use Rattle.cli_lists.specs.Query.{question_of};
+ghost use Rattle.cli_lists.specs.Lists.{BreaksRelevant, CountsRelevant, HasCoilFault, HasRelevantFault, IsDecided, after_for};
+ghost use Rattle.cli_inputs.specs.Reports.{Refuses, logs};
+ghost use Rattle.cli_inputs.specs.Setting.{given_by};
+
+use crate::asking::ListQuery;
+use crate::{grouping, listing};
+use causes_one_scan::relevant_inputs;
+use cli_arguments::{Grouping, ListRequest};
+use cli_inputs::{Setting, Texts, ToolFault, asked_variables, moment, read_setting, report};
+use io_text::Sink;
+use std::alloc::Global;
+
+/// Reads the program text, the state text where there is one, and the name, and finds the inputs that matter to the coil.
+fn read_decided(alloc: Global, request: &ListRequest, texts: &Texts) -> Result<ListQuery, ToolFault>
+    ensures fits { IfOk result (λ a. Fits a.program a.state) }
+    ensures decided { IfOk result (λ a. IsDecided (given_by texts.now) request.now (question_of a)) }
+    ensures fault { IfErr result (HasCoilFault (given_by texts.now) request.now) }
+{
+    let Setting { program, state } = match read_setting(alloc, texts) {
+        Ok(setting) => setting,
+        Err(fault) => return Err(fault),
+    };
+    let coil = match asked_variables(alloc, program.decls(), request.coil.as_str(), false, &[]) {
+        Ok(named) => named.coil,
+        Err(fault) => return Err(fault),
+    };
+    let moment = moment(request.moment, state.moment());
+    match relevant_inputs(alloc, &program, &state, moment, coil) {
+        Ok(inputs) => Ok(ListQuery {
+            program,
+            state,
+            moment,
+            coil,
+            inputs,
+        }),
+        Err(fault) => Err(ToolFault::Cause(fault)),
+    }
+}
+
+/// Lists the causes of the coil in the state of the texts over the inputs that matter, in groups where these are asked for, and otherwise
+/// after a number where there is one.
+pub fn list_relevant<O: Sink, E: Sink>(
+    alloc: Global,
+    request: &ListRequest,
+    after: Option<u64>,
+    grouping: Option<Grouping>,
+    texts: &Texts,
+    out: &mut O,
+    err: &mut E,
+) -> u8
+    ensures status { result ≤ 1 }
+    ensures done { result ≡ 0 → CountsRelevant (given_by texts.now) request.now after grouping (O.log out.old) (O.log out.new) (PutsAll (E.log err.old) (E.log err.new)) }
+    ensures failed { (save : WriteLog) → result ≡ 1
+        → Refuses (given_by texts.now) (HasRelevantFault (given_by texts.now) request.now (after_for after grouping)) (logs (O.log out.old) save (E.log err.old)) (logs (O.log out.new) save (E.log err.new))
+        ⊎ BreaksRelevant (given_by texts.now) request.now after grouping (logs (O.log out.old) save (E.log err.old)) (logs (O.log out.new) save (E.log err.new)) }
+{
+    let mut asked = match read_decided(alloc, request, texts) {
+        Ok(asked) => asked,
+        Err(fault) => return report(texts, &fault, err),
+    };
+    match grouping {
+        Some(how) => grouping::list_asked(alloc, request, how, &mut asked, texts, out, err),
+        None => listing::list_asked(alloc, request, after, &asked, texts, out, err),
+    }
+}

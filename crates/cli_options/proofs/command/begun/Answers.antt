@@ -1,0 +1,6 @@
+-- The table computes to the definition. A table that differs is refused at once, where a search would go on.
+use Rattle.cli_options.specs.Table.{bare_app}
+use Rattle.cli_options.proofs.command.begun.Goals as goal
+
+pub returns : goal.returns
+returns c = c.with_subcommands.ensures bare_app c.top.ensures

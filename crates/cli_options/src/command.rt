@@ -1,0 +1,282 @@
+//! The command line, as `clap` takes it.
+
+ghost use Rattle.std.specs.Prelude.{◌≡◌, ◌∷◌, [], IfOk, false, map};
+ghost use Rattle.clap.specs.Words.{App, app_of, rule_of};
+ghost use Rattle.cli_options.specs.CommandLine.{IsApp, causes_app, check_app, ladder_app, taking};
+ghost use Rattle.cli_options.specs.Table.{bare_app, with_all, word_rule};
+
+use crate::help::{
+    AFTER_HELP, ALIASES_HELP, ALL_COILS_HELP, ALL_HELP, ANY_HELP, AT_HELP, CAUSES_ABOUT,
+    CHECK_ABOUT, CODES_HELP, COIL_HELP, CONTROL_HELP, EVERY_HELP, EXPLAIN_ABOUT, EXPLAIN_HELP,
+    FAULTS, FILE_HELP, FILM_HELP, FOR_HELP, GROUPED_HELP, HAL_HELP, HOLD_HELP, HTML_HELP,
+    IMPORT_ABOUT, INPUTS_HELP, LADDER_ABOUT, LIMIT_HELP, LOOKS_HELP, MUST_HELP, NEVER_ABOUT,
+    NEVER_OFF_HELP, NUMBER_HELP, OFF_HELP, OPEN_HELP, ORDER_HELP, PAIRS_HELP, PROGRESS_HELP,
+    PROJECT_HELP, QUIET_HELP, REACHABLE_HELP, RELEVANT_HELP, SAVE_HELP, SCANS_HELP, SHOW_ABOUT,
+    SHOWN_HELP, SIM_ABOUT, STATE_HELP, STATEMENT_HELP, STIMULUS_HELP, TERMS_HELP, UPTO_HELP,
+    USES_ABOUT, WARN_HELP, WATCH_ALL_HELP, WATCH_HELP, WAVES_HELP, WHY_HELP,
+};
+use clap::{Arg, ArgAction, Command, value_parser};
+use std::alloc::{AllocError, Global};
+
+/// A word of a subcommand: its name, then the name of its value where it has one, then its help.
+enum Word {
+    /// It must be there, and is known by its place.
+    Place(&'static str, &'static str, &'static str),
+    /// It may be left out, and is known by its place.
+    FreePlace(&'static str, &'static str, &'static str),
+    /// An option with a text.
+    Text(&'static str, &'static str, &'static str),
+    /// An option with a number.
+    Number(&'static str, &'static str, &'static str),
+    /// An option with a number that isn't 0.
+    Positive(&'static str, &'static str, &'static str),
+    /// The same, of 32 bits.
+    Small(&'static str, &'static str, &'static str),
+    /// An option with a text that may be given several times.
+    Texts(&'static str, &'static str, &'static str),
+    /// An option without a value.
+    Flag(&'static str, &'static str),
+    /// The arguments that are left.
+    List(&'static str, &'static str, &'static str),
+}
+
+/// A subcommand with its words in their order.
+struct Subcommand {
+    name: &'static str,
+    about: &'static str,
+    words: &'static [Word],
+}
+
+const CHECK: &[Word] = &[
+    Word::Flag("warn", WARN_HELP),
+    Word::Flag("aliases", ALIASES_HELP),
+    Word::Flag("why", EXPLAIN_HELP),
+    Word::Place("file", "FILE", FILE_HELP),
+];
+
+const USES: &[Word] = &[
+    Word::Flag("aliases", ALIASES_HELP),
+    Word::Flag("why", EXPLAIN_HELP),
+    Word::Place("file", "FILE", FILE_HELP),
+];
+
+const NEVER: &[Word] = &[
+    Word::Text("state", "STATE", STATE_HELP),
+    Word::Flag("off", NEVER_OFF_HELP),
+    Word::Flag("pairs", PAIRS_HELP),
+    Word::Flag("quiet", QUIET_HELP),
+    Word::Flag("aliases", ALIASES_HELP),
+    Word::Flag("why", EXPLAIN_HELP),
+    Word::Place("file", "FILE", FILE_HELP),
+];
+
+const CAUSES: &[Word] = &[
+    Word::Text("state", "STATE", STATE_HELP),
+    Word::Number("at", "MS", AT_HELP),
+    Word::Number("after", "N", AFTER_HELP),
+    Word::Number("upto", "N", UPTO_HELP),
+    Word::Number("limit", "N", LIMIT_HELP),
+    Word::Number("scans", "N", SCANS_HELP),
+    Word::Number("for", "MS", FOR_HELP),
+    Word::Number("every", "MS", EVERY_HELP),
+    Word::Flag("grouped", GROUPED_HELP),
+    Word::Flag("terms", TERMS_HELP),
+    Word::Flag("st", STATEMENT_HELP),
+    Word::Text("order", "ORDER", ORDER_HELP),
+    Word::Flag("any", ANY_HELP),
+    Word::Flag("off", OFF_HELP),
+    Word::Flag("must", MUST_HELP),
+    Word::Flag("reachable", REACHABLE_HELP),
+    Word::Small("looks", "N", LOOKS_HELP),
+    Word::Flag("relevant", RELEVANT_HELP),
+    Word::Flag("all-inputs", ALL_HELP),
+    Word::Text("all-coils", "FOLDER", ALL_COILS_HELP),
+    Word::Flag("progress", PROGRESS_HELP),
+    Word::Flag("quiet", QUIET_HELP),
+    Word::Flag("aliases", ALIASES_HELP),
+    Word::Flag("why", EXPLAIN_HELP),
+    Word::Place("file", "FILE", FILE_HELP),
+    Word::FreePlace("coil", "COIL", COIL_HELP),
+    Word::List("inputs", "INPUT", INPUTS_HELP),
+];
+
+const SHOW: &[Word] = &[
+    Word::Text("state", "STATE", STATE_HELP),
+    Word::Number("at", "MS", AT_HELP),
+    Word::Number("number", "N", NUMBER_HELP),
+    Word::Flag("html", HTML_HELP),
+    Word::Text("stimulus", "STIMULUS", FILM_HELP),
+    Word::Text("coil", "COIL", WHY_HELP),
+    Word::Flag("all-inputs", ALL_HELP),
+    Word::Flag("aliases", ALIASES_HELP),
+    Word::Flag("why", EXPLAIN_HELP),
+    Word::Place("file", "FILE", FILE_HELP),
+    Word::List("inputs", "INPUT", SHOWN_HELP),
+];
+
+const SIM: &[Word] = &[
+    Word::Text("state", "STATE", STATE_HELP),
+    Word::Text("save", "STATE", SAVE_HELP),
+    Word::Positive("every", "MS", HOLD_HELP),
+    Word::Texts("watch", "NAME", WATCH_HELP),
+    Word::Flag("watch-all", WATCH_ALL_HELP),
+    Word::Flag("vcd", WAVES_HELP),
+    Word::Flag("aliases", ALIASES_HELP),
+    Word::Flag("why", EXPLAIN_HELP),
+    Word::Place("file", "FILE", FILE_HELP),
+    Word::Place("stimulus", "STIMULUS", STIMULUS_HELP),
+];
+
+const IMPORT: &[Word] = &[
+    Word::Flag("open", OPEN_HELP),
+    Word::Text("control", "CONTROL", CONTROL_HELP),
+    Word::Text("hal", "FILE", HAL_HELP),
+    Word::Flag("why", EXPLAIN_HELP),
+    Word::Place("file", "PROJECT", PROJECT_HELP),
+];
+
+const EXPLAIN: &[Word] = &[Word::List("codes", "CODE", CODES_HELP)];
+
+/// The subcommands, in two tables: the proof of a function that names a table goes through all of it.
+const FIRST_SUBCOMMANDS: &[Subcommand] = &[
+    Subcommand {
+        name: "check",
+        about: CHECK_ABOUT,
+        words: CHECK,
+    },
+    Subcommand {
+        name: "causes",
+        about: CAUSES_ABOUT,
+        words: CAUSES,
+    },
+];
+
+const OTHER_SUBCOMMANDS: &[Subcommand] = &[
+    Subcommand {
+        name: "show",
+        about: SHOW_ABOUT,
+        words: SHOW,
+    },
+    Subcommand {
+        name: "sim",
+        about: SIM_ABOUT,
+        words: SIM,
+    },
+    Subcommand {
+        name: "uses",
+        about: USES_ABOUT,
+        words: USES,
+    },
+    Subcommand {
+        name: "never",
+        about: NEVER_ABOUT,
+        words: NEVER,
+    },
+    Subcommand {
+        name: "import",
+        about: IMPORT_ABOUT,
+        words: IMPORT,
+    },
+    Subcommand {
+        name: "explain",
+        about: EXPLAIN_ABOUT,
+        words: EXPLAIN,
+    },
+];
+
+/// The argument of a word.
+fn arg_of<'a>(alloc: Global, word: &'a Word) -> Arg<'a>
+    ensures rule { rule_of result ≡ word_rule word.now }
+    ensures global { result.global ≡ false }
+{
+    match word {
+        Word::Place(id, value, help) => Arg::new(alloc, id)
+            .required(true)
+            .value_name(value)
+            .help(help),
+        Word::FreePlace(id, value, help) => Arg::new(alloc, id).value_name(value).help(help),
+        Word::Text(id, value, help) => Arg::new(alloc, id).long(id).value_name(value).help(help),
+        Word::Number(id, value, help) => Arg::new(alloc, id)
+            .long(id)
+            .value_parser(value_parser!(u64))
+            .value_name(value)
+            .help(help),
+        Word::Positive(id, value, help) => Arg::new(alloc, id)
+            .long(id)
+            .value_parser(value_parser!(u64).range(1..))
+            .value_name(value)
+            .help(help),
+        Word::Small(id, value, help) => Arg::new(alloc, id)
+            .long(id)
+            .value_parser(value_parser!(u64).range(1..=4_294_967_295))
+            .value_name(value)
+            .help(help),
+        Word::Texts(id, value, help) => Arg::new(alloc, id)
+            .long(id)
+            .action(ArgAction::Append)
+            .value_name(value)
+            .help(help),
+        Word::Flag(id, help) => Arg::new(alloc, id)
+            .long(id)
+            .action(ArgAction::SetTrue)
+            .help(help),
+        Word::List(id, value, help) => Arg::new(alloc, id)
+            .action(ArgAction::Append)
+            .value_name(value)
+            .help(help),
+    }
+}
+
+/// A subcommand with its words in their order.
+fn subcommand_of<'a>(alloc: Global, sub: &'a Subcommand) -> Result<Command<'a>, AllocError>
+    ensures { IfOk result (IsApp (taking sub.now.name.now (map word_rule sub.now.words.now))) }
+{
+    let mut command = Command::new(alloc, sub.name).about(sub.about);
+    for word in sub.words {
+        command = command.arg(arg_of(alloc, word))?;
+    }
+    Ok(command)
+}
+
+/// The program, without its subcommands.
+fn top<'a>(alloc: Global) -> Command<'a>
+    ensures { app_of result ≡ bare_app }
+{
+    Command::new(alloc, "ladder")
+        .subcommand_required(true)
+        .about(LADDER_ABOUT)
+        .after_help(FAULTS)
+}
+
+/// The program with these subcommands too.
+fn with_subcommands<'a>(
+    alloc: Global,
+    command: Command<'a>,
+    subs: &'a [Subcommand],
+) -> Result<Command<'a>, AllocError>
+    ensures { (app : App) → app_of command.entry ≡ app → IfOk result (λ c. app_of c ≡ with_all app subs.now) }
+{
+    let mut all = command;
+    for sub in subs {
+        all = all.subcommand(subcommand_of(alloc, sub)?)?;
+    }
+    Ok(all)
+}
+
+/// The program with its first subcommands.
+fn begun<'a>(alloc: Global) -> Result<Command<'a>, AllocError>
+    ensures { IfOk result (λ c. app_of c ≡ record ladder_app { subs = check_app.top ∷ causes_app.top ∷ [] }) }
+{
+    with_subcommands(alloc, top(alloc), FIRST_SUBCOMMANDS)
+}
+
+/// The whole command line.
+///
+/// # Errors
+///
+/// An error when out of memory.
+pub fn ladder<'a>(alloc: Global) -> Result<Command<'a>, AllocError>
+    ensures { IfOk result (λ c. app_of c ≡ ladder_app) }
+{
+    with_subcommands(alloc, begun(alloc)?, OTHER_SUBCOMMANDS)
+}

@@ -1,0 +1,16 @@
+//! The options of the program `ladder`, as `clap` takes them, its help, and the pages on faults.
+#![tactic(auto)]
+
+mod command;
+mod declarations;
+mod drawing;
+mod files;
+mod help;
+mod list;
+mod pages;
+mod projects;
+mod questions;
+mod words;
+
+pub use command::ladder;
+pub use pages::{codes, page_of};

@@ -1,0 +1,119 @@
+//! The codes of docs/user/faults.md, with their pages. `tests/pages.py --write` writes this file.
+
+use crate::{declarations, drawing, files, projects, questions, words};
+
+/// The codes, in the order of the document.
+pub(crate) const CODES: [&str; 50] = [
+    "V1", "V2", "V3", "V4", "V5", "V6", "V7", "V8", "V9", "A1", "G1", "G2", "G3", "G4", "G5", "G6",
+    "G7", "G8", "G9", "G10", "G11", "G12", "G13", "G14", "G15", "C1", "C2", "C3", "C4", "C5", "C6",
+    "C7", "C8", "S1", "X1", "X2", "X3", "X4", "X5", "X6", "X7", "P1", "P2", "P3", "P4", "P5", "P6",
+    "P7", "P8", "usage",
+];
+
+/// The page of each code.
+pub(crate) const PAGES: [&str; 50] = [
+    declarations::V1,
+    declarations::V2,
+    declarations::V3,
+    declarations::V4,
+    declarations::V5,
+    declarations::V6,
+    declarations::V7,
+    declarations::V8,
+    declarations::V9,
+    declarations::A1,
+    drawing::G1,
+    drawing::G2,
+    drawing::G3,
+    drawing::G4,
+    drawing::G5,
+    drawing::G6,
+    drawing::G7,
+    drawing::G8,
+    drawing::G9,
+    drawing::G10,
+    drawing::G11,
+    drawing::G12,
+    drawing::G13,
+    drawing::G14,
+    drawing::G15,
+    questions::C1,
+    questions::C2,
+    questions::C3,
+    questions::C4,
+    questions::C5,
+    questions::C6,
+    questions::C7,
+    questions::C8,
+    questions::S1,
+    files::X1,
+    files::X2,
+    files::X3,
+    files::X4,
+    files::X5,
+    files::X6,
+    files::X7,
+    projects::P1,
+    projects::P2,
+    projects::P3,
+    projects::P4,
+    projects::P5,
+    projects::P6,
+    projects::P7,
+    projects::P8,
+    words::USAGE,
+];
+
+/// The titles of all pages, a line each.
+pub(crate) const TITLES: &str = "\
+V1: a character that is allowed in comments only
+V2: a word or mark that isn't allowed here
+V3: no name
+V4: a name that was declared before
+V5: an address that was declared before
+V6: no preset for this block
+V7: too many variables or instances
+V8: the text ends too early
+V9: out of memory
+A1: an alias that is a name or another alias
+G1: something past the right rail
+G2: too many lines in a rung
+G3: no cell
+G4: no joint
+G5: a vertical link with a loose end
+G6: a cell that nothing feeds
+G7: a symbol without a name
+G8: a name without a symbol
+G9: a name that isn't declared
+G10: a name that this symbol can't have
+G11: a block without its lower cell, or a lower cell without its block
+G12: an instance that is drawn twice
+G13: a label or a jump that isn't allowed here
+G14: a second jump in a rung
+G15: too many rungs
+C1: the moment is before the stored one
+C2: no coil writes this variable
+C3: too many inputs are listed
+C4: a listed variable is no input
+C5: an input is listed twice
+C6: there is no such number
+C7: out of memory
+C8: there are no such scans
+S1: a scan before the stored moment
+X1: a file can't be read
+X2: a record of the state or the stimulus is bad
+X3: an argument is no name of a variable, or no input in a stimulus
+X4: a moment that goes back
+X5: a text is too long
+X6: a write failed
+X7: out of memory
+P1: this is no project
+P2: a rung that can't be read
+P3: a table that can't be read
+P4: a section that is no ladder diagram
+P5: a section whose rungs don't lead to its last
+P6: an element that can't be carried over
+P7: too many rungs, variables or blocks
+P8: the text isn't the project
+usage: the arguments are not those of a request
+";

@@ -1,0 +1,2 @@
+mod Endings
+mod Names

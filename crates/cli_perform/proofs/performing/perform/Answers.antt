@@ -1,0 +1,60 @@
+use Rattle.std.proofs.Common.{inr, refl}
+use Rattle.cli_perform.proofs.Endings.{with_second, with_third}
+use Rattle.cli_perform.proofs.performing.perform.Goals as goal
+
+pub returns-in-Check-clause-done : goal.returns-in-Check-clause-done
+returns-in-Check-clause-done g c = λ status.
+    let done = c.print.ensures.done status in
+    rw c.in-Check.is (done.0, refl, done.1)
+
+pub returns-in-Check-clause-failed : goal.returns-in-Check-clause-failed
+returns-in-Check-clause-failed g c = λ status.
+    rw c.in-Check.is (with_second refl (c.print.ensures.failed (g.S.Sink.log c.args.save.now) status))
+
+pub returns-in-Uses-clause-failed : goal.returns-in-Uses-clause-failed
+returns-in-Uses-clause-failed g c = λ status.
+    rw c.in-Uses.is (with_second refl (c.print-in-Uses.ensures.failed (g.S.Sink.log c.args.save.now) status))
+
+pub returns-in-Some-clause-done : goal.returns-in-Some-clause-done
+returns-in-Some-clause-done g c = λ status. rw (c.in-Causes.is, c.in-Some.is) (c.list_part.ensures.done status, refl)
+
+pub returns-in-Some-clause-failed : goal.returns-in-Some-clause-failed
+returns-in-Some-clause-failed g c = λ status.
+    rw (c.in-Causes.is, c.in-Some.is) (with_third refl (c.list_part.ensures.failed (g.S.Sink.log c.args.save.now) status))
+
+pub returns-in-None-clause-done : goal.returns-in-None-clause-done
+returns-in-None-clause-done g c = λ status. rw (c.in-Causes.is, c.in-None.is) (c.list_causes.ensures.done status, refl)
+
+pub returns-in-None-clause-failed : goal.returns-in-None-clause-failed
+returns-in-None-clause-failed g c = λ status.
+    rw (c.in-Causes.is, c.in-None.is) (with_third refl (c.list_causes.ensures.failed (g.S.Sink.log c.args.save.now) status))
+
+pub returns-in-Never-clause-failed : goal.returns-in-Never-clause-failed
+returns-in-Never-clause-failed g c = λ status. rw c.in-Never.is (with_third refl (c.list_never.ensures.failed (g.S.Sink.log c.args.save.now) status))
+
+pub returns-in-Possible-clause-failed : goal.returns-in-Possible-clause-failed
+returns-in-Possible-clause-failed g c = λ status. rw c.in-Possible.is (with_third refl (c.list_possible.ensures.failed (g.S.Sink.log c.args.save.now) status))
+
+pub returns-in-Groups-clause-failed : goal.returns-in-Groups-clause-failed
+returns-in-Groups-clause-failed g c = λ status. rw c.in-Groups.is (with_third refl (c.list_groups.ensures.failed (g.S.Sink.log c.args.save.now) status))
+
+pub returns-in-Show-clause-failed : goal.returns-in-Show-clause-failed
+returns-in-Show-clause-failed g c = λ status. rw c.in-Show.is (with_second refl (c.show.ensures.failed (g.S.Sink.log c.args.save.now) status))
+
+pub returns-in-Held-clause-failed : goal.returns-in-Held-clause-failed
+returns-in-Held-clause-failed g c = λ status. rw c.in-Held.is (with_third refl (c.list_held.ensures.failed (g.S.Sink.log c.args.save.now) status))
+
+pub returns-in-Waves-clause-failed : goal.returns-in-Waves-clause-failed
+returns-in-Waves-clause-failed g c = λ status. rw c.in-Waves.is (with_third refl (c.wave.ensures.failed (g.S.Sink.log c.args.save.now) status))
+
+pub returns-in-Import-clause-failed : goal.returns-in-Import-clause-failed
+returns-in-Import-clause-failed g c = λ status. rw c.in-Import.is (inr (c.import_project.ensures.failed status, refl))
+
+pub returns-in-Relevant-clause-failed : goal.returns-in-Relevant-clause-failed
+returns-in-Relevant-clause-failed g c = λ status. rw c.in-Relevant.is (with_third refl (c.list_relevant.ensures.failed (g.S.Sink.log c.args.save.now) status))
+
+pub returns-in-Progress-clause-done : goal.returns-in-Progress-clause-done
+returns-in-Progress-clause-done g c = λ status. rw c.in-Progress.is (c.list_progress.ensures.done (g.S.Sink.log c.args.save.now) status, refl)
+
+pub returns-in-Progress-clause-failed : goal.returns-in-Progress-clause-failed
+returns-in-Progress-clause-failed g c = λ status. rw c.in-Progress.is (with_third refl (c.list_progress.ensures.failed (g.S.Sink.log c.args.save.now) status))

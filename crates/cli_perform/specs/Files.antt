@@ -1,0 +1,67 @@
+-- The files of a request: in which order they are read, how long each may be, and which fault comes where.
+use Rattle.std.specs.Prelude.{◌≡◌, ◌<◌, ◌≤◌, ℕ, List, Option, None, Some, IfSome, length}
+use Rattle.io_text.specs.Calls.{LastFails}
+use Rattle.io_text.specs.Log.{ReadLog}
+use Rattle.io_text.specs.declared.fault.ReadFault.{ReadFault}
+use Rattle.io_text.specs.declared.fault.ReadFault.TheVariants as read
+use Rattle.cli_inputs.specs.declared.fault.TextKind.{TextKind}
+use Rattle.cli_inputs.specs.declared.fault.TextKind.TheVariants as kind
+use Rattle.cli_inputs.specs.declared.fault.ToolFault.{ToolFault}
+use Rattle.cli_inputs.specs.declared.fault.ToolFault.TheVariants as fault
+use Rattle.cli_perform.specs.declared.files.TheConstants.{TEXT_LIMIT, STIMULUS_LIMIT}
+use Rattle.cli_inputs.specs.Setting.{Given}
+
+-- the readers of a program, and of a state, a stimulus and a HAL file where the request names them
+pub record Files : Type 0 where
+  pub program : ReadLog
+  pub state : Option ReadLog
+  pub stimulus : Option ReadLog
+  pub hal : Option ReadLog
+
+abbrev pub files : ReadLog → Option ReadLog → Option ReadLog → Option ReadLog → Files
+files program state stimulus hal = record { program = program; state = state; stimulus = stimulus; hal = hal }
+
+-- the largest text of a kind, in bytes
+abbrev pub largest : TextKind → ℕ
+largest kind.Stimulus = STIMULUS_LIMIT
+largest other = TEXT_LIMIT
+
+-- This is all that the reader had, and no more than is allowed.
+abbrev pub IsWhole : TextKind → ReadLog → List ℕ → Type 0
+IsWhole k log text = IfSome log.remaining (λ all. text ≡ all) × (length text ≤ largest k)
+
+-- Where the request names a text, it is such a one.
+abbrev pub AreWhole : TextKind → Option ReadLog → Option (List ℕ) → Type 0
+AreWhole k None text = text ≡ None
+AreWhole k (Some log) text = (t : List ℕ) × (text ≡ Some t) × IsWhole k log t
+
+-- Why a text could not be read: the last call of its reader failed, more came than is allowed, or being out of memory.
+abbrev pub IsUnread : TextKind → ReadLog → ReadLog → ReadFault → Type 0
+IsUnread k old new read.Read = LastFails old.tally new.tally
+IsUnread k old new read.TooLong = IfSome old.remaining (λ all. largest k < length all)
+IsUnread k old new read.Memory = Unit {0}
+
+abbrev pub AreUnread : TextKind → Option ReadLog → Option ReadLog → ReadFault → Type 0
+AreUnread k (Some old) (Some new) f = IsUnread k old new f
+AreUnread k old new f = ⊥
+
+-- All texts were read, that of a HAL file too.
+abbrev pub AreRead : Files → Given → Type 0
+AreRead files g = IsWhole kind.Program files.program g.program × AreWhole kind.State files.state g.state × AreWhole kind.Stimulus files.stimulus g.stimulus
+    × ((hal : Option (List ℕ)) × AreWhole kind.Hal files.hal hal)
+
+-- The program is read first, then the state, the stimulus and the HAL file, up to the first that can't be read: no call was made of those
+-- after it.
+abbrev pub StopsAt : Files → Files → ToolFault → Type 0
+StopsAt old new (fault.Read kind.Program f) =
+    IsUnread kind.Program old.program new.program f × (new.state ≡ old.state) × (new.stimulus ≡ old.stimulus) × (new.hal ≡ old.hal)
+StopsAt old new (fault.Read kind.State f) =
+    (text : List ℕ) × IsWhole kind.Program old.program text × AreUnread kind.State old.state new.state f × (new.stimulus ≡ old.stimulus)
+    × (new.hal ≡ old.hal)
+StopsAt old new (fault.Read kind.Stimulus f) =
+    (text : List ℕ) × (state : Option (List ℕ)) × IsWhole kind.Program old.program text × AreWhole kind.State old.state state
+    × AreUnread kind.Stimulus old.stimulus new.stimulus f × (new.hal ≡ old.hal)
+StopsAt old new (fault.Read kind.Hal f) =
+    (text : List ℕ) × (state : Option (List ℕ)) × (stimulus : Option (List ℕ)) × IsWhole kind.Program old.program text
+    × AreWhole kind.State old.state state × AreWhole kind.Stimulus old.stimulus stimulus × AreUnread kind.Hal old.hal new.hal f
+StopsAt old new other = ⊥

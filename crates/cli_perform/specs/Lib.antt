@@ -1,0 +1,5 @@
+pub mod Performs
+pub mod Files
+pub mod Coils
+pub mod Telling
+pub mod CoilNames

@@ -1,0 +1,208 @@
+//! The coils of which a request is made, and what is refused whichever coil it is made of.
+
+ghost use Rattle.std.specs.Prelude.{◌≡◌, IfOk, map, string_bytes};
+ghost use Rattle.causes_query.specs.Causes.{question};
+ghost use Rattle.causes_query.specs.Refusal.{refusal};
+ghost use Rattle.cli_inputs.specs.Setting.{given_by};
+ghost use Rattle.cli_perform.specs.Coils.{HasCoils};
+
+use crate::coils::coil_names;
+use causes_query::CauseFault;
+use causes_query::refusal::refusal;
+use cli_arguments::{ListRequest, PossibleRequest, Request};
+use cli_inputs::{
+    CauseVariables, Setting, Texts, ToolFault, asked_variables, moment, read_setting,
+};
+use scan_held::{Scans, are_no_scans};
+use search_groups::BITS_LIMIT;
+use std::alloc::Global;
+
+/// Reads the texts, and returns the names of the coils of which the request is to be made.
+///
+/// # Errors
+///
+/// A fault of the texts, of the names of the inputs, or of what is asked: one that the request has with each coil.
+pub(crate) fn read_coils(
+    alloc: Global,
+    request: &Request,
+    texts: &Texts,
+) -> Result<Vec<String>, ToolFault>
+    ensures coils { IfOk result (λ names. HasCoils (given_by texts.now) (map string_bytes names.items)) }
+{
+    let setting = match read_setting(alloc, texts) {
+        Ok(setting) => setting,
+        Err(fault) => return Err(fault),
+    };
+    let Ok(names) = coil_names(alloc, &setting.program) else {
+        return Err(ToolFault::Memory);
+    };
+    let [first, ..] = names.as_slice() else {
+        return Ok(names);
+    };
+    match check_for(alloc, request, &setting, first) {
+        Ok(()) => Ok(names),
+        Err(fault) => Err(fault),
+    }
+}
+
+/// Refuses a request of this coil for what has nothing to do with the coil.
+fn check_for(
+    alloc: Global,
+    request: &Request,
+    setting: &Setting,
+    coil: &String,
+) -> Result<(), ToolFault> {
+    match request {
+        Request::Causes { list, after, upto } | Request::Progress { list, after, upto } => {
+            match check_list(alloc, list, *after, setting, coil) {
+                // A number to end at is refused as one to begin after.
+                Ok(()) => check_list(alloc, list, *upto, setting, coil),
+                Err(fault) => Err(fault),
+            }
+        }
+        Request::Groups { list, .. } => check_list(alloc, list, None, setting, coil),
+        Request::Held {
+            list,
+            scans,
+            every,
+            grouped,
+        } => {
+            let scans = Scans {
+                count: *scans,
+                every: *every,
+            };
+            check_held(alloc, list, scans, *grouped, setting, coil)
+        }
+        Request::Relevant { list, .. } => check_relevant(alloc, list, setting, coil),
+        Request::Possible(possible) => check_possible(alloc, possible, setting, coil),
+        Request::Check { .. }
+        | Request::Never(_)
+        | Request::Show(_)
+        | Request::Film(_)
+        | Request::Sim(_)
+        | Request::Watch(_)
+        | Request::Waves(_)
+        | Request::Uses { .. }
+        | Request::Import { .. } => Ok(()),
+    }
+}
+
+/// The first rule that is broken by what is asked at this moment.
+fn refused(
+    setting: &Setting,
+    now: u64,
+    named: &CauseVariables,
+    after: Option<u64>,
+) -> Option<CauseFault>
+    ensures { result ≡ refusal (question setting.now.program setting.now.state now named.now.coil named.now.inputs.items) after }
+{
+    refusal(
+        &setting.program,
+        &setting.state,
+        now,
+        named.coil,
+        &named.inputs,
+        after,
+    )
+}
+
+fn check_list(
+    alloc: Global,
+    list: &ListRequest,
+    after: Option<u64>,
+    setting: &Setting,
+    coil: &String,
+) -> Result<(), ToolFault> {
+    let named = match asked_variables(
+        alloc,
+        setting.program.decls(),
+        coil.as_str(),
+        list.all_inputs,
+        &list.inputs,
+    ) {
+        Ok(named) => named,
+        Err(fault) => return Err(fault),
+    };
+    let now = moment(list.moment, setting.state.moment());
+    match refused(setting, now, &named, after) {
+        Some(fault) => Err(ToolFault::Cause(fault)),
+        None => Ok(()),
+    }
+}
+
+fn check_held(
+    alloc: Global,
+    list: &ListRequest,
+    scans: Scans,
+    grouped: bool,
+    setting: &Setting,
+    coil: &String,
+) -> Result<(), ToolFault> {
+    let named = match asked_variables(
+        alloc,
+        setting.program.decls(),
+        coil.as_str(),
+        list.all_inputs,
+        &list.inputs,
+    ) {
+        Ok(named) => named,
+        Err(fault) => return Err(fault),
+    };
+    if grouped && is_too_wide(&named) {
+        return Err(ToolFault::Cause(CauseFault::TooManyFree));
+    }
+    let now = moment(list.moment, setting.state.moment());
+    match refused(setting, now, &named, None) {
+        Some(fault) => Err(ToolFault::Cause(fault)),
+        None if are_no_scans(now, scans) => Err(ToolFault::NoScans),
+        None => Ok(()),
+    }
+}
+
+/// Whether there are too many inputs for a list that is made from a table of all numbers.
+fn is_too_wide(named: &CauseVariables) -> bool {
+    named.inputs.len() > BITS_LIMIT as usize
+}
+
+/// Which inputs matter depends on the coil, and so what is refused of them.
+fn check_relevant(
+    alloc: Global,
+    list: &ListRequest,
+    setting: &Setting,
+    coil: &String,
+) -> Result<(), ToolFault> {
+    let named = match asked_variables(alloc, setting.program.decls(), coil.as_str(), false, &[]) {
+        Ok(named) => named,
+        Err(fault) => return Err(fault),
+    };
+    let now = moment(list.moment, setting.state.moment());
+    match refused(setting, now, &named, None) {
+        Some(fault) => Err(ToolFault::Cause(fault)),
+        None => Ok(()),
+    }
+}
+
+fn check_possible(
+    alloc: Global,
+    possible: &PossibleRequest,
+    setting: &Setting,
+    coil: &String,
+) -> Result<(), ToolFault> {
+    let named = match asked_variables(
+        alloc,
+        setting.program.decls(),
+        coil.as_str(),
+        possible.all_inputs,
+        &possible.inputs,
+    ) {
+        Ok(named) => named,
+        Err(fault) => return Err(fault),
+    };
+    if possible.grouped && is_too_wide(&named) {
+        return Err(ToolFault::Cause(CauseFault::TooManyFree));
+    }
+    match refused(setting, setting.state.moment(), &named, None) {
+        Some(fault) => Err(ToolFault::Cause(fault)),
+        None => Ok(()),
+    }
+}

@@ -1,0 +1,119 @@
+//! The reading of a request's files, and its performance on them.
+
+ghost use Rattle.std.specs.Prelude.{◌≡◌, ◌≤◌, ◌⊎◌, IfErr, IfOk, option_map, vec_items};
+ghost use Rattle.cli_perform.specs.Files.{AreRead, AreUnread, AreWhole, IsUnread, IsWhole, StopsAt, files, largest};
+ghost use Rattle.io_text.specs.declared.fault.ReadFault.{ReadFault};
+ghost use Rattle.cli_inputs.specs.Reports.{Refuses, logs, unread};
+ghost use Rattle.cli_perform.specs.Performs.{IsDone, IsFailed};
+ghost use Rattle.cli_inputs.specs.Setting.{Given, given_by};
+
+use crate::performing::perform;
+use cli_arguments::CommandLine;
+use cli_inputs::{TextKind, Texts, ToolFault, report_unread};
+use io_text::{Sink, Source, read_text};
+use std::alloc::Global;
+
+/// The largest text of a program, a state or a HAL file, in bytes.
+pub(crate) const TEXT_LIMIT: usize = 1_048_576;
+
+/// The largest stimulus, in bytes.
+pub(crate) const STIMULUS_LIMIT: usize = 16_777_216;
+
+/// The readers of a request's files: of the program, and of the state, the stimulus and a HAL file where the request names them.
+#[derive(Drop)]
+pub struct Readers<R: Source> {
+    pub program: R,
+    pub state: Option<R>,
+    pub stimulus: Option<R>,
+    pub hal: Option<R>,
+}
+
+/// The largest text of a kind, in bytes.
+fn limit(kind: TextKind) -> usize
+    ensures { result ≡ largest kind }
+{
+    match kind {
+        TextKind::Program | TextKind::State | TextKind::Hal => TEXT_LIMIT,
+        TextKind::Stimulus => STIMULUS_LIMIT,
+    }
+}
+
+/// Reads a text of a kind, within its limit.
+fn read_one<R: Source>(alloc: Global, kind: TextKind, reader: &mut R) -> Result<Vec<u8>, ToolFault>
+    ensures whole { IfOk result (λ text. IsWhole kind (R.log reader.old) text.items) }
+    ensures fault { IfErr result (λ e. (f : ReadFault) × (e ≡ ToolFault.Read kind f) × IsUnread kind (R.log reader.old) (R.log reader.new) f) }
+{
+    match read_text(alloc, reader, limit(kind)) {
+        Ok(text) => Ok(text),
+        Err(fault) => Err(ToolFault::Read(kind, fault)),
+    }
+}
+
+/// Reads a text of a kind, where the request names one.
+fn read_named<R: Source>(
+    alloc: Global,
+    kind: TextKind,
+    reader: &mut Option<R>,
+) -> Result<Option<Vec<u8>>, ToolFault>
+    ensures whole { IfOk result (λ text. AreWhole kind (option_map R.log reader.old) (option_map vec_items text)) }
+    ensures fault { IfErr result (λ e. (f : ReadFault) × (e ≡ ToolFault.Read kind f) × AreUnread kind (option_map R.log reader.old) (option_map R.log reader.new) f) }
+{
+    match reader {
+        Some(reader) => {
+            let text = read_one(alloc, kind, reader)?;
+            Ok(Some(text))
+        }
+        None => Ok(None),
+    }
+}
+
+/// Reads the texts of the request of a command line, up to the first that can't be read: the program, then the state, the stimulus and the HAL
+/// file.
+pub(crate) fn read_texts<R: Source>(
+    alloc: Global,
+    line: &CommandLine,
+    readers: &mut Readers<R>,
+) -> Result<Texts, ToolFault>
+    ensures why { IfOk result (λ texts. texts.why ≡ line.now.why) }
+    ensures aliases { IfOk result (λ texts. texts.aliases ≡ line.now.aliases) }
+    ensures read { IfOk result (λ texts. AreRead (files (R.log readers.old.program) (option_map R.log readers.old.state) (option_map R.log readers.old.stimulus) (option_map R.log readers.old.hal)) (given_by texts)) }
+    ensures fault { IfErr result (StopsAt (files (R.log readers.old.program) (option_map R.log readers.old.state) (option_map R.log readers.old.stimulus) (option_map R.log readers.old.hal)) (files (R.log readers.new.program) (option_map R.log readers.new.state) (option_map R.log readers.new.stimulus) (option_map R.log readers.new.hal))) }
+{
+    let program = read_one(alloc, TextKind::Program, &mut readers.program)?;
+    let state = read_named(alloc, TextKind::State, &mut readers.state)?;
+    let stimulus = read_named(alloc, TextKind::Stimulus, &mut readers.stimulus)?;
+    let hal = read_named(alloc, TextKind::Hal, &mut readers.hal)?;
+    Ok(Texts {
+        program,
+        state,
+        stimulus,
+        hal,
+        why: line.why,
+        aliases: line.aliases,
+    })
+}
+
+/// Reads the texts of the request of a command line and performs it on them, as `perform` does. A text that can't be read is a fault, whose line is on `err`.
+/// Returns the status: 0 where all was written, 1 where a fault stopped it.
+pub fn perform_files<R: Source, O: Sink, S: Sink, E: Sink>(
+    alloc: Global,
+    line: &CommandLine,
+    readers: &mut Readers<R>,
+    out: &mut O,
+    save: &mut S,
+    err: &mut E,
+) -> u8
+    ensures status { result ≤ 1 }
+    ensures done { result ≡ 0 → (g : Given) × (g.why ≡ line.now.why) × (g.aliases ≡ line.now.aliases)
+        × AreRead (files (R.log readers.old.program) (option_map R.log readers.old.state) (option_map R.log readers.old.stimulus) (option_map R.log readers.old.hal)) g
+        × IsDone line.now.request g (logs (O.log out.old) (S.log save.old) (E.log err.old)) (logs (O.log out.new) (S.log save.new) (E.log err.new)) }
+    ensures failed { result ≡ 1 → Refuses (unread line.now.why) (StopsAt (files (R.log readers.old.program) (option_map R.log readers.old.state) (option_map R.log readers.old.stimulus) (option_map R.log readers.old.hal)) (files (R.log readers.new.program) (option_map R.log readers.new.state) (option_map R.log readers.new.stimulus) (option_map R.log readers.new.hal)))
+        (logs (O.log out.old) (S.log save.old) (E.log err.old)) (logs (O.log out.new) (S.log save.new) (E.log err.new))
+        ⊎ ((g : Given) × (g.why ≡ line.now.why) × (g.aliases ≡ line.now.aliases) × AreRead (files (R.log readers.old.program) (option_map R.log readers.old.state) (option_map R.log readers.old.stimulus) (option_map R.log readers.old.hal)) g
+        × IsFailed line.now.request g (logs (O.log out.old) (S.log save.old) (E.log err.old)) (logs (O.log out.new) (S.log save.new) (E.log err.new))) }
+{
+    match read_texts(alloc, line, readers) {
+        Ok(texts) => perform(alloc, &line.request, &texts, out, save, err),
+        Err(fault) => report_unread(line.why, &fault, err),
+    }
+}

@@ -1,0 +1,266 @@
+//! A request that is made of each coil of a program, over the files of a folder.
+
+ghost use Rattle.std.specs.Prelude.{◌≤◌};
+
+use crate::asking::read_coils;
+use crate::coil::perform_coil;
+use crate::files::read_texts;
+use crate::opening::readers_of;
+use crate::saving::followed;
+use cli_arguments::{AllCoils, CommandLine, GroupFormat, Request};
+use cli_inputs::{Texts, ToolFault, report, report_unread};
+use io_text::CountedWriter;
+use std::alloc::{AllocError, Global};
+use std::fs::{self, File};
+use std::io::{self, Write};
+
+/// The file of a coil, which is made anew and empty. One that can't be made is a failed write.
+#[derive(Drop)]
+struct CoilFile {
+    file: io::Result<File>,
+}
+
+impl Write for CoilFile {
+    fn write(&mut self, bytes: &[u8]) -> io::Result<usize> {
+        match &mut self.file {
+            Ok(file) => file.write(bytes),
+            Err(error) => Err(io::Error::from(error.kind())),
+        }
+    }
+
+    fn flush(&mut self) -> io::Result<()> {
+        match &mut self.file {
+            Ok(file) => file.flush(),
+            Err(error) => Err(io::Error::from(error.kind())),
+        }
+    }
+}
+
+/// The form in which a list is written.
+fn form_of(request: &Request) -> GroupFormat {
+    match request {
+        Request::Groups { grouping, .. }
+        | Request::Relevant {
+            grouping: Some(grouping),
+            ..
+        } => grouping.form,
+        Request::Relevant { grouping: None, .. }
+        | Request::Causes { .. }
+        | Request::Progress { .. }
+        | Request::Held { .. }
+        | Request::Possible(_)
+        | Request::Check { .. }
+        | Request::Never(_)
+        | Request::Show(_)
+        | Request::Film(_)
+        | Request::Sim(_)
+        | Request::Watch(_)
+        | Request::Waves(_)
+        | Request::Uses { .. }
+        | Request::Import { .. } => GroupFormat::Table,
+    }
+}
+
+/// How the name of a file ends that has a list in this form.
+fn ending(form: GroupFormat) -> &'static str {
+    match form {
+        GroupFormat::Table => ".csv",
+        GroupFormat::Terms => ".txt",
+        GroupFormat::Statement => ".st",
+    }
+}
+
+/// The path of the file of a coil.
+fn path_of(alloc: Global, folder: &str, coil: &str, end: &str) -> Result<String, AllocError> {
+    let mut path = String::from_str(alloc, folder)?;
+    path.push_str("/")?;
+    path.push_str(coil)?;
+    path.push_str(end)?;
+    Ok(path)
+}
+
+/// The path of the state that a request reads, where there is one.
+fn state_of(request: &Request) -> Option<&str> {
+    match request {
+        Request::Causes { list, .. }
+        | Request::Progress { list, .. }
+        | Request::Held { list, .. }
+        | Request::Groups { list, .. }
+        | Request::Relevant { list, .. } => match &list.state {
+            Some(path) => Some(path.as_str()),
+            None => None,
+        },
+        Request::Possible(_)
+        | Request::Check { .. }
+        | Request::Never(_)
+        | Request::Show(_)
+        | Request::Film(_)
+        | Request::Sim(_)
+        | Request::Watch(_)
+        | Request::Waves(_)
+        | Request::Uses { .. }
+        | Request::Import { .. } => None,
+    }
+}
+
+/// The path of the program that a list is asked of.
+fn program_of(request: &Request) -> &str {
+    match request {
+        Request::Causes { list, .. }
+        | Request::Progress { list, .. }
+        | Request::Held { list, .. }
+        | Request::Groups { list, .. }
+        | Request::Relevant { list, .. } => list.file.as_str(),
+        Request::Possible(possible) => possible.file.as_str(),
+        Request::Check { .. }
+        | Request::Never(_)
+        | Request::Show(_)
+        | Request::Film(_)
+        | Request::Sim(_)
+        | Request::Watch(_)
+        | Request::Waves(_)
+        | Request::Uses { .. }
+        | Request::Import { .. } => "",
+    }
+}
+
+/// Where the lists of all coils go, and the texts that they are made from.
+#[derive(Drop)]
+struct Lists<'a> {
+    rt: &'a HostRuntime,
+    alloc: Global,
+    folder: &'a str,
+    texts: &'a Texts,
+}
+
+impl Lists<'_> {
+    /// The path of the file of a coil.
+    fn path(&self, coil: &str, form: GroupFormat) -> Result<String, AllocError> {
+        let mut path = String::from_str(self.alloc, self.folder)?;
+        path.push_str("/")?;
+        path.push_str(coil)?;
+        path.push_str(ending(form))?;
+        Ok(path)
+    }
+
+    /// Whether this is the file of a path, where links are followed.
+    fn is_file(&self, file: &str, path: &str) -> Result<bool, AllocError> {
+        let file = followed(self.rt, self.alloc, file)?;
+        Ok(file.as_str() == path)
+    }
+
+    /// Whether the list of a coil would be written over the program or the state.
+    fn is_taken(&self, request: &Request, coil: &str) -> Result<bool, AllocError> {
+        let path = self.path(coil, form_of(request))?;
+        let path = followed(self.rt, self.alloc, path.as_str())?;
+        if self.is_file(program_of(request), path.as_str())? {
+            return Ok(true);
+        }
+        match state_of(request) {
+            Some(state) => self.is_file(state, path.as_str()),
+            None => Ok(false),
+        }
+    }
+
+    /// Whether a list would be written over the program or the state.
+    fn are_taken(&self, request: &Request, coils: &[String]) -> Result<bool, AllocError> {
+        for coil in coils {
+            if self.is_taken(request, coil.as_str())? {
+                return Ok(true);
+            }
+        }
+        Ok(false)
+    }
+
+    /// Makes the folder where it isn't there.
+    fn make_folder(&self) -> io::Result<()> {
+        match fs::metadata(self.rt, self.folder) {
+            Ok(metadata) if metadata.is_dir() => Ok(()),
+            Ok(_) | Err(_) => fs::create_dir(self.rt, self.folder),
+        }
+    }
+
+    /// Says what is wrong. Returns the status 1.
+    fn refuse(&self, fault: &ToolFault) -> u8
+        ensures { result ≤ 1 }
+    {
+        report(self.texts, fault, &mut CountedWriter::new(self.rt.stderr()))
+    }
+
+    /// Makes the list of a coil. Returns the status.
+    fn list(&self, request: &mut Request, coil: String) -> u8
+        ensures { result ≤ 1 }
+    {
+        let Ok(path) = self.path(coil.as_str(), form_of(request)) else {
+            return self.refuse(&ToolFault::Memory);
+        };
+        let file = fs::create(self.rt, path.as_str());
+        let mut out = CountedWriter::new(CoilFile { file });
+        let mut save = CountedWriter::new(io::sink());
+        let mut err = CountedWriter::new(self.rt.stderr());
+        perform_coil(
+            self.alloc, request, coil, self.texts, &mut out, &mut save, &mut err,
+        )
+    }
+
+    /// Makes the list of each coil, one after the other. Returns the largest status.
+    fn list_all(&self, request: &mut Request, coils: Vec<String>) -> u8
+        ensures { result ≤ 1 }
+    {
+        let mut are_made = true;
+        for coil in coils {
+            if self.list(request, coil) != 0 {
+                are_made = false;
+            }
+        }
+        if are_made { 0 } else { 1 }
+    }
+
+    /// Makes the lists of these coils, where no list is written over what is read. Returns the status.
+    fn make(&self, request: &mut Request, coils: Vec<String>) -> u8
+        ensures { result ≤ 2 }
+    {
+        match self.are_taken(request, &coils) {
+            Ok(false) => (),
+            Ok(true) => {
+                self.refuse(&ToolFault::Usage);
+                return 2;
+            }
+            Err(_) => return self.refuse(&ToolFault::Memory),
+        }
+        if self.make_folder().is_err() {
+            return self.refuse(&ToolFault::Write);
+        }
+        self.list_all(request, coils)
+    }
+}
+
+/// Reads the texts of a request.
+fn texts_of(rt: &HostRuntime, alloc: Global, line: &CommandLine) -> Result<Texts, ToolFault> {
+    let mut readers = readers_of(rt, &line.request);
+    read_texts(alloc, line, &mut readers)
+}
+
+/// Performs a request for each coil of its program. Returns the status, the largest of all: 0 done, 1 a fault, 2 wrong usage.
+pub(crate) fn run_coils(rt: &HostRuntime, alloc: Global, all: &mut AllCoils) -> u8
+    ensures { result ≤ 2 }
+{
+    let texts = match texts_of(rt, alloc, &all.line) {
+        Ok(texts) => texts,
+        Err(fault) => return report_unread(
+            all.line.why,
+            &fault,
+            &mut CountedWriter::new(rt.stderr()),
+        ),
+    };
+    let lists = Lists {
+        rt,
+        alloc,
+        folder: all.folder.as_str(),
+        texts: &texts,
+    };
+    match read_coils(alloc, &all.line.request, &texts) {
+        Ok(coils) => lists.make(&mut all.line.request, coils),
+        Err(fault) => lists.refuse(&fault),
+    }
+}

@@ -1,0 +1,21 @@
+//! What the program `ladder` does for a request: the files that it reads, the bytes on its outputs, and its status.
+#![tactic(auto)]
+
+mod asking;
+mod coil;
+mod coils;
+mod files;
+mod folder;
+mod opening;
+mod performing;
+mod program;
+mod request;
+mod saving;
+mod telling;
+
+pub use coil::perform_coil;
+pub use coils::coil_names;
+pub use files::{Readers, perform_files};
+pub use performing::perform;
+pub use program::run;
+pub use request::{ask_of, is_quiet};

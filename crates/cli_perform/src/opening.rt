@@ -1,0 +1,142 @@
+//! The files that a request reads.
+
+use crate::files::Readers;
+use cli_arguments::Request;
+use io_text::CountedReader;
+use std::fs::{self, File};
+use std::io::{self, Read};
+
+/// What is read in place of a file named `-`.
+const STANDARD_INPUT: &str = "/dev/stdin";
+
+/// A file that is opened at the first read of it. One that doesn't open is a failed read.
+#[derive(Drop)]
+pub(crate) struct NamedFile<'a> {
+    rt: &'a HostRuntime,
+    path: &'a str,
+    file: Option<File>,
+}
+
+impl Read for NamedFile<'_> {
+    fn read(&mut self, bytes: &mut [u8]) -> io::Result<usize> {
+        if let Some(file) = &mut self.file {
+            return file.read(bytes);
+        }
+        let path = if self.path == "-" {
+            STANDARD_INPUT
+        } else {
+            self.path
+        };
+        let mut file = fs::open(self.rt, path)?;
+        let count = file.read(bytes);
+        self.file = Some(file);
+        count
+    }
+}
+
+fn reading<'a>(rt: &'a HostRuntime, path: &'a str) -> CountedReader<NamedFile<'a>> {
+    CountedReader::new(NamedFile {
+        rt,
+        path,
+        file: None,
+    })
+}
+
+/// The reader of an option's file, where the option was given.
+fn reading_named<'a>(
+    rt: &'a HostRuntime,
+    path: &'a Option<String>,
+) -> Option<CountedReader<NamedFile<'a>>> {
+    match path {
+        Some(path) => Some(reading(rt, path.as_str())),
+        None => None,
+    }
+}
+
+/// The reader of a program text alone.
+fn alone<'a>(rt: &'a HostRuntime, program: &'a str) -> Readers<CountedReader<NamedFile<'a>>> {
+    Readers {
+        program: reading(rt, program),
+        state: None,
+        stimulus: None,
+        hal: None,
+    }
+}
+
+/// The readers of a program text, and of a state where one is named.
+fn from_state<'a>(
+    rt: &'a HostRuntime,
+    program: &'a str,
+    state: &'a Option<String>,
+) -> Readers<CountedReader<NamedFile<'a>>> {
+    Readers {
+        program: reading(rt, program),
+        state: reading_named(rt, state),
+        stimulus: None,
+        hal: None,
+    }
+}
+
+/// The readers of what is simulated: a program text, a state where one is named, and a stimulus.
+fn simulated<'a>(
+    rt: &'a HostRuntime,
+    program: &'a str,
+    state: &'a Option<String>,
+    stimulus: &'a str,
+) -> Readers<CountedReader<NamedFile<'a>>> {
+    Readers {
+        program: reading(rt, program),
+        state: reading_named(rt, state),
+        stimulus: Some(reading(rt, stimulus)),
+        hal: None,
+    }
+}
+
+/// The readers of a project, and of a HAL file where one is named.
+fn imported<'a>(
+    rt: &'a HostRuntime,
+    project: &'a str,
+    hal: &'a Option<String>,
+) -> Readers<CountedReader<NamedFile<'a>>> {
+    Readers {
+        program: reading(rt, project),
+        state: None,
+        stimulus: None,
+        hal: reading_named(rt, hal),
+    }
+}
+
+/// The readers of the files that a request names, none of which was opened yet.
+pub(crate) fn readers_of<'a>(
+    rt: &'a HostRuntime,
+    request: &'a Request,
+) -> Readers<CountedReader<NamedFile<'a>>> {
+    match request {
+        Request::Check { file, .. } | Request::Uses { file } => alone(rt, file.as_str()),
+        Request::Import { file, hal, .. } => imported(rt, file.as_str(), hal),
+        Request::Causes { list, .. }
+        | Request::Progress { list, .. }
+        | Request::Held { list, .. }
+        | Request::Groups { list, .. }
+        | Request::Relevant { list, .. } => from_state(rt, list.file.as_str(), &list.state),
+        Request::Possible(possible) => alone(rt, possible.file.as_str()),
+        Request::Never(never) => from_state(rt, never.file.as_str(), &never.state),
+        Request::Show(show) => from_state(rt, show.file.as_str(), &show.state),
+        Request::Film(film) => {
+            simulated(rt, film.file.as_str(), &film.state, film.stimulus.as_str())
+        }
+        Request::Waves(waves) => {
+            simulated(
+                rt,
+                waves.file.as_str(),
+                &waves.state,
+                waves.stimulus.as_str(),
+            )
+        }
+        Request::Sim(sim) => simulated(rt, sim.file.as_str(), &sim.state, sim.stimulus.as_str()),
+        Request::Watch(watched) => {
+            let sim = &watched.sim;
+            simulated(rt, sim.file.as_str(), &sim.state, sim.stimulus.as_str())
+        }
+    }
+}

@@ -1,0 +1,109 @@
+//! What is done for a request.
+
+ghost use Rattle.std.specs.Prelude.{◌≡◌, ◌≤◌, [], option_map, unwrap_or, vec_items};
+ghost use Rattle.cli_inputs.specs.Reports.{logs};
+ghost use Rattle.io_text.specs.Log.{PutsAll};
+ghost use Rattle.cli_import.specs.Carrying.{BreaksCarrying, Carries};
+ghost use Rattle.cli_perform.specs.Performs.{IsDone, IsFailed, reading_of};
+ghost use Rattle.cli_inputs.specs.Setting.{given_by};
+
+use cli_arguments::Request;
+use cli_import::carry;
+use cli_inputs::Texts;
+use cli_lists::{
+    list_causes, list_groups, list_held, list_never, list_part, list_possible, list_progress,
+    list_relevant,
+};
+use cli_views::{About, film, print, show, trace, watch, wave};
+use clp_project::ReadingOptions;
+use io_text::Sink;
+use scan_held::Scans;
+use std::alloc::Global;
+
+/// The text of the HAL file; empty where there is none.
+fn hal_of(texts: &Texts) -> &[u8]
+    ensures { result.now ≡ unwrap_or (option_map vec_items texts.now.hal) [] }
+{
+    match &texts.hal {
+        Some(text) => text.as_slice(),
+        None => &[],
+    }
+}
+
+/// Writes the program text of a project, whose numbers and charts are opened or not, and with controls to which nothing is drawn ON or not.
+fn import_project<O: Sink, E: Sink>(
+    alloc: Global,
+    opened: bool,
+    control_on: bool,
+    texts: &Texts,
+    out: &mut O,
+    err: &mut E,
+) -> u8
+    ensures status { result ≤ 1 }
+    ensures done { result ≡ 0 → Carries (reading_of opened control_on) (given_by texts.now).program (PutsAll (O.log out.old) (O.log out.new)) × (E.log err.new ≡ E.log err.old) }
+    ensures failed { result ≡ 1 → BreaksCarrying (reading_of opened control_on) (given_by texts.now).why (given_by texts.now).program (O.log out.old) (O.log out.new) (E.log err.old) (E.log err.new) }
+{
+    let reading = ReadingOptions { opened, control_on };
+    let hal = hal_of(texts);
+    carry(alloc, reading, texts.why, &texts.program, hal, out, err)
+}
+
+/// Performs a request on its texts: its text on `out`, the line of counts on `err`, and the state that is to be saved on `save`.
+/// Returns the status: 0 where all was written, 1 where a fault stopped it, whose line is on `err`, explained where that is asked for.
+pub fn perform<O: Sink, S: Sink, E: Sink>(
+    alloc: Global,
+    request: &Request,
+    texts: &Texts,
+    out: &mut O,
+    save: &mut S,
+    err: &mut E,
+) -> u8
+    ensures status { result ≤ 1 }
+    ensures done { result ≡ 0 → IsDone request.now (given_by texts.now) (logs (O.log out.old) (S.log save.old) (E.log err.old)) (logs (O.log out.new) (S.log save.new) (E.log err.new)) }
+    ensures failed { result ≡ 1 → IsFailed request.now (given_by texts.now) (logs (O.log out.old) (S.log save.old) (E.log err.old)) (logs (O.log out.new) (S.log save.new) (E.log err.new)) }
+{
+    match request {
+        Request::Check { warns, .. } => {
+            let about = About::Check { warns: *warns };
+            print(alloc, about, texts, out, err)
+        }
+        Request::Uses { .. } => print(alloc, About::Uses, texts, out, err),
+        Request::Never(never) => list_never(alloc, never, texts, out, err),
+        Request::Possible(possible) => list_possible(alloc, possible, texts, out, err),
+        Request::Causes { list, after, upto } => match *upto {
+            Some(last) => list_part(alloc, list, *after, last, texts, out, err),
+            None => list_causes(alloc, list, *after, texts, out, err),
+        },
+        Request::Progress { list, after, upto } => {
+            list_progress(alloc, list, *after, *upto, texts, out, err)
+        }
+        Request::Held {
+            list,
+            scans,
+            every,
+            grouped,
+        } => {
+            let scans = Scans {
+                count: *scans,
+                every: *every,
+            };
+            list_held(alloc, list, scans, *grouped, texts, out, err)
+        }
+        Request::Groups { list, grouping } => list_groups(alloc, list, *grouping, texts, out, err),
+        Request::Relevant {
+            list,
+            after,
+            grouping,
+        } => list_relevant(alloc, list, *after, *grouping, texts, out, err),
+        Request::Show(scan) => show(alloc, scan, texts, out, err),
+        Request::Film(stimulus) => film(alloc, stimulus, texts, out, err),
+        Request::Watch(watched) => watch(alloc, watched, texts, out, save, err),
+        Request::Waves(waves) => wave(alloc, texts, waves.every, out, err),
+        Request::Import {
+            opened,
+            control_on,
+            ..
+        } => import_project(alloc, *opened, *control_on, texts, out, err),
+        Request::Sim(sim) => { trace(alloc, texts, sim.every, sim.save.is_some(), out, save, err) }
+    }
+}

@@ -1,0 +1,263 @@
+//! The whole program, from its arguments to its status.
+
+ghost use Rattle.std.specs.Prelude.{◌≤◌};
+
+use crate::files::perform_files;
+use crate::folder::run_coils;
+use crate::opening::readers_of;
+use crate::saving::{SavedFile, followed};
+use crate::telling::telling;
+use cli_arguments::{AllCoils, CommandLine, Request, SimRequest, Task, WordFault, read_words};
+use cli_inputs::{ToolFault, write_fault};
+use cli_options::{codes, page_of};
+use io_text::{CountedWriter, Sink, WriteFault, put};
+use std::alloc::{AllocError, Global};
+use std::fs::{self, File};
+use std::io::{self, IsTerminal, Write};
+
+/// What is said of words that `clap` takes and that ask for nothing.
+const CLASH: &str =
+    "usage: no COIL and no --all-coils, options that exclude one another, an INPUT beside --all-inputs or --relevant, or no such order, control or code; \
+    `ladder help` with the name of the subcommand says which there are\n";
+
+/// Reads the arguments and the files that they name, and performs the request over the standard streams. Returns
+/// the status: 0 done, 1 a fault in a file or while running, 2 wrong usage. The first argument is the program's name.
+pub fn run(rt: &HostRuntime, alloc: Global, words: Vec<String>) -> u8
+    ensures { result ≤ 2 }
+{
+    // Words that can't be taken don't say what the flag means, so it is looked for among them.
+    let why = words.iter().any(|word| word.as_str() == "--why");
+    match read_words(alloc, words) {
+        Ok(Task::Perform(line)) => run_line(rt, alloc, &seen_on(rt, line)),
+        Ok(Task::PerformAll(mut all)) => run_all(rt, alloc, &mut all),
+        Ok(Task::Explain(names)) => explain(rt, &names),
+        Err(fault) => refuse(rt, why, &fault),
+    }
+}
+
+/// A plain list tells how far it is where that is seen: on a terminal to which its rows don't go.
+fn seen_on(rt: &HostRuntime, line: CommandLine) -> CommandLine {
+    if rt.stdout().is_terminal() || !rt.stderr().is_terminal() {
+        return line;
+    }
+    let CommandLine {
+        request,
+        why,
+        aliases,
+    } = line;
+    let request = telling(request);
+    CommandLine {
+        request,
+        why,
+        aliases,
+    }
+}
+
+/// Shows the help that the arguments ask for, or reports why they ask for nothing. Returns the status.
+fn refuse(rt: &HostRuntime, why: bool, fault: &WordFault) -> u8
+    ensures { result ≤ 2 }
+{
+    match fault {
+        WordFault::Help(text) => show(rt, text.as_str()),
+        WordFault::Mistake(text) => {
+            report_usage(rt, why, text.as_str());
+            2
+        }
+        WordFault::Usage => {
+            report_usage(rt, why, CLASH);
+            2
+        }
+        WordFault::Memory => {
+            report(rt, &ToolFault::Memory);
+            1
+        }
+    }
+}
+
+/// Writes the line of wrong usage on standard error, and after it, where that is asked for, what is wrong.
+fn report_usage(rt: &HostRuntime, why: bool, text: &str) {
+    report(rt, &ToolFault::Usage);
+    if why {
+        let _ = put(&mut CountedWriter::new(rt.stderr()), text.as_bytes());
+    }
+}
+
+/// Writes the pages of these faults, or the list of all faults where there is none. Returns the status.
+fn explain(rt: &HostRuntime, names: &[String]) -> u8
+    ensures { result ≤ 1 }
+{
+    if names.is_empty() {
+        return show(rt, codes());
+    }
+    match write_pages(names, &mut CountedWriter::new(io::writer(rt))) {
+        Ok(()) => 0,
+        Err(_) => {
+            report(rt, &ToolFault::Write);
+            1
+        }
+    }
+}
+
+/// Writes the pages of these faults, a blank line between one and the next.
+fn write_pages<W: Sink>(names: &[String], writer: &mut W) -> Result<(), WriteFault> {
+    let mut is_first = true;
+    for name in names {
+        if !is_first {
+            put(writer, b"\n")?;
+        }
+        is_first = false;
+        let page = page_of(name.as_str()).unwrap_or("");
+        put(writer, page.as_bytes())?;
+    }
+    Ok(())
+}
+
+/// Performs the request of a command line over its files and the standard streams.
+fn run_line(rt: &HostRuntime, alloc: Global, line: &CommandLine) -> u8
+    ensures { result ≤ 2 }
+{
+    // A stream that is closed at the start must not become one of the files: these take its place, and refuse what is written.
+    let _places = (no_file(rt), no_file(rt), no_file(rt));
+    match saving_of(&line.request) {
+        Some((path, sim)) => run_saving(rt, alloc, line, sim, path),
+        None => run_with(rt, alloc, line, &mut CountedWriter::new(io::sink())),
+    }
+}
+
+/// Performs a request for each coil of its program, over its files, a folder and standard error.
+fn run_all(rt: &HostRuntime, alloc: Global, all: &mut AllCoils) -> u8
+    ensures { result ≤ 2 }
+{
+    // As for one request.
+    let _places = (no_file(rt), no_file(rt), no_file(rt));
+    run_coils(rt, alloc, all)
+}
+
+/// Performs a simulation whose state is saved. A file that the request reads but for the state, or standard output, is no place for it.
+fn run_saving(
+    rt: &HostRuntime,
+    alloc: Global,
+    line: &CommandLine,
+    sim: &SimRequest,
+    path: &str,
+) -> u8
+    ensures { result ≤ 2 }
+{
+    let Ok(saved) = SavedFile::new(rt, alloc, path) else {
+        report(rt, &ToolFault::Memory);
+        return 1;
+    };
+    match is_taken(rt, alloc, sim, &saved) {
+        Ok(false) => (),
+        Ok(true) => {
+            report(rt, &ToolFault::Usage);
+            return 2;
+        }
+        Err(_) => {
+            report(rt, &ToolFault::Memory);
+            return 1;
+        }
+    }
+    let mut save = CountedWriter::new(saved);
+    let status = run_with(rt, alloc, line, &mut save);
+    end_saving(rt, &save.into_inner(), status)
+}
+
+/// Whether a state would be saved over the program, the stimulus or what standard output goes to.
+fn is_taken(
+    rt: &HostRuntime,
+    alloc: Global,
+    sim: &SimRequest,
+    saved: &SavedFile<'_>,
+) -> Result<bool, AllocError> {
+    for path in [sim.file.as_str(), sim.stimulus.as_str(), "/dev/stdout"] {
+        if saved.is_same(alloc, followed(rt, alloc, path)?.as_str())? {
+            return Ok(true);
+        }
+    }
+    Ok(false)
+}
+
+/// Puts a state that was written in its place, or removes it where a fault stopped the request. Returns the status.
+fn end_saving(rt: &HostRuntime, saved: &SavedFile<'_>, status: u8) -> u8
+    requires { status ≤ 1 }
+    ensures { result ≤ 1 }
+{
+    if status != 0 {
+        saved.discard();
+        return status;
+    }
+    if saved.keep().is_err() {
+        saved.discard();
+        report(rt, &ToolFault::Write);
+        return 1;
+    }
+    0
+}
+
+/// The file that a state is to be saved to, and the simulation.
+fn saving_of(request: &Request) -> Option<(&str, &SimRequest)> {
+    match request {
+        Request::Sim(sim) => saving_in(sim),
+        Request::Watch(watched) => saving_in(&watched.sim),
+        Request::Check { .. }
+        | Request::Causes { .. }
+        | Request::Progress { .. }
+        | Request::Held { .. }
+        | Request::Groups { .. }
+        | Request::Relevant { .. }
+        | Request::Never(_)
+        | Request::Possible(_)
+        | Request::Show(_)
+        | Request::Film(_)
+        | Request::Waves(_)
+        | Request::Uses { .. }
+        | Request::Import { .. } => None,
+    }
+}
+
+fn saving_in(sim: &SimRequest) -> Option<(&str, &SimRequest)> {
+    match &sim.save {
+        Some(path) => Some((path.as_str(), sim)),
+        None => None,
+    }
+}
+
+/// A file that can't be written, where the system has it.
+fn no_file(rt: &HostRuntime) -> io::Result<File> {
+    fs::open(rt, "/dev/null")
+}
+
+fn run_with<W: Write>(
+    rt: &HostRuntime,
+    alloc: Global,
+    line: &CommandLine,
+    save: &mut CountedWriter<W>,
+) -> u8
+where
+    W: Drop,
+    ensures { result ≤ 1 }
+{
+    let mut readers = readers_of(rt, &line.request);
+    let mut out = CountedWriter::new(io::writer(rt));
+    let mut err = CountedWriter::new(rt.stderr());
+    perform_files(alloc, line, &mut readers, &mut out, save, &mut err)
+}
+
+/// Writes a text on standard output. Returns the status.
+fn show(rt: &HostRuntime, text: &str) -> u8
+    ensures { result ≤ 1 }
+{
+    match put(&mut CountedWriter::new(io::writer(rt)), text.as_bytes()) {
+        Ok(()) => 0,
+        Err(_) => {
+            report(rt, &ToolFault::Write);
+            1
+        }
+    }
+}
+
+/// Writes the line of a fault on standard error; where that can't be written, nothing is left to do.
+fn report(rt: &HostRuntime, fault: &ToolFault) {
+    let _ = write_fault(fault, &mut CountedWriter::new(rt.stderr()));
+}

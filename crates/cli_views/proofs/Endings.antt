@@ -1,0 +1,66 @@
+-- How a request for one scan that is shown, or for a simulation, ends.
+use Rattle.std.proofs.Common.{◌≡◌, ◌∙◌, Result, ap, subst, sym, ℕ, Bool, List, Option, Some}
+use Rattle.std.specs.Prelude.{None, unwrap_or}
+use Rattle.std.specs.Option.{option_or}
+use Rattle.diagram_program.specs.Program.{Drawing}
+use Rattle.scan_cycle.specs.Programs.{diagram_of}
+use Rattle.scan_cycle.specs.Standing.{Standing}
+use Rattle.text_drawing.specs.Showing.{IsDrawn, OneScan, one_scan}
+use Rattle.text_drawing.specs.declared.picture.Style.{Style}
+use Rattle.causes_query.specs.Assignment.{assignment}
+use Rattle.causes_query.specs.declared.fault.CauseFault.{CauseFault}
+use Rattle.causes_query.specs.Causes.{question}
+use Rattle.causes_query.specs.Refusal.{scan_refusal}
+use Rattle.io_text.specs.Log.{WriteLog}
+use Rattle.cli_views.specs.Views.{broken_first, coil_refusal, shown_scan, style_for}
+use Rattle.cli_inputs.specs.Setting.{Given}
+use Rattle.cli_arguments.specs.declared.request.ShowRequest.{ShowRequest}
+use Rattle.io_text.specs.Text.{records_of}
+use Rattle.text_trace.specs.declared.column.Column.{Column}
+use Rattle.text_trace.specs.declared.fault.SimFault.{SimFault}
+use Rattle.text_trace.specs.declared.recording.Film.{Film}
+use Rattle.text_trace.specs.Simulation.{Films, SimulatesEvery, WatchesEvery, WavesEvery}
+
+-- The coil's rule comes first.
+pub coil_first : (v : ShowRequest) (p : Drawing) (s : Standing) (coil : Option ℕ) (listed : List ℕ) (f : CauseFault) → coil_refusal p coil ≡ Some f
+    → broken_first v p s coil listed ≡ Some f
+coil_first v p s coil listed f e = ap (λ x. option_or x (scan_refusal (question p s (unwrap_or v.moment s.moment) 0 listed) (unwrap_or v.number 0))) e
+
+-- It is refused as what is asked is, where its moment, its listed inputs and its number are those that are asked for.
+pub same_refusal : (v : ShowRequest) (p : Drawing) (s : Standing) (now n : ℕ) (coil : Option ℕ) (listed given : List ℕ) → coil_refusal p coil ≡ None → given ≡ listed
+    → now ≡ unwrap_or v.moment s.moment → n ≡ unwrap_or v.number 0 → broken_first v p s coil listed ≡ scan_refusal (question p s now 0 given) n
+same_refusal v p s now n coil listed given of_coil as_given at number =
+    ap (λ x. option_or x (scan_refusal (question p s (unwrap_or v.moment s.moment) 0 listed) (unwrap_or v.number 0))) of_coil
+    ∙ ap (λ xs. scan_refusal (question p s (unwrap_or v.moment s.moment) 0 xs) (unwrap_or v.number 0)) (sym as_given)
+    ∙ ap (λ t. scan_refusal (question p s t 0 given) (unwrap_or v.number 0)) (sym at)
+    ∙ ap (λ k. scan_refusal (question p s now 0 given) k) (sym number)
+
+-- What is drawn of it is what is asked.
+pub same_drawing : (g : Given) (v : ShowRequest) (p : Drawing) (s : Standing) (now n : ℕ) (coil : Option ℕ) (listed given text : List ℕ) (inputs image : List Bool) (style : Style)
+    (shown : List ℕ) → given ≡ listed → now ≡ unwrap_or v.moment s.moment → n ≡ unwrap_or v.number 0 → text ≡ g.program → image ≡ inputs
+    → inputs ≡ assignment (diagram_of p).inputs given n s.held.values → style ≡ style_for v.medium
+    → IsDrawn style (one_scan text p s image now coil) shown → IsDrawn (style_for v.medium) (shown_scan g v p s coil listed) shown
+same_drawing g v p s now n coil listed given text inputs image style shown as_given at number same read made by drawn =
+    let flags = (diagram_of p).inputs in
+    let values : image ≡ assignment flags listed (unwrap_or v.number 0) s.held.values =
+    read ∙ made ∙ ap (λ xs. assignment flags xs n s.held.values) as_given ∙ ap (λ k. assignment flags listed k s.held.values) number in
+    let scan : one_scan text p s image now coil ≡ shown_scan g v p s coil listed =
+    ap (λ t. one_scan t p s image now coil) same ∙ ap (λ xs. one_scan g.program p s xs now coil) values
+    ∙ ap (λ t. one_scan g.program p s (assignment flags listed (unwrap_or v.number 0) s.held.values) t coil) at in
+    subst (λ (x : OneScan). IsDrawn (style_for v.medium) x shown) scan (subst (λ (x : Style). IsDrawn x (one_scan text p s image now coil) shown) by drawn)
+
+pub same_stimulus : (every other : ℕ) (p : Drawing) (s t : Standing) (a b : List ℕ) (old new : WriteLog) (r : Result ℕ SimFault) → a ≡ b → every ≡ other
+    → SimulatesEvery every p s (records_of a) t old new r → SimulatesEvery other p s (records_of b) t old new r
+same_stimulus every other p s t a b old new r e f h = rw (← f) (rw e at h)
+
+pub same_film : (film : Film) (p : Drawing) (s t : Standing) (a b : List ℕ) (old new : WriteLog) (r : Result ℕ SimFault) → a ≡ b
+    → Films film p s (records_of a) t old new r → Films film p s (records_of b) t old new r
+same_film film p s t a b old new r e h = rw e at h
+
+pub same_waves : (every other : ℕ) (p : Drawing) (s t : Standing) (a b : List ℕ) (old new : WriteLog) (r : Result ℕ SimFault) → a ≡ b → every ≡ other
+    → WavesEvery every p s (records_of a) t old new r → WavesEvery other p s (records_of b) t old new r
+same_waves every other p s t a b old new r e f h = rw (← f) (rw e at h)
+
+pub same_watched : (columns others : List Column) (every other : ℕ) (p : Drawing) (s t : Standing) (a b : List ℕ) (old new : WriteLog) (r : Result ℕ SimFault) → columns ≡ others → a ≡ b
+    → every ≡ other → WatchesEvery columns every p s (records_of a) t old new r → WatchesEvery others other p s (records_of b) t old new r
+same_watched columns others every other p s t a b old new r c e f h = rw (← c, ← f) (rw e at h)

@@ -1,0 +1,5 @@
+mod Abouts
+mod Endings
+mod Growing
+mod Names
+mod Plain

@@ -1,0 +1,4 @@
+pub mod Meanings
+pub mod Reach
+pub mod Sheets
+pub mod Carried

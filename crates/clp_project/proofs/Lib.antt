@@ -1,0 +1,3 @@
+mod Joining
+mod Numbers
+mod Ways

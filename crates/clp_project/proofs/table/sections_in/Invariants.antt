@@ -1,0 +1,10 @@
+use Rattle.std.proofs.Common.{◌≡◌, length, map, Some}
+use Rattle.clp_project.specs.Rungs.{joined}
+use Rattle.clp_project.specs.Tables.{sections_in}
+use Rattle.clp_project.proofs.table.sections_in.Given as goal
+
+abbrev pub invariant-loop-lines : goal.invariant-loop-lines
+invariant-loop-lines l = sections_in (map (λ x. x.now) l.initial.lines) ≡ joined (Some l.sections.items) (sections_in (map (λ x. x.now) l.lines))
+
+abbrev pub decreases-loop-lines : goal.decreases-loop-lines
+decreases-loop-lines l = length l.lines

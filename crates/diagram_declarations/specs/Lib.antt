@@ -1,0 +1,17 @@
+pub mod Duration
+pub mod ReadTimes
+pub mod Title
+pub mod TitleView
+pub mod Name
+pub mod NameView
+pub mod Kind
+pub mod Decls
+pub mod Text
+pub mod Grammar
+pub mod Rules
+pub mod ReadText
+pub mod ReadWords
+pub mod ReadSteps
+pub mod ReadDecls
+pub mod Titles
+pub mod TakeTitles

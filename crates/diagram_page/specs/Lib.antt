@@ -1,0 +1,13 @@
+pub mod Form
+pub mod ReadForm
+pub mod Picture
+pub mod Texts
+pub mod Lines
+pub mod Gap
+pub mod Operand
+pub mod Suiting
+pub mod Page
+pub mod Seen
+pub mod Tables
+pub mod ReadLines
+pub mod Outline

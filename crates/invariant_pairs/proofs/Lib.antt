@@ -1,0 +1,3 @@
+pub mod Apart
+mod Kept
+mod Told

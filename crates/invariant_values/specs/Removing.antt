@@ -1,0 +1,57 @@
+-- Private: what is left of a set in one round of removing.
+use Rattle.std.specs.Prelude.{◌≡◌, ◌<◌, ℕ, ◌+◌, Bool, true, false, List, length, slice_index_or, count_by}
+use Rattle.diagram_program.specs.Program.{Drawing}
+use Rattle.scan_symbolic.specs.KnownScan.{Known, kept_at}
+use Rattle.scan_signals.specs.Three.{three_known}
+use Rattle.scan_signals.specs.declared.tri.Tri.{Tri}
+use Rattle.scan_signals.specs.declared.tri.Tri.TheVariants.{Off, On, Unsure}
+use Rattle.invariant_values.specs.Never.{Bits, IsSetOf, IsWithin, Stays, after_knowing, claims}
+use Rattle.invariant_values.specs.Cases.{IsSettled, told}
+use Rattle.invariant_values.specs.Outcomes.{outcomes, q_known}
+use Rattle.invariant_values.specs.declared.outcome.Outcome.{Outcome}
+use Rattle.invariant_values.specs.declared.point.Point.{Point}
+
+-- What the first set claims, one scan from the second one leaves so.
+pub record AreLeftSo (p : Drawing) (z w : Bits) : Type 0 where
+  pub variables : (var : ℕ) (value : Bool) → claims z.variables var ≡ three_known value → slice_index_or (after_knowing p w).values var Unsure ≡ three_known value
+  pub instances : (inst : ℕ) (value : Bool) → claims z.instances inst ≡ three_known value → q_known (kept_at outcomes (after_knowing p w) inst) ≡ three_known value
+
+-- A set that stays so is left so by a scan from each set that it is within.
+abbrev pub LeavesSo : Drawing → Type 0
+LeavesSo p = (z w : Bits) → IsSetOf p z → IsSetOf p w → IsWithin z w → Stays p z → AreLeftSo p z w
+
+-- something is claimed
+abbrev pub is_claim : Tri → Bool
+is_claim Off = true
+is_claim On = true
+is_claim Unsure = false
+
+-- of how many something is claimed
+abbrev pub members : List Tri → ℕ
+members = count_by is_claim
+
+-- of how many of a set
+abbrev pub size : Bits → ℕ
+size z = members z.variables + members z.instances
+
+-- The target is settled to have the value after a scan from the case; without scans for further cases, that scan over three values tells it.
+pub data IsStaying (p : Drawing) (target : Point) (after case : Known Tri Outcome) (scans : ℕ) (value : Bool) : Type 0 where
+  staying : IsSettled p target value case → (scans ≡ 0 → told target after ≡ three_known value) → IsStaying p target after case scans value
+
+-- The second list claims some of what the first does: all that is told, and nothing without the property.
+pub record IsLeftBy (telling : ℕ → Tri) (P : ℕ → Bool → Type 0) (bits left : List Tri) (removed : ℕ) : Type 0 where
+  pub within : (i : ℕ) (value : Bool) → claims left i ≡ three_known value → claims bits i ≡ three_known value
+  pub holds : (i : ℕ) (value : Bool) → claims left i ≡ three_known value → P i value
+  pub kept : (i : ℕ) (value : Bool) → claims bits i ≡ three_known value → telling i ≡ three_known value → claims left i ≡ three_known value
+  pub length : length left ≡ length bits
+  pub count : members left + removed ≡ members bits
+  pub same : removed ≡ 0 → left ≡ bits
+
+-- The same where the first n have been tried.
+pub record IsLeftSoFar (telling : ℕ → Tri) (P : ℕ → Bool → Type 0) (bits left : List Tri) (removed n : ℕ) : Type 0 where
+  pub within : (i : ℕ) (value : Bool) → claims left i ≡ three_known value → claims bits i ≡ three_known value
+  pub holds : (i : ℕ) (value : Bool) → i < n → claims left i ≡ three_known value → P i value
+  pub kept : (i : ℕ) (value : Bool) → claims bits i ≡ three_known value → telling i ≡ three_known value → claims left i ≡ three_known value
+  pub length : length left ≡ length bits
+  pub count : members left + removed ≡ members bits
+  pub same : removed ≡ 0 → left ≡ bits

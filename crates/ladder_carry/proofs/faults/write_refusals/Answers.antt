@@ -1,7 +1,0 @@
-use Rattle.ladder_text.proofs.Sending.{flush_last}
-use Rattle.ladder_carry.specs.Lines.{refusals_text}
-use Rattle.ladder_carry.proofs.faults.write_refusals.Goals as goal
-
-pub returns : goal.returns
-returns g c =
-    flush_last _ _ _ _ (refusals_text c.args.why c.args.refusals.now) _ (rw c.new-block.ensures at c.in_ok-add_refusals.ensures) c.flush.ensures.wrote

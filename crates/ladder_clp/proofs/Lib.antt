@@ -1,3 +1,0 @@
-pub mod Joining
-pub mod Numbers
-pub mod Ways

@@ -1,7 +1,0 @@
-use Rattle.std.proofs.Common.{◌≡◌, drop}
-use Rattle.ladder_clp.specs.Format.{number_of}
-use Rattle.ladder_clp.proofs.Numbers.{value_from}
-use Rattle.ladder_clp.proofs.number.number_of.Given as goal
-
-abbrev pub invariant-loop-digit : goal.invariant-loop-digit
-invariant-loop-digit l = value_from l.number (drop l.digit-index l.digits) ≡ number_of l.digits

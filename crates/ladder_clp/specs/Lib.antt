@@ -1,6 +1,0 @@
-pub mod Format
-pub mod Order
-pub mod Project
-pub mod RungFault
-pub mod Rungs
-pub mod Tables

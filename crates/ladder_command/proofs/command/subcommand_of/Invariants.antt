@@ -1,7 +1,0 @@
-use Rattle.std.proofs.Common.{map, take}
-use Rattle.ladder_command.specs.CommandLine.{IsApp, taking}
-use Rattle.ladder_command.specs.Table.{word_rule}
-use Rattle.ladder_command.proofs.command.subcommand_of.Given as goal
-
-abbrev pub invariant-loop-word : goal.invariant-loop-word
-invariant-loop-word l = IsApp (taking l.sub.name.now (map word_rule (take l.word-index l.sub.words.now))) l.command

@@ -1,4 +1,0 @@
-pub mod Timers
-pub mod Counters
-pub mod Pulses
-pub mod Bistables

@@ -1,7 +1,0 @@
-use Rattle.std.proofs.Common.{◌↔◌, ◌<◌, ℕ, IsTrue}
-use Rattle.ladder_grid.specs.Program.{feeds}
-use Rattle.ladder_sheet.specs.Sheets.{IsFed}
-use Rattle.ladder_faithful.proofs.check.are_fed_alike.Given as goal
-
-abbrev pub invariant-loop-from : goal.invariant-loop-from
-invariant-loop-from l = (q : ℕ) → q < l.from → IsTrue (feeds l.program l.at.rung l.at.row l.at.column q) ↔ IsFed l.reading l.elements l.at.row l.at.column q

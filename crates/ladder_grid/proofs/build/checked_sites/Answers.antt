@@ -1,7 +1,0 @@
-use Rattle.std.proofs.Common.{refl}
-use Rattle.ladder_page.specs.Seen.{seen}
-use Rattle.ladder_grid.proofs.ReadingLaws.{sites_drawn}
-use Rattle.ladder_grid.proofs.build.checked_sites.Goals as goal
-
-pub returns-clause-found : goal.returns-clause-found
-returns-clause-found c = sites_drawn (seen c.args.page) _ _ c.in_ok-labels.ensures.sound refl c.in_ok-sites.ensures

@@ -1,5 +1,0 @@
-use Rattle.ladder_grid.proofs.FeedingLaws.{feeds_dashes, feeds_cells}
-use Rattle.ladder_grid.proofs.laws.fed_cells.Goals as goal
-
-pub returns : goal.returns
-returns c = record { dashes = feeds_dashes; cells = feeds_cells }

@@ -1,2 +1,0 @@
-pub mod FirstScans
-pub mod Repeating

@@ -1,5 +1,0 @@
-use Rattle.ladder_held.proofs.FirstScans.{more_scans}
-use Rattle.ladder_held.proofs.laws.more_scans.Goals as goal
-
-pub returns : goal.returns
-returns c = more_scans

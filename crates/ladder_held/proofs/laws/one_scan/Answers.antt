@@ -1,5 +1,0 @@
-use Rattle.ladder_held.proofs.FirstScans.{one_scan}
-use Rattle.ladder_held.proofs.laws.one_scan.Goals as goal
-
-pub returns : goal.returns
-returns c = one_scan

@@ -1,2 +1,0 @@
-pub mod HeldRefusal
-pub mod Holding

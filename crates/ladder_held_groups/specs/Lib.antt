@@ -1,3 +1,0 @@
-pub mod Cursor
-pub mod FirstScans
-pub mod GroupRefusal

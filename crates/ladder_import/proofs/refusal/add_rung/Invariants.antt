@@ -1,6 +1,0 @@
-use Rattle.std.proofs.Common.{All}
-use Rattle.ladder_import.specs.Refusals.{IsThere}
-use Rattle.ladder_import.proofs.refusal.add_rung.Given as goal
-
-abbrev pub invariant-loop-place : goal.invariant-loop-place
-invariant-loop-place l = All (IsThere l.reading l.project) l.refusals.items

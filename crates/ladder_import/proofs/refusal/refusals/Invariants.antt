@@ -1,6 +1,0 @@
-use Rattle.std.proofs.Common.{All}
-use Rattle.ladder_import.specs.Refusals.{IsThere}
-use Rattle.ladder_import.proofs.refusal.refusals.Given as goal
-
-abbrev pub invariant-loop-rung : goal.invariant-loop-rung
-invariant-loop-rung l = All (IsThere l.reading l.project) l.refusals.items

@@ -1,5 +1,0 @@
-pub mod KnownScan
-pub mod Shifting
-pub mod KnownLaws
-pub mod Later
-pub mod ShiftingLaws

@@ -1,4 +1,0 @@
-pub mod LaneByLane
-pub mod FirstInLane
-pub mod WordScans
-pub mod WordBits

@@ -1,4 +1,0 @@
-pub mod Lanes
-pub mod LanesLaws
-pub mod SeveralLanes
-pub mod Noting

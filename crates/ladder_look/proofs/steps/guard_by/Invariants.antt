@@ -1,8 +1,0 @@
-use Rattle.std.proofs.Common.{◌≡◌, drop, true}
-use Rattle.ladder_look.specs.Gating.{guard_by}
-use Rattle.ladder_look.proofs.steps.guard_by.Given as goal
-
-abbrev pub invariant-loop-leap : goal.invariant-loop-leap
-invariant-loop-leap g l =
-    let o = g.S.Operations.algebra in
-    guard_by o l.taken l.rung (drop l.leap-index l.leaps) l.all ≡ guard_by o l.taken l.rung l.leaps (o.known true)

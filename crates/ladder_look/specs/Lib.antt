@@ -1,9 +1,0 @@
-pub mod BySteps
-pub mod Look
-pub mod ByFrames
-pub mod Laws
-pub mod Lanes
-pub mod Outcomes
-pub mod Sheets
-pub mod Gating
-pub mod Stepping

@@ -1,5 +1,0 @@
-use Rattle.ladder_page.proofs.WordLaws.{word_found, word_one}
-use Rattle.ladder_page.proofs.laws.words_over_cells.Goals as goal
-
-pub returns : goal.returns
-returns c = record { found = word_found; one = word_one }

@@ -1,8 +1,0 @@
-use Rattle.ladder_scan.specs.Programs.{diagram_of}
-use Rattle.ladder_pairs.proofs.Apart.{never_both}
-use Rattle.ladder_pairs.proofs.laws.never_both.Goals as goal
-
-pub returns : goal.returns
-returns c =
-    let d = diagram_of c.args.program.now in
-    never_both c.args.program.now c.checked.ensures (λ now. c.scan_keeps.ensures (record { now = now }) d) c.known_is_scan.ensures

@@ -1,6 +1,0 @@
-use Rattle.std.proofs.Common.{◌≡◌, ℕ, ◌<◌, get_or}
-use Rattle.ladder_signals.specs.declared.tri.Tri.TheVariants.{Off}
-use Rattle.ladder_partly.proofs.again.same_memories.Given as goal
-
-abbrev pub invariant-loop-number : goal.invariant-loop-number
-invariant-loop-number l = (k : ℕ) → k < l.number → get_or l.before.memories k Off ≡ get_or l.after.memories k Off

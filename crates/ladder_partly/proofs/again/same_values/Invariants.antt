@@ -1,6 +1,0 @@
-use Rattle.std.proofs.Common.{◌≡◌, ℕ, ◌<◌, get_or}
-use Rattle.ladder_signals.specs.declared.tri.Tri.TheVariants.{Off}
-use Rattle.ladder_partly.proofs.again.same_values.Given as goal
-
-abbrev pub invariant-loop-var : goal.invariant-loop-var
-invariant-loop-var l = (k : ℕ) → k < l.var → get_or l.before.values k Off ≡ get_or l.after.values k Off

@@ -1,5 +1,0 @@
-use Rattle.ladder_possible.proofs.Running.{runs_stay}
-use Rattle.ladder_possible.proofs.laws.reached.Goals as goal
-
-pub returns : goal.returns
-returns c = runs_stay c.args.program.now c.checked.ensures c.stays_for_ever.ensures c.never_both.ensures

@@ -1,4 +1,0 @@
-pub mod Numbers
-pub mod Possible
-pub mod Reached
-pub mod Searching

@@ -1,2 +1,0 @@
-pub mod Cursor
-pub mod Judged

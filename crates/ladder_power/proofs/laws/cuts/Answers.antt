@@ -1,5 +1,0 @@
-use Rattle.ladder_power.proofs.Cuts.{cuts_hold}
-use Rattle.ladder_power.proofs.laws.cuts.Goals as goal
-
-pub returns : goal.returns
-returns c = cuts_hold c.args.program.now c.checked.ensures

@@ -1,5 +1,0 @@
-use Rattle.ladder_power.proofs.Erasing.{marks_erased}
-use Rattle.ladder_power.proofs.laws.erased.Goals as goal
-
-pub returns : goal.returns
-returns c = marks_erased

@@ -1,5 +1,0 @@
-use Rattle.ladder_power.proofs.LinkedEnds.{linked_ends}
-use Rattle.ladder_power.proofs.laws.linked_ends.Goals as goal
-
-pub returns : goal.returns
-returns c = linked_ends c.args.program.now c.checked.ensures

@@ -1,5 +1,0 @@
-use Rattle.ladder_power.proofs.LoneCoils.{lone_coils}
-use Rattle.ladder_power.proofs.laws.lone_coils.Goals as goal
-
-pub returns : goal.returns
-returns c = lone_coils c.args.program.now c.checked.ensures

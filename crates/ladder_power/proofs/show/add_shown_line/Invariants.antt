@@ -1,8 +1,0 @@
-use Rattle.std.specs.Prelude.{◌∷◌, []}
-use Rattle.ladder_text.specs.Block.{SendsAll}
-use Rattle.ladder_power.specs.Show.{each, shown_at}
-use Rattle.ladder_power.proofs.show.add_shown_line.Given as goal
-
-abbrev pub invariant-loop-at : goal.invariant-loop-at
-invariant-loop-at g l =
-    SendsAll (g.W.Sink.log l.fn.writer) (g.W.Sink.log l.writer) l.fn.block l.block (each (λ at. shown_at l.marks l.rung l.line l.text at ∷ []) l.at)

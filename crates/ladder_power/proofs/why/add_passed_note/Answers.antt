@@ -1,9 +1,0 @@
-use Rattle.std.proofs.Common.{subst}
-use Rattle.ladder_text.specs.Block.{Sends}
-use Rattle.ladder_text.specs.Pieces.{pieces_text}
-use Rattle.ladder_power.proofs.why.add_passed_note.Goals as goal
-
-pub returns : goal.returns
-returns g c =
-    subst (λ pieces. Sends (g.W.Sink.log c.args.writer.now) (g.W.Sink.log c.add_pieces.new.writer) c.args.block.now c.add_pieces.new.block c.add_pieces.result (pieces_text pieces))
-    c.as_slice.ensures c.add_pieces.ensures

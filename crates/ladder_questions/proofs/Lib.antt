@@ -1,4 +1,0 @@
-pub mod SourceLaws
-pub mod Asking
-pub mod ListedPlaces
-pub mod Refusals

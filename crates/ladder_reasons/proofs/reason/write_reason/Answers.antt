@@ -1,6 +1,0 @@
-use Rattle.ladder_text.proofs.Sending.{flush_last}
-use Rattle.ladder_reasons.specs.Reasons.{reason_text}
-use Rattle.ladder_reasons.proofs.reason.write_reason.Goals as goal
-
-pub returns : goal.returns
-returns g c = flush_last _ _ _ _ (reason_text c.args.text.now c.args.fault.now c.args.column) _ (rw c.new-block.ensures at c.in_ok-add_reason.ensures) c.flush.ensures.wrote

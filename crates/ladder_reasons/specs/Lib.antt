@@ -1,2 +1,0 @@
-pub mod Reasons
-pub mod Sentences

@@ -1,6 +1,0 @@
-use Rattle.std.proofs.Common.{◌≡◌, take}
-use Rattle.ladder_relevant.specs.Looking.{alike}
-use Rattle.ladder_relevant.proofs.relevant.alike.Given as goal
-
-abbrev pub invariant-loop-input : goal.invariant-loop-input
-invariant-loop-input l = l.found.items ≡ alike (take l.input l.image) (take l.input l.inputs)

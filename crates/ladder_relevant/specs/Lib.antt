@@ -1,2 +1,0 @@
-pub mod Relevant
-pub mod Looking

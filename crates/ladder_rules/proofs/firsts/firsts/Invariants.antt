@@ -1,6 +1,0 @@
-use Rattle.std.proofs.Common.{length}
-use Rattle.ladder_page.specs.Tables.{AreFirsts, HasBlock}
-use Rattle.ladder_rules.proofs.firsts.firsts.Given as goal
-
-abbrev pub invariant-loop-n : goal.invariant-loop-n
-invariant-loop-n l = AreFirsts (HasBlock l.decls l.forms l.overs) (length l.decls.instances) l.n l.firsts.items

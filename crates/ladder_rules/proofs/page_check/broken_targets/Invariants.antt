@@ -1,7 +1,0 @@
-use Rattle.std.proofs.Common.{ℕ, ◌<◌}
-use Rattle.ladder_page.specs.Seen.{seen}
-use Rattle.ladder_rules.specs.PageRules.{TargetBreaks}
-use Rattle.ladder_rules.proofs.page_check.broken_targets.Given as goal
-
-abbrev pub invariant-loop-rung : goal.invariant-loop-rung
-invariant-loop-rung l = (k : ℕ) → k < l.rung → (line : ℕ) → TargetBreaks (seen l.page) k line → ⊥

@@ -1,7 +1,0 @@
-use Rattle.ladder_page.specs.Page.{instance_at}
-use Rattle.ladder_rules.proofs.BlockLaws.{drawn_told}
-use Rattle.ladder_rules.proofs.rules.drawn_at.Goals as goal
-
-pub returns : goal.returns
-unfolding instance_at
-returns c = drawn_told _ _ _ _ _ c.form_at.ensures c.name_over.ensures c.block_drawn.result c.block_drawn.ensures

@@ -1,6 +1,0 @@
-use Rattle.std.proofs.Common.{◌≡◌, ℕ, ◌<◌, map, true}
-use Rattle.ladder_rules.specs.Checks.{is_dirty_at}
-use Rattle.ladder_rules.proofs.rung.dirty_line.Given as goal
-
-abbrev pub invariant-loop-line : goal.invariant-loop-line
-invariant-loop-line l = (k : ℕ) → k < l.line → is_dirty_at (map (λ x. x.now) l.lines) k ≡ true → ⊥

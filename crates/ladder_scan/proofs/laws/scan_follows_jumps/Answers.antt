@@ -1,9 +1,0 @@
-use Rattle.ladder_scan.specs.Programs.{diagram_of, IsSound}
-use Rattle.ladder_scan.proofs.ByList.{follows}
-use Rattle.ladder_scan.proofs.laws.scan_follows_jumps.Goals as goal
-
-pub returns : goal.returns
-returns c =
-    let d = diagram_of c.args.program.now in
-    let is : IsSound d = c.checked.ensures in
-    follows d is.forward

@@ -1,8 +1,0 @@
-use Rattle.std.specs.Prelude.{◌≡◌, ◌++◌}
-use Rattle.ladder_scan.specs.Programs.{diagram_of}
-use Rattle.ladder_page.specs.AllPlaces.{first_places}
-use Rattle.ladder_scan.specs.Seen.{mark_passed}
-use Rattle.ladder_scan.proofs.seen.add_passed.Given as goal
-
-abbrev pub invariant-loop-place : goal.invariant-loop-place
-invariant-loop-place l = l.marks.items ≡ l.fn.marks.items ++ first_places (λ place. mark_passed l.held ((diagram_of l.scene.program.now).cell l.scene.rung place)) l.place

@@ -1,8 +1,0 @@
-use Rattle.std.specs.Prelude.{◌≡◌, ◌++◌}
-use Rattle.ladder_scan.specs.Programs.{diagram_of}
-use Rattle.ladder_page.specs.AllPlaces.{first_places}
-use Rattle.ladder_scan.specs.Seen.{mark_in}
-use Rattle.ladder_scan.proofs.seen.add_seen.Given as goal
-
-abbrev pub invariant-loop-place : goal.invariant-loop-place
-invariant-loop-place l = l.marks.items ≡ l.fn.marks.items ++ first_places (mark_in (diagram_of l.scene.program.now) l.scene.now l.scene.rung l.before) l.place

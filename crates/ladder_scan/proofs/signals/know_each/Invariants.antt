@@ -1,5 +1,0 @@
-use Rattle.std.proofs.Common.{◌≡◌, take, map}
-use Rattle.ladder_scan.proofs.signals.know_each.Given as goal
-
-abbrev pub invariant-loop-number : goal.invariant-loop-number
-invariant-loop-number g l = take l.number l.signals ≡ map g.S.Operations.algebra.known (take l.number l.stored)

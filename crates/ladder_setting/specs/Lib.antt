@@ -1,5 +1,0 @@
-pub mod FaultLine
-pub mod Explained
-pub mod Variables
-pub mod Setting
-pub mod Reports

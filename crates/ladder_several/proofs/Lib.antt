@@ -1,4 +1,0 @@
-pub mod Settling
-pub mod Rows
-pub mod Words
-pub mod Going

@@ -1,4 +1,0 @@
-pub mod Asking
-pub mod Settling
-pub mod Tree
-pub mod Rows

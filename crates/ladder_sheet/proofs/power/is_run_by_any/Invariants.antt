@@ -1,6 +1,0 @@
-use Rattle.std.proofs.Common.{ℕ, ◌-◌, ◌<◌}
-use Rattle.ladder_sheet.specs.Sheets.{IsFed, IsRunning}
-use Rattle.ladder_sheet.proofs.power.is_run_by_any.Given as goal
-
-abbrev pub invariant-loop-from : goal.invariant-loop-from
-invariant-loop-from l = (q : ℕ) → q < l.from → IsFed l.reading l.elements l.row l.column q → IsRunning l.elements q (l.column - 1) → ⊥

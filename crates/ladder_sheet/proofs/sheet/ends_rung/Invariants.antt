@@ -1,6 +1,0 @@
-use Rattle.std.proofs.Common.{ℕ, ◌<◌}
-use Rattle.ladder_sheet.specs.Sheets.{IsEffect, meaning_at}
-use Rattle.ladder_sheet.proofs.sheet.ends_rung.Given as goal
-
-abbrev pub invariant-loop-lower : goal.invariant-loop-lower
-invariant-loop-lower l = (q : ℕ) → l.row < q → q < l.lower → IsEffect (meaning_at l.reading l.elements q l.column) → ⊥

@@ -1,3 +1,0 @@
-pub mod Meanings
-pub mod Reach
-pub mod Sheets

@@ -1,6 +1,0 @@
-use Rattle.ladder_signals.specs.RailLaws.{join_rails}
-use Rattle.ladder_signals.specs.Rails.{lanes}
-use Rattle.ladder_signals.proofs.rails.RailsOperations.or.Goals as goal
-
-pub invariant_of-result : goal.invariant_of-result
-invariant_of-result c = join_rails (lanes c.self.inside.on c.self.inside.off) (lanes c.other.inside.on c.other.inside.off) c.self.invariant c.other.invariant

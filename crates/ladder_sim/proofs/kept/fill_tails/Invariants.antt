@@ -1,5 +1,0 @@
-use Rattle.ladder_sim.specs.Kept.{AreTails}
-use Rattle.ladder_sim.proofs.kept.fill_tails.Given as goal
-
-abbrev pub invariant-loop-bits : goal.invariant-loop-bits
-invariant-loop-bits l = AreTails l.tails l.bits

@@ -1,6 +1,0 @@
-use Rattle.std.proofs.Common.{◌≡◌, ◌*◌, ◌-◌, ◌++◌, take}
-use Rattle.ladder_sim.proofs.CellLaws.{shown}
-use Rattle.ladder_sim.proofs.table.fill_cells.Given as goal
-
-abbrev pub invariant-loop-index : goal.invariant-loop-index
-invariant-loop-index l = shown l.count l.group ≡ take (2 * l.index) l.text ++ shown (l.count - l.index) l.group

@@ -1,6 +1,0 @@
-use Rattle.std.proofs.Common.{◌≡◌, ◌*◌, ◌-◌, ◌++◌, take}
-use Rattle.ladder_sim.proofs.CellLaws.{shown}
-use Rattle.ladder_sim.proofs.table.fill_row.Given as goal
-
-abbrev pub invariant-loop-index : goal.invariant-loop-index
-invariant-loop-index l = shown l.listed l.group ≡ take (8 * l.index) l.text ++ shown (l.listed - 4 * l.index) l.group

@@ -1,2 +1,0 @@
-pub mod Slices
-pub mod Slicing

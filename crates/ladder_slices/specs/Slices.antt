@@ -1,8 +1,0 @@
--- What a caller sees of a slice.
-use Rattle.std.specs.Prelude.{ℕ}
-use Rattle.ladder_grid.specs.Program.{Drawing}
-
--- It is of a program, for looks at one of its variables.
-pub record SliceOf : Type 0 where
-  pub program : Drawing
-  pub variable : ℕ

@@ -1,6 +1,0 @@
-use Rattle.std.specs.Prelude.{◌<◌, ℕ}
-use Rattle.ladder_state.specs.Named.{IsNamed}
-use Rattle.ladder_state.proofs.laws.named_vars.Given as goal
-
-abbrev pub invariant-loop-number : goal.invariant-loop-number
-invariant-loop-number l = (number : ℕ) → number < l.number → IsNamed (λ x. x.name) l.vars number

@@ -1,5 +1,0 @@
-use Rattle.ladder_state.proofs.Same.{one_state}
-use Rattle.ladder_state.proofs.laws.one_state.Goals as goal
-
-pub returns : goal.returns
-returns c = one_state

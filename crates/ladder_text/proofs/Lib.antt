@@ -1,4 +1,0 @@
-pub mod Bytes
-pub mod PieceLaws
-pub mod Puts
-pub mod Sending

@@ -1,7 +1,0 @@
--- The log of a writer of std, by what it has taken.
-use Rattle.std.specs.Prelude.{ℕ, List, Option}
-use Rattle.ladder_text.specs.declared.sink.Writing.{Writing}
-use Rattle.ladder_text.specs.Log.{WriteLog}
-
-abbrev pub writing_log : {W : Type 0} → (W → Option (List ℕ)) → Writing W → WriteLog
-writing_log contents s = record { contents = contents s.inner; tally = s.tally }

@@ -1,2 +1,0 @@
-pub mod Title
-pub mod TitleView

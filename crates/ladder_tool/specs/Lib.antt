@@ -1,4 +1,0 @@
-pub mod Performs
-pub mod Files
-pub mod Coils
-pub mod Telling

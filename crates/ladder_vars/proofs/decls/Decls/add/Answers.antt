@@ -1,4 +1,0 @@
-use Rattle.ladder_vars.proofs.decls.Decls.add.Goals as goal
-
-pub push-requires : goal.push-requires
-push-requires c = c.in-None.ensures.none c.requires

@@ -1,3 +1,0 @@
-pub mod Below
-pub mod Rows
-pub mod SimilarRows

@@ -1,6 +1,0 @@
-use Rattle.ladder_warnings.specs.Warned.{HasCellAt}
-use Rattle.ladder_warnings.specs.Below.{SomeBelow}
-use Rattle.ladder_warnings.proofs.apart.has_cells.Given as goal
-
-abbrev pub invariant-loop-column : goal.invariant-loop-column
-invariant-loop-column l = SomeBelow l.column (HasCellAt l.program l.rung l.row) → ⊥

@@ -1,5 +1,0 @@
-use Rattle.ladder_warnings.specs.Leading.{AreLeading}
-use Rattle.ladder_warnings.proofs.leading.leading.Given as goal
-
-abbrev pub invariant-loop-behind : goal.invariant-loop-behind
-invariant-loop-behind l = AreLeading l.program l.rung l.behind l.leading

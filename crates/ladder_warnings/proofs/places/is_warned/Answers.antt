@@ -1,4 +1,0 @@
-use Rattle.ladder_warnings.proofs.places.is_warned.Goals as goal
-
-pub returns-in-Apart : goal.returns-in-Apart
-returns-in-Apart c = rw c.in-Apart.is (rw (c.of-at.ensures.0, c.of-at.ensures.1, c.of-at.ensures.2) at c.is_apart.ensures)

@@ -1,5 +1,0 @@
-use Rattle.ladder_warnings.specs.Reaching.{AreWired}
-use Rattle.ladder_warnings.proofs.wired.wired.Given as goal
-
-abbrev pub invariant-loop-before : goal.invariant-loop-before
-invariant-loop-before l = AreWired l.program l.rung l.before l.wired

@@ -1,9 +1,0 @@
-use Rattle.std.proofs.Common.{◌≡◌, ◌↔◌, ◌+◌, ◌<◌, ℕ, IsTrue, false, length, slice_index_or}
-use Rattle.ladder_page.specs.declared.geometry.TheConstants.{ROWS}
-use Rattle.ladder_warnings.specs.Ways.{IsWired}
-use Rattle.ladder_warnings.proofs.wired.wired_behind.Given as goal
-
-abbrev pub invariant-loop-row : goal.invariant-loop-row
-invariant-loop-row l =
-    ((row : ℕ) → row < l.row → IsTrue (slice_index_or l.behind row false) ↔ IsWired l.program l.rung (l.column + 1) row)
-    × (length l.behind ≡ ROWS)

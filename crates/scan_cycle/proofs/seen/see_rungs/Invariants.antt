@@ -1,0 +1,14 @@
+use Rattle.std.specs.Prelude.{◌≡◌}
+use Rattle.scan_cycle.specs.Rung.{SameSizes}
+use Rattle.scan_cycle.specs.RungByRung.{scanned}
+use Rattle.scan_cycle.specs.Programs.{diagram_of}
+use Rattle.scan_cycle.specs.Marking.{marks_below}
+use Rattle.scan_cycle.proofs.seen.see_rungs.Given as goal
+
+abbrev pub invariant-loop-rung : goal.invariant-loop-rung
+invariant-loop-rung l = record {
+  state : l.storage ≡ (scanned (diagram_of l.program) l.now l.fn.storage l.rung).held;
+  resume : l.resume ≡ (scanned (diagram_of l.program) l.now l.fn.storage l.rung).resume;
+  sizes : SameSizes l.start l.storage;
+  marks : l.marks.items ≡ marks_below (diagram_of l.program) l.now l.fn.storage l.rung;
+}

@@ -1,0 +1,14 @@
+pub mod Shifting
+pub mod Later
+pub mod ShiftingLaws
+pub mod HeldRefusal
+pub mod Holding
+pub mod Lanes
+pub mod LanesLaws
+pub mod SeveralLanes
+pub mod Noting
+pub mod Partly
+pub mod PartlyLaws
+pub mod SeveralLaws
+pub mod PartlyKept
+pub mod Again

@@ -1,0 +1,7 @@
+mod Frames
+mod Settled
+mod Actions
+mod Rung
+mod Evaluating
+mod Giving
+mod Marking

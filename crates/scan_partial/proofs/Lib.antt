@@ -1,0 +1,6 @@
+mod Filled
+mod Sure
+mod LinkValues
+mod GateLaws
+mod Acting
+mod Rungs

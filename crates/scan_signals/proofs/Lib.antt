@@ -1,0 +1,4 @@
+mod Timers
+pub mod Counters
+mod Pulses
+mod Bistables

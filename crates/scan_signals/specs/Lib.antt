@@ -1,0 +1,14 @@
+pub mod Algebra
+pub mod Truth
+pub mod TruthLaws
+pub mod Relations
+pub mod Likenesses
+pub mod LikenessLaws
+pub mod Blocks
+pub mod Histories
+pub mod RailLaws
+pub mod Rails
+pub mod Three
+pub mod ThreeLaws
+pub mod WordLaws
+pub mod Words

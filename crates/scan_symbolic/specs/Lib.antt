@@ -1,0 +1,13 @@
+pub mod KnownScan
+pub mod KnownLaws
+pub mod BySteps
+pub mod Look
+pub mod ByFrames
+pub mod Laws
+pub mod Lanes
+pub mod Outcomes
+pub mod Sheets
+pub mod Gating
+pub mod Stepping
+pub mod Slices
+pub mod Slicing

@@ -1,0 +1,174 @@
+//! Calls whose writer is full: what they wrote, and what the state is after them.
+
+use crate::memory::{ENDS, End, Narrow, with_room};
+use crate::scans::{COIL, Fresh, MOTOR, begun, told};
+use ladder_causes::Causes;
+use ladder_grid::Program;
+use ladder_scan::{Memory, State};
+use ladder_sim::{CountedWriter, simulate, write_causes, write_state, write_uses};
+use std::alloc::Global;
+
+const STIMULUS: &[u8] = b"moment,Start,Stop\n0,1,0\n10,0,0\n";
+
+/// A call that writes.
+#[derive(Clone, Copy)]
+enum Call {
+    Causes,
+    Trace,
+    Uses,
+    State,
+}
+
+/// What each call writes of the motor before its first scan.
+const CALLS: [(Call, &[u8]); 4] = [
+    (Call::Causes, b"number,Start,Stop\n2,1,0\n"),
+    (Call::Trace, b"moment,Motor\n0,1\n10,1\n"),
+    (
+        Call::Uses,
+        b"name,use,rung,row,column\nStart,contact,1,1,1\nStop,not_contact,1,1,2\nMotor,contact,1,2,1\nMotor,coil,1,1,3\n",
+    ),
+    (
+        Call::State,
+        b"version,2\nmoment,0\nvar,Start,0\nvar,Stop,0\nvar,Motor,0\n",
+    ),
+];
+
+/// Whether a list of causes was written whole.
+fn lists(
+    alloc: Global,
+    program: &Program,
+    state: &State,
+    writer: &mut CountedWriter<Narrow>,
+) -> bool {
+    if !state.fits(program) {
+        return false;
+    }
+    let listed = [0, 1];
+    match Causes::new(alloc, program, state, 0, COIL, listed.as_slice(), None) {
+        Ok(mut causes) => write_causes(&mut causes, None, writer).is_ok(),
+        Err(_) => false,
+    }
+}
+
+/// Whether the trace of a stimulus was written whole.
+fn traces(
+    alloc: Global,
+    program: &Program,
+    state: &mut State,
+    writer: &mut CountedWriter<Narrow>,
+) -> bool {
+    state.fits(program) && simulate(alloc, program, state, STIMULUS, writer).is_ok()
+}
+
+/// Whether the text of the state was written whole.
+fn tells(program: &Program, state: &State, writer: &mut CountedWriter<Narrow>) -> bool {
+    state.fits(program) && write_state(program, state, writer).is_ok()
+}
+
+/// Whether the call wrote all of its text.
+fn writes(
+    alloc: Global,
+    call: Call,
+    program: &Program,
+    state: &mut State,
+    writer: &mut CountedWriter<Narrow>,
+) -> bool {
+    match call {
+        Call::Causes => lists(alloc, program, state, writer),
+        Call::Trace => traces(alloc, program, state, writer),
+        Call::Uses => write_uses(program, writer).is_ok(),
+        Call::State => tells(program, state, writer),
+    }
+}
+
+/// How much a writer takes, and what it does when it is full.
+#[derive(Clone, Copy)]
+struct Room {
+    bytes: usize,
+    step: usize,
+    end: End,
+}
+
+/// Whether the call writes as much of its text as there is room for, and fails where that isn't all.
+fn cuts(alloc: Global, call: Call, text: &[u8], room: Room, motor: &mut Fresh) -> bool {
+    let mut writer = with_room(alloc, room.bytes, room.step, room.end);
+    let is_whole = writes(alloc, call, &motor.program, &mut motor.state, &mut writer);
+    let due = &text[..room.bytes.min(text.len())];
+    is_whole == (text.len() <= room.bytes) && writer.into_inner().bytes.as_slice() == due
+}
+
+/// Whether it does so before the first scan.
+fn is_cut(alloc: Global, call: Call, text: &[u8], room: Room) -> Result<bool, Memory> {
+    let mut motor = begun(alloc, MOTOR)?;
+    Ok(cuts(alloc, call, text, room, &mut motor))
+}
+
+/// The first size of a writer with which the call doesn't do so.
+fn wrong_room(
+    alloc: Global,
+    call: Call,
+    text: &[u8],
+    step: usize,
+    end: End,
+) -> Result<Option<usize>, Memory> {
+    for bytes in 0..text.len() {
+        if !is_cut(alloc, call, text, Room { bytes, step, end })? {
+            return Ok(Some(bytes));
+        }
+    }
+    let bytes = usize::MAX;
+    let is_right = is_cut(alloc, call, text, Room { bytes, step, end })?;
+    Ok(if is_right { None } else { Some(bytes) })
+}
+
+/// The same over all that a writer can do when it is full.
+fn wrong_end(
+    alloc: Global,
+    call: Call,
+    text: &[u8],
+    step: usize,
+) -> Result<Option<(End, usize)>, Memory> {
+    for end in ENDS {
+        if let Some(bytes) = wrong_room(alloc, call, text, step, end)? {
+            return Ok(Some((end, bytes)));
+        }
+    }
+    Ok(None)
+}
+
+/// The number of the first call that doesn't write what there is room for, by so many bytes a call of the writer.
+fn wrong_call(alloc: Global, step: usize) -> Result<Option<usize>, Memory> {
+    for (number, (call, text)) in CALLS.iter().enumerate() {
+        if wrong_end(alloc, *call, text, step)?.is_some() {
+            return Ok(Some(number));
+        }
+    }
+    Ok(None)
+}
+
+#[test]
+fn a_full_writer_has_a_prefix_of_each_text(rt: HostRuntime) {
+    let wrong = [wrong_call(rt.alloc(), 1), wrong_call(rt.alloc(), 1000)];
+    assert!(rt; wrong == [Ok(None), Ok(None)]);
+}
+
+/// The moment of the state after a simulation whose writer takes so many bytes, and the value of Motor.
+fn stopped(alloc: Global, bytes: usize, motor: &mut Fresh) -> Option<(u64, bool)> {
+    let mut writer = with_room(alloc, bytes, 1000, End::Fails);
+    if traces(alloc, &motor.program, &mut motor.state, &mut writer) {
+        return None;
+    }
+    told(&motor.state, &motor.program)
+}
+
+fn left_by(alloc: Global, bytes: usize) -> Result<Option<(u64, bool)>, Memory> {
+    let mut motor = begun(alloc, MOTOR)?;
+    Ok(stopped(alloc, bytes, &mut motor))
+}
+
+/// The header has 13 bytes, so with one less no scan is made.
+#[test]
+fn a_full_writer_leaves_the_state_after_the_row(rt: HostRuntime) {
+    let left = [left_by(rt.alloc(), 13), left_by(rt.alloc(), 12)];
+    assert!(rt; left == [Ok(Some((0, true))), Ok(Some((0, false)))]);
+}

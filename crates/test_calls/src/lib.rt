@@ -1,0 +1,12 @@
+//! Tests of the public calls below the command line, over readers and writers in memory.
+#![tactic(auto)]
+
+mod causes;
+mod full;
+pub mod memory;
+mod order;
+mod runs;
+mod scans;
+mod starving;
+mod table;
+mod texts;

@@ -1,0 +1,12 @@
+pub mod CauseText
+pub mod Rows
+pub mod Kept
+pub mod Limit
+pub mod GroupText
+pub mod Fours
+pub mod TermText
+pub mod TermParts
+pub mod Forms
+pub mod Parts
+pub mod Progress
+pub mod Telling

@@ -1,0 +1,6 @@
+mod Fitting
+mod Gets
+mod Noted
+mod PlainTitles
+mod Showings
+mod Untagging

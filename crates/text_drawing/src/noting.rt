@@ -1,0 +1,228 @@
+//! The whole text: the lines with their marks, and what is noted beside them.
+
+ghost use Rattle.std.specs.Prelude.{◌<◌, length, position};
+ghost use Rattle.io_text.specs.Buffer.{Sends};
+ghost use Rattle.io_text.specs.Log.{Puts};
+ghost use Rattle.text_drawing.specs.Marked.{is_line_of};
+ghost use Rattle.text_drawing.specs.Pictures.{Fits, lines_drawn, of_picture};
+ghost use Rattle.text_drawing.specs.Showing.{end_of, film_start, head_of, tail_of, whole_of, why_of, why_on};
+ghost use Rattle.text_drawing.specs.Notes.{kept_line, noted_line, noted_lines, notes_behind};
+
+use crate::marked::{add_whole_line, rung_of};
+use crate::notes::{add_above, add_rung_notes, add_tail, add_tail_with};
+use crate::page::{add_drawn_line, add_frame_head, add_frames_start, add_page_head};
+use crate::picture::{Picture, Style};
+use io_text::{Sink, TextBuffer, WriteFault};
+use text_power::add_why;
+
+fn add_notes_behind<W: Sink>(
+    buffer: &mut TextBuffer,
+    picture: Picture<'_>,
+    line: usize,
+    writer: &mut W,
+) -> Result<(), WriteFault>
+    requires fits { Fits picture }
+    requires line { line < length picture.lines.now }
+    ensures { Sends (W.log writer.old) (W.log writer.new) buffer.old buffer.new result (notes_behind picture.entry.program.now picture.entry.after.now picture.entry.parts.now picture.entry.marks.now line (position (is_line_of line) picture.entry.parts.now)) }
+{
+    match rung_of(picture.parts, line) {
+        Some(rung) => {
+            if line + 1 == picture.parts[rung].end {
+                add_rung_notes(buffer, picture, rung, writer)
+            } else {
+                buffer.add(b"", writer)
+            }
+        }
+        None => buffer.add(b"", writer),
+    }
+}
+
+/// Adds a line and its end.
+fn add_line<W: Sink>(
+    buffer: &mut TextBuffer,
+    picture: Picture<'_>,
+    line: usize,
+    writer: &mut W,
+) -> Result<(), WriteFault>
+    requires fits { Fits picture }
+    requires line { line < length picture.lines.now }
+    ensures { Sends (W.log writer.old) (W.log writer.new) buffer.old buffer.new result (lines_drawn picture.entry line) }
+{
+    match picture.style {
+        Style::Marked | Style::MarkedFrame => add_whole_line(buffer, picture, line, writer),
+        Style::Page | Style::PageFrame => add_drawn_line(buffer, picture, line, writer),
+    }
+}
+
+fn add_noted_line<W: Sink>(
+    buffer: &mut TextBuffer,
+    picture: Picture<'_>,
+    line: usize,
+    writer: &mut W,
+) -> Result<(), WriteFault>
+    requires fits { Fits picture }
+    requires line { line < length picture.lines.now }
+    ensures { Sends (W.log writer.old) (W.log writer.new) buffer.old buffer.new result (noted_line (lines_drawn picture.entry) picture.entry.program.now picture.entry.after.now picture.entry.parts.now picture.entry.marks.now line) }
+{
+    add_line(buffer, picture, line, writer)?;
+    add_notes_behind(buffer, picture, line, writer)
+}
+
+fn add_kept_line<W: Sink>(
+    buffer: &mut TextBuffer,
+    picture: Picture<'_>,
+    line: usize,
+    writer: &mut W,
+) -> Result<(), WriteFault>
+    requires fits { Fits picture }
+    requires line { line < length picture.lines.now }
+    ensures { Sends (W.log writer.old) (W.log writer.new) buffer.old buffer.new result (of_picture (kept_line (lines_drawn picture.entry)) picture.entry line) }
+{
+    let last = line + 1 == picture.lines.len();
+    if line == 0 || (last && picture.lines[line].is_empty()) {
+        buffer.add(b"", writer)
+    } else {
+        add_noted_line(buffer, picture, line, writer)
+    }
+}
+
+fn add_noted_lines<W: Sink>(
+    buffer: &mut TextBuffer,
+    picture: Picture<'_>,
+    writer: &mut W,
+) -> Result<(), WriteFault>
+    requires { Fits picture }
+    ensures { Sends (W.log writer.old) (W.log writer.new) buffer.old buffer.new result (of_picture (noted_lines (lines_drawn picture.entry)) picture.entry) }
+{
+    for line in 0..picture.lines.len() {
+        add_kept_line(buffer, picture, line, writer)?;
+    }
+    Ok(())
+}
+
+/// Adds what is above the lines.
+fn add_head<W: Sink>(
+    buffer: &mut TextBuffer,
+    picture: Picture<'_>,
+    writer: &mut W,
+) -> Result<(), WriteFault>
+    ensures { Sends (W.log writer.old) (W.log writer.new) buffer.old buffer.new result (head_of picture.entry.style picture.entry.program.now picture.entry.after.now) }
+{
+    match picture.style {
+        Style::Marked | Style::MarkedFrame => add_above(
+            buffer,
+            picture,
+            b" *)\n(* === live  [ ] closed, or Q is ON  { } ON after its rung  ... passed over *)\n",
+            writer,
+        ),
+        Style::Page => add_page_head(buffer, picture, writer),
+        Style::PageFrame => add_frame_head(buffer, picture, writer),
+    }
+}
+
+fn add_why_on<W: Sink>(
+    buffer: &mut TextBuffer,
+    picture: Picture<'_>,
+    var: usize,
+    writer: &mut W,
+) -> Result<(), WriteFault>
+    ensures { Sends (W.log writer.old) (W.log writer.new) buffer.old buffer.new result (why_on picture.entry.program.now picture.entry.marks.now var) }
+{
+    buffer.add(b"\n", writer)?;
+    add_why(buffer, picture.program, picture.marks, var, writer)
+}
+
+/// Adds why the coils that are asked for have power, or none.
+fn add_why_of<W: Sink>(
+    buffer: &mut TextBuffer,
+    picture: Picture<'_>,
+    writer: &mut W,
+) -> Result<(), WriteFault>
+    ensures { Sends (W.log writer.old) (W.log writer.new) buffer.old buffer.new result (why_of picture.entry.coil picture.entry.program.now picture.entry.marks.now) }
+{
+    match picture.coil {
+        Some(var) => add_why_on(buffer, picture, var, writer),
+        None => buffer.add(b"", writer),
+    }
+}
+
+/// Adds what stands last.
+fn add_tail_of<W: Sink>(
+    buffer: &mut TextBuffer,
+    picture: Picture<'_>,
+    writer: &mut W,
+) -> Result<(), WriteFault>
+    ensures { Sends (W.log writer.old) (W.log writer.new) buffer.old buffer.new result (tail_of picture.entry.style picture.entry.program.now picture.entry.after.now) }
+{
+    match picture.style {
+        Style::Marked => add_tail(buffer, picture, writer),
+        Style::MarkedFrame => add_tail_with(buffer, picture, b"\n", writer),
+        Style::Page => add_tail_with(buffer, picture, b"</pre>\n</html>\n", writer),
+        Style::PageFrame => add_tail_with(buffer, picture, b"</pre>\n", writer),
+    }
+}
+
+/// Adds what is below them.
+fn add_end<W: Sink>(
+    buffer: &mut TextBuffer,
+    picture: Picture<'_>,
+    writer: &mut W,
+) -> Result<(), WriteFault>
+    ensures { Sends (W.log writer.old) (W.log writer.new) buffer.old buffer.new result (end_of picture.entry.style picture.entry.coil picture.entry.program.now picture.entry.after.now picture.entry.marks.now) }
+{
+    add_why_of(buffer, picture, writer)?;
+    add_tail_of(buffer, picture, writer)
+}
+
+fn add_noted<W: Sink>(
+    buffer: &mut TextBuffer,
+    picture: Picture<'_>,
+    writer: &mut W,
+) -> Result<(), WriteFault>
+    requires { Fits picture }
+    ensures { Sends (W.log writer.old) (W.log writer.new) buffer.old buffer.new result (of_picture (whole_of picture.entry.style picture.entry.coil) picture.entry) }
+{
+    add_head(buffer, picture, writer)?;
+    add_noted_lines(buffer, picture, writer)?;
+    add_end(buffer, picture, writer)
+}
+
+/// Writes the whole text.
+///
+/// # Errors
+///
+/// The writer failed. What was written is a prefix of the text.
+pub(crate) fn write_noted<W: Sink>(picture: Picture<'_>, writer: &mut W) -> Result<(), WriteFault>
+    requires { Fits picture }
+    ensures { Puts (W.log writer.old) (W.log writer.new) result (of_picture (whole_of picture.entry.style picture.entry.coil) picture.entry) }
+{
+    let mut buffer = TextBuffer::new();
+    add_noted(&mut buffer, picture, writer)?;
+    buffer.flush(writer)
+}
+
+fn add_film_start<W: Sink>(
+    buffer: &mut TextBuffer,
+    style: Style,
+    writer: &mut W,
+) -> Result<(), WriteFault>
+    ensures { Sends (W.log writer.old) (W.log writer.new) buffer.old buffer.new result (film_start style) }
+{
+    match style {
+        Style::Marked | Style::MarkedFrame | Style::Page => buffer.add(b"", writer),
+        Style::PageFrame => add_frames_start(buffer, writer),
+    }
+}
+
+/// Writes what stands before the drawings of a film.
+///
+/// # Errors
+///
+/// The writer failed. What was written is a prefix of it.
+pub fn write_film_start<W: Sink>(style: Style, writer: &mut W) -> Result<(), WriteFault>
+    ensures { Puts (W.log writer.old) (W.log writer.new) result (film_start style) }
+{
+    let mut buffer = TextBuffer::new();
+    add_film_start(&mut buffer, style, writer)?;
+    buffer.flush(writer)
+}

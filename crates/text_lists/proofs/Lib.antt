@@ -1,0 +1,4 @@
+mod PossibleLaws
+mod Counting
+mod Unsettled
+mod PairRows

@@ -1,0 +1,15 @@
+use Rattle.std.proofs.Common.{◌≤◌, length}
+use Rattle.text_lists.specs.ClassText.{possible_group_record}
+use Rattle.text_lists.proofs.Counting.{Written}
+use Rattle.text_lists.proofs.Unsettled.{Counted}
+use Rattle.text_lists.proofs.possible_group_text.add_rows.Given as goal
+
+abbrev pub invariant-loop-limit : goal.invariant-loop-limit
+invariant-loop-limit g l = record {
+  written : Written (g.W.Sink.log l.fn.writer) (g.W.Sink.log l.writer) l.fn.buffer l.buffer (possible_group_record l.listed) l.listed l.limit l.fn.groups.rest l.groups.rest l.written.rows l.written.causes;
+  counted : Counted l.listed l.limit l.fn.groups.rest l.groups.rest l.written.rows l.written.unsettled;
+  fewer : l.written.unsettled ≤ l.written.causes;
+}
+
+abbrev pub decreases-loop-limit : goal.decreases-loop-limit
+decreases-loop-limit g l = length l.groups.rest

@@ -1,0 +1,10 @@
+mod Arms
+mod Heads
+mod ItemByItem
+mod Items
+mod Naming
+mod Places
+mod Plain
+mod Same
+mod Segments
+mod Written

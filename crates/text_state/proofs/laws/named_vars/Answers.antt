@@ -1,0 +1,13 @@
+use Rattle.std.proofs.Common.{arith}
+use Rattle.text_state.proofs.Naming.{named_all, named_more}
+use Rattle.text_state.proofs.laws.named_vars.Goals as goal
+
+pub loop-number-init : goal.loop-number-init
+loop-number-init c = λ number h. absurd (omega (arith, h))
+
+pub loop-number-preserved : goal.loop-number-preserved
+loop-number-preserved c =
+    named_more (λ x. x.name) c.args.vars.now c.loop-number.number c.index-vars-number.result c.loop-number.invariant c.bytes-name.ensures.named
+
+pub returns : goal.returns
+returns c = named_all (λ x. x.name) c.args.vars.now c.loop-number.number (omega arith) c.loop-number.invariant

@@ -1,0 +1,11 @@
+mod Bits
+mod Columns
+mod Coming
+mod Fields
+mod HeaderWords
+mod Lists
+mod Picked
+mod Plain
+mod Scanned
+mod Taking
+mod Whole

@@ -1,0 +1,2 @@
+mod Codes
+mod Keeping

@@ -1,0 +1,110 @@
+//! What cells do with variables and instances.
+
+ghost use Rattle.std.specs.Prelude.{◌≡◌, ◌↔◌, IsTrue, Some};
+ghost use Rattle.diagram_program.specs.Program.{block_in};
+ghost use Rattle.text_warnings.specs.Warned.{Clashes, IsLatch, IsOfKind, Reads, operand_of};
+ghost use Rattle.text_warnings.specs.Warnings.{symbol_of};
+
+use diagram_declarations::{Decls, Symbol, VarKind};
+use diagram_program::{Cell, CoilMode, Operand};
+
+/// What a contact reads.
+pub(crate) fn operand_of(cell: Cell) -> Option<Symbol>
+    ensures { result ≡ operand_of cell }
+{
+    match cell {
+        Cell::Contact { operand, .. } => match operand {
+            Operand::Var(var) => Some(Symbol::Var(var)),
+            Operand::Output(inst) => Some(Symbol::Instance(inst)),
+        },
+        Cell::Empty
+        | Cell::Wire
+        | Cell::Coil { .. }
+        | Cell::Block { .. }
+        | Cell::Lower { .. }
+        | Cell::Jump { .. }
+        | Cell::Return => None,
+    }
+}
+
+/// What a contact reads or a coil writes.
+pub(crate) fn symbol_of(cell: Cell) -> Option<Symbol>
+    ensures { result ≡ symbol_of cell }
+{
+    match cell {
+        Cell::Coil { var, .. } => Some(Symbol::Var(var)),
+        Cell::Contact { .. }
+        | Cell::Empty
+        | Cell::Wire
+        | Cell::Block { .. }
+        | Cell::Lower { .. }
+        | Cell::Jump { .. }
+        | Cell::Return => operand_of(cell),
+    }
+}
+
+/// Whether the cell is a contact on the variable or the instance.
+pub(crate) fn reads(symbol: Symbol, cell: Cell) -> bool
+    ensures { IsTrue result ↔ Reads symbol cell }
+{
+    match operand_of(cell) {
+        Some(other) => other == symbol,
+        None => false,
+    }
+}
+
+/// Whether the cell is the block of the instance.
+pub(crate) fn draws(inst: usize, cell: Cell) -> bool
+    ensures { IsTrue result ↔ (block_in cell ≡ Some inst) }
+{
+    match cell {
+        Cell::Block { inst: drawn } => drawn == inst,
+        Cell::Empty
+        | Cell::Wire
+        | Cell::Contact { .. }
+        | Cell::Coil { .. }
+        | Cell::Lower { .. }
+        | Cell::Jump { .. }
+        | Cell::Return => false,
+    }
+}
+
+fn is_latch(mode: CoilMode) -> bool
+    ensures { IsTrue result ↔ IsLatch mode }
+{
+    match mode {
+        CoilMode::Set | CoilMode::Reset => true,
+        CoilMode::Store | CoilMode::Inverse | CoilMode::Rising | CoilMode::Falling => false,
+    }
+}
+
+/// Whether the cell is a coil on the variable that is not meant beside one of this mode.
+#[tactic(auto, unfolding(crate::specs::Warned::Clashes))]
+pub(crate) fn clashes(mode: CoilMode, var: usize, cell: Cell) -> bool
+    ensures { IsTrue result ↔ Clashes mode var cell }
+{
+    match cell {
+        Cell::Coil {
+            mode: other,
+            var: written,
+            ..
+        } => written == var && !(is_latch(mode) && is_latch(other)),
+        Cell::Empty
+        | Cell::Wire
+        | Cell::Contact { .. }
+        | Cell::Block { .. }
+        | Cell::Lower { .. }
+        | Cell::Jump { .. }
+        | Cell::Return => false,
+    }
+}
+
+/// Whether the variable is of this kind.
+pub(crate) fn is_of_kind(kind: VarKind, decls: &Decls, var: usize) -> bool
+    ensures { IsTrue result ↔ IsOfKind kind decls.now var }
+{
+    match decls.vars().get(var) {
+        Some(var) => var.kind == kind,
+        None => false,
+    }
+}
