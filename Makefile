@@ -3,12 +3,13 @@ PREFIX ?= /usr/local
 PROGRAM := crates/ladder/out/ladder
 SOURCES := crates.txt $(shell find crates -path '*/out' -prune -o -type f -print)
 
-.PHONY: all run test stress mutants browser samples bench install clean
+.PHONY: all run try test stress mutants browser samples bench install clean
 
 all: bin/ladder
 
-# Proves what changed, and builds.
+# Proves what changed, libraries side by side, and builds. `make JOBS=2` has two checks at once; a check takes up to 3 GB.
 bin/ladder: $(SOURCES)
+	python3 tools/libraries.py ladder $(if $(JOBS),--jobs $(JOBS))
 	cd crates/ladder && rt run -- causes data/motor.ld Motor Start Stop
 	mkdir -p bin
 	cp $(PROGRAM) bin/ladder
@@ -17,22 +18,33 @@ bin/ladder: $(SOURCES)
 run: bin/ladder
 	cd crates/ladder/data && ../../../bin/ladder causes motor.ld Motor Start Stop
 
+# The stored example by a program that is built without proof, for a first look; it takes one to two minutes.
+try:
+	@echo "This program is built without proof: nothing is proved yet."
+	cd crates/ladder && rt try -- causes data/motor.ld Motor Start Stop
+	@echo "Nothing is proved yet: make proves and builds the program."
+
 # The gate, from nothing, and then the program that it built as a user runs it, and all that the documents show.
 test:
 	rt ci
 	python3 tests/end_to_end.py $(PROGRAM)
-	python3 tests/documents.py $(PROGRAM)
-	python3 tests/pages.py
-	python3 tests/mutants.py --where
-	python3 tests/completions.py $(PROGRAM)
+	python3 tools/side_by_side.py \
+	  "python3 tests/documents.py $(PROGRAM)" \
+	  "python3 tests/pages.py" \
+	  "python3 tests/references.py" \
+	  "python3 tests/lemmas.py" \
+	  "python3 tests/definitions.py --check" \
+	  "python3 tests/seconds.py --check" \
+	  "python3 tests/mutants.py --where" \
+	  "python3 tests/completions.py $(PROGRAM)" \
+	  "python3 tests/waves.py $(PROGRAM)" \
+	  "python3 tests/aliases.py $(PROGRAM)" \
+	  "python3 tests/filling.py $(PROGRAM)" \
+	  "python3 tests/importing.py $(PROGRAM) 200"
 	python3 tests/growth.py $(PROGRAM)
 	python3 tests/full.py $(PROGRAM)
 	python3 tests/saving.py $(PROGRAM)
 	python3 tests/progress.py $(PROGRAM)
-	python3 tests/waves.py $(PROGRAM)
-	python3 tests/aliases.py $(PROGRAM)
-	python3 tests/filling.py $(PROGRAM)
-	python3 tests/importing.py $(PROGRAM) 200
 	python3 tests/stress.py $(PROGRAM) --sample 1000
 	python3 tests/wrong_bodies.py $(PROGRAM)
 
@@ -40,7 +52,7 @@ test:
 stress: bin/ladder
 	python3 tests/stress.py bin/ladder
 
-# The mutants that the gate leaves out, of all crates (hours) or of those that are named: make mutants CRATES="ladder_sim ladder_words".
+# The mutants that the gate leaves out, of all crates (hours) or of those that are named: make mutants CRATES="text_causes cli_arguments".
 mutants: bin/ladder
 	python3 tests/mutants.py $(CRATES)
 
@@ -63,10 +75,9 @@ install: bin/ladder
 	install -D -m 644 completions/ladder.bash $(DESTDIR)$(PREFIX)/share/bash-completion/completions/ladder
 	install -D -m 644 completions/_ladder $(DESTDIR)$(PREFIX)/share/zsh/site-functions/_ladder
 	install -D -m 644 completions/ladder.fish $(DESTDIR)$(PREFIX)/share/fish/vendor_completions.d/ladder.fish
-	install -d $(DESTDIR)$(PREFIX)/share/doc/ladder/docs
+	install -d $(DESTDIR)$(PREFIX)/share/doc/ladder
 	install -m 644 README.md LICENSE $(DESTDIR)$(PREFIX)/share/doc/ladder
-	install -m 644 docs/*.md $(DESTDIR)$(PREFIX)/share/doc/ladder/docs
-	cp -R examples $(DESTDIR)$(PREFIX)/share/doc/ladder
+	cp -R docs examples $(DESTDIR)$(PREFIX)/share/doc/ladder
 
 clean:
 	rm -rf bin crates/*/out

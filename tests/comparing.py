@@ -10,10 +10,10 @@ import re
 from collections import Counter
 from typing import NamedTuple
 
-from end_to_end import differences, run
 from lanes import MOMENT, Everywhere, Lanes, do_suffice, never_both, of_value, open_bits, steady
 from model import FORMS, Program, classes_answer, judged_answer, text_of
 from running import Running, bits_of
+from transcript import differences, run
 
 FRAME = re.compile(r'<input type=radio name=record title="(.*?)">\n<pre>\n(.*?)</pre>', re.DOTALL)
 MOST_BITS = 18

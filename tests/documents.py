@@ -1,9 +1,9 @@
 #!/usr/bin/env python3
 """Runs what the documents show: documents.py PROGRAM [PATTERN].
 
-The documents are README.md, docs/TUTORIAL.md, docs/DRAWING.md, docs/FAULTS.md, examples/*/README.md and man/ladder.1;
-PATTERN, as 'examples/*', chooses some by name. Each is followed in a temporary folder of its own. A line
-`<!-- files: FOLDER -->` puts the files of a folder there; an example has its own files.
+The documents are README.md, docs/user/*.md, examples/*/README.md, examples/*/PICTURES.md and man/ladder.1; PATTERN, as 'examples/*',
+chooses some by name. Each is followed in a temporary folder of its own. A line `<!-- files: FOLDER -->` puts the files of a folder
+there; an example has its own files.
 
     ```console              commands behind `$ `, each with all that a terminal then shows, byte for byte
     ```console if TOOL      the same, passed over where TOOL isn't installed (parallel is GNU parallel)
@@ -12,8 +12,15 @@ PATTERN, as 'examples/*', chooses some by name. Each is followed in a temporary 
 
 `$ cat FILE` writes the file that it shows, where there is none of this name. A command of `ladder` has status 0
 exactly where it prints no line `fault ..`. When a document ends, each file that was put there must be as it was, so a command that
-writes over a file of an example is compared with it. The sections of docs/FAULTS.md and the words of the manual page
+writes over a file of an example is compared with it. The sections of docs/user/faults.md and the words of the manual page
 are compared with what the program has.
+
+Then README.md, docs/**/*.md and examples/**/*.md are read, outside their fenced blocks:
+
+    1,234 <!-- count: cases -->     the number before the mark, or after it, is the count of that name (COUNTS): digits, or a word up to twenty
+    [text](drawing.md#the-ruler)    a link to a file of the repository leads to one, and to a heading of it
+    `crates/*/src`                  a path in a code span (FOLDERS) exists; `*` and `..` match anything, and so does a part in capitals
+                                    alone, as in `tests/mutants/CRATE`; what a build makes (`out`) isn't looked for
 """
 import fnmatch
 import os
@@ -24,14 +31,49 @@ import subprocess
 import sys
 import tempfile
 
+from transcript import parts
+
 ROOT = pathlib.Path(__file__).resolve().parent.parent
-DOCUMENTS = ["README.md", "docs/DRAWING.md", "docs/FAULTS.md", "docs/TUTORIAL.md", "examples/*/README.md", "examples/*/PICTURES.md",
-             "man/ladder.1"]
+FOLLOWED = ["README.md", "docs/user/*.md", "examples/*/README.md", "examples/*/PICTURES.md", "man/ladder.1"]
+READ = ["README.md", "docs/**/*.md", "examples/**/*.md"]
+FAULTS = "docs/user/faults.md"
 SUBCOMMANDS = ["check", "causes", "show", "sim", "uses", "never", "import", "explain"]
 # the faults that a text or a command can show, and those that have a section alone
 SHOWN = [f"V{number}" for number in range(1, 9)] + ["A1"] + [f"G{number}" for number in range(1, 16)]
 SHOWN += [f"C{number}" for number in range(1, 7)] + ["C8"] + [f"X{number}" for number in range(1, 7)] + [f"P{number}" for number in range(1, 7)] + ["usage"]
 TOLD = ["V9", "C7", "S1", "X7", "P7", "P8"]
+# the folders whose paths are looked for
+FOLDERS = ["bench", "completions", "crates", "docs", "examples", "man", "tests"]
+WORDS = ["one", "two", "three", "four", "five", "six", "seven", "eight", "nine", "ten", "eleven", "twelve", "thirteen", "fourteen", "fifteen",
+         "sixteen", "seventeen", "eighteen", "nineteen", "twenty"]
+NUMBER = r"(\d{1,3}(?:,\d{3})+|\d+|" + "|".join(sorted(WORDS, key=len, reverse=True)) + ")"
+
+
+def count_cases():
+    """The cases of tests/cases: a file each, in folders by subject, or else a folder each."""
+    return count_files("tests/cases/**/*.case") or count_files("tests/cases/*/")
+
+
+def count_lines(path):
+    """The lines of a file that have something else than a comment."""
+    return len([line for line in (ROOT / path).read_text("utf-8").splitlines() if line.partition("#")[0].strip()])
+
+
+def count_files(pattern):
+    return len(list(ROOT.glob(pattern)))
+
+
+# what the documents count
+COUNTS = {
+    "cases": count_cases,
+    "crates": lambda: count_lines("crates.txt"),
+    "edits": lambda: count_files("crates/*/must-fail/*.edit"),
+    "mutants": lambda: count_files("tests/mutants/*/*.edit"),
+    "wrong-bodies": lambda: count_files("tests/wrong_bodies/*.edit"),
+    "circuits": lambda: count_files("examples/*/PICTURES.md"),
+    "drafts": lambda: count_files("examples/*/draft.ld"),
+    "examples": lambda: count_files("examples/*/README.md"),
+}
 
 
 class Tally:
@@ -48,19 +90,14 @@ class Tally:
 
 
 def fenced(text):
-    """The fenced blocks: the number of the first line, the words behind the fence, the lines; and the marks `files`."""
-    found, words, start, lines = [], None, 0, []
-    for number, line in enumerate(text.splitlines(), 1):
-        mark = re.fullmatch(r"<!-- files: (\S+) -->", line)
-        if words is None and mark:
+    """The blocks of a document, and the marks `files`."""
+    found = []
+    for number, words, lines in parts(text):
+        mark = words is None and re.fullmatch(r"<!-- files: (\S+) -->", lines[0])
+        if mark:
             found.append((number, ["files", mark[1]], []))
-        elif words is None and line.startswith("```"):
-            words, start, lines = line[3:].split(), number, []
-        elif words is not None and line == "```":
-            found.append((start, words, lines))
-            words = None
         elif words is not None:
-            lines.append(line)
+            found.append((number, words, lines))
     return found
 
 
@@ -212,13 +249,13 @@ def manual_entries(text):
 
 
 def fault_titles():
-    """The headings of the sections of docs/FAULTS.md, but of the fault that no request has."""
-    return sorted(re.findall(r"^## ([VAGCXP]\d+: .*)$", (ROOT / "docs/FAULTS.md").read_text("utf-8"), re.M))
+    """The headings of the sections of docs/user/faults.md, but of the fault that no request has."""
+    return sorted(re.findall(r"^## ([VAGCXP]\d+: .*)$", (ROOT / FAULTS).read_text("utf-8"), re.M))
 
 
 def compare_manual(name, text, program, tally):
     told = sorted(line for line in text.splitlines() if re.match(r"[VAGCXP]\d+: ", line))
-    tally.compare(f"{name}: the faults, as docs/FAULTS.md has them", told, fault_titles())
+    tally.compare(f"{name}: the faults, as {FAULTS} has them", told, fault_titles())
     manual = manual_entries(text)
     for words in [[], *([word] for word in SUBCOMMANDS)]:
         title = " ".join(["ladder", *words])
@@ -232,23 +269,90 @@ def document(path, program, tools, folder, tally):
     if name.startswith("examples/"):
         blocks.insert(0, (0, ["files", str(path.parent.relative_to(ROOT))], []))
     follow(name, blocks, folder, tools, tally)
-    if path.name == "FAULTS.md":
+    if name == FAULTS:
         compare_sections(name, text, blocks, tally)
     if path.suffix == ".1":
         compare_manual(name, text, program, tally)
 
 
+def prose(text):
+    """The text with an empty line for each line of a fenced block."""
+    lines, fence = [], False
+    for line in text.splitlines():
+        mark = line.startswith("```")
+        lines.append("" if fence or mark else line)
+        fence ^= mark
+    return "\n".join(lines) + "\n"
+
+
+def number_of(word):
+    """The number that digits or a word say."""
+    return WORDS.index(word) + 1 if word in WORDS else int(word.replace(",", ""))
+
+
+def compare_counts(where, line, tally):
+    """Each number of a line that has a mark, before or after it, is the count of that name."""
+    for mark in re.finditer(r"<!-- count: ([\w-]+) -->", re.sub(r"`[^`]*`", lambda span: "_" * len(span[0]), line)):
+        found = re.findall(rf"\b{NUMBER}[ *]*$", line[:mark.start()]) + re.findall(rf"^[ *]*{NUMBER}\b", line[mark.end():])
+        want = COUNTS[mark[1]]() if mark[1] in COUNTS else "a name of COUNTS"
+        tally.compare(f"{where}: the count of {mark[1]}", [number_of(word) for word in found], [want])
+
+
+def anchors(path):
+    """What the headings of a document are called in a link."""
+    heads = re.findall(r"^#+ (.*)$", prose(path.read_text("utf-8")), re.M)
+    return {re.sub(r"[^\w -]", "", head.lower()).replace(" ", "-") for head in heads}
+
+
+def leads(path, target):
+    """Whether a link of a document leads to a file, and to a heading of it."""
+    file, _, anchor = target.partition("#")
+    goal = path.parent / file if file else path
+    return goal.exists() and (not anchor or anchor in anchors(goal))
+
+
+def is_path(path):
+    """Whether a path of the repository is there, or what a build makes."""
+    pattern = re.sub(r"(?<=/)[A-Z]+(?=/|$|\.(?!md))", "*", path.replace("..", "*"))
+    return "out" in path.split("/") or any(ROOT.glob(pattern))
+
+
+def compare_places(path, where, line, tally):
+    """The links and the paths of a line lead somewhere."""
+    for target in re.findall(r"\]\(([^)\s]+)\)", re.sub(r"`[^`]*`", "", line)):
+        if "://" not in target and not target.startswith("mailto:"):
+            tally.compare(f"{where}: the link {target}", leads(path, target), True)
+    for word in " ".join(re.findall(r"`([^`]+)`", line)).split():
+        file = re.fullmatch(rf"((?:{'|'.join(FOLDERS)})/[\w./*-]*[\w/*]|(?:{'|'.join(FOLDERS)})/[\w./*-]*\.\.)[.,;:]?(?::\d+)?", word)
+        if file:
+            tally.compare(f"{where}: the path {file[1]}", is_path(file[1].rstrip("/")), True)
+
+
+def read(path, tally):
+    """Compares what a document says of the repository."""
+    for number, line in enumerate(prose(path.read_text("utf-8")).splitlines(), 1):
+        where = f"{path.relative_to(ROOT)}:{number}"
+        compare_counts(where, line, tally)
+        compare_places(path, where, line, tally)
+
+
+def chosen(names, pattern):
+    """The documents of these names that a pattern chooses, each once."""
+    paths = {path: str(path.relative_to(ROOT)) for name in names for path in sorted(ROOT.glob(name))}
+    return [path for path, name in paths.items() if fnmatch.fnmatch(name, pattern)]
+
+
 def main():
-    """Follows the chosen documents and answers the status."""
+    """Follows and reads the chosen documents and answers the status."""
     program, pattern = os.path.abspath(sys.argv[1]), (sys.argv[2:] or ["*"])[0]
-    paths = [path for names in DOCUMENTS for path in sorted(ROOT.glob(names))]
     tally = Tally()
     with tempfile.TemporaryDirectory() as tools:
         os.symlink(program, pathlib.Path(tools) / "ladder")
-        for path in paths:
-            if fnmatch.fnmatch(str(path.relative_to(ROOT)), pattern):
-                with tempfile.TemporaryDirectory() as folder:
-                    document(path, program, tools, pathlib.Path(folder), tally)
+        for path in chosen(FOLLOWED, pattern):
+            with tempfile.TemporaryDirectory() as folder:
+                document(path, program, tools, pathlib.Path(folder), tally)
+    for path in chosen(READ, pattern):
+        read(path, tally)
     print(f"{tally.passed} of {tally.all} passed; {tally.skipped} commands were not run, since their tool isn't installed")
     return 0 if tally.all and tally.passed == tally.all else 1
 

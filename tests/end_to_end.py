@@ -1,32 +1,49 @@
 #!/usr/bin/env python3
 """Runs the built program as a user does: end_to_end.py PROGRAM [PATTERN].
 
-Each folder of tests/cases is a case, run in a temporary folder of its own:
+Each file tests/cases/**/*.case is a case: a transcript of one command, run in a temporary folder of its own.
 
-    words           the words behind the program's name, one a line
-    stdout, stderr  the exact bytes that are expected (absent: none)
-    status          the expected status (absent: 0)
-    after           a folder: the files that must be there afterwards, also in folders, with their exact bytes
-    absent          the names of files that must not be there afterwards, one a line
-    files           lines `NAME FROM`: a copy of a file, named from the root of the repository
-    made            lines `NAME GENERATOR [WORDS]`: a text that a generator below makes, several lines of one name one behind the other
+    copy FROM [NAME]     a copy of a file, FROM as seen from the root of the repository, under its own name or NAME
+    ```file NAME         a file, as the block shows it; NAME may have folders
+    ```made NAME         a file too long to be shown: each line names a generator below, and its words
+    ```console           `$ ladder WORDS`, quoted as for a shell where a word needs it; the lines below are standard output, exactly
+    ```stderr            standard error, exactly; without this block there is none
+    status N             the exit status; without this line it is 0
+    ```after NAME        a file that is there afterwards, exactly
+    folder NAME          a folder that is there afterwards, with nothing in it
+    absent NAME          a file or folder that is not there afterwards
 
-Every other file or folder of the folder is copied. PATTERN, as 'causes-*', chooses cases by name.
+Blocks end with a line of three backticks. Standard input is empty. After the command each file has the bytes that it had before, or
+those of its block `after`, and no other file or folder is there. Outside blocks stand only the lines above, blank lines, and comments,
+which begin with `# `.
+
+A case has printable ASCII alone, and no space at the end of a line. What isn't so is in a block with the word `escaped` after its name:
+
+    \\xNN   a byte        \\t   a tab        \\r   a carriage return        \\\\   a backslash
+    \\      at the end of a line: there is no line feed here, so a text without a last line feed ends with a backslash
+
+A text with a line of three backticks is in a block between lines of four.
+
+A case is named by its path, as check/G6/gap-in-a-wire; PATTERN, as 'causes/*', chooses some. Those of special_cases.py, which need
+other streams or other files than a text can show, belong to the same folders. All processors are used.
 """
 import fnmatch
+import multiprocessing
 import os
 import pathlib
 import re
-import resource
-import shutil
-import signal
-import subprocess
+import shlex
 import sys
 import tempfile
+from concurrent.futures import ProcessPoolExecutor
+
+from special_cases import SPECIAL
+from transcript import content, difference, differences, parts, run
 
 HERE = pathlib.Path(__file__).resolve().parent
 ROOT = HERE.parent
-NO_INPUT = ("words", "stdout", "stderr", "status", "after", "absent", "files", "made")
+CASES = HERE / "cases"
+FOLDER = "a folder"
 
 
 def spaces(length):
@@ -40,23 +57,23 @@ def filled_motor(length):
 
 
 def inputs(count):
-    """So many inputs, of which the first one alone feeds the coil."""
+    """A number of inputs, of which the first one alone feeds the coil."""
     declared = "".join(f"  I{number} AT %IX{number - 1} : BOOL;\n" for number in range(1, int(count) + 1))
     return f"VAR\n{declared}  Y AT %QX0 : BOOL;\nEND_VAR\n\n|     I1          Y\n|----| |---------( )----\n"
 
 
 def variables(count):
-    """So many declarations of variables."""
+    """A number of declarations of variables."""
     return "".join(f"V{number} : BOOL;\n" for number in range(1, int(count) + 1))
 
 
 def timers(count):
-    """So many declarations of timers."""
+    """A number of declarations of timers."""
     return "".join(f"T{number} : TON;\n" for number in range(1, int(count) + 1))
 
 
 def rungs(count):
-    """So many rungs of one line, each with a blank line behind it."""
+    """A number of rungs of one line, each with a blank line after it."""
     return "|\n\n" * int(count)
 
 
@@ -69,260 +86,125 @@ MAKERS = (spaces, filled_motor, inputs, variables, timers, rungs, line)
 GENERATORS = {maker.__name__: maker for maker in MAKERS}
 
 
-def lines(path):
-    return path.read_text("ascii").splitlines() if path.exists() else []
+def made(text):
+    """What the generators of these lines make, one after the other."""
+    pieces = (words.partition(" ") for words in text.decode("ascii").split("\n")[:-1])
+    return "".join(GENERATORS[name](rest) for name, _, rest in pieces).encode("ascii")
 
 
-def content(path):
-    return path.read_bytes() if path.exists() else b""
+class Case:
+    """A case, as its text has it."""
+
+    def __init__(self, text):
+        bad = re.search(r"[^ -~\n]| $", text, re.MULTILINE)
+        if bad:
+            raise ValueError(f"line {text.count(chr(10), 0, bad.start()) + 1}: write {bad[0]!r} in an escaped block")
+        self.files, self.after, self.absent = {}, {}, []
+        self.words, self.out, self.err, self.status = None, b"", b"", 0
+        for number, words, lines in parts(text):
+            try:
+                self.add(["", *lines[0].split()] if words is None else words, lines)
+            except (ValueError, LookupError, OSError) as wrong:
+                raise ValueError(f"line {number}: {wrong}") from wrong
+        if self.words is None:
+            raise ValueError("there is no command")
+
+    def add(self, words, lines):
+        """Adds a block, or a line outside blocks, whose words begin with an empty one."""
+        match words:
+            case ["file", name, *escaped] if escaped in ([], ["escaped"]):
+                self.put(self.files, name, content(words, lines))
+            case ["made", name, *escaped] if escaped in ([], ["escaped"]):
+                self.put(self.files, name, made(content(words, lines)))
+            case ["after", name, *escaped] if escaped in ([], ["escaped"]):
+                self.put(self.after, name, content(words, lines))
+            case ["console"] | ["console", "escaped"] if self.words is None:
+                self.words, self.out = command(content(words, lines[:1])), content(words, lines[1:])
+            case ["stderr"] | ["stderr", "escaped"] if not self.err:
+                self.err = content(words, lines)
+            case ["", "copy", source]:
+                self.put(self.files, pathlib.Path(source).name, (ROOT / source).read_bytes())
+            case ["", "copy", source, name]:
+                self.put(self.files, name, (ROOT / source).read_bytes())
+            case ["", "status", number]:
+                self.status = int(number)
+            case ["", "folder", name]:
+                self.put(self.after, name, FOLDER)
+            case ["", "absent", name]:
+                self.absent.append(name)
+            case [""] | ["", "#", *_]:
+                pass
+            case other:
+                raise ValueError(f"no part of a case: {' '.join(other).strip()}")
+
+    @staticmethod
+    def put(files, name, text):
+        if name in files:
+            raise ValueError(f"{name} is there twice")
+        files[name] = text
+
+    def left(self):
+        """Each file and folder that is there afterwards, as tree() has it."""
+        files = {**self.files, **self.after}
+        folders = (str(folder) for name in files for folder in pathlib.PurePath(name).parents[:-1])
+        return {name: text for name, text in {**dict.fromkeys(folders, FOLDER), **files}.items() if name not in self.absent}
 
 
-def fill(case, folder):
-    """Puts the files of a case into a folder."""
-    for path in case.iterdir():
-        if path.is_dir() and path.name not in NO_INPUT:
-            shutil.copytree(path, folder / path.name)
-        elif path.name not in NO_INPUT:
-            shutil.copy(path, folder)
-    for words in lines(case / "files"):
-        name, source = words.split()
-        shutil.copy(ROOT / source, folder / name)
-    for words in lines(case / "made"):
-        name, _, piece = words.partition(" ")
-        generator, _, rest = piece.partition(" ")
-        with open(folder / name, "a", encoding="ascii", newline="") as file:
-            file.write(GENERATORS[generator](rest))
+def command(text):
+    """The words of a command, without `$ ladder`."""
+    line = text.decode("latin-1").removesuffix("\n")
+    words = shlex.split(line)
+    if words[:2] != ["$", "ladder"] or f"$ {shlex.join(words[1:])}" != line:
+        raise ValueError(f"a command is `$ {shlex.join(['ladder', *words[2:]])}`")
+    return [word.encode("latin-1") for word in words[2:]]
 
 
-def run(program, words, folder, **streams):
-    """Standard output, standard error and status; a stream that isn't a pipe is None, and so is the status after a minute."""
-    streams = {"stdin": subprocess.DEVNULL, "stdout": subprocess.PIPE, "stderr": subprocess.PIPE, **streams}
-    try:
-        done = subprocess.run([program, *words], cwd=folder, timeout=60, check=False, **streams)
-    except subprocess.TimeoutExpired as late:
-        return late.stdout, late.stderr, None
-    return done.stdout, done.stderr, done.returncode
+def tree(folder):
+    """Each file in a folder with its bytes, and each folder."""
+    return {str(path.relative_to(folder)): FOLDER if path.is_dir() else path.read_bytes() for path in folder.rglob("*")}
 
 
-def differences(have, want):
-    """A line for each part that differs; a part that is wanted as ... may be anything but empty."""
-    parts = zip(("stdout", "stderr", "status", "saved"), have, want)
-    return [f"  {part}: want {shown(due)}\n  {' ' * len(part)}  have {shown(found)}"
-            for part, found, due in parts if (not found if due is ... else found != due)]
-
-
-def shown(part):
-    text = "anything" if part is ... else repr(part)
-    return text if len(text) <= 2000 else f"{text[:2000]}... ({len(part)} bytes)"
-
-
-def run_case(program, case, folder):
-    fill(case, folder)
-    words = content(case / "words").splitlines()
-    want = content(case / "stdout"), content(case / "stderr"), int(content(case / "status") or 0)
-    return differences(run(program, words, folder), want) + left(case, folder)
-
-
-def left(case, folder):
-    """A line for each file that should have been left otherwise."""
-    files = sorted(path.relative_to(case / "after") for path in (case / "after").rglob("*") if path.is_file())
-    found = [f"  {name}: want {shown(content(case / 'after' / name))}\n  {' ' * len(str(name))}  have {shown(content(folder / name))}"
-             for name in files if content(case / "after" / name) != content(folder / name)]
-    return found + [f"  {name}: want no such file" for name in lines(case / "absent") if (folder / name).exists()]
-
-
-def pipe_closed_after_a_line(program, folder):
-    """Somebody reads the header of a long list, and no more."""
-    shutil.copy(ROOT / "bench" / "circuits" / "one_contact.ld", folder)
-    words = ["causes", "one_contact.ld", "Y", *(f"I{number}" for number in range(1, 21))]
-    with subprocess.Popen([program, *words], cwd=folder, stdin=subprocess.DEVNULL, stdout=subprocess.PIPE, stderr=subprocess.PIPE) as process:
-        header = process.stdout.readline()
-        process.stdout.close()
-        said = process.stderr.read()
-    return differences((header, said, process.returncode), ((",".join(["number", *words[3:]]) + "\n").encode(), b"fault X6\n", 1))
-
-
-def rows_in_a_file_of_limited_size(program, folder):
-    """The system ends the program by a signal at the limit; what was written is a prefix of the rows."""
-    shutil.copy(ROOT / "bench" / "circuits" / "one_contact.ld", folder)
-    words = ["causes", "one_contact.ld", "Y", *(f"I{number}" for number in range(1, 17))]
-    whole, _, _ = run(program, words, folder)
-    with open(folder / "rows.csv", "wb") as rows:
-        _, said, status = run(program, words, folder, stdout=rows, preexec_fn=lambda: resource.setrlimit(resource.RLIMIT_FSIZE, (100000, 100000)))
-    written = content(folder / "rows.csv")
-    return differences((written, said, status), (whole[:100000], b"", -signal.SIGXFSZ))
-
-
-def help_is_printed(*words):
-    return lambda program, folder: differences(run(program, words, folder), (..., b"", 0))
-
-
-def aliases_in_help(program, folder):
-    """What reads a program, and nothing else, has the option, also beside the one for help."""
-    told = {name: b"      --aliases  " in run(program, [name, "--help"], folder)[0] for name in (*OF_PROGRAMS, "import", "explain")}
-    ends = [run(program, [name, "--aliases", "--help"], folder)[2] for name in (*OF_PROGRAMS, "import", "explain")]
-    return differences(([name for name, has in told.items() if has], ends), (list(OF_PROGRAMS), [0] * len(OF_PROGRAMS) + [2, 2]))
-
-
-def full_device():
-    return open("/dev/full", "wb")
-
-
-def unread_pipe():
-    """The writing end of a pipe that nobody reads."""
-    reader, writer = os.pipe()
-    os.close(reader)
-    return open(writer, "wb")
-
-
-def on_a_stream(words, name, opened, want):
-    """A case on the motor with one of its streams opened otherwise."""
-
-    def job(program, folder):
-        shutil.copy(HERE / "programs" / "motor.ld", folder)
-        with opened() as stream:
-            return differences(run(program, words, folder, **{name: stream}), want)
-
-    return job
-
-
-def rows_on_a_closed_output(program, folder):
-    shutil.copy(HERE / "programs" / "motor.ld", folder)
-    have = run(program, CAUSES, folder, stdout=subprocess.DEVNULL, preexec_fn=lambda: os.close(1))
-    return differences(have, (None, b"fault X6\n", 1))
-
-
-def long_texts(words, name, text, want):
-    """A case on the motor with a file that is too large to be kept."""
-
-    def job(program, folder):
-        shutil.copy(HERE / "programs" / "motor.ld", folder)
+def put_files(files, folder):
+    for name, text in files.items():
+        (folder / name).parent.mkdir(parents=True, exist_ok=True)
         (folder / name).write_bytes(text)
-        return differences(run(program, words, folder), want)
-
-    return job
 
 
-def sim_with_closed_streams(closed, want, saved):
-    """A simulation that saves, with these streams closed at its start: no file may take their place."""
-
-    def close():
-        for stream in closed:
-            os.close(stream)
-
-    def job(program, folder):
-        shutil.copy(HERE / "programs" / "motor.ld", folder)
-        (folder / "stimulus.csv").write_bytes(b"moment,Start,Stop\n0,1,0\n")
-        have = run(program, ["sim", "--save", "saved.csv", "motor.ld", "stimulus.csv"], folder, preexec_fn=close)
-        return differences((*have, content(folder / "saved.csv")), (*want, saved))
-
-    return job
+def run_case(program, path, folder):
+    """A line for each difference of a case."""
+    try:
+        case = Case(path.read_text("latin-1"))
+    except ValueError as wrong:
+        return [f"  {path.relative_to(ROOT)}, {wrong}"]
+    put_files(case.files, folder)
+    found = differences(run(program, case.words, folder), (case.out, case.err, case.status))
+    want, have = case.left(), tree(folder)
+    return found + [difference(name, have.get(name, "not there"), want.get(name, "not there"))
+                    for name in sorted({*want, *have}) if have.get(name) != want.get(name)]
 
 
-def parts_of_32_inputs(program, folder):
-    """The lists of two jobs by the tutorial's lines for a Slurm array, where the numbers are of 32 bits."""
-    lines = re.search(r"```text\n(first=.*?)```", (ROOT / "docs" / "TUTORIAL.md").read_text("utf-8"), re.DOTALL)[1]
-    chain = (ROOT / "bench" / "circuits" / "chain32.ld").read_text("ascii")
-    (folder / "plant.ld").write_text(chain.replace("  Y\n", "Alarm\n").replace("Y AT", "Alarm AT"), "ascii")
-    (folder / "ladder").symlink_to(program)
-    have = []
-    for job in ("1022", "1023"):
-        environment = {**os.environ, "PATH": f"{folder}:{os.environ['PATH']}", "SLURM_ARRAY_TASK_ID": job}
-        subprocess.run(["sh", "-c", lines], cwd=folder, env=environment, stderr=subprocess.DEVNULL, check=True)
-        have.append((folder / f"list_{job}.csv").read_bytes())
-    header = "number," + ",".join(f"I{number}" for number in range(1, 33)) + "\n"
-    return differences(have, (header.encode(), f"{header}{2 ** 32 - 1}{',1' * 32}\n".encode()))
-
-
-def program_from_standard_input(program, folder):
-    """A file named - is standard input."""
-    text = HERE / "programs" / "motor.ld"
-    with open(text, "rb") as stream:
-        have = run(program, ["causes", "-", *CAUSES[2:]], folder, stdin=stream)
-    shutil.copy(text, folder)
-    return differences(have, run(program, CAUSES, folder))
-
-
-def stimulus_from_a_pipe(program, folder):
-    """So is a stimulus that comes through a pipe."""
-    shutil.copy(HERE / "programs" / "motor.ld", folder)
-    reader, writer = os.pipe()
-    os.write(writer, ONE)
-    os.close(writer)
-    with open(reader, "rb") as stream:
-        return differences(run(program, ["sim", "motor.ld", "-"], folder, stdin=stream), (TRACE, b"", 0))
-
-
-OF_PROGRAMS = ("check", "causes", "show", "sim", "uses", "never")
-CAUSES = ["causes", "motor.ld", "Motor", "Start", "Stop"]
-SIM = ["sim", "motor.ld", "stimulus.csv"]
-STATE = ["causes", "--state", "state.csv", "motor.ld", "Motor"]
-SAVED = b"version,2\nmoment,0\nvar,Start,1\nvar,Stop,0\nvar,Motor,1\n"
-TRACE = b"moment,Motor\n0,1\n"
-ONE = b"moment,Start,Stop\n0,1,0\n"
-EVERY = ["sim", "--every", "1", "motor.ld", "stimulus.csv"]
-FILM = ["show", "--stimulus", "stimulus.csv", "motor.ld"]
-DRAWN = content(HERE / "cases" / "show-motor-off-without-inputs" / "stdout") + b"\n"
-SPECIAL = {
-    "sim-most-records": long_texts(SIM, "stimulus.csv", b"moment\n" + b"0\n" * 1000000, (b"moment,Motor\n" + b"0,0\n" * 1000000, b"", 0)),
-    "sim-a-record-too-many": long_texts(SIM, "stimulus.csv", b"moment\n" + b"0\n" * 1000001, (b"moment,Motor\n" + b"0,0\n" * 1000000, b"fault X5 row 1000002\n", 1)),
-    "sim-every-most-records": long_texts(EVERY, "stimulus.csv", b"moment\n0\n999999\n", (b"moment,Motor\n" + b"".join(b"%d,0\n" % moment for moment in range(1000000)), b"", 0)),
-    "sim-every-a-record-too-many": long_texts(EVERY, "stimulus.csv", b"moment\n0\n5\n1000005\n", (b"moment,Motor\n" + b"".join(b"%d,0\n" % moment for moment in range(1000000)), b"fault X5 row 4\n", 1)),
-    "show-film-of-the-most-records": long_texts(FILM, "stimulus.csv", b"moment\n" + b"0\n" * 1000, (DRAWN * 1000, b"", 0)),
-    "show-film-a-record-too-many": long_texts(FILM, "stimulus.csv", b"moment\n" + b"0\n" * 1001, (DRAWN * 1000, b"fault X5 row 1002\n", 1)),
-    "sim-longest-stimulus": long_texts(SIM, "stimulus.csv", b"moment\n".ljust(16777216, b"\n"), (b"moment,Motor\n", b"", 0)),
-    "sim-stimulus-too-long": long_texts(SIM, "stimulus.csv", b"moment\n".ljust(16777217, b"\n"), (b"", b"fault X5 stimulus\n", 1)),
-    "state-of-the-most-bytes": long_texts(STATE, "state.csv", SAVED.ljust(1048576, b"\n"), (b"number\n0\n", b"rows 1 looks 1\n", 0)),
-    "state-too-long": long_texts(STATE, "state.csv", SAVED.ljust(1048577, b"\n"), (b"", b"fault X5 state\n", 1)),
-    "streams-saved-state-on-a-full-device": long_texts(["sim", "--save", "/dev/full", *SIM[1:]], "stimulus.csv", ONE, (TRACE, b"fault X6\n", 1)),
-    "streams-saved-state-in-a-folder": long_texts(["sim", "--save", ".", *SIM[1:]], "stimulus.csv", ONE, (TRACE, b"fault X6\n", 1)),
-    "streams-rows-in-a-file-of-limited-size": rows_in_a_file_of_limited_size,
-    "streams-rows-on-a-pipe-closed-after-a-line": pipe_closed_after_a_line,
-    "streams-saved-state-over-the-program": long_texts(["sim", "--save", "motor.ld", *SIM[1:]], "stimulus.csv", ONE, (b"", b"fault usage\n", 2)),
-    "streams-program-from-standard-input": program_from_standard_input,
-    "streams-stimulus-from-a-pipe": stimulus_from_a_pipe,
-    "streams-sim-without-input": sim_with_closed_streams([0], (TRACE, b"", 0), SAVED),
-    "streams-sim-without-output": sim_with_closed_streams([1], (b"", b"fault X6\n", 1), b""),
-    "streams-sim-without-error": sim_with_closed_streams([2], (TRACE, b"", 0), SAVED),
-    "streams-sim-without-streams": sim_with_closed_streams([0, 1, 2], (b"", b"", 1), b""),
-    "words-help-of-show": help_is_printed("show", "--help"),
-    "words-help-of-sim": help_is_printed("sim", "-h"),
-    "words-help-of-uses": help_is_printed("uses", "--help"),
-    "words-help": help_is_printed("--help"),
-    "words-help-as-a-subcommand": help_is_printed("help"),
-    "words-help-of-causes": help_is_printed("causes", "--help"),
-    "words-short-help-of-causes": help_is_printed("causes", "-h"),
-    "streams-help-on-a-full-device": on_a_stream(["--help"], "stdout", full_device, (None, b"fault X6\n", 1)),
-    "check-on-a-full-device": on_a_stream(["check", "motor.ld"], "stdout", full_device, (None, b"fault X6\n", 1)),
-    "check-help": help_is_printed("check", "--help"),
-    "aliases-in-help": aliases_in_help,
-    "import-help": help_is_printed("import", "--help"),
-    "causes-parts-of-32-inputs": parts_of_32_inputs,
-    "streams-rows-on-a-full-device": on_a_stream(CAUSES, "stdout", full_device, (None, b"fault X6\n", 1)),
-    "show-on-a-full-device": on_a_stream(["show", "motor.ld", "Start", "Stop"], "stdout", full_device, (None, b"fault X6\n", 1)),
-    "streams-rows-on-an-unread-pipe": on_a_stream(CAUSES, "stdout", unread_pipe, (None, b"fault X6\n", 1)),
-    "streams-rows-on-a-closed-output": rows_on_a_closed_output,
-    "streams-counts-on-a-full-device": on_a_stream(CAUSES, "stderr", full_device, (b"number,Start,Stop\n2,1,0\n", None, 1)),
-    "streams-fault-on-a-full-device": on_a_stream(["causes", "motor.ld", "Moter"], "stderr", full_device, (b"", None, 1)),
-    "streams-usage-on-a-full-device": on_a_stream(["causes"], "stderr", full_device, (b"", None, 2)),
-}
+def run_named(program, name):
+    """The same of the case of this name."""
+    with tempfile.TemporaryDirectory() as folder:
+        if name in SPECIAL:
+            return SPECIAL[name](program, pathlib.Path(folder))
+        return run_case(program, CASES / f"{name}.case", pathlib.Path(folder))
 
 
 def main():
     """Runs the chosen cases and answers the status."""
     program, pattern = os.path.abspath(sys.argv[1]), (sys.argv[2:] or ["*"])[0]
-    jobs = {case.name: lambda program, folder, case=case: run_case(program, case, folder) for case in (HERE / "cases").iterdir()}
-    jobs.update(SPECIAL)
-    names = sorted(name for name in jobs if fnmatch.fnmatch(name, pattern))
-    passed = 0
-    for name in names:
-        with tempfile.TemporaryDirectory() as folder:
-            found = jobs[name](program, pathlib.Path(folder))
-        passed += not found
+    # each is a process of its own, since a special case may close streams or set limits before it calls the program
+    names = [*SPECIAL, *(str(path.relative_to(CASES)).removesuffix(".case") for path in sorted(CASES.rglob("*.case")))]
+    chosen = [name for name in names if fnmatch.fnmatch(name, pattern) or fnmatch.fnmatch(f"tests/cases/{name}.case", pattern)]
+    with ProcessPoolExecutor(len(os.sched_getaffinity(0)), multiprocessing.get_context("fork")) as pool:
+        ended = dict(zip(chosen, pool.map(run_named, [program] * len(chosen), chosen)))
+    for name, found in sorted(ended.items()):
         if found:
             print(name, *found, sep="\n")
-    print(f"{passed} of {len(names)} passed")
-    return 0 if names and passed == len(names) else 1
+    passed = sum(not found for found in ended.values())
+    print(f"{passed} of {len(chosen)} passed")
+    return 0 if chosen and passed == len(chosen) else 1
 
 
 if __name__ == "__main__":

@@ -4,7 +4,7 @@
 Sample projects of Debian's package linuxcnc-uspace run in LinuxCNC's HAL, without real time: `streamer` gives the inputs of a random stimulus
 before each scan, `sampler` takes the outputs after it, so that a busy machine makes no difference. `ladder import` writes the program
 of the project, and `ladder sim --every` gets the records in which an input changes. Each output of each scan must be the same. In these
-projects each preset is a multiple of the period, and no block is one in which the engine differs (docs/IMPORT.md).
+projects each preset is a multiple of the period, and no block is one in which the engine differs (docs/user/import.md).
 
 The engine runs in namespaces of its own, in which the unpacked package lies over the files of the system; nothing is installed, and
 what was started ends with them. FOLDER keeps the unpacked package. Where the package or such namespaces can't be had, this is passed over.

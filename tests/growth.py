@@ -22,7 +22,7 @@ HERE = pathlib.Path(__file__).resolve().parent
 TEXTS = {
     "motor.ld": (HERE / "programs" / "motor.ld").read_bytes(),
     "counter.ld": (HERE / "programs" / "counter.ld").read_bytes(),
-    "lamp.clp": (HERE / "cases" / "import-lamp" / "lamp.clp").read_bytes(),
+    "lamp.clp": (HERE / "projects" / "lamp.clp").read_bytes(),
     "running.csv": b"version,2\nmoment,0\nvar,Start,1\nvar,Stop,0\nvar,Motor,1\n",
     "back.csv": b"moment,Start,Stop\n0,1,0\n10,0,0\n5,0,0\n",
     "count.csv": b"moment,Count\n0,1\n5,0\n",

@@ -1,7 +1,7 @@
 #!/usr/bin/env python3
 """The pages of the faults that the program has: pages.py [--write].
 
-Each section of docs/FAULTS.md whose heading begins with a code, as `## G6: ..`, is a page of crates/ladder_pages: from its heading,
+Each section of docs/user/faults.md whose heading begins with a code, as `## G6: ..`, is a page of crates/cli_options: from its heading,
 without the marks, to the line before the next heading, without the empty lines at its end. Each part of the document (`# ..`) has a file
 there. Alone it compares these files with the document, and fails where they differ; with --write it writes them.
 """
@@ -11,7 +11,10 @@ import sys
 import textwrap
 
 ROOT = pathlib.Path(__file__).resolve().parent.parent
-SOURCE = ROOT / "crates" / "ladder_pages" / "src"
+DOCUMENT = "docs/user/faults.md"
+# as the heads of the generated files name the document
+NAMED = "docs/user/faults.md"
+SOURCE = ROOT / "crates" / "cli_options" / "src"
 # the parts of the document that have codes, and the file of each
 FILES = {"Declarations": "declarations", "The drawing": "drawing", "Questions to `causes`": "questions",
          "Files, arguments and writers": "files", "Projects of ClassicLadder": "projects",
@@ -56,7 +59,7 @@ def constant(code):
 
 def source(heading, pages):
     """The file of a part of the document."""
-    lines = [f"//! The pages of a part of docs/FAULTS.md: {heading}. `tests/pages.py --write` writes this file.", ""]
+    lines = [f"//! The pages of a part of {NAMED}: {heading}. `tests/pages.py --write` writes this file.", ""]
     for code, _, text in pages:
         lines += [f"pub(crate) const {constant(code)}: &str = {quoted(text)};", ""]
     return "\n".join(lines[:-1]) + "\n"
@@ -65,7 +68,7 @@ def source(heading, pages):
 def listed(found):
     """The file with the codes, their titles and their pages, in the order of the document."""
     pages = [(FILES[heading], code, title) for heading, pages in found for code, title, _ in pages]
-    lines = ["//! The codes of docs/FAULTS.md, with their pages. `tests/pages.py --write` writes this file.", ""]
+    lines = [f"//! The codes of {NAMED}, with their pages. `tests/pages.py --write` writes this file.", ""]
     lines += [f"use crate::{{{', '.join(sorted({module for module, _, _ in pages}))}}};"]
     lines += ["", "/// The codes, in the order of the document.", f"pub(crate) const CODES: [&str; {len(pages)}] = ["]
     lines += textwrap.wrap(" ".join(f'"{code}",' for _, code, _ in pages), 99, initial_indent="    ", subsequent_indent="    ")
@@ -79,7 +82,7 @@ def listed(found):
 def main():
     if sys.argv[1:] not in ([], ["--write"]):
         sys.exit(__doc__)
-    found = parts((ROOT / "docs" / "FAULTS.md").read_text("utf-8"))
+    found = parts((ROOT / DOCUMENT).read_text("utf-8"))
     unknown = [heading for heading, _ in found if heading not in FILES]
     if unknown:
         sys.exit(f"no file for the part {unknown[0]!r}")
@@ -92,7 +95,7 @@ def main():
         elif not path.exists() or path.read_text("utf-8") != text:
             differ.append(path)
     for path in differ:
-        print(f"{path.relative_to(ROOT)} isn't what docs/FAULTS.md gives: tests/pages.py --write")
+        print(f"{path.relative_to(ROOT)} isn't what {DOCUMENT} gives: tests/pages.py --write")
     print(f"files {len(texts)} pages {sum(len(pages) for _, pages in found)} differ {len(differ)}")
     sys.exit(1 if differ else 0)
 

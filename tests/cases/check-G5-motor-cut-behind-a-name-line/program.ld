@@ -1,9 +1,0 @@
-VAR
-  Start AT %IX0 : BOOL;
-  Stop AT %IX1 : BOOL;
-  Motor AT %QX0 : BOOL;
-END_VAR
-
-|   Start       Stop        Motor
-|----| |----+----|/|---------( )----
-|   Motor   |

@@ -1,7 +1,0 @@
-VAR
-  Ab AT %IX0 : BOOL;
-  Y AT %QX0 : BOOL;
-END_VAR
-
-|     A           Y
-|----| |---------( )----

@@ -1,2 +1,0 @@
-VAR
-A ÿ ; END_VAR

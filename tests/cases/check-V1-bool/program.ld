@@ -1,2 +1,0 @@
-VAR
-ä : BOOL; END_VAR

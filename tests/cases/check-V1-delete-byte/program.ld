@@ -1,4 +1,0 @@
-VAR
-A : BOOL;
-
-END_VAR

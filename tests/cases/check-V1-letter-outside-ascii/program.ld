@@ -1,4 +1,0 @@
-VAR
-Klappe
-ä : BOOL;
-END_VAR

@@ -1,2 +1,0 @@
-VAR
-1A : BOOL; END_VAR

@@ -1,2 +1,0 @@
-VAR
-A AT %IW0 : BOOL; END_VAR

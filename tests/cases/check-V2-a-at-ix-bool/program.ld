@@ -1,2 +1,0 @@
-VAR
-A AT %IX : BOOL; END_VAR

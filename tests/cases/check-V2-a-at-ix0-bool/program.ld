@@ -1,2 +1,0 @@
-VAR
-A AT % IX0 : BOOL; END_VAR

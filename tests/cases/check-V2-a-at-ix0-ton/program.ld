@@ -1,2 +1,0 @@
-VAR
-A AT %IX0 : TON; END_VAR

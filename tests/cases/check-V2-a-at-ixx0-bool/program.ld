@@ -1,2 +1,0 @@
-VAR
-A AT %IXX0 : BOOL; END_VAR

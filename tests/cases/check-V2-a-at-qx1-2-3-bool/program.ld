@@ -1,2 +1,0 @@
-VAR
-A AT %QX1.2.3 : BOOL; END_VAR

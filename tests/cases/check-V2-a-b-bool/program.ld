@@ -1,2 +1,0 @@
-VAR
-A#B : BOOL; END_VAR

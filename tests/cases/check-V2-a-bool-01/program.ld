@@ -1,2 +1,0 @@
-VAR
-A : BOOL := 01; END_VAR

@@ -1,2 +1,0 @@
-VAR
-A : BOOL; A : BOOL ! ÿ

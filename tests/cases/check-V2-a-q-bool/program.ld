@@ -1,2 +1,0 @@
-VAR
-A.Q : BOOL; END_VAR

@@ -1,3 +1,0 @@
-VAR
-T1 AT %IX1 : TON;
-END_VAR

@@ -1,3 +1,0 @@
-VAR
-A AT %IW1 : BOOL;
-END_VAR

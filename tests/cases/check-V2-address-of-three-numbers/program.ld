@@ -1,3 +1,0 @@
-VAR
-A AT %IX1.2.3 : BOOL;
-END_VAR

@@ -1,3 +1,0 @@
-VAR
-A AT IX1 : BOOL;
-END_VAR

@@ -1,3 +1,0 @@
-VAR
-A : BOOL := 2;
-END_VAR

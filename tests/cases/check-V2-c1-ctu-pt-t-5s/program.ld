@@ -1,2 +1,0 @@
-VAR
-C1 : CTU := (PT := T#5s); END_VAR

@@ -1,2 +1,0 @@
-VAR
-C1 : CTU := (PV := 5; END_VAR

@@ -1,3 +1,0 @@
-VAR
-T1 : TON := (PV := 5);
-END_VAR

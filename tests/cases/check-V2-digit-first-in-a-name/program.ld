@@ -1,3 +1,0 @@
-VAR
-1A : BOOL;
-END_VAR

@@ -1,3 +1,0 @@
-VAR
-A : BOOL = 1;
-END_VAR

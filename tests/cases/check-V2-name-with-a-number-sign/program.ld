@@ -1,3 +1,0 @@
-VAR
-A# : BOOL;
-END_VAR

@@ -1,2 +1,0 @@
-VAR (* a (* b *) *)
-END_VAR

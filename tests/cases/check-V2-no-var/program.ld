@@ -1,3 +1,0 @@
-VARS
-A : BOOL;
-END_VAR

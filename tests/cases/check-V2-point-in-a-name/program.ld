@@ -1,3 +1,0 @@
-VAR
-A.Q : BOOL;
-END_VAR

@@ -1,3 +1,0 @@
-VAR
-B1 : SR := (PV := 1);
-END_VAR

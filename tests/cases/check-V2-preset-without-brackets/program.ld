@@ -1,3 +1,0 @@
-VAR
-T1 : TON := T#5s;
-END_VAR

@@ -1,3 +1,0 @@
-VAR RETAIN
-A : BOOL;
-END_VAR

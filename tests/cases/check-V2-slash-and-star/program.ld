@@ -1,2 +1,0 @@
-VAR /* no comment */
-END_VAR

@@ -1,3 +1,0 @@
-VAR
-A : INT;
-END_VAR

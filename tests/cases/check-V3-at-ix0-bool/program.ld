@@ -1,2 +1,0 @@
-VAR
-AT %IX0 : BOOL; END_VAR

@@ -1,3 +1,0 @@
-VAR
-AT : BOOL;
-END_VAR

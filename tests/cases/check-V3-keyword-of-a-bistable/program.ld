@@ -1,3 +1,0 @@
-VAR
-rs : BOOL;
-END_VAR

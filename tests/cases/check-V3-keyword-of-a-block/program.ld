@@ -1,3 +1,0 @@
-VAR
-Sr : BOOL;
-END_VAR

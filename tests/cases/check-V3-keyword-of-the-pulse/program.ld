@@ -1,3 +1,0 @@
-VAR
-tp : BOOL;
-END_VAR

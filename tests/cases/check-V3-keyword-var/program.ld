@@ -1,3 +1,0 @@
-VAR
-var : BOOL;
-END_VAR

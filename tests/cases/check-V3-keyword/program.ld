@@ -1,3 +1,0 @@
-VAR
-return : BOOL;
-END_VAR

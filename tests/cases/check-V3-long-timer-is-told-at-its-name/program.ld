@@ -1,6 +1,0 @@
-VAR
-TimerNo123
-:
-TON
-;
-END_VAR

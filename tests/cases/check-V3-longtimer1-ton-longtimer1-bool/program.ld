@@ -1,2 +1,0 @@
-VAR
-LongTimer1 : TON; LongTimer1 : BOOL; END_VAR

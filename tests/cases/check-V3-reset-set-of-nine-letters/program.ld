@@ -1,3 +1,0 @@
-VAR
-Bistable9 : RS;
-END_VAR

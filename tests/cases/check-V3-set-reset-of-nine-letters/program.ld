@@ -1,3 +1,0 @@
-VAR
-Bistable9 : SR;
-END_VAR

@@ -1,3 +1,0 @@
-VAR
-TimerNo123 : TON;
-END_VAR

@@ -1,3 +1,0 @@
-VAR
-Abcdefghijkl : BOOL;
-END_VAR

@@ -1,4 +1,0 @@
-VAR
-A AT %IX0 : BOOL;
-a : BOOL;
-END_VAR

@@ -1,6 +1,0 @@
-VAR
-A : BOOL;
-B : BOOL; a
-: TON
-;
-END_VAR

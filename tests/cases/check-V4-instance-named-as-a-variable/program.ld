@@ -1,4 +1,0 @@
-VAR
-A : BOOL;
-A : TON;
-END_VAR

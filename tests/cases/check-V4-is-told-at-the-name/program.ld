@@ -1,7 +1,0 @@
-VAR
-A : BOOL; B : BOOL;
-B
-:
-BOOL
-;
-END_VAR

@@ -1,4 +1,0 @@
-VAR
-T1 : TON;
-t1 : BOOL;
-END_VAR

@@ -1,4 +1,0 @@
-VAR
-T1 : TON;
-T1 : CTU;
-END_VAR

@@ -1,4 +1,0 @@
-VAR
-A AT %MX7 : BOOL;
-B AT %M7 : BOOL;
-END_VAR

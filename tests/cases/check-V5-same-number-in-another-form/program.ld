@@ -1,4 +1,0 @@
-VAR
-A AT %IX1 : BOOL;
-B AT %i00001 : BOOL;
-END_VAR

@@ -1,4 +1,0 @@
-VAR
-A AT %QX1.2 : BOOL;
-B AT %q01.02 : BOOL;
-END_VAR

@@ -1,2 +1,0 @@
-VAR
-C1 : CTU := (PV := 000001); END_VAR

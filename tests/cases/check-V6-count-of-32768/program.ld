@@ -1,3 +1,0 @@
-VAR
-C1 : CTU := (PV := 32768);
-END_VAR

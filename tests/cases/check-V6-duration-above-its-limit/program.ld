@@ -1,3 +1,0 @@
-VAR
-T1 : TON := (PT := T#4294967296ms);
-END_VAR

@@ -1,3 +1,0 @@
-VAR
-C1 : CTD := (PV := T#5s);
-END_VAR

@@ -1,3 +1,0 @@
-VAR
-T1 : TON := (PT := T#49d17h2m47s296ms);
-END_VAR

@@ -1,3 +1,0 @@
-VAR
-T1 : TON := (PT := T#_5s);
-END_VAR

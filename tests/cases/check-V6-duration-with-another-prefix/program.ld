@@ -1,3 +1,0 @@
-VAR
-T1 : TON := (PT := LT#5s);
-END_VAR

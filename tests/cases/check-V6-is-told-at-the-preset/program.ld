@@ -1,5 +1,0 @@
-VAR
-T1 : TON := (PT
-:=
-%IX0);
-END_VAR

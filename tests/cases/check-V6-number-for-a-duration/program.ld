@@ -1,3 +1,0 @@
-VAR
-T1 : TON := (PT := 5);
-END_VAR

@@ -1,2 +1,0 @@
-VAR
-T1 : TOF := (PT := T#4294967296ms); END_VAR

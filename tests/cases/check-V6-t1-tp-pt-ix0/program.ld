@@ -1,3 +1,0 @@
-VAR
-T1 : TP := (PT :=
-%IX0); END_VAR

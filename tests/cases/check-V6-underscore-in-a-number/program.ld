@@ -1,3 +1,0 @@
-VAR
-C1 : CTU := (PV := 1_000);
-END_VAR

@@ -1,1 +1,0 @@
-Var a aT %qx00.00001 : bOoL := false; eNd_vAr

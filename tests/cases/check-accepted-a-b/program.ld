@@ -1,1 +1,0 @@
-VAR (* a (* b *) END_VAR

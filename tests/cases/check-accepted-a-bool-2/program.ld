@@ -1,1 +1,0 @@
-VAR A : BOOL; END_VAR

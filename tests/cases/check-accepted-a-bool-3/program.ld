@@ -1,2 +1,0 @@
-VAR A : BOOL; // END_VAR
-END_VAR

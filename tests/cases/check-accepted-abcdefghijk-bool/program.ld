@@ -1,1 +1,0 @@
-VAR Abcdefghijk : BOOL; END_VAR

@@ -1,1 +1,0 @@
-VAR _ : BOOL; __ : BOOL; END_VAR

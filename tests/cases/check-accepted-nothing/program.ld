@@ -1,2 +1,0 @@
-VAR
-END_VAR

@@ -1,1 +1,0 @@
-VAR T1 : TON := ( pt := t#0ms ) ; C1 : CTD := ( pv := 00000 ) ; END_VAR

@@ -1,1 +1,0 @@
-VAR T1:TON:=(PT:=TIME#1h_30m);END_VAR

@@ -1,1 +1,0 @@
-VAR Timer9abc : TON; END_VAR

@@ -1,7 +1,0 @@
-VAR
-A AT %I1 : BOOL;
-B AT %I1.0 : BOOL;
-C AT %I1.1 : BOOL;
-D AT %Q1 : BOOL;
-E AT %I10 : BOOL;
-END_VAR

@@ -1,6 +1,0 @@
-VAR
-A : BOOL := TRUE;
-B : BOOL := FALSE;
-C : BOOL := 1;
-D : BOOL := 0;
-END_VAR

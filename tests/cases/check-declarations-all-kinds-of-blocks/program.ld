@@ -1,9 +1,0 @@
-VAR
-T1 : TON;
-T2 : TOF;
-T3 : TP;
-C1 : CTU;
-C2 : CTD;
-B1 : SR;
-B2 : RS;
-END_VAR

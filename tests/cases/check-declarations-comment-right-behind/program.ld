@@ -1,1 +1,0 @@
-VAR END_VAR// a

@@ -1,3 +1,0 @@
-VAR
-Abcdefghijk : BOOL;
-END_VAR

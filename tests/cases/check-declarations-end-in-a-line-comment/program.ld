@@ -1,4 +1,0 @@
-VAR
-// END_VAR
-A : BOOL;
-END_VAR // done

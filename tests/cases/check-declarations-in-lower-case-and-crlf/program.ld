@@ -1,4 +1,0 @@
-var
-end_var
-
-|

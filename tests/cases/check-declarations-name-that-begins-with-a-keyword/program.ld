@@ -1,5 +1,0 @@
-VAR
-TONS : BOOL;
-VAR_ : BOOL;
-_ : BOOL;
-END_VAR

@@ -1,5 +1,0 @@
-VAR
-Ab : BOOL;
-Ac : BOOL;
-A : BOOL;
-END_VAR

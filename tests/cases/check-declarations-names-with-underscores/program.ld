@@ -1,7 +1,0 @@
-VAR
-A : BOOL;
-_ : BOOL;
-a1_ : BOOL;
-A__b : BOOL;
-TONS : BOOL;
-END_VAR

@@ -1,3 +1,0 @@
-VAR
-C1 : CTU := (PV := 00001);
-END_VAR

@@ -1,3 +1,0 @@
-VAR
-Bistabl8 : RS;
-END_VAR

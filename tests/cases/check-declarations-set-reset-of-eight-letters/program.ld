@@ -1,3 +1,0 @@
-VAR
-Bistabl8 : SR;
-END_VAR

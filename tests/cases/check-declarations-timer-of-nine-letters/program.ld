@@ -1,3 +1,0 @@
-VAR
-TimerNo12 : TON;
-END_VAR

@@ -1,3 +1,0 @@
-VAR
-END_VAR|
-|

@@ -1,7 +1,0 @@
-VAR
-  Abcdefghijk AT %IX0 : BOOL;
-  Lmnopqrstuv AT %QX0 : BOOL;
-END_VAR
-
-|Abcdefghijk Lmnopqrstuv
-|----| |---------( )----

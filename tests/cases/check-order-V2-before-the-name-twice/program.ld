@@ -1,4 +1,0 @@
-VAR
-A : BOOL;
-A : INT;
-END_VAR

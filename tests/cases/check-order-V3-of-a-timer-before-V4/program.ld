@@ -1,4 +1,0 @@
-VAR
-TimerNo123 : BOOL;
-TimerNo123 : TON;
-END_VAR

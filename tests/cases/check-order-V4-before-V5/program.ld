@@ -1,4 +1,0 @@
-VAR
-A AT %I0 : BOOL;
-A AT %I0 : BOOL;
-END_VAR

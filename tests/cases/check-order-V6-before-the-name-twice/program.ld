@@ -1,4 +1,0 @@
-VAR
-A : BOOL;
-A : TON := (PT := 5);
-END_VAR

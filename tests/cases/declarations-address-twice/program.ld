@@ -1,4 +1,0 @@
-VAR
-A AT %IX0 : BOOL;
-B AT %I00 : BOOL;
-END_VAR

@@ -1,4 +1,0 @@
-VAR
-A AT %IX0 : BOOL;
-a AT %IX1 : BOOL;
-END_VAR

@@ -1,8 +1,0 @@
-VAR
-  A AT %IX0 : BOOL;
-  Y AT %QX0 : BOOL;
-  T1 : TON;
-END_VAR
-
-|     A         T1.Q          Y
-|----| |---------|/|---------( )----

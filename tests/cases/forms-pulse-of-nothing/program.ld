@@ -1,8 +1,0 @@
-VAR
-  A AT %IX0 : BOOL;
-  Y AT %QX0 : BOOL;
-  T1 : TP := (PT := T#0s);
-END_VAR
-
-|     A           T1          Y
-|----| |------|IN TP  Q|-----( )----

@@ -1,8 +1,0 @@
-VAR
-  A AT %IX0 : BOOL;
-  B AT %IX1 : BOOL;
-  Y AT %QX0 : BOOL;
-END_VAR
-
-|     A           Y           B           Y
-|----| |---------(S)---------| |---------(R)----
