@@ -23,7 +23,7 @@ pub use before::Before;
 pub use claim::Claim;
 pub use fault::PossibleGroupFault;
 pub use groups::{PossibleGroups, is_settled};
-pub use possible::{PossibleCause, PossibleCauses};
+pub use possible::{PossibleCause, PossibleCauses, PossibleQuery};
 pub use states::{States, Staying};
 pub use staying::staying_from;
 pub use table::SETTLED;

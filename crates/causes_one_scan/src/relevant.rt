@@ -87,18 +87,17 @@ fn find_among(
     coil: usize,
     inputs: &[usize],
     image: &mut [Likeness],
-    work: &mut Work<Likeness>,
-) -> Result<Vec<usize>, AllocError>
+) -> Result<Vec<usize>, Memory>
     requires state { Fits program.now state.now }
     requires coil { coil < length program.now.decls.vars }
     requires inputs { inputs.now ≡ input_variables (map is_input program.now.decls.vars) }
     requires as_many { length image.old ≡ length inputs.now }
     requires image { LeavesAlike (question program.now state.now now coil []) image.old }
-    requires work { HasRoom program.now work.old }
     ensures inputs { IfOk result (λ v. AreInputs program.now v.items) }
     ensures decide { IfOk result (λ v. Decide (question program.now state.now now coil v.items)) }
 {
-    open_inputs(program, state, now, coil, image, work);
+    let mut work = Work::new(alloc, program)?;
+    open_inputs(program, state, now, coil, image, &mut work);
     let found = alike(alloc, image, inputs)?;
     Ok(found)
 }
@@ -118,10 +117,7 @@ fn find_relevant(
 {
     let inputs = input_variables(alloc, program.decls().vars())?;
     let mut image = vec![in alloc; Likeness::Alike; inputs.len()]?;
-    let mut work = Work::new(alloc, program)?;
-    Ok(find_among(
-        alloc, program, state, now, coil, &inputs, &mut image, &mut work,
-    )?)
+    find_among(alloc, program, state, now, coil, &inputs, &mut image)
 }
 
 /// The inputs that matter to a coil in one scan of the state at the moment `now`, by the numbers of their variables, in order of

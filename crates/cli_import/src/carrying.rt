@@ -42,55 +42,60 @@ fn text_of(
     }
 }
 
+/// How a project is read, and whether each fault is explained.
+#[derive(Clone, Copy)]
+struct ImportOptions {
+    reading: ReadingOptions,
+    why: bool,
+}
+
 /// Writes the program text of a project none of whose elements is refused.
 fn carry_whole<O: Sink, E: Sink>(
     alloc: Global,
-    reading: ReadingOptions,
-    why: bool,
+    options: ImportOptions,
     text: &[u8],
     project: &Project<'_>,
     hal: &[u8],
     out: &mut O,
     err: &mut E,
 ) -> u8
-    requires { IsProject reading text.now project.now }
+    requires { IsProject options.reading text.now project.now }
     ensures status { result ≤ 1 }
-    ensures done { result ≡ 0 → Carries reading text.now (PutsAll (O.log out.old) (O.log out.new)) × (E.log err.new ≡ E.log err.old) }
-    ensures failed { result ≡ 1 → BreaksCarrying reading why text.now (O.log out.old) (O.log out.new) (E.log err.old) (E.log err.new) }
+    ensures done { result ≡ 0 → Carries options.reading text.now (PutsAll (O.log out.old) (O.log out.new)) × (E.log err.new ≡ E.log err.old) }
+    ensures failed { result ≡ 1 → BreaksCarrying options.reading options.why text.now (O.log out.old) (O.log out.new) (E.log err.old) (E.log err.new) }
 {
-    match text_of(alloc, reading, project, hal) {
+    match text_of(alloc, options.reading, project, hal) {
         Ok(drawn) => match put(out, &drawn) {
             Ok(()) => 0,
-            Err(_) => report_unread(why, &ToolFault::Write, err),
+            Err(_) => report_unread(options.why, &ToolFault::Write, err),
         },
-        Err(fault) => told(write_import_fault(why, fault, err)),
+        Err(fault) => told(write_import_fault(options.why, fault, err)),
     }
 }
 
 /// Writes the program text of the project, or what is refused of it.
 fn carry_project<O: Sink, E: Sink>(
     alloc: Global,
-    reading: ReadingOptions,
-    why: bool,
+    options: ImportOptions,
     text: &[u8],
     project: &Project<'_>,
     hal: &[u8],
     out: &mut O,
     err: &mut E,
 ) -> u8
-    requires { IsProject reading text.now project.now }
+    requires { IsProject options.reading text.now project.now }
     ensures status { result ≤ 1 }
-    ensures done { result ≡ 0 → Carries reading text.now (PutsAll (O.log out.old) (O.log out.new)) × (E.log err.new ≡ E.log err.old) }
-    ensures failed { result ≡ 1 → BreaksCarrying reading why text.now (O.log out.old) (O.log out.new) (E.log err.old) (E.log err.new) }
+    ensures done { result ≡ 0 → Carries options.reading text.now (PutsAll (O.log out.old) (O.log out.new)) × (E.log err.new ≡ E.log err.old) }
+    ensures failed { result ≡ 1 → BreaksCarrying options.reading options.why text.now (O.log out.old) (O.log out.new) (E.log err.old) (E.log err.new) }
 {
-    match refusals(alloc, reading, project) {
+    match refusals(alloc, options.reading, project) {
         Ok(refused) => {
             if refused.is_empty() {
-                return carry_whole(alloc, reading, why, text, project, hal, out, err);
+                return carry_whole(alloc, options, text, project, hal, out, err);
             }
-            told(write_refusals(why, &refused, err))
+            told(write_refusals(options.why, &refused, err))
         }
-        Err(_) => told(write_import_fault(why, ImportFault::Memory, err)),
+        Err(_) => told(write_import_fault(options.why, ImportFault::Memory, err)),
     }
 }
 
@@ -111,7 +116,10 @@ pub fn carry<O: Sink, E: Sink>(
     ensures failed { result ≡ 1 → BreaksCarrying reading why text.now (O.log out.old) (O.log out.new) (E.log err.old) (E.log err.new) }
 {
     match read_project(alloc, reading, text) {
-        Ok(project) => carry_project(alloc, reading, why, text, &project, hal, out, err),
+        Ok(project) => {
+            let options = ImportOptions { reading, why };
+            carry_project(alloc, options, text, &project, hal, out, err)
+        }
         Err(fault) => told(write_project_fault(why, fault, err)),
     }
 }

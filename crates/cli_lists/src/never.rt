@@ -10,11 +10,9 @@ ghost use Rattle.cli_inputs.specs.Setting.{IsSet, given_by};
 use crate::holding::put_count;
 use crate::pairing::list_pairs;
 use cli_arguments::{Excluded, NeverRequest};
-use cli_inputs::{Texts, ToolFault, read_setting, report};
-use diagram_program::Program;
+use cli_inputs::{Setting, Texts, ToolFault, read_setting, report};
 use invariant_values::{SCANS, never_changing};
 use io_text::Sink;
-use scan_cycle::State;
 use std::alloc::Global;
 use text_lists::write_steady;
 
@@ -23,20 +21,20 @@ fn list_from<O: Sink, E: Sink>(
     alloc: Global,
     request: &NeverRequest,
     value: bool,
-    program: &Program,
-    state: &State,
+    setting: &Setting,
     texts: &Texts,
     out: &mut O,
     err: &mut E,
 ) -> u8
-    requires fits { Fits program.now state.now }
-    requires set { IsSet (given_by texts.now) program.now state.now }
+    requires fits { Fits setting.now.program setting.now.state }
+    requires set { IsSet (given_by texts.now) setting.now.program setting.now.state }
     ensures status { result ≤ 1 }
     ensures done { result ≡ 0 → CountsSteady value (given_by texts.now) request.now (O.log out.old) (O.log out.new) (PutsAll (E.log err.old) (E.log err.new)) }
     ensures failed { (save : WriteLog) → result ≡ 1
         → Refuses (given_by texts.now) (HasNeverFault (given_by texts.now)) (logs (O.log out.old) save (E.log err.old)) (logs (O.log out.new) save (E.log err.new))
         ⊎ BreaksSteady value (given_by texts.now) request.now (logs (O.log out.old) save (E.log err.old)) (logs (O.log out.new) save (E.log err.new)) }
 {
+    let (program, state) = (&setting.program, &setting.state);
     let Ok(steady) = never_changing(alloc, program, state, SCANS) else {
         return report(texts, &ToolFault::Memory, err);
     };
@@ -65,10 +63,7 @@ fn list_names<O: Sink, E: Sink>(
         ⊎ BreaksSteady value (given_by texts.now) request.now (logs (O.log out.old) save (E.log err.old)) (logs (O.log out.new) save (E.log err.new)) }
 {
     match read_setting(alloc, texts) {
-        Ok(setting) => {
-            let (program, state) = (&setting.program, &setting.state);
-            list_from(alloc, request, value, program, state, texts, out, err)
-        }
+        Ok(setting) => list_from(alloc, request, value, &setting, texts, out, err),
         Err(fault) => report(texts, &fault, err),
     }
 }

@@ -62,12 +62,18 @@ pub(crate) fn cursor_to<'a>(
     )
 }
 
+/// Of which numbers the causes are listed: up to the last, after another where there is one.
+#[derive(Clone, Copy)]
+struct PartBounds {
+    after: Option<u64>,
+    last: u64,
+}
+
 /// Lists the causes of what is asked up to a number, after another where there is one.
 fn list_asked<O: Sink, E: Sink>(
     alloc: Global,
     request: &ListRequest,
-    after: Option<u64>,
-    last: u64,
+    bounds: PartBounds,
     asked: &ListQuery,
     texts: &Texts,
     out: &mut O,
@@ -76,11 +82,12 @@ fn list_asked<O: Sink, E: Sink>(
     requires fits { Fits asked.now.program asked.now.state }
     requires asked { IsAsked (given_by texts.now) request.now (question_of asked.now) }
     ensures status { result ≤ 1 }
-    ensures done { result ≡ 0 → CountsPart (given_by texts.now) request.now after last (O.log out.old) (O.log out.new) (PutsAll (E.log err.old) (E.log err.new)) }
+    ensures done { result ≡ 0 → CountsPart (given_by texts.now) request.now bounds.after bounds.last (O.log out.old) (O.log out.new) (PutsAll (E.log err.old) (E.log err.new)) }
     ensures failed { (save : WriteLog) → result ≡ 1
-        → Refuses (given_by texts.now) (HasPartFault (given_by texts.now) request.now after last) (logs (O.log out.old) save (E.log err.old)) (logs (O.log out.new) save (E.log err.new))
-        ⊎ BreaksPart (given_by texts.now) request.now after last (logs (O.log out.old) save (E.log err.old)) (logs (O.log out.new) save (E.log err.new)) }
+        → Refuses (given_by texts.now) (HasPartFault (given_by texts.now) request.now bounds.after bounds.last) (logs (O.log out.old) save (E.log err.old)) (logs (O.log out.new) save (E.log err.new))
+        ⊎ BreaksPart (given_by texts.now) request.now bounds.after bounds.last (logs (O.log out.old) save (E.log err.old)) (logs (O.log out.new) save (E.log err.new)) }
 {
+    let PartBounds { after, last } = bounds;
     let mut cursor = match cursor_to(alloc, asked, after, last) {
         Ok(cursor) => cursor,
         Err(fault) => return report(texts, &ToolFault::Cause(fault), err),
@@ -113,7 +120,10 @@ pub fn list_part<O: Sink, E: Sink>(
         ⊎ BreaksPart (given_by texts.now) request.now after last (logs (O.log out.old) save (E.log err.old)) (logs (O.log out.new) save (E.log err.new)) }
 {
     match read_question(alloc, request, texts) {
-        Ok(asked) => list_asked(alloc, request, after, last, &asked, texts, out, err),
+        Ok(asked) => {
+            let bounds = PartBounds { after, last };
+            list_asked(alloc, request, bounds, &asked, texts, out, err)
+        }
         Err(fault) => report(texts, &fault, err),
     }
 }

@@ -8,7 +8,9 @@ ghost use Rattle.cli_lists.specs.Lists.{IsStayingBy, claimed, counted, HasNamesF
 ghost use Rattle.cli_inputs.specs.Setting.{HasSettingFault, given_by};
 
 use crate::asking::ListQuery;
-use causes_any_state::{Before, Claim, PossibleCauses, States, Staying, staying_from};
+use causes_any_state::{
+    Before, Claim, PossibleCauses, PossibleQuery, States, Staying, staying_from,
+};
 use causes_query::CauseFault;
 use causes_query::refusal::refusal;
 use cli_arguments::PossibleRequest;
@@ -91,9 +93,14 @@ pub(crate) fn causes_of<'a>(
         return Err(CauseFault::Memory);
     };
     let states = counted(request.off, staying);
-    let claim = claim_of(request.must);
-    let looks = looks_of(request.looks);
-    PossibleCauses::new(alloc, program, state, coil, inputs, states, claim, looks)
+    let query = PossibleQuery {
+        coil,
+        listed: inputs,
+        states,
+        claim: claim_of(request.must),
+        looks: looks_of(request.looks),
+    };
+    PossibleCauses::new(alloc, program, state, query)
 }
 
 /// Reads the program text and the names.

@@ -65,12 +65,18 @@ fn end_at<E: Sink>(texts: &Texts, fault: ProgressFault, err: &mut E) -> u8
     }
 }
 
+/// Of which numbers the causes are listed: after one and up to another, where there are such.
+#[derive(Clone, Copy)]
+struct ProgressBounds {
+    after: Option<u64>,
+    upto: Option<u64>,
+}
+
 /// Lists the causes of what is asked, and tells how far the list is.
 fn tell_asked<O: Sink, E: Sink>(
     alloc: Global,
     request: &ListRequest,
-    after: Option<u64>,
-    upto: Option<u64>,
+    bounds: ProgressBounds,
     asked: &ListQuery,
     texts: &Texts,
     out: &mut O,
@@ -80,11 +86,12 @@ fn tell_asked<O: Sink, E: Sink>(
     requires asked { IsAsked (given_by texts.now) request.now (question_of asked.now) }
     ensures status { result ≤ 1 }
     ensures done { (save : WriteLog) → result ≡ 0
-        → CountsProgress (given_by texts.now) request.now after upto (logs (O.log out.old) save (E.log err.old)) (logs (O.log out.new) save (E.log err.new)) }
+        → CountsProgress (given_by texts.now) request.now bounds.after bounds.upto (logs (O.log out.old) save (E.log err.old)) (logs (O.log out.new) save (E.log err.new)) }
     ensures failed { (save : WriteLog) → result ≡ 1
-        → Refuses (given_by texts.now) (HasProgressFault (given_by texts.now) request.now after upto) (logs (O.log out.old) save (E.log err.old)) (logs (O.log out.new) save (E.log err.new))
-        ⊎ BreaksProgress (given_by texts.now) request.now after upto (logs (O.log out.old) save (E.log err.old)) (logs (O.log out.new) save (E.log err.new)) }
+        → Refuses (given_by texts.now) (HasProgressFault (given_by texts.now) request.now bounds.after bounds.upto) (logs (O.log out.old) save (E.log err.old)) (logs (O.log out.new) save (E.log err.new))
+        ⊎ BreaksProgress (given_by texts.now) request.now bounds.after bounds.upto (logs (O.log out.old) save (E.log err.old)) (logs (O.log out.new) save (E.log err.new)) }
 {
+    let ProgressBounds { after, upto } = bounds;
     let mut cursor = match cursor_upto(alloc, asked, after, upto) {
         Ok(cursor) => cursor,
         Err(fault) => return report(texts, &ToolFault::Cause(fault), err),
@@ -120,7 +127,10 @@ pub fn list_progress<O: Sink, E: Sink>(
         ⊎ BreaksProgress (given_by texts.now) request.now after upto (logs (O.log out.old) save (E.log err.old)) (logs (O.log out.new) save (E.log err.new)) }
 {
     match read_question(alloc, request, texts) {
-        Ok(asked) => tell_asked(alloc, request, after, upto, &asked, texts, out, err),
+        Ok(asked) => {
+            let bounds = ProgressBounds { after, upto };
+            tell_asked(alloc, request, bounds, &asked, texts, out, err)
+        }
         Err(fault) => report(texts, &fault, err),
     }
 }

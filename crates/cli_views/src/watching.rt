@@ -9,10 +9,8 @@ ghost use Rattle.cli_views.specs.Views.{BreaksWatch, HasWatchFault, IsWatched};
 use crate::tracing::{save_state, stimulus};
 use crate::watched::watched_columns;
 use cli_arguments::WatchRequest;
-use cli_inputs::{Texts, ToolFault, read_setting, report};
-use diagram_program::Program;
+use cli_inputs::{Setting, Texts, ToolFault, read_setting, report};
 use io_text::Sink;
-use scan_cycle::State;
 use std::alloc::Global;
 use text_trace::watch as watch_scans;
 
@@ -20,21 +18,21 @@ use text_trace::watch as watch_scans;
 fn watch_from<O: Sink, S: Sink, E: Sink>(
     alloc: Global,
     request: &WatchRequest,
-    program: &Program,
-    state: &mut State,
+    setting: &mut Setting,
     texts: &Texts,
     out: &mut O,
     save: &mut S,
     err: &mut E,
 ) -> u8
-    requires fits { Fits program.now state.old }
-    requires set { IsSet (given_by texts.now) program.now state.old }
+    requires fits { Fits setting.old.program setting.old.state }
+    requires set { IsSet (given_by texts.now) setting.old.program setting.old.state }
     ensures status { result ≤ 1 }
     ensures done { result ≡ 0 → IsWatched (given_by texts.now) request.now (logs (O.log out.old) (S.log save.old) (E.log err.old)) (logs (O.log out.new) (S.log save.new) (E.log err.new)) }
     ensures failed { result ≡ 1
         → Refuses (given_by texts.now) (HasWatchFault (given_by texts.now) request.now) (logs (O.log out.old) (S.log save.old) (E.log err.old)) (logs (O.log out.new) (S.log save.new) (E.log err.new))
         ⊎ BreaksWatch (given_by texts.now) request.now (logs (O.log out.old) (S.log save.old) (E.log err.old)) (logs (O.log out.new) (S.log save.new) (E.log err.new)) }
 {
+    let (program, state) = (&setting.program, &mut setting.state);
     let columns = match watched_columns(alloc, program.decls(), request.all, &request.names) {
         Ok(columns) => columns,
         Err(fault) => return report(texts, &fault, err),
@@ -68,10 +66,7 @@ pub fn watch<O: Sink, S: Sink, E: Sink>(
         ⊎ BreaksWatch (given_by texts.now) request.now (logs (O.log out.old) (S.log save.old) (E.log err.old)) (logs (O.log out.new) (S.log save.new) (E.log err.new)) }
 {
     match read_setting(alloc, texts) {
-        Ok(mut setting) => {
-            let (program, state) = (&setting.program, &mut setting.state);
-            watch_from(alloc, request, program, state, texts, out, save, err)
-        }
+        Ok(mut setting) => watch_from(alloc, request, &mut setting, texts, out, save, err),
         Err(fault) => report(texts, &fault, err),
     }
 }

@@ -25,19 +25,26 @@ pub struct Refusal {
     pub reason: Reason,
 }
 
+/// Where an element stands: in which rung of the project, and in which row and column of it.
+#[derive(Clone, Copy)]
+struct Spot {
+    rung: usize,
+    row: usize,
+    column: usize,
+    ghost rows: { row < ROWS },
+    ghost columns: { column < COLUMNS },
+}
+
 /// The reason as a refusal, where it holds.
 fn refused(
     reading: ReadingOptions,
     project: &Project<'_>,
-    rung: usize,
-    row: usize,
-    column: usize,
+    spot: Spot,
     reason: Reason,
 ) -> Option<Refusal>
-    requires rows { row < ROWS }
-    requires columns { column < COLUMNS }
     ensures { IfSome result (λ f. IsThere reading project.now f) }
 {
+    let Spot { rung, row, column } = spot;
     let Some(placed) = project.rungs.get(rung) else {
         return None;
     };
@@ -218,16 +225,13 @@ fn reason_at(
     reading: ReadingOptions,
     project: &Project<'_>,
     blocks: &[BlockRef],
-    rung: usize,
+    spot: Spot,
     elements: &[Element],
     power: &Power,
-    row: usize,
-    column: usize,
 ) -> Option<Reason>
-    requires rows { row < ROWS }
-    requires columns { column < COLUMNS }
     requires power { IsPower reading elements.now power.now }
 {
+    let Spot { rung, row, column } = spot;
     let element = element_at(elements, row, column);
     let meaning = meaning_at(reading, elements, row, column);
     if let Some(reason) = kind_reason(reading, project, element) {
@@ -258,21 +262,17 @@ fn add_place(
     reading: ReadingOptions,
     project: &Project<'_>,
     blocks: &[BlockRef],
-    rung: usize,
+    spot: Spot,
     elements: &[Element],
     power: &Power,
-    row: usize,
-    column: usize,
     refusals: &mut Vec<Refusal>,
 ) -> Result<(), AllocError>
-    requires rows { row < ROWS }
-    requires columns { column < COLUMNS }
     requires power { IsPower reading elements.now power.now }
     requires before { All (IsThere reading project.now) refusals.old.items }
     ensures { IfOk result (λ _. All (IsThere reading project.now) refusals.new.items) }
 {
-    match reason_at(reading, project, blocks, rung, elements, power, row, column) {
-        Some(reason) => match refused(reading, project, rung, row, column, reason) {
+    match reason_at(reading, project, blocks, spot, elements, power) {
+        Some(reason) => match refused(reading, project, spot, reason) {
             Some(refusal) => {
                 refusals.push(refusal)?;
                 Ok(())
@@ -300,10 +300,12 @@ fn add_rung(
     let elements = placed.rung.elements.as_slice();
     let power = power_of(reading, elements);
     for place in 0..PLACES {
-        let (row, column) = (place / COLUMNS, place % COLUMNS);
-        add_place(
-            reading, project, blocks, rung, elements, &power, row, column, refusals,
-        )?;
+        let spot = Spot {
+            rung,
+            row: place / COLUMNS,
+            column: place % COLUMNS,
+        };
+        add_place(reading, project, blocks, spot, elements, &power, refusals)?;
     }
     Ok(())
 }

@@ -248,20 +248,32 @@ fn is_block_of(blocks: &[BlockRef], block: BlockRef, cell: Cell) -> bool
     }
 }
 
-/// Whether the cell is what the element means; the input with the address stands for what is opened there.
+/// An element with its meaning: of which section it is, and the address of the input that stands for what is opened there.
+#[derive(Clone, Copy)]
+struct MeantElement {
+    section: u32,
+    address: Address,
+    element: Element,
+    meaning: Meaning,
+}
+
+/// Whether the cell is what the element means.
 #[tactic(auto, unfolding(crate::specs::Carried::IsCell))]
 fn is_cell(
     program: &Program,
     rungs: &[Placed<'_>],
     blocks: &[BlockRef],
-    section: u32,
-    address: Address,
-    element: Element,
-    meaning: Meaning,
+    meant: MeantElement,
     cell: Cell,
 ) -> bool
-    ensures { IsTrue result ↔ IsCell program.now rungs.now blocks.now section address element meaning cell }
+    ensures { IsTrue result ↔ IsCell program.now rungs.now blocks.now meant.section meant.address meant.element meant.meaning cell }
 {
+    let MeantElement {
+        section,
+        address,
+        element,
+        meaning,
+    } = meant;
     let source = source_of(element.class);
     let number = element.number;
     match meaning {
@@ -373,16 +385,14 @@ fn is_place_carried(
     let elements = placed.rung.elements.as_slice();
     let element = element_at(elements, at.row, at.column);
     let meaning = meaning_at(reading, elements, at.row, at.column);
-    (is_cell(
-        program,
-        rungs,
-        blocks,
-        placed.section,
-        opened_at(at),
+    let meant = MeantElement {
+        section: placed.section,
+        address: opened_at(at),
         element,
         meaning,
-        cell,
-    ) || is_left_out(reading, elements, power, at.row, at.column, cell))
+    };
+    (is_cell(program, rungs, blocks, meant, cell)
+        || is_left_out(reading, elements, power, at.row, at.column, cell))
         && (cell == Cell::Empty || is_alike(reading, program, at, elements, power))
 }
 

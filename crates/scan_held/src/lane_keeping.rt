@@ -3,7 +3,7 @@
 ghost use Rattle.scan_held.specs.Lanes.{lanes};
 ghost use Rattle.scan_held.specs.LanesLaws.{AreLanes, lanes_keep_values};
 
-use crate::lane_stepping::{apart, bit, choices, step_each, step_two};
+use crate::lane_stepping::{TwoStored, apart, bit, choices, step_each, step_two};
 use crate::lanes::Lanes;
 use diagram_declarations::BlockKind;
 use scan_partial::Keep;
@@ -43,7 +43,8 @@ impl Keep<Word64> for Lanes {
             Lanes::Apart { .. } => return step_each(kind, preset, &self, first, second, now),
         };
         if (first_is_whole || first.0 == word.0) && (second_is_whole || second.0 == word.0) {
-            step_two(kind, preset, word, on, off, first, second, now)
+            let before = TwoStored { word, on, off };
+            step_two(kind, preset, before, first, second, now)
         } else {
             step_each(kind, preset, &self, first, second, now)
         }

@@ -87,20 +87,27 @@ pub(crate) fn step_each(
     }
 }
 
+/// What lanes store of which each stores one of two: the ones that are ON in a word, and the others.
+#[derive(Clone, Copy)]
+pub(crate) struct TwoStored {
+    pub word: Word64,
+    pub on: Stored,
+    pub off: Stored,
+}
+
 /// The step of two blocks: that of the lanes that are ON in a word, and that of the others.
 pub(crate) fn step_two(
     kind: BlockKind,
     preset: u32,
-    word: Word64,
-    on: Stored,
-    off: Stored,
+    before: TwoStored,
     first: Word64,
     second: Word64,
     now: u64,
 ) -> Lanes
     requires { preset ≤ largest_preset kind }
-    ensures { result ≡ two word (step kind preset on (any_on first) (any_on second) now) (step kind preset off (all_on first) (all_on second) now) }
+    ensures { result ≡ two before.word (step kind preset before.on (any_on first) (any_on second) now) (step kind preset before.off (all_on first) (all_on second) now) }
 {
+    let TwoStored { word, on, off } = before;
     let on = block::step(kind, preset, on, first.0 != 0, second.0 != 0, now);
     let (first_is_whole, second_is_whole) = (first.0 == u64::MAX, second.0 == u64::MAX);
     let off = block::step(kind, preset, off, first_is_whole, second_is_whole, now);

@@ -38,7 +38,14 @@ fn next_numbers(causes: &mut Causes<'_>, last: Option<u64>, most: u64) -> Option
     }
 }
 
-/// Adds the rows that are left, up to `last` or all, or the first of them where there is a limit, to a buffer, and returns how many.
+/// Which rows of a list are written: those up to a number, or all where there is none, and the first of them where there is a limit.
+#[derive(Clone, Copy)]
+pub(crate) struct Extent {
+    pub last: Option<u64>,
+    pub limit: Option<u64>,
+}
+
+/// Adds the rows that are left, as far as the extent goes, to a buffer, and returns how many.
 #[inline(always)]
 pub(crate) fn buffer_rows<W: Sink>(
     row_buffer: &mut RowBuffer,
@@ -46,25 +53,24 @@ pub(crate) fn buffer_rows<W: Sink>(
     kept: &mut Kept,
     causes: &mut Causes<'_>,
     listed: usize,
-    last: Option<u64>,
-    limit: Option<u64>,
+    extent: Extent,
     writer: &mut W,
 ) -> Result<u64, WriteFault>
     requires listed { listed ≤ 64 }
     requires kept { IsKept listed kept.old }
     requires finite { length causes.old.rest < 2 ^ 64 }
-    ensures sends { Sends (W.log writer.old) (W.log writer.new) (buffer.old ++ row_buffer.old) (buffer.new ++ row_buffer.new) result (rows listed (limited limit (part last causes.old.rest))) }
+    ensures sends { Sends (W.log writer.old) (W.log writer.new) (buffer.old ++ row_buffer.old) (buffer.new ++ row_buffer.new) result (rows listed (limited extent.limit (part extent.last causes.old.rest))) }
     ensures kept { IfOk result (λ _. IsKept listed kept.new) }
-    ensures count { IfOk result (λ n. n ≡ length (limited limit (part last causes.old.rest))) }
-    ensures taken { MatchResult result (λ n. Takes causes.old causes.new n) (λ _. TakesAtMost causes.old causes.new (length (limited limit (part last causes.old.rest)))) }
-    ensures looks { IfOk result (λ _. looks_of causes.new ≡ part_looks last (searched causes.old) (looks_of causes.old) limit (part last causes.old.rest)) }
+    ensures count { IfOk result (λ n. n ≡ length (limited extent.limit (part extent.last causes.old.rest))) }
+    ensures taken { MatchResult result (λ n. Takes causes.old causes.new n) (λ _. TakesAtMost causes.old causes.new (length (limited extent.limit (part extent.last causes.old.rest)))) }
+    ensures looks { IfOk result (λ _. looks_of causes.new ≡ part_looks extent.last (searched causes.old) (looks_of causes.old) extent.limit (part extent.last causes.old.rest)) }
 {
     let mut count = 0u64;
     loop {
-        if is_reached(limit, count) {
+        if is_reached(extent.limit, count) {
             return Ok(count);
         }
-        let Some(numbers) = next_numbers(causes, last, rows_left(limit, count)) else {
+        let Some(numbers) = next_numbers(causes, extent.last, rows_left(extent.limit, count)) else {
             return Ok(count);
         };
         add_marked(row_buffer, buffer, kept, listed, numbers, writer)?;

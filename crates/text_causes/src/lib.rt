@@ -1,4 +1,4 @@
-//! The texts of the causes in one scan: rows, groups, and conditions in Structured Text or JSON.
+//! The texts of the causes in one scan: rows, groups, and conditions in Structured Text.
 #![tactic(auto)]
 
 mod adding;

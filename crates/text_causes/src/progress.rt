@@ -11,7 +11,7 @@ ghost use Rattle.text_causes.specs.Progress.{TellsAll, TellsUntil};
 ghost use Rattle.text_causes.specs.Telling.{AreTold, IsTold, IsUntold, TellsEnd, TellsSent};
 ghost use Rattle.io_text.specs.Log.{Puts, PutsAll};
 
-use crate::adding::buffer_rows;
+use crate::adding::{Extent, buffer_rows};
 use crate::kept::Kept;
 use crate::row_text::add_header;
 use crate::rows::RowBuffer;
@@ -159,61 +159,58 @@ fn tell<O: Sink, E: Sink>(
 fn tell_rows<O: Sink, E: Sink>(
     row_buffer: &mut RowBuffer,
     buffer: &mut TextBuffer,
-    kept: &mut Kept,
     causes: &mut Causes<'_>,
-    upto: Option<u64>,
-    limit: Option<u64>,
+    extent: Extent,
     lines: bool,
     out: &mut O,
     err: &mut E,
 ) -> Result<u64, ProgressFault>
     requires no_block { buffer.old ≡ [] }
     requires no_row { row_buffer.old ≡ [] }
-    requires kept { IsKept (length causes.old.listed) kept.old }
     ensures told { MatchResult result
-        (λ _. TellsSent lines (λ n. cause_text causes.old.program causes.old.listed (numbers_to n (limited limit (part upto causes.old.rest))))
-        (cause_text causes.old.program causes.old.listed (limited limit (part upto causes.old.rest)))
+        (λ _. TellsSent lines (λ n. cause_text causes.old.program causes.old.listed (numbers_to n (limited extent.limit (part extent.last causes.old.rest))))
+        (cause_text causes.old.program causes.old.listed (limited extent.limit (part extent.last causes.old.rest)))
         (O.log out.old) (O.log out.new) (buffer.new ++ row_buffer.new) (E.log err.old) (E.log err.new))
-        (λ f. TellsEnd lines f (λ n. cause_text causes.old.program causes.old.listed (numbers_to n (limited limit (part upto causes.old.rest))))
-        (cause_text causes.old.program causes.old.listed (limited limit (part upto causes.old.rest)))
+        (λ f. TellsEnd lines f (λ n. cause_text causes.old.program causes.old.listed (numbers_to n (limited extent.limit (part extent.last causes.old.rest))))
+        (cause_text causes.old.program causes.old.listed (limited extent.limit (part extent.last causes.old.rest)))
         (O.log out.old) (O.log out.new) (E.log err.old) (E.log err.new)) }
-    ensures count { IfOk result (λ n. n ≡ length (limited limit (part upto causes.old.rest))) }
-    ensures taken { MatchResult result (λ n. Takes causes.old causes.new n) (λ _. TakesAtMost causes.old causes.new (length (limited limit (part upto causes.old.rest)))) }
-    ensures looks { IfOk result (λ _. looks_of causes.new ≡ part_looks upto (searched causes.old) (looks_of causes.old) limit (part upto causes.old.rest)) }
+    ensures count { IfOk result (λ n. n ≡ length (limited extent.limit (part extent.last causes.old.rest))) }
+    ensures taken { MatchResult result (λ n. Takes causes.old causes.new n) (λ _. TakesAtMost causes.old causes.new (length (limited extent.limit (part extent.last causes.old.rest)))) }
+    ensures looks { IfOk result (λ _. looks_of causes.new ≡ part_looks extent.last (searched causes.old) (looks_of causes.old) extent.limit (part extent.last causes.old.rest)) }
 {
     let Ok(()) = add_header(buffer, b"number", causes.program(), causes.free(), out) else {
         return Err(ProgressFault::Rows);
     };
-    let end = end_of(upto, causes.free().len());
+    let end = end_of(extent.last, causes.free().len());
+    let mut kept = Kept::new(causes.free().len());
     let mut pace = Pace::new(causes.program());
     let mut rows = 0u64;
     let mut reached = 0u64;
     loop {
         let listed = causes.free().len();
         let stop = next_stop(causes, reached);
-        let left = left_of(limit, rows);
-        if end <= stop || is_reached(limit, rows) {
-            let Ok(more) = buffer_rows(row_buffer, buffer, kept, causes, listed, upto, left, out)
+        let left = left_of(extent.limit, rows);
+        if end <= stop || is_reached(extent.limit, rows) {
+            let part = Extent {
+                last: extent.last,
+                limit: left,
+            };
+            let Ok(more) = buffer_rows(row_buffer, buffer, &mut kept, causes, listed, part, out)
             else {
                 return Err(ProgressFault::Rows);
             };
             return Ok(rows + more);
         }
-        let Ok(more) = buffer_rows(
-            row_buffer,
-            buffer,
-            kept,
-            causes,
-            listed,
-            Some(stop),
-            left,
-            out,
-        ) else {
+        let part = Extent {
+            last: Some(stop),
+            limit: left,
+        };
+        let Ok(more) = buffer_rows(row_buffer, buffer, &mut kept, causes, listed, part, out) else {
             return Err(ProgressFault::Rows);
         };
         rows += more;
         reached = stop;
-        if !is_reached(limit, rows) && pace.is_due(causes.looks(), rows) {
+        if !is_reached(extent.limit, rows) && pace.is_due(causes.looks(), rows) {
             if let Err(fault) = tell(row_buffer, buffer, lines, reached, out, err) {
                 return Err(fault);
             }
@@ -243,14 +240,12 @@ pub(crate) fn write_paced<O: Sink, E: Sink>(
 {
     let mut buffer = TextBuffer::new();
     let mut row_buffer = RowBuffer::new();
-    let mut kept = Kept::new(causes.free().len());
+    let extent = Extent { last: upto, limit };
     let told = tell_rows(
         &mut row_buffer,
         &mut buffer,
-        &mut kept,
         causes,
-        upto,
-        limit,
+        extent,
         lines,
         out,
         err,

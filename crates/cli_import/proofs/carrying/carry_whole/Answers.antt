@@ -31,7 +31,7 @@ pub returns-clause-failed : goal.returns-clause-failed
 returns-clause-failed g c = λ status. inl (
   refl,
   record {
-    said = import_text c.args.why c.in-Err.fault;
+    said = import_text c.args.options.why c.in-Err.fault;
     is = inr (inr (c.args.project.now, c.in-Err.fault, c.requires, c.in-Err.ensures.fault, refl));
     written = either _ _ _ _ c.write_import_fault.ensures;
   },

@@ -18,8 +18,8 @@ returns-in_default-write_steady-clause-failed g c = λ save status.
     let made = c.in-Ok.ensures in
     inr (inl ((
       record {
-        program = c.args.program.now;
-        state = c.args.state.now;
+        program = c.args.setting.now.program;
+        state = c.args.setting.now.state;
         set = c.requires.set;
         steady = c.in-Ok.steady;
         settled = made.is;
@@ -35,8 +35,8 @@ returns-in_default-put_count-clause-failed g c = λ save status.
     let w = c.in-Ok-write_steady in
     inr (inr (record {
       list = record {
-        program = c.args.program.now;
-        state = c.args.state.now;
+        program = c.args.setting.now.program;
+        state = c.args.setting.now.state;
         set = c.requires.set;
         steady = c.in-Ok.steady;
         settled = made.is;
@@ -52,8 +52,8 @@ returns-clause-done g c = λ status.
     let w = c.in-Ok-write_steady in
     record {
       list = record {
-        program = c.args.program.now;
-        state = c.args.state.now;
+        program = c.args.setting.now.program;
+        state = c.args.setting.now.state;
         set = c.requires.set;
         steady = c.in-Ok.steady;
         settled = made.is;

@@ -23,7 +23,7 @@ returns-in_default-clause-failed g c = λ save status.
         question = q;
         asked = c.requires.asked;
         accepted = made.accepted;
-        rows = prefix_same _ _ _ _ (part_text_is c.args.request.now c.args.after c.args.last q c.in-Ok.cursor made.program made.listed made.rest) c.in_default.ensures.bytes;
+        rows = prefix_same _ _ _ _ (part_text_is c.args.request.now c.args.bounds.after c.args.bounds.last q c.in-Ok.cursor made.program made.listed made.rest) c.in_default.ensures.bytes;
       },
       c.report-in_default.ensures.line,
     )))
@@ -39,9 +39,9 @@ returns-in_default-put_rows-clause-failed g c = λ save status.
         question = q;
         asked = c.requires.asked;
         accepted = made.accepted;
-        rows = all_same _ _ _ _ (part_text_is r c.args.after c.args.last q c.in-Ok.cursor made.program made.listed made.rest) w.ensures.bytes;
+        rows = all_same _ _ _ _ (part_text_is r c.args.bounds.after c.args.bounds.last q c.in-Ok.cursor made.program made.listed made.rest) w.ensures.bytes;
       };
-      count = prefix_same _ _ _ _ (part_line_is r c.args.after c.args.last q c.in-Ok.cursor made.program made.listed made.rest w.summary.rows w.summary.looks made.search made.looks w.ensures.rows (w.ensures.looks ∙ w.ensures.counted)) c.in_default-put_rows.ensures;
+      count = prefix_same _ _ _ _ (part_line_is r c.args.bounds.after c.args.bounds.last q c.in-Ok.cursor made.program made.listed made.rest w.summary.rows w.summary.looks made.search made.looks w.ensures.rows (w.ensures.looks ∙ w.ensures.counted)) c.in_default-put_rows.ensures;
     }))
 
 pub returns-clause-done : goal.returns-clause-done
@@ -55,7 +55,7 @@ returns-clause-done g c = λ status.
         question = q;
         asked = c.requires.asked;
         accepted = made.accepted;
-        rows = all_same _ _ _ _ (part_text_is r c.args.after c.args.last q c.in-Ok.cursor made.program made.listed made.rest) w.ensures.bytes;
+        rows = all_same _ _ _ _ (part_text_is r c.args.bounds.after c.args.bounds.last q c.in-Ok.cursor made.program made.listed made.rest) w.ensures.bytes;
       };
-      count = all_same _ _ _ _ (part_line_is r c.args.after c.args.last q c.in-Ok.cursor made.program made.listed made.rest w.summary.rows w.summary.looks made.search made.looks w.ensures.rows (w.ensures.looks ∙ w.ensures.counted)) c.in-Ok-put_rows.ensures;
+      count = all_same _ _ _ _ (part_line_is r c.args.bounds.after c.args.bounds.last q c.in-Ok.cursor made.program made.listed made.rest w.summary.rows w.summary.looks made.search made.looks w.ensures.rows (w.ensures.looks ∙ w.ensures.counted)) c.in-Ok-put_rows.ensures;
     }

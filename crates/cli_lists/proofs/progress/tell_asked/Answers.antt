@@ -9,7 +9,7 @@ use Rattle.cli_lists.proofs.progress.tell_asked.Goals as goal
 pub returns-in-Err-clause-failed : goal.returns-in-Err-clause-failed
 returns-in-Err-clause-failed g c = λ save status. inl (record {
   reason = fault.Cause c.in-Err.fault;
-  has = asked_fault (given_by c.args.texts.now) c.args.request.now c.args.after c.args.upto (question_of c.args.asked.now) (fault.Cause c.in-Err.fault) c.requires.asked c.in-Err.ensures.refused;
+  has = asked_fault (given_by c.args.texts.now) c.args.request.now c.args.bounds.after c.args.bounds.upto (question_of c.args.asked.now) (fault.Cause c.in-Err.fault) c.requires.asked c.in-Err.ensures.refused;
   unwritten = refl {a = g.O.Sink.log c.args.out.now};
   unsaved = refl {a = save};
   reported = c.report.ensures.line;
@@ -18,7 +18,7 @@ returns-in-Err-clause-failed g c = λ save status. inl (record {
 pub returns-in-Err-written-clause-failed : goal.returns-in-Err-written-clause-failed
 returns-in-Err-written-clause-failed g c = λ save status.
     let made = c.in-Ok.ensures in
-    inr (broke_off c.args.request.now c.args.after c.args.upto (question_of c.args.asked.now) c.in-Ok.cursor made.program made.listed made.rest (given_by c.args.texts.now) c.in-Err-written.fault save
+    inr (broke_off c.args.request.now c.args.bounds.after c.args.bounds.upto (question_of c.args.asked.now) c.in-Ok.cursor made.program made.listed made.rest (given_by c.args.texts.now) c.in-Err-written.fault save
     _ _ _ _ _ c.requires.asked made.accepted c.in-Err-written.ensures.told c.end_at.ensures.rows c.end_at.ensures.lines)
 
 pub returns-in_default-clause-failed : goal.returns-in_default-clause-failed
@@ -33,8 +33,8 @@ returns-in_default-clause-failed g c = λ save status.
       accepted = made.accepted;
       written = inr (inr (
         g.E.Sink.log c.write_progress-written.new.err,
-        (all_same _ _ _ _ (progress_text_is r c.args.after c.args.upto q c.in-Ok.cursor made.program made.listed made.rest) w.ensures.told.0, w.ensures.told.1),
-        prefix_same _ _ _ _ (progress_line_is r c.args.after c.args.upto q c.in-Ok.cursor made.program made.listed made.rest w.summary.rows w.summary.looks made.search made.looks w.ensures.rows (w.ensures.looks ∙ w.ensures.counted))
+        (all_same _ _ _ _ (progress_text_is r c.args.bounds.after c.args.bounds.upto q c.in-Ok.cursor made.program made.listed made.rest) w.ensures.told.0, w.ensures.told.1),
+        prefix_same _ _ _ _ (progress_line_is r c.args.bounds.after c.args.bounds.upto q c.in-Ok.cursor made.program made.listed made.rest w.summary.rows w.summary.looks made.search made.looks w.ensures.rows (w.ensures.looks ∙ w.ensures.counted))
             c.in_default.ensures,
       ));
     })
@@ -51,8 +51,8 @@ returns-clause-done g c = λ save status.
       accepted = made.accepted;
       written = (
         g.E.Sink.log c.write_progress-written.new.err,
-        (all_same _ _ _ _ (progress_text_is r c.args.after c.args.upto q c.in-Ok.cursor made.program made.listed made.rest) w.ensures.told.0, w.ensures.told.1),
-        all_same _ _ _ _ (progress_line_is r c.args.after c.args.upto q c.in-Ok.cursor made.program made.listed made.rest w.summary.rows w.summary.looks made.search made.looks w.ensures.rows (w.ensures.looks ∙ w.ensures.counted))
+        (all_same _ _ _ _ (progress_text_is r c.args.bounds.after c.args.bounds.upto q c.in-Ok.cursor made.program made.listed made.rest) w.ensures.told.0, w.ensures.told.1),
+        all_same _ _ _ _ (progress_line_is r c.args.bounds.after c.args.bounds.upto q c.in-Ok.cursor made.program made.listed made.rest w.summary.rows w.summary.looks made.search made.looks w.ensures.rows (w.ensures.looks ∙ w.ensures.counted))
             c.in-Ok-put_rows.ensures,
       );
     }

@@ -8,14 +8,14 @@ use Rattle.text_causes.proofs.PartLaws.{PartGoing}
 use Rattle.text_causes.proofs.Taking.{Going}
 use Rattle.text_causes.proofs.adding.buffer_rows.Given as goal
 
-abbrev pub invariant-loop-last : goal.invariant-loop-last
-invariant-loop-last g l = record {
-  added : Added (g.W.Sink.log l.fn.writer) (g.W.Sink.log l.writer) (l.fn.buffer ++ l.fn.row_buffer) (l.buffer ++ l.row_buffer) (lines (cause_record l.listed)) l.count l.limit
-      (limited l.limit (part l.last l.fn.causes.rest)) (limited (limit_left l.limit l.count) (part l.last l.causes.rest));
+abbrev pub invariant-loop-extent : goal.invariant-loop-extent
+invariant-loop-extent g l = record {
+  added : Added (g.W.Sink.log l.fn.writer) (g.W.Sink.log l.writer) (l.fn.buffer ++ l.fn.row_buffer) (l.buffer ++ l.row_buffer) (lines (cause_record l.listed)) l.count l.extent.limit
+      (limited l.extent.limit (part l.extent.last l.fn.causes.rest)) (limited (limit_left l.extent.limit l.count) (part l.extent.last l.causes.rest));
   going : Going l.fn.causes l.causes l.count;
-  part : PartGoing l.last l.fn.causes.rest l.causes.rest l.count;
+  part : PartGoing l.extent.last l.fn.causes.rest l.causes.rest l.count;
   kept : IsKept l.listed l.kept;
 }
 
-abbrev pub decreases-loop-last : goal.decreases-loop-last
-decreases-loop-last g l = length l.causes.rest
+abbrev pub decreases-loop-extent : goal.decreases-loop-extent
+decreases-loop-extent g l = length l.causes.rest
